@@ -1,0 +1,67 @@
+//! Vehicles with their rides and stops.
+use arrayvec::ArrayVec;
+
+/// A ride: a rider's trip from one node to another.
+#[derive(Clone, Copy, Debug, PartialEq, Eq, Default)]
+pub struct Ride {
+    pub id: u64,
+    /// The node of the pickup.
+    pub from: u32,
+    /// The node of the drop-off.
+    pub to: u32,
+    pub seats: u32,
+    /// Places for wheelchairs.
+    pub chairs: u32,
+    /// The latest time of the pickup.
+    pub latest: u64,
+    /// The most seconds from pickup to drop-off.
+    pub longest: u64,
+    /// The time of the pickup, once the rider is aboard.
+    pub picked: Option<u64>,
+}
+
+/// What is aboard of a vehicle.
+#[derive(Clone, Copy, Debug, PartialEq, Eq, Default)]
+pub struct Load {
+    pub seats: u32,
+    pub chairs: u32,
+}
+
+/// What happens at a stop.
+#[derive(Clone, Copy, Debug, PartialEq, Eq, Default)]
+pub enum Kind {
+    #[default]
+    Pickup,
+    Dropoff,
+}
+
+/// A stop of a vehicle's plan.
+#[derive(Clone, Copy, Debug, PartialEq, Eq, Default)]
+pub struct Stop {
+    /// The ride's id.
+    pub ride: u64,
+    pub kind: Kind,
+    pub node: u32,
+    /// The seconds from the stop before, or from the vehicle's `at`.
+    pub leg: u64,
+}
+
+/// A vehicle with what it has promised.
+#[derive(Debug, Drop)]
+pub struct Vehicle {
+    pub id: u64,
+    pub seats: u32,
+    pub chairs: u32,
+    /// The committed next node.
+    pub at: u32,
+    /// When the vehicle is at `at`, and free to drive on.
+    pub ready: u64,
+    /// Whether the driver takes new rides.
+    pub duty: bool,
+    /// How often plan, place or duty have changed.
+    pub version: u64,
+    /// The rides that are confirmed and not yet dropped, in order of confirmation.
+    pub rides: ArrayVec<Ride, 16>,
+    /// The stops, in driving order.
+    pub stops: ArrayVec<Stop, 16>,
+}
