@@ -1,2 +1,16 @@
 pub mod Road
 pub mod Fleet
+pub mod Loads
+pub mod Vehicle
+pub mod Times
+pub mod Keeps
+pub mod Insertion
+pub mod Offers
+pub mod Seating
+pub mod State
+pub mod Step
+pub mod Batch
+pub mod Legal
+pub mod Text
+pub mod Promises
+pub mod History

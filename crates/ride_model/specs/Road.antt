@@ -1,5 +1,6 @@
--- Road maps.
-use Rattle.std.specs.Prelude.{ℕ, ◌≤◌, List, length, All}
+-- Road maps, walks and travel times.
+use Rattle.std.specs.Prelude.{◌≡◌, ℕ, zero, suc, ◌+◌, ◌≤◌, min, ◌==◌, if◌then◌else◌, List, [], ◌∷◌, length, map, filter, All, Contains, sum_by, Option, Some, None, option_map}
+use Rattle.std.specs.List.{fold}
 use Rattle.ride_model.specs.declared.network.RoadArc.{RoadArc}
 
 -- a road map: nodes 1 to nodes, and directed arcs among them
@@ -7,11 +8,11 @@ pub record RoadMap : Type 0 where
   pub nodes : ℕ
   pub arcs : List RoadArc
 
--- a node's number
+-- the number of a node
 abbrev pub IsNode : RoadMap → ℕ → Type 0
 IsNode map x = (1 ≤ x) × (x ≤ map.nodes)
 
--- an arc joins two nodes in at most 10^9 seconds
+-- an arc joins two nodes, in at most 10^9 seconds
 abbrev pub IsArc : RoadMap → RoadArc → Type 0
 IsArc map arc = IsNode map arc.tail × IsNode map arc.head × (arc.seconds ≤ 1000000000)
 
@@ -21,3 +22,51 @@ pub record IsRoadMap (map : RoadMap) : Type 0 where
   pub nodes_limit : map.nodes ≤ 500000
   pub arcs_limit : length map.arcs ≤ 2000000
   pub arcs_fit : All (IsArc map) map.arcs
+
+-- a walk from x to y: arcs of the map, the first from x, each from where the one before it ends, the last to y;
+-- the empty list is a walk from x to x
+abbrev pub IsWalk : RoadMap → ℕ → ℕ → List RoadArc → Type 0
+IsWalk map x y [] = x ≡ y
+IsWalk map x y (arc ∷ walk) = Contains map.arcs arc × (arc.tail ≡ x) × IsWalk map arc.head y walk
+
+-- the weight of a walk: the sum of its seconds
+abbrev pub weight_of : List RoadArc → ℕ
+weight_of walk = sum_by (λ (arc : RoadArc). arc.seconds) walk
+
+-- some walk has this weight, and none has less
+pub record IsLeastWeight (map : RoadMap) (x y weight : ℕ) : Type 0 where
+  pub walked : (walk : List RoadArc) × IsWalk map x y walk × (weight_of walk ≡ weight)
+  pub least : (walk : List RoadArc) → IsWalk map x y walk → weight ≤ weight_of walk
+
+-- the travel time from x to y: the least weight of a walk, absent where there is no walk
+abbrev pub IsTravel : RoadMap → ℕ → ℕ → Option ℕ → Type 0
+IsTravel map x y None = (walk : List RoadArc) → IsWalk map x y walk → ⊥
+IsTravel map x y (Some weight) = IsLeastWeight map x y weight
+
+-- the lesser of two weights, each of which may be absent
+abbrev pub lesser : Option ℕ → Option ℕ → Option ℕ
+lesser None b = b
+lesser (Some a) None = Some a
+lesser (Some a) (Some b) = Some (min a b)
+
+-- the least of weights that may be absent
+abbrev pub least_of : List (Option ℕ) → Option ℕ
+least_of [] = None
+least_of (weight ∷ weights) = lesser weight (least_of weights)
+
+-- the arcs that leave x
+abbrev pub arcs_from : List RoadArc → ℕ → List RoadArc
+arcs_from arcs x = filter (λ (arc : RoadArc). arc.tail == x) arcs
+
+-- the least weight of a walk from x to y of at most so many arcs
+unfoldable pub travel_within : List RoadArc → ℕ → ℕ → ℕ → Option ℕ
+travel_within arcs zero x y = if x == y then Some 0 else None
+travel_within arcs (suc most) x y =
+    if x == y
+    then Some 0
+    else least_of (map (λ (arc : RoadArc). option_map (λ t. arc.seconds + t) (travel_within arcs most arc.head y)) (arcs_from arcs x))
+
+-- the travel time from x to y as a number: a least walk meets no node twice, so that it has at most as many arcs as
+-- there are nodes
+unfoldable pub travel : RoadMap → ℕ → ℕ → Option ℕ
+travel map x y = travel_within map.arcs map.nodes x y
