@@ -1,0 +1,4 @@
+//! Laws of the definitions of ride dispatch. Each is the contract of a function that does nothing.
+#![tactic(auto)]
+
+pub mod travel;

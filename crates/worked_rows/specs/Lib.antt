@@ -1,0 +1,2 @@
+pub mod Roads
+pub mod Vehicles
