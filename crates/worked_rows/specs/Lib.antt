@@ -1,2 +1,4 @@
 pub mod Roads
 pub mod Vehicles
+pub mod Runs
+pub mod PlainPath

@@ -1,12 +1,12 @@
 -- The rides and vehicles of the worked rows.
-use Rattle.std.specs.Prelude.{ℕ, List, [], ◌∷◌, true, None}
+use Rattle.std.specs.Prelude.{ℕ, List, [], ◌∷◌, ◌++◌, true, None}
 use Rattle.arrayvec.specs.ArrayVec.{ArrayVec}
 use Rattle.ride_model.specs.declared.vehicle.Kind.TheVariants.{Pickup, Dropoff}
 use Rattle.ride_model.specs.declared.vehicle.Ride.{Ride}
 use Rattle.ride_model.specs.declared.vehicle.Stop.{Stop}
 use Rattle.ride_model.specs.declared.vehicle.Vehicle.{Vehicle}
 
--- a ride of one seat
+-- a ride of one seat: its id, its nodes, its latest pickup and its longest ride
 abbrev pub ride_of_one : ℕ → ℕ → ℕ → ℕ → ℕ → Ride
 ride_of_one id from to latest longest =
     record { id = id; from = from; to = to; seats = 1; chairs = 0; latest = latest; longest = longest; picked = None }
@@ -30,15 +30,16 @@ idle_vehicle id seats at = record {
   rides = record { items = [] }; stops = record { items = [] }
 }
 
--- a vehicle with rides and stops
+-- a vehicle with so many more rides
 abbrev pub with_rides : Vehicle → ℕ → List Ride → List Stop → Vehicle
 with_rides v version rides stops =
     record v { version = version; rides = record { items = rides }; stops = record { items = stops } }
 
--- the vehicle with ride 7 alone, and with ride 9 pooled in
-abbrev pub with_ride_7 : Vehicle → Vehicle
-with_ride_7 v = with_rides v 1 (ride_7 ∷ []) (pickup 7 2 60 ∷ dropoff 7 4 120 ∷ [])
+-- a vehicle from node 1 that has promised ride 7 alone
+abbrev pub with_ride_7 : ℕ → Vehicle
+with_ride_7 seats = with_rides (idle_vehicle 1 seats 1) 1 (ride_7 ∷ []) (pickup 7 2 60 ∷ dropoff 7 4 120 ∷ [])
 
+-- the vehicle with ride 9 pooled in
 abbrev pub pooled : Vehicle
 pooled = with_rides (idle_vehicle 1 2 1) 2 (ride_7 ∷ ride_9 ∷ [])
     (pickup 7 2 60 ∷ pickup 9 3 60 ∷ dropoff 9 4 60 ∷ dropoff 7 4 0 ∷ [])

@@ -1,0 +1,20 @@
+//! The plain path: its text, byte by byte.
+#![tactic(auto, unfolding(ride_model::specs::Text::text_of))]
+
+ghost use Rattle.std.specs.Prelude.{◌≡◌, [], ◌∷◌, codes};
+ghost use Rattle.ride_model.specs.declared.command.Command.TheVariants.{Request};
+ghost use Rattle.ride_model.specs.Text.{text_of, line_of, command_fields};
+ghost use Rattle.worked_rows.specs.PlainPath.{plain_path, plain_text, text_line};
+
+/// The text of the plain path's history is its log, to the byte.
+pub fn plain_path_text()
+    ensures { text_of 1 1 1 plain_path ≡ plain_text }
+{
+}
+
+/// Version 2 of the log spells a request's chairs, version 1 does not.
+pub fn chairs_in_both_versions()
+    ensures two { line_of (command_fields 2 (Request 7 2 4 0 600 300 1)) ≡ text_line (codes "request 7 2 4 0 600 300 1") }
+    ensures one { line_of (command_fields 1 (Request 7 2 4 1 600 300 0)) ≡ text_line (codes "request 7 2 4 1 600 300") }
+{
+}
