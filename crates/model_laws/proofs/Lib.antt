@@ -1,3 +1,7 @@
 pub mod Among
+pub mod Sums
+pub mod Duality
+pub mod Offers
+pub mod Certificates
 pub mod Walks
 pub mod TravelTimes
