@@ -1,4 +1,6 @@
 //! Laws of the definitions of ride dispatch. Each is the contract of a function that does nothing.
 #![tactic(auto)]
 
+pub mod duality;
+pub mod history;
 pub mod travel;

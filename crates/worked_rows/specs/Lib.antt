@@ -2,3 +2,4 @@ pub mod Roads
 pub mod Vehicles
 pub mod Runs
 pub mod PlainPath
+pub mod Greedy

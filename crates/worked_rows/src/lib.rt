@@ -6,4 +6,5 @@
 
 pub mod plain_path;
 pub mod plans;
+pub mod seatings;
 pub mod steps;

@@ -4,11 +4,18 @@
 ghost use Rattle.std.specs.Prelude.{◌≡◌, [], ◌∷◌, codes};
 ghost use Rattle.ride_model.specs.declared.command.Command.TheVariants.{Request};
 ghost use Rattle.ride_model.specs.Text.{text_of, line_of, command_fields};
-ghost use Rattle.worked_rows.specs.PlainPath.{plain_path, plain_text, text_line};
+ghost use Rattle.ride_model.specs.Legal.{IsLegal};
+ghost use Rattle.worked_rows.specs.PlainPath.{plain_path, plain_text, text_line, start};
 
 /// The text of the plain path's history is its log, to the byte.
 pub fn plain_path_text()
     ensures { text_of 1 1 1 plain_path ≡ plain_text }
+{
+}
+
+/// The plain path's history is legal from the start of its fleet.
+pub fn plain_path_is_legal()
+    ensures { IsLegal 1 1 start plain_path }
 {
 }
 
