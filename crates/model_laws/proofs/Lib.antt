@@ -4,5 +4,6 @@ pub mod CoveredPairs
 pub mod Offers
 pub mod Certificates
 pub mod Histories
+pub mod Routes
 pub mod Walks
 pub mod TravelTimes
