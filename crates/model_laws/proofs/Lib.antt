@@ -5,5 +5,6 @@ pub mod Offers
 pub mod Certificates
 pub mod Histories
 pub mod Routes
+pub mod Plans
 pub mod Walks
 pub mod TravelTimes
