@@ -6,5 +6,7 @@ pub mod Certificates
 pub mod Histories
 pub mod Routes
 pub mod Plans
+pub mod AboardLoads
+pub mod Removal
 pub mod Walks
 pub mod TravelTimes
