@@ -8,5 +8,6 @@ pub mod Routes
 pub mod Plans
 pub mod AboardLoads
 pub mod Removal
+pub mod Insertions
 pub mod Walks
 pub mod TravelTimes

@@ -1,6 +1,7 @@
 pub mod Road
 pub mod Fleet
 pub mod Loads
+pub mod Settings
 pub mod Vehicle
 pub mod Times
 pub mod Keeps
