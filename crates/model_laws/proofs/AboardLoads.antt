@@ -12,7 +12,7 @@ use Rattle.ride_model.specs.declared.vehicle.Vehicle.{Vehicle}
 use Rattle.ride_model.specs.Loads.{is_pickup, is_aboard_from, is_aboard_after, load_after, loads_of, fits_load, loads_fit}
 use Rattle.ride_model.specs.Insertion.{stops_without, rides_without}
 use Rattle.model_laws.proofs.Routes.{with_leg}
-use Rattle.model_laws.proofs.Plans.{unlegged}
+use Rattle.model_laws.proofs.PlanStops.{unlegged}
 
 -- whether both hold
 pub and-true : (a b : Bool) → (a && b) ≡ true → (a ≡ true) × (b ≡ true)

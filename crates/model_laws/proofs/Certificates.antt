@@ -16,7 +16,7 @@ use Rattle.ride_model.specs.Vehicle.{ride_ids}
 use Rattle.ride_model.specs.Offers.{offer_of, price}
 use Rattle.ride_model.specs.Seating.{BatchCopy, find_ride, find_vehicle, seat_offer, has_seat, IsSeating, seat_cost, seating_cost, IsLeastSeating, amount_ids, amount_of, IsCovered, Certifies}
 use Rattle.model_laws.proofs.Among.{Among, contains_from_among}
-use Rattle.model_laws.proofs.Offers.{price-le-cost}
+use Rattle.model_laws.proofs.OfferPrices.{price-le-cost}
 use Rattle.model_laws.proofs.CoveredPairs.{prices-le-cost}
 use Rattle.model_laws.proofs.Sums.{sum_by-le-each, sum_by-map}
 

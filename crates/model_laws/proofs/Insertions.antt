@@ -11,11 +11,11 @@ use Rattle.ride_model.specs.declared.vehicle.Ride.{Ride}
 use Rattle.ride_model.specs.declared.vehicle.Stop.{Stop}
 use Rattle.ride_model.specs.declared.vehicle.Vehicle.{Vehicle}
 use Rattle.ride_model.specs.Road.{RoadMap, travel}
-use Rattle.ride_model.specs.Vehicle.{IsRide, visits_due, visit_of, stops_of, ride_ids, IsPlanFor, IsRouted}
+use Rattle.ride_model.specs.Vehicle.{IsRide, visits_due, visit_of, stops_of, ride_ids, IsFresh, IsPlanFor, IsRouted}
 use Rattle.ride_model.specs.Insertion.{routed, pickup_of, dropoff_of, stops_with, with_plan, inserted, stops_without}
 use Rattle.model_laws.proofs.Among.{Among, among_from_contains, contains_from_among}
 use Rattle.model_laws.proofs.Routes.{with_leg, routed-has_legs}
-use Rattle.model_laws.proofs.Plans.{unlegged, unlegged-routed, plan-same}
+use Rattle.model_laws.proofs.PlanStops.{unlegged, unlegged-routed, plan-same}
 use Rattle.model_laws.proofs.AboardLoads.{filter-kept, filter-skipped}
 
 -- the stops before the pickup, between the two new stops and after the drop-off
@@ -71,7 +71,7 @@ filter-with-neither p ride i j stops in_order in_range no_pickup no_dropoff =
         (filter-skipped p (pickup_of ride) [] no_pickup)
     ∙ ap (λ xs. filter p (take i stops) ++ [] ++ (filter p (drop i (take j stops)) ++ xs ++ filter p (drop j stops)))
         (filter-skipped p (dropoff_of ride) [] no_dropoff)
-    ∙ simp (append_nil, append_assoc) refl
+    ∙ simp append_nil refl
     ∙ filter-parts p i j stops in_order in_range
   where
     append_nil : (xs : List Stop) → xs ++ [] ≡ xs
@@ -97,10 +97,6 @@ filter-with-both p ride i j stops in_order in_range keeps_pickup keeps_dropoff n
     ∙ ap (λ xs. pickup_of ride ∷ (xs ++ filter p (dropoff_of ride ∷ []) ++ filter p (drop j stops))) second
     ∙ ap (λ xs. pickup_of ride ∷ (xs ++ filter p (drop j stops))) (filter-kept p (dropoff_of ride) [] keeps_dropoff)
     ∙ ap (λ xs. pickup_of ride ∷ dropoff_of ride ∷ xs) third
-
--- an id that no ride has
-abbrev pub IsFresh : List Ride → ℕ → Type 0
-IsFresh rides id = Contains (ride_ids rides) id → ⊥
 
 -- no stop is of a ride that is not there
 fresh-stops : (rides : List Ride) (id : ℕ) (stops : List Stop) → IsFresh rides id
@@ -181,13 +177,15 @@ pub plan-with : (rides : List Ride) (stops : List Stop) (ride : Ride) (i j : ℕ
     → ride.picked ≡ None → i ≤ j → j ≤ length stops → IsPlanFor (rides ++ ride ∷ []) (stops_with ride i j stops)
 plan-with rides stops ride i j plan fresh waits in_order in_range = record {
   ids_differ = subst (IsDistinct eqb) (sym (ids-push rides ride)) (distinct-push (ride_ids rides) ride.id plan.ids_differ fresh);
-  each_ride = All-push _ rides ride (All-from_recursion _ rides (each rides (λ r there. there) (recursion_from_All _ rides plan.each_ride))) new;
+  each_ride = All-push needs rides ride (All-from_recursion needs rides (each rides (λ r there. there) (recursion_from_All _ rides plan.each_ride))) new;
   each_stop = All-from_recursion _ (stops_with ride i j stops)
     (subst (AllByRecursion (λ (s : Stop). Contains (ride_ids (rides ++ ride ∷ [])) s.ride)) (sym (stops_with-split ride i j stops in_order in_range))
       (each-append _ (take i stops) _ (each-take _ i stops old)
         (newest, each-append _ (drop i (take j stops)) _ (each-drop _ i (take j stops) (each-take _ j stops old)) (newest, each-drop _ j stops old))))
 }
   where
+    needs : Ride → Type 0
+    needs r = map visit_of (stops_of r.id (stops_with ride i j stops)) ≡ visits_due r r.picked
     newest : Contains (ride_ids (rides ++ ride ∷ [])) ride.id
     newest = subst (λ ids. Contains ids ride.id) (sym (ids-push rides ride)) (Contains-push (ride_ids rides) ride.id)
     kept_ids : (ss : List Stop) → AllByRecursion (λ (s : Stop). Contains (ride_ids rides) s.ride) ss

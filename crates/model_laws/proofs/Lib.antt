@@ -1,13 +1,15 @@
 pub mod Among
 pub mod Sums
 pub mod CoveredPairs
-pub mod Offers
+pub mod OfferPrices
 pub mod Certificates
 pub mod Histories
 pub mod Routes
-pub mod Plans
+pub mod PlanStops
 pub mod AboardLoads
 pub mod Removal
 pub mod Insertions
+pub mod Costs
+pub mod BatchSums
 pub mod Walks
 pub mod TravelTimes

@@ -14,8 +14,9 @@ use Rattle.ride_model.specs.Times.{times_of, visits_of}
 use Rattle.ride_model.specs.Keeps.{is_pickup_at, is_dropoff_at, keeps_visits, keeps_ride, breaks_visits, breaks_ride}
 use Rattle.ride_model.specs.Insertion.{routed, with_plan, stops_without, rides_without, rerouted, without_ride}
 use Rattle.model_laws.proofs.TravelTimes.{travel-same}
-use Rattle.model_laws.proofs.Routes.{routed-has_legs, AllSooner, SoonerBy, of_ride, sooner-filter, visits_from, stop_of_ride, ShorterRoute, shorter_route}
-use Rattle.model_laws.proofs.Plans.{unlegged-routed, plan-same, plan-without}
+use Rattle.model_laws.specs.Sooner.{AllSooner, SoonerBy}
+use Rattle.model_laws.proofs.Routes.{routed-has_legs, of_ride, sooner-filter, visits_from, stop_of_ride, ShorterRoute, shorter_route}
+use Rattle.model_laws.proofs.PlanStops.{unlegged-routed, plan-same, plan-without}
 use Rattle.model_laws.proofs.AboardLoads.{and-true, true-and, fits_throughout, loads_fit-throughout, fits-without, filter-kept, filter-skipped}
 
 -- the test of the rides that are left

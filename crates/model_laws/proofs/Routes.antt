@@ -8,6 +8,7 @@ use Rattle.ride_model.specs.Road.{RoadMap, IsRoadMap, travel}
 use Rattle.ride_model.specs.Vehicle.{HasLegs}
 use Rattle.ride_model.specs.Times.{times_from}
 use Rattle.ride_model.specs.Insertion.{routed}
+use Rattle.model_laws.specs.Sooner.{SoonerBy, AllSooner}
 use Rattle.model_laws.proofs.TravelTimes.{travel-same, triangle}
 
 -- a stop with another leg
@@ -45,21 +46,6 @@ routed-has_legs roads at (stop ∷ stops) out is =
 pub routed-own : (roads : RoadMap) (at : ℕ) (stops : List Stop) → HasLegs roads at stops → routed roads at stops ≡ Some stops
 routed-own roads at [] h = refl
 routed-own roads at (stop ∷ stops) (there, rest) = routed-cons roads at stop.leg stop stops stops there (routed-own roads stop.node stops rest)
-
--- two visits of one stop, the first sooner by gain
-pub record SoonerBy (gain : ℕ) (a b : Stop × ℕ) : Type 0 where
-  pub ride_is : a.0.ride ≡ b.0.ride
-  pub kind_is : a.0.kind ≡ b.0.kind
-  pub node_is : a.0.node ≡ b.0.node
-  pub time_is : a.1 + gain ≡ b.1
-
--- visits of the same stops in the same order, each sooner than the other list's by at least gain, and by no less than the one
--- before it: no stop is later, and no two stops are farther apart
-abbrev pub AllSooner : ℕ → List (Stop × ℕ) → List (Stop × ℕ) → Type 0
-AllSooner gain [] [] = ⊤
-AllSooner gain [] (b ∷ bs) = ⊥
-AllSooner gain (a ∷ as') [] = ⊥
-AllSooner gain (a ∷ as') (b ∷ bs) = (more : ℕ) × (gain ≤ more) × SoonerBy more a b × AllSooner more as' bs
 
 -- the same sooner by less
 pub sooner-less : (less gain : ℕ) (xs ys : List (Stop × ℕ)) → less ≤ gain → AllSooner gain xs ys → AllSooner less xs ys

@@ -3,4 +3,6 @@
 
 pub mod duality;
 pub mod history;
+pub mod offers;
+pub mod plans;
 pub mod travel;

@@ -38,6 +38,10 @@ stops_of id stops = filter (λ (stop : Stop). stop.ride == id) stops
 abbrev pub ride_ids : List Ride → List ℕ
 ride_ids rides = map (λ (ride : Ride). ride.id) rides
 
+-- an id that no ride has
+abbrev pub IsFresh : List Ride → ℕ → Type 0
+IsFresh rides id = Contains (ride_ids rides) id → ⊥
+
 -- the stops are exactly those that the rides need, each once
 pub record IsPlanFor (rides : List Ride) (stops : List Stop) : Type 0 where
   pub ids_differ : IsDistinct nat_eq (ride_ids rides)
