@@ -11,5 +11,6 @@ pub mod Removal
 pub mod Insertions
 pub mod Costs
 pub mod BatchSums
+pub mod RequestStates
 pub mod Walks
 pub mod TravelTimes
