@@ -1,0 +1,10 @@
+//! What a vehicle's plan is and becomes: stop times, loads, and plans with a ride more or less or a stop served.
+//!
+//! A plan keeps the travel time to each stop, its leg, beside the stop. So no call asks the road, and none takes memory.
+#![tactic(auto)]
+
+mod stop_loads;
+mod stop_times;
+
+pub use stop_loads::{load_at_start, loads};
+pub use stop_times::times;
