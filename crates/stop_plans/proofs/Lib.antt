@@ -1,2 +1,3 @@
 pub mod Legs
 pub mod AboardLists
+pub mod InsertedLegs

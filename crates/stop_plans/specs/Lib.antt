@@ -1,2 +1,3 @@
 pub mod Change
 pub mod Aboard
+pub mod Legged

@@ -3,8 +3,10 @@
 //! A plan keeps the travel time to each stop, its leg, beside the stop. So no call asks the road, and none takes memory.
 #![tactic(auto)]
 
+mod insert;
 mod stop_loads;
 mod stop_times;
 
+pub use insert::insert_ride;
 pub use stop_loads::{load_at_start, loads};
 pub use stop_times::times;
