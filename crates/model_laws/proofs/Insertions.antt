@@ -108,11 +108,11 @@ fresh-stops rides id (s ∷ stops) fresh (first, rest) = (differs (eqb s.ride id
     differs true is = absurd (fresh (subst (Contains (ride_ids rides)) (eqb-true s.ride id is) first))
     differs false is = refl
 
-none-kept : (id : ℕ) (stops : List Stop) → AllByRecursion (λ (s : Stop). eqb s.ride id ≡ false) stops → stops_of id stops ≡ []
+pub none-kept : (id : ℕ) (stops : List Stop) → AllByRecursion (λ (s : Stop). eqb s.ride id ≡ false) stops → stops_of id stops ≡ []
 none-kept id [] h = refl
 none-kept id (s ∷ stops) (first, rest) = filter-skipped (λ (t : Stop). t.ride == id) s stops first ∙ none-kept id stops rest
 
-all-kept : (id : ℕ) (stops : List Stop) → AllByRecursion (λ (s : Stop). eqb s.ride id ≡ false) stops → stops_without id stops ≡ stops
+pub all-kept : (id : ℕ) (stops : List Stop) → AllByRecursion (λ (s : Stop). eqb s.ride id ≡ false) stops → stops_without id stops ≡ stops
 all-kept id [] h = refl
 all-kept id (s ∷ stops) (first, rest) =
     filter-kept (λ (t : Stop). not (t.ride == id)) s stops (ap not first) ∙ ap (λ more. s ∷ more) (all-kept id stops rest)

@@ -41,7 +41,7 @@ route_head roads at stop stops out is =
     same : (a b : List Stop) → Some a ≡ Some b → a ≡ b
     same a b e = cc e
 
-same_some : {X : Type 0} (a b : X) → Some a ≡ Some b → a ≡ b
+pub same_some : {X : Type 0} (a b : X) → Some a ≡ Some b → a ≡ b
 same_some a b e = cc e
 
 -- the legs of stops behind a new one are theirs, but for the first

@@ -1,5 +1,5 @@
 -- What is asked of a change of a plan.
-use Rattle.std.specs.Prelude.{◌≡◌, ℕ, ◌+◌, ◌-◌, ◌<◌, ◌≤◌, ◌==◌, ◌&&◌, not, Bool, length, All, Contains, Option, Some, None, position}
+use Rattle.std.specs.Prelude.{◌≡◌, ℕ, ◌+◌, ◌≤◌, List, ◌∷◌, ◌++◌, length, Some, None}
 use Rattle.ride_model.specs.declared.offer.Joins.{Joins}
 use Rattle.ride_model.specs.declared.offer.Offer.{Offer}
 use Rattle.ride_model.specs.declared.vehicle.Ride.{Ride}
@@ -7,7 +7,7 @@ use Rattle.ride_model.specs.declared.vehicle.Stop.{Stop}
 use Rattle.ride_model.specs.declared.vehicle.Vehicle.{Vehicle}
 use Rattle.ride_model.specs.Road.{RoadMap, IsRoadMap}
 use Rattle.ride_model.specs.Vehicle.{IsRide, IsFresh, IsLawful}
-use Rattle.ride_model.specs.Loads.{is_pickup}
+use Rattle.ride_model.specs.declared.vehicle.Kind.TheVariants.{Pickup, Dropoff}
 use Rattle.ride_model.specs.Insertion.{inserted, without_ride}
 use Rattle.ride_model.specs.Offers.{joins_of, leg_at}
 
@@ -26,19 +26,19 @@ pub record InsertsInto (roads : RoadMap) (v : Vehicle) (ride : Ride) (offer : Of
   pub inserted_is : inserted roads v ride offer.i offer.j ≡ Some new
   pub joins_are : offer.joins ≡ joins_of new offer.i offer.j
 
--- whether it is the pickup, and the drop-off, of a ride
-abbrev pub is_pickup_of : ℕ → Stop → Bool
-is_pickup_of id stop = stop.ride == id && is_pickup stop.kind
-
-abbrev pub is_dropoff_of : ℕ → Stop → Bool
-is_dropoff_of id stop = stop.ride == id && not (is_pickup stop.kind)
-
--- over a map, a lawful vehicle has a ride that waits, with its pickup and its drop-off at places from and to, and first and
--- second are the legs to the stops behind them in the plan that is left, 0 where none is
-pub record RemovesFrom (roads : RoadMap) (v : Vehicle) (id first second from to : ℕ) : Type 0 where
+-- over a map, a lawful vehicle has a ride that is not aboard: its pickup and its drop-off stand among its stops with these
+-- before, between and after them, and first and second are the legs to the stops behind the two in the plan that is left, 0
+-- where none is
+pub record RemovesFrom (roads : RoadMap) (v : Vehicle) (id first second : ℕ) : Type 0 where
   pub map_fits : IsRoadMap roads
   pub lawful : IsLawful roads v
-  pub pickup_at : position (is_pickup_of id) v.stops.items ≡ Some from
-  pub dropoff_at : position (is_dropoff_of id) v.stops.items ≡ Some to
-  pub first_is : first ≡ leg_at (without_ride roads v id).stops.items from
-  pub second_is : second ≡ leg_at (without_ride roads v id).stops.items (to - 1)
+  pub before : List Stop
+  pub pickup : Stop
+  pub between : List Stop
+  pub dropoff : Stop
+  pub after : List Stop
+  pub stops_are : v.stops.items ≡ before ++ pickup ∷ (between ++ dropoff ∷ after)
+  pub pickup_is : (pickup.ride ≡ id) × (pickup.kind ≡ Pickup)
+  pub dropoff_is : (dropoff.ride ≡ id) × (dropoff.kind ≡ Dropoff)
+  pub first_is : first ≡ leg_at (without_ride roads v id).stops.items (length before)
+  pub second_is : second ≡ leg_at (without_ride roads v id).stops.items (length before + length between)

@@ -42,7 +42,7 @@ fn insert_stop(stops: &mut ArrayVec<Stop, 16>, place: usize, stop: Stop, after: 
 }
 
 // Sets the leg of the stop at a place, where one is there.
-fn set_leg(stops: &mut [Stop], place: usize, leg: u64)
+pub fn set_leg(stops: &mut [Stop], place: usize, leg: u64)
     ensures { stops.new ≡ relegged place leg stops.old }
 {
     if place < stops.len() {

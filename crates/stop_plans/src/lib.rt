@@ -4,9 +4,11 @@
 #![tactic(auto)]
 
 mod insert;
+mod remove;
 mod stop_loads;
 mod stop_times;
 
 pub use insert::insert_ride;
+pub use remove::remove_ride;
 pub use stop_loads::{load_at_start, loads};
 pub use stop_times::times;
