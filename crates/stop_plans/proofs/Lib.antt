@@ -2,3 +2,4 @@ pub mod Legs
 pub mod AboardLists
 pub mod InsertedLegs
 pub mod RemovedLegs
+pub mod Marked

@@ -42,3 +42,7 @@ pub record RemovesFrom (roads : RoadMap) (v : Vehicle) (id first second : ℕ) :
   pub dropoff_is : (dropoff.ride ≡ id) × (dropoff.kind ≡ Dropoff)
   pub first_is : first ≡ leg_at (without_ride roads v id).stops.items (length before)
   pub second_is : second ≡ leg_at (without_ride roads v id).stops.items (length before + length between)
+
+-- the vehicle has a first stop, and is at its node
+abbrev pub HasFirstStopAt : Vehicle → Type 0
+HasFirstStopAt v = (stop : Stop) × (rest : List Stop) × (v.stops.items ≡ stop ∷ rest) × (v.at ≡ stop.node)

@@ -5,10 +5,12 @@
 
 mod insert;
 mod remove;
+mod serve;
 mod stop_loads;
 mod stop_times;
 
 pub use insert::insert_ride;
 pub use remove::remove_ride;
+pub use serve::serve_first;
 pub use stop_loads::{load_at_start, loads};
 pub use stop_times::times;
