@@ -4,6 +4,7 @@
 #![tactic(auto)]
 
 mod insert;
+pub mod laws;
 mod remove;
 mod serve;
 mod stop_loads;
