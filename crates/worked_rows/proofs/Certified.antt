@@ -18,13 +18,13 @@ use Rattle.worked_rows.specs.Greedy.{two_requests, greedy_seats, least_seats}
 use Rattle.worked_rows.specs.PlainPath.{batch}
 
 -- what holds of one element, and of two
-all_of_one : {X : Type 0} (P : X → Type 0) (x : X) → P x → All P (x ∷ [])
+pub all_of_one : {X : Type 0} (P : X → Type 0) (x : X) → P x → All P (x ∷ [])
 all_of_one P x p = All-from_recursion P (x ∷ []) (p, tt)
 
-all_of_two : {X : Type 0} (P : X → Type 0) (x y : X) → P x → P y → All P (x ∷ y ∷ [])
+pub all_of_two : {X : Type 0} (P : X → Type 0) (x y : X) → P x → P y → All P (x ∷ y ∷ [])
 all_of_two P x y p q = All-from_recursion P (x ∷ y ∷ []) (p, (q, tt))
 
-all_of_none : {X : Type 0} (P : X → Type 0) → All P []
+pub all_of_none : {X : Type 0} (P : X → Type 0) → All P []
 all_of_none P = All-from_recursion P [] tt
 
 pub greedy_is_seating : IsSeating four_nodes two_requests greedy_seats

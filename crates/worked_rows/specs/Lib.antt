@@ -3,3 +3,4 @@ pub mod Vehicles
 pub mod Runs
 pub mod PlainPath
 pub mod Greedy
+pub mod Stale

@@ -4,6 +4,7 @@
 //! time 0, unless a row says otherwise; ride 7 goes from node 2 to node 4, ride 9 from node 3 to node 4.
 #![tactic(auto)]
 
+pub mod commits;
 pub mod plain_path;
 pub mod plans;
 pub mod seatings;

@@ -2,9 +2,11 @@
 #![tactic(auto, unfolding(ride_model::specs::Text::text_of))]
 
 ghost use Rattle.std.specs.Prelude.{◌≡◌, [], ◌∷◌, codes};
-ghost use Rattle.ride_model.specs.declared.command.Command.TheVariants.{Request};
+ghost use Rattle.ride_model.specs.declared.command.Command.TheVariants.{Request, Ask};
 ghost use Rattle.ride_model.specs.Text.{text_of, line_of, command_fields};
-ghost use Rattle.ride_model.specs.Legal.{IsLegal};
+ghost use Rattle.ride_model.specs.Legal.{IsLegal, replay};
+ghost use Rattle.ride_model.specs.History.{IsFinished, IsDirect, fed_commands, confirmed_total, away_total};
+ghost use Rattle.ride_model.specs.Promises.{KeepsPromises};
 ghost use Rattle.worked_rows.specs.PlainPath.{plain_path, plain_text, text_line, start};
 
 /// The text of the plain path's history is its log, to the byte.
@@ -16,6 +18,22 @@ pub fn plain_path_text()
 /// The plain path's history is legal from the start of its fleet.
 pub fn plain_path_is_legal()
     ensures { IsLegal 1 1 start plain_path }
+{
+}
+
+/// Both actors ended whole, nothing is open, and the batch stands directly behind its ask.
+pub fn plain_path_is_finished_and_direct()
+    ensures finished { IsFinished 1 1 start plain_path }
+    ensures direct { IsDirect plain_path }
+    ensures commands { fed_commands 1 plain_path ≡ Request 7 2 4 1 600 300 0 ∷ Ask ∷ [] }
+    ensures confirmed { confirmed_total plain_path ≡ 1 }
+    ensures away { away_total plain_path ≡ 0 }
+{
+}
+
+/// The ride of the plain path is promised and kept.
+pub fn plain_path_keeps_its_promises()
+    ensures { KeepsPromises start plain_path }
 {
 }
 

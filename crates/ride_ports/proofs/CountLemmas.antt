@@ -1,0 +1,27 @@
+-- Counts of faults over several calls in turn.
+use Rattle.std.proofs.Common.{ℕ, ◌<◌, ◌≤◌, arith}
+use Rattle.ride_ports.specs.Count.{Rose, most_count, raised}
+
+-- a count that rose and does not fall afterwards rose over both calls
+pub Rose-then_kept : (a b c : ℕ) → Rose a b → b ≤ c → Rose a c
+Rose-then_kept a b c rose kept = grind arith
+
+-- a count that does not fall and then rises rose over both calls
+pub Rose-after_kept : (a b c : ℕ) → a ≤ b → Rose b c → b ≤ c → Rose a c
+Rose-after_kept a b c kept rose falls = grind arith
+
+-- one more fault makes a count rise
+pub Rose-raised : (a : ℕ) → a ≤ most_count → Rose a (raised a)
+Rose-raised a below = omega arith
+
+-- a count of 64 bits does not fall at one more fault
+pub raised-kept : (a : ℕ) → a ≤ most_count → a ≤ raised a
+raised-kept a fits = omega arith
+
+-- a count below its end that stayed did not rise
+pub Rose-same : (a : ℕ) → a < most_count → Rose a a → ⊥
+Rose-same a room rose = grind arith
+
+-- a count that rose from 0 is above it
+pub Rose-from_zero : (a : ℕ) → Rose 0 a → 0 < a
+Rose-from_zero a rose = grind arith

@@ -1,0 +1,4 @@
+pub mod ByteLemmas
+pub mod CountLemmas
+pub mod ShelfLemmas
+pub mod FileLemmas
