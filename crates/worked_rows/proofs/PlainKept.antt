@@ -85,10 +85,10 @@ promised_times s late at_once = all_of_one (KeepsTimes s late) (with_ride_7 2)
 pub plain_keeps : KeepsPromises start plain_path
 unfolding KeepsPromises travel travel_within offer_of request_step ask_step
 plain_keeps =
-    (record { lawful = idle_lawful; times = idle_times _ [] }, tt,
-    (record { lawful = idle_lawful; times = idle_times _ [] }, tt,
-    (record { lawful = idle_lawful; times = idle_times _ [] }, tt,
-    (record { lawful = idle_lawful; times = idle_times _ [] }, tt,
-    (record { lawful = promised_lawful; times = promised_times _ [] refl }, tt,
-    (record { lawful = promised_lawful; times = promised_times _ [] refl }, tt,
-    record { lawful = promised_lawful; times = promised_times _ [] refl }))))))
+    (record { lawful = idle_lawful; times = idle_times start [] }, tt,
+    (record { lawful = idle_lawful; times = idle_times start [] }, tt,
+    (record { lawful = idle_lawful; times = idle_times start [] }, tt,
+    (record { lawful = idle_lawful; times = idle_times start [] }, tt,
+    (record { lawful = promised_lawful; times = promised_times start [] refl }, tt,
+    (record { lawful = promised_lawful; times = promised_times start [] refl }, tt,
+    record { lawful = promised_lawful; times = promised_times start [] refl }))))))
