@@ -1,0 +1,5 @@
+pub mod Members
+pub mod Steps
+pub mod Kept
+pub mod Views
+pub mod Walks

@@ -1,0 +1,5 @@
+pub mod Radix
+pub mod Marked
+pub mod Placed
+pub mod Counts
+pub mod Walked

@@ -1,0 +1,10 @@
+use Rattle.link_lists.specs.Family.{list_at}
+use Rattle.link_lists.proofs.Walks.{nodes_left}
+use Rattle.wait_list.proofs.Walk.{IsWalk}
+use Rattle.wait_list.proofs.WaitList.last_below.Given as goal
+
+abbrev pub invariant-loop-current : goal.invariant-loop-current
+invariant-loop-current l = IsWalk (list_at l.self-inside.links 0) l.place l.last l.current
+
+abbrev pub decreases-loop-current : goal.decreases-loop-current
+decreases-loop-current l = nodes_left l.current (list_at l.self-inside.links 0)
