@@ -1,0 +1,5 @@
+pub mod Lists
+pub mod Views
+pub mod Entering
+pub mod Leaving
+pub mod Joining

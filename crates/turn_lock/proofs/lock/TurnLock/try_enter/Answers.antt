@@ -1,0 +1,19 @@
+use Rattle.std.proofs.Common.{Some, ap, ◌∙◌, arith}
+use Rattle.turn_lock.specs.Steps.{slots_of}
+use Rattle.turn_lock.proofs.Entering.{grabs, holds_slot}
+use Rattle.turn_lock.proofs.lock.TurnLock.try_enter.Goals as goal
+
+pub compare_exchange-found-requires : goal.compare_exchange-found-requires
+compare_exchange-found-requires g c =
+    let lock = c.args.self.now in
+    let pass = c.args.pass.now in
+    let t = g.T.Chronicle in (
+      c.requires.0,
+      omega (arith, lock.two_words),
+      grabs t.root t.history t.maker (t.root lock.table.shared.key.value.value) lock.table.shared.table_id.slots pass.seat.id pass.seat.me (pass.slots_are ∙ ap slots_of c.requires.1) pass.live c.requires.1,
+    )
+
+pub exchange-requires : goal.exchange-requires
+exchange-requires g c =
+    let takes = c.compare_exchange-found.ensures.2.0 c.if-found-ne-FREE.false in
+    (c.compare_exchange-found.ensures.0 ∙ c.requires.0, (Some takes.0, holds_slot c.compare_exchange-found.new.seat.me _ (Some takes.0) _ takes.1))

@@ -1,0 +1,5 @@
+pub mod History
+pub mod Knowledge
+pub mod Passes
+pub mod Rule
+pub mod Steps

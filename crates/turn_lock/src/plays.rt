@@ -1,0 +1,50 @@
+//! What each step tells, and how views are cut and joined.
+ghost use Rattle.turn_lock.specs.Steps.{Grabs, Notes, HandsOn, Looks, left_of, right_of, both_of, spent_view};
+
+use crate::chronicle::Chronicle;
+use crate::rule::View;
+use atomic_table::{Join, Play, Split};
+
+/// Takes the turn, and the slot with it, where the turn is free.
+pub(crate) struct Grab;
+
+impl<T: Chronicle> Play<Option<T>, View<T::Root, T::Item>> for Grab {
+    ghost then = { Grabs T.root T.history T.maker };
+}
+
+/// Counts the item by which the value in the slot has grown.
+pub(crate) struct Note;
+
+impl<T: Chronicle> Play<Option<T>, View<T::Root, T::Item>> for Note {
+    ghost then = { Notes T.history };
+}
+
+/// Gives the turn and the slot back.
+pub(crate) struct HandOn;
+
+impl<T: Chronicle> Play<Option<T>, View<T::Root, T::Item>> for HandOn {
+    ghost then = { HandsOn };
+}
+
+/// Learns what the rule says of a join.
+pub(crate) struct Look;
+
+impl<T: Chronicle> Play<Option<T>, View<T::Root, T::Item>> for Look {
+    ghost then = { Looks };
+}
+
+pub(crate) struct Cut;
+
+impl<R, I> Split<View<R, I>> for Cut {
+    ghost left = { left_of };
+
+    ghost right = { right_of };
+}
+
+pub(crate) struct Glue;
+
+impl<R, I> Join<View<R, I>> for Glue {
+    ghost both = { both_of };
+
+    ghost spent = { spent_view };
+}
