@@ -1,6 +1,6 @@
 -- What is aboard of a plan with a ride less.
-use Rattle.std.proofs.Common.{◌≡◌, ℕ, zero, suc, ◌+◌, ◌-◌, ◌<◌, ◌≤◌, ◌⊎◌, inl, inr, Bool, true, false, not, cond, ◌&&◌, List, [], ◌∷◌, ◌++◌, length, take, drop, eqb, leb, leb-true, le-leb, refl, sym, ◌∙◌, ap, subst, arith}
-use Rattle.std.specs.Prelude.{map, ⊤, Option, Some, None, is_some, ◌==◌, nat_le}
+use Rattle.std.proofs.Common.{◌≡◌, ℕ, zero, suc, ◌+◌, ◌<◌, ◌≤◌, ◌⊎◌, inl, inr, Bool, true, false, not, cond, ◌&&◌, List, [], ◌∷◌, length, take, eqb, leb, leb-true, le-leb, refl, sym, ◌∙◌, ap, subst, arith}
+use Rattle.std.specs.Prelude.{map, is_some, ◌==◌}
 use Rattle.std.specs.List.{filter, AllByRecursion, list_all, range_with_len, sum_by}
 use Rattle.std.proofs.lemmas.Bool.{eqb-true, eq-eqb}
 use Rattle.std.proofs.lemmas.List.Sums.{sum_by-cons}
@@ -29,8 +29,8 @@ range_passes test f from zero h k low high = absurd (omega arith)
 range_passes test f from (suc many) h k low high =
     let (first, rest) = and-true (test (f from)) (list_all test (map f (range_with_len (from + 1) many))) h in
     elim (first_or_later from k low) [
-      inl here ↦ ap (λ n. test (f n)) (sym here) ∙ first
-    | inr above ↦ range_passes test f (from + 1) many rest k (omega (arith, above)) (omega arith)
+      | inl here ↦ ap (λ n. test (f n)) (sym here) ∙ first
+      | inr above ↦ range_passes test f (from + 1) many rest k (omega (arith, above)) (omega arith)
     ]
   where
     first_or_later : (a b : ℕ) → a ≤ b → (a ≡ b) ⊎ (a < b)
@@ -41,7 +41,7 @@ pub passes_range : {X : Type 0} (test : X → Bool) (f : ℕ → X) (from many :
 passes_range test f from zero h = refl
 passes_range test f from (suc many) h =
     true-and (test (f from)) (list_all test (map f (range_with_len (from + 1) many))) (h from (omega arith) (omega arith))
-        (passes_range test f (from + 1) many (λ k low high. h k (omega arith) (omega arith)))
+    (passes_range test f (from + 1) many (λ k low high. h k (omega arith) (omega arith)))
 
 -- loads that fit after each number of stops
 abbrev pub FitsThroughout : (Load → Bool) → List Ride → List Stop → Type 0
@@ -51,13 +51,13 @@ pub fits_throughout : (v : Vehicle) → loads_fit v ≡ true → FitsThroughout 
 fits_throughout v h zero low = (and-true (fits_load v (load_after v.rides.items [])) (list_all (fits_load v) (loads_of v)) h).0
 fits_throughout v h (suc k) low =
     range_passes (fits_load v) (λ n. load_after v.rides.items (take n v.stops.items)) 1 (length v.stops.items)
-        (and-true (fits_load v (load_after v.rides.items [])) (list_all (fits_load v) (loads_of v)) h).1 (suc k) (omega arith) (omega arith)
+    (and-true (fits_load v (load_after v.rides.items [])) (list_all (fits_load v) (loads_of v)) h).1 (suc k) (omega arith) (omega arith)
 
 pub loads_fit-throughout : (v : Vehicle) → FitsThroughout (fits_load v) v.rides.items v.stops.items → loads_fit v ≡ true
 loads_fit-throughout v h =
     true-and (fits_load v (load_after v.rides.items [])) (list_all (fits_load v) (loads_of v)) (h 0 (omega arith))
-        (passes_range (fits_load v) (λ n. load_after v.rides.items (take n v.stops.items)) 1 (length v.stops.items)
-          (λ k low high. h k (omega arith)))
+    (passes_range (fits_load v) (λ n. load_after v.rides.items (take n v.stops.items)) 1 (length v.stops.items)
+    (λ k low high. h k (omega arith)))
 
 -- legs do not matter
 pub aboard-unlegged : (aboard : Bool) (id : ℕ) (stops : List Stop) → is_aboard_from aboard id (unlegged stops) ≡ is_aboard_from aboard id stops
@@ -77,6 +77,7 @@ load-agrees rides first second same = λ i. record { seats = seats rides same i;
         ∙ ap (λ b. cond b r.seats 0 + sum_by (λ (q : Ride). cond (is_aboard_after first q) q.seats 0) rs) here
         ∙ ap (λ n. cond (is_aboard_after second r) r.seats 0 + n) (seats rs rest)
         ∙ sym (sum_by-cons (λ (q : Ride). cond (is_aboard_after second q) q.seats 0) r rs)
+
     chairs : (rs : List Ride) → AllByRecursion (λ (r : Ride). is_aboard_after first r ≡ is_aboard_after second r) rs
         → sum_by (λ (r : Ride). cond (is_aboard_after first r) r.chairs 0) rs ≡ sum_by (λ (r : Ride). cond (is_aboard_after second r) r.chairs 0) rs
     chairs [] h = refl
@@ -117,13 +118,13 @@ take-filter p stops zero h = (0, omega arith, refl)
 take-filter p [] (suc k) h = absurd (omega arith)
 take-filter p (stop ∷ stops) (suc k) h =
     elim (p stop) as (λ b. p stop ≡ b → suc k ≤ length (cond b (stop ∷ filter p stops) (filter p stops))
-        → (n : ℕ) × (n ≤ suc (length stops)) × (take (suc k) (cond b (stop ∷ filter p stops) (filter p stops)) ≡ filter p (take n (stop ∷ stops)))) [
-      true ↦ λ keeps below.
-        let (n, few, is) = take-filter p stops k (omega arith) in
-        (suc n, omega arith, ap (λ rest. stop ∷ rest) is ∙ sym (filter-kept p stop (take n stops) keeps))
-    | false ↦ λ skips below.
-        let (n, few, is) = take-filter p stops (suc k) below in
-        (suc n, omega arith, is ∙ sym (filter-skipped p stop (take n stops) skips))
+    → (n : ℕ) × (n ≤ suc (length stops)) × (take (suc k) (cond b (stop ∷ filter p stops) (filter p stops)) ≡ filter p (take n (stop ∷ stops)))) [
+      | true ↦ λ keeps below.
+          let (n, few, is) = take-filter p stops k (omega arith) in
+          (suc n, omega arith, ap (λ rest. stop ∷ rest) is ∙ sym (filter-kept p stop (take n stops) keeps))
+      | false ↦ λ skips below.
+          let (n, few, is) = take-filter p stops (suc k) below in
+          (suc n, omega arith, is ∙ sym (filter-skipped p stop (take n stops) skips))
     ] refl h
 
 -- whether another ride is aboard does not depend on the stops that are taken out
@@ -132,9 +133,9 @@ pub aboard-without : (aboard : Bool) (id other : ℕ) (stops : List Stop) → eq
 aboard-without aboard id other [] differ = refl
 aboard-without aboard id other (stop ∷ stops) differ =
     elim (eqb stop.ride id) as (λ b. eqb stop.ride id ≡ b
-        → is_aboard_from aboard other (cond (not b) (stop ∷ stops_without id stops) (stops_without id stops)) ≡ is_aboard_from aboard other (stop ∷ stops)) [
-      true ↦ λ is. rw (not_other (eqb-true stop.ride id is)) (aboard-without aboard id other stops differ)
-    | false ↦ λ is. aboard-without (cond (eqb stop.ride other) (is_pickup stop.kind) aboard) id other stops differ
+    → is_aboard_from aboard other (cond (not b) (stop ∷ stops_without id stops) (stops_without id stops)) ≡ is_aboard_from aboard other (stop ∷ stops)) [
+      | true ↦ λ is. rw (not_other (eqb-true stop.ride id is)) (aboard-without aboard id other stops differ)
+      | false ↦ λ is. aboard-without (cond (eqb stop.ride other) (is_pickup stop.kind) aboard) id other stops differ
     ] refl
   where
     not_other : stop.ride ≡ id → eqb stop.ride other ≡ false
@@ -152,9 +153,9 @@ load-without id rides stops = load-agrees (rides_without id rides) (stops_withou
     each [] = tt
     each (r ∷ rs) =
         elim (eqb r.id id) as (λ b. eqb r.id id ≡ b
-            → AllByRecursion (λ (q : Ride). is_aboard_after (stops_without id stops) q ≡ is_aboard_after stops q) (cond (not b) (r ∷ rides_without id rs) (rides_without id rs))) [
-          true ↦ λ _. each rs
-        | false ↦ λ other. (aboard-without (is_some r.picked) id r.id stops other, each rs)
+        → AllByRecursion (λ (q : Ride). is_aboard_after (stops_without id stops) q ≡ is_aboard_after stops q) (cond (not b) (r ∷ rides_without id rs) (rides_without id rs))) [
+          | true ↦ λ _. each rs
+          | false ↦ λ other. (aboard-without (is_some r.picked) id r.id stops other, each rs)
         ] refl
 
 -- a sum over what a filter keeps is not more
@@ -162,8 +163,8 @@ pub sum_by-filter-le : {X : Type 0} (p : X → Bool) (f : X → ℕ) (xs : List 
 sum_by-filter-le p f [] = omega arith
 sum_by-filter-le p f (x ∷ xs) =
     elim (p x) as (λ b. sum_by f (cond b (x ∷ filter p xs) (filter p xs)) ≤ sum_by f (x ∷ xs)) [
-      true ↦ omega (arith, sum_by-filter-le p f xs, sum_by-cons f x xs, sum_by-cons f x (filter p xs))
-    | false ↦ omega (arith, sum_by-filter-le p f xs, sum_by-cons f x xs)
+      | true ↦ omega (arith, sum_by-filter-le p f xs, sum_by-cons f x xs, sum_by-cons f x (filter p xs))
+      | false ↦ omega (arith, sum_by-filter-le p f xs, sum_by-cons f x xs)
     ]
 
 -- a lesser load fits too
@@ -171,8 +172,8 @@ pub fits-lesser : (v : Vehicle) (a b : Load) → a.seats ≤ b.seats → a.chair
 fits-lesser v a b less_seats less_chairs fits =
     let (seats, chairs) = and-true (leb b.seats v.seats) (leb b.chairs v.chairs) fits in
     true-and (leb a.seats v.seats) (leb a.chairs v.chairs)
-        (le-leb a.seats v.seats (omega (arith, leb-true b.seats v.seats seats)))
-        (le-leb a.chairs v.chairs (omega (arith, leb-true b.chairs v.chairs chairs)))
+    (le-leb a.seats v.seats (omega (arith, leb-true b.seats v.seats seats)))
+    (le-leb a.chairs v.chairs (omega (arith, leb-true b.chairs v.chairs chairs)))
 
 -- the loads fit without a ride
 pub fits-without : (v : Vehicle) (id : ℕ) (out : List Stop) → unlegged out ≡ unlegged (stops_without id v.stops.items)
@@ -182,6 +183,6 @@ fits-without v id out same fits k few =
     let (n, within, is) = take-filter (λ (s : Stop). not (s.ride == id)) v.stops.items k (omega (arith, length-same left out same)) in
     let rides = rides_without id v.rides.items in
     let loads : load_after rides (take k out) ≡ load_after rides (take n v.stops.items)
-          = load-same rides left out k same ∙ ap (load_after rides) is ∙ load-without id v.rides.items (take n v.stops.items) in
+    = load-same rides left out k same ∙ ap (load_after rides) is ∙ load-without id v.rides.items (take n v.stops.items) in
     subst (λ l. fits_load v l ≡ true) (sym loads) (fits-lesser v (load_after rides (take n v.stops.items)) (load_after v.rides.items (take n v.stops.items))
-      (sum_by-filter-le _ _ v.rides.items) (sum_by-filter-le _ _ v.rides.items) (fits n within))
+    (sum_by-filter-le _ _ v.rides.items) (sum_by-filter-le _ _ v.rides.items) (fits n within))

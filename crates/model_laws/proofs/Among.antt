@@ -1,6 +1,6 @@
 -- Membership by recursion on the list.
-use Rattle.std.proofs.Common.{◌≡◌, ℕ, zero, suc, ◌+◌, ◌<◌, ◌⊎◌, inl, inr, Bool, true, false, cond, List, [], ◌∷◌, length, refl, sym, ◌∙◌, ap, arith}
-use Rattle.std.specs.List.{Contains, filter, list_any}
+use Rattle.std.proofs.Common.{◌≡◌, zero, suc, ◌⊎◌, inl, inr, Bool, true, false, cond, List, [], ◌∷◌, refl, sym, ◌∙◌, ap, arith}
+use Rattle.std.specs.List.{Contains, filter}
 use Rattle.std.specs.Prelude.{map}
 
 -- x is one of the elements
@@ -38,22 +38,22 @@ pub among_filter_back : {X : Type 0} (p : X → Bool) (xs : List X) (x : X) → 
 among_filter_back p [] x h = absurd h
 among_filter_back {X} p (y ∷ ys) x h =
     elim (p y) as (λ b. p y ≡ b → Among x (cond b (y ∷ filter p ys) (filter p ys)) → Among x (y ∷ ys) × (p x ≡ true)) [
-      true ↦ λ passes in_front. elim in_front [
-        inl is ↦ (inl is, ap p (sym is) ∙ passes)
-      | inr later ↦ let (among, p_is) = among_filter_back p ys x later in (inr among, p_is)
+      | true ↦ λ passes in_front. elim in_front [
+        | inl is ↦ (inl is, ap p (sym is) ∙ passes)
+        | inr later ↦ let (among, p_is) = among_filter_back p ys x later in (inr among, p_is)
       ]
-    | false ↦ λ _ later. let (among, p_is) = among_filter_back p ys x later in (inr among, p_is)
+      | false ↦ λ _ later. let (among, p_is) = among_filter_back p ys x later in (inr among, p_is)
     ] refl h
 
 pub among_filter : {X : Type 0} (p : X → Bool) (xs : List X) (x : X) → Among x xs → p x ≡ true → Among x (filter p xs)
 among_filter p [] x h passes = absurd h
 among_filter p (y ∷ ys) x (inl is) passes =
     elim (p y) as (λ b. p y ≡ b → Among x (cond b (y ∷ filter p ys) (filter p ys))) [
-      true ↦ λ _. inl is
-    | false ↦ λ fails. cc (ap p is)
+      | true ↦ λ _. inl is
+      | false ↦ λ fails. cc (ap p is)
     ] refl
 among_filter p (y ∷ ys) x (inr later) passes =
     elim (p y) as (λ b. Among x (cond b (y ∷ filter p ys) (filter p ys))) [
-      true ↦ inr (among_filter p ys x later passes)
-    | false ↦ among_filter p ys x later passes
+      | true ↦ inr (among_filter p ys x later passes)
+      | false ↦ among_filter p ys x later passes
     ]

@@ -1,7 +1,7 @@
 -- The cost of a batch's seating is below 2^50.
-use Rattle.std.proofs.Common.{◌≡◌, ℕ, zero, suc, ◌+◌, ◌-◌, ◌*◌, ◌<◌, ◌≤◌, ◌^◌, List, [], ◌∷◌, length, refl, sym, ap, subst, arith, mul-le-mul}
-use Rattle.std.specs.Prelude.{map, ⊤, Option, Some, None, All, Contains, IsSome}
-use Rattle.std.specs.List.{filter, AllByRecursion, sum_by}
+use Rattle.std.proofs.Common.{◌≡◌, ◌-◌, ◌*◌, ◌<◌, ◌≤◌, ◌^◌, List, [], ◌∷◌, length, refl, ap, arith, mul-le-mul}
+use Rattle.std.specs.Prelude.{None, All, IsSome}
+use Rattle.std.specs.List.{AllByRecursion}
 use Rattle.std.proofs.lemmas.List.{length-map}
 use Rattle.std.proofs.lemmas.List.Elements.{recursion_from_All, All-contains}
 use Rattle.std.proofs.lemmas.List.Filters.{length-filter_both}
@@ -10,11 +10,10 @@ use Rattle.ride_model.specs.declared.offer.Seat.{Seat}
 use Rattle.ride_model.specs.declared.vehicle.Ride.{Ride}
 use Rattle.ride_model.specs.declared.vehicle.Vehicle.{Vehicle}
 use Rattle.ride_model.specs.Road.{RoadMap, IsRoadMap}
-use Rattle.ride_model.specs.Settings.{IsSettings}
 use Rattle.ride_model.specs.Vehicle.{IsRide, IsRouted, IsFresh, ride_ids}
 use Rattle.ride_model.specs.Seating.{BatchCopy, IsBatchOver, seat_offer, has_seat, IsSeating, seat_cost, seating_cost}
 use Rattle.model_laws.proofs.Among.{contains_from_among}
-use Rattle.model_laws.proofs.Certificates.{SeatFacts, seat_facts}
+use Rattle.model_laws.proofs.Certificates.{seat_facts}
 use Rattle.model_laws.proofs.Costs.{cost-lt}
 use Rattle.model_laws.proofs.Sums.{sum_by-le-times}
 
@@ -26,11 +25,11 @@ seat-cost-lt roads batch seat fits over offered =
     let vehicle_in = contains_from_among batch.vehicles facts.vehicle facts.vehicle_there in
     let fresh = All-contains (λ (ride : Ride). All (λ (v : Vehicle). IsFresh v.rides.items ride.id) batch.vehicles) batch.requests facts.ride over.rides_fresh ride_in in
     let below = cost-lt roads batch.settings facts.vehicle facts.ride batch.time seat.i seat.j facts.offer fits over.settings_fit
-          (All-contains (IsRouted roads) batch.vehicles facts.vehicle over.vehicles_fit vehicle_in)
-          (All-contains (IsRide roads) batch.requests facts.ride over.rides_fit ride_in)
-          (All-contains (λ (v : Vehicle). IsFresh v.rides.items facts.ride.id) batch.vehicles facts.vehicle fresh vehicle_in)
-          (All-contains (λ (ride : Ride). ride.picked ≡ None) batch.requests facts.ride over.rides_wait ride_in)
-          facts.offered in
+    (All-contains (IsRouted roads) batch.vehicles facts.vehicle over.vehicles_fit vehicle_in)
+    (All-contains (IsRide roads) batch.requests facts.ride over.rides_fit ride_in)
+    (All-contains (λ (v : Vehicle). IsFresh v.rides.items facts.ride.id) batch.vehicles facts.vehicle fresh vehicle_in)
+    (All-contains (λ (ride : Ride). ride.picked ≡ None) batch.requests facts.ride over.rides_wait ride_in)
+    facts.offered in
     omega (arith, below, facts.cost_is)
 
 each-seat : (roads : RoadMap) (batch : BatchCopy) (seats : List Seat) → IsRoadMap roads → IsBatchOver roads batch
@@ -47,7 +46,7 @@ seating_cost-lt roads batch seats fits over seating =
     let both = length-filter_both (has_seat seats) (λ id. not (has_seat seats id)) (λ id. refl) (ride_ids batch.requests) in
     let many = ap length seating.in_order in
     let left_out : batch.settings.penalty * (length batch.requests - length seats) ≤ 1000000000000 * 128
-          = mul-le-mul over.settings_fit.penalty_limit (left over.few) in
+    = mul-le-mul over.settings_fit.penalty_limit (left over.few) in
     omega (arith, costs, both, many, left_out, over.few, length-map seats (λ (s : Seat). s.request), length-map batch.requests (λ (r : Ride). r.id))
   where
     left : length batch.requests ≤ 128 → length batch.requests - length seats ≤ 128

@@ -1,9 +1,9 @@
 -- Costs of offers: never negative, and below 2^42.
-use Rattle.std.proofs.Common.{◌≡◌, ℕ, zero, suc, ◌+◌, ◌-◌, ◌*◌, ◌<◌, ◌≤◌, ◌^◌, ◌⊎◌, inl, inr, Bool, true, false, not, cond, ◌&&◌, List, [], ◌∷◌, ◌++◌, length, take, drop, eqb, leb, leb-true, refl, sym, ◌∙◌, ap, subst, arith, mul-le-mul}
-use Rattle.std.specs.Prelude.{map, ⊤, Option, Some, None, option_map, option_and_then, unwrap_or, ◌==◌, All, Contains, IfSome, zip, nat_le, slice_index}
-use Rattle.std.specs.List.{filter, AllByRecursion, list_all, last_or}
-use Rattle.std.proofs.lemmas.Bool.{eqb-true, eq-eqb}
-use Rattle.std.proofs.lemmas.List.Elements.{recursion_from_All, All-contains}
+use Rattle.std.proofs.Common.{◌≡◌, ℕ, zero, suc, ◌+◌, ◌-◌, ◌*◌, ◌<◌, ◌≤◌, ◌^◌, ◌⊎◌, inl, inr, Bool, true, false, not, cond, ◌&&◌, List, [], ◌∷◌, length, eqb, leb, leb-true, refl, sym, ◌∙◌, ap, subst, arith, mul-le-mul}
+use Rattle.std.specs.Prelude.{Option, Some, None, option_map, option_and_then, unwrap_or, ◌==◌, Contains, IfSome, slice_index}
+use Rattle.std.specs.List.{filter, list_all, last_or}
+use Rattle.std.proofs.lemmas.Bool.{eq-eqb}
+use Rattle.std.proofs.lemmas.List.Elements.{All-contains}
 use Rattle.ride_model.specs.declared.offer.Offer.{Offer}
 use Rattle.ride_model.specs.declared.settings.Settings.{Settings}
 use Rattle.ride_model.specs.declared.vehicle.Ride.{Ride}
@@ -15,21 +15,21 @@ use Rattle.ride_model.specs.Vehicle.{IsRide, ride_ids, IsFresh, IsRouted}
 use Rattle.ride_model.specs.Times.{times_from, times_of, drive_of, visits_of}
 use Rattle.ride_model.specs.Loads.{loads_fit}
 use Rattle.ride_model.specs.Keeps.{is_pickup_at, is_dropoff_at, keeps_visits, keeps_ride, keeps}
-use Rattle.ride_model.specs.Insertion.{routed, stops_with, stops_without, inserted, with_plan}
-use Rattle.ride_model.specs.Offers.{is_idle, start_of, is_open, cost_of, joins_of, offer_of_plan, offer_of}
+use Rattle.ride_model.specs.Insertion.{routed, stops_with, stops_without, inserted}
+use Rattle.ride_model.specs.Offers.{start_of, is_open, cost_of, joins_of, offer_of_plan, offer_of}
 use Rattle.model_laws.proofs.Among.{Among, among_from_contains, contains_from_among, among_filter, among_filter_back, among_map_back}
-use Rattle.model_laws.specs.Sooner.{AllSooner, SoonerBy}
-use Rattle.model_laws.proofs.Routes.{with_leg, routed-own, of_ride, visits_from, ShorterRoute}
+use Rattle.model_laws.specs.Sooner.{AllSooner}
+use Rattle.model_laws.proofs.Routes.{with_leg, routed-own, of_ride, visits_from}
 use Rattle.model_laws.proofs.PlanStops.{unlegged, unlegged-routed}
-use Rattle.model_laws.proofs.AboardLoads.{and-true, filter-kept, filter-skipped}
+use Rattle.model_laws.proofs.AboardLoads.{and-true}
 use Rattle.model_laws.proofs.Removal.{is_other, route_without}
-use Rattle.model_laws.proofs.Insertions.{stops-with-without, InsertedFacts, inserted_facts, routed-with}
-use Rattle.model_laws.proofs.OfferPrices.{OfferFacts, offer_facts}
+use Rattle.model_laws.proofs.Insertions.{stops-with-without, inserted_facts, routed-with}
+use Rattle.model_laws.proofs.OfferPrices.{offer_facts}
 
 -- the last arrival is not before any other, nor before what went before
 pub last-facts : (dwell leave t : ℕ) (stops : List Stop) → t ≤ leave
     → (l : ℕ) × (last_or (Some t) (times_from dwell leave stops) ≡ Some l) × (t ≤ l)
-      × ((u : ℕ) → Among u (times_from dwell leave stops) → u ≤ l)
+    × ((u : ℕ) → Among u (times_from dwell leave stops) → u ≤ l)
 last-facts dwell leave t [] before = (t, refl, omega arith, λ u h. absurd h)
 last-facts dwell leave t (s ∷ stops) before =
     let (l, is, first, others) = last-facts dwell (leave + s.leg + dwell) (leave + s.leg) stops (omega arith) in
@@ -62,7 +62,7 @@ drive-among v dwell = by_stops v.stops.items
     by_stops (s ∷ stops) =
         let (l, is, where_it_is) = last-among (0 + s.leg) (times_from dwell (0 + s.leg + dwell) stops) in
         inr (subst (λ o. Among (unwrap_or o 0) (times_from dwell 0 (s ∷ stops))) (sym is)
-          (elim where_it_is [ inl here ↦ inl (sym here) | inr later ↦ inr later ]))
+        (elim where_it_is [ inl here ↦ inl (sym here) | inr later ↦ inr later ]))
 
 -- an arrival is that of a visit, and a visit's time is an arrival
 pub visit-of-arrival : (dwell leave u : ℕ) (stops : List Stop) → Among u (times_from dwell leave stops)
@@ -100,7 +100,7 @@ arrival-shifted dwell start leave u (s ∷ stops) (inl is) =
     shift e = omega (arith, e)
 arrival-shifted dwell start leave u (s ∷ stops) (inr later) =
     inr (subst (λ n. Among (start + u) (times_from dwell n stops)) (assoc start leave s.leg dwell)
-      (arrival-shifted dwell start (leave + s.leg + dwell) u stops later))
+    (arrival-shifted dwell start (leave + s.leg + dwell) u stops later))
   where
     assoc : (a b c d : ℕ) → a + (b + c + d) ≡ a + b + c + d
     assoc a b c d = omega arith
@@ -116,9 +116,9 @@ pub unlegged-without : (id : ℕ) (stops : List Stop) → unlegged (stops_withou
 unlegged-without id [] = refl
 unlegged-without id (s ∷ stops) =
     elim (eqb s.ride id) as (λ b. unlegged (cond (not b) (s ∷ stops_without id stops) (stops_without id stops))
-        ≡ cond (not b) (with_leg 0 s ∷ stops_without id (unlegged stops)) (stops_without id (unlegged stops))) [
-      true ↦ unlegged-without id stops
-    | false ↦ ap (λ rest. with_leg 0 s ∷ rest) (unlegged-without id stops)
+    ≡ cond (not b) (with_leg 0 s ∷ stops_without id (unlegged stops)) (stops_without id (unlegged stops))) [
+      | true ↦ unlegged-without id stops
+      | false ↦ ap (λ rest. with_leg 0 s ∷ rest) (unlegged-without id stops)
     ]
 
 -- the route of a plan with a ride more, without the ride, is the old one
@@ -128,9 +128,9 @@ pub route-back : (roads : RoadMap) (v : Vehicle) (ride : Ride) (i j : ℕ) (out 
 route-back roads v ride i j out r fresh in_order in_range route =
     sym (routed-unlegged roads v.at (stops_without ride.id out))
     ∙ ap (routed roads v.at) (unlegged-without ride.id out
-        ∙ ap (stops_without ride.id) (unlegged-routed roads v.at (stops_with ride i j v.stops.items) out route)
-        ∙ sym (unlegged-without ride.id (stops_with ride i j v.stops.items))
-        ∙ ap unlegged (stops-with-without v.rides.items v.stops.items ride i j r.planned fresh in_order in_range))
+    ∙ ap (stops_without ride.id) (unlegged-routed roads v.at (stops_with ride i j v.stops.items) out route)
+    ∙ sym (unlegged-without ride.id (stops_with ride i j v.stops.items))
+    ∙ ap unlegged (stops-with-without v.rides.items v.stops.items ride i j r.planned fresh in_order in_range))
     ∙ routed-unlegged roads v.at v.stops.items
     ∙ routed-own roads v.at v.stops.items r.legs
 
@@ -143,24 +143,24 @@ pub drive-inserted : (roads : RoadMap) (v : Vehicle) (ride : Ride) (i j dwell : 
     → inserted roads v ride i j ≡ Some new → drive_of v dwell ≤ drive_of new dwell
 drive-inserted roads v ride i j dwell new fits r ride_fits fresh waits in_order in_range is =
     elim (drive-among v dwell) [
-      inl none ↦ omega (arith, none)
-    | inr last ↦
-        let facts = inserted_facts roads v ride i j new is in
-        let new_routed = routed-with roads v ride i j new r ride_fits fresh waits in_order in_range is in
-        let out_is : new.stops.items ≡ facts.out = ap (λ (w : Vehicle). w.stops.items) facts.new_is in
-        let at_is : new.at ≡ v.at = ap (λ (w : Vehicle). w.at) facts.new_is in
-        let left = route_without roads new ride.id 0 dwell fits new_routed.legs in
-        let back : routed roads new.at (stops_without ride.id new.stops.items) ≡ Some v.stops.items
-              = subst (λ node. routed roads node (stops_without ride.id new.stops.items) ≡ Some v.stops.items) (sym at_is)
-                  (subst (λ stops. routed roads v.at (stops_without ride.id stops) ≡ Some v.stops.items) (sym out_is)
-                    (route-back roads v ride i j facts.out r fresh in_order in_range facts.route)) in
-        let old_is : left.out ≡ v.stops.items = same-stops left.out v.stops.items (sym left.route ∙ back) in
-        let sooner = subst (λ stops. AllSooner 0 (visits_from dwell 0 stops) (filter (of_ride (is_other ride.id)) (visits_from dwell 0 new.stops.items))) old_is left.sooner in
-        let (s, there) = visit-of-arrival dwell 0 (drive_of v dwell) v.stops.items last in
-        let (other, among, below) = later-visit 0 (visits_from dwell 0 v.stops.items) (filter (of_ride (is_other ride.id)) (visits_from dwell 0 new.stops.items)) (s, drive_of v dwell) sooner there in
-        let (in_new, _) = among_filter_back (of_ride (is_other ride.id)) (visits_from dwell 0 new.stops.items) other among in
-        let (time, _) = arrival-of-visit dwell 0 new.stops.items other in_new in
-        omega (arith, below, arrival-le-drive new dwell other.1 time)
+      | inl none ↦ omega (arith, none)
+      | inr last ↦
+          let facts = inserted_facts roads v ride i j new is in
+          let new_routed = routed-with roads v ride i j new r ride_fits fresh waits in_order in_range is in
+          let out_is : new.stops.items ≡ facts.out = ap (λ (w : Vehicle). w.stops.items) facts.new_is in
+          let at_is : new.at ≡ v.at = ap (λ (w : Vehicle). w.at) facts.new_is in
+          let left = route_without roads new ride.id 0 dwell fits new_routed.legs in
+          let back : routed roads new.at (stops_without ride.id new.stops.items) ≡ Some v.stops.items
+          = subst (λ node. routed roads node (stops_without ride.id new.stops.items) ≡ Some v.stops.items) (sym at_is)
+          (subst (λ stops. routed roads v.at (stops_without ride.id stops) ≡ Some v.stops.items) (sym out_is)
+          (route-back roads v ride i j facts.out r fresh in_order in_range facts.route)) in
+          let old_is : left.out ≡ v.stops.items = same-stops left.out v.stops.items (sym left.route ∙ back) in
+          let sooner = subst (λ stops. AllSooner 0 (visits_from dwell 0 stops) (filter (of_ride (is_other ride.id)) (visits_from dwell 0 new.stops.items))) old_is left.sooner in
+          let (s, there) = visit-of-arrival dwell 0 (drive_of v dwell) v.stops.items last in
+          let (other, among, below) = later-visit 0 (visits_from dwell 0 v.stops.items) (filter (of_ride (is_other ride.id)) (visits_from dwell 0 new.stops.items)) (s, drive_of v dwell) sooner there in
+          let (in_new, _) = among_filter_back (of_ride (is_other ride.id)) (visits_from dwell 0 new.stops.items) other among in
+          let (time, _) = arrival-of-visit dwell 0 new.stops.items other in_new in
+          omega (arith, below, arrival-le-drive new dwell other.1 time)
     ]
 
 -- the latest moment at which a promise may be kept
@@ -174,17 +174,17 @@ kept-visit ride None (p ∷ d ∷ []) visit latest longest before keeps there =
     let (three, within) = and-true (is_pickup_at ride.from p.0 && is_dropoff_at ride.to d.0 && leb p.1 ride.latest) (leb d.1 (p.1 + ride.longest)) keeps in
     let (places, in_time) = and-true (is_pickup_at ride.from p.0 && is_dropoff_at ride.to d.0) (leb p.1 ride.latest) three in
     elim there [
-      inl first ↦ omega (arith, leb-true p.1 ride.latest in_time, ap (λ (w : Stop × ℕ). w.1) first)
-    | inr later ↦ elim later [
-        inl second ↦ omega (arith, leb-true p.1 ride.latest in_time, leb-true d.1 (p.1 + ride.longest) within, ap (λ (w : Stop × ℕ). w.1) second)
-      | inr none ↦ absurd none
+      | inl first ↦ omega (arith, leb-true p.1 ride.latest in_time, ap (λ (w : Stop × ℕ). w.1) first)
+      | inr later ↦ elim later [
+        | inl second ↦ omega (arith, leb-true p.1 ride.latest in_time, leb-true d.1 (p.1 + ride.longest) within, ap (λ (w : Stop × ℕ). w.1) second)
+        | inr none ↦ absurd none
       ]
     ]
 kept-visit ride (Some at) (d ∷ []) visit latest longest before keeps there =
     let (place, within) = and-true (is_dropoff_at ride.to d.0) (leb d.1 (at + ride.longest)) keeps in
     elim there [
-      inl first ↦ omega (arith, before, leb-true d.1 (at + ride.longest) within, ap (λ (w : Stop × ℕ). w.1) first)
-    | inr none ↦ absurd none
+      | inl first ↦ omega (arith, before, leb-true d.1 (at + ride.longest) within, ap (λ (w : Stop × ℕ). w.1) first)
+      | inr none ↦ absurd none
     ]
 kept-visit ride None [] visit latest longest before keeps there = absurd there
 kept-visit ride None (p ∷ []) visit latest longest before keeps there = absurd (cc keeps)
@@ -213,7 +213,7 @@ arrival-kept roads v start dwell u r keeps_all there =
     let kept = each-passes (keeps_ride v start dwell) v.rides.items ride each ride_there in
     let among = among_filter (λ (w : Stop × ℕ). w.0.ride == ride.id) (visits_from dwell start v.stops.items) (s, u) visit (eq-eqb s.ride ride.id (sym id_is)) in
     kept-visit ride ride.picked (visits_of v start dwell ride.id) (s, u) ride_fits.latest_limit ride_fits.longest_limit
-        (weaker ride.picked picked r.ready_limit) kept among
+    (weaker ride.picked picked r.ready_limit) kept among
   where
     weaker : (o : Option ℕ) → IfSome o (λ at. at ≤ v.ready) → v.ready ≤ 1000003600 → IfSome o (λ at. at ≤ 1000003600)
     weaker None h limit = tt
@@ -223,11 +223,11 @@ arrival-kept roads v start dwell u r keeps_all there =
 pub drive-kept : (roads : RoadMap) (v : Vehicle) (start dwell : ℕ) → IsRouted roads v → keeps v start dwell ≡ true → drive_of v dwell ≤ last_moment
 drive-kept roads v start dwell r kept =
     elim (drive-among v dwell) [
-      inl none ↦ omega (arith, none)
-    | inr last ↦
-        let shifted = subst (λ n. Among (start + drive_of v dwell) (times_from dwell n v.stops.items)) (plus_zero start)
-              (arrival-shifted dwell start 0 (drive_of v dwell) v.stops.items last) in
-        omega (arith, arrival-kept roads v start dwell (start + drive_of v dwell) r kept shifted)
+      | inl none ↦ omega (arith, none)
+      | inr last ↦
+          let shifted = subst (λ n. Among (start + drive_of v dwell) (times_from dwell n v.stops.items)) (plus_zero start)
+          (arrival-shifted dwell start 0 (drive_of v dwell) v.stops.items last) in
+          omega (arith, arrival-kept roads v start dwell (start + drive_of v dwell) r kept shifted)
     ]
   where
     plus_zero : (n : ℕ) → n + 0 ≡ n
@@ -248,14 +248,15 @@ pub plan_facts : (settings : Settings) (old : Vehicle) (i j time : ℕ) (new : V
     → PlanFacts settings old i j time new offer
 plan_facts settings old i j time new offer is =
     elim (keeps new (start_of old settings.lead time) settings.dwell)
-        as (λ b. keeps new (start_of old settings.lead time) settings.dwell ≡ b
-          → cond b (Some made) None ≡ Some offer → PlanFacts settings old i j time new offer) [
-      true ↦ λ kept some. record { kept = kept; offer_is = sym (same made offer some) }
-    | false ↦ λ _ none. absurd (cc none)
+    as (λ b. keeps new (start_of old settings.lead time) settings.dwell ≡ b
+    → cond b (Some made) None ≡ Some offer → PlanFacts settings old i j time new offer) [
+      | true ↦ λ kept some. record { kept = kept; offer_is = sym (same made offer some) }
+      | false ↦ λ _ none. absurd (cc none)
     ] refl is
   where
     made : Offer
     made = record { i = i; j = j; cost = cost_of settings old new i (start_of old settings.lead time) time; start = start_of old settings.lead time; joins = joins_of new i j }
+
     same : (a b : Offer) → Some a ≡ Some b → a ≡ b
     same a b e = cc e
 
@@ -273,11 +274,15 @@ pub offer_plan : (roads : RoadMap) (settings : Settings) (v : Vehicle) (ride : R
 offer_plan roads settings v ride time i j offer is =
     let facts = offer_facts roads settings v ride time i j offer is in
     elim (inserted roads v ride i j) as (λ o. inserted roads v ride i j ≡ o
-        → option_and_then (offer_of_plan settings v i j time) o ≡ Some offer → OfferPlan roads settings v ride time i j offer) [
-      None ↦ λ _ none. absurd (cc none)
-    | Some new ↦ λ new_is some. record {
-        new = new; in_order = facts.in_order; in_range = facts.in_range; is_open_then = facts.is_open_then; inserted_is = new_is;
-        plan = plan_facts settings v i j time new offer some
+    → option_and_then (offer_of_plan settings v i j time) o ≡ Some offer → OfferPlan roads settings v ride time i j offer) [
+      | None ↦ λ _ none. absurd (cc none)
+      | Some new ↦ λ new_is some. record {
+        new = new;
+        in_order = facts.in_order;
+        in_range = facts.in_range;
+        is_open_then = facts.is_open_then;
+        inserted_is = new_is;
+        plan = plan_facts settings v i j time new offer some;
       }
     ] refl facts.of_plan
 
@@ -291,11 +296,11 @@ cost-lt roads settings v ride time i j offer fits ranges r ride_fits fresh waits
     let new_routed = routed-with roads v ride i j plan.new r ride_fits fresh waits plan.in_order plan.in_range plan.inserted_is in
     let drive = drive-kept roads plan.new start settings.dwell new_routed plan.plan.kept in
     let pickup = index-le last_moment (times_of plan.new start settings.dwell) i
-          (λ u there. arrival-kept roads plan.new start settings.dwell u new_routed plan.plan.kept there) in
+    (λ u there. arrival-kept roads plan.new start settings.dwell u new_routed plan.plan.kept there) in
     let first : settings.drive * (drive_of plan.new settings.dwell - drive_of v settings.dwell) ≤ 1000 * last_moment
-          = mul-le settings.drive 1000 _ last_moment ranges.drive_limit (omega (arith, drive)) in
+    = mul-le settings.drive 1000 _ last_moment ranges.drive_limit (omega (arith, drive)) in
     let second : settings.wait * (slice_index (times_of plan.new start settings.dwell) i - time) ≤ 1000 * last_moment
-          = mul-le settings.wait 1000 _ last_moment ranges.wait_limit (omega (arith, pickup)) in
+    = mul-le settings.wait 1000 _ last_moment ranges.wait_limit (omega (arith, pickup)) in
     let cost_is : offer.cost ≡ cost_of settings v plan.new i start time = ap (λ (o : Offer). o.cost) plan.plan.offer_is in
     omega (arith, first, second, cost_is)
   where

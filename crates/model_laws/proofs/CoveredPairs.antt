@@ -1,11 +1,9 @@
 -- Weak duality: prices that certify a seating make it least.
-use Rattle.std.proofs.Common.{◌≡◌, ℕ, zero, suc, ◌+◌, ◌-◌, ◌*◌, ◌<◌, ◌≤◌, ◌⊎◌, inl, inr, Bool, true, false, not, cond, List, [], ◌∷◌, ◌++◌, length, eqb, refl, sym, ◌∙◌, ap, subst, arith}
-use Rattle.std.specs.Prelude.{map, ⊤, Option, Some, None, option_map, option_and_then, unwrap_or, find, ◌==◌, IfSome, IsSome}
-use Rattle.std.specs.List.{filter, sum_by, AllByRecursion, IsDistinct, list_any}
+use Rattle.std.proofs.Common.{◌≡◌, ℕ, ◌+◌, ◌-◌, ◌*◌, ◌≤◌, Bool, not, List, length, refl, sym, ◌∙◌, ap, subst, arith}
+use Rattle.std.specs.Prelude.{map}
+use Rattle.std.specs.List.{filter, sum_by, AllByRecursion}
 use Rattle.std.proofs.lemmas.List.{length-map}
-use Rattle.std.proofs.lemmas.List.Sums.{sum_by-cons, sum_by-append}
 use Rattle.std.proofs.lemmas.List.Filters.{length-filter_both, sum_by-filter_both}
-use Rattle.std.proofs.lemmas.Bool.{eqb-true, eq-eqb}
 use Rattle.model_laws.proofs.Sums.{sum_by-le-each, sum_by-add, sum_by-map, sum_by-le-times, each-filter}
 
 -- the core of weak duality: of some rows each has a pair; prices of rows are at most the penalty, and at most a pair's cost
@@ -22,14 +20,14 @@ prices-le-cost {P} row cost pay price penalty total paired rows pairs each_paire
     let split = sum_by-filter_both paired (λ r. not (paired r)) (λ r. refl) price rows in
     let lengths = length-filter_both paired (λ r. not (paired r)) (λ r. refl) rows in
     let with_pair : sum_by price (filter paired rows) ≡ sum_by (λ pair. price (row pair)) pairs
-          = ap (sum_by price) (sym each_paired) ∙ sum_by-map price row pairs in
+    = ap (sum_by price) (sym each_paired) ∙ sum_by-map price row pairs in
     let many : length (filter paired rows) ≡ length pairs
-          = ap length (sym each_paired) ∙ length-map pairs row in
+    = ap length (sym each_paired) ∙ length-map pairs row in
     let below = sum_by-le-each (λ pair. price (row pair)) (λ pair. cost pair + pay pair) pairs covered in
     let both = sum_by-add cost pay pairs in
     let rest = sum_by-le-times price penalty (filter (λ r. not (paired r)) rows)
-          (each-filter (λ r. price r ≤ penalty) (λ r. not (paired r)) rows capped) in
+    (each-filter (λ r. price r ≤ penalty) (λ r. not (paired r)) rows capped) in
     let left : length (filter (λ r. not (paired r)) rows) ≡ length rows - length pairs = omega (arith, lengths, many) in
     let rest_left : sum_by price (filter (λ r. not (paired r)) rows) ≤ penalty * (length rows - length pairs)
-          = subst (λ n. sum_by price (filter (λ r. not (paired r)) rows) ≤ penalty * n) left rest in
+    = subst (λ n. sum_by price (filter (λ r. not (paired r)) rows) ≤ penalty * n) left rest in
     omega (arith, split, with_pair, below, both, rest_left, paid)

@@ -1,6 +1,5 @@
 -- Histories that go on.
 use Rattle.std.proofs.Common.{◌≡◌, ℕ, List, [], ◌∷◌, ◌++◌, refl}
-use Rattle.std.specs.Prelude.{⊤}
 use Rattle.ride_model.specs.declared.entry.Entry.{Entry}
 use Rattle.ride_model.specs.State.{State}
 use Rattle.ride_model.specs.Legal.{after_entry, replay, IsLegalEntry, IsLegal}

@@ -1,21 +1,18 @@
 -- A plan with one ride more: the other stops keep their order, exactly two are added, and the plan is what the rides need.
-use Rattle.std.proofs.Common.{◌≡◌, ℕ, zero, suc, ◌+◌, ◌-◌, ◌<◌, ◌≤◌, ◌⊎◌, inl, inr, Bool, true, false, not, cond, List, [], ◌∷◌, ◌++◌, length, take, drop, eqb, refl, sym, ◌∙◌, ap, subst, arith, length-append, append_assoc}
-use Rattle.std.specs.Prelude.{map, ⊤, Option, Some, None, option_map, ◌==◌, All, Contains, IfSome, insert, nat_eq}
+use Rattle.std.proofs.Common.{◌≡◌, ℕ, zero, suc, ◌+◌, ◌≤◌, inl, inr, Bool, true, false, not, List, [], ◌∷◌, ◌++◌, length, take, drop, eqb, refl, sym, ◌∙◌, ap, subst, arith, length-append, append_assoc}
+use Rattle.std.specs.Prelude.{map, Some, None, option_map, ◌==◌, Contains, IfSome}
 use Rattle.std.specs.List.{filter, AllByRecursion, IsDistinct}
 use Rattle.std.proofs.lemmas.Bool.{eqb-true, eq-eqb}
-use Rattle.std.proofs.lemmas.List.Elements.{All-from_recursion, recursion_from_All, All-push, All-append, filter-append, Contains-append_left, Contains-push, All-weaker}
-use Rattle.std.proofs.lemmas.Map.Keys.{IsDistinct-head, IsDistinct-tail, IsDistinct-cons}
-use Rattle.ride_model.specs.declared.vehicle.Kind.{Kind}
-use Rattle.ride_model.specs.declared.vehicle.Kind.TheVariants.{Pickup, Dropoff}
+use Rattle.std.proofs.lemmas.List.Elements.{All-from_recursion, recursion_from_All, All-push, filter-append, Contains-append_left, Contains-push}
 use Rattle.ride_model.specs.declared.vehicle.Ride.{Ride}
 use Rattle.ride_model.specs.declared.vehicle.Stop.{Stop}
 use Rattle.ride_model.specs.declared.vehicle.Vehicle.{Vehicle}
-use Rattle.ride_model.specs.Road.{RoadMap, travel}
+use Rattle.ride_model.specs.Road.{RoadMap}
 use Rattle.ride_model.specs.Vehicle.{IsRide, visits_due, visit_of, stops_of, ride_ids, IsFresh, IsPlanFor, IsRouted}
 use Rattle.ride_model.specs.Insertion.{routed, pickup_of, dropoff_of, stops_with, with_plan, inserted, stops_without}
 use Rattle.model_laws.proofs.Among.{Among, among_from_contains, contains_from_among}
-use Rattle.model_laws.proofs.Routes.{with_leg, routed-has_legs}
-use Rattle.model_laws.proofs.PlanStops.{unlegged, unlegged-routed, plan-same}
+use Rattle.model_laws.proofs.Routes.{routed-has_legs}
+use Rattle.model_laws.proofs.PlanStops.{unlegged-routed, plan-same}
 use Rattle.model_laws.proofs.AboardLoads.{filter-kept, filter-skipped}
 
 -- the stops before the pickup, between the two new stops and after the drop-off
@@ -49,17 +46,17 @@ filter-parts p i j stops in_order in_range =
 
 pub filter-with : (p : Stop → Bool) (ride : Ride) (i j : ℕ) (stops : List Stop) → i ≤ j → j ≤ length stops
     → filter p (stops_with ride i j stops)
-      ≡ filter p (take i stops) ++ filter p (pickup_of ride ∷ []) ++ (filter p (drop i (take j stops)) ++ filter p (dropoff_of ride ∷ []) ++ filter p (drop j stops))
+    ≡ filter p (take i stops) ++ filter p (pickup_of ride ∷ []) ++ (filter p (drop i (take j stops)) ++ filter p (dropoff_of ride ∷ []) ++ filter p (drop j stops))
 filter-with p ride i j stops in_order in_range =
     ap (filter p) (stops_with-split ride i j stops in_order in_range)
     ∙ filter-append p (take i stops) (pickup_of ride ∷ (drop i (take j stops) ++ dropoff_of ride ∷ drop j stops))
     ∙ ap (λ rest. filter p (take i stops) ++ rest)
-        (filter-append p (pickup_of ride ∷ []) (drop i (take j stops) ++ dropoff_of ride ∷ drop j stops)
-        ∙ ap (λ rest. filter p (pickup_of ride ∷ []) ++ rest)
-            (filter-append p (drop i (take j stops)) (dropoff_of ride ∷ drop j stops)
-            ∙ ap (λ rest. filter p (drop i (take j stops)) ++ rest) (filter-append p (dropoff_of ride ∷ []) (drop j stops)
-              ∙ refl)
-            ∙ sym (append_assoc (filter p (drop i (take j stops))) (filter p (dropoff_of ride ∷ [])) (filter p (drop j stops)))))
+    (filter-append p (pickup_of ride ∷ []) (drop i (take j stops) ++ dropoff_of ride ∷ drop j stops)
+    ∙ ap (λ rest. filter p (pickup_of ride ∷ []) ++ rest)
+    (filter-append p (drop i (take j stops)) (dropoff_of ride ∷ drop j stops)
+    ∙ ap (λ rest. filter p (drop i (take j stops)) ++ rest) (filter-append p (dropoff_of ride ∷ []) (drop j stops)
+    ∙ refl)
+    ∙ sym (append_assoc (filter p (drop i (take j stops))) (filter p (dropoff_of ride ∷ [])) (filter p (drop j stops)))))
     ∙ sym (append_assoc (filter p (take i stops)) (filter p (pickup_of ride ∷ [])) _)
 
 -- a test that passes neither new stop keeps what it kept
@@ -68,9 +65,9 @@ pub filter-with-neither : (p : Stop → Bool) (ride : Ride) (i j : ℕ) (stops :
 filter-with-neither p ride i j stops in_order in_range no_pickup no_dropoff =
     filter-with p ride i j stops in_order in_range
     ∙ ap (λ xs. filter p (take i stops) ++ xs ++ (filter p (drop i (take j stops)) ++ filter p (dropoff_of ride ∷ []) ++ filter p (drop j stops)))
-        (filter-skipped p (pickup_of ride) [] no_pickup)
+    (filter-skipped p (pickup_of ride) [] no_pickup)
     ∙ ap (λ xs. filter p (take i stops) ++ [] ++ (filter p (drop i (take j stops)) ++ xs ++ filter p (drop j stops)))
-        (filter-skipped p (dropoff_of ride) [] no_dropoff)
+    (filter-skipped p (dropoff_of ride) [] no_dropoff)
     ∙ simp append_nil refl
     ∙ filter-parts p i j stops in_order in_range
   where
@@ -89,7 +86,7 @@ pub filter-with-both : (p : Stop → Bool) (ride : Ride) (i j : ℕ) (stops : Li
     → filter p (stops_with ride i j stops) ≡ pickup_of ride ∷ dropoff_of ride ∷ []
 filter-with-both p ride i j stops in_order in_range keeps_pickup keeps_dropoff none =
     let (first, others) = nothing-appended (filter p (take i stops)) (filter p (drop i (take j stops)) ++ filter p (drop j stops))
-          (filter-parts p i j stops in_order in_range ∙ none) in
+    (filter-parts p i j stops in_order in_range ∙ none) in
     let (second, third) = nothing-appended (filter p (drop i (take j stops))) (filter p (drop j stops)) others in
     filter-with p ride i j stops in_order in_range
     ∙ ap (λ xs. xs ++ filter p (pickup_of ride ∷ []) ++ (filter p (drop i (take j stops)) ++ filter p (dropoff_of ride ∷ []) ++ filter p (drop j stops))) first
@@ -127,18 +124,22 @@ pub stops-with-without : (rides : List Ride) (stops : List Stop) (ride : Ride) (
     → i ≤ j → j ≤ length stops → stops_without ride.id (stops_with ride i j stops) ≡ stops
 stops-with-without rides stops ride i j plan fresh in_order in_range =
     filter-with-neither (λ (s : Stop). not (s.ride == ride.id)) ride i j stops in_order in_range
-        (ap not (eq-eqb ride.id ride.id refl)) (ap not (eq-eqb ride.id ride.id refl))
+    (ap not (eq-eqb ride.id ride.id refl)) (ap not (eq-eqb ride.id ride.id refl))
     ∙ all-kept ride.id stops (plan-fresh rides stops ride.id plan fresh)
 
 -- exactly two stops are added
 pub length-stops_with : (ride : Ride) (i j : ℕ) (stops : List Stop) → i ≤ j → j ≤ length stops
     → length (stops_with ride i j stops) ≡ length stops + 2
 length-stops_with ride i j stops in_order in_range =
-    omega (arith, ap length (stops_with-split ride i j stops in_order in_range), ap length (parts-join i j stops in_order in_range),
+    omega (
+      arith,
+      ap length (stops_with-split ride i j stops in_order in_range),
+      ap length (parts-join i j stops in_order in_range),
       length-append (take i stops) (pickup_of ride ∷ (drop i (take j stops) ++ dropoff_of ride ∷ drop j stops)),
       length-append (drop i (take j stops)) (dropoff_of ride ∷ drop j stops),
       length-append (take i stops) (drop i (take j stops) ++ drop j stops),
-      length-append (drop i (take j stops)) (drop j stops))
+      length-append (drop i (take j stops)) (drop j stops),
+    )
 
 -- the ids of rides with one more at the end
 pub ids-push : (rides : List Ride) (ride : Ride) → ride_ids (rides ++ ride ∷ []) ≡ ride_ids rides ++ ride.id ∷ []
@@ -154,6 +155,7 @@ distinct-push (y ∷ ys) x (head, tail) fresh =
     differs : (b : Bool) → eqb y x ≡ b → b ≡ false
     differs true is = absurd (fresh (contains_from_among (y ∷ ys) x (inl (eqb-true y x is))))
     differs false is = refl
+
     pushed : (zs : List ℕ) → AllByRecursion (λ z. eqb y z ≡ false) zs → AllByRecursion (λ z. eqb y z ≡ false) (zs ++ x ∷ [])
     pushed [] h = (differs (eqb y x) refl, tt)
     pushed (z ∷ zs) (first, rest) = (first, pushed zs rest)
@@ -179,33 +181,39 @@ plan-with rides stops ride i j plan fresh waits in_order in_range = record {
   ids_differ = subst (IsDistinct eqb) (sym (ids-push rides ride)) (distinct-push (ride_ids rides) ride.id plan.ids_differ fresh);
   each_ride = All-push needs rides ride (All-from_recursion needs rides (each rides (λ r there. there) (recursion_from_All _ rides plan.each_ride))) new;
   each_stop = All-from_recursion _ (stops_with ride i j stops)
-    (subst (AllByRecursion (λ (s : Stop). Contains (ride_ids (rides ++ ride ∷ [])) s.ride)) (sym (stops_with-split ride i j stops in_order in_range))
+      (subst (AllByRecursion (λ (s : Stop). Contains (ride_ids (rides ++ ride ∷ [])) s.ride)) (sym (stops_with-split ride i j stops in_order in_range))
       (each-append _ (take i stops) _ (each-take _ i stops old)
-        (newest, each-append _ (drop i (take j stops)) _ (each-drop _ i (take j stops) (each-take _ j stops old)) (newest, each-drop _ j stops old))))
+      (newest, each-append _ (drop i (take j stops)) _ (each-drop _ i (take j stops) (each-take _ j stops old)) (newest, each-drop _ j stops old))));
 }
   where
     needs : Ride → Type 0
     needs r = map visit_of (stops_of r.id (stops_with ride i j stops)) ≡ visits_due r r.picked
+
     newest : Contains (ride_ids (rides ++ ride ∷ [])) ride.id
     newest = subst (λ ids. Contains ids ride.id) (sym (ids-push rides ride)) (Contains-push (ride_ids rides) ride.id)
+
     kept_ids : (ss : List Stop) → AllByRecursion (λ (s : Stop). Contains (ride_ids rides) s.ride) ss
         → AllByRecursion (λ (s : Stop). Contains (ride_ids (rides ++ ride ∷ [])) s.ride) ss
     kept_ids [] h = tt
     kept_ids (s ∷ ss) (first, rest) =
         (subst (λ ids. Contains ids s.ride) (sym (ids-push rides ride)) (Contains-append_left (ride_ids rides) (ride.id ∷ []) s.ride first), kept_ids ss rest)
+
     old : AllByRecursion (λ (s : Stop). Contains (ride_ids (rides ++ ride ∷ [])) s.ride) stops
     old = kept_ids stops (recursion_from_All _ stops plan.each_stop)
+
     differs : (q : ℕ) → Contains (ride_ids rides) q → (b : Bool) → eqb ride.id q ≡ b → b ≡ false
     differs q there true is = absurd (fresh (subst (Contains (ride_ids rides)) (sym (eqb-true ride.id q is)) there))
     differs q there false is = refl
+
     each : (rs : List Ride) → ((r : Ride) → Among r rs → Among r rides)
         → AllByRecursion (λ (r : Ride). map visit_of (stops_of r.id stops) ≡ visits_due r r.picked) rs
         → AllByRecursion (λ (r : Ride). map visit_of (stops_of r.id (stops_with ride i j stops)) ≡ visits_due r r.picked) rs
     each [] part h = tt
     each (r ∷ rs) part (first, rest) =
-        let other : eqb ride.id r.id ≡ false = differs r.id (id_there r (part r (inl refl))) (eqb ride.id r.id) refl in
-        ( ap (map visit_of) (filter-with-neither (λ (s : Stop). s.ride == r.id) ride i j stops in_order in_range other other) ∙ first
-        , each rs (λ q there. part q (inr there)) rest )
+        let other : eqb ride.id r.id ≡ false = differs r.id (id_there r (part r (inl refl))) (eqb ride.id r.id) refl in (
+          ap (map visit_of) (filter-with-neither (λ (s : Stop). s.ride == r.id) ride i j stops in_order in_range other other) ∙ first,
+          each rs (λ q there. part q (inr there)) rest,
+        )
       where
         id_there : (q : Ride) → Among q rides → Contains (ride_ids rides) q.id
         id_there q there = contains_from_among (ride_ids rides) q.id (among-ids rides q there)
@@ -214,10 +222,11 @@ plan-with rides stops ride i j plan fresh waits in_order in_range = record {
             among-ids [] x h = absurd h
             among-ids (y ∷ ys) x (inl is) = inl (ap (λ (z : Ride). z.id) is)
             among-ids (y ∷ ys) x (inr later) = inr (among-ids ys x later)
+
     new : map visit_of (stops_of ride.id (stops_with ride i j stops)) ≡ visits_due ride ride.picked
     new =
         ap (map visit_of) (filter-with-both (λ (s : Stop). s.ride == ride.id) ride i j stops in_order in_range
-          (eq-eqb ride.id ride.id refl) (eq-eqb ride.id ride.id refl) (none-kept ride.id stops (plan-fresh rides stops ride.id plan fresh)))
+        (eq-eqb ride.id ride.id refl) (eq-eqb ride.id ride.id refl) (none-kept ride.id stops (plan-fresh rides stops ride.id plan fresh)))
         ∙ ap (visits_due ride) (sym waits)
 
 -- what an insertion gives: a route of the stops with the ride more
@@ -230,10 +239,10 @@ pub inserted_facts : (roads : RoadMap) (v : Vehicle) (ride : Ride) (i j : ℕ) (
     → InsertedFacts roads v ride i j new
 inserted_facts roads v ride i j new is =
     elim (routed roads v.at (stops_with ride i j v.stops.items))
-        as (λ o. routed roads v.at (stops_with ride i j v.stops.items) ≡ o
-            → option_map (with_plan v (v.rides.items ++ ride ∷ [])) o ≡ Some new → InsertedFacts roads v ride i j new) [
-      None ↦ λ _ none. absurd (cc none)
-    | Some out ↦ λ route some. record { out = out; route = route; new_is = sym (same _ _ some) }
+    as (λ o. routed roads v.at (stops_with ride i j v.stops.items) ≡ o
+    → option_map (with_plan v (v.rides.items ++ ride ∷ [])) o ≡ Some new → InsertedFacts roads v ride i j new) [
+      | None ↦ λ _ none. absurd (cc none)
+      | Some out ↦ λ route some. record { out = out; route = route; new_is = sym (same _ _ some) }
     ] refl is
   where
     same : (a b : Vehicle) → Some a ≡ Some b → a ≡ b
@@ -246,17 +255,17 @@ pub routed-with : (roads : RoadMap) (v : Vehicle) (ride : Ride) (i j : ℕ) (new
 routed-with roads v ride i j new r ride_fits fresh waits in_order in_range is =
     let facts = inserted_facts roads v ride i j new is in
     let made : IsRouted roads (with_plan v (v.rides.items ++ ride ∷ []) facts.out) = record {
-          some_seat = r.some_seat;
-          seats_limit = r.seats_limit;
-          chairs_limit = r.chairs_limit;
-          at_node = r.at_node;
-          ready_limit = r.ready_limit;
-          rides_fit = All-push (IsRide roads) v.rides.items ride r.rides_fit ride_fits;
-          picked_before = All-push (λ (q : Ride). IfSome q.picked (λ picked. picked ≤ v.ready)) v.rides.items ride r.picked_before
-            (subst (λ o. IfSome o (λ picked. picked ≤ v.ready)) (sym waits) tt);
-          planned = plan-same (v.rides.items ++ ride ∷ []) (stops_with ride i j v.stops.items) facts.out
-            (unlegged-routed roads v.at (stops_with ride i j v.stops.items) facts.out facts.route)
-            (plan-with v.rides.items v.stops.items ride i j r.planned fresh waits in_order in_range);
-          legs = routed-has_legs roads v.at (stops_with ride i j v.stops.items) facts.out facts.route
-        } in
+      some_seat = r.some_seat;
+      seats_limit = r.seats_limit;
+      chairs_limit = r.chairs_limit;
+      at_node = r.at_node;
+      ready_limit = r.ready_limit;
+      rides_fit = All-push (IsRide roads) v.rides.items ride r.rides_fit ride_fits;
+      picked_before = All-push (λ (q : Ride). IfSome q.picked (λ picked. picked ≤ v.ready)) v.rides.items ride r.picked_before
+          (subst (λ o. IfSome o (λ picked. picked ≤ v.ready)) (sym waits) tt);
+      planned = plan-same (v.rides.items ++ ride ∷ []) (stops_with ride i j v.stops.items) facts.out
+          (unlegged-routed roads v.at (stops_with ride i j v.stops.items) facts.out facts.route)
+          (plan-with v.rides.items v.stops.items ride i j r.planned fresh waits in_order in_range);
+      legs = routed-has_legs roads v.at (stops_with ride i j v.stops.items) facts.out facts.route;
+    } in
     subst (IsRouted roads) (sym facts.new_is) made

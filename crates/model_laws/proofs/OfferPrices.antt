@@ -1,12 +1,12 @@
 -- Offers and prices: no offer costs less than the price.
-use Rattle.std.proofs.Common.{◌≡◌, ℕ, zero, suc, ◌+◌, ◌-◌, ◌*◌, ◌<◌, ◌≤◌, ◌⊎◌, inl, inr, Bool, true, false, not, cond, ◌&&◌, List, [], ◌∷◌, ◌++◌, length, eqb, leb, refl, leb-true, sym, ◌∙◌, ap, subst, arith}
-use Rattle.std.specs.Prelude.{map, ⊤, Option, Some, None, option_map, option_and_then, flat_map, nat_le}
-use Rattle.std.specs.List.{filter, filter_map, cons_option, range_with_len}
+use Rattle.std.proofs.Common.{◌≡◌, ℕ, zero, suc, ◌+◌, ◌-◌, ◌<◌, ◌≤◌, ◌⊎◌, inl, inr, Bool, true, false, cond, ◌&&◌, List, [], ◌∷◌, ◌++◌, length, leb, refl, leb-true, sym, ◌∙◌, ap, subst, arith}
+use Rattle.std.specs.Prelude.{map, Option, Some, None, option_and_then, flat_map}
+use Rattle.std.specs.List.{filter_map, cons_option, range_with_len}
 use Rattle.ride_model.specs.declared.offer.Offer.{Offer}
 use Rattle.ride_model.specs.declared.settings.Settings.{Settings}
 use Rattle.ride_model.specs.declared.vehicle.Ride.{Ride}
 use Rattle.ride_model.specs.declared.vehicle.Vehicle.{Vehicle}
-use Rattle.ride_model.specs.Road.{RoadMap, least_of}
+use Rattle.ride_model.specs.Road.{RoadMap}
 use Rattle.ride_model.specs.Insertion.{inserted}
 use Rattle.ride_model.specs.Offers.{is_open, offer_of_plan, offer_of, place_pairs, offers, price}
 use Rattle.model_laws.proofs.Among.{Among, among_map}
@@ -20,8 +20,8 @@ among_filter_map {X} {Y} f (z ∷ zs) x y (inl same) is =
     subst (λ o. Among y (cons_option o (filter_map f zs))) (sym (ap f same ∙ is)) (inl refl)
 among_filter_map {X} {Y} f (z ∷ zs) x y (inr later) is =
     elim (f z) as (λ o. Among y (cons_option o (filter_map f zs))) [
-      None ↦ among_filter_map f zs x y later is
-    | Some w ↦ inr (among_filter_map f zs x y later is)
+      | None ↦ among_filter_map f zs x y later is
+      | Some w ↦ inr (among_filter_map f zs x y later is)
     ]
 
 -- the numbers of a range
@@ -29,8 +29,8 @@ pub among_range : (from many n : ℕ) → from ≤ n → n < from + many → Amo
 among_range from zero n low high = absurd (omega arith)
 among_range from (suc many) n low high =
     elim (first_or_later from n low) [
-      inl here ↦ inl here
-    | inr above ↦ inr (among_range (from + 1) many n (omega (arith, above)) (omega arith))
+      | inl here ↦ inl here
+      | inr above ↦ inr (among_range (from + 1) many n (omega (arith, above)) (omega arith))
     ]
   where
     first_or_later : (a b : ℕ) → a ≤ b → (a ≡ b) ⊎ (a < b)
@@ -53,8 +53,8 @@ among_flat_map f (z ∷ zs) x y (inr later) is = among_append (f z) (flat_map f 
 pub among_place_pairs : (stops i j : ℕ) → i ≤ j → j ≤ stops → Among (i, j) (place_pairs stops)
 among_place_pairs stops i j in_order in_range =
     among_flat_map (λ a. map (λ b. (a, b)) (range_with_len a (stops + 1 - a))) (range_with_len 0 (stops + 1)) i (i, j)
-        (among_range 0 (stops + 1) i (omega arith) (omega arith))
-        (among_map (λ b. (i, b)) (range_with_len i (stops + 1 - i)) j (among_range i (stops + 1 - i) j in_order (omega arith)))
+    (among_range 0 (stops + 1) i (omega arith) (omega arith))
+    (among_map (λ b. (i, b)) (range_with_len i (stops + 1 - i)) j (among_range i (stops + 1 - i) j in_order (omega arith)))
 
 -- an offer is at places in range, of an open vehicle
 pub record OfferFacts (roads : RoadMap) (settings : Settings) (v : Vehicle) (ride : Ride) (time i j : ℕ) (offer : Offer) : Type 0 where
@@ -72,7 +72,11 @@ offer_facts roads settings v ride time i j offer is = three (is_open v time) (le
         → cond (a && b && c) (option_and_then (offer_of_plan settings v i j time) (inserted roads v ride i j)) None ≡ Some offer
         → OfferFacts roads settings v ride time i j offer
     three true true true p q r of_plan = record {
-      is_open_then = p; in_order = leb-true i j q; in_range = leb-true j (length v.stops.items) r; of_plan = of_plan }
+      is_open_then = p;
+      in_order = leb-true i j q;
+      in_range = leb-true j (length v.stops.items) r;
+      of_plan = of_plan;
+    }
     three false b c p q r none = absurd (cc none)
     three true false c p q r none = absurd (cc none)
     three true true false p q r none = absurd (cc none)
@@ -84,7 +88,7 @@ pub price-le-cost : (roads : RoadMap) (settings : Settings) (v : Vehicle) (ride 
 price-le-cost roads settings v ride time i j offer is =
     let facts = offer_facts roads settings v ride time i j offer is in
     let among = among_filter_map (λ (place : ℕ × ℕ). offer_of roads settings v ride time place.0 place.1)
-          (place_pairs (length v.stops.items)) (i, j) offer
-          (among_place_pairs (length v.stops.items) i j facts.in_order facts.in_range) is in
+    (place_pairs (length v.stops.items)) (i, j) offer
+    (among_place_pairs (length v.stops.items) i j facts.in_order facts.in_range) is in
     least_is_least (map (λ (o : Offer). Some o.cost) (offers roads settings v ride time)) offer.cost
-        (among_map (λ (o : Offer). Some o.cost) (offers roads settings v ride time) offer among)
+    (among_map (λ (o : Offer). Some o.cost) (offers roads settings v ride time) offer among)

@@ -1,18 +1,16 @@
 -- Plans: rides and the stops that they need, whatever the legs.
-use Rattle.std.proofs.Common.{◌≡◌, ℕ, zero, suc, ◌+◌, ◌-◌, ◌<◌, ◌≤◌, ◌⊎◌, inl, inr, Bool, true, false, not, cond, List, [], ◌∷◌, ◌++◌, length, take, drop, eqb, refl, sym, ◌∙◌, ap, subst, arith}
-use Rattle.std.specs.Prelude.{map, ⊤, Option, Some, None, option_map, option_and_then, ◌==◌, nat_eq, All, Contains}
-use Rattle.std.specs.List.{filter, IsDistinct, AllByRecursion, list_any}
+use Rattle.std.proofs.Common.{◌≡◌, ℕ, Bool, true, false, not, cond, List, [], ◌∷◌, eqb, refl, sym, ◌∙◌, ap, subst}
+use Rattle.std.specs.Prelude.{map, Some, None, option_map, option_and_then, Contains}
+use Rattle.std.specs.List.{filter, IsDistinct, AllByRecursion}
 use Rattle.std.proofs.lemmas.Bool.{eqb-true, eq-eqb}
-use Rattle.std.proofs.lemmas.List.Elements.{All-from_recursion, recursion_from_All, All-filter, All-map, filter-append}
+use Rattle.std.proofs.lemmas.List.Elements.{All-from_recursion, recursion_from_All}
 use Rattle.std.proofs.lemmas.Map.Keys.{IsDistinct-head, IsDistinct-tail, IsDistinct-cons}
-use Rattle.ride_model.specs.declared.vehicle.Kind.{Kind}
-use Rattle.ride_model.specs.declared.vehicle.Kind.TheVariants.{Pickup, Dropoff}
 use Rattle.ride_model.specs.declared.vehicle.Ride.{Ride}
 use Rattle.ride_model.specs.declared.vehicle.Stop.{Stop}
 use Rattle.ride_model.specs.Road.{RoadMap, travel}
 use Rattle.ride_model.specs.Vehicle.{visits_due, visit_of, stops_of, ride_ids, IsPlanFor}
 use Rattle.ride_model.specs.Insertion.{routed, stops_without, rides_without}
-use Rattle.model_laws.proofs.Among.{Among, among_from_contains, contains_from_among, among_map, among_map_back, among_filter, among_filter_back}
+use Rattle.model_laws.proofs.Among.{Among, among_from_contains, contains_from_among, among_filter}
 use Rattle.model_laws.proofs.Routes.{with_leg}
 
 -- stops without their legs
@@ -27,16 +25,16 @@ unlegged-routed roads at [] out is = ap unlegged (sym (same [] out is))
     same a b e = cc e
 unlegged-routed roads at (stop ∷ stops) out is =
     elim (travel roads at stop.node) as (λ o.
-        option_and_then (λ leg. option_map (λ rest. with_leg leg stop ∷ rest) (routed roads stop.node stops)) o ≡ Some out
-        → unlegged out ≡ unlegged (stop ∷ stops)) [
-      None ↦ λ none. absurd (cc none)
-    | Some leg ↦ λ some.
-        elim (routed roads stop.node stops) as (λ o. routed roads stop.node stops ≡ o
-            → option_map (λ rest. with_leg leg stop ∷ rest) o ≡ Some out → unlegged out ≡ unlegged (stop ∷ stops)) [
-          None ↦ λ _ none. absurd (cc none)
-        | Some rest ↦ λ on made.
-            ap unlegged (sym (same (with_leg leg stop ∷ rest) out made)) ∙ ap (λ more. with_leg 0 stop ∷ more) (unlegged-routed roads stop.node stops rest on)
-        ] refl some
+    option_and_then (λ leg. option_map (λ rest. with_leg leg stop ∷ rest) (routed roads stop.node stops)) o ≡ Some out
+    → unlegged out ≡ unlegged (stop ∷ stops)) [
+      | None ↦ λ none. absurd (cc none)
+      | Some leg ↦ λ some.
+          elim (routed roads stop.node stops) as (λ o. routed roads stop.node stops ≡ o
+          → option_map (λ rest. with_leg leg stop ∷ rest) o ≡ Some out → unlegged out ≡ unlegged (stop ∷ stops)) [
+            | None ↦ λ _ none. absurd (cc none)
+            | Some rest ↦ λ on made.
+                ap unlegged (sym (same (with_leg leg stop ∷ rest) out made)) ∙ ap (λ more. with_leg 0 stop ∷ more) (unlegged-routed roads stop.node stops rest on)
+          ] refl some
     ] is
   where
     same : (a b : List Stop) → Some a ≡ Some b → a ≡ b
@@ -47,9 +45,9 @@ pub visits-unlegged : (id : ℕ) (stops : List Stop) → map visit_of (stops_of 
 visits-unlegged id [] = refl
 visits-unlegged id (stop ∷ stops) =
     elim (eqb stop.ride id) as (λ b. map visit_of (cond b (with_leg 0 stop ∷ stops_of id (unlegged stops)) (stops_of id (unlegged stops)))
-        ≡ map visit_of (cond b (stop ∷ stops_of id stops) (stops_of id stops))) [
-      true ↦ ap (λ rest. visit_of stop ∷ rest) (visits-unlegged id stops)
-    | false ↦ visits-unlegged id stops
+    ≡ map visit_of (cond b (stop ∷ stops_of id stops) (stops_of id stops))) [
+      | true ↦ ap (λ rest. visit_of stop ∷ rest) (visits-unlegged id stops)
+      | false ↦ visits-unlegged id stops
     ]
 
 pub visits-same : (id : ℕ) (stops out : List Stop) → unlegged out ≡ unlegged stops → map visit_of (stops_of id out) ≡ map visit_of (stops_of id stops)
@@ -75,7 +73,7 @@ pub plan-same : (rides : List Ride) (stops out : List Stop) → unlegged out ≡
 plan-same rides stops out same plan = record {
   ids_differ = plan.ids_differ;
   each_ride = All-from_recursion _ rides (each rides (recursion_from_All _ rides plan.each_ride));
-  each_stop = All-from_recursion _ out (each-same (Contains (ride_ids rides)) stops out same (recursion_from_All _ stops plan.each_stop))
+  each_stop = All-from_recursion _ out (each-same (Contains (ride_ids rides)) stops out same (recursion_from_All _ stops plan.each_stop));
 }
   where
     each : (rs : List Ride) → AllByRecursion (λ (ride : Ride). map visit_of (stops_of ride.id stops) ≡ visits_due ride ride.picked) rs
@@ -88,16 +86,16 @@ pub distinct-filter : (p : ℕ → Bool) (xs : List ℕ) → IsDistinct eqb xs �
 distinct-filter p [] distinct = distinct
 distinct-filter p (x ∷ xs) distinct =
     elim (p x) as (λ b. IsDistinct eqb (cond b (x ∷ filter p xs) (filter p xs))) [
-      true ↦ IsDistinct-cons eqb x (filter p xs) (kept xs (IsDistinct-head eqb x xs distinct)) (distinct-filter p xs (IsDistinct-tail eqb x xs distinct))
-    | false ↦ distinct-filter p xs (IsDistinct-tail eqb x xs distinct)
+      | true ↦ IsDistinct-cons eqb x (filter p xs) (kept xs (IsDistinct-head eqb x xs distinct)) (distinct-filter p xs (IsDistinct-tail eqb x xs distinct))
+      | false ↦ distinct-filter p xs (IsDistinct-tail eqb x xs distinct)
     ]
   where
     kept : (ys : List ℕ) → AllByRecursion (λ y. eqb x y ≡ false) ys → AllByRecursion (λ y. eqb x y ≡ false) (filter p ys)
     kept [] h = tt
     kept (y ∷ ys) (first, rest) =
         elim (p y) as (λ b. AllByRecursion (λ z. eqb x z ≡ false) (cond b (y ∷ filter p ys) (filter p ys))) [
-          true ↦ (first, kept ys rest)
-        | false ↦ kept ys rest
+          | true ↦ (first, kept ys rest)
+          | false ↦ kept ys rest
         ]
 
 -- the ids of the rides that are left
@@ -105,9 +103,9 @@ pub ids-without : (id : ℕ) (rides : List Ride) → ride_ids (rides_without id 
 ids-without id [] = refl
 ids-without id (ride ∷ rides) =
     elim (eqb ride.id id) as (λ b. ride_ids (cond (not b) (ride ∷ rides_without id rides) (rides_without id rides))
-        ≡ cond (not b) (ride.id ∷ filter (λ q. not (eqb q id)) (ride_ids rides)) (filter (λ q. not (eqb q id)) (ride_ids rides))) [
-      true ↦ ids-without id rides
-    | false ↦ ap (λ rest. ride.id ∷ rest) (ids-without id rides)
+    ≡ cond (not b) (ride.id ∷ filter (λ q. not (eqb q id)) (ride_ids rides)) (filter (λ q. not (eqb q id)) (ride_ids rides))) [
+      | true ↦ ids-without id rides
+      | false ↦ ap (λ rest. ride.id ∷ rest) (ids-without id rides)
     ]
 
 -- the stops of another ride are all left
@@ -115,16 +113,16 @@ pub stops-without : (id other : ℕ) (stops : List Stop) → eqb other id ≡ fa
 stops-without id other [] differ = refl
 stops-without id other (stop ∷ stops) differ =
     elim (eqb stop.ride id) as (λ b. eqb stop.ride id ≡ b
-        → stops_of other (cond (not b) (stop ∷ stops_without id stops) (stops_without id stops)) ≡ stops_of other (stop ∷ stops)) [
-      true ↦ λ is.
-        let not_other : eqb stop.ride other ≡ false = differs (eqb-true stop.ride id is) in
-        rw not_other (stops-without id other stops differ)
-    | false ↦ λ is.
-        elim (eqb stop.ride other) as (λ b. cond b (stop ∷ stops_of other (stops_without id stops)) (stops_of other (stops_without id stops))
-            ≡ cond b (stop ∷ stops_of other stops) (stops_of other stops)) [
-          true ↦ ap (λ rest. stop ∷ rest) (stops-without id other stops differ)
-        | false ↦ stops-without id other stops differ
-        ]
+    → stops_of other (cond (not b) (stop ∷ stops_without id stops) (stops_without id stops)) ≡ stops_of other (stop ∷ stops)) [
+      | true ↦ λ is.
+          let not_other : eqb stop.ride other ≡ false = differs (eqb-true stop.ride id is) in
+          rw not_other (stops-without id other stops differ)
+      | false ↦ λ is.
+          elim (eqb stop.ride other) as (λ b. cond b (stop ∷ stops_of other (stops_without id stops)) (stops_of other (stops_without id stops))
+          ≡ cond b (stop ∷ stops_of other stops) (stops_of other stops)) [
+            | true ↦ ap (λ rest. stop ∷ rest) (stops-without id other stops differ)
+            | false ↦ stops-without id other stops differ
+          ]
     ] refl
   where
     differs : stop.ride ≡ id → eqb stop.ride other ≡ false
@@ -140,8 +138,8 @@ each_left : (P : Ride → Type 0) (id : ℕ) (rides : List Ride) → ((ride : Ri
 each_left P id [] f h = tt
 each_left P id (ride ∷ rides) f (first, rest) =
     elim (eqb ride.id id) as (λ b. AllByRecursion P (cond (not b) (ride ∷ rides_without id rides) (rides_without id rides))) [
-      true ↦ each_left P id rides f rest
-    | false ↦ (first, each_left P id rides f rest)
+      | true ↦ each_left P id rides f rest
+      | false ↦ (first, each_left P id rides f rest)
     ]
 
 -- a plan without a ride is one for the rides that are left
@@ -150,7 +148,7 @@ pub plan-without : (id : ℕ) (rides : List Ride) (stops : List Stop) → IsPlan
 plan-without id rides stops plan = record {
   ids_differ = subst (IsDistinct eqb) (sym (ids-without id rides)) (distinct-filter (λ q. not (eqb q id)) (ride_ids rides) plan.ids_differ);
   each_ride = All-from_recursion _ (rides_without id rides) (each rides (recursion_from_All _ rides plan.each_ride));
-  each_stop = All-from_recursion _ (stops_without id stops) (left stops (recursion_from_All _ stops plan.each_stop))
+  each_stop = All-from_recursion _ (stops_without id stops) (left stops (recursion_from_All _ stops plan.each_stop));
 }
   where
     each : (rs : List Ride) → AllByRecursion (λ (ride : Ride). map visit_of (stops_of ride.id stops) ≡ visits_due ride ride.picked) rs
@@ -158,22 +156,24 @@ plan-without id rides stops plan = record {
     each [] h = tt
     each (ride ∷ rs) (first, rest) =
         elim (eqb ride.id id) as (λ b. eqb ride.id id ≡ b
-            → AllByRecursion (λ (r : Ride). map visit_of (stops_of r.id (stops_without id stops)) ≡ visits_due r r.picked)
-              (cond (not b) (ride ∷ rides_without id rs) (rides_without id rs))) [
-          true ↦ λ _. each rs rest
-        | false ↦ λ other. (ap (map visit_of) (stops-without id ride.id stops other) ∙ first, each rs rest)
+        → AllByRecursion (λ (r : Ride). map visit_of (stops_of r.id (stops_without id stops)) ≡ visits_due r r.picked)
+        (cond (not b) (ride ∷ rides_without id rs) (rides_without id rs))) [
+          | true ↦ λ _. each rs rest
+          | false ↦ λ other. (ap (map visit_of) (stops-without id ride.id stops other) ∙ first, each rs rest)
         ] refl
+
     still : (q : ℕ) → eqb q id ≡ false → Contains (ride_ids rides) q → Contains (ride_ids (rides_without id rides)) q
     still q other there =
         contains_from_among (ride_ids (rides_without id rides)) q
-          (subst (Among q) (sym (ids-without id rides))
-            (among_filter (λ r. not (eqb r id)) (ride_ids rides) q (among_from_contains (ride_ids rides) q there) (ap not other)))
+        (subst (Among q) (sym (ids-without id rides))
+        (among_filter (λ r. not (eqb r id)) (ride_ids rides) q (among_from_contains (ride_ids rides) q there) (ap not other)))
+
     left : (ss : List Stop) → AllByRecursion (λ (s : Stop). Contains (ride_ids rides) s.ride) ss
         → AllByRecursion (λ (s : Stop). Contains (ride_ids (rides_without id rides)) s.ride) (stops_without id ss)
     left [] h = tt
     left (s ∷ ss) (first, rest) =
         elim (eqb s.ride id) as (λ b. eqb s.ride id ≡ b
-            → AllByRecursion (λ (t : Stop). Contains (ride_ids (rides_without id rides)) t.ride) (cond (not b) (s ∷ stops_without id ss) (stops_without id ss))) [
-          true ↦ λ _. left ss rest
-        | false ↦ λ other. (still s.ride other first, left ss rest)
+        → AllByRecursion (λ (t : Stop). Contains (ride_ids (rides_without id rides)) t.ride) (cond (not b) (s ∷ stops_without id ss) (stops_without id ss))) [
+          | true ↦ λ _. left ss rest
+          | false ↦ λ other. (still s.ride other first, left ss rest)
         ] refl

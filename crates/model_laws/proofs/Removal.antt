@@ -1,23 +1,23 @@
 -- The removal law: a vehicle without one of its rides is lawful, no stop that is left is later, and no ride is longer.
-use Rattle.std.proofs.Common.{◌≡◌, ℕ, zero, suc, ◌+◌, ◌-◌, ◌<◌, ◌≤◌, ◌⊎◌, inl, inr, Bool, true, false, not, cond, ◌&&◌, ◌||◌, List, [], ◌∷◌, ◌++◌, length, eqb, leb, ltb, leb-true, le-leb, ltb-false, le-ltb, refl, sym, ◌∙◌, ap, subst, arith}
-use Rattle.std.specs.Prelude.{map, ⊤, Option, Some, None, unwrap_or, ◌==◌, All, IfSome, IsTrue, nat_le, nat_lt}
-use Rattle.std.specs.List.{filter, AllByRecursion, list_all}
+use Rattle.std.proofs.Common.{◌≡◌, ℕ, ◌+◌, ◌≤◌, Bool, true, false, not, cond, ◌&&◌, ◌||◌, List, [], ◌∷◌, eqb, leb, ltb, leb-true, le-leb, ltb-false, le-ltb, refl, sym, ◌∙◌, ap, subst, arith}
+use Rattle.std.specs.Prelude.{Option, Some, None, unwrap_or, ◌==◌, IfSome}
+use Rattle.std.specs.List.{filter}
 use Rattle.std.proofs.lemmas.Bool.{eqb-true, eq-eqb}
 use Rattle.std.proofs.lemmas.List.Elements.{All-filter}
 use Rattle.ride_model.specs.declared.vehicle.Ride.{Ride}
 use Rattle.ride_model.specs.declared.vehicle.Stop.{Stop}
 use Rattle.ride_model.specs.declared.vehicle.Vehicle.{Vehicle}
-use Rattle.ride_model.specs.Road.{RoadMap, IsRoadMap, travel}
+use Rattle.ride_model.specs.Road.{RoadMap, IsRoadMap}
 use Rattle.ride_model.specs.Vehicle.{IsRide, IsRouted, IsLawful, HasLegs}
-use Rattle.ride_model.specs.Loads.{is_pickup, loads_fit}
-use Rattle.ride_model.specs.Times.{times_of, visits_of}
+use Rattle.ride_model.specs.Loads.{loads_fit}
+use Rattle.ride_model.specs.Times.{visits_of}
 use Rattle.ride_model.specs.Keeps.{is_pickup_at, is_dropoff_at, keeps_visits, keeps_ride, breaks_visits, breaks_ride}
-use Rattle.ride_model.specs.Insertion.{routed, with_plan, stops_without, rides_without, rerouted, without_ride}
+use Rattle.ride_model.specs.Insertion.{routed, with_plan, stops_without, rides_without, without_ride}
 use Rattle.model_laws.proofs.TravelTimes.{travel-same}
-use Rattle.model_laws.specs.Sooner.{AllSooner, SoonerBy}
-use Rattle.model_laws.proofs.Routes.{routed-has_legs, of_ride, sooner-filter, visits_from, stop_of_ride, ShorterRoute, shorter_route}
+use Rattle.model_laws.specs.Sooner.{AllSooner}
+use Rattle.model_laws.proofs.Routes.{routed-has_legs, of_ride, sooner-filter, visits_from, ShorterRoute, shorter_route}
 use Rattle.model_laws.proofs.PlanStops.{unlegged-routed, plan-same, plan-without}
-use Rattle.model_laws.proofs.AboardLoads.{and-true, true-and, fits_throughout, loads_fit-throughout, fits-without, filter-kept, filter-skipped}
+use Rattle.model_laws.proofs.AboardLoads.{and-true, true-and, fits_throughout, loads_fit-throughout, fits-without, filter-skipped}
 
 -- the test of the rides that are left
 abbrev pub is_other : ℕ → ℕ → Bool
@@ -40,17 +40,17 @@ pub routed-without : (roads : RoadMap) (v : Vehicle) (id : ℕ) → IsRoadMap ro
 routed-without roads v id fits r =
     let left = route_without roads v id 0 0 fits r.legs in
     let made : IsRouted roads (with_plan v (rides_without id v.rides.items) left.out) = record {
-          some_seat = r.some_seat;
-          seats_limit = r.seats_limit;
-          chairs_limit = r.chairs_limit;
-          at_node = r.at_node;
-          ready_limit = r.ready_limit;
-          rides_fit = All-filter (λ (ride : Ride). not (ride.id == id)) (IsRide roads) v.rides.items r.rides_fit;
-          picked_before = All-filter (λ (ride : Ride). not (ride.id == id)) (λ (ride : Ride). IfSome ride.picked (λ picked. picked ≤ v.ready)) v.rides.items r.picked_before;
-          planned = plan-same (rides_without id v.rides.items) (stops_without id v.stops.items) left.out
-            (unlegged-routed roads v.at (stops_without id v.stops.items) left.out left.route) (plan-without id v.rides.items v.stops.items r.planned);
-          legs = routed-has_legs roads v.at (stops_without id v.stops.items) left.out left.route
-        } in
+      some_seat = r.some_seat;
+      seats_limit = r.seats_limit;
+      chairs_limit = r.chairs_limit;
+      at_node = r.at_node;
+      ready_limit = r.ready_limit;
+      rides_fit = All-filter (λ (ride : Ride). not (ride.id == id)) (IsRide roads) v.rides.items r.rides_fit;
+      picked_before = All-filter (λ (ride : Ride). not (ride.id == id)) (λ (ride : Ride). IfSome ride.picked (λ picked. picked ≤ v.ready)) v.rides.items r.picked_before;
+      planned = plan-same (rides_without id v.rides.items) (stops_without id v.stops.items) left.out
+          (unlegged-routed roads v.at (stops_without id v.stops.items) left.out left.route) (plan-without id v.rides.items v.stops.items r.planned);
+      legs = routed-has_legs roads v.at (stops_without id v.stops.items) left.out left.route;
+    } in
     subst (IsRouted roads) (sym (without_ride-is roads v id left.out left.route)) made
 
 -- a lawful vehicle is lawful without a ride
@@ -60,8 +60,8 @@ lawful-without roads v id fits lawful =
     record {
       routed = routed-without roads v id fits lawful.routed;
       loads = subst (λ w. loads_fit w ≡ true) (sym (without_ride-is roads v id left.out left.route))
-        (loads_fit-throughout (with_plan v (rides_without id v.rides.items) left.out)
-          (fits-without v id left.out (unlegged-routed roads v.at (stops_without id v.stops.items) left.out left.route) (fits_throughout v lawful.loads)))
+          (loads_fit-throughout (with_plan v (rides_without id v.rides.items) left.out)
+          (fits-without v id left.out (unlegged-routed roads v.at (stops_without id v.stops.items) left.out left.route) (fits_throughout v lawful.loads)));
     }
 
 -- filters of visits by another ride and by the rides that are left
@@ -70,16 +70,16 @@ pub visits-other : (id other : ℕ) (visits : List (Stop × ℕ)) → eqb other 
 visits-other id other [] differ = refl
 visits-other id other (visit ∷ visits) differ =
     elim (eqb visit.0.ride id) as (λ b. eqb visit.0.ride id ≡ b
-        → filter (of_ride (λ q. q == other)) (cond (not b) (visit ∷ filter (of_ride (is_other id)) visits) (filter (of_ride (is_other id)) visits))
-          ≡ filter (of_ride (λ q. q == other)) (visit ∷ visits)) [
-      true ↦ λ is. visits-other id other visits differ ∙ sym (filter-skipped (of_ride (λ q. q == other)) visit visits (not_other (eqb-true visit.0.ride id is)))
-    | false ↦ λ is.
-        elim (eqb visit.0.ride other) as (λ b.
-            cond b (visit ∷ filter (of_ride (λ q. q == other)) (filter (of_ride (is_other id)) visits)) (filter (of_ride (λ q. q == other)) (filter (of_ride (is_other id)) visits))
-            ≡ cond b (visit ∷ filter (of_ride (λ q. q == other)) visits) (filter (of_ride (λ q. q == other)) visits)) [
-          true ↦ ap (λ rest. visit ∷ rest) (visits-other id other visits differ)
-        | false ↦ visits-other id other visits differ
-        ]
+    → filter (of_ride (λ q. q == other)) (cond (not b) (visit ∷ filter (of_ride (is_other id)) visits) (filter (of_ride (is_other id)) visits))
+    ≡ filter (of_ride (λ q. q == other)) (visit ∷ visits)) [
+      | true ↦ λ is. visits-other id other visits differ ∙ sym (filter-skipped (of_ride (λ q. q == other)) visit visits (not_other (eqb-true visit.0.ride id is)))
+      | false ↦ λ is.
+          elim (eqb visit.0.ride other) as (λ b.
+          cond b (visit ∷ filter (of_ride (λ q. q == other)) (filter (of_ride (is_other id)) visits)) (filter (of_ride (λ q. q == other)) (filter (of_ride (is_other id)) visits))
+          ≡ cond b (visit ∷ filter (of_ride (λ q. q == other)) visits) (filter (of_ride (λ q. q == other)) visits)) [
+            | true ↦ ap (λ rest. visit ∷ rest) (visits-other id other visits differ)
+            | false ↦ visits-other id other visits differ
+          ]
     ] refl
   where
     not_other : visit.0.ride ≡ id → eqb visit.0.ride other ≡ false
@@ -96,7 +96,7 @@ visits-sooner roads v id other start dwell fits r differ =
     let left = route_without roads v id start dwell fits r.legs in
     let both = sooner-filter (λ q. q == other) 0 (visits_from dwell start left.out) (filter (of_ride (is_other id)) (visits_from dwell start v.stops.items)) left.sooner in
     let of_other = subst (AllSooner 0 (filter (of_ride (λ q. q == other)) (visits_from dwell start left.out)))
-          (visits-other id other (visits_from dwell start v.stops.items) differ) both in
+    (visits-other id other (visits_from dwell start v.stops.items) differ) both in
     subst (λ w. AllSooner 0 (visits_of w start dwell other) (visits_of v start dwell other)) (sym (without_ride-is roads v id left.out left.route)) of_other
 
 -- what kept a ride's limits keeps them when it comes sooner
@@ -106,18 +106,18 @@ keeps-sooner ride None gain (p ∷ d ∷ []) (q ∷ e ∷ []) (more, _, first, (
     let (three, within) = and-true (is_pickup_at ride.from q.0 && is_dropoff_at ride.to e.0 && leb q.1 ride.latest) (leb e.1 (q.1 + ride.longest)) keeps in
     let (places, in_time) = and-true (is_pickup_at ride.from q.0 && is_dropoff_at ride.to e.0) (leb q.1 ride.latest) three in
     true-and (is_pickup_at ride.from p.0 && is_dropoff_at ride.to d.0 && leb p.1 ride.latest) (leb d.1 (p.1 + ride.longest))
-      (true-and (is_pickup_at ride.from p.0 && is_dropoff_at ride.to d.0) (leb p.1 ride.latest)
-        (same_places ∙ places)
-        (le-leb p.1 ride.latest (omega (arith, leb-true q.1 ride.latest in_time, first.time_is))))
-      (le-leb d.1 (p.1 + ride.longest) (omega (arith, leb-true e.1 (q.1 + ride.longest) within, first.time_is, second.time_is)))
+    (true-and (is_pickup_at ride.from p.0 && is_dropoff_at ride.to d.0) (leb p.1 ride.latest)
+    (same_places ∙ places)
+    (le-leb p.1 ride.latest (omega (arith, leb-true q.1 ride.latest in_time, first.time_is))))
+    (le-leb d.1 (p.1 + ride.longest) (omega (arith, leb-true e.1 (q.1 + ride.longest) within, first.time_is, second.time_is)))
   where
     same_places : (is_pickup_at ride.from p.0 && is_dropoff_at ride.to d.0) ≡ (is_pickup_at ride.from q.0 && is_dropoff_at ride.to e.0)
     same_places = rw (first.kind_is, first.node_is, second.kind_is, second.node_is) refl
 keeps-sooner ride (Some at) gain (d ∷ []) (e ∷ []) (more, _, only, _) keeps =
     let (place, within) = and-true (is_dropoff_at ride.to e.0) (leb e.1 (at + ride.longest)) keeps in
     true-and (is_dropoff_at ride.to d.0) (leb d.1 (at + ride.longest))
-      (same_place ∙ place)
-      (le-leb d.1 (at + ride.longest) (omega (arith, leb-true e.1 (at + ride.longest) within, only.time_is)))
+    (same_place ∙ place)
+    (le-leb d.1 (at + ride.longest) (omega (arith, leb-true e.1 (at + ride.longest) within, only.time_is)))
   where
     same_place : is_dropoff_at ride.to d.0 ≡ is_dropoff_at ride.to e.0
     same_place = rw (only.kind_is, only.node_is) refl
@@ -146,8 +146,8 @@ pub breaks-sooner : (ride : Ride) (picked : Option ℕ) (gain : ℕ) (xs ys : Li
 breaks-sooner ride None gain (p ∷ d ∷ []) (q ∷ e ∷ []) (more, _, first, (most, further, second, _)) whole =
     let (in_time, within) = or-false (ltb ride.latest q.1) (ltb (q.1 + ride.longest) e.1) whole in
     false-or (ltb ride.latest p.1) (ltb (p.1 + ride.longest) d.1)
-      (le-ltb ride.latest p.1 (omega (arith, ltb-false ride.latest q.1 in_time, first.time_is)))
-      (le-ltb (p.1 + ride.longest) d.1 (omega (arith, ltb-false (q.1 + ride.longest) e.1 within, first.time_is, second.time_is)))
+    (le-ltb ride.latest p.1 (omega (arith, ltb-false ride.latest q.1 in_time, first.time_is)))
+    (le-ltb (p.1 + ride.longest) d.1 (omega (arith, ltb-false (q.1 + ride.longest) e.1 within, first.time_is, second.time_is)))
 breaks-sooner ride (Some at) gain (d ∷ []) (e ∷ []) (more, _, only, _) whole =
     le-ltb (at + ride.longest) d.1 (omega (arith, ltb-false (at + ride.longest) e.1 whole, only.time_is))
 breaks-sooner ride None gain [] ys s whole = refl
@@ -166,10 +166,10 @@ pub keeps_ride-without : (roads : RoadMap) (v : Vehicle) (id start dwell : ℕ) 
     → eqb ride.id id ≡ false → keeps_ride v start dwell ride ≡ true → keeps_ride (without_ride roads v id) start dwell ride ≡ true
 keeps_ride-without roads v id start dwell ride fits r differ keeps =
     keeps-sooner ride ride.picked 0 (visits_of (without_ride roads v id) start dwell ride.id) (visits_of v start dwell ride.id)
-        (visits-sooner roads v id ride.id start dwell fits r differ) keeps
+    (visits-sooner roads v id ride.id start dwell fits r differ) keeps
 
 pub breaks_ride-without : (roads : RoadMap) (v : Vehicle) (id dwell : ℕ) (ride : Ride) → IsRoadMap roads → IsRouted roads v
     → eqb ride.id id ≡ false → breaks_ride v dwell ride ≡ false → breaks_ride (without_ride roads v id) dwell ride ≡ false
 breaks_ride-without roads v id dwell ride fits r differ whole =
     breaks-sooner ride ride.picked 0 (visits_of (without_ride roads v id) v.ready dwell ride.id) (visits_of v v.ready dwell ride.id)
-        (visits-sooner roads v id ride.id v.ready dwell fits r differ) whole
+    (visits-sooner roads v id ride.id v.ready dwell fits r differ) whole

@@ -1,17 +1,16 @@
 -- What an opening and an abandon make of the requests.
-use Rattle.std.proofs.Common.{◌≡◌, ℕ, zero, suc, ◌+◌, ◌⊎◌, inl, inr, Bool, true, false, not, cond, ◌||◌, ◌&&◌, List, [], ◌∷◌, ◌++◌, eqb, refl, sym, ◌∙◌, ap, subst}
-use Rattle.std.specs.Prelude.{map, ⊤, Option, Some, None, option_map, find, fold, ◌==◌, if◌then◌else◌}
+use Rattle.std.proofs.Common.{◌≡◌, ℕ, ◌+◌, Bool, true, false, not, cond, ◌||◌, ◌&&◌, List, [], ◌∷◌, ◌++◌, eqb, refl, sym, ◌∙◌, ap}
+use Rattle.std.specs.Prelude.{map, Option, Some, None, option_map, find, ◌==◌, if◌then◌else◌}
 use Rattle.std.proofs.Common.{arith}
 use Rattle.std.proofs.lemmas.Bool.{eqb-true}
-use Rattle.std.specs.List.{filter, list_any}
+use Rattle.std.specs.List.{filter}
 use Rattle.ride_model.specs.declared.reply.RequestState.{RequestState}
 use Rattle.ride_model.specs.declared.reply.RequestState.TheVariants.{Waiting, InBatch}
 use Rattle.ride_model.specs.declared.vehicle.Ride.{Ride}
-use Rattle.ride_model.specs.Vehicle.{ride_ids}
 use Rattle.ride_model.specs.Seating.{BatchCopy}
-use Rattle.ride_model.specs.State.{State, AcceptedRequest, accepted_request, request_state, with_request_state, is_batch}
+use Rattle.ride_model.specs.State.{State, AcceptedRequest, request_state, with_request_state, is_batch}
 use Rattle.model_laws.specs.Requests.{is_of, is_in}
-use Rattle.ride_model.specs.Batch.{is_in_batch, with_request_states, after_opening, standing_rides, without_batch, after_abandon}
+use Rattle.ride_model.specs.Batch.{with_request_states, after_opening, standing_rides, without_batch, after_abandon}
 
 -- a request in a state, where its id passes
 abbrev pub marked : (ℕ → Bool) → RequestState → AcceptedRequest → AcceptedRequest
@@ -52,8 +51,8 @@ with_request_states-is state [] s = ap (λ rs. record s { requests = rs }) (sym 
 with_request_states-is state (ride ∷ rides) s =
     with_request_states-is state rides (with_request_state ride.id state s)
     ∙ ap (λ rs. record s { requests = rs })
-        (ap (map (marked (is_of rides) state)) (same-test (λ id. id == ride.id) (λ id. ride.id == id) state s.requests (λ id. eqb-comm id ride.id))
-        ∙ marked-twice (λ id. ride.id == id) (is_of rides) state s.requests)
+    (ap (map (marked (is_of rides) state)) (same-test (λ id. id == ride.id) (λ id. ride.id == id) state s.requests (λ id. eqb-comm id ride.id))
+    ∙ marked-twice (λ id. ride.id == id) (is_of rides) state s.requests)
   where
     eqb-comm : (a b : ℕ) → eqb a b ≡ eqb b a
     eqb-comm a b = grind arith
@@ -90,11 +89,11 @@ pub opening-is : (s : State) (batch : BatchCopy)
     → after_opening s batch ≡ record s { requests = map (marked (is_of batch.requests) (InBatch batch.number)) s.requests; opened = s.opened + 1; batches = s.batches ++ batch ∷ [] }
 opening-is s batch =
     ap (λ (marked_state : State). record marked_state { opened = s.opened + 1; batches = s.batches ++ batch ∷ [] })
-        (with_request_states-is (InBatch batch.number) batch.requests s)
+    (with_request_states-is (InBatch batch.number) batch.requests s)
 
 pub request_state-opening : (s : State) (batch : BatchCopy) (id : ℕ)
     → request_state (after_opening s batch) id
-      ≡ (if is_of batch.requests id then option_map (λ _. InBatch batch.number) (request_state s id) else request_state s id)
+    ≡ (if is_of batch.requests id then option_map (λ _. InBatch batch.number) (request_state s id) else request_state s id)
 request_state-opening s batch id =
     ap (λ (after : State). request_state after id) (opening-is s batch)
     ∙ request_state-marked (is_of batch.requests) (InBatch batch.number) id s.requests
@@ -104,9 +103,9 @@ request_state-opening s batch id =
         → state_if_there state requests id ≡ option_map (λ _. state) (state_in requests id)
     there_or_not state requests =
         elim (find (λ (r : AcceptedRequest). r.ride.id == id) requests)
-            as (λ o. option_map (λ (r : AcceptedRequest). state) o ≡ option_map (λ _. state) (option_map (λ (r : AcceptedRequest). r.state) o)) [
-          None ↦ refl
-        | Some r ↦ refl
+        as (λ o. option_map (λ (r : AcceptedRequest). state) o ≡ option_map (λ _. state) (option_map (λ (r : AcceptedRequest). r.state) o)) [
+          | None ↦ refl
+          | Some r ↦ refl
         ]
 
 -- an abandon lets those wait again that are still in the batch, and changes nothing else but the open batches
@@ -133,24 +132,24 @@ is_of-standing test (ride ∷ rides) id = step (is_of-standing test rides id) (t
 
 pub request_state-abandon : (s : State) (batch : BatchCopy) (id : ℕ)
     → request_state (after_abandon batch s) id
-      ≡ (if is_of batch.requests id && is_in batch.number (request_state s id) then Some Waiting else request_state s id)
+    ≡ (if is_of batch.requests id && is_in batch.number (request_state s id) then Some Waiting else request_state s id)
 request_state-abandon s batch id =
     ap (λ (after : State). request_state after id) (abandon-is s batch)
     ∙ request_state-marked (is_of (standing_rides batch s)) Waiting id s.requests
     ∙ ap (λ b. cond b (state_if_there Waiting s.requests id) (request_state s id))
-        (is_of-standing (λ q. is_in batch.number (request_state s q)) batch.requests id)
+    (is_of-standing (λ q. is_in batch.number (request_state s q)) batch.requests id)
     ∙ by_state (is_of batch.requests id)
   where
     by_state : (b : Bool)
         → cond (b && is_in batch.number (request_state s id)) (state_if_there Waiting s.requests id) (request_state s id)
-          ≡ cond (b && is_in batch.number (request_state s id)) (Some Waiting) (request_state s id)
+        ≡ cond (b && is_in batch.number (request_state s id)) (Some Waiting) (request_state s id)
     by_state false = refl
     by_state true =
         elim (find (λ (r : AcceptedRequest). r.ride.id == id) s.requests)
-            as (λ o. cond (is_in batch.number (option_map (λ (r : AcceptedRequest). r.state) o)) (option_map (λ (r : AcceptedRequest). Waiting) o) (option_map (λ (r : AcceptedRequest). r.state) o)
-              ≡ cond (is_in batch.number (option_map (λ (r : AcceptedRequest). r.state) o)) (Some Waiting) (option_map (λ (r : AcceptedRequest). r.state) o)) [
-          None ↦ refl
-        | Some r ↦ refl
+        as (λ o. cond (is_in batch.number (option_map (λ (r : AcceptedRequest). r.state) o)) (option_map (λ (r : AcceptedRequest). Waiting) o) (option_map (λ (r : AcceptedRequest). r.state) o)
+        ≡ cond (is_in batch.number (option_map (λ (r : AcceptedRequest). r.state) o)) (Some Waiting) (option_map (λ (r : AcceptedRequest). r.state) o)) [
+          | None ↦ refl
+          | Some r ↦ refl
         ]
 
 -- marking changes no ride
@@ -175,7 +174,7 @@ pub others-opening : (s : State) (batch : BatchCopy)
     → after_opening s batch ≡ record s { requests = (after_opening s batch).requests; opened = s.opened + 1; batches = s.batches ++ batch ∷ [] }
 others-opening s batch =
     opening-is s batch ∙ ap (λ rs. record s { requests = rs; opened = s.opened + 1; batches = s.batches ++ batch ∷ [] })
-        (sym (ap (λ (after : State). after.requests) (opening-is s batch)))
+    (sym (ap (λ (after : State). after.requests) (opening-is s batch)))
 
 pub others-abandon : (s : State) (batch : BatchCopy)
     → after_abandon batch s ≡ record s { requests = (after_abandon batch s).requests; batches = (after_abandon batch s).batches }

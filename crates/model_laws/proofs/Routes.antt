@@ -1,14 +1,13 @@
 -- Routes: stops with their legs, and what is left when stops are taken out.
-use Rattle.std.proofs.Common.{◌≡◌, ℕ, zero, suc, ◌+◌, ◌-◌, ◌<◌, ◌≤◌, ◌⊎◌, inl, inr, Bool, true, false, not, cond, List, [], ◌∷◌, ◌++◌, length, eqb, refl, sym, ◌∙◌, ap, subst, arith}
-use Rattle.std.specs.Prelude.{map, ⊤, Option, Some, None, option_map, option_and_then, ◌==◌, zip, IsSomeAnd}
+use Rattle.std.proofs.Common.{◌≡◌, ℕ, ◌+◌, ◌-◌, ◌≤◌, Bool, true, false, cond, List, [], ◌∷◌, refl, sym, ap, subst, arith}
+use Rattle.std.specs.Prelude.{Some, None, option_map, option_and_then, zip, IsSomeAnd}
 use Rattle.std.specs.List.{filter}
-use Rattle.ride_model.specs.declared.vehicle.Kind.{Kind}
 use Rattle.ride_model.specs.declared.vehicle.Stop.{Stop}
 use Rattle.ride_model.specs.Road.{RoadMap, IsRoadMap, travel}
 use Rattle.ride_model.specs.Vehicle.{HasLegs}
 use Rattle.ride_model.specs.Times.{times_from}
 use Rattle.ride_model.specs.Insertion.{routed}
-use Rattle.model_laws.specs.Sooner.{SoonerBy, AllSooner}
+use Rattle.model_laws.specs.Sooner.{AllSooner}
 use Rattle.model_laws.proofs.TravelTimes.{travel-same, triangle}
 
 -- a stop with another leg
@@ -28,15 +27,15 @@ routed-has_legs roads at [] out is = subst (HasLegs roads at) (same [] out is) t
     same a b e = cc e
 routed-has_legs roads at (stop ∷ stops) out is =
     elim (travel roads at stop.node) as (λ o. travel roads at stop.node ≡ o
-        → option_and_then (λ leg. option_map (λ rest. with_leg leg stop ∷ rest) (routed roads stop.node stops)) o ≡ Some out → HasLegs roads at out) [
-      None ↦ λ _ none. absurd (cc none)
-    | Some leg ↦ λ there some.
-        elim (routed roads stop.node stops) as (λ o. routed roads stop.node stops ≡ o
-            → option_map (λ rest. with_leg leg stop ∷ rest) o ≡ Some out → HasLegs roads at out) [
-          None ↦ λ _ none. absurd (cc none)
-        | Some rest ↦ λ on made.
-            subst (HasLegs roads at) (same (with_leg leg stop ∷ rest) out made) (there, routed-has_legs roads stop.node stops rest on)
-        ] refl some
+    → option_and_then (λ leg. option_map (λ rest. with_leg leg stop ∷ rest) (routed roads stop.node stops)) o ≡ Some out → HasLegs roads at out) [
+      | None ↦ λ _ none. absurd (cc none)
+      | Some leg ↦ λ there some.
+          elim (routed roads stop.node stops) as (λ o. routed roads stop.node stops ≡ o
+          → option_map (λ rest. with_leg leg stop ∷ rest) o ≡ Some out → HasLegs roads at out) [
+            | None ↦ λ _ none. absurd (cc none)
+            | Some rest ↦ λ on made.
+                subst (HasLegs roads at) (same (with_leg leg stop ∷ rest) out made) (there, routed-has_legs roads stop.node stops rest on)
+          ] refl some
     ] refl is
   where
     same : (a b : List Stop) → Some a ≡ Some b → a ≡ b
@@ -66,12 +65,12 @@ sooner-filter test gain [] (b ∷ bs) s = absurd s
 sooner-filter test gain (a ∷ xs) [] s = absurd s
 sooner-filter test gain (a ∷ xs) (b ∷ ys) (more, enough, here, rest) =
     subst (λ t. AllSooner gain (cond t (a ∷ filter (of_ride test) xs) (filter (of_ride test) xs)) (filter (of_ride test) (b ∷ ys)))
-      (sym (ap test here.ride_is))
-      (elim (test b.0.ride) as (λ t. AllSooner gain (cond t (a ∷ filter (of_ride test) xs) (filter (of_ride test) xs))
-            (cond t (b ∷ filter (of_ride test) ys) (filter (of_ride test) ys))) [
-        true ↦ (more, enough, here, sooner-filter test more xs ys rest)
+    (sym (ap test here.ride_is))
+    (elim (test b.0.ride) as (λ t. AllSooner gain (cond t (a ∷ filter (of_ride test) xs) (filter (of_ride test) xs))
+    (cond t (b ∷ filter (of_ride test) ys) (filter (of_ride test) ys))) [
+      | true ↦ (more, enough, here, sooner-filter test more xs ys rest)
       | false ↦ sooner-less gain more (filter (of_ride test) xs) (filter (of_ride test) ys) enough (sooner-filter test more xs ys rest)
-      ])
+    ])
 
 -- the visits of stops, from a node that is left at a time
 abbrev pub visits_from : ℕ → ℕ → List Stop → List (Stop × ℕ)
@@ -95,26 +94,26 @@ pub shorter_route : (roads : RoadMap) (dwell gain a b early late ahead : ℕ) (t
 shorter_route roads dwell gain a b early late ahead test [] fits reach before legs = record { out = []; route = refl; sooner = tt }
 shorter_route roads dwell gain a b early late ahead test (stop ∷ stops) fits reach before (leg, rest) =
     elim (travel roads a stop.node) as (λ o. travel roads a stop.node ≡ o → IsSomeAnd o (λ direct. direct ≤ ahead + stop.leg)
-        → ShorterRoute roads dwell gain a early late test (stop ∷ stops)) [
-      None ↦ λ _ none. absurd none
-    | Some direct ↦ λ there below.
-        elim (test stop.ride) as (λ t. test stop.ride ≡ t → ShorterRoute roads dwell gain a early late test (stop ∷ stops)) [
-          false ↦ λ skip.
-            let left = shorter_route roads dwell gain a stop.node early (late + stop.leg + dwell) direct test stops fits there (omega (arith, below)) rest in
-            record {
-              out = left.out;
-              route = rw skip left.route;
-              sooner = rw skip left.sooner
-            }
-        | true ↦ λ keep.
-            let more : ℕ = late + stop.leg - (early + direct) in
-            let exact : early + direct + more ≡ late + stop.leg = omega (arith, below) in
-            let left = shorter_route roads dwell more stop.node stop.node (early + direct + dwell) (late + stop.leg + dwell) 0 test stops fits
-                  (travel-same roads stop.node) (omega (arith, exact)) rest in
-            record {
-              out = with_leg direct stop ∷ left.out;
-              route = rw keep (routed-cons roads a direct stop (filter (stop_of_ride test) stops) left.out there left.route);
-              sooner = rw keep (more, omega (arith, below), record { ride_is = refl; kind_is = refl; node_is = refl; time_is = exact }, left.sooner)
-            }
-        ] refl
+    → ShorterRoute roads dwell gain a early late test (stop ∷ stops)) [
+      | None ↦ λ _ none. absurd none
+      | Some direct ↦ λ there below.
+          elim (test stop.ride) as (λ t. test stop.ride ≡ t → ShorterRoute roads dwell gain a early late test (stop ∷ stops)) [
+            | false ↦ λ skip.
+                let left = shorter_route roads dwell gain a stop.node early (late + stop.leg + dwell) direct test stops fits there (omega (arith, below)) rest in
+                record {
+                  out = left.out;
+                  route = rw skip left.route;
+                  sooner = rw skip left.sooner;
+                }
+            | true ↦ λ keep.
+                let more : ℕ = late + stop.leg - (early + direct) in
+                let exact : early + direct + more ≡ late + stop.leg = omega (arith, below) in
+                let left = shorter_route roads dwell more stop.node stop.node (early + direct + dwell) (late + stop.leg + dwell) 0 test stops fits
+                (travel-same roads stop.node) (omega (arith, exact)) rest in
+                record {
+                  out = with_leg direct stop ∷ left.out;
+                  route = rw keep (routed-cons roads a direct stop (filter (stop_of_ride test) stops) left.out there left.route);
+                  sooner = rw keep (more, omega (arith, below), record { ride_is = refl; kind_is = refl; node_is = refl; time_is = exact }, left.sooner);
+                }
+          ] refl
     ] refl (triangle roads a b stop.node ahead stop.leg fits reach leg)

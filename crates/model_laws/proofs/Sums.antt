@@ -1,8 +1,8 @@
 -- Sums over lists.
-use Rattle.std.proofs.Common.{◌≡◌, ℕ, zero, suc, ◌+◌, ◌*◌, ◌<◌, ◌≤◌, ◌⊎◌, inl, inr, Bool, true, false, not, cond, List, [], ◌∷◌, ◌++◌, length, eqb, refl, sym, ◌∙◌, ap, subst, mul-suc, arith}
-use Rattle.std.specs.Prelude.{map, ⊤}
+use Rattle.std.proofs.Common.{◌≡◌, ℕ, ◌+◌, ◌*◌, ◌≤◌, Bool, true, false, cond, List, [], ◌∷◌, length, refl, sym, ◌∙◌, ap, mul-suc, arith}
+use Rattle.std.specs.Prelude.{map}
 use Rattle.std.specs.List.{filter, sum_by, AllByRecursion}
-use Rattle.std.proofs.lemmas.List.Sums.{sum_by-cons, sum_by-append}
+use Rattle.std.proofs.lemmas.List.Sums.{sum_by-cons}
 
 -- a sum of lesser terms is less
 pub sum_by-le-each : {X : Type 0} (f g : X → ℕ) (xs : List X) → AllByRecursion (λ x. f x ≤ g x) xs → sum_by f xs ≤ sum_by g xs
@@ -33,6 +33,6 @@ pub each-filter : {X : Type 0} (P : X → Type 0) (p : X → Bool) (xs : List X)
 each-filter P p [] h = tt
 each-filter P p (x ∷ xs) (first, rest) =
     elim (p x) as (λ b. AllByRecursion P (cond b (x ∷ filter p xs) (filter p xs))) [
-      true ↦ (first, each-filter P p xs rest)
-    | false ↦ each-filter P p xs rest
+      | true ↦ (first, each-filter P p xs rest)
+      | false ↦ each-filter P p xs rest
     ]

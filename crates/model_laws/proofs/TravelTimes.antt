@@ -1,12 +1,12 @@
 -- Travel times are the least weights of walks: a walk that meets no node twice has at most as many arcs as there are nodes,
 -- and each walk has one that is not heavier.
-use Rattle.std.proofs.Common.{◌≡◌, ℕ, zero, suc, ◌+◌, ◌*◌, ◌<◌, ◌≤◌, ◌⊎◌, inl, inr, Bool, true, false, cond, List, [], ◌∷◌, ◌++◌, length, eqb, refl, sym, ◌∙◌, ap, subst, arith}
-use Rattle.std.specs.Prelude.{map, Option, Some, None, option_map, ◌==◌, ⊤, ◌||◌, All, IsSomeAnd}
-use Rattle.std.specs.List.{Contains, filter, sum_by, list_any, IsDistinct, AllByRecursion}
+use Rattle.std.proofs.Common.{◌≡◌, ℕ, suc, ◌+◌, ◌*◌, ◌<◌, ◌≤◌, Bool, true, false, List, [], ◌∷◌, ◌++◌, length, eqb, refl, sym, ◌∙◌, ap, subst, arith}
+use Rattle.std.specs.Prelude.{map, Option, Some, None, ◌||◌, IsSomeAnd}
+use Rattle.std.specs.List.{list_any, IsDistinct, AllByRecursion}
 use Rattle.std.proofs.lemmas.List.Elements.{All-contains}
-use Rattle.std.proofs.lemmas.List.Sums.{sum_by-cons, sum_by-append}
+use Rattle.std.proofs.lemmas.List.Sums.{sum_by-append}
 use Rattle.std.proofs.lemmas.List.{length-map}
-use Rattle.std.proofs.lemmas.Bool.{eqb-true, eq-eqb}
+use Rattle.std.proofs.lemmas.Bool.{eqb-true}
 use Rattle.std.proofs.lemmas.Map.Steps.{length-le_from_distinct_below}
 use Rattle.std.proofs.lemmas.Map.Keys.{IsDistinct-cons, IsDistinct-tail}
 use Rattle.ride_model.specs.declared.network.RoadArc.{RoadArc}
@@ -30,15 +30,15 @@ pub goes_on_from : (roads : RoadMap) (z y x : ℕ) (walk : List RoadArc) → IsW
 goes_on_from roads z y x [] walked distinct leaves = absurd (cc leaves)
 goes_on_from roads z y x (arc ∷ walk) (there, tail, rest) distinct leaves =
     elim (eqb x arc.tail) as (λ b. eqb x arc.tail ≡ b → (b || list_any (eqb x) (tails_of walk)) ≡ true → GoesOn roads x y (arc ∷ walk)) [
-      true ↦ λ here _. record {
+      | true ↦ λ here _. record {
         part = arc ∷ walk;
         walked = (there, sym (eqb-true x arc.tail here), rest);
         distinct = distinct;
-        lighter = omega arith
+        lighter = omega arith;
       }
-    | false ↦ λ _ later.
-        let on = goes_on_from roads arc.head y x walk rest (IsDistinct-tail eqb arc.tail (tails_of walk) distinct) later in
-        record { part = on.part; walked = on.walked; distinct = on.distinct; lighter = omega (arith, on.lighter, weight-cons arc walk) }
+      | false ↦ λ _ later.
+          let on = goes_on_from roads arc.head y x walk rest (IsDistinct-tail eqb arc.tail (tails_of walk) distinct) later in
+          record { part = on.part; walked = on.walked; distinct = on.distinct; lighter = omega (arith, on.lighter, weight-cons arc walk) }
     ] refl leaves
 
 -- what no element equals differs from each
@@ -46,8 +46,8 @@ pub none_equal : (x : ℕ) (ys : List ℕ) → list_any (eqb x) ys ≡ false →
 none_equal x [] h = tt
 none_equal x (y ∷ ys) h =
     elim (eqb x y) as (λ b. eqb x y ≡ b → (b || list_any (eqb x) ys) ≡ false → AllByRecursion (λ z. eqb x z ≡ false) (y ∷ ys)) [
-      true ↦ λ _ is. absurd (cc is)
-    | false ↦ λ other rest. (other, none_equal x ys rest)
+      | true ↦ λ _ is. absurd (cc is)
+      | false ↦ λ other rest. (other, none_equal x ys rest)
     ] refl h
 
 nothing_twice : IsDistinct eqb []
@@ -60,15 +60,15 @@ without_cycles roads x y [] walked = record { part = []; walked = walked; distin
 without_cycles roads x y (arc ∷ walk) (there, tail, rest) =
     let on = without_cycles roads arc.head y walk rest in
     elim (list_any (eqb x) (tails_of on.part)) as (λ b. list_any (eqb x) (tails_of on.part) ≡ b → GoesOn roads x y (arc ∷ walk)) [
-      true ↦ λ leaves.
-        let back = goes_on_from roads arc.head y x on.part on.walked on.distinct leaves in
-        record { part = back.part; walked = back.walked; distinct = back.distinct; lighter = omega (arith, back.lighter, on.lighter, weight-cons arc walk) }
-    | false ↦ λ new. record {
+      | true ↦ λ leaves.
+          let back = goes_on_from roads arc.head y x on.part on.walked on.distinct leaves in
+          record { part = back.part; walked = back.walked; distinct = back.distinct; lighter = omega (arith, back.lighter, on.lighter, weight-cons arc walk) }
+      | false ↦ λ new. record {
         part = arc ∷ on.part;
         walked = (there, tail, on.walked);
         distinct = IsDistinct-cons eqb arc.tail (tails_of on.part)
-          (none_equal arc.tail (tails_of on.part) (subst (λ node. list_any (eqb node) (tails_of on.part) ≡ false) (sym tail) new)) on.distinct;
-        lighter = omega (arith, on.lighter, weight-cons arc walk, weight-cons arc on.part)
+            (none_equal arc.tail (tails_of on.part) (subst (λ node. list_any (eqb node) (tails_of on.part) ≡ false) (sym tail) new)) on.distinct;
+        lighter = omega (arith, on.lighter, weight-cons arc walk, weight-cons arc on.part);
       }
     ] refl
 
@@ -78,10 +78,10 @@ pub tails_are_nodes : (roads : RoadMap) (x y : ℕ) (walk : List RoadArc) → Is
 tails_are_nodes roads x y [] fits walked q h = absurd (cc h)
 tails_are_nodes roads x y (arc ∷ walk) fits (there, tail, rest) q h =
     elim (eqb q arc.tail) as (λ b. eqb q arc.tail ≡ b → (b || list_any (eqb q) (tails_of walk)) ≡ true → (1 ≤ q) × (q ≤ roads.nodes)) [
-      true ↦ λ here _.
-        let fit = All-contains (IsArc roads) roads.arcs arc fits.arcs_fit there in
-        (omega (arith, eqb-true q arc.tail here, fit.0.0), omega (arith, eqb-true q arc.tail here, fit.0.1))
-    | false ↦ λ _ later. tails_are_nodes roads arc.head y walk fits rest q later
+      | true ↦ λ here _.
+          let fit = All-contains (IsArc roads) roads.arcs arc fits.arcs_fit there in
+          (omega (arith, eqb-true q arc.tail here, fit.0.0), omega (arith, eqb-true q arc.tail here, fit.0.1))
+      | false ↦ λ _ later. tails_are_nodes roads arc.head y walk fits rest q later
     ] refl h
 
 -- a walk that meets no node twice has at most as many arcs as there are nodes: its nodes and 0 are different numbers
@@ -89,21 +89,24 @@ pub length-simple_walk : (roads : RoadMap) (x y : ℕ) (walk : List RoadArc) →
     → IsDistinct eqb (tails_of walk) → length walk ≤ roads.nodes
 length-simple_walk roads x y walk fits walked distinct =
     let few : length (0 ∷ tails_of walk) ≤ suc roads.nodes
-          = length-le_from_distinct_below (0 ∷ tails_of walk) (suc roads.nodes) with_zero below in
+    = length-le_from_distinct_below (0 ∷ tails_of walk) (suc roads.nodes) with_zero below in
     omega (arith, few, length-map walk (λ (arc : RoadArc). arc.tail))
   where
     nodes : (q : ℕ) → list_any (eqb q) (tails_of walk) ≡ true → (1 ≤ q) × (q ≤ roads.nodes)
     nodes = tails_are_nodes roads x y walk fits walked
+
     no_zero : (b : Bool) → list_any (eqb 0) (tails_of walk) ≡ b → b ≡ false
     no_zero true is = absurd (omega (arith, (nodes 0 is).0))
     no_zero false is = refl
+
     with_zero : IsDistinct eqb (0 ∷ tails_of walk)
     with_zero = IsDistinct-cons eqb 0 (tails_of walk) (none_equal 0 (tails_of walk) (no_zero _ refl)) distinct
+
     below : (q : ℕ) → list_any (eqb q) (0 ∷ tails_of walk) ≡ true → q < suc roads.nodes
     below q is =
         elim (eqb q 0) as (λ b. eqb q 0 ≡ b → (b || list_any (eqb q) (tails_of walk)) ≡ true → q < suc roads.nodes) [
-          true ↦ λ here _. omega (arith, eqb-true q 0 here)
-        | false ↦ λ _ later. omega (arith, (nodes q later).1)
+          | true ↦ λ here _. omega (arith, eqb-true q 0 here)
+          | false ↦ λ _ later. omega (arith, (nodes q later).1)
         ] refl is
 
 -- the travel time is the least weight of a walk
@@ -111,12 +114,12 @@ pub travel_is_least : (roads : RoadMap) (x y : ℕ) → IsRoadMap roads → IsTr
 unfolding travel
 travel_is_least roads x y fits =
     elim (travel_within roads.arcs roads.nodes x y)
-        as (λ o. travel_within roads.arcs roads.nodes x y ≡ o → IsTravel roads x y o) [
-      None ↦ λ absent walk walked. let (t, found, _) = least walk walked in absurd (cc (found, absent))
-    | Some t ↦ λ found. record {
+    as (λ o. travel_within roads.arcs roads.nodes x y ≡ o → IsTravel roads x y o) [
+      | None ↦ λ absent walk walked. let (t, found, _) = least walk walked in absurd (cc (found, absent))
+      | Some t ↦ λ found. record {
         walked = within_is_walked roads roads.nodes x y t found;
         least = λ walk walked. let (s, is, below) = least walk walked in
-            omega (arith, below, same_some s t (sym is ∙ found))
+            omega (arith, below, same_some s t (sym is ∙ found));
       }
     ] refl
   where
@@ -125,8 +128,9 @@ travel_is_least roads x y fits =
     least walk walked =
         let simple = without_cycles roads x y walk walked in
         let (t, found, below) = within_is_least roads roads.nodes x y simple.part simple.walked
-              (length-simple_walk roads x y simple.part fits simple.walked simple.distinct) in
+        (length-simple_walk roads x y simple.part fits simple.walked simple.distinct) in
         (t, found, omega (arith, below, simple.lighter))
+
     same_some : (a b : ℕ) → Some a ≡ Some b → a ≡ b
     same_some a b h = cc h
 
@@ -162,8 +166,8 @@ triangle roads x y z s t fits first second =
     let (b, b_walked, b_weight) = (travel_is_weight roads y z t fits second).walked in
     let walked = walk-append roads x y z a b a_walked b_walked in
     elim (travel roads x z) as (λ o. IsTravel roads x z o → IsSomeAnd o (λ direct. direct ≤ s + t)) [
-      None ↦ λ none. absurd (none (a ++ b) walked)
-    | Some direct ↦ λ is. omega (arith, is.least (a ++ b) walked, sum_by-append (λ (arc : RoadArc). arc.seconds) a b, a_weight, b_weight)
+      | None ↦ λ none. absurd (none (a ++ b) walked)
+      | Some direct ↦ λ is. omega (arith, is.least (a ++ b) walked, sum_by-append (λ (arc : RoadArc). arc.seconds) a b, a_weight, b_weight)
     ] (travel_is_least roads x z fits)
 
 -- a walk's weight is at most 10^9 for each arc
@@ -180,5 +184,10 @@ travel-le roads x y t fits is =
     let weight = travel_is_weight roads x y t fits is in
     let (walk, walked, weighs) = weight.walked in
     let simple = without_cycles roads x y walk walked in
-    omega (arith, weight.least simple.part simple.walked, weight-le roads x y simple.part fits simple.walked,
-      length-simple_walk roads x y simple.part fits simple.walked simple.distinct, fits.nodes_limit)
+    omega (
+      arith,
+      weight.least simple.part simple.walked,
+      weight-le roads x y simple.part fits simple.walked,
+      length-simple_walk roads x y simple.part fits simple.walked simple.distinct,
+      fits.nodes_limit,
+    )

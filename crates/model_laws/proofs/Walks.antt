@@ -1,8 +1,7 @@
 -- Walks, and the least weights of short ones.
-use Rattle.std.proofs.Common.{◌≡◌, ℕ, zero, suc, ◌+◌, ◌<◌, ◌≤◌, min, ◌⊎◌, inl, inr, Bool, true, false, cond, List, [], ◌∷◌, ◌++◌, length, eqb, refl, sym, ◌∙◌, ap, subst, arith}
+use Rattle.std.proofs.Common.{◌≡◌, ℕ, zero, suc, ◌+◌, ◌≤◌, min, ◌⊎◌, inl, inr, true, false, cond, List, [], ◌∷◌, ◌++◌, length, eqb, refl, sym, ◌∙◌, ap, subst, arith}
 use Rattle.std.specs.Prelude.{map, Option, Some, None, option_map, ◌==◌}
-use Rattle.std.specs.List.{Contains, filter, sum_by}
-use Rattle.std.proofs.lemmas.List.Sums.{sum_by-cons, sum_by-append}
+use Rattle.std.proofs.lemmas.List.Sums.{sum_by-cons}
 use Rattle.std.proofs.lemmas.Bool.{eqb-true, eq-eqb}
 use Rattle.ride_model.specs.declared.network.RoadArc.{RoadArc}
 use Rattle.ride_model.specs.Road.{RoadMap, IsWalk, weight_of, lesser, least_of, arcs_from, travel_within}
@@ -18,10 +17,10 @@ least_is_among [] t h = absurd (cc h)
 least_is_among (None ∷ weights) t h = inr (least_is_among weights t h)
 least_is_among (Some a ∷ weights) t h =
     elim (least_of weights) as (λ o. least_of weights ≡ o → lesser (Some a) o ≡ Some t → Among (Some t) (Some a ∷ weights)) [
-      None ↦ λ _ is. inl is
-    | Some b ↦ λ found is. elim (lesser_cases a b) [
-        inl first ↦ inl (ap Some (sym first) ∙ is)
-      | inr second ↦ inr (least_is_among weights t (found ∙ ap Some (sym second) ∙ is))
+      | None ↦ λ _ is. inl is
+      | Some b ↦ λ found is. elim (lesser_cases a b) [
+        | inl first ↦ inl (ap Some (sym first) ∙ is)
+        | inr second ↦ inr (least_is_among weights t (found ∙ ap Some (sym second) ∙ is))
       ]
     ] refl h
   where
@@ -36,12 +35,13 @@ least_is_least (None ∷ weights) w (inl is) = absurd (cc is)
 least_is_least (None ∷ weights) w (inr later) = least_is_least weights w later
 least_is_least (Some a ∷ weights) w (inl is) =
     elim (least_of weights) as (λ o. (t : ℕ) × (lesser (Some a) o ≡ Some t) × (t ≤ w)) [
-      None ↦ (a, refl, first)
-    | Some b ↦ (min a b, refl, omega (arith, first))
+      | None ↦ (a, refl, first)
+      | Some b ↦ (min a b, refl, omega (arith, first))
     ]
   where
     same : a ≡ w
     same = cc is
+
     first : a ≤ w
     first = omega (arith, same)
 least_is_least (Some a ∷ weights) w (inr later) =
@@ -70,26 +70,28 @@ pub within_is_walked : (roads : RoadMap) (most x y t : ℕ) → travel_within ro
 unfolding travel_within
 within_is_walked roads zero x y t h =
     elim (eqb x y) as (λ b. eqb x y ≡ b → cond b (Some 0) None ≡ Some t
-        → (walk : List RoadArc) × IsWalk roads x y walk × (weight_of walk ≡ t)) [
-      true ↦ λ same is. ([], eqb-true x y same, cc is)
-    | false ↦ λ _ is. absurd (cc is)
+    → (walk : List RoadArc) × IsWalk roads x y walk × (weight_of walk ≡ t)) [
+      | true ↦ λ same is. ([], eqb-true x y same, cc is)
+      | false ↦ λ _ is. absurd (cc is)
     ] refl h
 within_is_walked roads (suc most) x y t h =
     elim (eqb x y) as (λ b. eqb x y ≡ b → cond b (Some 0) (least_of (onward roads.arcs most x y)) ≡ Some t
-        → (walk : List RoadArc) × IsWalk roads x y walk × (weight_of walk ≡ t)) [
-      true ↦ λ same is. ([], eqb-true x y same, cc is)
-    | false ↦ λ _ is.
-        let (arc, from_x, weighs) = among_map_back _ (arcs_from roads.arcs x) (Some t) (least_is_among (onward roads.arcs most x y) t is) in
-        let (among, tail) = among_filter_back _ roads.arcs arc from_x in
-        elim (travel_within roads.arcs most arc.head y)
-            as (λ o. travel_within roads.arcs most arc.head y ≡ o → option_map (λ s. arc.seconds + s) o ≡ Some t
-                → (walk : List RoadArc) × IsWalk roads x y walk × (weight_of walk ≡ t)) [
-          None ↦ λ _ none. absurd (cc none)
-        | Some s ↦ λ found some.
-            let (walk, walked, weight) = within_is_walked roads most arc.head y s found in
-            (arc ∷ walk, (contains_from_among roads.arcs arc among, eqb-true arc.tail x tail, walked),
-             weight-cons arc walk ∙ ap (λ w. arc.seconds + w) weight ∙ cc some)
-        ] refl weighs
+    → (walk : List RoadArc) × IsWalk roads x y walk × (weight_of walk ≡ t)) [
+      | true ↦ λ same is. ([], eqb-true x y same, cc is)
+      | false ↦ λ _ is.
+          let (arc, from_x, weighs) = among_map_back _ (arcs_from roads.arcs x) (Some t) (least_is_among (onward roads.arcs most x y) t is) in
+          let (among, tail) = among_filter_back _ roads.arcs arc from_x in
+          elim (travel_within roads.arcs most arc.head y)
+          as (λ o. travel_within roads.arcs most arc.head y ≡ o → option_map (λ s. arc.seconds + s) o ≡ Some t
+          → (walk : List RoadArc) × IsWalk roads x y walk × (weight_of walk ≡ t)) [
+            | None ↦ λ _ none. absurd (cc none)
+            | Some s ↦ λ found some.
+                let (walk, walked, weight) = within_is_walked roads most arc.head y s found in (
+                  arc ∷ walk,
+                  (contains_from_among roads.arcs arc among, eqb-true arc.tail x tail, walked),
+                  weight-cons arc walk ∙ ap (λ w. arc.seconds + w) weight ∙ cc some,
+                )
+          ] refl weighs
     ] refl h
 
 -- a walk of at most so many arcs is not lighter than what is found
@@ -99,15 +101,15 @@ within_is_least roads most x y [] walked short = (0, within-same roads.arcs most
 within_is_least roads zero x y (arc ∷ walk) walked short = absurd (omega arith)
 within_is_least roads (suc most) x y (arc ∷ walk) (there, tail, rest) short =
     elim (eqb x y) as (λ b. eqb x y ≡ b → (t : ℕ) × (travel_within roads.arcs (suc most) x y ≡ Some t) × (t ≤ weight_of (arc ∷ walk))) [
-      true ↦ λ same. (0, within-same roads.arcs (suc most) x y (eqb-true x y same), omega arith)
-    | false ↦ λ other.
-        let (s, found, below) = within_is_least roads most arc.head y walk rest (omega arith) in
-        let among = among_filter (λ (a : RoadArc). a.tail == x) roads.arcs arc (among_from_contains roads.arcs arc there) (eq-eqb arc.tail x tail) in
-        let image = among_map (λ (a : RoadArc). option_map (λ t. a.seconds + t) (travel_within roads.arcs most a.head y)) (arcs_from roads.arcs x) arc among in
-        let weighs : option_map (λ t. arc.seconds + t) (travel_within roads.arcs most arc.head y) ≡ Some (arc.seconds + s)
-              = ap (option_map (λ t. arc.seconds + t)) found in
-        let (t, least, lighter) = least_is_least (onward roads.arcs most x y) (arc.seconds + s) (subst (λ o. Among o (onward roads.arcs most x y)) weighs image) in
-        (t, within-other roads.arcs most x y other ∙ least, omega (arith, weight-cons arc walk))
+      | true ↦ λ same. (0, within-same roads.arcs (suc most) x y (eqb-true x y same), omega arith)
+      | false ↦ λ other.
+          let (s, found, below) = within_is_least roads most arc.head y walk rest (omega arith) in
+          let among = among_filter (λ (a : RoadArc). a.tail == x) roads.arcs arc (among_from_contains roads.arcs arc there) (eq-eqb arc.tail x tail) in
+          let image = among_map (λ (a : RoadArc). option_map (λ t. a.seconds + t) (travel_within roads.arcs most a.head y)) (arcs_from roads.arcs x) arc among in
+          let weighs : option_map (λ t. arc.seconds + t) (travel_within roads.arcs most arc.head y) ≡ Some (arc.seconds + s)
+          = ap (option_map (λ t. arc.seconds + t)) found in
+          let (t, least, lighter) = least_is_least (onward roads.arcs most x y) (arc.seconds + s) (subst (λ o. Among o (onward roads.arcs most x y)) weighs image) in
+          (t, within-other roads.arcs most x y other ∙ least, omega (arith, weight-cons arc walk))
     ] refl
 
 -- one walk after another

@@ -11,5 +11,4 @@ pub fn certified_seating_is_least()
     ensures { (roads : RoadMap) (batch : BatchCopy) (seats : List Seat) (prices pays : List (ℕ × ℕ))
         → IsDistinct nat_eq (ride_ids batch.requests) → Certifies roads batch seats prices pays
         → IsLeastSeating roads batch seats }
-{
-}
+{}

@@ -14,38 +14,33 @@ pub fn insertion_keeps_the_other_stops()
     ensures { (v : Vehicle) (ride : Ride) (i j : ℕ) → IsPlanFor v.rides.items v.stops.items → IsFresh v.rides.items ride.id
         → i ≤ j → j ≤ length v.stops.items
         → stops_without ride.id (stops_with ride i j v.stops.items) ≡ v.stops.items }
-{
-}
+{}
 
 /// With a ride more there are exactly two stops more.
 pub fn insertion_adds_two_stops()
     ensures { (v : Vehicle) (ride : Ride) (i j : ℕ) → i ≤ j → j ≤ length v.stops.items
         → length (stops_with ride i j v.stops.items) ≡ length v.stops.items + 2 }
-{
-}
+{}
 
 /// A vehicle in order stays so with a ride more: its stops are what its rides need, with the legs of the road.
 pub fn insertion_gives_a_plan()
     ensures { (roads : RoadMap) (v new : Vehicle) (ride : Ride) (i j : ℕ) → IsRouted roads v → IsRide roads ride
         → IsFresh v.rides.items ride.id → ride.picked ≡ None → i ≤ j → j ≤ length v.stops.items
         → inserted roads v ride i j ≡ Some new → IsRouted roads new }
-{
-}
+{}
 
 /// A lawful vehicle is lawful without one of its rides.
 pub fn removal_leaves_a_lawful_vehicle()
     ensures { (roads : RoadMap) (v : Vehicle) (id : ℕ) → IsRoadMap roads → IsLawful roads v
         → IsLawful roads (without_ride roads v id) }
-{
-}
+{}
 
 /// Without a ride no visit of another ride is later, and none comes later after the one before it.
 pub fn removal_makes_no_visit_later()
     ensures { (roads : RoadMap) (v : Vehicle) (id other start dwell : ℕ) → IsRoadMap roads → IsRouted roads v
         → IsFalse (nat_eq other id)
         → AllSooner 0 (visits_of (without_ride roads v id) start dwell other) (visits_of v start dwell other) }
-{
-}
+{}
 
 /// A promise that is kept is kept without another ride, and one that is not broken is not broken.
 pub fn removal_keeps_the_other_promises()
@@ -55,5 +50,4 @@ pub fn removal_keeps_the_other_promises()
     ensures not_broken { (roads : RoadMap) (v : Vehicle) (id dwell : ℕ) (ride : Ride) → IsRoadMap roads → IsRouted roads v
         → IsFalse (nat_eq ride.id id) → IsFalse (breaks_ride v dwell ride)
         → IsFalse (breaks_ride (without_ride roads v id) dwell ride) }
-{
-}
+{}

@@ -5,14 +5,14 @@ use Rattle.ride_model.specs.declared.entry.Outcome.{Outcome}
 use Rattle.ride_model.specs.declared.entry.Outcome.TheVariants.{Confirmed, Away, Gone, Moved, Behind}
 use Rattle.ride_model.specs.declared.offer.Seat.{Seat}
 use Rattle.ride_model.specs.declared.reply.RequestState.{RequestState}
-use Rattle.ride_model.specs.declared.reply.RequestState.TheVariants.{Waiting as IsWaiting, InBatch, Confirmed as IsConfirmed, Aboard, Done as IsDone, Away as IsAway, Cancelled as IsCancelled}
+use Rattle.ride_model.specs.declared.reply.RequestState.TheVariants.{Waiting as IsWaiting, InBatch, Confirmed as IsConfirmed, Away as IsAway, Cancelled as IsCancelled}
 use Rattle.ride_model.specs.declared.vehicle.Ride.{Ride}
 use Rattle.ride_model.specs.declared.vehicle.Vehicle.{Vehicle}
 use Rattle.ride_model.specs.Vehicle.{ride_ids}
 use Rattle.ride_model.specs.Insertion.{inserted}
 use Rattle.ride_model.specs.Offers.{is_idle, start_of}
-use Rattle.ride_model.specs.Seating.{BatchCopy, find_ride, find_vehicle}
-use Rattle.ride_model.specs.State.{State, AcceptedRequest, has_ended, open_batch_of, accepted_request, request_state, with_request_state, placed_vehicle, with_vehicle, is_batch}
+use Rattle.ride_model.specs.Seating.{BatchCopy, find_vehicle}
+use Rattle.ride_model.specs.State.{State, AcceptedRequest, has_ended, open_batch_of, request_state, with_request_state, placed_vehicle, with_vehicle, is_batch}
 use Rattle.ride_model.specs.Step.{raised}
 
 -- whether a request waits
@@ -47,7 +47,7 @@ next_batch s desk = record {
   time = s.clock;
   settings = s.settings;
   requests = take s.settings.batch (waiting_rides s);
-  vehicles = s.vehicles
+  vehicles = s.vehicles;
 }
 
 -- the state with these rides' requests in one state
@@ -138,7 +138,7 @@ abbrev pub after_outcomes : BatchCopy → List Seat → State → List Ride → 
 after_outcomes batch seats moment [] s = s
 after_outcomes batch seats moment (ride ∷ rides) s =
     after_outcomes batch seats moment rides
-        (after_outcome batch ride (seat_of seats ride.id) (outcome_of batch seats moment ride.id) s)
+    (after_outcome batch ride (seat_of seats ride.id) (outcome_of batch seats moment ride.id) s)
 
 -- the state with the batch no longer open
 abbrev pub without_batch : BatchCopy → State → State

@@ -1,5 +1,5 @@
 -- Fleets.
-use Rattle.std.specs.Prelude.{ℕ, ◌<◌, ◌≤◌, ◌^◌, List, length, map, All, nat_eq}
+use Rattle.std.specs.Prelude.{◌<◌, ◌≤◌, ◌^◌, List, length, map, All, nat_eq}
 use Rattle.std.specs.List.{IsDistinct}
 use Rattle.ride_model.specs.declared.vehicle.Vehicle.{Vehicle}
 

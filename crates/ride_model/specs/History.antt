@@ -1,5 +1,5 @@
 -- Parts and forms of a history.
-use Rattle.std.specs.Prelude.{◌≡◌, ℕ, ◌+◌, ◌==◌, ◌&&◌, if◌then◌else◌, fold, option_and_then, Bool, true, false, List, [], ◌∷◌, ◌++◌, length, filter, filter_map, count_by, sum_by, Option, Some, None, IsTrue, IsFalse}
+use Rattle.std.specs.Prelude.{◌≡◌, ℕ, ◌==◌, ◌&&◌, if◌then◌else◌, fold, option_and_then, Bool, true, false, List, [], ◌∷◌, ◌++◌, filter, filter_map, count_by, sum_by, Option, Some, None, IsTrue, IsFalse}
 use Rattle.std.specs.List.{list_all, list_any, range_with_len}
 use Rattle.ride_model.specs.declared.command.Actor.{Actor}
 use Rattle.ride_model.specs.declared.command.Actor.TheVariants.{Feed, Desk}
@@ -8,10 +8,9 @@ use Rattle.ride_model.specs.declared.entry.Ending.{Ending}
 use Rattle.ride_model.specs.declared.entry.Ending.TheVariants.{Whole, Cut}
 use Rattle.ride_model.specs.declared.entry.Entry.{Entry}
 use Rattle.ride_model.specs.declared.entry.Event.{Event}
-use Rattle.ride_model.specs.declared.entry.Event.TheVariants.{Fed, Finish, Opened, Committed, Abandoned}
+use Rattle.ride_model.specs.declared.entry.Event.TheVariants.{Fed, Opened, Committed, Abandoned}
 use Rattle.ride_model.specs.declared.entry.Outcome.{Outcome}
 use Rattle.ride_model.specs.declared.entry.Outcome.TheVariants.{Confirmed, Away}
-use Rattle.ride_model.specs.declared.reply.Reply.{Reply}
 use Rattle.ride_model.specs.declared.reply.Reply.TheVariants.{Asked, Picked, Dropped}
 use Rattle.ride_model.specs.State.{State, is_actor}
 use Rattle.ride_model.specs.Legal.{replay}

@@ -1,5 +1,5 @@
 -- Promises to riders: kept, or broken.
-use Rattle.std.specs.Prelude.{ℕ, ◌+◌, ◌==◌, ◌&&◌, ◌||◌, Bool, true, false, not, nat_le, nat_lt, List, [], ◌∷◌, length, filter, Option, Some, None}
+use Rattle.std.specs.Prelude.{ℕ, ◌+◌, ◌==◌, ◌&&◌, ◌||◌, Bool, false, not, nat_le, nat_lt, List, [], ◌∷◌, length, filter, Option, Some, None}
 use Rattle.std.specs.List.{list_all}
 use Rattle.ride_model.specs.declared.vehicle.Ride.{Ride}
 use Rattle.ride_model.specs.declared.vehicle.Stop.{Stop}
@@ -22,7 +22,7 @@ is_dropoff_at node stop = not (is_pickup stop.kind) && stop.node == node
 abbrev pub keeps_visits : Ride → Option ℕ → List (Stop × ℕ) → Bool
 keeps_visits ride None (pickup ∷ dropoff ∷ []) =
     is_pickup_at ride.from pickup.0 && is_dropoff_at ride.to dropoff.0
-        && nat_le pickup.1 ride.latest && nat_le dropoff.1 (pickup.1 + ride.longest)
+    && nat_le pickup.1 ride.latest && nat_le dropoff.1 (pickup.1 + ride.longest)
 keeps_visits ride (Some picked) (dropoff ∷ []) =
     is_dropoff_at ride.to dropoff.0 && nat_le dropoff.1 (picked + ride.longest)
 keeps_visits _ _ _ = false

@@ -1,10 +1,10 @@
 -- Legal histories: each entry is right at the state that the entries before it give.
-use Rattle.std.specs.Prelude.{◌≡◌, ℕ, ◌≤◌, ◌==◌, ⊤, Bool, true, false, not, List, [], ◌∷◌, map, Option, Some, None, IsTrue, IsFalse, IsSome, IsNone, IsSomeAnd}
+use Rattle.std.specs.Prelude.{◌≡◌, ℕ, ◌≤◌, ⊤, Bool, List, [], ◌∷◌, map, Option, Some, None, IsTrue, IsFalse, IsSome, IsNone, IsSomeAnd}
 use Rattle.std.specs.List.{list_all, range_with_len}
 use Rattle.ride_model.specs.declared.command.Actor.{Actor}
 use Rattle.ride_model.specs.declared.command.Actor.TheVariants.{Feed, Desk}
 use Rattle.ride_model.specs.declared.entry.Ending.{Ending}
-use Rattle.ride_model.specs.declared.entry.Ending.TheVariants.{Whole, Cut}
+use Rattle.ride_model.specs.declared.entry.Ending.TheVariants.{Whole}
 use Rattle.ride_model.specs.declared.entry.Entry.{Entry}
 use Rattle.ride_model.specs.declared.entry.Event.{Event}
 use Rattle.ride_model.specs.declared.entry.Event.TheVariants.{Fed, Finish, Opened, Committed, Abandoned}

@@ -15,3 +15,4 @@ pub mod Legal
 pub mod Text
 pub mod Promises
 pub mod History
+pub mod Drill

@@ -1,5 +1,5 @@
 -- What is aboard.
-use Rattle.std.specs.Prelude.{ℕ, ◌+◌, ◌==◌, ◌&&◌, if◌then◌else◌, Bool, true, false, nat_le, List, [], ◌∷◌, length, map, take, sum_by, is_some}
+use Rattle.std.specs.Prelude.{ℕ, ◌==◌, ◌&&◌, if◌then◌else◌, Bool, true, false, nat_le, List, [], ◌∷◌, length, map, take, sum_by, is_some}
 use Rattle.std.specs.List.{list_all, range_with_len}
 use Rattle.ride_model.specs.declared.vehicle.Kind.{Kind}
 use Rattle.ride_model.specs.declared.vehicle.Kind.TheVariants.{Pickup, Dropoff}
@@ -26,7 +26,7 @@ is_aboard_after stops ride = is_aboard_from (is_some ride.picked) ride.id stops
 abbrev pub load_after : List Ride → List Stop → Load
 load_after rides stops = record {
   seats = sum_by (λ (ride : Ride). if is_aboard_after stops ride then ride.seats else 0) rides;
-  chairs = sum_by (λ (ride : Ride). if is_aboard_after stops ride then ride.chairs else 0) rides
+  chairs = sum_by (λ (ride : Ride). if is_aboard_after stops ride then ride.chairs else 0) rides;
 }
 
 -- the load after each stop

@@ -1,5 +1,5 @@
 -- Offers of vehicles to requests.
-use Rattle.std.specs.Prelude.{◌≡◌, ℕ, zero, suc, ◌+◌, ◌-◌, ◌*◌, ◌≤◌, ◌==◌, ◌&&◌, ◌||◌, if◌then◌else◌, Bool, true, false, max, nat_le, List, [], ◌∷◌, ◌++◌, length, map, filter, flat_map, slice_get, slice_index, Option, Some, None, option_map, option_and_then, unwrap_or}
+use Rattle.std.specs.Prelude.{ℕ, ◌+◌, ◌-◌, ◌*◌, ◌==◌, ◌&&◌, ◌||◌, if◌then◌else◌, Bool, max, nat_le, List, length, map, flat_map, slice_get, slice_index, Option, Some, None, option_map, option_and_then, unwrap_or}
 use Rattle.std.specs.List.{filter_map, range_with_len}
 use Rattle.ride_model.specs.declared.offer.Joins.{Joins}
 use Rattle.ride_model.specs.declared.offer.Offer.{Offer}
@@ -28,7 +28,7 @@ is_open v time = v.duty && (is_idle v || nat_le time v.ready)
 abbrev pub cost_of : Settings → Vehicle → Vehicle → ℕ → ℕ → ℕ → ℕ
 cost_of settings old new i start time =
     settings.drive * (drive_of new settings.dwell - drive_of old settings.dwell)
-        + settings.wait * (slice_index (times_of new start settings.dwell) i - time)
+    + settings.wait * (slice_index (times_of new start settings.dwell) i - time)
 
 -- the legs into and out of the new stops of a plan whose pickup was put before old place i and whose drop-off before old
 -- place j, 0 for a leg out of the last stop
@@ -40,7 +40,7 @@ joins_of new i j = record {
   to_pickup = leg_at new.stops.items i;
   after_pickup = leg_at new.stops.items (i + 1);
   to_dropoff = leg_at new.stops.items (j + 1);
-  after_dropoff = leg_at new.stops.items (j + 2)
+  after_dropoff = leg_at new.stops.items (j + 2);
 }
 
 -- the offer of the plan new, where it keeps its promises

@@ -1,12 +1,10 @@
 -- Promises to riders over a history.
-use Rattle.std.specs.Prelude.{◌≡◌, ℕ, ◌+◌, ◌≤◌, ◌==◌, ⊤, Bool, true, false, List, [], ◌∷◌, ◌++◌, All, Option, Some, None, IfSome, IsFalse}
+use Rattle.std.specs.Prelude.{ℕ, ◌+◌, ◌≤◌, ◌==◌, ⊤, Bool, List, [], ◌∷◌, ◌++◌, All, IfSome, IsFalse}
 use Rattle.std.specs.List.{list_any}
-use Rattle.ride_model.specs.declared.command.Command.{Command}
 use Rattle.ride_model.specs.declared.command.Command.TheVariants.{Done}
 use Rattle.ride_model.specs.declared.entry.Entry.{Entry}
 use Rattle.ride_model.specs.declared.entry.Event.{Event}
 use Rattle.ride_model.specs.declared.entry.Event.TheVariants.{Fed}
-use Rattle.ride_model.specs.declared.reply.Reply.{Reply}
 use Rattle.ride_model.specs.declared.reply.Reply.TheVariants.{Late, Picked, Dropped}
 use Rattle.ride_model.specs.declared.vehicle.Ride.{Ride}
 use Rattle.ride_model.specs.declared.vehicle.Vehicle.{Vehicle}

@@ -1,6 +1,5 @@
 -- Road maps, walks and travel times.
 use Rattle.std.specs.Prelude.{◌≡◌, ℕ, zero, suc, ◌+◌, ◌≤◌, min, ◌==◌, if◌then◌else◌, List, [], ◌∷◌, length, map, filter, All, Contains, sum_by, Option, Some, None, option_map}
-use Rattle.std.specs.List.{fold}
 use Rattle.ride_model.specs.declared.network.RoadArc.{RoadArc}
 
 -- a road map: nodes 1 to nodes, and directed arcs among them

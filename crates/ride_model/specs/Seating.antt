@@ -46,10 +46,10 @@ find_vehicle vehicles id = find (λ (v : Vehicle). v.id == id) vehicles
 abbrev pub seat_offer : RoadMap → BatchCopy → Seat → Option Offer
 seat_offer roads batch seat =
     option_and_then
-        (λ ride. option_and_then
-            (λ v. offer_of roads batch.settings v ride batch.time seat.i seat.j)
-            (find_vehicle batch.vehicles seat.vehicle))
-        (find_ride batch.requests seat.request)
+    (λ ride. option_and_then
+    (λ v. offer_of roads batch.settings v ride batch.time seat.i seat.j)
+    (find_vehicle batch.vehicles seat.vehicle))
+    (find_ride batch.requests seat.request)
 
 -- whether a request has a seat
 abbrev pub has_seat : List Seat → ℕ → Bool
@@ -75,7 +75,7 @@ seating_cost roads batch seats =
 pub record IsLeastSeating (roads : RoadMap) (batch : BatchCopy) (seats : List Seat) : Type 0 where
   pub seating : IsSeating roads batch seats
   pub least : (others : List Seat) → IsSeating roads batch others
-    → seating_cost roads batch seats ≤ seating_cost roads batch others
+      → seating_cost roads batch seats ≤ seating_cost roads batch others
 
 -- the ids of a list of amounts
 abbrev pub amount_ids : List (ℕ × ℕ) → List ℕ

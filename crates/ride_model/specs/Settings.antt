@@ -1,5 +1,5 @@
 -- The ranges of the settings.
-use Rattle.std.specs.Prelude.{ℕ, ◌≤◌, ◌^◌}
+use Rattle.std.specs.Prelude.{◌≤◌}
 use Rattle.ride_model.specs.declared.settings.Settings.{Settings}
 
 -- the settings are within their ranges

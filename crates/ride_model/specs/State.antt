@@ -1,5 +1,5 @@
 -- The state of dispatch.
-use Rattle.std.specs.Prelude.{ℕ, ◌==◌, ◌&&◌, if◌then◌else◌, Bool, true, false, List, [], ◌∷◌, ◌++◌, map, find, slice_set, Option, option_map}
+use Rattle.std.specs.Prelude.{ℕ, ◌==◌, ◌&&◌, if◌then◌else◌, Bool, false, List, [], ◌∷◌, ◌++◌, map, find, slice_set, Option, option_map}
 use Rattle.std.specs.List.{list_any, enumerate_from}
 use Rattle.ride_model.specs.declared.command.Actor.{Actor}
 use Rattle.ride_model.specs.declared.command.Actor.TheVariants.{Feed, Desk}
@@ -40,7 +40,7 @@ start_state roads settings vehicles = record {
   asked = 0;
   opened = 0;
   batches = [];
-  ended = []
+  ended = [];
 }
 
 -- whether two actors are one
@@ -76,7 +76,7 @@ request_state s id = option_map (λ (request : AcceptedRequest). request.state) 
 -- the state with another state of the request of an id
 abbrev pub with_request_state : ℕ → RequestState → State → State
 with_request_state id state s = record s {
-  requests = map (λ (request : AcceptedRequest). if request.ride.id == id then record request { state = state } else request) s.requests
+  requests = map (λ (request : AcceptedRequest). if request.ride.id == id then record request { state = state } else request) s.requests;
 }
 
 -- the open batch of a desk

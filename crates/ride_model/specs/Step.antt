@@ -1,5 +1,5 @@
 -- What each command does: its reply, and the state that it leaves. Cases are tried from top to bottom.
-use Rattle.std.specs.Prelude.{ℕ, ◌+◌, ◌-◌, ◌==◌, ◌&&◌, ◌||◌, not, if◌then◌else◌, Bool, true, false, max, nat_lt, nat_le, List, [], ◌∷◌, ◌++◌, length, map, Option, Some, None, is_some, unwrap_or}
+use Rattle.std.specs.Prelude.{ℕ, ◌+◌, ◌-◌, ◌==◌, ◌&&◌, ◌||◌, not, if◌then◌else◌, Bool, true, false, max, nat_lt, nat_le, List, [], ◌∷◌, ◌++◌, length, map, Option, Some, None, is_some}
 use Rattle.ride_model.specs.declared.command.Command.{Command}
 use Rattle.ride_model.specs.declared.command.Command.TheVariants.{Request, Cancel, At, Done, On, Off, Clock, Ask, Bad}
 use Rattle.ride_model.specs.declared.reply.Reply.{Reply}
@@ -48,7 +48,7 @@ request_step s id from to seats latest longest chairs =
     else if nat_le 100000 (length s.requests) then refused s 6
     else record {
       state = with_accepted s (record { id = id; from = from; to = to; seats = seats; chairs = chairs; latest = latest; longest = longest; picked = None });
-      reply = Waiting
+      reply = Waiting;
     }
 
 -- a request that no vehicle has promised is cancelled
@@ -60,7 +60,7 @@ abbrev pub freed : State → ℕ → ℕ → Option (ℕ × Vehicle) → Answere
 freed s id vehicle None = refused s 10
 freed s id vehicle (Some placed) = record {
   state = with_request_state id IsCancelled (with_vehicle s placed.0 (raised (without_ride s.roads placed.1 id)));
-  reply = Freed vehicle
+  reply = Freed vehicle;
 }
 
 -- a cancellation, by what has become of the request
@@ -141,8 +141,8 @@ done_at_stop s place v (stop ∷ rest) =
     else if nat_lt 1000003600 (v.ready + s.settings.dwell) then refused s 17
     else record {
       state = with_request_state stop.ride (served_state v stop.kind)
-        (with_vehicle s place (raised (served s.settings.dwell v stop rest stop.kind)));
-      reply = served_reply stop stop.kind
+          (with_vehicle s place (raised (served s.settings.dwell v stop rest stop.kind)));
+      reply = served_reply stop stop.kind;
     }
 
 abbrev pub done_found : State → Option (ℕ × Vehicle) → Answered

@@ -1,5 +1,5 @@
 -- The trip log: the bytes of a history.
-use Rattle.std.specs.Prelude.{◌≡◌, ◌≢◌, ℕ, ◌+◌, ◌<◌, ◌≤◌, ◌^◌, ◌==◌, if◌then◌else◌, ⊤, ◌⊎◌, List, [], ◌∷◌, ◌++◌, map, length, All, codes, decimal}
+use Rattle.std.specs.Prelude.{◌≡◌, ◌≢◌, ℕ, ◌<◌, ◌≤◌, ◌^◌, ◌==◌, if◌then◌else◌, ⊤, List, [], ◌∷◌, ◌++◌, map, length, All, codes, decimal}
 use Rattle.std.specs.List.{join_with_byte, concat}
 use Rattle.ride_model.specs.declared.command.Actor.{Actor}
 use Rattle.ride_model.specs.declared.command.Actor.TheVariants.{Feed, Desk}
@@ -35,7 +35,7 @@ chairs_fields log chairs = if log == 2 then decimal chairs ∷ [] else []
 abbrev pub command_fields : ℕ → Command → List (List ℕ)
 command_fields log (Request id from to seats latest longest chairs) =
     (codes "request" ∷ decimal id ∷ decimal from ∷ decimal to ∷ decimal seats ∷ decimal latest ∷ decimal longest ∷ [])
-        ++ chairs_fields log chairs
+    ++ chairs_fields log chairs
 command_fields log (Cancel id) = codes "cancel" ∷ decimal id ∷ []
 command_fields log (At vehicle node time) = codes "at" ∷ decimal vehicle ∷ decimal node ∷ decimal time ∷ []
 command_fields log (Done vehicle) = codes "done" ∷ decimal vehicle ∷ []
@@ -94,11 +94,11 @@ event_fields log (Finish Whole) = codes "end" ∷ []
 event_fields log (Finish Cut) = codes "cut" ∷ []
 event_fields log (Opened batch time requests plans) =
     (codes "open" ∷ decimal batch ∷ codes "at" ∷ decimal time ∷ []) ++ (codes "requests" ∷ map decimal requests)
-        ++ (codes "plans" ∷ map plan_field plans)
+    ++ (codes "plans" ∷ map plan_field plans)
 event_fields log (Committed batch cost seats prices pays outcomes) =
     (codes "commit" ∷ decimal batch ∷ codes "cost" ∷ decimal cost ∷ []) ++ (codes "seats" ∷ map seat_field seats)
-        ++ (codes "prices" ∷ map amount_field prices) ++ (codes "pays" ∷ map amount_field pays)
-        ++ (codes "outcomes" ∷ map outcome_field outcomes)
+    ++ (codes "prices" ∷ map amount_field prices) ++ (codes "pays" ∷ map amount_field pays)
+    ++ (codes "outcomes" ∷ map outcome_field outcomes)
 event_fields log (Abandoned batch) = codes "abandon" ∷ decimal batch ∷ []
 
 -- the line of an entry
@@ -134,7 +134,7 @@ IsSpelledActor (Desk number) = IsOneOrTwo number
 abbrev pub IsSpelledCommand : ℕ → Command → Type 0
 IsSpelledCommand log (Request id from to seats latest longest chairs) =
     IsSpelled id × IsSpelled from × IsSpelled to × IsSpelled seats × IsSpelled latest × IsSpelled longest × IsSpelled chairs
-        × (log ≡ 1 → chairs ≡ 0)
+    × (log ≡ 1 → chairs ≡ 0)
 IsSpelledCommand log (Cancel id) = IsSpelled id
 IsSpelledCommand log (At vehicle node time) = IsSpelled vehicle × IsSpelled node × IsSpelled time
 IsSpelledCommand log (Done vehicle) = IsSpelled vehicle
@@ -179,7 +179,7 @@ IsSpelledEvent log (Desk _) (Opened batch time requests plans) =
     IsSpelled batch × IsSpelled time × All IsSpelled requests × All IsSpelledPair plans
 IsSpelledEvent log (Desk _) (Committed batch cost seats prices pays outcomes) =
     IsSpelled batch × IsSpelled cost × All IsSpelledSeat seats × All IsSpelledPair prices × All IsSpelledPair pays
-        × All IsSpelledOutcome outcomes
+    × All IsSpelledOutcome outcomes
 IsSpelledEvent log (Desk _) (Abandoned batch) = IsSpelled batch
 IsSpelledEvent log _ _ = ⊥
 

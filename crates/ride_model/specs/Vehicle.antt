@@ -1,5 +1,5 @@
 -- Rides, vehicles and what makes a vehicle lawful.
-use Rattle.std.specs.Prelude.{◌≡◌, ◌≢◌, ℕ, ◌+◌, ◌<◌, ◌≤◌, ◌==◌, ⊤, List, [], ◌∷◌, map, filter, All, Contains, Option, Some, None, IfSome, IsTrue, nat_eq}
+use Rattle.std.specs.Prelude.{◌≡◌, ◌≢◌, ℕ, ◌+◌, ◌≤◌, ◌==◌, ⊤, List, [], ◌∷◌, map, filter, All, Contains, Option, Some, None, IfSome, IsTrue, nat_eq}
 use Rattle.std.specs.List.{IsDistinct}
 use Rattle.ride_model.specs.declared.vehicle.Kind.{Kind}
 use Rattle.ride_model.specs.declared.vehicle.Kind.TheVariants.{Pickup, Dropoff}

@@ -1,7 +1,7 @@
 -- Lists of who is aboard.
-use Rattle.std.proofs.Common.{◌≡◌, ℕ, zero, suc, ◌+◌, ◌-◌, ◌<◌, ◌≤◌, Bool, true, false, cond, List, [], ◌∷◌, ◌++◌, length, take, drop, get_or, eqb, refl, sym, ◌∙◌, ap, subst, append_assoc, arith}
-use Rattle.std.specs.Prelude.{map, ⊤, is_some, ◌==◌, if◌then◌else◌}
-use Rattle.std.specs.List.{sum_by, AllByRecursion, range_with_len}
+use Rattle.std.proofs.Common.{◌≡◌, ℕ, zero, suc, ◌+◌, ◌<◌, Bool, cond, List, [], ◌∷◌, ◌++◌, length, take, drop, get_or, eqb, refl, sym, ◌∙◌, ap, append_assoc, arith}
+use Rattle.std.specs.Prelude.{map, is_some, ◌==◌, if◌then◌else◌}
+use Rattle.std.specs.List.{range_with_len}
 use Rattle.std.proofs.lemmas.List.Sums.{sum_by-cons}
 use Rattle.ride_model.specs.declared.vehicle.Load.{Load}
 use Rattle.ride_model.specs.declared.vehicle.Ride.{Ride}
@@ -19,7 +19,7 @@ suc_plus i = omega arith
 -- one rider after another
 pub boarded-drop : (stop : Stop) (rides : List Ride) (flags : List Bool) (i : ℕ) (d : Ride) (e : Bool) → i < length rides → length flags ≡ length rides
     → boarded stop (drop i rides) (drop i flags)
-      ≡ (if stop.ride == (get_or rides i d).id then is_pickup stop.kind else get_or flags i e) ∷ boarded stop (drop (i + 1) rides) (drop (i + 1) flags)
+    ≡ (if stop.ride == (get_or rides i d).id then is_pickup stop.kind else get_or flags i e) ∷ boarded stop (drop (i + 1) rides) (drop (i + 1) flags)
 boarded-drop stop [] flags i d e h k = absurd (omega arith)
 boarded-drop stop (r ∷ rides) [] i d e h k = absurd (omega (arith, k))
 boarded-drop stop (r ∷ rides) (b ∷ flags) zero d e h k = refl
@@ -27,7 +27,7 @@ boarded-drop stop (r ∷ rides) (b ∷ flags) (suc i) d e h k = rw (suc_plus i) 
 
 pub seats-drop : (rides : List Ride) (flags : List Bool) (i : ℕ) (d : Ride) (e : Bool) → i < length rides → length flags ≡ length rides
     → seats_aboard (drop i rides) (drop i flags)
-      ≡ (if get_or flags i e then (get_or rides i d).seats else 0) + seats_aboard (drop (i + 1) rides) (drop (i + 1) flags)
+    ≡ (if get_or flags i e then (get_or rides i d).seats else 0) + seats_aboard (drop (i + 1) rides) (drop (i + 1) flags)
 seats-drop [] flags i d e h k = absurd (omega arith)
 seats-drop (r ∷ rides) [] i d e h k = absurd (omega (arith, k))
 seats-drop (r ∷ rides) (b ∷ flags) zero d e h k = refl
@@ -35,7 +35,7 @@ seats-drop (r ∷ rides) (b ∷ flags) (suc i) d e h k = rw (suc_plus i) (seats-
 
 pub chairs-drop : (rides : List Ride) (flags : List Bool) (i : ℕ) (d : Ride) (e : Bool) → i < length rides → length flags ≡ length rides
     → chairs_aboard (drop i rides) (drop i flags)
-      ≡ (if get_or flags i e then (get_or rides i d).chairs else 0) + chairs_aboard (drop (i + 1) rides) (drop (i + 1) flags)
+    ≡ (if get_or flags i e then (get_or rides i d).chairs else 0) + chairs_aboard (drop (i + 1) rides) (drop (i + 1) flags)
 chairs-drop [] flags i d e h k = absurd (omega arith)
 chairs-drop (r ∷ rides) [] i d e h k = absurd (omega (arith, k))
 chairs-drop (r ∷ rides) (b ∷ flags) zero d e h k = refl
@@ -71,17 +71,18 @@ chairs-load (r ∷ rides) stops =
 -- the loads along the stops are those after so many of them
 loads-after : (rides : List Ride) (before stops : List Stop)
     → loads_behind rides (map (is_aboard_after before) rides) stops
-      ≡ map (λ n. load_after rides (before ++ take n stops)) (range_with_len 1 (length stops))
+    ≡ map (λ n. load_after rides (before ++ take n stops)) (range_with_len 1 (length stops))
 loads-after rides before [] = refl
 loads-after rides before (s ∷ stops) =
     ap (λ flags. load_aboard rides flags ∷ loads_behind rides flags stops) (boarded-push rides before s)
     ∙ ap (λ load. load ∷ loads_behind rides (map (is_aboard_after (before ++ s ∷ [])) rides) stops) (load-aboard rides (before ++ s ∷ []))
     ∙ ap (λ rest. load_after rides (before ++ s ∷ []) ∷ rest)
-        (loads-after rides (before ++ s ∷ []) stops ∙ shifted 1 (length stops) (λ n. load_after rides (before ++ s ∷ [] ++ take n stops)) (λ n. load_after rides (before ++ take n (s ∷ stops)))
-          (λ n. ap (load_after rides) (append_assoc before (s ∷ []) (take n stops))))
+    (loads-after rides (before ++ s ∷ []) stops ∙ shifted 1 (length stops) (λ n. load_after rides (before ++ s ∷ [] ++ take n stops)) (λ n. load_after rides (before ++ take n (s ∷ stops)))
+    (λ n. ap (load_after rides) (append_assoc before (s ∷ []) (take n stops))))
   where
     load-aboard : (rs : List Ride) (ss : List Stop) → load_aboard rs (map (is_aboard_after ss) rs) ≡ load_after rs ss
     load-aboard rs ss = λ i. record { seats = seats-load rs ss i; chairs = chairs-load rs ss i }
+
     shifted : (from many : ℕ) (f g : ℕ → Load) → ((n : ℕ) → f n ≡ g (suc n)) → map f (range_with_len from many) ≡ map g (range_with_len (from + 1) many)
     shifted from zero f g same = refl
     shifted from (suc many) f g same =

@@ -1,5 +1,5 @@
 -- A list whose first elements were changed.
-use Rattle.std.proofs.Common.{◌≡◌, ℕ, zero, suc, ◌+◌, ◌<◌, List, [], ◌∷◌, ◌++◌, length, take, drop, get_or, refl, sym, ◌∙◌, ap, subst, arith}
+use Rattle.std.proofs.Common.{◌≡◌, ℕ, zero, suc, ◌+◌, ◌<◌, List, [], ◌∷◌, ◌++◌, length, take, drop, get_or, refl, ◌∙◌, ap, arith}
 use Rattle.std.specs.Prelude.{map, slice_set}
 
 -- the next element is the one that was there
@@ -16,6 +16,7 @@ one-more-changed f xs n d h = step f xs n d h ∙ ap (λ k. map f (take k xs) ++
   where
     one : (k : ℕ) → suc k ≡ k + 1
     one k = omega arith
+
     step : {X : Type 0} (f : X → X) (xs : List X) (n : ℕ) (d : X) → n < length xs
         → slice_set (map f (take n xs) ++ drop n xs) n (f (get_or xs n d)) ≡ map f (take (suc n) xs) ++ drop (suc n) xs
     step f [] n d h = absurd (omega arith)

@@ -1,5 +1,5 @@
 -- Stops with other legs.
-use Rattle.std.specs.Prelude.{ℕ, zero, suc, List, [], ◌∷◌, ◌++◌, insert}
+use Rattle.std.specs.Prelude.{ℕ, zero, suc, List, [], ◌∷◌, insert}
 use Rattle.ride_model.specs.declared.vehicle.Stop.{Stop}
 
 -- a stop with another leg

@@ -27,8 +27,18 @@ pub fn insert_ride(vehicle: &mut Vehicle, ride: Ride, offer: &Offer)
         leg: offer.joins.to_dropoff,
     };
     vehicle.rides.push(ride);
-    insert_stop(&mut vehicle.stops, offer.j as usize, dropoff, offer.joins.after_dropoff);
-    insert_stop(&mut vehicle.stops, offer.i as usize, pickup, offer.joins.after_pickup);
+    insert_stop(
+        &mut vehicle.stops,
+        offer.j as usize,
+        dropoff,
+        offer.joins.after_dropoff,
+    );
+    insert_stop(
+        &mut vehicle.stops,
+        offer.i as usize,
+        pickup,
+        offer.joins.after_pickup,
+    );
 }
 
 // Puts a stop before the one at a place, whose leg becomes `after`.

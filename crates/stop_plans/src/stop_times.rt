@@ -1,6 +1,5 @@
 //! Stop times.
 ghost use Rattle.std.specs.Prelude.{◌≡◌, ◌≤◌, length, All};
-
 ghost use Rattle.ride_model.specs.declared.vehicle.Stop.{Stop};
 ghost use Rattle.ride_model.specs.Times.{times_from, times_of};
 ghost use Rattle.ride_model.specs.Vehicle.{IsRoutedSomewhere};

@@ -12,4 +12,4 @@ returns-clause-lawful c = λ roads h.
 pub returns-clause-sooner : goal.returns-clause-sooner
 returns-clause-sooner c = λ roads h other start dwell differ.
     subst (λ w. AllSooner 0 (visits_of w start dwell other) (visits_of c.args.vehicle.now start dwell other)) (sym (c.remove_ride.ensures roads h))
-      (visits-sooner roads c.args.vehicle.now c.args.id other start dwell h.map_fits h.lawful.routed differ)
+    (visits-sooner roads c.args.vehicle.now c.args.id other start dwell h.map_fits h.lawful.routed differ)

@@ -10,7 +10,7 @@ loop-ride-preserved c =
     let blank : Ride = record { id = 0; from = 0; to = 0; seats = 0; chairs = 0; latest = 0; longest = 0; picked = None } in
     let i = c.loop-ride.ride-index in
     ap (slice_set c.loop-ride.rides i)
-      (c.with_picked.ensures
-      ∙ ap mark (ap (λ rides. get_or rides i blank) c.loop-ride.invariant ∙ next-of-changed mark c.args.rides.now i blank c.loop-ride-test.true))
+    (c.with_picked.ensures
+    ∙ ap mark (ap (λ rides. get_or rides i blank) c.loop-ride.invariant ∙ next-of-changed mark c.args.rides.now i blank c.loop-ride-test.true))
     ∙ ap (λ rides. slice_set rides i (mark (get_or c.args.rides.now i blank))) c.loop-ride.invariant
     ∙ one-more-changed mark c.args.rides.now i blank c.loop-ride-test.true

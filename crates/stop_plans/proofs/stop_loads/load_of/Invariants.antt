@@ -8,5 +8,5 @@ invariant-loop-i l = record {
   seats : l.load.seats + seats_aboard (drop l.i l.rides) (drop l.i l.aboard) ≡ seats_aboard l.rides l.aboard;
   chairs : l.load.chairs + chairs_aboard (drop l.i l.rides) (drop l.i l.aboard) ≡ chairs_aboard l.rides l.aboard;
   few_seats : l.load.seats ≤ 8 * l.i;
-  few_chairs : l.load.chairs ≤ 4 * l.i
+  few_chairs : l.load.chairs ≤ 4 * l.i;
 }

@@ -8,7 +8,7 @@ use Rattle.stop_plans.proofs.stop_loads.loads_along.Given as goal
 abbrev pub invariant-loop-stop : goal.invariant-loop-stop
 invariant-loop-stop l = record {
   so_far : l.loads.items ++ loads_behind l.rides l.aboard.items (drop l.stop-index l.stops)
-    ≡ loads_behind l.rides (map (λ (ride : Ride). is_some ride.picked) l.rides) l.stops;
+      ≡ loads_behind l.rides (map (λ (ride : Ride). is_some ride.picked) l.rides) l.stops;
   one_each : length l.aboard.items ≡ length l.rides;
-  many : length l.loads.items ≡ l.stop-index
+  many : length l.loads.items ≡ l.stop-index;
 }

@@ -7,5 +7,5 @@ abbrev pub invariant-loop-stop : goal.invariant-loop-stop
 invariant-loop-stop l = record {
   so_far : l.times.items ++ times_from l.dwell l.leave (drop l.stop-index l.stops) ≡ times_from l.dwell l.start l.stops;
   many : length l.times.items ≡ l.stop-index;
-  bound : l.leave ≤ l.start + l.stop-index * 500000000003600
+  bound : l.leave ≤ l.start + l.stop-index * 500000000003600;
 }

@@ -1,0 +1,24 @@
+-- The words of the program.
+use Rattle.std.specs.Prelude.{◌≡◌, ℕ, ◌==◌, ◌&&◌, if◌then◌else◌, Bool, List, [], ◌∷◌, length, take, slice_index_or, Option, Some, None, codes, bytes_eq}
+
+-- the word at a place
+abbrev pub word_at : List (List ℕ) → ℕ → List ℕ
+word_at words place = slice_index_or words place []
+
+-- whether the word at a place is this one
+abbrev pub is_word : List (List ℕ) → ℕ → List ℕ → Bool
+is_word words place word = bytes_eq (word_at words place) word
+
+-- whether the words are `replay --map NAME --fleet NAME --feed NAME`
+abbrev pub are_replay : List (List ℕ) → Bool
+are_replay words =
+    length words == 7 && is_word words 0 (codes "replay") && is_word words 1 (codes "--map")
+    && is_word words 3 (codes "--fleet") && is_word words 5 (codes "--feed")
+
+-- the names of a replay's map, fleet and feed
+abbrev pub names_of : List (List ℕ) → List (List ℕ)
+names_of words = word_at words 2 ∷ word_at words 4 ∷ word_at words 6 ∷ []
+
+-- a list begins another
+abbrev pub Begins : List (List ℕ) → List (List ℕ) → Type 0
+Begins first all = first ≡ take (length first) all

@@ -1,0 +1,48 @@
+//! Vehicles.
+use crate::path::texts::{numbers, text_of};
+use ride_ports::NoMemory;
+use std::alloc::Global;
+
+/// An idle vehicle.
+#[derive(Clone, Copy)]
+pub struct Vehicle {
+    pub id: u64,
+    pub seats: u64,
+    pub node: u64,
+    pub ready: u64,
+}
+
+/// Reads batches of one and vehicles, None where a line is outside the form.
+pub fn read(alloc: Global, bytes: &[u8], nodes: u64) -> Result<Option<Vec<Vehicle>>, NoMemory> {
+    let Some(text) = text_of(bytes) else {
+        return Ok(None);
+    };
+    let mut lines = text.lines();
+    if lines.next() != Some("set batch 1") {
+        return Ok(None);
+    }
+    let mut vehicles = Vec::new(alloc);
+    for line in lines {
+        match vehicle_of(line, nodes, vehicles.as_slice()) {
+            Some(vehicle) => vehicles.push(vehicle)?,
+            None => return Ok(None),
+        }
+    }
+    Ok(Some(vehicles))
+}
+
+// A vehicle line, of an id that no vehicle before it has.
+fn vehicle_of(line: &str, nodes: u64, before: &[Vehicle]) -> Option<Vehicle> {
+    let [id, seats, node, ready] = numbers::<4>(line, "vehicle ")?.into_inner().ok()?;
+    let new = before.len() < 1_000 && before.iter().all(|vehicle| vehicle.id != id);
+    if new && (1..=16).contains(&seats) && (1..=nodes).contains(&node) && ready <= 1_000_000_000 {
+        Some(Vehicle {
+            id,
+            seats,
+            node,
+            ready,
+        })
+    } else {
+        None
+    }
+}

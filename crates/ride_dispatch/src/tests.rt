@@ -1,0 +1,283 @@
+//! The top call over memory.
+use crate::top::run;
+use ride_ports::{MemFile, MemShelf, MemSink, NoMemory, OpenGate};
+use std::alloc::Global;
+use std::test::Fail;
+
+const MAP: &[u8] = b"p sp 4 6\na 1 2 60\na 2 1 60\na 2 3 60\na 3 2 60\na 3 4 60\na 4 3 60\n";
+
+const FLEET: &[u8] = b"set batch 1\nvehicle 1 2 1 0\n";
+
+const FEED: &[u8] = b"request 7 2 4 1 600 300\nbatch\n";
+
+const LOG: &[u8] =
+    b"log 1 feeds 1 desks 1\nf1 request 7 2 4 1 600 300 = waiting\nf1 batch = asked 1\nd1 open 1 at 0 requests 7 plans 1@0\nd1 commit 1 cost 180 seats 7:1:0:0 prices 7:180 pays outcomes 7:confirmed\nf1 end\nd1 end\n";
+
+const REPLAY: [&str; 7] = ["replay", "--map", "m", "--fleet", "f", "--feed", "r"];
+
+fn words_of(alloc: Global, texts: &[&str]) -> Result<Vec<String>, NoMemory> {
+    let mut words = Vec::new(alloc);
+    for text in texts {
+        words.push(String::from_str(alloc, text)?)?;
+    }
+    Ok(words)
+}
+
+#[test]
+fn the_plain_path_in_pieces_of_any_length(rt: HostRuntime) -> Result<(), Fail> {
+    for pieces in [&[1][..], &[2], &[7], &[]] {
+        assert!(rt; pieces.iter().all(|piece| *piece > 0));
+        let files = [
+            MemFile {
+                name: "m",
+                bytes: MAP,
+                pieces,
+                failing: &[],
+            },
+            MemFile {
+                name: "f",
+                bytes: FLEET,
+                pieces,
+                failing: &[],
+            },
+            MemFile {
+                name: "r",
+                bytes: FEED,
+                pieces,
+                failing: &[],
+            },
+        ];
+        let words = words_of(rt.alloc(), &REPLAY)?;
+        let mut shelf = MemShelf::new(rt.alloc(), &files, &[]);
+        let mut out = MemSink::new(rt.alloc(), 1000, &[], &[])?;
+        let status = run(
+            rt.alloc(),
+            words.as_slice(),
+            &mut shelf,
+            &mut out,
+            &OpenGate,
+        );
+        assert_eq!(rt; status, 0);
+        assert_eq!(rt; out.written(), LOG);
+    }
+    Ok(())
+}
+
+#[test]
+fn a_read_that_fails_in_the_middle_of_a_source_is_a_fault_of_the_shelf(
+    rt: HostRuntime,
+) -> Result<(), Fail> {
+    for broken in 0..3 {
+        let failing: [&[u64]; 3] = [
+            if broken == 0 { &[2] } else { &[] },
+            if broken == 1 { &[2] } else { &[] },
+            if broken == 2 { &[2] } else { &[] },
+        ];
+        let files = [
+            MemFile {
+                name: "m",
+                bytes: MAP,
+                pieces: &[7],
+                failing: failing[0],
+            },
+            MemFile {
+                name: "f",
+                bytes: FLEET,
+                pieces: &[7],
+                failing: failing[1],
+            },
+            MemFile {
+                name: "r",
+                bytes: FEED,
+                pieces: &[7],
+                failing: failing[2],
+            },
+        ];
+        let words = words_of(rt.alloc(), &REPLAY)?;
+        let mut shelf = MemShelf::new(rt.alloc(), &files, &[]);
+        let mut out = MemSink::new(rt.alloc(), 1000, &[], &[])?;
+        let status = run(
+            rt.alloc(),
+            words.as_slice(),
+            &mut shelf,
+            &mut out,
+            &OpenGate,
+        );
+        assert_eq!(rt; status, 5);
+        assert!(rt; out.written().is_empty());
+        assert_eq!(rt; shelf.faults(), 1);
+    }
+    Ok(())
+}
+
+#[test]
+fn a_sink_that_fails_keeps_the_first_bytes(rt: HostRuntime) -> Result<(), Fail> {
+    let files = [
+        MemFile {
+            name: "m",
+            bytes: MAP,
+            pieces: &[],
+            failing: &[],
+        },
+        MemFile {
+            name: "f",
+            bytes: FLEET,
+            pieces: &[],
+            failing: &[],
+        },
+        MemFile {
+            name: "r",
+            bytes: FEED,
+            pieces: &[],
+            failing: &[],
+        },
+    ];
+    let words = words_of(rt.alloc(), &REPLAY)?;
+    let mut shelf = MemShelf::new(rt.alloc(), &files, &[]);
+    let mut out = MemSink::new(rt.alloc(), 10, &[], &[])?;
+    let status = run(
+        rt.alloc(),
+        words.as_slice(),
+        &mut shelf,
+        &mut out,
+        &OpenGate,
+    );
+    assert_eq!(rt; status, 6);
+    assert_eq!(rt; out.written(), b"log 1 feed".as_slice());
+    Ok(())
+}
+
+#[test]
+fn a_missing_map_is_a_fault_of_the_shelf(rt: HostRuntime) -> Result<(), Fail> {
+    let files = [
+        MemFile {
+            name: "f",
+            bytes: FLEET,
+            pieces: &[],
+            failing: &[],
+        },
+        MemFile {
+            name: "r",
+            bytes: FEED,
+            pieces: &[],
+            failing: &[],
+        },
+    ];
+    let words = words_of(rt.alloc(), &REPLAY)?;
+    let mut shelf = MemShelf::new(rt.alloc(), &files, &[]);
+    let mut out = MemSink::new(rt.alloc(), 1000, &[], &[])?;
+    let status = run(
+        rt.alloc(),
+        words.as_slice(),
+        &mut shelf,
+        &mut out,
+        &OpenGate,
+    );
+    assert_eq!(rt; status, 5);
+    assert!(rt; out.written().is_empty());
+    Ok(())
+}
+
+#[test]
+fn words_that_are_not_in_order_are_refused(rt: HostRuntime) -> Result<(), Fail> {
+    for texts in [
+        &[][..],
+        &["plan"],
+        &["replay", "--map", "m", "--fleet", "f"],
+    ] {
+        let words = words_of(rt.alloc(), texts)?;
+        let mut shelf = MemShelf::new(rt.alloc(), &[], &[]);
+        let mut out = MemSink::new(rt.alloc(), 1000, &[], &[])?;
+        let status = run(
+            rt.alloc(),
+            words.as_slice(),
+            &mut shelf,
+            &mut out,
+            &OpenGate,
+        );
+        assert_eq!(rt; status, 2);
+        assert_eq!(rt; out.written(), b"words refused\n".as_slice());
+    }
+    Ok(())
+}
+
+#[test]
+fn a_text_outside_the_form_is_said_to_be_unbuilt(rt: HostRuntime) -> Result<(), Fail> {
+    let files = [
+        MemFile {
+            name: "m",
+            bytes: MAP,
+            pieces: &[],
+            failing: &[],
+        },
+        MemFile {
+            name: "f",
+            bytes: FLEET,
+            pieces: &[],
+            failing: &[],
+        },
+        MemFile {
+            name: "r",
+            bytes: b"cancel 7\n",
+            pieces: &[],
+            failing: &[],
+        },
+    ];
+    let words = words_of(rt.alloc(), &REPLAY)?;
+    let mut shelf = MemShelf::new(rt.alloc(), &files, &[]);
+    let mut out = MemSink::new(rt.alloc(), 1000, &[], &[])?;
+    let status = run(
+        rt.alloc(),
+        words.as_slice(),
+        &mut shelf,
+        &mut out,
+        &OpenGate,
+    );
+    assert_eq!(rt; status, 9);
+    assert_eq!(rt; out.written(), b"unbuilt\n".as_slice());
+    Ok(())
+}
+
+#[test]
+fn a_dear_or_late_request_is_turned_away(rt: HostRuntime) -> Result<(), Fail> {
+    for feed in [
+        &b"request 7 2 4 1 59 300\nbatch\n"[..],
+        b"request 7 2 4 1 600 119\nbatch\n",
+    ] {
+        let files = [
+            MemFile {
+                name: "m",
+                bytes: MAP,
+                pieces: &[],
+                failing: &[],
+            },
+            MemFile {
+                name: "f",
+                bytes: FLEET,
+                pieces: &[],
+                failing: &[],
+            },
+            MemFile {
+                name: "r",
+                bytes: feed,
+                pieces: &[],
+                failing: &[],
+            },
+        ];
+        let words = words_of(rt.alloc(), &REPLAY)?;
+        let mut shelf = MemShelf::new(rt.alloc(), &files, &[]);
+        let mut out = MemSink::new(rt.alloc(), 1000, &[], &[])?;
+        let status = run(
+            rt.alloc(),
+            words.as_slice(),
+            &mut shelf,
+            &mut out,
+            &OpenGate,
+        );
+        assert_eq!(rt; status, 0);
+        let commit =
+            b"d1 commit 1 cost 3600 seats prices 7:3600 pays outcomes 7:away\nf1 end\nd1 end\n";
+        assert!(rt; out.written().ends_with(commit));
+    }
+    Ok(())
+}
