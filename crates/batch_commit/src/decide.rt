@@ -1,5 +1,6 @@
 //! What a commit makes of each request of its batch.
-ghost use Rattle.std.specs.Prelude.{◌≡◌, ◌-◌, ◌^◌, ◌<◌, length, map, min, Some, option_copied};
+ghost use Rattle.std.specs.Prelude.{◌≡◌, ◌-◌, ◌^◌, ◌<◌, length, map, min, ℕ, Some, option_copied};
+ghost use Rattle.ride_model.specs.declared.entry.Outcome.{Outcome};
 ghost use Rattle.ride_model.specs.declared.vehicle.Vehicle.{Vehicle};
 ghost use Rattle.ride_model.specs.State.{State};
 ghost use Rattle.ride_model.specs.Offers.{start_of};
@@ -97,5 +98,28 @@ fn start_of_copy(vehicle: &Vehicle, time: u64, lead: u64) -> u64
         ready.max(time.saturating_add(lead))
     } else {
         ready
+    }
+}
+
+// Decides each request in turn.
+fn decide_each(
+    batch: &Batch,
+    seats: &[Seat],
+    now: u64,
+    vehicles: &[Vehicle],
+    cancelled: &[bool],
+    outcomes: &mut OutcomeList,
+)
+    requires one_flag_each { length cancelled.now ≡ length batch.now.requests }
+    requires one_each { map (λ (item : ℕ × Outcome). item.0) outcomes.old ≡ ride_ids batch.now.requests }
+    ensures decided { (s : State) → StandsSo batch.now now vehicles.now cancelled.now s
+        → outcomes.new ≡ outcomes_of batch.now seats.now s }
+    ensures one_each_still { map (λ (item : ℕ × Outcome). item.0) outcomes.new ≡ ride_ids batch.now.requests }
+{
+    let requests = batch.requests();
+    for r in 0..requests.len() {
+        let id = requests[r].id;
+        let outcome = outcome_for(batch, seats, id, cancelled[r], now, vehicles);
+        outcomes.set(r, (id, outcome));
     }
 }
