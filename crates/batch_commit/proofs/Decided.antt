@@ -22,6 +22,7 @@ decided-more f ids xs r id o same low id_is o_is so_far =
   where
     one : (k : ℕ) → k + 1 ≡ suc k
     one k = omega arith
+
     step : (qs : List ℕ) (ys : List (ℕ × Outcome)) (n : ℕ) → length ys ≡ length qs → n < length qs → id ≡ get_or qs n 0 → o ≡ f (get_or qs n 0)
         → take n ys ≡ take n (map (λ q. (q, f q)) qs)
         → take (suc n) (slice_set ys n (id, o)) ≡ take (suc n) (map (λ q. (q, f q)) qs)
@@ -63,6 +64,6 @@ pub next-outcome : (batch : BatchCopy) (seats : List Seat) (now : ℕ) (vehicles
 next-outcome batch seats now vehicles cancelled s r id o e stands low id_is o_is =
     o_is
     ∙ ap (λ b. outcome_by batch s b (seat_of seats id))
-        (ap (λ flags. get_or flags r e) stands.cancelled_are
-        ∙ sym (get_or-map (was_cancelled s) (ride_ids batch.requests) r 0 e (omega (arith, low, length-map batch.requests (λ (q : Ride). q.id)))))
+    (ap (λ flags. get_or flags r e) stands.cancelled_are
+    ∙ sym (get_or-map (was_cancelled s) (ride_ids batch.requests) r 0 e (omega (arith, low, length-map batch.requests (λ (q : Ride). q.id)))))
     ∙ ap (λ q. outcome_by batch s (was_cancelled s (get_or (ride_ids batch.requests) r 0)) (seat_of seats q)) id_is

@@ -9,6 +9,7 @@ find-drop p xs i d h = step p xs i d h ∙ ap (λ n. cond (p (get_or xs i d)) (S
   where
     one : (k : ℕ) → suc k ≡ k + 1
     one k = omega arith
+
     step : {X : Type 0} (p : X → Bool) (xs : List X) (i : ℕ) (d : X) → i < length xs
         → find p (drop i xs) ≡ cond (p (get_or xs i d)) (Some (get_or xs i d)) (find p (drop (suc i) xs))
     step p [] i d h = absurd (omega arith)

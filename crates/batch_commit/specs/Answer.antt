@@ -33,7 +33,7 @@ place_of ids id = unwrap_or (position (λ other. other == id) ids) 0
 abbrev pub cell_cost : BatchCopy → Table → Seat → ℕ
 cell_cost batch table seat =
     unwrap_or (option_map (λ (offer : Offer). offer.cost)
-        (cell_at table (place_of (ride_ids batch.requests) seat.request) (place_of (vehicle_ids batch.vehicles) seat.vehicle))) 0
+    (cell_at table (place_of (ride_ids batch.requests) seat.request) (place_of (vehicle_ids batch.vehicles) seat.vehicle))) 0
 
 -- the cost of a seating by the cells
 abbrev pub cells_cost : BatchCopy → Table → List Seat → ℕ
@@ -48,8 +48,8 @@ pub record CertifiesOverCells (batch : BatchCopy) (table : Table) (seats : List 
   pub paying : amount_ids pays ≡ filter (has_amount pays) (vehicle_ids batch.vehicles)
   pub paid : All (λ (item : ℕ × ℕ). 1 ≤ item.1) pays
   pub covered : (r c : ℕ) (ride : Ride) (v : Vehicle) → r < length batch.requests → c < length batch.vehicles
-    → IfSome (cell_at table r c) (λ (offer : Offer).
-        amount_of prices (slice_index_or batch.requests r ride).id ≤ offer.cost + amount_of pays (slice_index_or batch.vehicles c v).id)
+      → IfSome (cell_at table r c) (λ (offer : Offer).
+      amount_of prices (slice_index_or batch.requests r ride).id ≤ offer.cost + amount_of pays (slice_index_or batch.vehicles c v).id)
   pub balanced : sum_by (λ (item : ℕ × ℕ). item.1) prices ≡ cells_cost batch table seats + sum_by (λ (item : ℕ × ℕ). item.1) pays
 
 -- one outcome for each priced request, yet to be decided

@@ -31,9 +31,9 @@ pub record FitsBatch (batch : BatchCopy) (table : Table) : Type 0 where
 pub record IsTableOf (roads : RoadMap) (batch : BatchCopy) (table : Table) : Type 0 where
   pub fits : FitsBatch batch table
   pub cells_are : (r c : ℕ) (ride : Ride) (v : Vehicle) → r < length batch.requests → c < length batch.vehicles
-    → MatchOption (cell_at table r c)
-        (price roads batch.settings (slice_index_or batch.vehicles c v) (slice_index_or batch.requests r ride) batch.time ≡ None)
-        (IsLeastOffer roads batch (slice_index_or batch.requests r ride) (slice_index_or batch.vehicles c v))
+      → MatchOption (cell_at table r c)
+      (price roads batch.settings (slice_index_or batch.vehicles c v) (slice_index_or batch.requests r ride) batch.time ≡ None)
+      (IsLeastOffer roads batch (slice_index_or batch.requests r ride) (slice_index_or batch.vehicles c v))
 
 -- every cost is below 2^42
 abbrev pub HasSmallCosts : Table → Type 0

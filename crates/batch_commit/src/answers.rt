@@ -1,9 +1,7 @@
 //! Answers to batches.
 ghost use Rattle.std.specs.Prelude.{◌≡◌, IfOk};
-ghost use Rattle.batch_commit.specs.Answer.{undecided, CertifiesOverCells};
-ghost use Rattle.batch_commit.specs.Table.{FitsBatch, HasSmallCosts};
+ghost use Rattle.batch_commit.specs.Answer.{undecided};
 
-use crate::{Batch, PriceTable};
 use ride_model::{AmountList, NoMemory, Outcome, OutcomeList, SeatList};
 use std::alloc::Global;
 
@@ -21,7 +19,12 @@ pub struct Answer {
 
 impl Answer {
     /// The answer whose outcomes are yet to be decided.
-    pub fn of(alloc: Global, seating: SeatList, prices: AmountList, pays: AmountList) -> Result<Answer, NoMemory>
+    pub fn of(
+        alloc: Global,
+        seating: SeatList,
+        prices: AmountList,
+        pays: AmountList,
+    ) -> Result<Answer, NoMemory>
         ensures { IfOk result (λ answer. answer ≡ record { seating = seating; prices = prices; pays = pays; outcomes = undecided prices }) }
     {
         let outcomes = undecided_outcomes(alloc, prices.items())?;
@@ -43,12 +46,4 @@ fn undecided_outcomes(alloc: Global, prices: &[(u64, u64)]) -> Result<OutcomeLis
         outcomes.push((*id, Outcome::Gone))?;
     }
     Ok(OutcomeList::of(outcomes))
-}
-
-/// A batch with its table and an answer that is least over it.
-#[derive(Debug, Drop)]
-pub struct Solved {
-    batch: Batch,
-    table: PriceTable,
-    answer: Answer,
 }

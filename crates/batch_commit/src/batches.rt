@@ -28,7 +28,12 @@ impl Model for Batch {
     ghost Value = { BatchCopy };
 
     ghost view = { λ b. record {
-        number = b.number; desk = b.desk; time = b.time; settings = b.settings; requests = b.requests.items; vehicles = b.vehicles
+      number = b.number;
+      desk = b.desk;
+      time = b.time;
+      settings = b.settings;
+      requests = b.requests.items;
+      vehicles = b.vehicles;
     } };
 
     ghost invariant = { λ b. (length b.requests.items ≤ 128) × IsDistinct nat_eq (ride_ids b.requests.items) × IsSettings b.settings };
@@ -36,12 +41,24 @@ impl Model for Batch {
 
 impl Batch {
     /// The batch of just these parts.
-    pub fn of(number: u64, time: u64, desk: u8, settings: Settings, requests: Vec<Ride>, vehicles: Fleet) -> Batch
+    pub fn of(
+        number: u64,
+        time: u64,
+        desk: u8,
+        settings: Settings,
+        requests: Vec<Ride>,
+        vehicles: Fleet,
+    ) -> Batch
         requires few { length requests.items ≤ 128 }
         requires ids_differ { IsDistinct nat_eq (ride_ids requests.items) }
         requires settings_fit { IsSettings settings }
         ensures { result ≡ record {
-            number = number; desk = desk; time = time; settings = settings; requests = requests.items; vehicles = vehicles
+          number = number;
+          desk = desk;
+          time = time;
+          settings = settings;
+          requests = requests.items;
+          vehicles = vehicles;
         } }
     {
         Batch {

@@ -3,9 +3,14 @@
 
 mod answers;
 mod batches;
-mod decide;
+mod outcomes;
+mod solved;
 mod tables;
 
-pub use answers::{Answer, Solved};
+pub use answers::Answer;
 pub use batches::Batch;
+pub use solved::{Solved, decide};
 pub use tables::PriceTable;
+
+#[cfg(test)]
+mod tests;

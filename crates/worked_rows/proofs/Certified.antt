@@ -32,7 +32,7 @@ unfolding travel travel_within offer_of IsDistinct
 greedy_is_seating = record {
   in_order = refl;
   vehicles_differ = ((refl, tt), (tt, tt));
-  offered = all_of_two (λ s. IsSome (seat_offer four_nodes two_requests s)) (seat 5 1 0 0) (seat 6 2 0 0) refl refl
+  offered = all_of_two (λ s. IsSome (seat_offer four_nodes two_requests s)) (seat 5 1 0 0) (seat 6 2 0 0) refl refl;
 }
 
 least_is_seating : IsSeating four_nodes two_requests least_seats
@@ -40,7 +40,7 @@ unfolding travel travel_within offer_of IsDistinct
 least_is_seating = record {
   in_order = refl;
   vehicles_differ = ((refl, tt), (tt, tt));
-  offered = all_of_two (λ s. IsSome (seat_offer four_nodes two_requests s)) (seat 5 2 0 0) (seat 6 1 0 0) refl refl
+  offered = all_of_two (λ s. IsSome (seat_offer four_nodes two_requests s)) (seat 5 2 0 0) (seat 6 1 0 0) refl refl;
 }
 
 -- each vehicle's price and payment cover a ride's price
@@ -66,7 +66,7 @@ least_is_certified = record {
   paying = refl;
   paid = all_of_one (λ (item : ℕ × ℕ). 1 ≤ item.1) (1, 60) (omega arith);
   covered = all_of_two covers (ride_of_one 5 2 1 600 300) (ride_of_one 6 1 2 600 300) covers_5 covers_6;
-  balanced = refl
+  balanced = refl;
 }
 
 pub least_is_least : IsLeastSeating four_nodes two_requests least_seats
@@ -80,15 +80,15 @@ plain_is_certified = record {
   seating = record {
     in_order = refl;
     vehicles_differ = (tt, tt);
-    offered = all_of_one (λ s. IsSome (seat_offer four_nodes batch s)) (seat 7 1 0 0) refl
+    offered = all_of_one (λ s. IsSome (seat_offer four_nodes batch s)) (seat 7 1 0 0) refl;
   };
   each_priced = refl;
   capped = all_of_one (λ (item : ℕ × ℕ). item.1 ≤ 3600) (7, 180) (omega arith);
   paying = refl;
   paid = all_of_none (λ (item : ℕ × ℕ). 1 ≤ item.1);
   covered = all_of_one (λ ride. All (IsCovered four_nodes batch ((7, 180) ∷ []) [] ride) batch.vehicles) ride_7
-    (all_of_one (IsCovered four_nodes batch ((7, 180) ∷ []) [] ride_7) (idle_vehicle 1 2 1) (omega arith));
-  balanced = refl
+      (all_of_one (IsCovered four_nodes batch ((7, 180) ∷ []) [] ride_7) (idle_vehicle 1 2 1) (omega arith));
+  balanced = refl;
 }
 
 pub plain_is_least : IsLeastSeating four_nodes batch (seat 7 1 0 0 ∷ [])

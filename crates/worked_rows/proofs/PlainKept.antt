@@ -28,41 +28,56 @@ idle_is_lawful : IsLawful four_nodes (idle_vehicle 1 2 1)
 unfolding IsDistinct
 idle_is_lawful = record {
   routed = record {
-    some_seat = omega arith; seats_limit = omega arith; chairs_limit = omega arith; at_node = (omega arith, omega arith); ready_limit = omega arith;
+    some_seat = omega arith;
+    seats_limit = omega arith;
+    chairs_limit = omega arith;
+    at_node = (omega arith, omega arith);
+    ready_limit = omega arith;
     rides_fit = all_of_none (IsRide four_nodes);
     picked_before = all_of_none (λ (ride : Ride). IfSome ride.picked (λ picked. picked ≤ 0));
     planned = record {
       ids_differ = tt;
       each_ride = all_of_none (λ (ride : Ride). map visit_of (stops_of ride.id []) ≡ visits_due ride ride.picked);
-      each_stop = all_of_none (λ (stop : Stop). Contains (ride_ids []) stop.ride)
+      each_stop = all_of_none (λ (stop : Stop). Contains (ride_ids []) stop.ride);
     };
-    legs = tt
+    legs = tt;
   };
-  loads = refl
+  loads = refl;
 }
 
 ride_fits : IsRide four_nodes ride_7
 ride_fits = record {
-  from_node = (omega arith, omega arith); to_node = (omega arith, omega arith); nodes_differ = λ same. omega (arith, same);
-  seats_limit = omega arith; chairs_limit = omega arith; some_load = omega arith; latest_limit = omega arith; some_seconds = omega arith; longest_limit = omega arith
+  from_node = (omega arith, omega arith);
+  to_node = (omega arith, omega arith);
+  nodes_differ = λ same. omega (arith, same);
+  seats_limit = omega arith;
+  chairs_limit = omega arith;
+  some_load = omega arith;
+  latest_limit = omega arith;
+  some_seconds = omega arith;
+  longest_limit = omega arith;
 }
 
 promised_is_lawful : IsLawful four_nodes (with_ride_7 2)
 unfolding IsDistinct travel travel_within
 promised_is_lawful = record {
   routed = record {
-    some_seat = omega arith; seats_limit = omega arith; chairs_limit = omega arith; at_node = (omega arith, omega arith); ready_limit = omega arith;
+    some_seat = omega arith;
+    seats_limit = omega arith;
+    chairs_limit = omega arith;
+    at_node = (omega arith, omega arith);
+    ready_limit = omega arith;
     rides_fit = all_of_one (IsRide four_nodes) ride_7 ride_fits;
     picked_before = all_of_one (λ (ride : Ride). IfSome ride.picked (λ picked. picked ≤ 0)) ride_7 tt;
     planned = record {
       ids_differ = (tt, tt);
       each_ride = all_of_one (λ (ride : Ride). map visit_of (stops_of ride.id (with_ride_7 2).stops.items) ≡ visits_due ride ride.picked) ride_7 refl;
       each_stop = all_of_two (λ (stop : Stop). Contains (ride_ids (ride_7 ∷ [])) stop.ride) (pickup 7 2 60) (dropoff 7 4 120)
-        (0, omega arith, refl) (0, omega arith, refl)
+          (0, omega arith, refl) (0, omega arith, refl);
     };
-    legs = (refl, (refl, tt))
+    legs = (refl, (refl, tt));
   };
-  loads = refl
+  loads = refl;
 }
 
 idle_lawful : All (IsLawful four_nodes) (idle_vehicle 1 2 1 ∷ [])
@@ -80,15 +95,32 @@ idle_times s late = all_of_one (KeepsTimes s late) (idle_vehicle 1 2 1)
 promised_times : (s : State) (late : List ℕ) → s.settings.dwell ≡ 0 → All (KeepsTimes s late) (with_ride_7 2 ∷ [])
 promised_times s late at_once = all_of_one (KeepsTimes s late) (with_ride_7 2)
     (all_of_one (λ (ride : Ride). IsFalse (is_late late ride.id) → IsFalse (breaks_ride (with_ride_7 2) s.settings.dwell ride)) ride_7
-      (λ _. subst (λ dwell. IsFalse (breaks_ride (with_ride_7 2) dwell ride_7)) (sym at_once) refl))
+    (λ _. subst (λ dwell. IsFalse (breaks_ride (with_ride_7 2) dwell ride_7)) (sym at_once) refl))
 
 pub plain_keeps : KeepsPromises start plain_path
 unfolding KeepsPromises travel travel_within offer_of request_step ask_step
-plain_keeps =
-    (record { lawful = idle_lawful; times = idle_times start [] }, tt,
-    (record { lawful = idle_lawful; times = idle_times start [] }, tt,
-    (record { lawful = idle_lawful; times = idle_times start [] }, tt,
-    (record { lawful = idle_lawful; times = idle_times start [] }, tt,
-    (record { lawful = promised_lawful; times = promised_times start [] refl }, tt,
-    (record { lawful = promised_lawful; times = promised_times start [] refl }, tt,
-    record { lawful = promised_lawful; times = promised_times start [] refl }))))))
+plain_keeps = (
+  record { lawful = idle_lawful; times = idle_times start [] },
+  tt,
+  (
+    record { lawful = idle_lawful; times = idle_times start [] },
+    tt,
+    (
+      record { lawful = idle_lawful; times = idle_times start [] },
+      tt,
+      (
+        record { lawful = idle_lawful; times = idle_times start [] },
+        tt,
+        (
+          record { lawful = promised_lawful; times = promised_times start [] refl },
+          tt,
+          (
+            record { lawful = promised_lawful; times = promised_times start [] refl },
+            tt,
+            record { lawful = promised_lawful; times = promised_times start [] refl },
+          ),
+        ),
+      ),
+    ),
+  ),
+)

@@ -8,9 +8,12 @@ use Rattle.worked_rows.specs.Vehicles.{ride_of_one, idle_vehicle}
 
 abbrev pub two_requests : BatchCopy
 two_requests = record {
-  number = 1; desk = 1; time = 0; settings = default_settings;
+  number = 1;
+  desk = 1;
+  time = 0;
+  settings = default_settings;
   requests = ride_of_one 5 2 1 600 300 ∷ ride_of_one 6 1 2 600 300 ∷ [];
-  vehicles = idle_vehicle 1 2 1 ∷ idle_vehicle 2 2 4 ∷ []
+  vehicles = idle_vehicle 1 2 1 ∷ idle_vehicle 2 2 4 ∷ [];
 }
 
 -- request 5 first takes the vehicle that is cheapest for it

@@ -29,7 +29,12 @@ start = start_state four_nodes one_by_one (idle_vehicle 1 2 1 ∷ [])
 -- the batch of the plain path
 abbrev pub batch : BatchCopy
 batch = record {
-  number = 1; desk = 1; time = 0; settings = one_by_one; requests = ride_7 ∷ []; vehicles = idle_vehicle 1 2 1 ∷ []
+  number = 1;
+  desk = 1;
+  time = 0;
+  settings = one_by_one;
+  requests = ride_7 ∷ [];
+  vehicles = idle_vehicle 1 2 1 ∷ [];
 }
 
 abbrev pub plain_path : List Entry

@@ -10,7 +10,7 @@ arc tail head seconds = record { tail = tail; head = head; seconds = seconds }
 abbrev pub four_nodes : RoadMap
 four_nodes = record {
   nodes = 4;
-  arcs = arc 1 2 60 ∷ arc 2 1 60 ∷ arc 2 3 60 ∷ arc 3 2 60 ∷ arc 3 4 60 ∷ arc 4 3 60 ∷ []
+  arcs = arc 1 2 60 ∷ arc 2 1 60 ∷ arc 2 3 60 ∷ arc 3 2 60 ∷ arc 3 4 60 ∷ arc 4 3 60 ∷ [];
 }
 
 -- the settings where a fleet file sets none

@@ -26,8 +26,15 @@ dropoff ride node leg = record { ride = ride; kind = Dropoff; node = node; leg =
 -- an idle vehicle of so many seats at a node, as a fleet file gives it
 abbrev pub idle_vehicle : ℕ → ℕ → ℕ → Vehicle
 idle_vehicle id seats at = record {
-  id = id; seats = seats; chairs = 0; at = at; ready = 0; duty = true; version = 0;
-  rides = record { items = [] }; stops = record { items = [] }
+  id = id;
+  seats = seats;
+  chairs = 0;
+  at = at;
+  ready = 0;
+  duty = true;
+  version = 0;
+  rides = record { items = [] };
+  stops = record { items = [] };
 }
 
 -- a vehicle with so many more rides

@@ -24,8 +24,7 @@ pub fn stale_pairs_are_named()
         (at_commit default_settings ride_7 (InBatch 1) (idle_vehicle 1 2 1) 0) ≡ (7, Away) ∷ [] }
     ensures confirmed { outcomes_of (batch_of default_settings ride_7) (seat 7 1 0 0 ∷ [])
         (at_commit default_settings ride_7 (InBatch 1) (idle_vehicle 1 2 1) 0) ≡ (7, Confirmed) ∷ [] }
-{
-}
+{}
 
 /// A request whose pair went stale waits again, and the vehicle stays as it was.
 pub fn stale_requests_wait_again()
@@ -35,5 +34,4 @@ pub fn stale_requests_wait_again()
         (at_commit default_settings (ride_of_one 8 4 3 600 300) (InBatch 1) (with_ride_7 2) 0)).vehicles ≡ with_ride_7 2 ∷ [] }
     ensures gone { (after_commit (batch_of default_settings ride_7) (seat 7 1 0 0 ∷ [])
         (at_commit default_settings ride_7 Cancelled (idle_vehicle 1 2 1) 0)).vehicles ≡ idle_vehicle 1 2 1 ∷ [] }
-{
-}
+{}

@@ -12,14 +12,12 @@ ghost use Rattle.worked_rows.specs.PlainPath.{plain_path, plain_text, text_line,
 /// The text of the plain path's history is its log, to the byte.
 pub fn plain_path_text()
     ensures { text_of 1 1 1 plain_path ≡ plain_text }
-{
-}
+{}
 
 /// The plain path's history is legal from the start of its fleet.
 pub fn plain_path_is_legal()
     ensures { IsLegal 1 1 start plain_path }
-{
-}
+{}
 
 /// Both actors ended whole, nothing is open, and the batch stands directly behind its ask.
 pub fn plain_path_is_finished_and_direct()
@@ -28,18 +26,15 @@ pub fn plain_path_is_finished_and_direct()
     ensures commands { fed_commands 1 plain_path ≡ Request 7 2 4 1 600 300 0 ∷ Ask ∷ [] }
     ensures confirmed { confirmed_total plain_path ≡ 1 }
     ensures away { away_total plain_path ≡ 0 }
-{
-}
+{}
 
 /// The ride of the plain path is promised and kept.
 pub fn plain_path_keeps_its_promises()
     ensures { KeepsPromises start plain_path }
-{
-}
+{}
 
 /// Version 2 of the log spells a request's chairs, version 1 does not.
 pub fn chairs_in_both_versions()
     ensures two { line_of (command_fields 2 (Request 7 2 4 0 600 300 1)) ≡ text_line (codes "request 7 2 4 0 600 300 1") }
     ensures one { line_of (command_fields 1 (Request 7 2 4 1 600 300 0)) ≡ text_line (codes "request 7 2 4 1 600 300") }
-{
-}
+{}

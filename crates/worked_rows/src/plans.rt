@@ -18,30 +18,26 @@ pub fn travel_times()
     ensures back { travel four_nodes 4 2 ≡ Some 120 }
     ensures staying { travel four_nodes 3 3 ≡ Some 0 }
     ensures nowhere { travel four_nodes 1 5 ≡ None }
-{
-}
+{}
 
 /// The pooled plan reaches nodes 2, 3, 4 and 4 again after one, two, three and three minutes.
 pub fn pooled_plan_times()
     ensures times { times_of pooled 0 0 ≡ 60 ∷ 120 ∷ 180 ∷ 180 ∷ [] }
     ensures drive { drive_of pooled 0 ≡ 180 }
     ensures standing { times_of pooled 5 30 ≡ 65 ∷ 155 ∷ 245 ∷ 275 ∷ [] }
-{
-}
+{}
 
 /// One rider, then two, then one and none are aboard.
 pub fn pooled_plan_loads()
     ensures { loads_of pooled ≡ record { seats = 1; chairs = 0 } ∷ record { seats = 2; chairs = 0 }
         ∷ record { seats = 1; chairs = 0 } ∷ record { seats = 0; chairs = 0 } ∷ [] }
-{
-}
+{}
 
 /// Ride 9 costs nothing more where ride 7 passes, and the plan with it is the pooled one.
 pub fn pooled_at_no_added_cost()
     ensures price { price four_nodes default_settings (with_ride_7 2) ride_9 0 ≡ Some 0 }
     ensures plan { inserted four_nodes (record (with_ride_7 2) { version = 2 }) ride_9 1 1 ≡ Some pooled }
-{
-}
+{}
 
 /// A ride of two minutes keeps a limit of 120 seconds, and not one of 119.
 pub fn ride_limit_is_exact()
@@ -50,15 +46,13 @@ pub fn ride_limit_is_exact()
     ensures not_kept { IsFalse (keeps (with_rides (idle_vehicle 1 2 1) 0 (ride_of_one 7 2 4 600 119 ∷ [])
         (pickup 7 2 60 ∷ dropoff 7 4 120 ∷ [])) 0 0) }
     ensures away { price four_nodes default_settings (idle_vehicle 1 2 1) (ride_of_one 7 2 4 600 119) 0 ≡ None }
-{
-}
+{}
 
 /// A pickup after a minute keeps a latest time of 60, and not one of 59.
 pub fn latest_pickup_is_exact()
     ensures kept { price four_nodes default_settings (idle_vehicle 1 2 1) (ride_of_one 7 2 4 60 300) 0 ≡ Some 180 }
     ensures not_kept { price four_nodes default_settings (idle_vehicle 1 2 1) (ride_of_one 7 2 4 59 300) 0 ≡ None }
-{
-}
+{}
 
 /// Two riders do not share one seat: the place pair that would add nothing is no offer.
 pub fn one_seat_is_not_shared()
@@ -66,24 +60,20 @@ pub fn one_seat_is_not_shared()
     ensures price { price four_nodes default_settings (with_ride_7 1) (ride_of_one 10 1 3 600 300) 0 ≡ Some 120 }
     ensures costs { map (λ (offer : Offer). offer.cost)
         (offers four_nodes default_settings (with_ride_7 1) (ride_of_one 10 1 3 600 300) 0) ≡ 120 ∷ 300 ∷ [] }
-{
-}
+{}
 
 /// Of four places for ride 9 three would add two minutes, but each breaks a limit of ride 7.
 pub fn limits_of_riders_in_the_plan_hold()
     ensures { price four_nodes default_settings (with_rides (idle_vehicle 1 2 1) 1 (ride_of_one 7 2 4 60 120 ∷ [])
         (pickup 7 2 60 ∷ dropoff 7 4 120 ∷ [])) (ride_of_one 9 2 1 600 200) 0 ≡ Some 180 }
-{
-}
+{}
 
 /// A vehicle that drives and reached its node before the batch's time is not open.
 pub fn passed_vehicle_is_not_open()
     ensures { price four_nodes default_settings (with_ride_7 2) ride_9 30 ≡ None }
-{
-}
+{}
 
 /// Taking ride 9 out gives the plan of ride 7 back.
 pub fn plan_without_a_ride()
     ensures { without_ride four_nodes (record pooled { version = 1 }) 9 ≡ with_ride_7 2 }
-{
-}
+{}

@@ -15,13 +15,11 @@ pub fn greedy_is_dearer()
     ensures cost { seating_cost four_nodes two_requests least_seats ≡ 240 }
     ensures certified { Certifies four_nodes two_requests least_seats ((5, 180) ∷ (6, 120) ∷ []) ((1, 60) ∷ []) }
     ensures least { IsLeastSeating four_nodes two_requests least_seats }
-{
-}
+{}
 
 /// A price of 180 certifies the plain path's seating, and one of 181 does not.
 pub fn price_of_the_plain_path()
     ensures certified { Certifies four_nodes batch (seat 7 1 0 0 ∷ []) ((7, 180) ∷ []) [] }
     ensures too_high { Certifies four_nodes batch (seat 7 1 0 0 ∷ []) ((7, 181) ∷ []) [] → ⊥ }
     ensures least { IsLeastSeating four_nodes batch (seat 7 1 0 0 ∷ []) }
-{
-}
+{}

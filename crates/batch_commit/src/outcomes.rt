@@ -9,11 +9,18 @@ ghost use Rattle.ride_model.specs.Seating.{vehicle_ids, find_vehicle};
 ghost use Rattle.ride_model.specs.Batch.{seat_of, priced_start, version_of, seated_outcome, outcome_by, outcomes_of};
 ghost use Rattle.batch_commit.specs.Solved.{StandsSo};
 
-use crate::{Batch, Solved};
+use crate::Batch;
 use ride_model::{Outcome, OutcomeList, Seat, Vehicle};
 
 // The outcome of a request.
-fn outcome_for(batch: &Batch, seats: &[Seat], id: u64, cancelled: bool, now: u64, vehicles: &[Vehicle]) -> Outcome
+fn outcome_for(
+    batch: &Batch,
+    seats: &[Seat],
+    id: u64,
+    cancelled: bool,
+    now: u64,
+    vehicles: &[Vehicle],
+) -> Outcome
     ensures { (s : State) → s.vehicles ≡ vehicles.now → s.clock ≡ now
         → result ≡ outcome_by batch.now s cancelled (seat_of seats.now id) }
 {
@@ -102,7 +109,7 @@ fn start_of_copy(vehicle: &Vehicle, time: u64, lead: u64) -> u64
 }
 
 // Decides each request in turn.
-fn decide_each(
+pub fn decide_each(
     batch: &Batch,
     seats: &[Seat],
     now: u64,

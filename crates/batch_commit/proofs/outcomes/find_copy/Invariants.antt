@@ -1,7 +1,7 @@
 use Rattle.std.proofs.Common.{◌≡◌, drop}
 use Rattle.std.specs.Prelude.{find, ◌==◌}
 use Rattle.ride_model.specs.declared.vehicle.Vehicle.{Vehicle}
-use Rattle.batch_commit.proofs.decide.find_copy.Given as goal
+use Rattle.batch_commit.proofs.outcomes.find_copy.Given as goal
 
 -- what is found in all is what is found in those that are left
 abbrev pub invariant-loop-vehicle : goal.invariant-loop-vehicle

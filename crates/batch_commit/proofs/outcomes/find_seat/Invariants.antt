@@ -1,7 +1,7 @@
 use Rattle.std.proofs.Common.{◌≡◌, drop}
 use Rattle.std.specs.Prelude.{find, ◌==◌}
 use Rattle.ride_model.specs.declared.offer.Seat.{Seat}
-use Rattle.batch_commit.proofs.decide.find_seat.Given as goal
+use Rattle.batch_commit.proofs.outcomes.find_seat.Given as goal
 
 -- what is found in all is what is found in those that are left
 abbrev pub invariant-loop-seat : goal.invariant-loop-seat
