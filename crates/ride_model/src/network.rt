@@ -49,7 +49,8 @@ impl Network {
     /// The number of nodes.
     #[inline]
     pub fn nodes(&self) -> u32
-        ensures { result ≡ self.now.nodes }
+        ensures nodes { result ≡ self.now.nodes }
+        ensures fits { IsRoadMap self.now }
     {
         self.nodes
     }
@@ -57,7 +58,8 @@ impl Network {
     /// The arcs, in order.
     #[inline]
     pub fn arcs(&self) -> &[RoadArc]
-        ensures { result.now ≡ self.now.arcs }
+        ensures arcs { result.now ≡ self.now.arcs }
+        ensures fits { IsRoadMap self.now }
     {
         self.arcs.as_slice()
     }
