@@ -3,3 +3,4 @@ pub mod AboardLists
 pub mod InsertedLegs
 pub mod RemovedLegs
 pub mod Marked
+pub mod Examples

@@ -2,3 +2,4 @@ pub mod Change
 pub mod Aboard
 pub mod Legged
 pub mod First
+pub mod Examples
