@@ -1,0 +1,2 @@
+pub mod FleetText
+pub mod Reading

@@ -1,0 +1,16 @@
+//! Reads fleet files: settings and vehicles.
+#![tactic(auto)]
+
+mod errors;
+mod laws;
+mod lines;
+mod reading;
+mod settings;
+mod vehicles;
+
+pub use errors::FleetError;
+pub use laws::a_text_has_one_answer;
+pub use reading::read_fleet;
+
+#[cfg(test)]
+mod tests;

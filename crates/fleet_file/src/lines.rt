@@ -1,0 +1,146 @@
+//! The lines of a fleet file.
+ghost use Rattle.std.specs.Prelude.{◌≡◌, ℕ, List, take};
+ghost use Rattle.line_text.specs.Fields.{is_over_long, words_of};
+ghost use Rattle.fleet_file.specs.FleetText.{setting_of};
+
+use crate::FleetError;
+use crate::settings::{Name, Seen, greatest, has_seen, least, name_of, see, set};
+use crate::vehicles::{has_id, has_value_out, idle_vehicle, read_vehicle};
+use line_text::{Fields, words_of};
+use ride_model::{Fleet, Settings, Vehicle};
+use std::alloc::Global;
+
+/// What the lines so far said.
+#[derive(Drop)]
+pub struct FleetLines {
+    /// With the defaults of those that were not set.
+    pub settings: Settings,
+    pub seen: Seen,
+    pub vehicles: Vec<Vehicle>,
+}
+
+impl FleetLines {
+    ghost use Rattle.line_text.specs.Fields.{numbers_of};
+    ghost use Rattle.fleet_file.specs.FleetText.{after_words, nothing_said, setting_line, vehicle_from, vehicle_line};
+    ghost use Rattle.fleet_file.specs.Reading.{Gives, IsWithin, said};
+
+    /// No lines.
+    pub fn new(alloc: Global) -> FleetLines
+        ensures nothing { said result ≡ nothing_said }
+        ensures within { IsWithin result }
+    {
+        FleetLines {
+            settings: Settings {
+                batch: 32,
+                penalty: 3_600,
+                drive: 1,
+                wait: 0,
+                lead: 0,
+                dwell: 0,
+                log: 1,
+            },
+            seen: Seen {
+                batch: false,
+                penalty: false,
+                drive: false,
+                wait: false,
+                lead: false,
+                dwell: false,
+                log: false,
+            },
+            vehicles: Vec::new(alloc),
+        }
+    }
+
+    /// Takes the line of this number, over a map of so many nodes: its first 200 bytes, and
+    /// whether it has more.
+    pub fn line(
+        &mut self,
+        nodes: u32,
+        number: u64,
+        line: &[u8],
+        over: bool,
+    ) -> Result<(), FleetError>
+        requires { IsWithin self.old }
+        ensures within { IsWithin self.new }
+        ensures given { (whole : List ℕ) → line.now ≡ take 200 whole → over ≡ is_over_long whole →
+            Gives result self.new (after_words nodes number (said self.old) (words_of 35 whole)) }
+    {
+        let Some(mut fields) = words_of(b'#', line, over) else {
+            return Err(FleetError::BadLine(number));
+        };
+        let Some(word) = fields.next_field() else {
+            return Ok(());
+        };
+        if word == b"set".as_slice() {
+            return self.setting_line(number, &mut fields);
+        }
+        if word == b"vehicle".as_slice() {
+            return self.vehicle_line(nodes, number, &mut fields);
+        }
+        Err(FleetError::BadLine(number))
+    }
+
+    /// Takes the fields after `set`.
+    fn setting_line(&mut self, number: u64, fields: &mut Fields<'_>) -> Result<(), FleetError>
+        requires { IsWithin self.old }
+        ensures within { IsWithin self.new }
+        ensures given { Gives result self.new (setting_line number (said self.old) (setting_of fields.old)) }
+    {
+        let Some((name, value)) = read_setting(fields) else {
+            return Err(FleetError::BadLine(number));
+        };
+        if has_seen(&self.seen, name) {
+            return Err(FleetError::Repeat(number));
+        }
+        if value < least(name) || value > greatest(name) {
+            return Err(FleetError::ValueOut(number));
+        }
+        set(&mut self.settings, name, value);
+        see(&mut self.seen, name);
+        Ok(())
+    }
+
+    /// Takes the fields after `vehicle`.
+    fn vehicle_line(
+        &mut self,
+        nodes: u32,
+        number: u64,
+        fields: &mut Fields<'_>,
+    ) -> Result<(), FleetError>
+        requires { IsWithin self.old }
+        ensures within { IsWithin self.new }
+        ensures given { Gives result self.new (vehicle_line nodes number (said self.old) (vehicle_from (numbers_of fields.old))) }
+    {
+        let Some(new) = read_vehicle(fields) else {
+            return Err(FleetError::BadLine(number));
+        };
+        if has_id(self.vehicles.as_slice(), new.id) {
+            return Err(FleetError::Repeat(number));
+        }
+        if new.node == 0 || new.node > u64::from(nodes) {
+            return Err(FleetError::NodeOut(number));
+        }
+        if has_value_out(&new) {
+            return Err(FleetError::ValueOut(number));
+        }
+        if self.vehicles.len() >= Fleet::MOST_VEHICLES {
+            return Err(FleetError::TooMany(number));
+        }
+        let Ok(()) = self.vehicles.push(idle_vehicle(&new)) else {
+            return Err(FleetError::NoMemory);
+        };
+        Ok(())
+    }
+}
+
+/// Reads the fields after `set`.
+fn read_setting(fields: &mut Fields<'_>) -> Option<(Name, u64)>
+    ensures { result ≡ setting_of fields.old }
+{
+    let name = name_of(fields.next_field()?)?;
+    match fields.numbers::<1>()?.as_slice() {
+        [value] => Some((name, *value)),
+        _ => None,
+    }
+}

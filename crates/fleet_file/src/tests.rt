@@ -1,0 +1,67 @@
+//! Fleet files and what is none.
+use crate::{FleetError, a_text_has_one_answer, read_fleet};
+use ride_model::{Network, Settings};
+use ride_ports::MemSource;
+use std::process::Abort;
+use std::test::Fail;
+
+fn refuses<R: Abort + AllocGlobal>(rt: &R, bytes: &[u8], error: FleetError) {
+    let map = Network::new(4, Vec::new(rt.alloc()));
+    match read_fleet(rt.alloc(), &mut MemSource::new(bytes, &[], &[]), &map) {
+        Ok(_) => assert!(rt; false, "a fleet"),
+        Err(refusal) => assert!(rt; refusal == error, "{refusal:?}"),
+    }
+}
+
+#[test]
+fn odd_spellings_give_the_same_fleet_in_any_pieces(rt: HostRuntime) -> Result<(), Fail> {
+    let map = Network::new(4, Vec::new(rt.alloc()));
+    let bytes = b"# fleet\r\nvehicle 7 16\t4 1000000000\r\n\nset  penalty 0179 \nvehicle 8 1 1 0 4";
+    for pieces in [&[1], &[2], &[7]] {
+        let (settings, fleet) = read_fleet(
+            rt.alloc(),
+            &mut MemSource::new(bytes, pieces, &[]),
+            &map,
+        )?;
+        let expected = Settings {
+            batch: 32,
+            penalty: 179,
+            drive: 1,
+            wait: 0,
+            lead: 0,
+            dwell: 0,
+            log: 1,
+        };
+        assert_eq!(rt; settings, expected);
+        let vehicles = fleet.vehicles();
+        assert_eq!(rt; vehicles.len(), 2);
+        assert!(rt; vehicles[0].id == 7 && vehicles[0].seats == 16 && vehicles[0].chairs == 0);
+        assert!(rt; vehicles[1].id == 8 && vehicles[1].at == 1 && vehicles[1].chairs == 4);
+    }
+    Ok(())
+}
+
+#[test]
+fn each_refusal_has_its_line(rt: HostRuntime) {
+    a_text_has_one_answer();
+    refuses(&rt, b"set speed 1", FleetError::BadLine(1));
+    refuses(&rt, b"vehicle 1 1 1", FleetError::BadLine(1));
+    refuses(&rt, b"set lead 1\nset lead 9999", FleetError::Repeat(2));
+    refuses(
+        &rt,
+        b"vehicle 1 1 1 0\nvehicle 1 0 9 0",
+        FleetError::Repeat(2),
+    );
+    refuses(&rt, b"vehicle 1 0 5 0", FleetError::NodeOut(1));
+    refuses(&rt, b"vehicle 1 0 1 0", FleetError::ValueOut(1));
+    refuses(&rt, b"set batch 129", FleetError::ValueOut(1));
+    refuses(&rt, b"set log 3", FleetError::ValueOut(1));
+}
+
+#[test]
+fn a_fault_of_reading_is_told(rt: HostRuntime) {
+    let map = Network::new(4, Vec::new(rt.alloc()));
+    let mut src = MemSource::new(b"set log 2", &[], &[1]);
+    assert!(rt; read_fleet(rt.alloc(), &mut src, &map).is_err_and(|e| e == FleetError::ReadFault));
+    assert_eq!(rt; src.faults(), 1);
+}

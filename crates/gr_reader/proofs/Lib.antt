@@ -1,0 +1,3 @@
+mod MapLemmas
+mod NamedLemmas
+mod ReadLemmas

@@ -1,0 +1,5 @@
+pub mod LineLemmas
+mod CutterLemmas
+mod FieldLemmas
+mod NumberLemmas
+pub mod TextLemmas

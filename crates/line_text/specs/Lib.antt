@@ -1,0 +1,5 @@
+pub mod Lines
+pub mod Cutter
+pub mod Numbers
+pub mod Fields
+pub mod Texts
