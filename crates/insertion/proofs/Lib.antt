@@ -1,0 +1,6 @@
+pub mod NearLegs
+pub mod Joined
+pub mod FewRides
+pub mod OfferLaws
+pub mod LeastOffers
+pub mod Examples

@@ -1,0 +1,19 @@
+use Rattle.std.proofs.Common.{◌≡◌, ◌+◌, length}
+use Rattle.std.specs.Prelude.{IfSome, Some}
+use Rattle.ride_model.specs.declared.offer.Offer.{Offer}
+use Rattle.ride_model.specs.Road.{RoadMap, lesser}
+use Rattle.ride_model.specs.Offers.{offer_of}
+use Rattle.insertion.specs.Asked.{IsAsked}
+use Rattle.insertion.specs.Least.{cost_if_any, least_with_pickup}
+use Rattle.insertion.proofs.best.best_with_pickup_at.Given as goal
+
+-- the best so far and the least cost of the places that are left are the least of all
+abbrev pub invariant-loop-j : goal.invariant-loop-j
+invariant-loop-j l = record {
+  end_is : l.j-end ≡ length l.vehicle.stops.items + 1;
+  cost : (roads : RoadMap) → IsAsked roads l.vehicle l.ride l.now l.settings l.near
+      → lesser (cost_if_any l.best) (least_with_pickup roads l.settings l.vehicle l.ride l.now l.i l.j)
+      ≡ least_with_pickup roads l.settings l.vehicle l.ride l.now l.i l.i;
+  an_offer : (roads : RoadMap) → IsAsked roads l.vehicle l.ride l.now l.settings l.near
+      → IfSome l.best (λ (offer : Offer). offer_of roads l.settings l.vehicle l.ride l.now offer.i offer.j ≡ Some offer);
+}

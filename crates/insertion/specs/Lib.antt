@@ -1,0 +1,4 @@
+pub mod Asked
+pub mod Joined
+pub mod Least
+pub mod Examples

@@ -1,0 +1,17 @@
+//! Where one more ride fits into a vehicle's plan, and what it costs there: the plain way, which tries every pair of places
+//! by the whole plan. A check of another way's answers can rely on it.
+#![tactic(auto)]
+
+mod best;
+mod joins;
+mod near;
+mod offer;
+mod plan;
+mod prices;
+
+pub use best::best_place;
+pub use near::{Near, NearStop};
+pub use offer::offer_at;
+
+#[cfg(test)]
+mod tests;
