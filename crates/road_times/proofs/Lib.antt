@@ -1,0 +1,5 @@
+pub mod Searches
+pub mod Lists
+pub mod Relaxing
+pub mod Places
+pub mod Turning

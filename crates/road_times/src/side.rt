@@ -1,0 +1,8 @@
+/// The side of a row of travel times.
+#[derive(Clone, Copy, Debug, PartialEq, Eq)]
+pub enum Side {
+    /// From one node to the others.
+    Out,
+    /// From the others to one node.
+    Back,
+}
