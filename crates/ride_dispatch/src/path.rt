@@ -2,30 +2,32 @@
 mod feed;
 mod fleet;
 mod log;
-mod road;
+mod map;
 mod seat;
 mod texts;
 
 use ride_ports::NoMemory;
+use road_times::Roads;
 use std::alloc::Global;
 
-/// The log of a feed over a map and a fleet, None where a text is outside the form: a map of at most 1,000 nodes, batches of
-/// one, vehicle lines, and a feed of requests with at most one batch.
+/// The log of a feed over a map and a fleet, None where a text is outside the form: a map without comments, batches of one,
+/// vehicle lines, and a feed of requests with at most one batch.
 pub fn log_of(
     alloc: Global,
     map: &[u8],
     fleet: &[u8],
     feed: &[u8],
 ) -> Result<Option<String>, NoMemory> {
-    let Some(road) = road::read(alloc, map)? else {
+    let Some(map) = map::read(alloc, map)? else {
         return Ok(None);
     };
-    let Some(fleet) = fleet::read(alloc, fleet, road.nodes)? else {
+    let Some(fleet) = fleet::read(alloc, fleet, map.nodes())? else {
         return Ok(None);
     };
-    let Some(feed) = feed::read(alloc, feed, road.nodes)? else {
+    let Some(feed) = feed::read(alloc, feed, map.nodes())? else {
         return Ok(None);
     };
-    let seat = seat::best(alloc, &road, fleet.as_slice(), &feed)?;
+    let roads = Roads::new(alloc, &map)?;
+    let seat = seat::best(alloc, &roads, fleet.as_slice(), feed.as_slice())?;
     Ok(Some(log::print(alloc, fleet.as_slice(), &feed, seat)?))
 }

@@ -1,8 +1,11 @@
 //! The seat of one request.
+ghost use Rattle.std.specs.Prelude.{◌≡◌, All};
+ghost use Rattle.ride_dispatch.specs.Path.{IsNodeOf, IsLineOn, IsVehicleOn};
+
 use crate::path::feed::{Line, Request, batched};
 use crate::path::fleet::Vehicle;
-use crate::path::road::Road;
 use ride_ports::NoMemory;
+use road_times::{Roads, Scratch, Side};
 use std::alloc::Global;
 
 /// A vehicle's place in the fleet, and what it costs.
@@ -18,33 +21,65 @@ pub const PENALTY: u64 = 3_600;
 /// The cheapest vehicle for the batch's request, None where there is none or turning it away is cheaper.
 pub fn best(
     alloc: Global,
-    road: &Road,
+    roads: &Roads,
     fleet: &[Vehicle],
     feed: &[Line],
-) -> Result<Option<Seat>, NoMemory> {
+) -> Result<Option<Seat>, NoMemory>
+    requires vehicles { All (IsVehicleOn roads.now.nodes) fleet.now }
+    requires lines { All (IsLineOn roads.now.nodes) feed.now }
+{
     let Some(request) = batched(feed) else {
         return Ok(None);
     };
-    let to_pickup = road.times_to(alloc, request.from)?;
-    let to_dropoff = road.times_to(alloc, request.to)?;
-    let Some(Some(ride)) = to_dropoff.get(request.from as usize).copied() else {
+    let mut scratch = Scratch::new(alloc, roads)?;
+    let Some(ride) = roads.time(&mut scratch, request.from, request.to) else {
         return Ok(None);
     };
+    let ways = ways_to(alloc, roads, &mut scratch, request.from, fleet)?;
+    Ok(cheapest(&request, fleet, ways.as_slice(), ride))
+}
+
+// The seconds from each vehicle to a node.
+fn ways_to(
+    alloc: Global,
+    roads: &Roads,
+    scratch: &mut Scratch,
+    node: u32,
+    fleet: &[Vehicle],
+) -> Result<Vec<Option<u64>>, NoMemory>
+    requires scratch { scratch.old.nodes ≡ roads.now.nodes }
+    requires node { IsNodeOf roads.now.nodes node }
+    requires vehicles { All (IsVehicleOn roads.now.nodes) fleet.now }
+{
+    let nodes: Vec<u32> = fleet.iter().map(|vehicle| vehicle.node).collect(alloc)?;
+    let mut ways = vec![in alloc; None; nodes.len()]?;
+    roads.rows(
+        scratch,
+        node,
+        Side::Back,
+        nodes.as_slice(),
+        ways.as_mut_slice(),
+    );
+    Ok(ways)
+}
+
+// The first vehicle of least cost that keeps the request's limits, where it costs no more than turning the request away.
+fn cheapest(request: &Request, fleet: &[Vehicle], ways: &[Option<u64>], ride: u64) -> Option<Seat> {
     let mut best: Option<Seat> = None;
-    for vehicle in fleet {
-        let Some(Some(way)) = to_pickup.get(vehicle.node as usize).copied() else {
+    for (vehicle, way) in fleet.iter().zip(ways) {
+        let Some(way) = *way else {
             continue;
         };
         let cost = way.saturating_add(ride);
         let cheaper = cost <= PENALTY && best.is_none_or(|seat| cost < seat.cost);
-        if cheaper && keeps(&request, vehicle, way, ride) {
+        if cheaper && keeps(request, vehicle, way, ride) {
             best = Some(Seat {
                 vehicle: vehicle.id,
                 cost,
             });
         }
     }
-    Ok(best)
+    best
 }
 
 // Whether a vehicle keeps the request's limits.

@@ -1,0 +1,28 @@
+-- What the texts of the plain path keep to.
+use Rattle.std.specs.Prelude.{ℕ, ◌≤◌, ⊤}
+use Rattle.ride_model.specs.declared.network.RoadArc.{RoadArc}
+use Rattle.ride_dispatch.specs.declared.path.feed.Line.{Line}
+use Rattle.ride_dispatch.specs.declared.path.feed.Line.TheVariants.{Request, Batch}
+use Rattle.ride_dispatch.specs.declared.path.feed.Request as feed
+use Rattle.ride_dispatch.specs.declared.path.fleet.Vehicle.{Vehicle}
+
+-- the number of one of so many nodes
+abbrev pub IsNodeOf : ℕ → ℕ → Type 0
+IsNodeOf nodes node = (1 ≤ node) × (node ≤ nodes)
+
+-- an arc among so many nodes
+abbrev pub IsArcOn : ℕ → RoadArc → Type 0
+IsArcOn nodes arc = IsNodeOf nodes arc.tail × IsNodeOf nodes arc.head × (arc.seconds ≤ 1000000000)
+
+-- a vehicle at one of so many nodes
+abbrev pub IsVehicleOn : ℕ → Vehicle → Type 0
+IsVehicleOn nodes vehicle = IsNodeOf nodes vehicle.node
+
+-- a request from one of so many nodes to another
+abbrev pub IsRequestOn : ℕ → feed.Request → Type 0
+IsRequestOn nodes request = IsNodeOf nodes request.from × IsNodeOf nodes request.to
+
+-- a line of such a request, or a batch
+abbrev pub IsLineOn : ℕ → Line → Type 0
+IsLineOn nodes (Request request) = IsRequestOn nodes request
+IsLineOn nodes Batch = ⊤
