@@ -13,6 +13,10 @@ four_nodes = record {
   arcs = arc 1 2 60 ∷ arc 2 1 60 ∷ arc 2 3 60 ∷ arc 3 2 60 ∷ arc 3 4 60 ∷ arc 4 3 60 ∷ [];
 }
 
+-- two roads in one direction
+abbrev pub one_way : RoadMap
+one_way = record { nodes = 3; arcs = arc 1 2 60 ∷ arc 2 3 60 ∷ [] }
+
 -- the settings where a fleet file sets none
 abbrev pub default_settings : Settings
 default_settings = record { batch = 32; penalty = 3600; drive = 1; wait = 0; lead = 0; dwell = 0; log = 1 }

@@ -50,3 +50,12 @@ with_ride_7 seats = with_rides (idle_vehicle 1 seats 1) 1 (ride_7 ∷ []) (picku
 abbrev pub pooled : Vehicle
 pooled = with_rides (idle_vehicle 1 2 1) 2 (ride_7 ∷ ride_9 ∷ [])
     (pickup 7 2 60 ∷ pickup 9 3 60 ∷ dropoff 9 4 60 ∷ dropoff 7 4 0 ∷ [])
+
+-- a ride of one chair and no seat
+abbrev pub ride_of_a_chair : ℕ → ℕ → ℕ → Ride
+ride_of_a_chair id from to = record (ride_of_one id from to 600 300) { seats = 0; chairs = 1 }
+
+-- a vehicle of one chair that has promised ride 7, of one chair
+abbrev pub with_a_chair : Vehicle
+with_a_chair = record (with_rides (idle_vehicle 1 2 1) 1 (ride_of_a_chair 7 2 4 ∷ []) (pickup 7 2 60 ∷ dropoff 7 4 120 ∷ []))
+    { chairs = 1 }

@@ -39,12 +39,13 @@ pub fn serving()
 
 /// Each refusal has its number, and the first that applies is given.
 pub fn refusals_in_order()
-    ensures { replies default_settings (idle_vehicle 1 2 1 ∷ [])
+    ensures order { replies default_settings (idle_vehicle 1 2 1 ∷ [])
         (request 7 2 4 600 300 ∷ request 7 2 4 600 300 ∷ request 8 5 4 600 300 ∷ request 8 2 2 600 300
         ∷ feed (Request 8 2 4 9 600 300 0) ∷ request 8 2 4 600 0 ∷ feed (At 2 1 5) ∷ feed (At 1 9 5)
         ∷ feed (At 1 1 1000000001) ∷ feed (Clock 20) ∷ feed (Clock 5) ∷ feed (Clock 1000000001) ∷ [])
         ≡ Waiting ∷ Refused 1 ∷ Refused 2 ∷ Refused 3 ∷ Refused 4 ∷ Refused 5 ∷ Refused 10 ∷ Refused 11 ∷ Refused 5
         ∷ Now 20 ∷ Now 20 ∷ Refused 5 ∷ [] }
+    ensures no_load { replies default_settings (idle_vehicle 1 2 1 ∷ []) (feed (Request 11 2 4 0 600 300 0) ∷ []) ≡ Refused 4 ∷ [] }
 {}
 
 /// With half a minute at each stop the drop-off is planned for 210 seconds.
