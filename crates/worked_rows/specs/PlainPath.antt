@@ -1,12 +1,12 @@
 -- The plain path: one vehicle, one request, one batch.
-use Rattle.std.specs.Prelude.{ℕ, List, [], ◌∷◌, ◌++◌, codes}
+use Rattle.std.specs.Prelude.{ℕ, List, [], ◌∷◌, ◌++◌, Some, codes}
 use Rattle.ride_model.specs.declared.command.Actor.{Actor}
 use Rattle.ride_model.specs.declared.command.Actor.TheVariants.{Feed, Desk}
 use Rattle.ride_model.specs.declared.command.Command.TheVariants.{Request, Ask}
-use Rattle.ride_model.specs.declared.entry.Ending.TheVariants.{Whole}
+use Rattle.ride_model.specs.declared.entry.Ending.TheVariants.{Whole, Cut}
 use Rattle.ride_model.specs.declared.entry.Entry.{Entry}
 use Rattle.ride_model.specs.declared.entry.Event.{Event}
-use Rattle.ride_model.specs.declared.entry.Event.TheVariants.{Fed, Finish, Opened, Committed}
+use Rattle.ride_model.specs.declared.entry.Event.TheVariants.{Fed, Finish, Opened, Committed, Abandoned}
 use Rattle.ride_model.specs.declared.entry.Outcome.TheVariants.{Confirmed}
 use Rattle.ride_model.specs.declared.reply.Reply.TheVariants.{Waiting, Asked}
 use Rattle.ride_model.specs.declared.settings.Settings.{Settings}
@@ -14,7 +14,7 @@ use Rattle.ride_model.specs.Seating.{BatchCopy}
 use Rattle.ride_model.specs.State.{State, start_state}
 use Rattle.worked_rows.specs.Roads.{four_nodes, default_settings}
 use Rattle.worked_rows.specs.Runs.{seat}
-use Rattle.worked_rows.specs.Vehicles.{idle_vehicle, ride_7}
+use Rattle.worked_rows.specs.Vehicles.{idle_vehicle, ride_7, ride_of_one, with_rides, dropoff}
 
 abbrev pub entry : Actor → Event → Entry
 entry actor event = record { actor = actor; event = event }
@@ -46,6 +46,28 @@ plain_path =
     ∷ entry (Feed 1) (Finish Whole)
     ∷ entry (Desk 1) (Finish Whole)
     ∷ []
+
+-- a feed that was cut
+abbrev pub cut_feed : List Entry
+cut_feed = entry (Feed 1) (Finish Cut) ∷ entry (Desk 1) (Finish Whole) ∷ []
+
+-- a batch that was given up
+abbrev pub given_up : List Entry
+given_up =
+    entry (Feed 1) (Fed Ask (Asked 1))
+    ∷ entry (Desk 1) (Opened 1 0 [] ((1, 0) ∷ []))
+    ∷ entry (Desk 1) (Abandoned 1)
+    ∷ entry (Feed 1) (Finish Whole)
+    ∷ entry (Desk 1) (Finish Whole)
+    ∷ []
+
+-- a start whose vehicle has two riders aboard and one seat
+abbrev pub overloaded : State
+overloaded = start_state four_nodes one_by_one
+    (with_rides (record (idle_vehicle 1 1 2) { ready = 60 }) 0
+    (record ride_7 { picked = Some 60 } ∷ record (ride_of_one 8 2 4 600 300) { picked = Some 60 } ∷ [])
+    (dropoff 7 4 120 ∷ dropoff 8 4 0 ∷ [])
+    ∷ [])
 
 -- a line of text
 abbrev pub text_line : List ℕ → List ℕ
