@@ -26,6 +26,16 @@ pub fn stale_pairs_are_named()
         (at_commit default_settings ride_7 (InBatch 1) (idle_vehicle 1 2 1) 0) ≡ (7, Confirmed) ∷ [] }
 {}
 
+/// Where several apply, a cancelled request is gone and not away, and a pair is moved before it is behind.
+pub fn first_outcome_that_applies()
+    ensures gone { outcomes_of (batch_of default_settings ride_7) []
+        (at_commit default_settings ride_7 Cancelled (idle_vehicle 1 2 1) 0) ≡ (7, Gone) ∷ [] }
+    ensures moved { outcomes_of (batch_of default_settings (ride_of_one 8 4 3 600 300)) (seat 8 1 0 0 ∷ [])
+        (at_commit default_settings (ride_of_one 8 4 3 600 300) (InBatch 1) (with_ride_7 2) 20) ≡ (8, Moved 0 1) ∷ [] }
+    ensures on_time { outcomes_of (batch_of (record default_settings { lead = 10 }) ride_7) (seat 7 1 0 0 ∷ [])
+        (at_commit (record default_settings { lead = 10 }) ride_7 (InBatch 1) (idle_vehicle 1 2 1) 10) ≡ (7, Confirmed) ∷ [] }
+{}
+
 /// A request whose pair went stale waits again, and the vehicle stays as it was.
 pub fn stale_requests_wait_again()
     ensures waits { request_state (after_commit (batch_of default_settings (ride_of_one 8 4 3 600 300)) (seat 8 1 0 0 ∷ [])
