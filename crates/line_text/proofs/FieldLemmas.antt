@@ -5,7 +5,7 @@ use Rattle.std.proofs.lemmas.Bool.{not-true}
 use Rattle.line_text.specs.Numbers.{number_of}
 use Rattle.line_text.specs.Fields.{is_blank, is_dropped, before_end, without_end, begins_field, joined, runs_of, numbers_of, begins_with, is_over_long, unless_comment, words_of, fields_of}
 
-before_end-not_nil : (b : ℕ) (bytes : List ℕ) → bytes ≢ [] → before_end b bytes ≡ b ∷ bytes
+pub before_end-not_nil : (b : ℕ) (bytes : List ℕ) → bytes ≢ [] → before_end b bytes ≡ b ∷ bytes
 before_end-not_nil b [] not_nil = absurd (not_nil refl)
 before_end-not_nil b (c ∷ bytes) not_nil = refl
 

@@ -3,3 +3,4 @@ mod CutterLemmas
 mod FieldLemmas
 mod NumberLemmas
 pub mod TextLemmas
+pub mod PrintedLemmas

@@ -1,0 +1,7 @@
+use Rattle.std.proofs.Common.{◌≡◌, ◌∷◌}
+use Rattle.std.specs.Prelude.{map, take, decimal}
+use Rattle.std.specs.List.{join_with_byte}
+use Rattle.command_lines.proofs.printing.word_and_numbers.Given as goal
+
+abbrev pub invariant-loop-number : goal.invariant-loop-number
+invariant-loop-number l = l.text.items ≡ join_with_byte 32 (l.fn.word ∷ map decimal (take l.number-index l.fn.numbers))
