@@ -1,3 +1,4 @@
 pub mod Table
 pub mod Answer
 pub mod Solved
+pub mod Examples

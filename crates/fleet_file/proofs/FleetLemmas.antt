@@ -10,8 +10,8 @@ use Rattle.std.proofs.lemmas.List.{length_push, map_push}
 use Rattle.std.proofs.lemmas.List.Elements.{All-append}
 use Rattle.std.proofs.lemmas.Map.Keys.{IsDistinct-push}
 use Rattle.std.proofs.lemmas.Str.Parse.{digits_value_short, numerals_by_value, tells_all_ascii_digits}
-use Rattle.line_text.specs.Numbers.{number_of}
 use Rattle.line_text.specs.Fields.{numbers_of}
+use Rattle.line_text.proofs.PrintedLemmas.{numbers_of-small}
 use Rattle.ride_model.specs.declared.vehicle.Vehicle.{Vehicle}
 use Rattle.ride_model.specs.Fleet.{IsFleet}
 use Rattle.fleet_file.specs.declared.vehicles.NewVehicle.{NewVehicle}
@@ -21,33 +21,16 @@ pub IsFleet-nil : (vehicles : List Vehicle) → vehicles ≡ [] → IsFleet vehi
 unfolding IsDistinct
 IsFleet-nil vehicles none = subst IsFleet (sym none) (record { few = omega arith; ids_differ = tt; ids_fit = λ k d below. absurd (omega arith) })
 
--- a number has at most 18 digits
-number-small : (text : List ℕ) → IfSome (number_of text) (λ n. n < 10 ^ 18)
-number-small text =
-    elim (nat_le 1 (length text)) as (λ a. IfSome (cond (a && nat_le (length text) 18 && all_ascii_digits text) (Some (digits_value 10 text)) None) (λ n. n < 10 ^ 18)) [
-      | false ↦ tt
-      | true ↦ elim (nat_le (length text) 18) as (λ b. nat_le (length text) 18 ≡ b → IfSome (cond (b && all_ascii_digits text) (Some (digits_value 10 text)) None) (λ n. n < 10 ^ 18)) [
-        | false ↦ λ long. tt
-        | true ↦ λ short. elim (all_ascii_digits text) as (λ d. all_ascii_digits text ≡ d → IfSome (cond d (Some (digits_value 10 text)) None) (λ n. n < 10 ^ 18)) [
-          | false ↦ λ other. tt
-          | true ↦ λ digits. digits_value_short (numerals_by_value (λ ds. all_ascii_digits ds ≡ true) tells_all_ascii_digits) text 18 digits (leb-true _ _ short)
-        ] refl
-      ] refl
-    ]
-
--- and so have the numbers that fields are
+-- the numbers that fields are have at most 18 digits
 abbrev AreSmall : Option (List ℕ) → Type 0
 AreSmall o = IfSome o (λ ns. AllByRecursion (λ n. n < 10 ^ 18) ns)
 
 numbers-small : (fields : List (List ℕ)) → AreSmall (numbers_of fields)
-unfolding numbers_of
-numbers-small [] = tt
-numbers-small (field ∷ fields) = both (number_of field) (numbers_of fields) (number-small field) (numbers-small fields)
+numbers-small fields = each (numbers_of fields) (numbers_of-small fields)
   where
-    both : (n : Option ℕ) (o : Option (List ℕ)) → IfSome n (λ n. n < 10 ^ 18) → AreSmall o → AreSmall (option_and_then (λ n. option_map (λ ns. n ∷ ns) o) n)
-    both None o small rest = tt
-    both (Some n) None small rest = tt
-    both (Some n) (Some ns) small rest = (small, rest)
+    each : (o : Option (List ℕ)) → ((ns : List ℕ) → o ≡ Some ns → AllByRecursion (λ n. n < 10 ^ 18) ns) → AreSmall o
+    each None small = tt
+    each (Some ns) small = small ns refl
 
 vehicle-small : (o : Option (List ℕ)) → AreSmall o → IfSome (vehicle_from o) (λ new. new.id < 10 ^ 18)
 vehicle-small None small = tt

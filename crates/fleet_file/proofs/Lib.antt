@@ -1,3 +1,4 @@
 mod FleetLemmas
 mod NamedLemmas
 mod ReadLemmas
+mod LawfulFleets

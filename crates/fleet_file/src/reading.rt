@@ -1,7 +1,9 @@
 //! The reader of a fleet file's bytes.
-ghost use Rattle.std.specs.Prelude.{◌≡◌, ◌≢◌, ◌≤◌, ◌+◌, ◌<◌, ◌++◌, ℕ, List, [], length, take, Ok, Err, OnOk, IfOk, IfErr, IfSome, IsOk, MatchResult};
+ghost use Rattle.std.specs.Prelude.{All, ◌≡◌, ◌≢◌, ◌≤◌, ◌+◌, ◌<◌, ◌++◌, ℕ, List, [], length, take, Ok, Err, OnOk, IfOk, IfErr, IfSome, IsOk, MatchResult};
 ghost use Rattle.line_text.specs.Texts.{after_ended};
+ghost use Rattle.ride_model.specs.declared.vehicle.Vehicle.{Vehicle};
 ghost use Rattle.ride_model.specs.Settings.{IsSettings};
+ghost use Rattle.ride_model.specs.Vehicle.{IsLawful};
 ghost use Rattle.ride_ports.specs.Bytes.{Reads};
 ghost use Rattle.ride_ports.specs.Count.{Rose};
 ghost use Rattle.fleet_file.specs.declared.errors.FleetError.TheVariants.{NoMemory, ReadFault};
@@ -30,6 +32,11 @@ pub fn read_fleet<S: Source>(
     ensures fleet { IfOk result (λ read.
         IfSome (S.left src.old) (λ bytes. fleet_text map.now.nodes bytes ≡ Ok (read.0, read.1))) }
     ensures settings { IfOk result (λ read. IsSettings read.0) }
+
+    // Each vehicle is as a fleet starts: lawful over the map, idle and of version 0.
+    ensures lawful { IfOk result (λ read. All (IsLawful map.now) read.1) }
+    ensures idle { IfOk result (λ read. All (λ (v : Vehicle). v.stops.items ≡ []) read.1) }
+    ensures first_versions { IfOk result (λ read. All (λ (v : Vehicle). v.version ≡ 0) read.1) }
     ensures to_end { OnOk result (IfSome (S.left src.new) (λ bytes. bytes ≡ [])) }
     ensures refused { IfErr result (λ e. e ≢ NoMemory → e ≢ ReadFault →
         IfSome (S.left src.old) (λ bytes. fleet_text map.now.nodes bytes ≡ Err e)) }

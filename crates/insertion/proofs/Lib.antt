@@ -4,3 +4,4 @@ pub mod FewRides
 pub mod OfferLaws
 pub mod LeastOffers
 pub mod Examples
+pub mod Trials

@@ -3,15 +3,17 @@
 #![tactic(auto)]
 
 mod best;
-mod joins;
+pub mod joins;
 mod near;
 mod offer;
 mod plan;
-mod prices;
+pub mod prices;
 
 pub use best::best_place;
 pub use near::{Near, NearStop};
 pub use offer::offer_at;
 
+#[cfg(test)]
+mod rows;
 #[cfg(test)]
 mod tests;

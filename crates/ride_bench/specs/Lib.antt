@@ -1,1 +1,2 @@
 pub mod Streets
+pub mod Places

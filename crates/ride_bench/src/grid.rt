@@ -14,7 +14,7 @@ pub(crate) struct Grid {
 }
 
 /// A number that depends on both, as evenly spread as a draw.
-fn mix(a: u32, b: u32) -> u32 {
+pub(crate) fn mix(a: u32, b: u32) -> u32 {
     let mut x = a.wrapping_mul(2_654_435_761) ^ b.wrapping_mul(2_246_822_519);
     x ^= x >> 15;
     x = x.wrapping_mul(2_654_435_761);

@@ -1,84 +1,35 @@
-//! Times full rows of travel times on a generated map of New York's size: `ride_bench new_york`.
-//! With no argument it prints the rows of a small map, with no times.
+//! Times the parts of the dispatcher whose speed matters, each by a word: `new_york` for rows of travel times, `read_map FILE`
+//! for the reading of a map, `grids` for least pairings, `places` for the cheapest places in a plan. With no word it prints the answers of small ones, with no times.
 #![tactic(auto)]
 
-ghost use Rattle.std.specs.Prelude.{◌≡◌, ◌≤◌, ◌<◌, length, All, IfOk};
-ghost use Rattle.ride_bench.specs.Streets.{IsPlace};
-
-use anyhow::Result;
-use road_times::{Roads, Scratch, Side};
-use std::alloc::{AllocError, Global};
-use std::env;
-use std::rt::{Clock, Env};
-use std::time::Instant;
-
+mod assignment;
 mod grid;
+mod places;
+mod reading;
+mod rows;
 
-use grid::{Grid, generate};
+use anyhow::{Result, bail};
+use std::alloc::Global;
+use std::env;
+use std::rt::{Clock, Env, Files};
 
-const SMALL: Grid = Grid {
-    nodes: 40,
-    width: 6,
-};
-
-const NEW_YORK: Grid = Grid {
-    nodes: 264_346,
-    width: 514,
-};
-
-fn all_nodes(alloc: Global, nodes: u32) -> Result<Vec<u32>, AllocError>
-    ensures nodes { IfOk result (λ list. All (IsPlace nodes) list.items) }
-    ensures count { IfOk result (λ list. length list.items ≡ nodes) }
+fn run<R: Clock + Print + Env + Files + AllocGlobal>(rt: &R, alloc: Global) -> Result<()>
+where
+    R::File: Send,
 {
-    let mut list = Vec::new(alloc);
-    for node in 0..nodes {
-        list.push(node + 1)?;
+    let mut words = env::args(rt)?.skip(1);
+    let Some(word) = words.next() else {
+        rows::small(rt, alloc)?;
+        assignment::small(rt, alloc)?;
+        return places::small(rt);
+    };
+    match (word.as_str(), words.next()) {
+        ("grids", None) => assignment::grids(rt, alloc),
+        ("places", None) => places::places(rt),
+        ("new_york", None) => rows::new_york(rt, alloc),
+        ("read_map", Some(name)) => reading::time_map(rt, alloc, name),
+        _ => bail!("grids, new_york, places, or read_map and a file's name"),
     }
-    Ok(list)
-}
-
-/// Prints how many nodes were reached, and the sum of their times.
-fn print_row(rt: &impl Print, source: u32, row: &[Option<u64>]) -> std::io::Result<()> {
-    let mut reached = 0u64;
-    let mut sum = 0u64;
-    for time in row.iter().flatten() {
-        reached = reached.wrapping_add(1);
-        sum = sum.wrapping_add(*time);
-    }
-    println!(rt; "from {source} reached {reached} sum {sum}")
-}
-
-/// Fills the rows of so many nodes, and gives the microseconds that the searches took together.
-fn time_rows(rt: &(impl Clock + Print), alloc: Global, grid: Grid, turns: u32) -> Result<u128>
-    requires nodes { (1 ≤ grid.nodes) × (grid.nodes ≤ 500000) }
-    requires width { (1 ≤ grid.width) × (grid.width ≤ 500000) }
-    requires turns { (1 ≤ turns) × (turns ≤ 40) }
-{
-    let map = generate(alloc, grid)?;
-    println!(rt; "nodes {} arcs {}", map.nodes(), map.arcs().len())?;
-    let roads = Roads::new(alloc, &map)?;
-    let mut scratch = Scratch::new(alloc, &roads)?;
-    let wanted = all_nodes(alloc, grid.nodes)?;
-    let mut row = vec![in alloc; None; wanted.len()]?;
-    let mut total = 0u128;
-    for turn in 0..turns {
-        let source = 1 + turn * (grid.nodes / turns);
-        let start = Instant::now(rt)?;
-        roads.rows(&mut scratch, source, Side::Out, &wanted, &mut row);
-        total = total.wrapping_add(start.elapsed(rt)?.as_micros());
-        print_row(rt, source, &row)?;
-    }
-    Ok(total)
-}
-
-fn run(rt: &(impl Clock + Print + Env + AllocGlobal), alloc: Global) -> Result<()> {
-    if env::args(rt)?.count() <= 1 {
-        time_rows(rt, alloc, SMALL, 4)?;
-        return Ok(());
-    }
-    let total = time_rows(rt, alloc, NEW_YORK, 30)?;
-    println!(rt; "mean of 30 rows: {} microseconds", total / 30)?;
-    Ok(())
 }
 
 fn main(rt: HostRuntime) -> Result<()> {

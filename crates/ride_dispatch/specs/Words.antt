@@ -15,9 +15,16 @@ are_replay words =
     length words == 7 && is_word words 0 (codes "replay") && is_word words 1 (codes "--map")
     && is_word words 3 (codes "--fleet") && is_word words 5 (codes "--feed")
 
+-- the name of a replay's map, and that of its fleet file
+abbrev pub map_name : List (List ℕ) → List ℕ
+map_name words = word_at words 2
+
+abbrev pub fleet_name : List (List ℕ) → List ℕ
+fleet_name words = word_at words 4
+
 -- the names of a replay's map, fleet and feed
 abbrev pub names_of : List (List ℕ) → List (List ℕ)
-names_of words = word_at words 2 ∷ word_at words 4 ∷ word_at words 6 ∷ []
+names_of words = map_name words ∷ fleet_name words ∷ word_at words 6 ∷ []
 
 -- a list begins another
 abbrev pub Begins : List (List ℕ) → List (List ℕ) → Type 0

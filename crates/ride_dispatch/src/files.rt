@@ -1,23 +1,167 @@
-//! Named files, read whole.
-ghost use Rattle.std.specs.Prelude.{◌≡◌, ◌<◌, ◌≤◌, ◌+◌, ◌++◌, ◌∷◌, [], ℕ, length, string_bytes, OnErr};
+//! Named files, each read to its answer and given back.
+ghost use Rattle.std.specs.Prelude.{◌≡◌, ◌≢◌, ◌<◌, ◌≤◌, ◌+◌, ◌++◌, ◌∷◌, [], ℕ, length, string_bytes, All, Err, IfErr, IfOk, OnOk, MatchResult};
+ghost use Rattle.ride_model.specs.Vehicle.{IsLawful};
 ghost use Rattle.ride_ports.specs.Count.{Rose};
+ghost use Rattle.ride_dispatch.specs.Answers.{stop_of_fleet, stop_of_map, told_bytes, AreTexts, IsFeedStop, ReadsFleet, ReadsMap, StopsReplay};
+ghost use Rattle.ride_dispatch.specs.Words.{Begins};
 
 use crate::stop::Stop;
+use fleet_file::{FleetError, read_fleet};
+use gr_reader::{MapError, read_map};
+use ride_model::{Fleet, Network, Settings};
 use ride_ports::{Shelf, Source};
 use std::alloc::Global;
 
-/// The most bytes of a file.
+/// The most bytes of a feed that is built so far.
 const MOST_BYTES: usize = 1 << 20;
 
-/// Brings a file, reads it whole and gives it back.
-pub fn read_file<H: Shelf>(alloc: Global, shelf: &mut H, name: String) -> Result<Vec<u8>, Stop>
+/// What the files of a map and a fleet say.
+#[derive(Drop)]
+pub struct Texts {
+    pub map: Network,
+    pub settings: Settings,
+    pub fleet: Fleet,
+}
+
+/// Brings a map and then a fleet file over it.
+pub fn bring_texts<H: Shelf>(
+    alloc: Global,
+    shelf: &mut H,
+    map_name: String,
+    fleet_name: String,
+) -> Result<Texts, Stop>
+    requires none_asked { H.asked shelf.old ≡ [] }
+    requires none_brought { H.brought shelf.old ≡ 0 }
+    requires none_back { H.back shelf.old ≡ [] }
+    ensures texts { MatchResult result
+        (λ _. AreTexts (told_bytes (H.contents shelf.old) (string_bytes map_name)) (told_bytes (H.contents shelf.old) (string_bytes fleet_name)))
+        (StopsReplay (told_bytes (H.contents shelf.old) (string_bytes map_name)) (told_bytes (H.contents shelf.old) (string_bytes fleet_name))) }
+    ensures lawful { IfOk result (λ texts. All (IsLawful texts.map) texts.fleet) }
+    ensures asked_first { Begins (H.asked shelf.new) (string_bytes map_name ∷ string_bytes fleet_name ∷ []) }
+    ensures asked_all { OnOk result (H.asked shelf.new ≡ string_bytes map_name ∷ string_bytes fleet_name ∷ []) }
+    ensures all_back { length (H.back shelf.new) ≡ H.brought shelf.new }
+    ensures few_back { length (H.back shelf.new) ≤ 2 }
+    ensures shelf_fault { result ≡ Err Stop.ShelfFault → Rose (H.faults shelf.old) (H.faults shelf.new) }
+    ensures no_sink_fault { result ≢ Err Stop.SinkFault }
+    ensures count_never_falls { H.faults shelf.old ≤ H.faults shelf.new }
+{
+    let map = bring_map(alloc, shelf, map_name)?;
+    let (settings, fleet) = bring_fleet(alloc, shelf, fleet_name, &map)?;
+    Ok(Texts {
+        map,
+        settings,
+        fleet,
+    })
+}
+
+// Brings a map, reads it to its answer and gives it back.
+fn bring_map<H: Shelf>(alloc: Global, shelf: &mut H, name: String) -> Result<Network, Stop>
+    requires asked_room { length (H.asked shelf.old) < 8 }
+    requires back_room { length (H.back shelf.old) < 8 }
+    ensures map { ReadsMap (told_bytes (H.contents shelf.old) (string_bytes name)) result }
+    ensures asked { H.asked shelf.new ≡ H.asked shelf.old ++ string_bytes name ∷ [] }
+    ensures returned { H.brought shelf.new + length (H.back shelf.old) ≡ H.brought shelf.old + length (H.back shelf.new) }
+    ensures one_back { length (H.back shelf.new) ≤ length (H.back shelf.old) + 1 }
+    ensures shelf_fault { result ≡ Err Stop.ShelfFault → Rose (H.faults shelf.old) (H.faults shelf.new) }
+    ensures count_never_falls { H.faults shelf.old ≤ H.faults shelf.new }
+    ensures contents_stay { H.contents shelf.new ≡ H.contents shelf.old }
+{
+    let Ok(mut source) = shelf.bring(name) else {
+        return Err(Stop::ShelfFault);
+    };
+    let read = map_from(alloc, &mut source);
+    shelf.give_back(source);
+    read
+}
+
+// Reads a map to its answer.
+fn map_from<S: Source>(alloc: Global, source: &mut S) -> Result<Network, Stop>
+    requires { S.faults source.old ≡ 0 }
+    ensures map { ReadsMap (S.left source.old) result }
+    ensures source_fault { result ≡ Err Stop.ShelfFault → 0 < S.faults source.new }
+{
+    match read_map(alloc, source) {
+        Ok(network) => Ok(network),
+        Err(error) => Err(stop_of_map(error)),
+    }
+}
+
+// Why a map's reading stopped.
+fn stop_of_map(error: MapError) -> Stop
+    ensures { result ≡ stop_of_map error }
+{
+    match error {
+        MapError::TooLong => Stop::LimitPassed,
+        MapError::ReadFault => Stop::ShelfFault,
+        MapError::NoMemory => Stop::NoMemory,
+        error => Stop::MapRefused(error),
+    }
+}
+
+// Brings a fleet file, reads it over the map to its answer and gives it back.
+fn bring_fleet<H: Shelf>(
+    alloc: Global,
+    shelf: &mut H,
+    name: String,
+    map: &Network,
+) -> Result<(Settings, Fleet), Stop>
+    requires asked_room { length (H.asked shelf.old) < 8 }
+    requires back_room { length (H.back shelf.old) < 8 }
+    ensures fleet { ReadsFleet map.now.nodes (told_bytes (H.contents shelf.old) (string_bytes name)) result }
+    ensures lawful { IfOk result (λ read. All (IsLawful map.now) read.1) }
+    ensures asked { H.asked shelf.new ≡ H.asked shelf.old ++ string_bytes name ∷ [] }
+    ensures returned { H.brought shelf.new + length (H.back shelf.old) ≡ H.brought shelf.old + length (H.back shelf.new) }
+    ensures one_back { length (H.back shelf.new) ≤ length (H.back shelf.old) + 1 }
+    ensures shelf_fault { result ≡ Err Stop.ShelfFault → Rose (H.faults shelf.old) (H.faults shelf.new) }
+    ensures count_never_falls { H.faults shelf.old ≤ H.faults shelf.new }
+    ensures contents_stay { H.contents shelf.new ≡ H.contents shelf.old }
+{
+    let Ok(mut source) = shelf.bring(name) else {
+        return Err(Stop::ShelfFault);
+    };
+    let read = fleet_from(alloc, &mut source, map);
+    shelf.give_back(source);
+    read
+}
+
+// Reads a fleet file over the map to its answer.
+fn fleet_from<S: Source>(
+    alloc: Global,
+    source: &mut S,
+    map: &Network,
+) -> Result<(Settings, Fleet), Stop>
+    requires { S.faults source.old ≡ 0 }
+    ensures fleet { ReadsFleet map.now.nodes (S.left source.old) result }
+    ensures lawful { IfOk result (λ read. All (IsLawful map.now) read.1) }
+    ensures source_fault { result ≡ Err Stop.ShelfFault → 0 < S.faults source.new }
+{
+    match read_fleet(alloc, source, map) {
+        Ok(read) => Ok(read),
+        Err(error) => Err(stop_of_fleet(error)),
+    }
+}
+
+// Why a fleet file's reading stopped.
+fn stop_of_fleet(error: FleetError) -> Stop
+    ensures { result ≡ stop_of_fleet error }
+{
+    match error {
+        FleetError::TooLong => Stop::LimitPassed,
+        FleetError::ReadFault => Stop::ShelfFault,
+        FleetError::NoMemory => Stop::NoMemory,
+        error => Stop::FleetRefused(error),
+    }
+}
+
+/// Brings a feed, reads it whole and gives it back.
+pub fn bring_feed<H: Shelf>(alloc: Global, shelf: &mut H, name: String) -> Result<Vec<u8>, Stop>
     requires asked_room { length (H.asked shelf.old) < 8 }
     requires back_room { length (H.back shelf.old) < 8 }
     ensures asked { H.asked shelf.new ≡ H.asked shelf.old ++ string_bytes name ∷ [] }
     ensures returned { H.brought shelf.new + length (H.back shelf.old) ≡ H.brought shelf.old + length (H.back shelf.new) }
     ensures one_back { length (H.back shelf.new) ≤ length (H.back shelf.old) + 1 }
     ensures shelf_fault { result ≡ Err Stop.ShelfFault → Rose (H.faults shelf.old) (H.faults shelf.new) }
-    ensures no_other_fault { result ≡ Err Stop.SinkFault → ⊥ }
+    ensures stops { IfErr result IsFeedStop }
     ensures count_never_falls { H.faults shelf.old ≤ H.faults shelf.new }
 {
     let Ok(mut source) = shelf.bring(name) else {
@@ -32,7 +176,7 @@ pub fn read_file<H: Shelf>(alloc: Global, shelf: &mut H, name: String) -> Result
 fn read_all<S: Source>(alloc: Global, source: &mut S) -> Result<Vec<u8>, Stop>
     requires { S.faults source.old ≡ 0 }
     ensures source_fault { result ≡ Err Stop.ShelfFault → 0 < S.faults source.new }
-    ensures no_other_fault { result ≡ Err Stop.SinkFault → ⊥ }
+    ensures stops { IfErr result IsFeedStop }
 {
     let mut bytes = Vec::new(alloc);
     let mut buffer = [0; 4096];

@@ -3,6 +3,7 @@
 
 mod files;
 mod path;
+mod refusals;
 mod stop;
 #[cfg(test)]
 mod tests;

@@ -1,4 +1,6 @@
 //! What ends a run before its log is written.
+use fleet_file::FleetError;
+use gr_reader::MapError;
 
 /// Why a run stopped.
 #[derive(Clone, Copy, Debug, PartialEq, Eq)]
@@ -7,6 +9,10 @@ pub enum Stop {
     /// The shelf, or a source that it brought, failed.
     ShelfFault,
     SinkFault,
+    /// A source gave more than its limit.
+    LimitPassed,
+    MapRefused(MapError),
+    FleetRefused(FleetError),
     /// A text is outside the form that is built so far.
     Unbuilt,
 }

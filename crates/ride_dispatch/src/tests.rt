@@ -23,6 +23,41 @@ fn words_of(alloc: Global, texts: &[&str]) -> Result<Vec<String>, NoMemory> {
     Ok(words)
 }
 
+// The status and what is written of a replay over a map, a fleet file and a feed.
+fn replayed(
+    alloc: Global,
+    map: &[u8],
+    fleet: &[u8],
+    feed: &[u8],
+) -> Result<(u8, Vec<u8>), NoMemory> {
+    let files = [
+        MemFile {
+            name: "m",
+            bytes: map,
+            pieces: &[],
+            failing: &[],
+        },
+        MemFile {
+            name: "f",
+            bytes: fleet,
+            pieces: &[],
+            failing: &[],
+        },
+        MemFile {
+            name: "r",
+            bytes: feed,
+            pieces: &[],
+            failing: &[],
+        },
+    ];
+    let words = words_of(alloc, &REPLAY)?;
+    let mut shelf = MemShelf::new(alloc, &files, &[]);
+    let mut out = MemSink::new(alloc, 1000, &[], &[])?;
+    let status = run(alloc, words.as_slice(), &mut shelf, &mut out, &OpenGate);
+    let written = out.written().to_vec(alloc)?;
+    Ok((status, written))
+}
+
 #[test]
 fn the_plain_path_in_pieces_of_any_length(rt: HostRuntime) -> Result<(), Fail> {
     for pieces in [&[1][..], &[2], &[7], &[]] {
@@ -202,27 +237,86 @@ fn words_that_are_not_in_order_are_refused(rt: HostRuntime) -> Result<(), Fail> 
 }
 
 #[test]
-fn a_text_outside_the_form_is_said_to_be_unbuilt(rt: HostRuntime) -> Result<(), Fail> {
-    let files = [
-        MemFile {
-            name: "m",
-            bytes: MAP,
-            pieces: &[],
-            failing: &[],
-        },
-        MemFile {
-            name: "f",
-            bytes: FLEET,
-            pieces: &[],
-            failing: &[],
-        },
-        MemFile {
-            name: "r",
-            bytes: b"cancel 7\n",
-            pieces: &[],
-            failing: &[],
-        },
+fn a_feed_outside_the_form_is_said_to_be_unbuilt(rt: HostRuntime) -> Result<(), Fail> {
+    let (status, written) = replayed(rt.alloc(), MAP, FLEET, b"cancel 7\n")?;
+    assert_eq!(rt; status, 9);
+    assert_eq!(rt; written.as_slice(), b"unbuilt\n".as_slice());
+    Ok(())
+}
+
+#[test]
+fn a_dear_or_late_request_is_turned_away(rt: HostRuntime) -> Result<(), Fail> {
+    for feed in [
+        &b"request 7 2 4 1 59 300\nbatch\n"[..],
+        b"request 7 2 4 1 600 119\nbatch\n",
+    ] {
+        let (status, written) = replayed(rt.alloc(), MAP, FLEET, feed)?;
+        assert_eq!(rt; status, 0);
+        let commit =
+            b"d1 commit 1 cost 3600 seats prices 7:3600 pays outcomes 7:away\nf1 end\nd1 end\n";
+        assert!(rt; written.ends_with(commit));
+    }
+    Ok(())
+}
+
+#[test]
+fn comments_tabs_and_a_last_line_without_end_are_read(rt: HostRuntime) -> Result<(), Fail> {
+    let map = b"c roads\r\np sp 2 4\r\na 1 2 60\r\na\t1 2  50 \r\na 2 1 60\r\na 1 1 7";
+    let feed = b"# one request\nrequest 7 1 2 1 600 300\n\nbatch";
+    let (status, written) = replayed(rt.alloc(), map, FLEET, feed)?;
+    assert_eq!(rt; status, 0);
+    let commit =
+        b"d1 commit 1 cost 50 seats 7:1:0:0 prices 7:50 pays outcomes 7:confirmed\nf1 end\nd1 end\n";
+    assert!(rt; written.ends_with(commit));
+    Ok(())
+}
+
+#[test]
+fn a_map_or_a_fleet_file_is_refused_by_its_first_faulty_line(rt: HostRuntime) -> Result<(), Fail> {
+    let cases = [
+        (
+            &MAP[..54],
+            FLEET,
+            3,
+            b"map refused 6 said 6 found 5\n".as_slice(),
+        ),
+        (&MAP[..60], FLEET, 3, b"map refused 3 line 7\n"),
+        (b"", FLEET, 3, b"map refused 1\n"),
+        (b"p sp 4 1\na 4 5 60\n", FLEET, 3, b"map refused 4 line 2\n"),
+        (b"p sp 4 0\np sp 4 0\n", FLEET, 3, b"map refused 2 line 2\n"),
+        (
+            b"p sp 4 1\na 1 2 1000000001\n",
+            FLEET,
+            3,
+            b"map refused 5 line 2\n",
+        ),
+        (b"p sp 500001 0\n", FLEET, 3, b"map refused 7 line 1\n"),
+        (MAP, b"vehicle 1 0 1 0\n", 4, b"fleet refused 4 line 1\n"),
+        (MAP, b"vehicles\n", 4, b"fleet refused 1 line 1\n"),
+        (
+            MAP,
+            b"\nset log 1\nset log 1\n",
+            4,
+            b"fleet refused 2 line 3\n",
+        ),
+        (MAP, b"vehicle 1 2 5 0\n", 4, b"fleet refused 3 line 1\n"),
     ];
+    for (map, fleet, status, line) in cases {
+        let (answer, written) = replayed(rt.alloc(), map, fleet, FEED)?;
+        assert_eq!(rt; answer, status);
+        assert_eq!(rt; written.as_slice(), line);
+    }
+    Ok(())
+}
+
+#[test]
+fn a_faulty_line_that_was_read_comes_before_a_fault(rt: HostRuntime) -> Result<(), Fail> {
+    let files = [MemFile {
+        name: "m",
+        bytes: b"p sp 4 1\na 4 5 60\n",
+        pieces: &[],
+        failing: &[2],
+    }];
     let words = words_of(rt.alloc(), &REPLAY)?;
     let mut shelf = MemShelf::new(rt.alloc(), &files, &[]);
     let mut out = MemSink::new(rt.alloc(), 1000, &[], &[])?;
@@ -233,51 +327,7 @@ fn a_text_outside_the_form_is_said_to_be_unbuilt(rt: HostRuntime) -> Result<(), 
         &mut out,
         &OpenGate,
     );
-    assert_eq!(rt; status, 9);
-    assert_eq!(rt; out.written(), b"unbuilt\n".as_slice());
-    Ok(())
-}
-
-#[test]
-fn a_dear_or_late_request_is_turned_away(rt: HostRuntime) -> Result<(), Fail> {
-    for feed in [
-        &b"request 7 2 4 1 59 300\nbatch\n"[..],
-        b"request 7 2 4 1 600 119\nbatch\n",
-    ] {
-        let files = [
-            MemFile {
-                name: "m",
-                bytes: MAP,
-                pieces: &[],
-                failing: &[],
-            },
-            MemFile {
-                name: "f",
-                bytes: FLEET,
-                pieces: &[],
-                failing: &[],
-            },
-            MemFile {
-                name: "r",
-                bytes: feed,
-                pieces: &[],
-                failing: &[],
-            },
-        ];
-        let words = words_of(rt.alloc(), &REPLAY)?;
-        let mut shelf = MemShelf::new(rt.alloc(), &files, &[]);
-        let mut out = MemSink::new(rt.alloc(), 1000, &[], &[])?;
-        let status = run(
-            rt.alloc(),
-            words.as_slice(),
-            &mut shelf,
-            &mut out,
-            &OpenGate,
-        );
-        assert_eq!(rt; status, 0);
-        let commit =
-            b"d1 commit 1 cost 3600 seats prices 7:3600 pays outcomes 7:away\nf1 end\nd1 end\n";
-        assert!(rt; out.written().ends_with(commit));
-    }
+    assert_eq!(rt; status, 3);
+    assert_eq!(rt; out.written(), b"map refused 4 line 2\n".as_slice());
     Ok(())
 }

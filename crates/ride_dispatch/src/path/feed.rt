@@ -1,8 +1,10 @@
 //! Requests, and a batch.
-ghost use Rattle.std.specs.Prelude.{ℕ, All, IfOk, IfSome};
+ghost use Rattle.std.specs.Prelude.{ℕ, ⊤, All, IfOk, IfSome, MatchBool};
 ghost use Rattle.ride_dispatch.specs.Path.{IsLineOn, IsRequestOn};
 
-use crate::path::texts::{numbers, text_of};
+use command_lines::read_feed_line;
+use line_text::MOST_LINE;
+use ride_model::Command;
 use ride_ports::NoMemory;
 use std::alloc::Global;
 
@@ -28,12 +30,12 @@ pub enum Line {
 pub fn read(alloc: Global, bytes: &[u8], nodes: u32) -> Result<Option<Vec<Line>>, NoMemory>
     ensures { IfOk result (λ read. IfSome read (λ feed. All (IsLineOn nodes) feed.items)) }
 {
-    let Some(text) = text_of(bytes) else {
-        return Ok(None);
-    };
     let mut feed = Vec::new(alloc);
-    for text in text.lines() {
-        match line_of(text, nodes, feed.as_slice()) {
+    for text in bytes.split(|byte| *byte == b'\n') {
+        let Some(command) = command_of(text) else {
+            continue;
+        };
+        match line_of(command, nodes, feed.as_slice()) {
             Some(line) => feed.push(line)?,
             None => return Ok(None),
         }
@@ -41,36 +43,59 @@ pub fn read(alloc: Global, bytes: &[u8], nodes: u32) -> Result<Option<Vec<Line>>
     Ok(Some(feed))
 }
 
+// What a line of the feed says, if anything.
+fn command_of(text: &[u8]) -> Option<Command> {
+    let shown = &text[..text.len().min(MOST_LINE)];
+    read_feed_line(shown, text.len() > MOST_LINE, 1, 1)
+}
+
 // A line after those before it.
-fn line_of(text: &str, nodes: u32, before: &[Line]) -> Option<Line>
+fn line_of(command: Command, nodes: u32, before: &[Line]) -> Option<Line>
     ensures { IfSome result (IsLineOn nodes) }
 {
-    if text == "batch" {
-        let first = before.iter().all(|line| matches!(line, Line::Request(_)));
-        return if first { Some(Line::Batch) } else { None };
-    }
-    let [id, from, to, seats, latest, longest] = numbers::<6>(text, "request ")?.into_inner().ok()?;
-    let from = u32::try_from(from).ok()?;
-    let to = u32::try_from(to).ok()?;
-    let new = before.iter().all(|line| !is_of(line, id));
-    let lawful = (1..=nodes).contains(&from)
-        && (1..=nodes).contains(&to)
-        && from != to
-        && (1..=8).contains(&seats)
-        && latest <= 1_000_000_000
-        && (1..=1_000_000).contains(&longest);
-    if new && lawful {
-        Some(Line::Request(Request {
+    match command {
+        Command::Ask => {
+            let first = before.iter().all(|line| matches!(line, Line::Request(_)));
+            if first { Some(Line::Batch) } else { None }
+        }
+        Command::Request {
             id,
             from,
             to,
             seats,
             latest,
             longest,
-        }))
-    } else {
-        None
+            chairs: _,
+        } => {
+            let request = Request {
+                id,
+                from: u32::try_from(from).ok()?,
+                to: u32::try_from(to).ok()?,
+                seats,
+                latest,
+                longest,
+            };
+            let new = before.iter().all(|line| !is_of(line, id));
+            if new && is_accepted(&request, nodes) {
+                Some(Line::Request(request))
+            } else {
+                None
+            }
+        }
+        _ => None,
     }
+}
+
+// Whether a request of a new id is accepted over so many nodes.
+fn is_accepted(request: &Request, nodes: u32) -> bool
+    ensures { MatchBool result (IsRequestOn nodes request.now) ⊤ }
+{
+    (1..=nodes).contains(&request.from)
+        && (1..=nodes).contains(&request.to)
+        && request.from != request.to
+        && (1..=8).contains(&request.seats)
+        && request.latest <= 1_000_000_000
+        && (1..=1_000_000).contains(&request.longest)
 }
 
 // Whether a line is the request of an id.

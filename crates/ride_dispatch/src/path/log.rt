@@ -1,7 +1,7 @@
 //! The log.
 use crate::path::feed::{Line, batched};
-use crate::path::fleet::Vehicle;
 use crate::path::seat::{PENALTY, Seat};
+use ride_model::Vehicle;
 use ride_ports::NoMemory;
 use std::alloc::Global;
 

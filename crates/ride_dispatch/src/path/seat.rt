@@ -1,9 +1,10 @@
 //! The seat of one request.
 ghost use Rattle.std.specs.Prelude.{◌≡◌, All};
-ghost use Rattle.ride_dispatch.specs.Path.{IsNodeOf, IsLineOn, IsVehicleOn};
+ghost use Rattle.ride_model.specs.Vehicle.{IsLawful};
+ghost use Rattle.ride_dispatch.specs.Path.{IsNodeOf, IsLineOn};
 
 use crate::path::feed::{Line, Request, batched};
-use crate::path::fleet::Vehicle;
+use ride_model::Vehicle;
 use ride_ports::NoMemory;
 use road_times::{Roads, Scratch, Side};
 use std::alloc::Global;
@@ -25,7 +26,7 @@ pub fn best(
     fleet: &[Vehicle],
     feed: &[Line],
 ) -> Result<Option<Seat>, NoMemory>
-    requires vehicles { All (IsVehicleOn roads.now.nodes) fleet.now }
+    requires vehicles { All (IsLawful roads.now) fleet.now }
     requires lines { All (IsLineOn roads.now.nodes) feed.now }
 {
     let Some(request) = batched(feed) else {
@@ -49,9 +50,9 @@ fn ways_to(
 ) -> Result<Vec<Option<u64>>, NoMemory>
     requires scratch { scratch.old.nodes ≡ roads.now.nodes }
     requires node { IsNodeOf roads.now.nodes node }
-    requires vehicles { All (IsVehicleOn roads.now.nodes) fleet.now }
+    requires vehicles { All (IsLawful roads.now) fleet.now }
 {
-    let nodes: Vec<u32> = fleet.iter().map(|vehicle| vehicle.node).collect(alloc)?;
+    let nodes: Vec<u32> = fleet.iter().map(|vehicle| vehicle.at).collect(alloc)?;
     let mut ways = vec![in alloc; None; nodes.len()]?;
     roads.rows(
         scratch,
@@ -84,7 +85,7 @@ fn cheapest(request: &Request, fleet: &[Vehicle], ways: &[Option<u64>], ride: u6
 
 // Whether a vehicle keeps the request's limits.
 fn keeps(request: &Request, vehicle: &Vehicle, way: u64, ride: u64) -> bool {
-    request.seats <= vehicle.seats
+    request.seats <= u64::from(vehicle.seats)
         && vehicle.ready.saturating_add(way) <= request.latest
         && ride <= request.longest
 }

@@ -1,4 +1,4 @@
-use Rattle.std.proofs.Common.{◌≡◌, ◌≢◌, List, ℕ, [], Bool, MatchBool, subst, ◌∙◌, ap}
+use Rattle.std.proofs.Common.{◌≡◌, ◌≢◌, [], Bool, MatchBool, subst, ◌∙◌, ap}
 use Rattle.line_text.specs.Cutter.{CutterState, ShowsRest}
 use Rattle.line_text.specs.Lines.{rest_of}
 use Rattle.fleet_file.proofs.ReadLemmas.{last-took}

@@ -4,6 +4,7 @@ use Rattle.ride_ports.proofs.ByteLemmas.{Reads-to_end}
 use Rattle.ride_model.specs.declared.vehicle.Vehicle.{Vehicle}
 use Rattle.fleet_file.specs.FleetText.{fleet_text}
 use Rattle.fleet_file.proofs.ReadLemmas.{HasRead-nothing, told-value, told-refusal, value-no_fault, err-same}
+use Rattle.fleet_file.proofs.LawfulFleets.{fleet-lawful, fleet-idle, fleet-first_versions}
 use Rattle.fleet_file.proofs.reading.read_fleet.Goals as goal
 
 pub read_lines-requires-clause-read : goal.read_lines-requires-clause-read
@@ -28,3 +29,21 @@ returns-clause-fleet g c =
     let (bytes, reads, short, read) = c.in_ok-read_lines.ensures.read in
     subst₂ (λ (n : ℕ) (vs : List Vehicle). IfSome (g.S.Source.left c.args.src.now) (λ all. fleet_text n all ≡ Ok (c.end.new.lines.settings, vs))) c.nodes-nodes.ensures.nodes (sym c.new-2.ensures)
     (told-value c.nodes-nodes.result _ _ bytes (c.in_ok-end.ensures.read bytes read short) (Reads-to_end reads c.in_ok-read_lines.ensures.to_end))
+
+pub returns-clause-lawful : goal.returns-clause-lawful
+returns-clause-lawful g c =
+    let (bytes, reads, short, read) = c.in_ok-read_lines.ensures.read in
+    fleet-lawful c.args.map.now c.nodes-nodes.result bytes c.end.new.lines.settings c.end.new.lines.vehicles.items c.new-2.result
+    c.nodes-nodes.ensures.nodes c.new-2.ensures (c.in_ok-end.ensures.read bytes read short)
+
+pub returns-clause-idle : goal.returns-clause-idle
+returns-clause-idle g c =
+    let (bytes, reads, short, read) = c.in_ok-read_lines.ensures.read in
+    fleet-idle c.args.map.now c.nodes-nodes.result bytes c.end.new.lines.settings c.end.new.lines.vehicles.items c.new-2.result
+    c.nodes-nodes.ensures.nodes c.new-2.ensures (c.in_ok-end.ensures.read bytes read short)
+
+pub returns-clause-first_versions : goal.returns-clause-first_versions
+returns-clause-first_versions g c =
+    let (bytes, reads, short, read) = c.in_ok-read_lines.ensures.read in
+    fleet-first_versions c.args.map.now c.nodes-nodes.result bytes c.end.new.lines.settings c.end.new.lines.vehicles.items c.new-2.result
+    c.nodes-nodes.ensures.nodes c.new-2.ensures (c.in_ok-end.ensures.read bytes read short)

@@ -1,7 +1,6 @@
-use Rattle.std.proofs.Common.{◌≡◌, ◌≤◌, ◌<◌, ◌+◌, ◌-◌, ◌++◌, List, ℕ, Err, length, take, sym, ◌∙◌, ap, arith, length-append, length-take-le, subst}
+use Rattle.std.proofs.Common.{◌≡◌, ◌≤◌, ◌+◌, ◌++◌, List, ℕ, length, take, sym, ◌∙◌, ap, arith, length-append, length-take-le, subst}
 use Rattle.std.proofs.lemmas.Result.{err_from_is_err_and}
 use Rattle.ride_ports.proofs.ByteLemmas.{Reads-then}
-use Rattle.fleet_file.specs.declared.errors.FleetError.TheVariants.{ReadFault}
 use Rattle.fleet_file.specs.Reading.{HasRead, RefusesLine}
 use Rattle.fleet_file.proofs.ReadLemmas.{refused-text, too_long-text, refusal-no_fault, err-same}
 use Rattle.fleet_file.proofs.reading.read_lines.Goals as goal

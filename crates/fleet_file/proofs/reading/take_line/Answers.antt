@@ -1,4 +1,4 @@
-use Rattle.std.proofs.Common.{◌≡◌, ◌++◌, List, ℕ, Ok, Err, Bool, MatchBool, take, drop, sym, subst, ◌∙◌, ap, arith, append_assoc, take-append-drop}
+use Rattle.std.proofs.Common.{◌≡◌, ◌++◌, List, ℕ, Ok, Err, Bool, MatchBool, take, drop, subst, ◌∙◌, ap, arith, append_assoc, take-append-drop}
 use Rattle.std.proofs.lemmas.Bool.{not-false}
 use Rattle.std.proofs.lemmas.Result.{err_from_is_err_and}
 use Rattle.line_text.specs.Cutter.{Continues, EndsLine}

@@ -1,0 +1,10 @@
+pub mod PairingParts
+pub mod CertifiedPairings
+pub mod ItemOrders
+pub mod DifferentIds
+pub mod SeatPlaces
+pub mod SeatCosts
+pub mod SeatPairings
+pub mod OverMaps
+pub mod SpreadChecks
+pub mod TwoOfEach

@@ -1,0 +1,7 @@
+use Rattle.std.proofs.Common.{◌≡◌, take, map}
+use Rattle.dual_check.specs.Costs.{amount_alone}
+use Rattle.dual_check.proofs.spreads.amounts_alone.Given as goal
+
+-- the amounts so far
+abbrev pub invariant-loop-amount : goal.invariant-loop-amount
+invariant-loop-amount l = l.alone.items ≡ map amount_alone (take l.amount-index l.amounts)

@@ -1,0 +1,170 @@
+-- Vehicles that a fleet file gives are lawful over its map, idle and of version 0.
+use Rattle.std.proofs.Common.{◌≡◌, ℕ, zero, suc, ◌+◌, ◌<◌, ◌≤◌, ◌==◌, ◌||◌, nat_lt, nat_le, nat_eq, Bool, true, false, cond, List, [], ◌∷◌, ◌++◌, length, take, Option, Some, None, Result, Ok, Err, refl, ap, sym, subst, ◌∙◌, arith, true≢false}
+use Rattle.std.specs.Prelude.{All, codes, IfSome}
+use Rattle.std.specs.List.{IsDistinct, list_any}
+use Rattle.std.specs.Str.{bytes_eq}
+use Rattle.std.proofs.lemmas.Bool.{eqb-false, le-leb, ltb-false}
+use Rattle.std.proofs.lemmas.List.Elements.{All-append}
+use Rattle.line_text.specs.Fields.{numbers_of, words_of}
+use Rattle.line_text.specs.Lines.{ended_lines, lines_of}
+use Rattle.line_text.specs.Texts.{and_then, after_lines, after_ended}
+use Rattle.ride_model.specs.declared.settings.Settings.{Settings}
+use Rattle.ride_model.specs.declared.vehicle.Ride.{Ride}
+use Rattle.ride_model.specs.declared.vehicle.Stop.{Stop}
+use Rattle.ride_model.specs.declared.vehicle.Vehicle.{Vehicle}
+use Rattle.ride_model.specs.Road.{RoadMap}
+use Rattle.ride_model.specs.Vehicle.{IsLawful}
+use Rattle.fleet_file.specs.declared.settings.Name.{Name}
+use Rattle.fleet_file.specs.declared.vehicles.NewVehicle.{NewVehicle}
+use Rattle.fleet_file.specs.declared.errors.FleetError.{FleetError}
+use Rattle.fleet_file.specs.declared.errors.FleetError.TheVariants.{BadLine, TooLong}
+use Rattle.fleet_file.specs.FleetText.{FleetSoFar, fleet_format, fleet_text, nothing_said, after_words, setting_line, setting_of, vehicle_line, vehicle_from, idle_vehicle, has_seen, least, greatest, has_value_out}
+
+-- as a fleet starts
+pub record IsStarting (map : RoadMap) (v : Vehicle) : Type 0 where
+  pub lawful : IsLawful map v
+  pub idle : v.stops.items ≡ []
+  pub first_version : v.version ≡ 0
+
+either : (a b : Bool) → (a || b) ≡ false → (a ≡ false) × (b ≡ false)
+either true b is = absurd (true≢false is)
+either false b is = (refl, is)
+
+none-of : {X : Type 0} (P : X → Type 0) → All P []
+none-of P k d below = absurd (omega arith)
+
+starting : (map : RoadMap) (new : NewVehicle) → (new.node == 0 || nat_lt map.nodes new.node) ≡ false → has_value_out new ≡ false
+    → IsStarting map (idle_vehicle new)
+unfolding IsDistinct
+starting map new node values =
+    let (some_node, node_in) = either (new.node == 0) (nat_lt map.nodes new.node) node in
+    let (all_but_ready, early) = either (new.seats == 0 || nat_lt 16 new.seats || nat_lt 4 new.chairs) (nat_lt 1000000000 new.ready) values in
+    let (seats_in, few_chairs) = either (new.seats == 0 || nat_lt 16 new.seats) (nat_lt 4 new.chairs) all_but_ready in
+    let (some_seat, few_seats) = either (new.seats == 0) (nat_lt 16 new.seats) seats_in in
+    record {
+      lawful = record {
+        routed = record {
+          some_seat = omega (arith, eqb-false new.seats 0 some_seat);
+          seats_limit = ltb-false _ _ few_seats;
+          chairs_limit = ltb-false _ _ few_chairs;
+          at_node = (omega (arith, eqb-false new.node 0 some_node), ltb-false _ _ node_in);
+          ready_limit = omega (arith, ltb-false 1000000000 new.ready early);
+          rides_fit = none-of _;
+          picked_before = none-of _;
+          planned = record { ids_differ = tt; each_ride = none-of _; each_stop = none-of _ };
+          legs = tt;
+        };
+        loads = rw (le-leb 0 new.seats (omega arith), le-leb 0 new.chairs (omega arith)) refl;
+      };
+      idle = refl;
+      first_version = refl;
+    }
+
+-- a test that an answer passed
+passed : {A : Type 0} (b : Bool) (e : FleetError) (r : Result A FleetError) (next : A) → cond b (Err e) r ≡ Ok next → (b ≡ false) × (r ≡ Ok next)
+passed true e r next is = absurd (cc is)
+passed false e r next is = (refl, is)
+
+same-ok : {A : Type 0} (a b : A) → ◌≡◌ {A = Result A FleetError} (Ok a) (Ok b) → a ≡ b
+same-ok a b is = cc is
+
+abbrev AllStarting : RoadMap → FleetSoFar → Type 0
+AllStarting map so_far = All (IsStarting map) so_far.vehicles
+
+after-setting : (map : RoadMap) (number : ℕ) (so_far next : FleetSoFar) (o : Option (Name × ℕ)) → AllStarting map so_far
+    → setting_line number so_far o ≡ Ok next → AllStarting map next
+after-setting map number so_far next None starting is = absurd (cc is)
+after-setting map number so_far next (Some s) all is =
+    let (_, in_range) = passed (has_seen so_far.seen s.0) _ _ next is in
+    let (_, taken) = passed (nat_lt s.1 (least s.0) || nat_lt (greatest s.0) s.1) _ _ next in_range in
+    subst (λ (f : FleetSoFar). All (IsStarting map) f.vehicles) (same-ok _ next taken) all
+
+one : {X : Type 0} (P : X → Type 0) (x : X) → P x → All P (x ∷ [])
+one P x h zero d below = h
+one P x h (suc k) d below = absurd (omega arith)
+
+after-vehicle : (map : RoadMap) (number : ℕ) (so_far next : FleetSoFar) (o : Option NewVehicle) → AllStarting map so_far
+    → vehicle_line map.nodes number so_far o ≡ Ok next → AllStarting map next
+after-vehicle map number so_far next None all is = absurd (cc is)
+after-vehicle map number so_far next (Some new) all is =
+    let (_, new_id) = passed (list_any (λ (v : Vehicle). v.id == new.id) so_far.vehicles) _ _ next is in
+    let (node, on_map) = passed (new.node == 0 || nat_lt map.nodes new.node) _ _ next new_id in
+    let (values, in_range) = passed (has_value_out new) _ _ next on_map in
+    let (_, taken) = passed (nat_le 1000 (length so_far.vehicles)) _ _ next in_range in
+    subst (λ (f : FleetSoFar). All (IsStarting map) f.vehicles) (same-ok _ next taken)
+    (All-append (IsStarting map) so_far.vehicles (idle_vehicle new ∷ []) all (one (IsStarting map) (idle_vehicle new) (starting map new node values)))
+
+after-line : (map : RoadMap) (number : ℕ) (so_far next : FleetSoFar) (words : Option (List (List ℕ))) → AllStarting map so_far
+    → after_words map.nodes number so_far words ≡ Ok next → AllStarting map next
+after-line map number so_far next None all is = absurd (cc is)
+after-line map number so_far next (Some []) all is = subst (AllStarting map) (same-ok so_far next is) all
+after-line map number so_far next (Some (word ∷ fields)) all is =
+    elim (bytes_eq word (codes "set"))
+    as (λ b. cond b (setting_line number so_far (setting_of fields)) (cond (bytes_eq word (codes "vehicle")) (vehicle_line map.nodes number so_far (vehicle_from (numbers_of fields))) (Err (BadLine number))) ≡ Ok next → AllStarting map next) [
+      | true ↦ λ h. after-setting map number so_far next (setting_of fields) all h
+      | false ↦ λ h.
+          elim (bytes_eq word (codes "vehicle"))
+          as (λ b. cond b (vehicle_line map.nodes number so_far (vehicle_from (numbers_of fields))) (Err (BadLine number)) ≡ Ok next → AllStarting map next) [
+            | true ↦ λ k. after-vehicle map number so_far next (vehicle_from (numbers_of fields)) all k
+            | false ↦ λ k. absurd (cc k)
+          ] h
+    ] is
+
+after-all : (map : RoadMap) (number : ℕ) (so_far next : FleetSoFar) (lines : List (List ℕ)) → AllStarting map so_far
+    → after_lines (fleet_format map.nodes) number so_far lines ≡ Ok next → AllStarting map next
+unfolding after_lines
+after-all map number so_far next [] all is = subst (AllStarting map) (same-ok so_far next is) all
+after-all map number so_far next (line ∷ lines) all is =
+    step (after_words map.nodes number so_far (words_of 35 line)) (λ mid h. after-line map number so_far mid (words_of 35 line) all h)
+    (λ mid h k. after-all map (number + 1) mid next lines h k) is
+  where
+    step : (r : Result FleetSoFar FleetError) → ((mid : FleetSoFar) → r ≡ Ok mid → AllStarting map mid)
+        → ((mid : FleetSoFar) → AllStarting map mid → after_lines (fleet_format map.nodes) (number + 1) mid lines ≡ Ok next → AllStarting map next)
+        → and_then r (λ mid. after_lines (fleet_format map.nodes) (number + 1) mid lines) ≡ Ok next → AllStarting map next
+    step (Ok mid) first rest h = rest mid (first mid refl) h
+    step (Err e) first rest h = absurd (cc h)
+
+-- the vehicles of a fleet file's text are as a fleet starts
+text-starting : (map : RoadMap) (bytes : List ℕ) (settings : Settings) (vehicles : List Vehicle)
+    → fleet_text map.nodes bytes ≡ Ok (settings, vehicles) → All (IsStarting map) vehicles
+text-starting map bytes settings vehicles is =
+    elim (nat_lt 1048576 (length bytes))
+    as (λ b. cond b (and_then {B = Settings × List Vehicle} (after_ended (fleet_format map.nodes) (take 1048576 bytes)) (λ _. Err TooLong))
+    (and_then {B = Settings × List Vehicle} (after_lines (fleet_format map.nodes) 1 nothing_said (lines_of bytes)) (λ so_far. Ok (so_far.settings, so_far.vehicles))) ≡ Ok (settings, vehicles) → All (IsStarting map) vehicles) [
+      | true ↦ λ h. absurd (too_long (after_ended (fleet_format map.nodes) (take 1048576 bytes)) h)
+      | false ↦ λ h. whole (after_lines (fleet_format map.nodes) 1 nothing_said (lines_of bytes))
+          (λ next k. after-all map 1 nothing_said next (lines_of bytes) (none-of _) k) h
+    ] is
+  where
+    too_long : (r : Result FleetSoFar FleetError) → and_then {B = Settings × List Vehicle} r (λ _. Err TooLong) ≡ Ok (settings, vehicles) → ⊥
+    too_long (Ok x) h = cc h
+    too_long (Err e) h = cc h
+
+    whole : (r : Result FleetSoFar FleetError) → ((next : FleetSoFar) → r ≡ Ok next → AllStarting map next)
+        → and_then {B = Settings × List Vehicle} r (λ so_far. Ok (so_far.settings, so_far.vehicles)) ≡ Ok (settings, vehicles) → All (IsStarting map) vehicles
+    whole (Ok so_far) all h = let same : so_far.vehicles ≡ vehicles = ap (λ (p : Settings × List Vehicle). p.1) (same-ok (so_far.settings, so_far.vehicles) (settings, vehicles) h) in subst (All (IsStarting map)) same (all so_far refl)
+    whole (Err e) all h = absurd (cc h)
+
+-- the same of a fleet of these vehicles over a map of so many nodes, one fact at a time
+starting-fleet : (map : RoadMap) (nodes : ℕ) (bytes : List ℕ) (settings : Settings) (vehicles fleet : List Vehicle)
+    → nodes ≡ map.nodes → fleet ≡ vehicles → fleet_text nodes bytes ≡ Ok (settings, vehicles) → All (IsStarting map) fleet
+starting-fleet map nodes bytes settings vehicles fleet among same is =
+    subst (All (IsStarting map)) (sym same)
+    (text-starting map bytes settings vehicles (subst (λ (n : ℕ). fleet_text n bytes ≡ Ok (settings, vehicles)) among is))
+
+pub fleet-lawful : (map : RoadMap) (nodes : ℕ) (bytes : List ℕ) (settings : Settings) (vehicles fleet : List Vehicle)
+    → nodes ≡ map.nodes → fleet ≡ vehicles → fleet_text nodes bytes ≡ Ok (settings, vehicles) → All (IsLawful map) fleet
+fleet-lawful map nodes bytes settings vehicles fleet among same is k d below =
+    (starting-fleet map nodes bytes settings vehicles fleet among same is k d below).lawful
+
+pub fleet-idle : (map : RoadMap) (nodes : ℕ) (bytes : List ℕ) (settings : Settings) (vehicles fleet : List Vehicle)
+    → nodes ≡ map.nodes → fleet ≡ vehicles → fleet_text nodes bytes ≡ Ok (settings, vehicles)
+    → All (λ (v : Vehicle). v.stops.items ≡ []) fleet
+fleet-idle map nodes bytes settings vehicles fleet among same is k d below =
+    (starting-fleet map nodes bytes settings vehicles fleet among same is k d below).idle
+
+pub fleet-first_versions : (map : RoadMap) (nodes : ℕ) (bytes : List ℕ) (settings : Settings) (vehicles fleet : List Vehicle)
+    → nodes ≡ map.nodes → fleet ≡ vehicles → fleet_text nodes bytes ≡ Ok (settings, vehicles)
+    → All (λ (v : Vehicle). v.version ≡ 0) fleet
+fleet-first_versions map nodes bytes settings vehicles fleet among same is k d below =
+    (starting-fleet map nodes bytes settings vehicles fleet among same is k d below).first_version

@@ -1,0 +1,11 @@
+pub mod Mated
+pub mod Flipping
+pub mod Raising
+pub mod Reaching
+pub mod Steps
+pub mod Paths
+pub mod Adding
+pub mod Certificates
+pub mod Filling
+pub mod Gathering
+pub mod BatchCertificates

@@ -1,0 +1,17 @@
+use Rattle.std.proofs.Common.{◌≡◌, ℕ, ◌*◌, ◌<◌, ◌≤◌, length}
+use Rattle.std.specs.Prelude.{None}
+use Rattle.batch_commit.specs.Table.{cell_at as offer_at}
+use Rattle.dual_check.specs.Cells.{cell_at}
+use Rattle.hungarian.specs.Costs.{cost_of}
+use Rattle.hungarian.proofs.costs.cost_grid.Given as goal
+
+-- the rows so far were written
+abbrev pub invariant-loop-row : goal.invariant-loop-row
+invariant-loop-row l = record {
+  sized : length l.grid.cells ≡ l.grid.rows * l.grid.columns;
+  rows : l.grid.rows ≡ l.rows;
+  columns : l.grid.columns ≡ l.columns;
+  filled : (row column : ℕ) → row < l.row → column < l.columns → cell_at l.grid row column
+      ≡ cost_of (offer_at l.table row column);
+  left : (row column : ℕ) → l.row ≤ row → row < l.rows → column < l.columns → cell_at l.grid row column ≡ None;
+}

@@ -1,0 +1,9 @@
+use Rattle.std.proofs.Common.{◌≡◌}
+use Rattle.ride_model.specs.Vehicle.{ride_ids}
+use Rattle.ride_model.specs.Seating.{vehicle_ids}
+use Rattle.hungarian.specs.Seats.{seats_by}
+use Rattle.hungarian.proofs.seating.seats_by.Given as goal
+
+-- the seats of the rows so far
+abbrev pub invariant-loop-row : goal.invariant-loop-row
+invariant-loop-row l = l.seats.items ≡ seats_by l.table (ride_ids l.requests) (vehicle_ids l.vehicles) l.columns l.row

@@ -1,0 +1,265 @@
+//! The cheapest places for one more ride in a plan of 14 stops, on a road of four nodes in a line, a minute between neighbours.
+ghost use Rattle.std.specs.Prelude.{◌≡◌, ◌≤◌, length, map, false, IsTrue};
+ghost use Rattle.ride_model.specs.Offers.{is_idle};
+ghost use Rattle.promises.specs.Trials.{seconds_between, vehicle_with};
+ghost use Rattle.insertion.specs.Trials.{near_in_line, near_stop_in_line, may_be_asked};
+ghost use Rattle.ride_bench.specs.Places.{settings};
+ghost use Rattle.slack_tables.specs.SlackOf.{slack_of};
+
+use anyhow::Result;
+use arrayvec::ArrayVec;
+use insertion::{Near, NearStop, best_place};
+use ride_model::{Kind, Ride, Settings, Stop, Vehicle};
+use slack_tables::{Slack, best_place_fast};
+use std::rt::Clock;
+use std::time::Instant;
+
+const SETTINGS: Settings = Settings {
+    batch: 32,
+    penalty: 3600,
+    drive: 1,
+    wait: 1,
+    lead: 0,
+    dwell: 30,
+    log: 1,
+};
+
+/// When the vehicle is ready.
+const READY: u64 = 1_000;
+
+macro_rules! ride {
+    ($id:expr, $from:expr) => {
+        Ride {
+            id: $id,
+            from: $from,
+            to: 4,
+            seats: 1,
+            chairs: 0,
+            latest: 3_000,
+            longest: 3_000,
+            picked: None,
+        }
+    };
+}
+
+macro_rules! stop {
+    ($ride:expr, $kind:expr, $node:expr, $leg:expr) => {
+        Stop {
+            ride: $ride,
+            kind: $kind,
+            node: $node,
+            leg: $leg,
+        }
+    };
+}
+
+// Seven rides from node 2 to node 4.
+const RIDES: [Ride; 7] = [
+    ride!(1, 2),
+    ride!(2, 2),
+    ride!(3, 2),
+    ride!(4, 2),
+    ride!(5, 2),
+    ride!(6, 2),
+    ride!(7, 2),
+];
+
+const STOPS: [Stop; 14] = [
+    stop!(1, Kind::Pickup, 2, 60),
+    stop!(2, Kind::Pickup, 2, 0),
+    stop!(3, Kind::Pickup, 2, 0),
+    stop!(1, Kind::Dropoff, 4, 120),
+    stop!(4, Kind::Pickup, 2, 120),
+    stop!(2, Kind::Dropoff, 4, 120),
+    stop!(5, Kind::Pickup, 2, 120),
+    stop!(3, Kind::Dropoff, 4, 120),
+    stop!(6, Kind::Pickup, 2, 120),
+    stop!(7, Kind::Pickup, 2, 0),
+    stop!(4, Kind::Dropoff, 4, 120),
+    stop!(5, Kind::Dropoff, 4, 0),
+    stop!(6, Kind::Dropoff, 4, 0),
+    stop!(7, Kind::Dropoff, 4, 0),
+];
+
+// The ride that is asked for.
+const NINE: Ride = ride!(9, 3);
+
+fn vehicle(rides: &[Ride], stops: &[Stop]) -> Vehicle
+    requires few_rides { length rides.now ≤ 16 }
+    requires few_stops { length stops.now ≤ 16 }
+    ensures { result ≡ vehicle_with 1 1000 16 0 rides.now stops.now }
+{
+    Vehicle {
+        id: 1,
+        seats: 16,
+        chairs: 0,
+        at: 1,
+        ready: READY,
+        duty: true,
+        version: 0,
+        rides: copy_of_rides(rides),
+        stops: copy_of_stops(stops),
+    }
+}
+
+fn copy_of_rides(rides: &[Ride]) -> ArrayVec<Ride, 16>
+    requires { length rides.now ≤ 16 }
+    ensures { result.items ≡ rides.now }
+{
+    let mut copy = ArrayVec::new();
+    for ride in rides {
+        copy.push(*ride);
+    }
+    copy
+}
+
+fn copy_of_stops(stops: &[Stop]) -> ArrayVec<Stop, 16>
+    requires { length stops.now ≤ 16 }
+    ensures { result.items ≡ stops.now }
+{
+    let mut copy = ArrayVec::new();
+    for stop in stops {
+        copy.push(*stop);
+    }
+    copy
+}
+
+fn seconds_between(x: u32, y: u32) -> u64
+    ensures { result ≡ seconds_between x y }
+{
+    60 * u64::from(x.saturating_sub(y) + y.saturating_sub(x))
+}
+
+fn near(vehicle: &Vehicle, ride: &Ride) -> Near
+    ensures { result ≡ near_in_line vehicle.now ride.now }
+{
+    Near {
+        at_from: Some(seconds_between(vehicle.at, ride.from)),
+        at_to: Some(seconds_between(vehicle.at, ride.to)),
+        direct: Some(seconds_between(ride.from, ride.to)),
+        stops: near_stops(vehicle.stops.as_slice(), ride),
+    }
+}
+
+fn near_stops(stops: &[Stop], ride: &Ride) -> ArrayVec<NearStop, 16>
+    requires { length stops.now ≤ 16 }
+    ensures { result.items ≡ map (near_stop_in_line ride.now) stops.now }
+{
+    let mut near = ArrayVec::new();
+    for stop in stops {
+        near.push(near_stop(stop, ride));
+    }
+    near
+}
+
+fn near_stop(stop: &Stop, ride: &Ride) -> NearStop
+    ensures { result ≡ near_stop_in_line ride.now stop.now }
+{
+    NearStop {
+        to_from: Some(seconds_between(stop.node, ride.from)),
+        from_here: Some(seconds_between(ride.from, stop.node)),
+        to_to: Some(seconds_between(stop.node, ride.to)),
+        to_here: Some(seconds_between(ride.to, stop.node)),
+    }
+}
+
+/// The sum of the least costs at so many times, by the plain search.
+fn plain_costs(vehicle: &Vehicle, ride: &Ride, near: &Near, turns: u64) -> u64
+    requires asked { IsTrue (may_be_asked vehicle.now ride.now settings) }
+    requires near { near.now ≡ near_in_line vehicle.now ride.now }
+    requires turns { turns ≤ 1000 }
+{
+    let mut sum = 0u64;
+    for now in 0..turns {
+        let offer = best_place(vehicle, ride, now, &SETTINGS, near);
+        sum = sum.wrapping_add(offer.map_or(0, |offer| offer.cost));
+    }
+    sum
+}
+
+/// The same by slack.
+fn fast_costs(vehicle: &Vehicle, slack: &Slack, ride: &Ride, near: &Near, turns: u64) -> u64
+    requires asked { IsTrue (may_be_asked vehicle.now ride.now settings) }
+    requires near { near.now ≡ near_in_line vehicle.now ride.now }
+    requires drives { is_idle vehicle.now ≡ false }
+    requires slack { slack.now ≡ slack_of vehicle.now vehicle.now.ready 30 }
+    requires turns { turns ≤ 1000 }
+{
+    let mut sum = 0u64;
+    for now in 0..turns {
+        let offer = best_place_fast(vehicle, slack, ride, now, &SETTINGS, near);
+        sum = sum.wrapping_add(offer.map_or(0, |offer| offer.cost));
+    }
+    sum
+}
+
+/// What both searches found, and the nanoseconds that they and the tables took.
+#[derive(Clone, Copy)]
+struct Times {
+    plain_sum: u64,
+    fast_sum: u64,
+    plain: u128,
+    fast: u128,
+    tables: u128,
+}
+
+/// Asks the vehicle with this plan for a ride, so many times by each search.
+fn time(rt: &impl Clock, rides: &[Ride], stops: &[Stop], ride: &Ride, turns: u64) -> Result<Times>
+    requires few_rides { length rides.now ≤ 16 }
+    requires few_stops { length stops.now ≤ 16 }
+    requires asked { IsTrue (may_be_asked (vehicle_with 1 1000 16 0 rides.now stops.now) ride.now settings) }
+    requires drives { is_idle (vehicle_with 1 1000 16 0 rides.now stops.now) ≡ false }
+    requires turns { turns ≤ 1000 }
+{
+    let vehicle = vehicle(rides, stops);
+    let near = near(&vehicle, ride);
+    let start = Instant::now(rt)?;
+    let slack = tables_of(&vehicle, ride);
+    let tables = start.elapsed(rt)?.as_nanos();
+    let start = Instant::now(rt)?;
+    let plain_sum = plain_costs(&vehicle, ride, &near, turns);
+    let plain = start.elapsed(rt)?.as_nanos();
+    let start = Instant::now(rt)?;
+    let fast_sum = fast_costs(&vehicle, &slack, ride, &near, turns);
+    let fast = start.elapsed(rt)?.as_nanos();
+    Ok(Times {
+        plain_sum,
+        fast_sum,
+        plain,
+        fast,
+        tables,
+    })
+}
+
+/// The tables of a vehicle that may be asked for a ride.
+fn tables_of(vehicle: &Vehicle, ride: &Ride) -> Slack
+    requires asked { IsTrue (may_be_asked vehicle.now ride.now settings) }
+    ensures { result ≡ slack_of vehicle.now vehicle.now.ready 30 }
+{
+    // The ride is named for the proof alone.
+    let _ride = ride;
+    Slack::of(vehicle, vehicle.ready, SETTINGS.dwell)
+}
+
+/// Prints the sums of both searches at a few times.
+pub fn small(rt: &(impl Clock + Print)) -> Result<()> {
+    let times = time(rt, &RIDES, &STOPS, &NINE, 4)?;
+    let (plain, fast) = (times.plain_sum, times.fast_sum);
+    println!(rt; "places plain {plain} by slack {fast}")?;
+    Ok(())
+}
+
+/// Times both searches, the best of twenty turns of 1,000 times each.
+pub fn places(rt: &(impl Clock + Print)) -> Result<()> {
+    let mut best = time(rt, &RIDES, &STOPS, &NINE, 1000)?;
+    for _ in 0..20 {
+        let times = time(rt, &RIDES, &STOPS, &NINE, 1000)?;
+        best.plain = best.plain.min(times.plain);
+        best.fast = best.fast.min(times.fast);
+        best.tables = best.tables.min(times.tables);
+    }
+    println!(rt; "sums {} and {}", best.plain_sum, best.fast_sum)?;
+    let (plain, fast, tables) = (best.plain / 1000, best.fast / 1000, best.tables);
+    println!(rt; "120 place pairs: plain {plain} ns, by slack {fast} ns, tables {tables} ns")?;
+    Ok(())
+}

@@ -1,0 +1,78 @@
+//! Full rows of travel times on a generated map.
+ghost use Rattle.std.specs.Prelude.{◌≡◌, ◌≤◌, ◌<◌, length, All, IfOk};
+ghost use Rattle.ride_bench.specs.Streets.{IsPlace};
+
+use crate::grid::{Grid, generate};
+use anyhow::Result;
+use road_times::{Roads, Scratch, Side};
+use std::alloc::{AllocError, Global};
+use std::rt::Clock;
+use std::time::Instant;
+
+const SMALL: Grid = Grid {
+    nodes: 40,
+    width: 6,
+};
+
+const NEW_YORK: Grid = Grid {
+    nodes: 264_346,
+    width: 514,
+};
+
+fn all_nodes(alloc: Global, nodes: u32) -> Result<Vec<u32>, AllocError>
+    ensures nodes { IfOk result (λ list. All (IsPlace nodes) list.items) }
+    ensures count { IfOk result (λ list. length list.items ≡ nodes) }
+{
+    let mut list = Vec::new(alloc);
+    for node in 0..nodes {
+        list.push(node + 1)?;
+    }
+    Ok(list)
+}
+
+/// Prints how many nodes were reached, and the sum of their times.
+fn print_row(rt: &impl Print, source: u32, row: &[Option<u64>]) -> std::io::Result<()> {
+    let mut reached = 0u64;
+    let mut sum = 0u64;
+    for time in row.iter().flatten() {
+        reached = reached.wrapping_add(1);
+        sum = sum.wrapping_add(*time);
+    }
+    println!(rt; "from {source} reached {reached} sum {sum}")
+}
+
+/// Fills the rows of so many nodes, and gives the microseconds that the searches took together.
+fn time_rows(rt: &(impl Clock + Print), alloc: Global, grid: Grid, turns: u32) -> Result<u128>
+    requires nodes { (1 ≤ grid.nodes) × (grid.nodes ≤ 500000) }
+    requires width { (1 ≤ grid.width) × (grid.width ≤ 500000) }
+    requires turns { (1 ≤ turns) × (turns ≤ 40) }
+{
+    let map = generate(alloc, grid)?;
+    println!(rt; "nodes {} arcs {}", map.nodes(), map.arcs().len())?;
+    let roads = Roads::new(alloc, &map)?;
+    let mut scratch = Scratch::new(alloc, &roads)?;
+    let wanted = all_nodes(alloc, grid.nodes)?;
+    let mut row = vec![in alloc; None; wanted.len()]?;
+    let mut total = 0u128;
+    for turn in 0..turns {
+        let source = 1 + turn * (grid.nodes / turns);
+        let start = Instant::now(rt)?;
+        roads.rows(&mut scratch, source, Side::Out, &wanted, &mut row);
+        total = total.wrapping_add(start.elapsed(rt)?.as_micros());
+        print_row(rt, source, &row)?;
+    }
+    Ok(total)
+}
+
+/// Prints the rows of a small map.
+pub fn small(rt: &(impl Clock + Print), alloc: Global) -> Result<()> {
+    time_rows(rt, alloc, SMALL, 4)?;
+    Ok(())
+}
+
+/// Times rows of a map of New York's size.
+pub fn new_york(rt: &(impl Clock + Print), alloc: Global) -> Result<()> {
+    let total = time_rows(rt, alloc, NEW_YORK, 30)?;
+    println!(rt; "mean of 30 rows: {} microseconds", total / 30)?;
+    Ok(())
+}

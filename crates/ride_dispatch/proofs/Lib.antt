@@ -1,0 +1,3 @@
+mod Saying
+mod Stopping
+mod Answering

@@ -1,0 +1,17 @@
+pub mod Ranges
+pub mod Visits
+pub mod Arrivals
+pub mod Delays
+pub mod TripRooms
+pub mod RideRooms
+pub mod WithLoads
+pub mod WithRide
+pub mod TableLaws
+pub mod Detours
+pub mod Drives
+pub mod Judged
+pub mod NearTimes
+pub mod Placed
+pub mod FastCosts
+pub mod Searching
+pub mod BestFast

@@ -1,0 +1,8 @@
+use Rattle.std.proofs.Common.{arith}
+use Rattle.insertion.specs.declared.near.NearStop.{NearStop}
+use Rattle.insertion.proofs.NearLegs.{before-read}
+use Rattle.slack_tables.proofs.legs.leg_to_pickup.Goals as goal
+
+pub returns-else-place-eq0-clause-value : goal.returns-else-place-eq0-clause-value
+returns-else-place-eq0-clause-value c =
+    before-read c.args.first (λ (stop : NearStop). stop.to_from) c.args.stops.now c.args.place _ (omega arith) c.requires.within

@@ -1,0 +1,13 @@
+use Rattle.std.proofs.Common.{◌≡◌, ◌≤◌, ◌++◌, drop, length}
+use Rattle.std.specs.List.{filter_map}
+use Rattle.ride_model.specs.declared.vehicle.Ride.{Ride}
+use Rattle.slack_tables.specs.Trips.{trip_of}
+use Rattle.slack_tables.proofs.trips.trips_of.Given as goal
+
+-- the trips so far and those of the rides that are left are all
+abbrev pub invariant-loop-ride : goal.invariant-loop-ride
+invariant-loop-ride l = record {
+  so_far : l.trips.items ++ filter_map (λ (ride : Ride). trip_of ride l.stops l.times) (drop l.ride-index l.rides)
+      ≡ filter_map (λ (ride : Ride). trip_of ride l.stops l.times) l.rides;
+  few : length l.trips.items ≤ l.ride-index;
+}
