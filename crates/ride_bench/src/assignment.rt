@@ -72,18 +72,18 @@ fn least_cost(alloc: Global, grid: &Grid) -> Result<u64, AllocError> {
     Ok(cost)
 }
 
-/// Prints the least cost of a small grid.
-pub fn small(rt: &impl Print, alloc: Global) -> Result<()> {
+/// Prints the least cost of a grid of products, which takes no time but for a solver that tries all pairings.
+pub fn product(rt: &impl Print, alloc: Global) -> Result<()> {
     let grid = generate(
         alloc,
         Trial {
-            rows: 6,
-            columns: 9,
+            rows: 128,
+            columns: 1000,
             product: true,
         },
     )?;
     let cost = least_cost(alloc, &grid)?;
-    println!(rt; "product 6 x 9 cost {cost}")?;
+    println!(rt; "product 128 x 1000 cost {cost}")?;
     Ok(())
 }
 

@@ -20,7 +20,7 @@ where
     let mut words = env::args(rt)?.skip(1);
     let Some(word) = words.next() else {
         rows::small(rt, alloc)?;
-        assignment::small(rt, alloc)?;
+        assignment::product(rt, alloc)?;
         return places::small(rt);
     };
     match (word.as_str(), words.next()) {

@@ -1,13 +1,14 @@
 // Trials on a road of four nodes in a line, a minute between neighbours.
 ghost use Rattle.std.specs.Prelude.{◌≡◌, ◌≤◌, length, map, IsTrue};
-ghost use Rattle.promises.specs.Trials.{seconds_between, vehicle_with};
+ghost use Rattle.promises.specs.Trials.{is_lawful, seconds_between, vehicle_with};
 ghost use Rattle.insertion.specs.Trials.{near_in_line, near_stop_in_line, may_be_asked};
 
 use super::*;
 use arrayvec::ArrayVec;
 use insertion::prices::{number_of_stops, start_of};
 use insertion::{Near, NearStop, best_place, offer_at};
-use ride_model::{Kind, Offer, Ride, Settings, Stop, Vehicle};
+use promises::broken;
+use ride_model::{Ids, Kind, Offer, Ride, Settings, Stop, Vehicle};
 
 /// Where a vehicle is, and what it takes.
 #[derive(Clone, Copy)]
@@ -329,6 +330,75 @@ fn pooled_at_no_added_cost_but_for_dwell(rt: HostRuntime) {
     };
     assert_eq!(rt; cost(CAR, &SEVEN, &SEVEN_STOPS, ride, SETTINGS), Some(0));
     assert_eq!(rt; cost(CAR, &SEVEN, &SEVEN_STOPS, ride, dwell), Some(60));
+}
+
+#[test]
+fn each_stop_takes_its_dwell(rt: HostRuntime) {
+    let ride = ride!(7, 2, 4);
+    let dwell = Settings {
+        dwell: 30,
+        ..SETTINGS
+    };
+    let short = Ride {
+        longest: 149,
+        ..ride
+    };
+    let long = Ride {
+        longest: 150,
+        ..ride
+    };
+    assert_eq!(rt; cost(CAR, &[], &[], ride, dwell), Some(210));
+    assert_eq!(rt; cost(CAR, &[], &[], short, dwell), None);
+    assert_eq!(rt; cost(CAR, &[], &[], long, dwell), Some(210));
+}
+
+// Rides 7 and 8 from node 2 to node 4, with an hour at each stop.
+const PATIENT: [Ride; 2] = [
+    trip!(7, 2, 4, 1, 0, 100, 100_000, None),
+    trip!(8, 2, 4, 1, 0, 9_000, 100_000, None),
+];
+
+#[test]
+fn an_hour_at_each_stop_is_driven_too(rt: HostRuntime) {
+    let hour = Settings {
+        dwell: 3600,
+        ..SETTINGS
+    };
+    let car = Car { at: 2, ..CAR };
+    let stops = [pickup!(7, 2, 0), dropoff!(7, 4, 120)];
+    assert_eq!(rt; cost(car, &[], &[], PATIENT[0], hour), Some(3720));
+    assert_eq!(rt;
+        cost(car, &PATIENT[..1], &stops, PATIENT[1], hour),
+        Some(7200)
+    );
+}
+
+// The rides that a vehicle's times break.
+fn broken_rides(car: Car, rides: &[Ride], stops: &[Stop], dwell: u64) -> Ids
+    requires few_rides { length rides.now ≤ 16 }
+    requires few_stops { length stops.now ≤ 16 }
+    requires lawful { IsTrue (is_lawful (vehicle_with car.at car.ready car.seats car.chairs rides.now stops.now)) }
+    requires dwell_limit { dwell ≤ 3600 }
+{
+    let vehicle = vehicle(car, rides, stops);
+    broken(&vehicle, dwell)
+}
+
+#[test]
+fn a_day_late_breaks_both(rt: HostRuntime) {
+    let car = Car {
+        at: 2,
+        ready: 1_000_000_000,
+        ..CAR
+    };
+    let stops = [
+        pickup!(7, 2, 0),
+        pickup!(8, 2, 0),
+        dropoff!(7, 4, 120),
+        dropoff!(8, 4, 0),
+    ];
+    let named = broken_rides(car, &PATIENT, &stops, 3600);
+    assert_eq!(rt; named.items(), [7, 8].as_slice());
 }
 
 #[test]
