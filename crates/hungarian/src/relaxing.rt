@@ -72,7 +72,9 @@ fn nearer(nearest: Nearest, ranks: &[u32], column: usize, distance: u64) -> Near
     }
 }
 
-/// Shortens the ways to all columns by a row, in one pass that also finds the nearest open column below a limit.
+/// Shortens the ways to all columns by a row, in one pass that also finds the nearest open column below a limit. It
+/// stays a function of its own, so that its loop has all registers.
+#[inline(never)]
 pub(crate) fn relax(
     reach: Reach,
     cells: &[Cell],
