@@ -1,0 +1,2 @@
+pub mod PrintsLemmas
+pub mod LineLemmas
