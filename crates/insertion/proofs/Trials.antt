@@ -30,7 +30,7 @@ near_stops ride at (s ∷ stops) from to h =
     })
     ∙ ap (λ more. near_stop four_nodes ride s ∷ more) (near_stops ride s.node stops from to rest)
 
-settings_fit : (settings : Settings) → are_settings settings ≡ true → IsSettings settings
+pub settings_fit : (settings : Settings) → are_settings settings ≡ true → IsSettings settings
 settings_fit settings h =
     let (h8, log_last) = and-true _ (leb settings.log 2) h in
     let (h7, log_first) = and-true _ (leb 1 settings.log) h8 in

@@ -9,7 +9,7 @@ ghost use Rattle.insertion.specs.Asked.{IsAsked};
 
 use crate::joins::joins_at;
 use crate::near::Near;
-use crate::plan::{arrival_at, copy_of, drive};
+use crate::plan::{arrival_at, drive};
 use crate::prices::{cost, may_offer, number_of_stops, start_of};
 use promises::keeps;
 use ride_model::{Offer, Ride, Settings, Vehicle};
@@ -69,7 +69,7 @@ fn priced(
     ensures { (roads : RoadMap) (new : Vehicle) → InsertsInto roads vehicle.now ride.now offer new
         → result ≡ offer_of_plan settings.now vehicle.now offer.i offer.j now new }
 {
-    let mut plan = copy_of(vehicle);
+    let mut plan = vehicle.copy();
     insert_ride(&mut plan, *ride, &offer);
     if !keeps(&plan, offer.start, settings.dwell) {
         return None;

@@ -4,48 +4,8 @@ ghost use Rattle.std.specs.List.{last_or};
 ghost use Rattle.ride_model.specs.Times.{times_of, drive_of};
 ghost use Rattle.ride_model.specs.Vehicle.{IsRoutedSomewhere};
 
-use arrayvec::ArrayVec;
-use ride_model::{Ride, Stop, Vehicle};
+use ride_model::Vehicle;
 use stop_plans::times;
-
-/// An equal vehicle.
-pub fn copy_of(vehicle: &Vehicle) -> Vehicle
-    ensures { result ≡ vehicle.now }
-{
-    Vehicle {
-        id: vehicle.id,
-        seats: vehicle.seats,
-        chairs: vehicle.chairs,
-        at: vehicle.at,
-        ready: vehicle.ready,
-        duty: vehicle.duty,
-        version: vehicle.version,
-        rides: copy_of_rides(vehicle.rides.as_slice()),
-        stops: copy_of_stops(vehicle.stops.as_slice()),
-    }
-}
-
-fn copy_of_rides(rides: &[Ride]) -> ArrayVec<Ride, 16>
-    requires { length rides.now ≤ 16 }
-    ensures { result.items ≡ rides.now }
-{
-    let mut copy = ArrayVec::new();
-    for ride in rides {
-        copy.push(*ride);
-    }
-    copy
-}
-
-fn copy_of_stops(stops: &[Stop]) -> ArrayVec<Stop, 16>
-    requires { length stops.now ≤ 16 }
-    ensures { result.items ≡ stops.now }
-{
-    let mut copy = ArrayVec::new();
-    for stop in stops {
-        copy.push(*stop);
-    }
-    copy
-}
 
 /// The seconds from the start to the last arrival, 0 for an idle vehicle.
 pub fn drive(vehicle: &Vehicle, dwell: u64) -> u64

@@ -1,16 +1,17 @@
 -- Plans: rides and the stops that they need, whatever the legs.
-use Rattle.std.proofs.Common.{◌≡◌, ℕ, Bool, true, false, not, cond, List, [], ◌∷◌, eqb, refl, sym, ◌∙◌, ap, subst}
-use Rattle.std.specs.Prelude.{map, Some, None, option_map, option_and_then, Contains}
+use Rattle.std.proofs.Common.{◌≡◌, ℕ, ◌⊎◌, inl, inr, Bool, true, false, not, cond, List, [], ◌∷◌, eqb, refl, sym, ◌∙◌, ap, subst}
+use Rattle.std.specs.Prelude.{map, All, Option, Some, None, option_map, option_and_then, Contains}
 use Rattle.std.specs.List.{filter, IsDistinct, AllByRecursion}
 use Rattle.std.proofs.lemmas.Bool.{eqb-true, eq-eqb}
 use Rattle.std.proofs.lemmas.List.Elements.{All-from_recursion, recursion_from_All}
 use Rattle.std.proofs.lemmas.Map.Keys.{IsDistinct-head, IsDistinct-tail, IsDistinct-cons}
+use Rattle.ride_model.specs.declared.vehicle.Kind.{Kind}
 use Rattle.ride_model.specs.declared.vehicle.Ride.{Ride}
 use Rattle.ride_model.specs.declared.vehicle.Stop.{Stop}
 use Rattle.ride_model.specs.Road.{RoadMap, travel}
 use Rattle.ride_model.specs.Vehicle.{visits_due, visit_of, stops_of, ride_ids, IsPlanFor}
 use Rattle.ride_model.specs.Insertion.{routed, stops_without, rides_without}
-use Rattle.model_laws.proofs.Among.{Among, among_from_contains, contains_from_among, among_filter}
+use Rattle.model_laws.proofs.Among.{Among, among_from_contains, contains_from_among, among_map, among_map_back, among_filter}
 use Rattle.model_laws.proofs.Routes.{with_leg}
 
 -- stops without their legs
@@ -177,3 +178,33 @@ plan-without id rides stops plan = record {
           | true ↦ λ _. left ss rest
           | false ↦ λ other. (still s.ride other first, left ss rest)
         ] refl
+
+-- each stop of a plan is at a node of its ride
+pub stop-of-ride : (rides : List Ride) (stops : List Stop) (stop : Stop) → IsPlanFor rides stops → Among stop stops
+    → (ride : Ride) × Among ride rides × ((stop.node ≡ ride.from) ⊎ (stop.node ≡ ride.to))
+stop-of-ride rides stops stop plan there =
+    let named : Contains (ride_ids rides) stop.ride =
+    all_at (λ (s : Stop). Contains (ride_ids rides) s.ride) stops stop plan.each_stop there in
+    let (ride, among, is) = among_map_back (λ (r : Ride). r.id) rides stop.ride (among_from_contains (ride_ids rides) stop.ride named) in
+    let due : map visit_of (stops_of ride.id stops) ≡ visits_due ride ride.picked =
+    all_at (λ (r : Ride). map visit_of (stops_of r.id stops) ≡ visits_due r r.picked) rides ride plan.each_ride among in
+    let own : Among stop (stops_of ride.id stops) =
+    among_filter (λ (s : Stop). eqb s.ride ride.id) stops stop there (eq-eqb stop.ride ride.id (sym is)) in
+    let visited : Among (visit_of stop) (visits_due ride ride.picked) =
+    subst (Among (visit_of stop)) due (among_map visit_of (stops_of ride.id stops) stop own) in
+    (ride, among, node_of ride ride.picked visited)
+  where
+    all_at : {X : Type 0} (P : X → Type 0) (xs : List X) (x : X) → All P xs → Among x xs → P x
+    all_at P xs x all among = by_recursion P xs x (recursion_from_All P xs all) among
+      where
+        by_recursion : {X : Type 0} (P : X → Type 0) (xs : List X) (x : X) → AllByRecursion P xs → Among x xs → P x
+        by_recursion P [] x h among = absurd among
+        by_recursion P (y ∷ xs) x h (inl is) = subst P is h.0
+        by_recursion P (y ∷ xs) x h (inr later) = by_recursion P xs x h.1 later
+    node_of : (ride : Ride) (picked : Option ℕ) → Among (visit_of stop) (visits_due ride picked)
+        → (stop.node ≡ ride.from) ⊎ (stop.node ≡ ride.to)
+    node_of ride None (inl is) = inl (sym (ap (λ (v : Kind × ℕ). v.1) is))
+    node_of ride None (inr (inl is)) = inr (sym (ap (λ (v : Kind × ℕ). v.1) is))
+    node_of ride None (inr (inr none)) = absurd none
+    node_of ride (Some at) (inl is) = inr (sym (ap (λ (v : Kind × ℕ). v.1) is))
+    node_of ride (Some at) (inr none) = absurd none

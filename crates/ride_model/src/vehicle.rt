@@ -1,4 +1,6 @@
 //! Vehicles with their rides and stops.
+ghost use Rattle.std.specs.Prelude.{◌≡◌, ◌≤◌, length};
+
 use arrayvec::ArrayVec;
 
 /// A ride: a rider's trip from one node to another.
@@ -64,4 +66,34 @@ pub struct Vehicle {
     pub rides: ArrayVec<Ride, 16>,
     /// The stops, in driving order.
     pub stops: ArrayVec<Stop, 16>,
+}
+
+impl Vehicle {
+    /// An equal vehicle.
+    pub fn copy(&self) -> Vehicle
+        ensures { result ≡ self.now }
+    {
+        Vehicle {
+            id: self.id,
+            seats: self.seats,
+            chairs: self.chairs,
+            at: self.at,
+            ready: self.ready,
+            duty: self.duty,
+            version: self.version,
+            rides: copy_of(self.rides.as_slice()),
+            stops: copy_of(self.stops.as_slice()),
+        }
+    }
+}
+
+fn copy_of<T: Copy + Default>(items: &[T]) -> ArrayVec<T, 16>
+    requires { length items.now ≤ 16 }
+    ensures { result.items ≡ items.now }
+{
+    let mut copy = ArrayVec::new();
+    for item in items {
+        copy.push(*item);
+    }
+    copy
 }

@@ -15,3 +15,4 @@ pub mod Placed
 pub mod FastCosts
 pub mod Searching
 pub mod BestFast
+pub mod DrawnPlans

@@ -18,4 +18,6 @@ pub use best::best_place_fast;
 pub use slack::Slack;
 
 #[cfg(test)]
+mod drawn;
+#[cfg(test)]
 mod tests;

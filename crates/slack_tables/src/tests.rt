@@ -1,5 +1,9 @@
 // Trials on a road of four nodes in a line, a minute between neighbours.
-ghost use Rattle.std.specs.Prelude.{◌≡◌, ◌≤◌, length, map, IsTrue};
+ghost use Rattle.std.specs.Prelude.{◌≡◌, ◌≤◌, length, map, IfSome, IsTrue, Some};
+ghost use Rattle.ride_model.specs.declared.offer.Offer.{Offer};
+ghost use Rattle.ride_model.specs.Offers.{offer_of};
+ghost use Rattle.stop_plans.specs.Examples.{four_nodes};
+ghost use Rattle.insertion.specs.Asked.{IsAsked};
 ghost use Rattle.promises.specs.Trials.{is_lawful, seconds_between, vehicle_with};
 ghost use Rattle.insertion.specs.Trials.{near_in_line, near_stop_in_line, may_be_asked};
 
@@ -99,8 +103,9 @@ fn near_stop(stop: &Stop, ride: &Ride) -> NearStop
 }
 
 // The answer of the search by slack.
-fn fast(vehicle: &Vehicle, ride: &Ride, settings: &Settings) -> Option<Offer>
-    requires { IsTrue (may_be_asked vehicle.now ride.now settings.now) }
+pub(crate) fn fast(vehicle: &Vehicle, ride: &Ride, settings: &Settings) -> Option<Offer>
+    requires { IsAsked four_nodes vehicle.now ride.now 0 settings.now (near_in_line vehicle.now ride.now) }
+    ensures { IfSome result (λ (offer : Offer). offer_of four_nodes settings.now vehicle.now ride.now 0 offer.i offer.j ≡ Some offer) }
 {
     let near = near(vehicle, ride);
     let start = start_of(vehicle, settings.lead, 0);
@@ -124,8 +129,13 @@ fn cost(car: Car, rides: &[Ride], stops: &[Stop], ride: Ride, settings: Settings
 }
 
 // Whether an answer costs what the plain search's does, no pair of places is cheaper, and the offer is that of its places.
-fn agrees(fast: Option<Offer>, vehicle: &Vehicle, ride: &Ride, settings: &Settings) -> bool
-    requires { IsTrue (may_be_asked vehicle.now ride.now settings.now) }
+pub(crate) fn agrees(
+    fast: Option<Offer>,
+    vehicle: &Vehicle,
+    ride: &Ride,
+    settings: &Settings,
+) -> bool
+    requires { IsAsked four_nodes vehicle.now ride.now 0 settings.now (near_in_line vehicle.now ride.now) }
 {
     let near = near(vehicle, ride);
     let slow = best_place(vehicle, ride, 0, settings, &near);
@@ -143,7 +153,7 @@ fn agrees(fast: Option<Offer>, vehicle: &Vehicle, ride: &Ride, settings: &Settin
 
 // Whether no pair of places has an offer below a cost.
 fn none_below(cost: u64, vehicle: &Vehicle, ride: &Ride, settings: &Settings) -> bool
-    requires { IsTrue (may_be_asked vehicle.now ride.now settings.now) }
+    requires { IsAsked four_nodes vehicle.now ride.now 0 settings.now (near_in_line vehicle.now ride.now) }
 {
     for i in 0..number_of_stops(vehicle) as u32 + 1 {
         if !none_below_with_pickup_at(i, cost, vehicle, ride, settings) {
@@ -160,7 +170,7 @@ fn none_below_with_pickup_at(
     ride: &Ride,
     settings: &Settings,
 ) -> bool
-    requires { IsTrue (may_be_asked vehicle.now ride.now settings.now) }
+    requires { IsAsked four_nodes vehicle.now ride.now 0 settings.now (near_in_line vehicle.now ride.now) }
 {
     let near = near(vehicle, ride);
     for j in i..number_of_stops(vehicle) as u32 + 1 {

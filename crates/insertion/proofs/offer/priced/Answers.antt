@@ -19,23 +19,23 @@ planned roads copy plan v ride offer new same made h = made roads new (subst (λ
 pub keeps-requires-clause-routed : goal.keeps-requires-clause-routed
 keeps-requires-clause-routed c =
     let (roads, new, h) = c.requires.inserts in
-    (roads, h.map_fits, subst (IsRouted roads) (sym (planned roads _ _ _ _ _ new c.copy_of-plan.ensures c.insert_ride.ensures h)) (new-routed roads _ _ _ new h))
+    (roads, h.map_fits, subst (IsRouted roads) (sym (planned roads _ _ _ _ _ new c.copy-plan.ensures c.insert_ride.ensures h)) (new-routed roads _ _ _ new h))
 
 pub returns-then-not-keeps : goal.returns-then-not-keeps
 returns-then-not-keeps c = λ roads new h.
-    let plan_is = planned roads _ _ _ _ _ new c.copy_of-plan.ensures c.insert_ride.ensures h in
+    let plan_is = planned roads _ _ _ _ _ new c.copy-plan.ensures c.insert_ride.ensures h in
     plan-broken c.args.settings.now c.args.vehicle.now c.args.offer.i c.args.offer.j c.args.now c.args.offer.start new c.requires.start
     (sym (ap (λ w. keeps w c.args.offer.start c.args.settings.now.dwell) plan_is) ∙ sym c.keeps.ensures ∙ c.if-not-keeps.true)
 
 pub drive-requires-clause-routed : goal.drive-requires-clause-routed
 drive-requires-clause-routed c =
     let (roads, new, h) = c.requires.inserts in
-    (roads, h.map_fits, subst (IsRouted roads) (sym (planned roads _ _ _ _ _ new c.copy_of-plan.ensures c.insert_ride.ensures h)) (new-routed roads _ _ _ new h))
+    (roads, h.map_fits, subst (IsRouted roads) (sym (planned roads _ _ _ _ _ new c.copy-plan.ensures c.insert_ride.ensures h)) (new-routed roads _ _ _ new h))
 
 pub overflow_sub-driven : goal.overflow_sub-driven
 overflow_sub-driven c =
     let (roads, new, h) = c.requires.inserts in
-    let plan_is = planned roads _ _ _ _ _ new c.copy_of-plan.ensures c.insert_ride.ensures h in
+    let plan_is = planned roads _ _ _ _ _ new c.copy-plan.ensures c.insert_ride.ensures h in
     let driven = c.drive.ensures ∙ ap (λ w. drive_of w c.args.settings.now.dwell) plan_is in
     omega (
       arith,
@@ -48,12 +48,12 @@ overflow_sub-driven c =
 pub arrival_at-pickup-requires-clause-routed : goal.arrival_at-pickup-requires-clause-routed
 arrival_at-pickup-requires-clause-routed c =
     let (roads, new, h) = c.requires.inserts in
-    (roads, h.map_fits, subst (IsRouted roads) (sym (planned roads _ _ _ _ _ new c.copy_of-plan.ensures c.insert_ride.ensures h)) (new-routed roads _ _ _ new h))
+    (roads, h.map_fits, subst (IsRouted roads) (sym (planned roads _ _ _ _ _ new c.copy-plan.ensures c.insert_ride.ensures h)) (new-routed roads _ _ _ new h))
 
 pub arrival_at-pickup-requires-clause-within : goal.arrival_at-pickup-requires-clause-within
 arrival_at-pickup-requires-clause-within c =
     let (roads, new, h) = c.requires.inserts in
-    let plan_is = planned roads _ _ _ _ _ new c.copy_of-plan.ensures c.insert_ride.ensures h in
+    let plan_is = planned roads _ _ _ _ _ new c.copy-plan.ensures c.insert_ride.ensures h in
     omega (
       arith,
       ap (λ (w : Vehicle). length w.stops.items) plan_is,
@@ -65,14 +65,14 @@ arrival_at-pickup-requires-clause-within c =
 pub cost-cost-requires-clause-short_drive : goal.cost-cost-requires-clause-short_drive
 cost-cost-requires-clause-short_drive c =
     let (roads, new, h) = c.requires.inserts in
-    let plan_is = planned roads _ _ _ _ _ new c.copy_of-plan.ensures c.insert_ride.ensures h in
+    let plan_is = planned roads _ _ _ _ _ new c.copy-plan.ensures c.insert_ride.ensures h in
     let routed = subst (IsRouted roads) (sym plan_is) (new-routed roads _ _ _ new h) in
     omega (arith, c.drive.ensures, drive-kept roads c.insert_ride.new.vehicle c.args.offer.start c.args.settings.now.dwell routed (sym c.keeps.ensures ∙ c.if-not-keeps.false))
 
 pub cost-cost-requires-clause-short_wait : goal.cost-cost-requires-clause-short_wait
 cost-cost-requires-clause-short_wait c =
     let (roads, new, h) = c.requires.inserts in
-    let plan_is = planned roads _ _ _ _ _ new c.copy_of-plan.ensures c.insert_ride.ensures h in
+    let plan_is = planned roads _ _ _ _ _ new c.copy-plan.ensures c.insert_ride.ensures h in
     let routed = subst (IsRouted roads) (sym plan_is) (new-routed roads _ _ _ new h) in
     omega (
       arith,
@@ -83,7 +83,7 @@ cost-cost-requires-clause-short_wait c =
 
 pub returns : goal.returns
 returns c = λ roads new h.
-    let plan_is = planned roads _ _ _ _ _ new c.copy_of-plan.ensures c.insert_ride.ensures h in
+    let plan_is = planned roads _ _ _ _ _ new c.copy-plan.ensures c.insert_ride.ensures h in
     let settings = c.args.settings.now in
     let v = c.args.vehicle.now in
     let start = c.args.offer.start in

@@ -1,11 +1,20 @@
 use Rattle.std.proofs.Common.{sym, subst}
-use Rattle.std.specs.Prelude.{IsTrue}
-use Rattle.insertion.specs.Trials.{may_be_asked}
+use Rattle.ride_model.specs.declared.vehicle.Vehicle.{Vehicle}
+use Rattle.promises.specs.Trials.{vehicle_with}
+use Rattle.stop_plans.specs.Examples.{four_nodes}
+use Rattle.insertion.specs.Asked.{IsAsked}
+use Rattle.insertion.specs.Trials.{near_in_line}
+use Rattle.insertion.proofs.Trials.{asked}
 use Rattle.slack_tables.proofs.tests.cost.Goals as goal
 
 pub fast-fast-requires : goal.fast-fast-requires
-fast-fast-requires c = subst (λ v. IsTrue (may_be_asked v c.args.ride c.args.settings))
-    (sym c.vehicle-vehicle.ensures) c.requires.asked
+fast-fast-requires c =
+    let v = vehicle_with c.args.car.at c.args.car.ready c.args.car.seats c.args.car.chairs c.args.rides.now c.args.stops.now in
+    subst (λ (w : Vehicle). IsAsked four_nodes w c.args.ride 0 c.args.settings (near_in_line w c.args.ride)) (sym c.vehicle-vehicle.ensures)
+    (asked v c.args.ride c.args.settings c.requires.asked)
 
 pub agrees-requires : goal.agrees-requires
-agrees-requires c = subst (λ v. IsTrue (may_be_asked v c.args.ride c.args.settings)) (sym c.vehicle-vehicle.ensures) c.requires.asked
+agrees-requires c =
+    let v = vehicle_with c.args.car.at c.args.car.ready c.args.car.seats c.args.car.chairs c.args.rides.now c.args.stops.now in
+    subst (λ (w : Vehicle). IsAsked four_nodes w c.args.ride 0 c.args.settings (near_in_line w c.args.ride)) (sym c.vehicle-vehicle.ensures)
+    (asked v c.args.ride c.args.settings c.requires.asked)

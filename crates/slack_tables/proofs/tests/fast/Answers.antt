@@ -2,22 +2,21 @@ use Rattle.std.proofs.Common.{sym, ◌∙◌, ap, subst, arith}
 use Rattle.stop_plans.specs.Examples.{four_nodes}
 use Rattle.insertion.specs.Asked.{IsAsked}
 use Rattle.slack_tables.specs.SlackOf.{slack_of}
-use Rattle.insertion.proofs.Trials.{asked}
 use Rattle.slack_tables.proofs.NearTimes.{start-le}
 use Rattle.slack_tables.proofs.tests.fast.Goals as goal
 
 pub start_of-start-requires-clause-lead_limit : goal.start_of-start-requires-clause-lead_limit
 start_of-start-requires-clause-lead_limit c =
-    (asked c.args.vehicle.now c.args.ride.now c.args.settings.now c.requires).settings_fit.lead_limit
+    c.requires.settings_fit.lead_limit
 
 pub of-slack-requires-clause-lawful : goal.of-slack-requires-clause-lawful
 of-slack-requires-clause-lawful c =
-    let all = asked c.args.vehicle.now c.args.ride.now c.args.settings.now c.requires in
+    let all = c.requires in
     (four_nodes, all.map_fits, all.lawful)
 
 pub of-slack-requires-clause-start_limit : goal.of-slack-requires-clause-start_limit
 of-slack-requires-clause-start_limit c =
-    let all = asked c.args.vehicle.now c.args.ride.now c.args.settings.now c.requires in
+    let all = c.requires in
     omega (
       arith,
       c.start_of-start.ensures,
@@ -26,15 +25,19 @@ of-slack-requires-clause-start_limit c =
 
 pub of-slack-requires-clause-dwell_limit : goal.of-slack-requires-clause-dwell_limit
 of-slack-requires-clause-dwell_limit c =
-    (asked c.args.vehicle.now c.args.ride.now c.args.settings.now c.requires).settings_fit.dwell_limit
+    c.requires.settings_fit.dwell_limit
 
 pub best_place_fast-requires-clause-asked : goal.best_place_fast-requires-clause-asked
 best_place_fast-requires-clause-asked c = (
   four_nodes,
-  subst (IsAsked four_nodes c.args.vehicle.now c.args.ride.now 0 c.args.settings.now) (sym c.near-near.ensures)
-      (asked c.args.vehicle.now c.args.ride.now c.args.settings.now c.requires),
+  subst (IsAsked four_nodes c.args.vehicle.now c.args.ride.now 0 c.args.settings.now) (sym c.near-near.ensures) c.requires,
 )
 
 pub best_place_fast-requires-clause-slack : goal.best_place_fast-requires-clause-slack
 best_place_fast-requires-clause-slack c =
     c.of-slack.ensures ∙ ap (λ s. slack_of c.args.vehicle.now s c.args.settings.now.dwell) c.start_of-start.ensures
+
+pub returns : goal.returns
+returns c =
+    c.best_place_fast.ensures.an_offer four_nodes
+    (subst (IsAsked four_nodes c.args.vehicle.now c.args.ride.now 0 c.args.settings.now) (sym c.near-near.ensures) c.requires)

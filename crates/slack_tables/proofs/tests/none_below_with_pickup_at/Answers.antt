@@ -1,12 +1,10 @@
 use Rattle.std.proofs.Common.{sym, subst}
 use Rattle.stop_plans.specs.Examples.{four_nodes}
 use Rattle.insertion.specs.Asked.{IsAsked}
-use Rattle.insertion.proofs.Trials.{asked}
 use Rattle.slack_tables.proofs.tests.none_below_with_pickup_at.Goals as goal
 
 pub offer_at-requires : goal.offer_at-requires
 offer_at-requires c = (
   four_nodes,
-  subst (IsAsked four_nodes c.args.vehicle.now c.args.ride.now 0 c.args.settings.now) (sym c.near-near.ensures)
-      (asked c.args.vehicle.now c.args.ride.now c.args.settings.now c.requires),
+  subst (IsAsked four_nodes c.args.vehicle.now c.args.ride.now 0 c.args.settings.now) (sym c.near-near.ensures) c.requires,
 )

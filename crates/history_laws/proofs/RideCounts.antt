@@ -1,0 +1,46 @@
+-- A vehicle has at most as many rides as stops.
+use Rattle.std.proofs.Common.{◌≡◌, ℕ, ◌≤◌, false, not, inl, inr, List, [], ◌∷◌, length, eqb, refl, sym, ◌∙◌, ap, arith}
+use Rattle.std.specs.Prelude.{map, Option, Some, None, ◌==◌}
+use Rattle.std.specs.List.{IsDistinct}
+use Rattle.std.proofs.lemmas.List.Filters.{length-filter_both}
+use Rattle.std.proofs.lemmas.Map.Keys.{IsDistinct-head, IsDistinct-tail}
+use Rattle.ride_model.specs.declared.vehicle.Ride.{Ride}
+use Rattle.ride_model.specs.declared.vehicle.Stop.{Stop}
+use Rattle.ride_model.specs.Vehicle.{IsPlanFor, visits_due, visit_of, stops_of, ride_ids}
+use Rattle.ride_model.specs.Insertion.{stops_without}
+use Rattle.model_laws.proofs.Among.{Among, among_map}
+use Rattle.model_laws.proofs.PlanStops.{stops-without}
+use Rattle.history_laws.proofs.Lookups.{of_all, of_each}
+use Rattle.history_laws.proofs.Served.{eqb-comm}
+
+-- rides of different ids with a stop each are no more than the stops
+counted : (rides : List Ride) (stops : List Stop) → IsDistinct eqb (ride_ids rides)
+    → ((ride : Ride) → Among ride rides → stops_of ride.id stops ≡ [] → ⊥)
+    → length rides ≤ length stops
+counted [] stops distinct some = omega arith
+counted (ride ∷ rides) stops distinct some =
+    let left = counted rides (stops_without ride.id stops) (IsDistinct-tail eqb ride.id (ride_ids rides) distinct) (λ other there none.
+    some other (inr there) (sym (stops-without ride.id other.id stops (differs other there)) ∙ none)) in
+    let both = length-filter_both (λ (s : Stop). s.ride == ride.id) (λ (s : Stop). not (s.ride == ride.id)) (λ s. refl) stops in
+    omega (arith, left, both, at_least_one (stops_of ride.id stops) (some ride (inl refl)))
+  where
+    differs : (other : Ride) → Among other rides → eqb other.id ride.id ≡ false
+    differs other there =
+        eqb-comm other.id ride.id
+        ∙ of_each (λ k. eqb ride.id k ≡ false) (ride_ids rides) other.id (IsDistinct-head eqb ride.id (ride_ids rides) distinct)
+        (among_map (λ (r : Ride). r.id) rides other there)
+
+    at_least_one : (xs : List Stop) → (xs ≡ [] → ⊥) → 1 ≤ length xs
+    at_least_one [] h = absurd (h refl)
+    at_least_one (x ∷ xs) h = omega arith
+
+-- a plan has at least as many stops as rides
+pub few_rides : (rides : List Ride) (stops : List Stop) → IsPlanFor rides stops → length rides ≤ length stops
+few_rides rides stops plan = counted rides stops plan.ids_differ (λ ride there none. no_visits ride ride.picked (
+    sym (of_all (λ (r : Ride). map visit_of (stops_of r.id stops) ≡ visits_due r r.picked) rides ride plan.each_ride there)
+    ∙ ap (map visit_of) none
+    ))
+  where
+    no_visits : (ride : Ride) (picked : Option ℕ) → visits_due ride picked ≡ [] → ⊥
+    no_visits ride None e = cc e
+    no_visits ride (Some at) e = cc e

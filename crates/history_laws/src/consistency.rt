@@ -1,0 +1,23 @@
+//! The state of every legal history is consistent.
+ghost use Rattle.std.specs.Prelude.{◌≡◌, ℕ, List, ◌++◌, All, Contains};
+ghost use Rattle.ride_model.specs.declared.entry.Entry.{Entry};
+ghost use Rattle.ride_model.specs.declared.vehicle.Vehicle.{Vehicle};
+ghost use Rattle.ride_model.specs.State.{State};
+ghost use Rattle.ride_model.specs.Legal.{IsLegal, replay};
+ghost use Rattle.history_laws.specs.Start.{IsStart, fed_total};
+ghost use Rattle.history_laws.specs.Consistent.{IsConsistent};
+
+/// Each vehicle is lawful and has just the rides of the requests that it has promised or carries; each open batch is in
+/// order; numbers are within their limits.
+pub fn every_state_is_consistent()
+    ensures { (feeds desks : ℕ) (start : State) (entries : List Entry) → IsStart start → IsLegal feeds desks start entries
+        → IsConsistent desks (fed_total entries) start (replay start entries) }
+{}
+
+/// Two records of a vehicle with equal versions are equal.
+pub fn equal_versions_are_equal_records()
+    ensures { (feeds desks : ℕ) (start : State) (first second : List Entry) → IsStart start
+        → IsLegal feeds desks start (first ++ second) → (earlier later : Vehicle)
+        → Contains (replay start first).vehicles earlier → Contains (replay start (first ++ second)).vehicles later
+        → earlier.id ≡ later.id → earlier.version ≡ later.version → earlier ≡ later }
+{}

@@ -1,0 +1,6 @@
+//! What holds of every legal history, however the entries of its feeds and desks interleave.
+#![tactic(auto)]
+
+pub mod closing;
+pub mod consistency;
+pub mod texts;
