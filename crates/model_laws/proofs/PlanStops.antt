@@ -201,6 +201,7 @@ stop-of-ride rides stops stop plan there =
         by_recursion P [] x h among = absurd among
         by_recursion P (y ∷ xs) x h (inl is) = subst P is h.0
         by_recursion P (y ∷ xs) x h (inr later) = by_recursion P xs x h.1 later
+
     node_of : (ride : Ride) (picked : Option ℕ) → Among (visit_of stop) (visits_due ride picked)
         → (stop.node ≡ ride.from) ⊎ (stop.node ≡ ride.to)
     node_of ride None (inl is) = inl (sym (ap (λ (v : Kind × ℕ). v.1) is))

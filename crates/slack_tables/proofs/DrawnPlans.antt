@@ -53,6 +53,7 @@ takes-ride roads settings v ride near time offer asked is =
   where
     same_joins : (a b : Offer) → Some a ≡ Some b → b.joins ≡ a.joins
     same_joins a b e = let e' : a ≡ b = cc e in ap (λ (o : Offer). o.joins) (sym e')
+
     by_keeps : (new : Vehicle) → inserted roads v ride offer.i offer.j ≡ Some new → ArePlaces v offer.i offer.j
         → (b : Bool) → keeps new (start_of v settings.lead time) settings.dwell ≡ b
         → cond b (Some (record { i = offer.i; j = offer.j; cost = cost_of settings v new offer.i (start_of v settings.lead time) time; start = start_of v settings.lead time; joins = joins_of new offer.i offer.j })) None
@@ -82,10 +83,12 @@ takes-ride roads settings v ride near time offer asked is =
           lawful = record { routed = new-routed roads v ride offer new into; loads = loads };
           rides_are = ap (λ (w : Vehicle). w.rides.items) facts.new_is;
         }
+
     by_new : ArePlaces v offer.i offer.j → (o : Option Vehicle) → inserted roads v ride offer.i offer.j ≡ o
         → option_and_then (offer_of_plan settings v offer.i offer.j time) o ≡ Some offer → TakesRide roads v ride offer
     by_new places None made none = absurd (cc none)
     by_new places (Some new) made some = by_keeps new made places (keeps new (start_of v settings.lead time) settings.dwell) refl some
+
     by_places : (b : Bool) → (is_open v time && leb offer.i offer.j && leb offer.j (length v.stops.items)) ≡ b
         → cond b (option_and_then (offer_of_plan settings v offer.i offer.j time) (inserted roads v ride offer.i offer.j)) None ≡ Some offer
         → TakesRide roads v ride offer

@@ -42,15 +42,15 @@ loop-number-preserved c =
     c.drawn_ride-ride.ensures.ride c.drawn_ride-ride.ensures.id c.drawn_ride-ride.ensures.waits c.loop-number.invariant.1 c.requires.settings in
     elim c.match-offer.branch [
       | in-Some w ↦
-        let offered : offer_of four_nodes c.args.settings.now v ride 0 w.in-Some.offer.i w.in-Some.offer.j ≡ Some w.in-Some.offer =
-        subst (λ o. IfSome o (λ (offer : Offer). offer_of four_nodes c.args.settings.now v ride 0 offer.i offer.j ≡ Some offer)) w.in-Some.is c.fast-offer.ensures in
-        let taken = takes-ride four_nodes c.args.settings.now v ride (near_in_line v ride) 0 w.in-Some.offer asked offered in
-        let is : c.match-offer.vehicle ≡ taken.new = w.vehicle-is ∙ w.insert_ride.ensures four_nodes taken.new taken.inserts in (
-          subst (IsLawful four_nodes) (sym is) taken.lawful,
-          subst (λ n. All (λ (r : Ride). r.id < n) c.match-offer.vehicle.rides.items) later
-              (subst (All (λ (r : Ride). r.id < next + 1)) (sym (ap (λ (u : Vehicle). u.rides.items) is ∙ taken.rides_are))
-              (earlier-next v.rides.items ride next c.loop-number.invariant.1 c.drawn_ride-ride.ensures.id)),
-        )
+          let offered : offer_of four_nodes c.args.settings.now v ride 0 w.in-Some.offer.i w.in-Some.offer.j ≡ Some w.in-Some.offer =
+          subst (λ o. IfSome o (λ (offer : Offer). offer_of four_nodes c.args.settings.now v ride 0 offer.i offer.j ≡ Some offer)) w.in-Some.is c.fast-offer.ensures in
+          let taken = takes-ride four_nodes c.args.settings.now v ride (near_in_line v ride) 0 w.in-Some.offer asked offered in
+          let is : c.match-offer.vehicle ≡ taken.new = w.vehicle-is ∙ w.insert_ride.ensures four_nodes taken.new taken.inserts in (
+            subst (IsLawful four_nodes) (sym is) taken.lawful,
+            subst (λ n. All (λ (r : Ride). r.id < n) c.match-offer.vehicle.rides.items) later
+                (subst (All (λ (r : Ride). r.id < next + 1)) (sym (ap (λ (u : Vehicle). u.rides.items) is ∙ taken.rides_are))
+                (earlier-next v.rides.items ride next c.loop-number.invariant.1 c.drawn_ride-ride.ensures.id)),
+          )
       | in_default w ↦ (
         subst (IsLawful four_nodes) (sym w.vehicle-is) c.loop-number.invariant.0,
         subst (λ n. All (λ (r : Ride). r.id < n) c.match-offer.vehicle.rides.items) later
