@@ -126,6 +126,22 @@ fn spellings_are_canonical(rt: HostRuntime) -> Result<(), Fail> {
 }
 
 #[test]
+fn in_version_2_six_numbers_are_read_and_seven_are_printed(rt: HostRuntime) -> Result<(), Fail> {
+    let no_load = Command::Request {
+        id: 11,
+        from: 2,
+        to: 4,
+        seats: 0,
+        latest: 600,
+        longest: 300,
+        chairs: 0,
+    };
+    assert_eq!(rt; read_command(b"request 11 2 4 0 600 300", 2), Some(no_load));
+    assert!(rt; is_spelled(rt.alloc(), &no_load, 2, b"request 11 2 4 0 600 300 0")?);
+    Ok(())
+}
+
+#[test]
 fn a_failing_sink_has_a_prefix(rt: HostRuntime) -> Result<(), Fail> {
     let mut sink = MemSink::new(rt.alloc(), 40, &[4], &[2])?;
     assert!(rt; print_command(&Command::Cancel { id: 7 }, 1, &mut sink).is_err());

@@ -2,6 +2,7 @@
 use crate::{FleetError, a_text_has_one_answer, read_fleet};
 use ride_model::{Network, Settings};
 use ride_ports::MemSource;
+use std::alloc::Global;
 use std::process::Abort;
 use std::test::Fail;
 
@@ -56,6 +57,27 @@ fn each_refusal_has_its_line(rt: HostRuntime) {
     refuses(&rt, b"vehicle 1 0 1 0", FleetError::ValueOut(1));
     refuses(&rt, b"set batch 129", FleetError::ValueOut(1));
     refuses(&rt, b"set log 3", FleetError::ValueOut(1));
+}
+
+// The lines of so many vehicles.
+fn vehicle_lines(alloc: Global, many: u32) -> Result<String, Fail> {
+    let mut lines = String::new(alloc);
+    for id in 0..many {
+        writeln!(lines, "vehicle {id} 1 1 0")?;
+    }
+    Ok(lines)
+}
+
+#[test]
+fn the_1001st_vehicle_is_too_many(rt: HostRuntime) -> Result<(), Fail> {
+    let map = Network::new(4, Vec::new(rt.alloc()));
+    let full = vehicle_lines(rt.alloc(), 1_000)?;
+    let mut source = MemSource::new(full.as_bytes(), &[], &[]);
+    let (_, fleet) = read_fleet(rt.alloc(), &mut source, &map)?;
+    assert_eq!(rt; fleet.vehicles().len(), 1_000);
+    let over = vehicle_lines(rt.alloc(), 1_001)?;
+    refuses(&rt, over.as_bytes(), FleetError::TooMany(1_001));
+    Ok(())
 }
 
 #[test]

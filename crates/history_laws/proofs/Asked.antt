@@ -22,7 +22,7 @@ use Rattle.history_laws.proofs.Earlier.{all_earlier-same}
 use Rattle.history_laws.proofs.Invariant.{find_request, Inv, Goes}
 use Rattle.history_laws.proofs.Changes.{open_batch-later}
 use Rattle.history_laws.proofs.Raised.{node_is}
-use Rattle.history_laws.proofs.Fed.{cond_goes, not-false, refused_goes, still_goes, duty_goes, at_goes, cancel_goes, done_goes}
+use Rattle.history_laws.proofs.Fed.{cond_goes, not-false, refused_goes, still_goes, duty_goes, at_goes, cancel_goes, done_goes, or-false}
 
 -- what was found is found with more behind it
 pub find-push : {X : Type 0} (p : X → Bool) (xs : List X) (x y : X) → find p xs ≡ Some y → find p (xs ++ x ∷ []) ≡ Some y
@@ -118,11 +118,6 @@ accepted_goes desks fed ok start s ride inv none few fits waits fine =
         by_place : Among r s.requests ⊎ (new ≡ r) → P r
         by_place (inl h) = each r h
         by_place (inr is) = subst P is last
-
--- neither of two tests passes
-or-false : (a b : Bool) → (a || b) ≡ false → (a ≡ false) × (b ≡ false)
-or-false false b h = (refl, h)
-or-false true b h = absurd (cc h)
 
 -- a command asks for a ride only under an id that is fine
 abbrev pub IsFine : (ℕ → Type 0) → Command → Type 0

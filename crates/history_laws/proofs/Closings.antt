@@ -39,7 +39,7 @@ use Rattle.history_laws.specs.Consistent.{promised_as, IsInBatch}
 use Rattle.model_laws.proofs.Among.{Among, among_map_back}
 use Rattle.history_laws.proofs.Lookups.{of_all}
 use Rattle.history_laws.proofs.Invariant.{find_request, Inv, Goes}
-use Rattle.history_laws.proofs.Fed.{found_at, stop_ride, promised-open}
+use Rattle.history_laws.proofs.Fed.{answer_by, found_at, stop_ride, promised-open}
 use Rattle.history_laws.proofs.Leaving.{open_batch, in_batch-none}
 use Rattle.history_laws.proofs.Committing.{marked_here, away_stands}
 use Rattle.history_laws.proofs.Entries.{start_inv, fed_in, event_goes}
@@ -62,11 +62,6 @@ closes_one id other s after was is = by_test (eqb other id) refl
     by_test true same = inr (refl, subst (IsAt false s) (eqb-true other id same) was, subst (IsAt true after) (eqb-true other id same) is)
     by_test false differs = inl refl
 
--- what holds of both answers holds of the one that a test chooses
-cond_both : (P : Answered → Type 0) (b : Bool) (x y : Answered) → (b ≡ true → P x) → (b ≡ false → P y) → P (cond b x y)
-cond_both P true x y h k = h refl
-cond_both P false x y h k = k refl
-
 -- what an answer to a command closes
 abbrev ClosesBy : ℕ → Command → State → Answered → Type 0
 ClosesBy id command s answered = Closes id (closings_in id (Fed command answered.reply)) s answered.state
@@ -77,12 +72,12 @@ request_closes : (s : State) (q id from to seats latest longest chairs : ℕ)
 unfolding request_step
 request_closes s q id from to seats latest longest chairs =
     let P = ClosesBy q (Request id from to seats latest longest chairs) s in
-    cond_both P (is_some (accepted_request s id)) _ _ (λ _. inl refl) (λ _.
-    cond_both P (not (is_node s.roads from && is_node s.roads to)) _ _ (λ _. inl refl) (λ _.
-    cond_both P (eqb from to) _ _ (λ _. inl refl) (λ _.
-    cond_both P (nat_lt 8 seats || nat_lt 4 chairs || eqb (seats + chairs) 0) _ _ (λ _. inl refl) (λ _.
-    cond_both P (nat_lt 1000000000 latest || eqb longest 0 || nat_lt 1000000 longest) _ _ (λ _. inl refl) (λ _.
-    cond_both P (nat_le 100000 (length s.requests)) _ _ (λ _. inl refl) (λ _. inl refl))))))
+    answer_by P (is_some (accepted_request s id)) _ _ (λ _. inl refl) (λ _.
+    answer_by P (not (is_node s.roads from && is_node s.roads to)) _ _ (λ _. inl refl) (λ _.
+    answer_by P (eqb from to) _ _ (λ _. inl refl) (λ _.
+    answer_by P (nat_lt 8 seats || nat_lt 4 chairs || eqb (seats + chairs) 0) _ _ (λ _. inl refl) (λ _.
+    answer_by P (nat_lt 1000000000 latest || eqb longest 0 || nat_lt 1000000 longest) _ _ (λ _. inl refl) (λ _.
+    answer_by P (nat_le 100000 (length s.requests)) _ _ (λ _. inl refl) (λ _. inl refl))))))
 
 -- a request that is marked is closed
 marked_at : (id : ℕ) (state : RequestState) (s t : State) (was : AcceptedRequest) → find_request s.requests id ≡ Some was
@@ -144,9 +139,9 @@ at_closes : (s : State) (q vehicle node time : ℕ) (o : Option (ℕ × Vehicle)
 at_closes s q vehicle node time None = inl refl
 at_closes s q vehicle node time (Some (place, v)) =
     let P = ClosesBy q (At vehicle node time) s in
-    cond_both P (not (is_node s.roads node)) _ _ (λ _. inl refl) (λ _.
-    cond_both P (nat_lt 1000000000 time) _ _ (λ _. inl refl) (λ _.
-    cond_both P (nat_lt time v.ready) _ _ (λ _. inl refl) (λ _. report_closes s q vehicle place node time v v.stops.items)))
+    answer_by P (not (is_node s.roads node)) _ _ (λ _. inl refl) (λ _.
+    answer_by P (nat_lt 1000000000 time) _ _ (λ _. inl refl) (λ _.
+    answer_by P (nat_lt time v.ready) _ _ (λ _. inl refl) (λ _. report_closes s q vehicle place node time v v.stops.items)))
 
 -- a served stop closes its request where it is a drop-off
 done_at_closes : (desks fed : ℕ) (start s : State) (q vehicle place : ℕ) (v : Vehicle) → Inv desks fed any_id start s
@@ -155,8 +150,8 @@ done_at_closes : (desks fed : ℕ) (start s : State) (q vehicle place : ℕ) (v 
 done_at_closes desks fed start s q vehicle place v inv there [] is = inl refl
 done_at_closes desks fed start s q vehicle place v inv there (stop ∷ rest) is =
     let P = ClosesBy q (Done vehicle) s in
-    cond_both P (not (eqb v.at stop.node)) _ _ (λ _. inl refl) (λ _.
-    cond_both P (nat_lt 1000003600 (v.ready + s.settings.dwell)) _ _ (λ _. inl refl) (λ _. by_kind stop.kind))
+    answer_by P (not (eqb v.at stop.node)) _ _ (λ _. inl refl) (λ _.
+    answer_by P (nat_lt 1000003600 (v.ready + s.settings.dwell)) _ _ (λ _. inl refl) (λ _. by_kind stop.kind))
   where
     by_kind : (kind : Kind) → Closes q (closings_in q (Fed (Done vehicle) (served_reply stop kind))) s
         (with_request_state stop.ride (served_state v kind) (with_vehicle s place (raised (served s.settings.dwell v stop rest stop.kind))))
@@ -190,12 +185,12 @@ off_closes s q vehicle (Some placed) = inl refl
 -- the clock closes none
 clock_closes : (s : State) (q time : ℕ) → ClosesBy q (Clock time) s (clock_step s time)
 unfolding clock_step
-clock_closes s q time = cond_both (ClosesBy q (Clock time) s) (nat_lt 1000000000 time) _ _ (λ _. inl refl) (λ _. inl refl)
+clock_closes s q time = answer_by (ClosesBy q (Clock time) s) (nat_lt 1000000000 time) _ _ (λ _. inl refl) (λ _. inl refl)
 
 -- asking for a batch closes none
 ask_closes : (s : State) (q : ℕ) → ClosesBy q Ask s (ask_step s)
 unfolding ask_step
-ask_closes s q = cond_both (ClosesBy q Ask s) (nat_le 2000 s.asked) _ _ (λ _. inl refl) (λ _. inl refl)
+ask_closes s q = answer_by (ClosesBy q Ask s) (nat_le 2000 s.asked) _ _ (λ _. inl refl) (λ _. inl refl)
 
 -- what each command closes
 step_closes : (desks fed : ℕ) (start s : State) (q : ℕ) (command : Command) → IsStart start → Inv desks fed any_id start s

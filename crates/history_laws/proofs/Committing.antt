@@ -8,6 +8,7 @@ use Rattle.ride_model.specs.declared.entry.Outcome.TheVariants.{Confirmed, Away,
 use Rattle.ride_model.specs.declared.offer.Seat.{Seat}
 use Rattle.ride_model.specs.declared.reply.RequestState.{RequestState}
 use Rattle.ride_model.specs.declared.reply.RequestState.TheVariants.{Waiting as IsWaiting, Confirmed as IsConfirmed, Away as IsAway}
+use Rattle.ride_model.specs.declared.settings.Settings.{Settings}
 use Rattle.ride_model.specs.declared.vehicle.Ride.{Ride}
 use Rattle.ride_model.specs.declared.vehicle.Vehicle.{Vehicle}
 use Rattle.ride_model.specs.Batch.{is_in_batch, is_cancelled, seat_of, version_of, priced_start, outcome_by, was_cancelled, outcome_of, with_confirmed, confirm, after_outcome, after_outcomes, without_batch, after_commit}
@@ -31,6 +32,7 @@ use Rattle.history_laws.proofs.Marks.{marked-ride, marked-passing, marked-other,
 use Rattle.history_laws.proofs.Moves.{only_request, move_goes}
 use Rattle.history_laws.proofs.Leaving.{without_inv, fewer-filter, others_of, is_batch-own, other_number, in_batch-none, in_batch-stays}
 use Rattle.history_laws.proofs.Confirming.{ready_at, Confirming, confirming, version_of-found, with_confirmed-is}
+use Rattle.history_laws.proofs.Kept.{Keeping, AllKeep, all_keep-placed, keeping-kept}
 use Rattle.history_laws.proofs.Served.{eqb-comm}
 use Rattle.history_laws.proofs.Raised.{lawful-raised}
 use Rattle.history_laws.proofs.Fed.{found_at}
@@ -153,6 +155,7 @@ module _ (desks fed : ℕ) (ok : ℕ → Type 0) (start s : State) (begins : IsS
     pub other_requests : (q : ℕ) → eqb q id ≡ false → find_request after.requests q ≡ find_request t.requests q
     pub other_vehicles : (k : ℕ) → ((other : Seat) → seat ≡ Some other → eqb other.vehicle k ≡ false)
         → find_vehicle after.vehicles k ≡ find_vehicle t.vehicles k
+    pub keeps : (late : List ℕ) → AllKeep s.settings.dwell late t.vehicles → AllKeep s.settings.dwell late after.vehicles
 
   -- an outcome that changes nothing
   no_step : (t : State) (id : ℕ) (seat : Option Seat) → Inv desks fed ok start t → OneStep t t id seat
@@ -162,6 +165,7 @@ module _ (desks fed : ℕ) (ok : ℕ → Type 0) (start s : State) (begins : IsS
     opened_is = refl;
     other_requests = λ q differs. refl;
     other_vehicles = λ k differ. refl;
+    keeps = λ late keep. keep;
   }
 
   -- no other batch holds a request of this one
@@ -199,6 +203,7 @@ module _ (desks fed : ℕ) (ok : ℕ → Type 0) (start s : State) (begins : IsS
         opened_is = refl;
         other_requests = λ q differs. marked_elsewhere id q state t.requests differs;
         other_vehicles = λ k differ. refl;
+        keeps = λ late keep. keep;
       }
 
   -- the vehicle of a confirmed seat gets the ride at the seat's places
@@ -209,7 +214,7 @@ module _ (desks fed : ℕ) (ok : ℕ → Type 0) (start s : State) (begins : IsS
       → is_in_batch batch.number state ≡ true → Placed t.vehicles v.id place v → v.id ≡ seat.vehicle
       → find_vehicle batch.vehicles seat.vehicle ≡ Some v
       → find_vehicle s.vehicles seat.vehicle ≡ Some v
-      → Confirming t.roads v ride (start_of v batch.settings.lead batch.time) seat.i seat.j
+      → Confirming t.roads v ride (start_of v batch.settings.lead batch.time) seat.i seat.j batch.settings.dwell
       → OneStep t (with_request_state ride.id (IsConfirmed seat.vehicle) (with_vehicle t place (with_confirmed t batch ride seat v)))
       ride.id (Some seat)
   confirm_step t rides ride state seat place v part opened ride_there accepted within placed id_is copied stands c =
@@ -260,6 +265,10 @@ module _ (desks fed : ℕ) (ok : ℕ → Type 0) (start s : State) (begins : IsS
         other_vehicles = λ k differ.
             ap (λ vs. find_vehicle vs k) (placed.set_is new refl)
             ∙ put_elsewhere new k t.vehicles (ap (λ n. eqb n k) id_is ∙ differ seat refl);
+        keeps = λ late keep.
+            all_keep-placed s.settings.dwell late t.vehicles place v new placed refl keep
+            (subst (λ (settings : Settings). Keeping settings.dwell late new) opened.settings_are
+            (keeping-kept batch.settings.dwell late new c.kept));
       })
     where
       same_number : (a b : ℕ) → Some a ≡ Some b → a ≡ b
@@ -458,6 +467,19 @@ module _ (desks fed : ℕ) (ok : ℕ → Type 0) (start s : State) (begins : IsS
       (λ other other_there. among other (inr other_there))
       (next_part ride rides t after distinct part step))
 
+  -- after all outcomes the vehicles keep what they kept
+  outcomes_keep : (rides : List Ride) (t : State) → IsOpenBatch desks s batch → IsDistinct nat_eq (ride_ids rides)
+      → ((ride : Ride) → Among ride rides → Among ride batch.requests)
+      → Partway t rides → (late : List ℕ) → AllKeep s.settings.dwell late t.vehicles
+      → AllKeep s.settings.dwell late (after_outcomes batch seats s rides t).vehicles
+  outcomes_keep [] t opened distinct among part late keep = keep
+  outcomes_keep (ride ∷ rides) t opened distinct among part late keep =
+      let step = first_step ride rides t opened (among ride (inl refl)) part in
+      let after : State = after_outcome batch ride (seat_of seats ride.id) (outcome_of batch seats s ride.id) t in
+      outcomes_keep rides after opened (IsDistinct-tail eqb ride.id (ride_ids rides) distinct)
+      (λ other other_there. among other (inr other_there))
+      (next_part ride rides t after distinct part step) late (step.keeps late keep)
+
   -- the state at which the outcomes begin
   first_part : Partway (without_batch batch s) batch.requests
   first_part = record {
@@ -481,6 +503,15 @@ module _ (desks fed : ℕ) (ok : ℕ → Type 0) (start s : State) (begins : IsS
       subst (Goes desks fed ok start s) (without-outcomes batch seats s batch.requests s)
       (goes_then desks fed fed fed ok start s (without_batch batch s) last first_part.goes
       (outcomes_go batch.requests (without_batch batch s) opened opened.requests_differ (λ ride ride_there. ride_there) first_part))
+
+  -- after a commit the vehicles keep what they kept
+  pub committed_keeps : (late : List ℕ) → AllKeep s.settings.dwell late s.vehicles
+      → AllKeep s.settings.dwell late (after_commit batch seats s).vehicles
+  committed_keeps late keep =
+      let opened = inv.batches_fit batch there in
+      subst (λ (x : State). AllKeep s.settings.dwell late x.vehicles) (without-outcomes batch seats s batch.requests s)
+      (outcomes_keep batch.requests (without_batch batch s) opened opened.requests_differ (λ ride ride_there. ride_there) first_part
+      late keep)
 
   -- a request that is turned away is closed from then on
   away_after : (rides : List Ride) (t : State) → IsOpenBatch desks s batch → IsDistinct nat_eq (ride_ids rides)

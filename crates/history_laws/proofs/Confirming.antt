@@ -21,9 +21,11 @@ use Rattle.ride_model.specs.Settings.{IsSettings}
 use Rattle.ride_model.specs.State.{State}
 use Rattle.ride_model.specs.Step.{raised}
 use Rattle.ride_model.specs.Vehicle.{IsRide, IsFresh, IsRouted, IsLawful}
+use Rattle.model_laws.proofs.Among.{Among}
 use Rattle.model_laws.proofs.AboardLoads.{and-true}
 use Rattle.model_laws.proofs.Costs.{offer_plan}
 use Rattle.model_laws.proofs.Insertions.{routed-with, inserted_facts}
+use Rattle.history_laws.proofs.Kept.{each_passes}
 
 -- a vehicle that is ready at a later time
 abbrev pub ready_at : ℕ → Vehicle → Vehicle
@@ -64,17 +66,19 @@ start-fits v lead time ready_fits time_fits lead_fits = by_test (is_idle v)
     by_test false = omega arith
 
 -- the vehicle with the ride of an offer
-pub record Confirming (roads : RoadMap) (v : Vehicle) (ride : Ride) (start i j : ℕ) : Type 0 where
+pub record Confirming (roads : RoadMap) (v : Vehicle) (ride : Ride) (start i j dwell : ℕ) : Type 0 where
   pub out : List Stop
   pub inserted_is : inserted roads (ready_at start v) ride i j ≡ Some (with_plan (ready_at start v) (v.rides.items ++ ride ∷ []) out)
   pub lawful : IsLawful roads (with_plan (ready_at start v) (v.rides.items ++ ride ∷ []) out)
   pub few_stops : length out ≤ 16
+  pub kept : (other : Ride) → Among other (v.rides.items ++ ride ∷ [])
+      → keeps_ride (with_plan (ready_at start v) (v.rides.items ++ ride ∷ []) out) start dwell other ≡ true
 
 -- the vehicle with the ride of an offer is lawful
 pub confirming : (roads : RoadMap) (settings : Settings) (v : Vehicle) (ride : Ride) (time i j : ℕ) (offer : Offer)
     → IsSettings settings
     → IsLawful roads v → IsRide roads ride → IsFresh v.rides.items ride.id → ride.picked ≡ None → time ≤ 1000000000
-    → offer_of roads settings v ride time i j ≡ Some offer → Confirming roads v ride (start_of v settings.lead time) i j
+    → offer_of roads settings v ride time i j ≡ Some offer → Confirming roads v ride (start_of v settings.lead time) i j settings.dwell
 confirming roads settings v ride time i j offer ranges lawful fits fresh waits in_time is =
     let plan = offer_plan roads settings v ride time i j offer is in
     let facts = inserted_facts roads v ride i j plan.new plan.inserted_is in
@@ -87,7 +91,7 @@ confirming roads settings v ride time i j offer ranges lawful fits fresh waits i
     let (both, loads) = and-true (leb (length facts.out) 16 && list_all
     (keeps_ride (with_plan v (v.rides.items ++ ride ∷ []) facts.out) start settings.dwell) (v.rides.items ++ ride ∷ []))
     (loads_fit (with_plan v (v.rides.items ++ ride ∷ []) facts.out)) kept in
-    let (few, _) = and-true (leb (length facts.out) 16)
+    let (few, all_kept) = and-true (leb (length facts.out) 16)
     (list_all (keeps_ride (with_plan v (v.rides.items ++ ride ∷ []) facts.out) start settings.dwell) (v.rides.items ++ ride ∷ []))
     both in
     record {
@@ -101,6 +105,9 @@ confirming roads settings v ride time i j offer ranges lawful fits fresh waits i
         loads = loads;
       };
       few_stops = leb-true (length facts.out) 16 few;
+      kept = λ other there.
+          each_passes (keeps_ride (with_plan v (v.rides.items ++ ride ∷ []) facts.out) start settings.dwell)
+          (v.rides.items ++ ride ∷ []) other all_kept there;
     }
 
 -- what a batch's copy says of a vehicle
@@ -116,7 +123,7 @@ priced_start-found batch id v found = rw found refl
 -- the vehicle with a confirmed ride
 pub with_confirmed-is : (s : State) (batch : BatchCopy) (ride : Ride) (seat : Seat) (v : Vehicle)
     → find_vehicle batch.vehicles seat.vehicle ≡ Some v
-    → (c : Confirming s.roads v ride (start_of v batch.settings.lead batch.time) seat.i seat.j)
+    → (c : Confirming s.roads v ride (start_of v batch.settings.lead batch.time) seat.i seat.j batch.settings.dwell)
     → with_confirmed s batch ride seat v ≡ raised
     (with_plan (ready_at (start_of v batch.settings.lead batch.time) v) (v.rides.items ++ ride ∷ []) c.out)
 with_confirmed-is s batch ride seat v found c =

@@ -1,5 +1,5 @@
 -- What is kept is kept by each command that a feed gives.
-use Rattle.std.proofs.Common.{◌≡◌, ℕ, ◌+◌, ◌≤◌, ◌⊎◌, Bool, true, false, not, cond, inl, inr, List, [], ◌∷◌, length, eqb, ltb-false, refl, sym, ◌∙◌, ap, subst, arith}
+use Rattle.std.proofs.Common.{◌≡◌, ℕ, ◌+◌, ◌≤◌, ◌||◌, ◌⊎◌, Bool, true, false, not, cond, inl, inr, List, [], ◌∷◌, length, eqb, ltb-false, refl, sym, ◌∙◌, ap, subst, arith}
 use Rattle.std.specs.Prelude.{Contains, Option, Some, None, slice_set, ◌==◌, nat_lt}
 use Rattle.std.proofs.lemmas.Bool.{eqb-true}
 use Rattle.ride_model.specs.declared.reply.RequestState.{RequestState}
@@ -128,10 +128,19 @@ module _ (desks fed : ℕ) (ok : ℕ → Type 0) (start s : State) (begins : IsS
           (routed-first s.roads v node leg first rest (inv.lawful v there).routed is way) (ap length (sym is))
 
 -- what holds of both answers holds of the one that a test chooses
+pub answer_by : (P : Answered → Type 0) (b : Bool) (x y : Answered) → (b ≡ true → P x) → (b ≡ false → P y) → P (cond b x y)
+answer_by P true x y h k = h refl
+answer_by P false x y h k = k refl
+
+-- the same of their states
 pub cond_goes : (P : State → Type 0) (b : Bool) (x y : Answered) → (b ≡ true → P x.state) → (b ≡ false → P y.state)
     → P (cond b x y).state
-cond_goes P true x y h k = h refl
-cond_goes P false x y h k = k refl
+cond_goes P b x y h k = answer_by (λ (answer : Answered). P answer.state) b x y h k
+
+-- neither of two tests passes
+pub or-false : (a b : Bool) → (a || b) ≡ false → (a ≡ false) × (b ≡ false)
+or-false false b h = (refl, h)
+or-false true b h = absurd (cc h)
 
 -- a test of which the contrary fails
 pub not-false : (b : Bool) → not b ≡ false → b ≡ true

@@ -10,10 +10,15 @@ pub mod Fed
 pub mod Asked
 pub mod Opening
 pub mod Leaving
+pub mod Kept
 pub mod Confirming
 pub mod Committing
+pub mod KeptReports
+pub mod KeptService
+pub mod KeptSteps
 pub mod Entries
 pub mod EveryState
+pub mod KeptHistory
 pub mod RideCounts
 pub mod Replies
 pub mod BatchTexts

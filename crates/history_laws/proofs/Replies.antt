@@ -26,7 +26,7 @@ use Rattle.model_laws.proofs.TravelTimes.{travel-le}
 use Rattle.history_laws.proofs.Lookups.{all_of, of_all}
 use Rattle.history_laws.proofs.Invariant.{Inv, map_of, fleet_of}
 use Rattle.history_laws.specs.Consistent.{promised_as}
-use Rattle.history_laws.proofs.Fed.{found_at, stop_ride}
+use Rattle.history_laws.proofs.Fed.{answer_by, found_at, stop_ride}
 use Rattle.history_laws.proofs.Raised.{length-filter-le}
 use Rattle.history_laws.proofs.RideCounts.{few_rides}
 
@@ -37,8 +37,7 @@ IsSaid reply = IsSpelledReply reply × (reply ≢ Noted)
 -- what holds of both replies holds of the one that a test chooses
 cond_said : (P : Reply → Type 0) (b : Bool) (x y : Answered) → (b ≡ true → P x.reply) → (b ≡ false → P y.reply)
     → P (cond b x y).reply
-cond_said P true x y h k = h refl
-cond_said P false x y h k = k refl
+cond_said P b x y h k = answer_by (λ (answer : Answered). P answer.reply) b x y h k
 
 -- a refusal has a text
 refusal : (code : ℕ) → code < 256 → IsSaid (Refused code)

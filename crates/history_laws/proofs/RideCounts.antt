@@ -1,16 +1,22 @@
 -- A vehicle has at most as many rides as stops.
 use Rattle.std.proofs.Common.{◌≡◌, ℕ, ◌≤◌, false, not, inl, inr, List, [], ◌∷◌, length, eqb, refl, sym, ◌∙◌, ap, arith}
-use Rattle.std.specs.Prelude.{map, Option, Some, None, ◌==◌}
+use Rattle.std.specs.Prelude.{map, Option, Some, None, ◌==◌, All}
 use Rattle.std.specs.List.{IsDistinct}
 use Rattle.std.proofs.lemmas.List.Filters.{length-filter_both}
 use Rattle.std.proofs.lemmas.Map.Keys.{IsDistinct-head, IsDistinct-tail}
+use Rattle.ride_model.specs.declared.entry.Entry.{Entry}
 use Rattle.ride_model.specs.declared.vehicle.Ride.{Ride}
 use Rattle.ride_model.specs.declared.vehicle.Stop.{Stop}
+use Rattle.ride_model.specs.declared.vehicle.Vehicle.{Vehicle}
+use Rattle.ride_model.specs.Legal.{IsLegal, replay}
+use Rattle.ride_model.specs.State.{State}
 use Rattle.ride_model.specs.Vehicle.{IsPlanFor, visits_due, visit_of, stops_of, ride_ids}
 use Rattle.ride_model.specs.Insertion.{stops_without}
+use Rattle.history_laws.specs.Start.{IsStart}
 use Rattle.model_laws.proofs.Among.{Among, among_map}
 use Rattle.model_laws.proofs.PlanStops.{stops-without}
-use Rattle.history_laws.proofs.Lookups.{of_all, of_each}
+use Rattle.history_laws.proofs.Lookups.{of_all, all_of, of_each}
+use Rattle.history_laws.proofs.EveryState.{legal_goes}
 use Rattle.history_laws.proofs.Served.{eqb-comm}
 
 -- rides of different ids with a stop each are no more than the stops
@@ -44,3 +50,18 @@ few_rides rides stops plan = counted rides stops plan.ids_differ (λ ride there 
     no_visits : (ride : Ride) (picked : Option ℕ) → visits_due ride picked ≡ [] → ⊥
     no_visits ride None e = cc e
     no_visits ride (Some at) e = cc e
+
+-- a vehicle of a legal history has at most 16 stops
+pub plans_short : (feeds desks : ℕ) (start : State) (entries : List Entry) → IsStart start → IsLegal feeds desks start entries
+    → All (λ (v : Vehicle). length v.stops.items ≤ 16) (replay start entries).vehicles
+plans_short feeds desks start entries begins legal =
+    all_of (λ (v : Vehicle). length v.stops.items ≤ 16) (replay start entries).vehicles
+    (legal_goes feeds desks start entries begins legal).inv.few_stops
+
+-- and no more rides than stops
+pub rides_short : (feeds desks : ℕ) (start : State) (entries : List Entry) → IsStart start → IsLegal feeds desks start entries
+    → All (λ (v : Vehicle). length v.rides.items ≤ length v.stops.items) (replay start entries).vehicles
+rides_short feeds desks start entries begins legal =
+    all_of (λ (v : Vehicle). length v.rides.items ≤ length v.stops.items) (replay start entries).vehicles
+    (λ v there. few_rides v.rides.items v.stops.items
+    ((legal_goes feeds desks start entries begins legal).inv.lawful v there).routed.planned)

@@ -57,14 +57,11 @@ visits_past rides stop rest ride plan there is =
     sym (ap (map visit_of) (filter-skipped (λ (s : Stop). s.ride == ride.id) stop rest (eqb-comm stop.ride ride.id ∙ is)))
     ∙ of_all (λ (r : Ride). map visit_of (stops_of r.id (stop ∷ rest)) ≡ visits_due r r.picked) rides ride plan.each_ride there
 
--- what a ride needs after its pickup
-after_visit : (ride : Ride) (picked : Option ℕ) (stop : Stop) (visits : List (Kind × ℕ)) → stop.kind ≡ Pickup
-    → visit_of stop ∷ visits ≡ visits_due ride picked → visits ≡ (Dropoff, ride.to) ∷ []
-after_visit ride None stop visits kind_is is = tail (visit_of stop) (Pickup, ride.from) visits ((Dropoff, ride.to) ∷ []) is
-  where
-    tail : (x y : Kind × ℕ) (xs ys : List (Kind × ℕ)) → x ∷ xs ≡ y ∷ ys → xs ≡ ys
-    tail x y xs ys e = cc e
-after_visit ride (Some at) stop visits kind_is is = absurd (differ (head (visit_of stop) (Dropoff, ride.to) visits [] is))
+-- a rider whose pickup is due is not aboard
+pub waits_at : (ride : Ride) (picked : Option ℕ) (stop : Stop) (visits : List (Kind × ℕ)) → stop.kind ≡ Pickup
+    → visit_of stop ∷ visits ≡ visits_due ride picked → picked ≡ None
+waits_at ride None stop visits kind_is is = refl
+waits_at ride (Some at) stop visits kind_is is = absurd (differ (head (visit_of stop) (Dropoff, ride.to) visits [] is))
   where
     head : (x y : Kind × ℕ) (xs ys : List (Kind × ℕ)) → x ∷ xs ≡ y ∷ ys → x ≡ y
     head x y xs ys e = cc e
@@ -72,8 +69,17 @@ after_visit ride (Some at) stop visits kind_is is = absurd (differ (head (visit_
     differ : visit_of stop ≡ (Dropoff, ride.to) → ⊥
     differ equal = let kinds : stop.kind ≡ Dropoff = ap (λ (p : Kind × ℕ). p.0) equal in cc (kind_is, kinds)
 
+-- what a ride needs after its pickup
+pub after_visit : (ride : Ride) (picked : Option ℕ) (stop : Stop) (visits : List (Kind × ℕ)) → stop.kind ≡ Pickup
+    → visit_of stop ∷ visits ≡ visits_due ride picked → visits ≡ (Dropoff, ride.to) ∷ []
+after_visit ride None stop visits kind_is is = tail (visit_of stop) (Pickup, ride.from) visits ((Dropoff, ride.to) ∷ []) is
+  where
+    tail : (x y : Kind × ℕ) (xs ys : List (Kind × ℕ)) → x ∷ xs ≡ y ∷ ys → xs ≡ ys
+    tail x y xs ys e = cc e
+after_visit ride (Some at) stop visits kind_is is = absurd (cc (waits_at ride (Some at) stop visits kind_is is))
+
 -- what a ride needs after its drop-off
-after_last : (ride : Ride) (picked : Option ℕ) (stop : Stop) (visits : List (Kind × ℕ)) → stop.kind ≡ Dropoff
+pub after_last : (ride : Ride) (picked : Option ℕ) (stop : Stop) (visits : List (Kind × ℕ)) → stop.kind ≡ Dropoff
     → visit_of stop ∷ visits ≡ visits_due ride picked → visits ≡ []
 after_last ride (Some at) stop visits kind_is is = tail (visit_of stop) (Dropoff, ride.to) visits [] is
   where

@@ -1,5 +1,5 @@
 //! The state of every legal history is consistent.
-ghost use Rattle.std.specs.Prelude.{◌≡◌, ℕ, List, ◌++◌, All, Contains};
+ghost use Rattle.std.specs.Prelude.{◌≡◌, ◌≤◌, ℕ, List, ◌++◌, length, All, Contains};
 ghost use Rattle.ride_model.specs.declared.entry.Entry.{Entry};
 ghost use Rattle.ride_model.specs.declared.vehicle.Vehicle.{Vehicle};
 ghost use Rattle.ride_model.specs.State.{State};
@@ -20,4 +20,12 @@ pub fn equal_versions_are_equal_records()
         → IsLegal feeds desks start (first ++ second) → (earlier later : Vehicle)
         → Contains (replay start first).vehicles earlier → Contains (replay start (first ++ second)).vehicles later
         → earlier.id ≡ later.id → earlier.version ≡ later.version → earlier ≡ later }
+{}
+
+/// A vehicle has at most 16 stops, and no more rides than stops.
+pub fn plans_have_at_most_16_stops()
+    ensures stops { (feeds desks : ℕ) (start : State) (entries : List Entry) → IsStart start → IsLegal feeds desks start entries
+        → All (λ (v : Vehicle). length v.stops.items ≤ 16) (replay start entries).vehicles }
+    ensures rides { (feeds desks : ℕ) (start : State) (entries : List Entry) → IsStart start → IsLegal feeds desks start entries
+        → All (λ (v : Vehicle). length v.rides.items ≤ length v.stops.items) (replay start entries).vehicles }
 {}

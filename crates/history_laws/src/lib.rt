@@ -3,4 +3,5 @@
 
 pub mod closing;
 pub mod consistency;
+pub mod promises_kept;
 pub mod texts;
