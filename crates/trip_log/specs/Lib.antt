@@ -1,2 +1,7 @@
 pub mod Pieces
 pub mod Prints
+pub mod Compares
+pub mod Cuts
+pub mod Heads
+pub mod Items
+pub mod Reads

@@ -283,7 +283,7 @@ fn a_sink_that_fails_has_a_prefix(rt: HostRuntime) -> Result<(), Fail> {
     let alloc = rt.alloc();
     let line =
         b"d1 commit 1 cost 180 seats 7:1:0:0 prices 7:180 pays outcomes 7:confirmed\n".as_slice();
-    for room in [0, 1, 20, 30, 60, 73] {
+    for room in 0..line.len() {
         let mut sink = MemSink::new(alloc, room, &[], &[])?;
         assert!(rt; print_entry(&committed(alloc)?, 1, &mut sink).is_err());
         assert_eq!(rt; Some(sink.written()), line.get(..room));

@@ -1,0 +1,24 @@
+use Rattle.std.proofs.Common.{sym, ◌∙◌}
+use Rattle.ride_model.specs.Text.{entry_line}
+use Rattle.trip_log.proofs.CompareLemmas.{on_err, on_ok, printed-is, printed-other, stopped-other}
+use Rattle.trip_log.proofs.reading.spells.Goals as goal
+
+pub returns-then-is_ok-clause-is : goal.returns-then-is_ok-clause-is
+returns-then-is_ok-clause-is c holds =
+    printed-is c.args.line.now (entry_line c.args.log c.args.entry.now) c.new-sink.result c.print_entry-printed.new.sink c.is_whole-whole.result c.new-sink.ensures
+    (on_ok c.print_entry-printed.result (sym c.is_ok.ensures.value ∙ c.if-is_ok.true) c.print_entry-printed.ensures.whole)
+    c.is_whole-whole.ensures.whole holds
+
+pub returns-then-is_ok-clause-other : goal.returns-then-is_ok-clause-other
+returns-then-is_ok-clause-other c is =
+    printed-other c.args.line.now (entry_line c.args.log c.args.entry.now) c.new-sink.result c.print_entry-printed.new.sink c.is_whole-whole.result c.new-sink.ensures
+    (on_ok c.print_entry-printed.result (sym c.is_ok.ensures.value ∙ c.if-is_ok.true) c.print_entry-printed.ensures.whole)
+    c.is_whole-whole.ensures.other is
+
+pub returns-else-is_ok-clause-other : goal.returns-else-is_ok-clause-other
+returns-else-is_ok-clause-other c is =
+    let stopped = sym c.is_ok.ensures.value ∙ c.if-is_ok.false in
+    absurd (stopped-other c.args.line.now (entry_line c.args.log c.args.entry.now) c.new-sink.result c.print_entry-printed.new.sink c.new-sink.ensures
+    (on_err c.print_entry-printed.result stopped c.print_entry-printed.ensures.prefix)
+    (on_err c.print_entry-printed.result stopped c.print_entry-printed.ensures.failed_only_at_fault)
+    c.is_whole-whole.ensures.faulty is)
