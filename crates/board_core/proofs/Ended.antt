@@ -1,0 +1,175 @@
+-- Actors that end.
+use Rattle.std.proofs.Common.{◌≡◌, ℕ, ◌+◌, ◌≤◌, Bool, true, false, ◌&&◌, ◌||◌, cond, List, [], ◌∷◌, ◌++◌, refl, sym, ◌∙◌, ap, subst, length-append, arith}
+use Rattle.std.specs.Prelude.{Option, Some, None, is_some, option_map}
+use Rattle.std.specs.List.{list_any}
+use Rattle.std.proofs.lemmas.Bool.{eqb-true}
+use Rattle.std.proofs.lemmas.List.Folds.{list_any-append}
+use Rattle.ride_model.specs.declared.command.Actor.{Actor}
+use Rattle.ride_model.specs.declared.command.Actor.TheVariants.{Feed, Desk}
+use Rattle.ride_model.specs.declared.entry.Ending.{Ending}
+use Rattle.ride_model.specs.declared.entry.Entry.{Entry}
+use Rattle.ride_model.specs.declared.entry.Event.TheVariants.{Finish}
+use Rattle.ride_model.specs.History.{ended_whole, is_whole, is_abandoned}
+use Rattle.ride_model.specs.Legal.{after_event, IsLegalEvent}
+use Rattle.ride_model.specs.State.{State, is_actor, has_ended, with_end, open_batch_of}
+use Rattle.ride_model.specs.Seating.{BatchCopy}
+use Rattle.ride_model.specs.Text.{IsOneOrTwo}
+use Rattle.model_laws.proofs.Histories.{replay-push}
+use Rattle.board_core.specs.declared.desks.Desks.{Desks}
+use Rattle.board_core.specs.declared.service.Service.{Service}
+use Rattle.board_core.specs.Given.{Given}
+use Rattle.board_core.specs.Kept.{ending_of, is_whole_end, places_kept, with_ending, Mirrors, IsBoard}
+use Rattle.board_core.specs.Numbers.{at_number, with_number, one_if_some}
+use Rattle.board_core.specs.Recorded.{Recorded, state_of}
+use Rattle.board_core.proofs.Fedded.{within-push, none-of_others}
+use Rattle.board_core.proofs.Numbering.{at_number-with, count-with, count-le}
+use Rattle.board_core.proofs.Boards.{pushed, recorded-push, abandoned-push}
+
+-- the number of an actor
+abbrev pub number_of : Actor → ℕ
+number_of (Feed number) = number
+number_of (Desk number) = number
+
+-- one actor
+pub is_actor-same : (a b : Actor) → is_actor a b ≡ true → a ≡ b
+is_actor-same (Feed a) (Feed b) is = ap Feed (eqb-true a b is)
+is_actor-same (Desk a) (Desk b) is = ap Desk (eqb-true a b is)
+is_actor-same (Feed a) (Desk b) is = absurd (cc is)
+is_actor-same (Desk a) (Feed b) is = absurd (cc is)
+
+-- an actor's end is noted
+pub ending_of-with : (kept : Desks) (actor other : Actor) (ending : Ending) → IsOneOrTwo (number_of actor)
+    → ending_of (with_ending actor ending kept) other ≡ cond (is_actor actor other) (Some ending) (ending_of kept other)
+ending_of-with kept (Feed a) (Feed b) ending fits = at_number-with a b (Some ending) kept.feeds_ended fits
+ending_of-with kept (Desk a) (Desk b) ending fits = at_number-with a b (Some ending) kept.desks_ended fits
+ending_of-with kept (Feed a) (Desk b) ending fits = refl
+ending_of-with kept (Desk a) (Feed b) ending fits = refl
+
+-- one place less is kept for it
+pub places-with : (kept : Desks) (actor : Actor) (ending : Ending) → IsOneOrTwo (number_of actor) → is_some (ending_of kept actor) ≡ false
+    → places_kept (with_ending actor ending kept) + 1 ≡ places_kept kept
+places-with kept (Feed number) ending fits lives =
+    omega (
+      arith,
+      count-with number (Some ending) kept.feeds_ended fits,
+      none (at_number kept.feeds_ended number) lives,
+      count-le (with_number number (Some ending) kept.feeds_ended),
+      count-le kept.desks_ended,
+    )
+  where
+    none : (o : Option Ending) → is_some o ≡ false → one_if_some o ≡ 0
+    none None h = refl
+    none (Some e) h = absurd (cc h)
+places-with kept (Desk number) ending fits lives =
+    omega (
+      arith,
+      count-with number (Some ending) kept.desks_ended fits,
+      none (at_number kept.desks_ended number) lives,
+      count-le (with_number number (Some ending) kept.desks_ended),
+      count-le kept.feeds_ended,
+    )
+  where
+    none : (o : Option Ending) → is_some o ≡ false → one_if_some o ≡ 0
+    none None h = refl
+    none (Some e) h = absurd (cc h)
+
+-- what is kept mirrors the state after an end
+mirrors-ended : (setup : Given) (service : Service) (kept : Desks) (s : State) (old new : List Entry) (actor : Actor) (ending : Ending)
+    → Mirrors setup service kept s old → IsOneOrTwo (number_of actor) → has_ended s actor ≡ false → kept.given_up ≡ list_any (λ (entry : Entry). is_abandoned entry.event) new
+    → Mirrors setup service (with_ending actor ending kept) (with_end s actor ending) new
+mirrors-ended setup service kept s old new actor ending m fits lives given_up = record {
+  state_is = ap (λ t. with_end t actor ending) m.state_is;
+  opened_is = same_opened actor;
+  open_are = same_open actor;
+  ended_are = λ other. list_any-append (λ (end : Actor × Ending). is_actor end.0 other) s.ended ((actor, ending) ∷ [])
+      ∙ ended other (is_actor actor other) refl;
+  whole_are = λ other. list_any-append (λ (end : Actor × Ending). is_actor end.0 other && is_whole end.1) s.ended ((actor, ending) ∷ [])
+      ∙ whole other (is_actor actor other) refl;
+  given_up_is = same_given_up actor;
+}
+  where
+    same_opened : (a : Actor) → (with_ending a ending kept).opened ≡ s.opened
+    same_opened (Feed n) = m.opened_is
+    same_opened (Desk n) = m.opened_is
+
+    same_open : (a : Actor) (desk : ℕ) → option_map (λ (batch : BatchCopy). batch.number) (open_batch_of s desk) ≡ at_number (with_ending a ending kept).batches desk
+    same_open (Feed n) = m.open_are
+    same_open (Desk n) = m.open_are
+
+    same_given_up : (a : Actor) → (with_ending a ending kept).given_up ≡ list_any (λ (entry : Entry). is_abandoned entry.event) new
+    same_given_up (Feed n) = given_up
+    same_given_up (Desk n) = given_up
+
+    or_true : (b : Bool) → (b || true) ≡ true
+    or_true true = refl
+    or_true false = refl
+
+    or_false : (b : Bool) → (b || false) ≡ b
+    or_false true = refl
+    or_false false = refl
+
+    ended : (other : Actor) (b : Bool) → is_actor actor other ≡ b
+        → (has_ended s other || (is_actor actor other || false)) ≡ is_some (ending_of (with_ending actor ending kept) other)
+    ended other true is =
+        ap (λ b. has_ended s other || (b || false)) is ∙ or_true (has_ended s other)
+        ∙ sym (ap is_some (ending_of-with kept actor other ending fits ∙ ap (λ b. cond b (Some ending) (ending_of kept other)) is))
+    ended other false is =
+        ap (λ b. has_ended s other || (b || false)) is ∙ or_false (has_ended s other) ∙ m.ended_are other
+        ∙ sym (ap is_some (ending_of-with kept actor other ending fits ∙ ap (λ b. cond b (Some ending) (ending_of kept other)) is))
+
+    not_whole : (o : Option Ending) → is_some o ≡ false → is_whole_end o ≡ false
+    not_whole None h = refl
+    not_whole (Some e) h = absurd (cc h)
+
+    whole : (other : Actor) (b : Bool) → is_actor actor other ≡ b
+        → (ended_whole s other || ((is_actor actor other && is_whole ending) || false)) ≡ is_whole_end (ending_of (with_ending actor ending kept) other)
+    whole other true is =
+        let lived : is_some (ending_of kept other) ≡ false
+        = sym (m.ended_are other) ∙ ap (has_ended s) (sym (is_actor-same actor other is)) ∙ lives in
+        ap (λ b. ended_whole s other || ((b && is_whole ending) || false)) is
+        ∙ ap (λ b. b || (is_whole ending || false)) (m.whole_are other ∙ not_whole (ending_of kept other) lived)
+        ∙ or_false (is_whole ending)
+        ∙ sym (ap is_whole_end (ending_of-with kept actor other ending fits ∙ ap (λ b. cond b (Some ending) (ending_of kept other)) is))
+    whole other false is =
+        ap (λ b. ended_whole s other || ((b && is_whole ending) || false)) is ∙ or_false (ended_whole s other) ∙ m.whole_are other
+        ∙ sym (ap is_whole_end (ending_of-with kept actor other ending fits ∙ ap (λ b. cond b (Some ending) (ending_of kept other)) is))
+
+-- an actor that may end is one of two, and has not ended
+record MayFinish (s : State) (actor : Actor) : Type 0 where
+  fits : IsOneOrTwo (number_of actor)
+  lives : has_ended s actor ≡ false
+
+may-finish : (feeds desks : ℕ) (s : State) (actor : Actor) (ending : Ending) → feeds ≤ 2 → desks ≤ 2 → IsLegalEvent feeds desks s actor (Finish ending)
+    → MayFinish s actor
+may-finish feeds desks s (Feed number) ending feeds_fit desks_fit ((low, high), lives) = record { fits = (low, omega arith); lives = lives }
+may-finish feeds desks s (Desk number) ending feeds_fit desks_fit ((low, high), lives, may) = record { fits = (low, omega arith); lives = lives }
+
+-- a board goes on by an end
+pub board-ended : (setup : Given) (service : Service) (kept : Desks) (capacity room : ℕ) (board : Recorded) (actor : Actor) (ending : Ending)
+    → IsBoard setup service kept capacity board → IsLegalEvent board.feeds board.desks (state_of board) actor (Finish ending) → capacity ≤ room
+    → IsBoard setup service (with_ending actor ending kept) room (pushed board (record { actor = actor; event = Finish ending }) board.spare)
+board-ended setup service kept capacity room board actor ending is legal rises =
+    let s : State = state_of board in
+    let entry : Entry = record { actor = actor; event = Finish ending } in
+    let may = may-finish board.feeds board.desks s actor ending is.recorded.feeds_fit.1 is.recorded.desks_fit.1 legal in
+    let after_end : state_of (pushed board entry board.spare) ≡ with_end s actor ending
+    = replay-push board.start board.history entry ∙ by_actor s actor in
+    record {
+      recorded = recorded-push board entry board.spare is.recorded legal
+          (within-push board.start.settings.log board.history entry is.recorded.fed_within tt
+          (λ feed. omega (arith, none-of_others entry refl feed, is.recorded.fed_within.few feed)));
+      mirrors = subst (λ t. Mirrors setup service (with_ending actor ending kept) t (board.history ++ entry ∷ [])) (sym after_end)
+          (mirrors-ended setup service kept s board.history (board.history ++ entry ∷ []) actor ending is.mirrors may.fits may.lives
+          (is.mirrors.given_up_is ∙ sym (abandoned-push board.history entry refl)));
+      room = omega (
+        arith,
+        is.room,
+        rises,
+        places-with kept actor ending may.fits (sym (is.mirrors.ended_are actor) ∙ may.lives),
+        length-append board.history (entry ∷ []),
+      );
+    }
+  where
+    by_actor : (s : State) (a : Actor) → after_event s a (Finish ending) ≡ with_end s a ending
+    by_actor s (Feed n) = refl
+    by_actor s (Desk n) = refl

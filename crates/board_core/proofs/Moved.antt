@@ -1,0 +1,81 @@
+-- Reports of a vehicle.
+use Rattle.std.proofs.Common.{◌≡◌, ℕ, ◌+◌, ◌≤◌, List, [], ◌∷◌, sym, ◌∙◌, ap, subst}
+use Rattle.std.specs.Prelude.{Option, Some, None}
+use Rattle.ride_model.specs.declared.reply.Reply.TheVariants.{OnMap, Refused}
+use Rattle.ride_model.specs.declared.settings.Settings.{Settings}
+use Rattle.ride_model.specs.declared.vehicle.Stop.{Stop}
+use Rattle.ride_model.specs.declared.vehicle.Vehicle.{Vehicle}
+use Rattle.ride_model.specs.Road.{RoadMap, IsRoadMap, IsNode, travel}
+use Rattle.ride_model.specs.Vehicle.{HasLegs, IsLawful}
+use Rattle.ride_model.specs.Insertion.{routed}
+use Rattle.ride_model.specs.State.{State, with_vehicle}
+use Rattle.ride_model.specs.Step.{raised, reported, report, report_driving}
+use Rattle.model_laws.proofs.Routes.{with_leg}
+use Rattle.model_laws.proofs.TravelTimes.{travel-le}
+use Rattle.stop_plans.specs.Legged.{relegged}
+use Rattle.history_laws.proofs.Raised.{placed_at, reported-is, routed-first, lawful-placed, lawful-raised}
+use Rattle.board_core.specs.Given.{Given}
+use Rattle.board_core.specs.Reports.{lateness_of, IsMoved}
+
+-- a vehicle put before its first stop
+abbrev pub put_before : Vehicle → ℕ → ℕ → ℕ → Vehicle
+put_before v node time leg = raised (record v { at = node; ready = time; stops = record { items = relegged 0 leg v.stops.items } })
+
+-- a vehicle without stops is at the node
+pub moved-idle : (setup : Given) (v : Vehicle) (node time : ℕ) → v.stops.items ≡ []
+    → IsMoved setup v node time OnMap (raised (record v { at = node; ready = time }))
+moved-idle setup v node time none = λ s place roads_are settings_are stays.
+    ap (report s place v (reported s node time v)) none
+    ∙ ap (λ after. record { state = with_vehicle s place after; reply = OnMap })
+    (reported-is s node time v [] (ap (routed s.roads node) none)
+    ∙ ap (λ stops. raised (record v { at = node; ready = time; stops = record { items = stops } })) (sym none))
+
+-- a vehicle stays where there is no way
+pub moved-nowhere : (setup : Given) (v : Vehicle) (node time : ℕ) (first : Stop) (rest : List Stop) → v.stops.items ≡ first ∷ rest
+    → travel setup.roads node first.node ≡ None → IsMoved setup v node time (Refused 13) v
+moved-nowhere setup v node time first rest is no_way = λ s place roads_are settings_are stays.
+    ap (report s place v (reported s node time v)) is
+    ∙ ap (report_driving s place v (reported s node time v) (v.ready + first.leg)) (ap (λ roads. travel roads node first.node) roads_are ∙ no_way)
+    ∙ ap (λ vehicles. record { state = record s { vehicles = vehicles }; reply = Refused 13 }) (sym stays)
+
+-- a vehicle is put before its first stop
+pub put-is : (s : State) (v : Vehicle) (node time leg : ℕ) (first : Stop) (rest : List Stop) → IsLawful s.roads v → v.stops.items ≡ first ∷ rest
+    → travel s.roads node first.node ≡ Some leg → reported s node time v ≡ put_before v node time leg
+put-is s v node time leg first rest lawful is way =
+    reported-is s node time v (with_leg leg first ∷ rest) (routed-first s.roads v node leg first rest lawful.routed is way)
+    ∙ ap (λ stops. raised (record v { at = node; ready = time; stops = record { items = relegged 0 leg stops } })) (sym is)
+
+-- a vehicle that drives is late or not
+pub moved-driving : (setup : Given) (v : Vehicle) (node time leg : ℕ) (first : Stop) (rest : List Stop) → IsLawful setup.roads v
+    → v.stops.items ≡ first ∷ rest → travel setup.roads node first.node ≡ Some leg
+    → IsMoved setup v node time (lateness_of (put_before v node time leg) setup.settings.dwell (time + leg) (v.ready + first.leg))
+    (put_before v node time leg)
+moved-driving setup v node time leg first rest lawful is way = λ s place roads_are settings_are stays.
+    let way_there : travel s.roads node first.node ≡ Some leg = ap (λ roads. travel roads node first.node) roads_are ∙ way in
+    ap (report s place v (reported s node time v)) is
+    ∙ ap (report_driving s place v (reported s node time v) (v.ready + first.leg)) way_there
+    ∙ ap (λ after. report_driving s place v after (v.ready + first.leg) (Some leg))
+    (put-is s v node time leg first rest (subst (λ roads. IsLawful roads v) (sym roads_are) lawful) is way_there)
+    ∙ ap (λ (settings : Settings). record {
+      state = with_vehicle s place (put_before v node time leg);
+      reply = lateness_of (put_before v node time leg) settings.dwell (time + leg) (v.ready + first.leg);
+    }) settings_are
+
+-- a vehicle that drives is lawful before its first stop
+pub put-lawful : (roads : RoadMap) (v : Vehicle) (node time leg : ℕ) (first : Stop) (rest : List Stop) → IsLawful roads v → IsNode roads node
+    → v.ready ≤ time → time ≤ 1000000000 → v.stops.items ≡ first ∷ rest → travel roads node first.node ≡ Some leg
+    → IsLawful roads (put_before v node time leg)
+put-lawful roads v node time leg first rest lawful node_in later in_time is way =
+    let placed = lawful-placed roads node time v (with_leg leg first ∷ rest) lawful node_in later in_time
+    (routed-first roads v node leg first rest lawful.routed is way) in
+    subst (λ stops. IsLawful roads (raised (record v { at = node; ready = time; stops = record { items = relegged 0 leg stops } }))) (sym is)
+    (lawful-raised roads (placed_at node time (with_leg leg first ∷ rest) v) placed)
+
+-- legs are at most 5 x 10^14
+pub first-leg-le : (roads : RoadMap) (v : Vehicle) (first : Stop) (rest : List Stop) → IsRoadMap roads → IsLawful roads v → v.stops.items ≡ first ∷ rest
+    → first.leg ≤ 500000000000000
+first-leg-le roads v first rest fits lawful is =
+    travel-le roads v.at first.node first.leg fits (subst (HasLegs roads v.at) is lawful.routed.legs).0
+
+pub way-le : (roads : RoadMap) (a b leg : ℕ) (way : Option ℕ) → IsRoadMap roads → way ≡ travel roads a b → way ≡ Some leg → leg ≤ 500000000000000
+way-le roads a b leg way fits is some = travel-le roads a b leg fits (sym is ∙ some)

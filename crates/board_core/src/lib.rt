@@ -1,0 +1,29 @@
+//! The heart of dispatch: the one object that feeds and desks share.
+//!
+//! Each call appends at most one entry to a history, which stays legal. A board keeps the state that its history gives, so
+//! that no call replays it, and takes its memory before it changes anything.
+#![tactic(auto)]
+
+ghost use Rattle.std.specs.Prelude.{◌≡◌};
+
+mod batches;
+mod board;
+mod desks;
+mod feeds;
+mod numbered;
+mod opening;
+mod places;
+mod plans;
+mod reports;
+mod requests;
+mod service;
+mod settling;
+mod setup;
+mod waiting;
+mod wishes;
+
+pub use board::Board;
+pub use opening::Opening;
+
+#[cfg(test)]
+mod tests;

@@ -1,0 +1,129 @@
+//! The service as it stands: what commands change.
+ghost use Rattle.std.specs.Prelude.{◌≡◌, ◌≤◌, [], length, IfOk, OnErr, IsErr};
+ghost use Rattle.ride_model.specs.State.{State};
+ghost use Rattle.ride_model.specs.Step.{step, clock_step, ask_step};
+ghost use Rattle.board_core.specs.Given.{Given};
+ghost use Rattle.board_core.specs.Opening.{IsRequest};
+ghost use Rattle.board_core.specs.Service.{state_at, answered_at, IsInOrder};
+
+use crate::setup::Setup;
+use crate::wishes::Wish;
+use request_book::RequestBook;
+use ride_model::{Command, NoMemory, Reply, Vehicle};
+use std::alloc::Global;
+
+/// The latest time of a clock.
+pub(crate) const LAST_TIME: u64 = 1_000_000_000;
+/// The most batches that are asked for.
+const MOST_ASKS: u64 = 2_000;
+
+/// The clock, the vehicles in fleet order, the requests, and how many batches were asked for.
+#[derive(Drop)]
+pub(crate) struct Service {
+    pub(crate) clock: u64,
+    pub(crate) vehicles: Vec<Vehicle>,
+    pub(crate) requests: RequestBook,
+    pub(crate) asked: u64,
+}
+
+impl Service {
+    /// The service of a fleet, before anything happened.
+    pub(crate) fn new(alloc: Global, fleet: &[Vehicle]) -> Result<Service, NoMemory>
+        requires { length fleet.now ≤ 1000 }
+        ensures clock { IfOk result (λ service. service.clock ≡ 0) }
+        ensures vehicles { IfOk result (λ service. service.vehicles.items ≡ fleet.now) }
+        ensures requests { IfOk result (λ service. service.requests ≡ []) }
+        ensures asked { IfOk result (λ service. service.asked ≡ 0) }
+    {
+        let vehicles = copies_of(alloc, fleet)?;
+        let requests = RequestBook::new(alloc)?;
+        Ok(Service {
+            clock: 0,
+            vehicles,
+            requests,
+            asked: 0,
+        })
+    }
+
+    /// Answers a command.
+    pub(crate) fn answer(&mut self, setup: &mut Setup, command: &Command) -> Result<Reply, NoMemory>
+        requires { IsInOrder setup.old self.old }
+        ensures answered { (rest : State) → IfOk result (λ reply.
+            step (state_at setup.old self.old rest) command.now ≡ answered_at setup.old self.new rest reply) }
+        ensures no_memory { OnErr result (self.new ≡ self.old) }
+        ensures only_requests { IsErr result → IsRequest command.now }
+        ensures setup { setup.new ≡ setup.old }
+    {
+        match *command {
+            Command::Request {
+                id,
+                from,
+                to,
+                seats,
+                latest,
+                longest,
+                chairs,
+            } => self.request(
+                setup,
+                Wish {
+                    id,
+                    from,
+                    to,
+                    seats,
+                    latest,
+                    longest,
+                    chairs,
+                },
+            ),
+            Command::Cancel { id } => Ok(self.cancel(setup, id)),
+            Command::At {
+                vehicle,
+                node,
+                time,
+            } => Ok(self.report(setup, vehicle, node, time)),
+            Command::Done { vehicle } => Ok(self.serve(setup, vehicle)),
+            Command::On { vehicle } => Ok(self.set_duty(vehicle, true)),
+            Command::Off { vehicle } => Ok(self.set_duty(vehicle, false)),
+            Command::Clock { time } => Ok(self.advance(time)),
+            Command::Ask => Ok(self.ask()),
+            Command::Bad { .. } => Ok(Reply::Noted),
+        }
+    }
+
+    // The clock never falls.
+    #[tactic(auto, unfolding(ride_model::specs::Step::clock_step))]
+    fn advance(&mut self, time: u64) -> Reply
+        ensures { (setup : Given) (rest : State)
+            → clock_step (state_at setup self.old rest) time ≡ answered_at setup self.new rest result }
+    {
+        if time > LAST_TIME {
+            return Reply::Refused { code: 5 };
+        }
+        self.clock = self.clock.max(time);
+        Reply::Now { time: self.clock }
+    }
+
+    // One more batch is asked for.
+    #[tactic(auto, unfolding(ride_model::specs::Step::ask_step))]
+    fn ask(&mut self) -> Reply
+        ensures { (setup : Given) (rest : State)
+            → ask_step (state_at setup self.old rest) ≡ answered_at setup self.new rest result }
+    {
+        if self.asked >= MOST_ASKS {
+            return Reply::Refused { code: 16 };
+        }
+        self.asked += 1;
+        Reply::Asked { count: self.asked }
+    }
+}
+
+/// Copies of vehicles, in order.
+pub(crate) fn copies_of(alloc: Global, vehicles: &[Vehicle]) -> Result<Vec<Vehicle>, NoMemory>
+    ensures { IfOk result (λ copies. copies.items ≡ vehicles.now) }
+{
+    let mut copies = Vec::with_capacity(alloc, vehicles.len())?;
+    for vehicle in vehicles {
+        copies.push(vehicle.copy())?;
+    }
+    Ok(copies)
+}

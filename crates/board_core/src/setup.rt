@@ -1,0 +1,71 @@
+//! The roads, and the owner's settings.
+ghost use Rattle.std.specs.Prelude.{◌≡◌, ◌≤◌, ◌<◌, All, IfOk};
+ghost use Rattle.ride_model.specs.Road.{IsRoadMap, IsNode, travel};
+ghost use Rattle.ride_model.specs.Step.{is_node};
+
+use ride_model::{NoMemory, Settings};
+use road_times::{Roads, Scratch};
+use std::alloc::Global;
+use std::marker::Model;
+
+/// What never changes while a board stands, and what its searches on the roads need.
+#[derive(Drop)]
+pub(crate) struct Setup<'r> {
+    roads: &'r Roads,
+    scratch: Scratch,
+    settings: Settings,
+}
+
+impl<'r> Model for Setup<'r> {
+    ghost use Rattle.std.specs.Prelude.{◌≡◌};
+    ghost use Rattle.board_core.specs.Given.{Given};
+
+    ghost Value = { Given };
+
+    ghost view = { λ setup. record { roads = setup.roads.now; settings = setup.settings } };
+
+    ghost invariant = { λ setup. setup.scratch.nodes ≡ setup.roads.now.nodes };
+}
+
+impl<'r> Setup<'r> {
+    pub(crate) fn new(
+        alloc: Global,
+        roads: &'r Roads,
+        settings: Settings,
+    ) -> Result<Setup<'r>, NoMemory>
+        ensures setup { IfOk result (λ setup. setup ≡ record { roads = roads.now; settings = settings }) }
+        ensures fits { IsRoadMap roads.now }
+    {
+        // This call tells that the map is within its limits.
+        let _nodes = roads.nodes();
+        let scratch = Scratch::new(alloc, roads)?;
+        Ok(Setup {
+            roads,
+            scratch,
+            settings,
+        })
+    }
+
+    pub(crate) fn settings(&self) -> Settings
+        ensures { result ≡ self.now.settings }
+    {
+        self.settings
+    }
+
+    /// Whether a number is that of a node.
+    pub(crate) fn is_node(&self, number: u64) -> bool
+        ensures { result ≡ is_node self.now.roads number }
+    {
+        1 <= number && number <= u64::from(self.roads.nodes())
+    }
+
+    /// The travel time between two nodes, None where there is no way. Takes no memory.
+    pub(crate) fn time(&mut self, from: u32, to: u32) -> Option<u64>
+        requires from { IsNode self.old.roads from }
+        requires to { IsNode self.old.roads to }
+        ensures time { result ≡ travel self.old.roads from to }
+        ensures kept { self.new ≡ self.old }
+    {
+        self.roads.time(&mut self.scratch, from, to)
+    }
+}
