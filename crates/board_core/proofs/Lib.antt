@@ -18,4 +18,3 @@ pub mod Marked
 pub mod Opened
 pub mod Settled
 pub mod Committed
-pub mod Days

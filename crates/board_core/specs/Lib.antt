@@ -9,4 +9,3 @@ pub mod Legs
 pub mod Reports
 pub mod Marking
 pub mod Settling
-pub mod Days

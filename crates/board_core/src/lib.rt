@@ -24,6 +24,3 @@ mod wishes;
 
 pub use board::Board;
 pub use opening::Opening;
-
-#[cfg(test)]
-mod tests;
