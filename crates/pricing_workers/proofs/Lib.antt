@@ -1,0 +1,6 @@
+pub mod RowTimes
+pub mod Wanting
+pub mod Filling
+pub mod Nodes
+pub mod PairFacts
+pub mod Trials

@@ -1,0 +1,58 @@
+use Rattle.std.proofs.Common.{get_or, sym, ap, ◌∙◌, subst}
+use Rattle.std.proofs.lemmas.List.{get_or_default}
+use Rattle.insertion.specs.Asked.{IsAsked}
+use Rattle.pricing_workers.specs.Cells.{IsCellOf}
+use Rattle.pricing_workers.proofs.PairFacts.{pair-facts, pair-asked, cell-of}
+use Rattle.pricing_workers.proofs.pairs.price_pair.Goals as goal
+
+pub near-near-requires : goal.near-near-requires
+near-near-requires c =
+    let (roads, may) = c.requires.ready in
+    let facts = pair-facts roads c.args.batch.now c.args.wanted.now c.args.times.now c.args.ride.now c.args.place
+    c.index-vehicles-place.result c.index-plan.result.now c.vehicles-2.result.now may c.requires.place
+    c.index-vehicles-place.is (c.vehicles-2.ensures.items ∙ c.vehicles.ensures) c.index-plan.ensures in
+    record { wide = facts.wide }
+
+pub best_place_fast-requires-clause-asked : goal.best_place_fast-requires-clause-asked
+best_place_fast-requires-clause-asked c =
+    let (roads, may) = c.requires.ready in
+    let v = c.index-vehicles-place.result in
+    let ride = c.args.ride.now in
+    let facts = pair-facts roads c.args.batch.now c.args.wanted.now c.args.times.now ride c.args.place
+    v c.index-plan.result.now c.vehicles-2.result.now may c.requires.place
+    c.index-vehicles-place.is (c.vehicles-2.ensures.items ∙ c.vehicles.ensures) c.index-plan.ensures in (
+      roads,
+      subst (λ time. IsAsked roads v ride time c.settings.result.now c.near-near.result) (sym c.time.ensures)
+          (subst (λ settings. IsAsked roads v ride c.args.batch.now.time settings c.near-near.result) (sym c.settings.ensures.settings)
+          (pair-asked roads c.args.batch.now c.args.wanted.now c.args.times.now ride v c.index-plan.result.now c.near-near.result may
+          facts (c.near-near.ensures roads ride facts.holds))),
+    )
+
+pub best_place_fast-requires-clause-slack : goal.best_place_fast-requires-clause-slack
+best_place_fast-requires-clause-slack c =
+    let (roads, may) = c.requires.ready in
+    let facts = pair-facts roads c.args.batch.now c.args.wanted.now c.args.times.now c.args.ride.now c.args.place
+    c.index-vehicles-place.result c.index-plan.result.now c.vehicles-2.result.now may c.requires.place
+    c.index-vehicles-place.is (c.vehicles-2.ensures.items ∙ c.vehicles.ensures) c.index-plan.ensures in
+    rw (c.settings.ensures.settings, c.time.ensures) facts.slack
+
+pub returns : goal.returns
+returns c = λ roads d may.
+    let batch = c.args.batch.now in
+    let v = c.index-vehicles-place.result in
+    let ride = c.args.ride.now in
+    let same = c.vehicles-2.ensures.items ∙ c.vehicles.ensures in
+    let facts = pair-facts roads batch c.args.wanted.now c.args.times.now ride c.args.place
+    v c.index-plan.result.now c.vehicles-2.result.now may c.requires.place
+    c.index-vehicles-place.is same c.index-plan.ensures in
+    let asked = pair-asked roads batch c.args.wanted.now c.args.times.now ride v c.index-plan.result.now c.near-near.result may
+    facts (c.near-near.ensures roads ride facts.holds) in
+    let shown = subst (λ time. IsAsked roads v ride time c.settings.result.now c.near-near.result) (sym c.time.ensures)
+    (subst (λ settings. IsAsked roads v ride batch.time settings c.near-near.result) (sym c.settings.ensures.settings) asked) in
+    let cell : IsCellOf roads batch ride v c.best_place_fast.result
+    = cell-of roads batch ride v c.best_place_fast.result
+    (rw (sym c.settings.ensures.settings, sym c.time.ensures) (c.best_place_fast.ensures.price roads shown))
+    (rw (sym c.settings.ensures.settings, sym c.time.ensures) (c.best_place_fast.ensures.an_offer roads shown)) in
+    subst (λ u. IsCellOf roads batch ride u c.best_place_fast.result)
+    (c.index-vehicles-place.is ∙ ap (λ vs. get_or vs c.args.place v) same ∙ get_or_default batch.vehicles c.args.place v d c.requires.place)
+    cell

@@ -1,0 +1,163 @@
+//! The table of a batch.
+ghost use Rattle.std.specs.Prelude.{◌≡◌, ◌*◌, ◌≤◌, length, All, IfOk};
+ghost use Rattle.std.specs.Result.{OnOk};
+ghost use Rattle.ride_model.specs.Road.{IsRoadMap};
+ghost use Rattle.ride_model.specs.Seating.{IsBatchOver};
+ghost use Rattle.ride_model.specs.Vehicle.{IsLawful};
+ghost use Rattle.batch_commit.specs.Table.{IsTableOf};
+ghost use Rattle.pricing_workers.specs.Cells.{AreRowsOf};
+ghost use Rattle.pricing_workers.specs.Pairs.{IsRequest, MayFill};
+ghost use Rattle.pricing_workers.specs.Rows.{HasRoom};
+
+use crate::pieces::{Job, fill_rows};
+use crate::times::Times;
+use crate::wanted::Wanted;
+use batch_commit::{Batch, PriceTable};
+use ride_model::{Offer, Ride};
+use ride_ports::{Gate, NoMemory};
+use road_times::{Roads, Scratch};
+use std::alloc::Global;
+use std::thread::{Threads, join_mut};
+
+// Memory: a piece keeps the times of one request only, which take 64 bytes for each wanted node. A batch of 1,000 vehicles of 16
+// stops wants 17,000 nodes, so that two pieces take two megabytes; the rows of all of 128 requests at once would take 139.
+
+/// The least offer of each vehicle of a batch to each of its requests: rows of times from the road, in as many pieces as there
+/// are scratches up to two, and pairs priced in parallel. A worker passes the gate at place 7 before the rows of each request.
+pub fn price_batch<R: Threads + Sync, G: Gate>(
+    rt: &R,
+    alloc: Global,
+    batch: &Batch,
+    roads: &Roads,
+    scratches: &mut [Scratch],
+    gate: &G,
+) -> Result<PriceTable, NoMemory>
+    requires some_scratch { 1 ≤ length scratches.old }
+    requires scratches { All (λ scratch. scratch.nodes ≡ roads.now.nodes) scratches.old }
+    requires time { batch.now.time ≤ 1000000000 }
+    requires over_map { IsBatchOver roads.now batch.now }
+    requires lawful { All (IsLawful roads.now) batch.now.vehicles }
+    ensures table { IfOk result (λ table. IsTableOf roads.now batch.now table) }
+    ensures scratches { scratches.new ≡ scratches.old }
+{
+    let wanted = wanted_of(alloc, batch, roads)?;
+    let job = Job {
+        roads,
+        batch,
+        wanted: &wanted,
+    };
+    let rows = batch.requests().len();
+    let columns = batch.vehicles().vehicles().len();
+    let mut cells = vec![in alloc; None; rows * columns]?;
+    fill_cells(rt, alloc, &job, scratches, gate, cells.as_mut_slice())?;
+    Ok(PriceTable::of(rows as u32, columns as u32, cells))
+}
+
+// What is wanted of a map that is within its limits, as all roads are.
+fn wanted_of(alloc: Global, batch: &Batch, roads: &Roads) -> Result<Wanted, NoMemory>
+    requires time { batch.now.time ≤ 1000000000 }
+    requires over_map { IsBatchOver roads.now batch.now }
+    requires lawful { All (IsLawful roads.now) batch.now.vehicles }
+    ensures { IfOk result (MayFill roads.now batch.now) }
+{
+    // The number of nodes is asked for the proof alone: with it comes that the map is within its limits.
+    let _ = roads.nodes();
+    Wanted::of(alloc, batch)
+}
+
+// Fills the cells of all requests.
+fn fill_cells<R: Threads + Sync, G: Gate>(
+    rt: &R,
+    alloc: Global,
+    job: &Job,
+    scratches: &mut [Scratch],
+    gate: &G,
+    cells: &mut [Option<Offer>],
+) -> Result<(), NoMemory>
+    requires ready { MayFill job.now.roads.now job.now.batch.now job.now.wanted.now }
+    requires requests { All (IsRequest job.now.roads.now job.now.batch.now) job.now.batch.now.requests }
+    requires some_scratch { 1 ≤ length scratches.old }
+    requires scratches { All (λ scratch. scratch.nodes ≡ job.now.roads.now.nodes) scratches.old }
+    requires cells { length cells.old ≡ length job.now.batch.now.requests * length job.now.batch.now.vehicles }
+    ensures cells { OnOk result (AreRowsOf job.now.roads.now job.now.batch.now job.now.batch.now.requests cells.new) }
+    ensures scratches { scratches.new ≡ scratches.old }
+{
+    let requests = job.batch.requests();
+    let nodes = job.wanted.nodes.len();
+    let mut times = Times::new(alloc, nodes)?;
+    if requests.len() < 2 || scratches.len() < 2 {
+        fill_rows(
+            rt,
+            job,
+            requests,
+            &mut scratches[0],
+            &mut times,
+            gate,
+            cells,
+        );
+        return Ok(());
+    }
+    let mut other_times = Times::new(alloc, nodes)?;
+    let (first, others) = scratches.split_at_mut(1);
+    fill_halves(
+        rt,
+        job,
+        requests,
+        &mut first[0],
+        &mut others[0],
+        &mut times,
+        &mut other_times,
+        gate,
+        cells,
+    );
+    Ok(())
+}
+
+// Fills the cells of requests, of each half in a thread of its own.
+fn fill_halves<R: Threads + Sync, G: Gate>(
+    rt: &R,
+    job: &Job,
+    requests: &[Ride],
+    scratch: &mut Scratch,
+    other_scratch: &mut Scratch,
+    times: &mut Times,
+    other_times: &mut Times,
+    gate: &G,
+    cells: &mut [Option<Offer>],
+)
+    requires ready { MayFill job.now.roads.now job.now.batch.now job.now.wanted.now }
+    requires requests { All (IsRequest job.now.roads.now job.now.batch.now) requests.now }
+    requires scratch { scratch.old.nodes ≡ job.now.roads.now.nodes }
+    requires other_scratch { other_scratch.old.nodes ≡ job.now.roads.now.nodes }
+    requires room { HasRoom (length job.now.wanted.now.nodes.items) times.old }
+    requires other_room { HasRoom (length job.now.wanted.now.nodes.items) other_times.old }
+    requires cells { length cells.old ≡ length requests.now * length job.now.batch.now.vehicles }
+    ensures cells { AreRowsOf job.now.roads.now job.now.batch.now requests.now cells.new }
+    ensures scratch { scratch.new ≡ scratch.old }
+    ensures other_scratch { other_scratch.new ≡ other_scratch.old }
+{
+    let (front, back) = requests.split_at(requests.len() / 2);
+    let columns = job.batch.vehicles().vehicles().len();
+    let (front_cells, back_cells) = cells.split_at_mut(front.len() * columns);
+    join_mut(
+        rt,
+        &mut ||
+            requires { MayFill job.now.roads.now job.now.batch.now job.now.wanted.now
+                × All (IsRequest job.now.roads.now job.now.batch.now) front.now
+                × (scratch.now.nodes ≡ job.now.roads.now.nodes)
+                × HasRoom (length job.now.wanted.now.nodes.items) times.now
+                × (length front_cells.now ≡ length front.now * length job.now.batch.now.vehicles) }
+            ensures { AreRowsOf job.entry.now.roads.now job.entry.now.batch.now front.entry.now front_cells.exit.now
+                × (scratch.exit.now ≡ scratch.entry.now) }
+        { fill_rows(rt, job, front, scratch, times, gate, front_cells) },
+        &mut ||
+            requires { MayFill job.now.roads.now job.now.batch.now job.now.wanted.now
+                × All (IsRequest job.now.roads.now job.now.batch.now) back.now
+                × (other_scratch.now.nodes ≡ job.now.roads.now.nodes)
+                × HasRoom (length job.now.wanted.now.nodes.items) other_times.now
+                × (length back_cells.now ≡ length back.now * length job.now.batch.now.vehicles) }
+            ensures { AreRowsOf job.entry.now.roads.now job.entry.now.batch.now back.entry.now back_cells.exit.now
+                × (other_scratch.exit.now ≡ other_scratch.entry.now) }
+        { fill_rows(rt, job, back, other_scratch, other_times, gate, back_cells) },
+    );
+}

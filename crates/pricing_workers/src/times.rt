@@ -1,0 +1,88 @@
+//! A request's rows of times.
+ghost use Rattle.std.specs.Prelude.{◌≡◌, ◌≤◌, ◌<◌, length, map, All, IfOk};
+ghost use Rattle.ride_model.specs.Road.{IsRoadMap, IsNode};
+ghost use Rattle.pricing_workers.specs.Rows.{HasRoom, HoldsRows, near_at};
+
+use insertion::NearStop;
+use ride_model::Ride;
+use ride_ports::NoMemory;
+use road_times::{Roads, Scratch, Side};
+use std::alloc::Global;
+
+/// The times between a request's two nodes and each wanted node, and from its pickup to its drop-off, absent where there is no
+/// way. One of these serves all requests of a piece in turn.
+#[derive(Drop)]
+pub(crate) struct Times {
+    /// From each node to the pickup.
+    pub(crate) to_from: Vec<Option<u64>>,
+    /// From the pickup to each node.
+    pub(crate) from_here: Vec<Option<u64>>,
+    /// From each node to the drop-off.
+    pub(crate) to_to: Vec<Option<u64>>,
+    /// From the drop-off to each node.
+    pub(crate) to_here: Vec<Option<u64>>,
+    pub(crate) direct: Option<u64>,
+}
+
+impl Times {
+    /// Rows with room for so many nodes.
+    pub(crate) fn new(alloc: Global, nodes: usize) -> Result<Times, NoMemory>
+        ensures { IfOk result (HasRoom nodes) }
+    {
+        Ok(Times {
+            to_from: vec![in alloc; None; nodes]?,
+            from_here: vec![in alloc; None; nodes]?,
+            to_to: vec![in alloc; None; nodes]?,
+            to_here: vec![in alloc; None; nodes]?,
+            direct: None,
+        })
+    }
+
+    /// Fills the rows for a request: four searches from its nodes, and a short one between them.
+    pub(crate) fn fill(&mut self, roads: &Roads, scratch: &mut Scratch, wanted: &[u32], ride: &Ride)
+        requires room { HasRoom (length wanted.now) self.old }
+        requires scratch { scratch.old.nodes ≡ roads.now.nodes }
+        requires wanted { All (IsNode roads.now) wanted.now }
+        requires from { IsNode roads.now ride.now.from }
+        requires to { IsNode roads.now ride.now.to }
+        ensures rows { HoldsRows roads.now ride.now wanted.now self.new }
+        ensures scratch { scratch.new ≡ scratch.old }
+        ensures fits { IsRoadMap roads.now }
+    {
+        let (from, to) = (ride.from, ride.to);
+        roads.rows(
+            scratch,
+            from,
+            Side::Back,
+            wanted,
+            self.to_from.as_mut_slice(),
+        );
+        roads.rows(
+            scratch,
+            from,
+            Side::Out,
+            wanted,
+            self.from_here.as_mut_slice(),
+        );
+        roads.rows(scratch, to, Side::Back, wanted, self.to_to.as_mut_slice());
+        roads.rows(scratch, to, Side::Out, wanted, self.to_here.as_mut_slice());
+        self.direct = roads.time(scratch, from, to);
+    }
+
+    /// The times at the wanted node of this number.
+    #[inline]
+    pub(crate) fn at(&self, node: usize) -> NearStop
+        requires to_from { node < length self.now.to_from.items }
+        requires from_here { node < length self.now.from_here.items }
+        requires to_to { node < length self.now.to_to.items }
+        requires to_here { node < length self.now.to_here.items }
+        ensures { result ≡ near_at self.now node }
+    {
+        NearStop {
+            to_from: self.to_from[node],
+            from_here: self.from_here[node],
+            to_to: self.to_to[node],
+            to_here: self.to_here[node],
+        }
+    }
+}
