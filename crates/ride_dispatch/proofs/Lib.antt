@@ -1,3 +1,5 @@
 mod Saying
 mod Stopping
 mod Answering
+mod Told
+mod Sessions

@@ -12,7 +12,7 @@ use Rattle.fleet_file.specs.declared.errors.FleetError.TheVariants.{TooLong as I
 use Rattle.fleet_file.specs.FleetText.{fleet_text}
 use Rattle.ride_dispatch.specs.Refusals.{IsOfMap, IsOfFleet, map_refusal, fleet_refusal}
 use Rattle.ride_dispatch.specs.declared.stop.Stop.{Stop}
-use Rattle.ride_dispatch.specs.declared.stop.Stop.TheVariants.{NoMemory, ShelfFault, SinkFault, LimitPassed, MapRefused, FleetRefused, Unbuilt}
+use Rattle.ride_dispatch.specs.declared.stop.Stop.TheVariants.{NoMemory, ShelfFault, LimitPassed, MapRefused, FleetRefused}
 
 -- the bytes of a name, where the shelf tells them
 abbrev pub told_bytes : Option Contents → List ℕ → Option (List ℕ)
@@ -57,13 +57,6 @@ abbrev pub ReadsFleet : ℕ → Option (List ℕ) → Result (Settings × List V
 ReadsFleet nodes told outcome =
     MatchResult outcome (λ read. IfSome told (λ bytes. fleet_text nodes bytes ≡ Ok (read.0, read.1))) (StopsFleet nodes told)
 
--- why the reading of a feed stopped
-abbrev pub IsFeedStop : Stop → Type 0
-IsFeedStop NoMemory = ⊤
-IsFeedStop ShelfFault = ⊤
-IsFeedStop Unbuilt = ⊤
-IsFeedStop _ = ⊥
-
 -- the map's bytes have this refusal
 abbrev pub RefusesMap : Option (List ℕ) → MapError → Type 0
 RefusesMap map e = IsOfMap e × IfSome map (λ bytes. map_text bytes ≡ Err e)
@@ -81,21 +74,18 @@ PassesLimit map fleet =
     ⊎ IfSome map (λ bytes. (network : RoadMap) × (map_text bytes ≡ Ok network)
     × IfSome fleet (λ text. fleet_text network.nodes text ≡ Err IsTooLong))
 
--- the map's bytes are a network's, and the fleet file's are settings and a fleet over it
-abbrev pub AreTexts : Option (List ℕ) → Option (List ℕ) → Type 0
-AreTexts map fleet =
-    IfSome map (λ bytes. (network : RoadMap) × (map_text bytes ≡ Ok network)
-    × IfSome fleet (λ text. (read : Settings × List Vehicle) × (fleet_text network.nodes text ≡ Ok read)))
+-- the map's bytes are this network's, and the fleet file's are these settings and these vehicles over it
+pub record AreTextsOf (network : RoadMap) (settings : Settings) (vehicles : List Vehicle) (map fleet : Option (List ℕ)) : Type 0 where
+  pub map_is : IfSome map (λ bytes. map_text bytes ≡ Ok network)
+  pub fleet_is : IfSome fleet (λ text. fleet_text network.nodes text ≡ Ok (settings, vehicles))
 
--- why a replay stopped
+-- why a replay stopped before its session
 abbrev pub StopsReplay : Option (List ℕ) → Option (List ℕ) → Stop → Type 0
 StopsReplay map fleet NoMemory = ⊤
 StopsReplay map fleet ShelfFault = ⊤
-StopsReplay map fleet SinkFault = AreTexts map fleet
 StopsReplay map fleet LimitPassed = PassesLimit map fleet
 StopsReplay map fleet (MapRefused e) = RefusesMap map e
 StopsReplay map fleet (FleetRefused e) = RefusesFleet map fleet e
-StopsReplay map fleet Unbuilt = AreTexts map fleet
 
 -- the exit status of a run that stopped
 abbrev pub status_of : Stop → ℕ
@@ -103,13 +93,10 @@ status_of NoMemory = 1
 status_of (MapRefused e) = 3
 status_of (FleetRefused e) = 4
 status_of ShelfFault = 5
-status_of SinkFault = 6
 status_of LimitPassed = 8
-status_of Unbuilt = 9
 
 -- what it says
 abbrev pub said_of : Stop → List ℕ
 said_of (MapRefused e) = map_refusal e
 said_of (FleetRefused e) = fleet_refusal e
-said_of Unbuilt = codes "unbuilt\n"
 said_of _ = []

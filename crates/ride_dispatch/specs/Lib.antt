@@ -1,4 +1,4 @@
 pub mod Words
 pub mod Refusals
 pub mod Answers
-pub mod Path
+pub mod Sessions

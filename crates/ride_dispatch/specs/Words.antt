@@ -22,9 +22,13 @@ map_name words = word_at words 2
 abbrev pub fleet_name : List (List ℕ) → List ℕ
 fleet_name words = word_at words 4
 
+-- and that of its feed
+abbrev pub feed_name : List (List ℕ) → List ℕ
+feed_name words = word_at words 6
+
 -- the names of a replay's map, fleet and feed
 abbrev pub names_of : List (List ℕ) → List (List ℕ)
-names_of words = map_name words ∷ fleet_name words ∷ word_at words 6 ∷ []
+names_of words = map_name words ∷ fleet_name words ∷ feed_name words ∷ []
 
 -- a list begins another
 abbrev pub Begins : List (List ℕ) → List (List ℕ) → Type 0

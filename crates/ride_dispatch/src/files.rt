@@ -1,8 +1,10 @@
 //! Named files, each read to its answer and given back.
 ghost use Rattle.std.specs.Prelude.{◌≡◌, ◌≢◌, ◌<◌, ◌≤◌, ◌+◌, ◌++◌, ◌∷◌, [], ℕ, length, string_bytes, All, Err, IfErr, IfOk, OnOk, MatchResult};
+ghost use Rattle.ride_model.specs.declared.vehicle.Vehicle.{Vehicle};
+ghost use Rattle.ride_model.specs.Settings.{IsSettings};
 ghost use Rattle.ride_model.specs.Vehicle.{IsLawful};
 ghost use Rattle.ride_ports.specs.Count.{Rose};
-ghost use Rattle.ride_dispatch.specs.Answers.{stop_of_fleet, stop_of_map, told_bytes, AreTexts, IsFeedStop, ReadsFleet, ReadsMap, StopsReplay};
+ghost use Rattle.ride_dispatch.specs.Answers.{stop_of_fleet, stop_of_map, told_bytes, AreTextsOf, ReadsFleet, ReadsMap, StopsReplay};
 ghost use Rattle.ride_dispatch.specs.Words.{Begins};
 
 use crate::stop::Stop;
@@ -11,9 +13,6 @@ use gr_reader::{MapError, read_map};
 use ride_model::{Fleet, Network, Settings};
 use ride_ports::{Shelf, Source};
 use std::alloc::Global;
-
-/// The most bytes of a feed that is built so far.
-const MOST_BYTES: usize = 1 << 20;
 
 /// What the files of a map and a fleet say.
 #[derive(Drop)]
@@ -34,15 +33,21 @@ pub fn bring_texts<H: Shelf>(
     requires none_brought { H.brought shelf.old ≡ 0 }
     requires none_back { H.back shelf.old ≡ [] }
     ensures texts { MatchResult result
-        (λ _. AreTexts (told_bytes (H.contents shelf.old) (string_bytes map_name)) (told_bytes (H.contents shelf.old) (string_bytes fleet_name)))
+        (λ texts. AreTextsOf texts.map texts.settings texts.fleet (told_bytes (H.contents shelf.old) (string_bytes map_name))
+        (told_bytes (H.contents shelf.old) (string_bytes fleet_name)))
         (StopsReplay (told_bytes (H.contents shelf.old) (string_bytes map_name)) (told_bytes (H.contents shelf.old) (string_bytes fleet_name))) }
+    ensures settings { IfOk result (λ texts. IsSettings texts.settings) }
     ensures lawful { IfOk result (λ texts. All (IsLawful texts.map) texts.fleet) }
+    ensures idle { IfOk result (λ texts. All (λ (v : Vehicle). v.stops.items ≡ []) texts.fleet) }
+    ensures first_versions { IfOk result (λ texts. All (λ (v : Vehicle). v.version ≡ 0) texts.fleet) }
     ensures asked_first { Begins (H.asked shelf.new) (string_bytes map_name ∷ string_bytes fleet_name ∷ []) }
     ensures asked_all { OnOk result (H.asked shelf.new ≡ string_bytes map_name ∷ string_bytes fleet_name ∷ []) }
     ensures all_back { length (H.back shelf.new) ≡ H.brought shelf.new }
     ensures few_back { length (H.back shelf.new) ≤ 2 }
     ensures shelf_fault { result ≡ Err Stop.ShelfFault → Rose (H.faults shelf.old) (H.faults shelf.new) }
-    ensures no_sink_fault { result ≢ Err Stop.SinkFault }
+    ensures contents_stay { H.contents shelf.new ≡ H.contents shelf.old }
+    ensures all_brought { OnOk result (H.brought shelf.new ≡ 2) }
+    ensures few_brought { H.brought shelf.new ≤ 2 }
     ensures count_never_falls { H.faults shelf.old ≤ H.faults shelf.new }
 {
     let map = bring_map(alloc, shelf, map_name)?;
@@ -62,6 +67,8 @@ fn bring_map<H: Shelf>(alloc: Global, shelf: &mut H, name: String) -> Result<Net
     ensures asked { H.asked shelf.new ≡ H.asked shelf.old ++ string_bytes name ∷ [] }
     ensures returned { H.brought shelf.new + length (H.back shelf.old) ≡ H.brought shelf.old + length (H.back shelf.new) }
     ensures one_back { length (H.back shelf.new) ≤ length (H.back shelf.old) + 1 }
+    ensures brought { OnOk result (H.brought shelf.new ≡ H.brought shelf.old + 1) }
+    ensures one_brought { H.brought shelf.new ≤ H.brought shelf.old + 1 }
     ensures shelf_fault { result ≡ Err Stop.ShelfFault → Rose (H.faults shelf.old) (H.faults shelf.new) }
     ensures count_never_falls { H.faults shelf.old ≤ H.faults shelf.new }
     ensures contents_stay { H.contents shelf.new ≡ H.contents shelf.old }
@@ -108,10 +115,15 @@ fn bring_fleet<H: Shelf>(
     requires asked_room { length (H.asked shelf.old) < 8 }
     requires back_room { length (H.back shelf.old) < 8 }
     ensures fleet { ReadsFleet map.now.nodes (told_bytes (H.contents shelf.old) (string_bytes name)) result }
+    ensures settings { IfOk result (λ read. IsSettings read.0) }
     ensures lawful { IfOk result (λ read. All (IsLawful map.now) read.1) }
+    ensures idle { IfOk result (λ read. All (λ (v : Vehicle). v.stops.items ≡ []) read.1) }
+    ensures first_versions { IfOk result (λ read. All (λ (v : Vehicle). v.version ≡ 0) read.1) }
     ensures asked { H.asked shelf.new ≡ H.asked shelf.old ++ string_bytes name ∷ [] }
     ensures returned { H.brought shelf.new + length (H.back shelf.old) ≡ H.brought shelf.old + length (H.back shelf.new) }
     ensures one_back { length (H.back shelf.new) ≤ length (H.back shelf.old) + 1 }
+    ensures brought { OnOk result (H.brought shelf.new ≡ H.brought shelf.old + 1) }
+    ensures one_brought { H.brought shelf.new ≤ H.brought shelf.old + 1 }
     ensures shelf_fault { result ≡ Err Stop.ShelfFault → Rose (H.faults shelf.old) (H.faults shelf.new) }
     ensures count_never_falls { H.faults shelf.old ≤ H.faults shelf.new }
     ensures contents_stay { H.contents shelf.new ≡ H.contents shelf.old }
@@ -132,7 +144,10 @@ fn fleet_from<S: Source>(
 ) -> Result<(Settings, Fleet), Stop>
     requires { S.faults source.old ≡ 0 }
     ensures fleet { ReadsFleet map.now.nodes (S.left source.old) result }
+    ensures settings { IfOk result (λ read. IsSettings read.0) }
     ensures lawful { IfOk result (λ read. All (IsLawful map.now) read.1) }
+    ensures idle { IfOk result (λ read. All (λ (v : Vehicle). v.stops.items ≡ []) read.1) }
+    ensures first_versions { IfOk result (λ read. All (λ (v : Vehicle). v.version ≡ 0) read.1) }
     ensures source_fault { result ≡ Err Stop.ShelfFault → 0 < S.faults source.new }
 {
     match read_fleet(alloc, source, map) {
@@ -151,45 +166,4 @@ fn stop_of_fleet(error: FleetError) -> Stop
         FleetError::NoMemory => Stop::NoMemory,
         error => Stop::FleetRefused(error),
     }
-}
-
-/// Brings a feed, reads it whole and gives it back.
-pub fn bring_feed<H: Shelf>(alloc: Global, shelf: &mut H, name: String) -> Result<Vec<u8>, Stop>
-    requires asked_room { length (H.asked shelf.old) < 8 }
-    requires back_room { length (H.back shelf.old) < 8 }
-    ensures asked { H.asked shelf.new ≡ H.asked shelf.old ++ string_bytes name ∷ [] }
-    ensures returned { H.brought shelf.new + length (H.back shelf.old) ≡ H.brought shelf.old + length (H.back shelf.new) }
-    ensures one_back { length (H.back shelf.new) ≤ length (H.back shelf.old) + 1 }
-    ensures shelf_fault { result ≡ Err Stop.ShelfFault → Rose (H.faults shelf.old) (H.faults shelf.new) }
-    ensures stops { IfErr result IsFeedStop }
-    ensures count_never_falls { H.faults shelf.old ≤ H.faults shelf.new }
-{
-    let Ok(mut source) = shelf.bring(name) else {
-        return Err(Stop::ShelfFault);
-    };
-    let read = read_all(alloc, &mut source);
-    shelf.give_back(source);
-    read
-}
-
-// Reads a source to its end.
-fn read_all<S: Source>(alloc: Global, source: &mut S) -> Result<Vec<u8>, Stop>
-    requires { S.faults source.old ≡ 0 }
-    ensures source_fault { result ≡ Err Stop.ShelfFault → 0 < S.faults source.new }
-    ensures stops { IfErr result IsFeedStop }
-{
-    let mut bytes = Vec::new(alloc);
-    let mut buffer = [0; 4096];
-    for _ in 0..MOST_BYTES {
-        let Ok(count) = source.read(&mut buffer) else {
-            return Err(Stop::ShelfFault);
-        };
-        if count == 0 {
-            return Ok(bytes);
-        }
-        if bytes.extend_from_slice(&buffer[..count]).is_err() {
-            return Err(Stop::NoMemory);
-        }
-    }
-    Err(Stop::Unbuilt)
 }

@@ -1,9 +1,13 @@
 //! The dispatcher's program: it reads the words after its name, and ends with the status of `run`.
 #![tactic(auto)]
 
+#[cfg(test)]
+mod edge_rows;
 mod files;
-mod path;
 mod refusals;
+#[cfg(test)]
+mod rows;
+mod session;
 mod stop;
 #[cfg(test)]
 mod tests;
@@ -22,6 +26,7 @@ fn main(rt: HostRuntime) -> ExitCode {
     let mut shelf = FileShelf::new(&rt);
     let mut out = StdoutSink::new(&rt);
     let status = top::run(
+        &rt,
         rt.alloc(),
         words.as_slice(),
         &mut shelf,

@@ -17,10 +17,7 @@ pub fn line_of_stop(alloc: Global, stop: Stop) -> Result<Vec<u8>, NoMemory>
     match stop {
         Stop::MapRefused(refusal) => map_line(alloc, refusal),
         Stop::FleetRefused(refusal) => fleet_line(alloc, refusal),
-        Stop::Unbuilt => b"unbuilt\n".to_vec(alloc),
-        Stop::NoMemory | Stop::ShelfFault | Stop::SinkFault | Stop::LimitPassed => {
-            Ok(Vec::new(alloc))
-        }
+        Stop::NoMemory | Stop::ShelfFault | Stop::LimitPassed => Ok(Vec::new(alloc)),
     }
 }
 

@@ -1,4 +1,4 @@
-//! What ends a run before its log is written.
+//! What ends a run before its session.
 use fleet_file::FleetError;
 use gr_reader::MapError;
 
@@ -8,11 +8,8 @@ pub enum Stop {
     NoMemory,
     /// The shelf, or a source that it brought, failed.
     ShelfFault,
-    SinkFault,
     /// A source gave more than its limit.
     LimitPassed,
     MapRefused(MapError),
     FleetRefused(FleetError),
-    /// A text is outside the form that is built so far.
-    Unbuilt,
 }

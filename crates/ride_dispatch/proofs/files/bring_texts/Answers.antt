@@ -3,7 +3,7 @@ use Rattle.std.specs.Prelude.{string_bytes}
 use Rattle.std.proofs.lemmas.Result.{err_from_is_err_and}
 use Rattle.fleet_file.specs.FleetText.{fleet_text}
 use Rattle.ride_dispatch.specs.Answers.{told_bytes, StopsFleet}
-use Rattle.ride_dispatch.proofs.Stopping.{are_texts, stops_at_fleet}
+use Rattle.ride_dispatch.proofs.Stopping.{stops_at_fleet}
 use Rattle.ride_dispatch.proofs.files.bring_texts.Goals as goal
 
 pub returns-in_err-settings-clause-texts : goal.returns-in_err-settings-clause-texts
@@ -15,9 +15,10 @@ returns-in_err-settings-clause-texts g c =
     c.in_ok-map.ensures.contents_stay c.in_err-settings.ensures.fleet))
 
 pub returns-clause-texts : goal.returns-clause-texts
-returns-clause-texts g c =
-    are_texts _ _ c.in_ok-map.map c.in_ok-settings.settings c.in_ok-settings.fleet c.in_ok-map.ensures.map
-    (subst
-    (λ told. IfSome (told_bytes told (string_bytes c.args.fleet_name))
-    (λ text. fleet_text c.in_ok-map.map.nodes text ≡ Ok (c.in_ok-settings.settings, c.in_ok-settings.fleet)))
-    c.in_ok-map.ensures.contents_stay c.in_ok-settings.ensures.fleet)
+returns-clause-texts g c = record {
+  map_is = c.in_ok-map.ensures.map;
+  fleet_is = subst
+      (λ told. IfSome (told_bytes told (string_bytes c.args.fleet_name))
+      (λ text. fleet_text c.in_ok-map.map.nodes text ≡ Ok (c.in_ok-settings.settings, c.in_ok-settings.fleet)))
+      c.in_ok-map.ensures.contents_stay c.in_ok-settings.ensures.fleet;
+}

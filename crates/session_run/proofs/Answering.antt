@@ -1,0 +1,160 @@
+-- A board that answers a command.
+use Rattle.std.proofs.Common.{◌≡◌, ℕ, ◌+◌, inl, inr, Bool, true, false, cond, List, [], ◌∷◌, ◌++◌, Some, Result, Ok, Err, length, take, refl, sym, ap, ◌∙◌, append-nil}
+use Rattle.std.specs.Prelude.{option_and_then, IsFalse, IfOk, OnErr}
+use Rattle.ride_model.specs.declared.command.Command.{Command}
+use Rattle.ride_model.specs.declared.entry.Entry.{Entry}
+use Rattle.ride_model.specs.declared.entry.Event.TheVariants.{Fed}
+use Rattle.ride_model.specs.declared.command.Actor.TheVariants.{Feed}
+use Rattle.ride_model.specs.declared.reply.Reply.{Reply}
+use Rattle.ride_model.specs.declared.reply.Reply.TheVariants.{Waiting, Cancelled, Freed, OnMap, Late, Picked, Dropped, Duty, Now, Asked, Noted, Refused}
+use Rattle.ride_model.specs.History.{fed_commands, awaited_after, awaited_in}
+use Rattle.ride_model.specs.History.Awaited.{any, opening}
+use Rattle.ride_model.specs.State.{State}
+use Rattle.ride_model.specs.Step.{step}
+use Rattle.ride_model.specs.Text.{text_of}
+use Rattle.board_core.specs.Recorded.{Recorded, state_of, fed_entry}
+use Rattle.session_run.specs.Running.{GoesOn, IsSession, IsAsked, RunsBatch, Answers, Stops, gave_up}
+use Rattle.session_run.proofs.Going.{state-push, settled-push, awaited-push, gave_up-push, fed-feed, goes-then}
+use Rattle.session_run.proofs.Leaving.{is_asked, leaves-step}
+
+-- what is awaited after an answer
+after-reply : (command : Command) (reply : Reply) (b : Bool) → is_asked reply ≡ b
+    → awaited_after any (Feed 1) (Fed command reply) ≡ Some (cond b opening any)
+after-reply command (Asked count) b is = ap (λ t. Some (cond t opening any)) is
+after-reply command Waiting b is = ap (λ t. Some (cond t opening any)) is
+after-reply command Cancelled b is = ap (λ t. Some (cond t opening any)) is
+after-reply command (Freed v) b is = ap (λ t. Some (cond t opening any)) is
+after-reply command OnMap b is = ap (λ t. Some (cond t opening any)) is
+after-reply command (Late a l) b is = ap (λ t. Some (cond t opening any)) is
+after-reply command (Picked r) b is = ap (λ t. Some (cond t opening any)) is
+after-reply command (Dropped r) b is = ap (λ t. Some (cond t opening any)) is
+after-reply command Duty b is = ap (λ t. Some (cond t opening any)) is
+after-reply command (Now t') b is = ap (λ t. Some (cond t opening any)) is
+after-reply command Noted b is = ap (λ t. Some (cond t opening any)) is
+after-reply command (Refused code) b is = ap (λ t. Some (cond t opening any)) is
+
+module _ (old new : Recorded) (command : Command) (session : IsSession old) (start : new.start ≡ old.start) (feeds : new.feeds ≡ old.feeds)
+    (desks : new.desks ≡ old.desks) (history : new.history ≡ old.history ++ fed_entry (state_of old) 1 command ∷ []) where
+  state-is : state_of new ≡ (step (state_of old) command).state
+  state-is = state-push old new (fed_entry (state_of old) 1 command) start history
+
+  pub applied-goes_on : GoesOn old new
+  applied-goes_on = record { start = start; more = fed_entry (state_of old) 1 command ∷ []; grows = history }
+
+  pub applied-session : IsSession new
+  applied-session =
+      let leaves = leaves-step (state_of old) command in
+      record {
+        feeds_are = feeds ∙ session.feeds_are;
+        desks_are = desks ∙ session.desks_are;
+        none_ended = ap (λ (t : State). t.ended) state-is ∙ leaves.ended ∙ session.none_ended;
+        none_open = ap (λ (t : State). t.batches) state-is ∙ leaves.batches ∙ session.none_open;
+        settled = settled-push old.history new.history (fed_entry (state_of old) 1 command) history session.settled refl;
+      }
+
+  pub applied-commands : fed_commands 1 new.history ≡ fed_commands 1 old.history ++ command ∷ []
+  applied-commands = fed-feed old.history new.history (fed_entry (state_of old) 1 command) command refl refl history
+
+  pub applied-awaited : (b : Bool) → is_asked (step (state_of old) command).reply ≡ b → awaited_in old.history ≡ Some any
+      → awaited_in new.history ≡ Some (cond b opening any)
+  applied-awaited b is direct =
+      let entry : Entry = fed_entry (state_of old) 1 command in
+      awaited-push old.history new.history entry history
+      ∙ ap (λ o. option_and_then (λ a. awaited_after a entry.actor entry.event) o) direct
+      ∙ after-reply command (step (state_of old) command).reply b is
+
+  pub applied-none_given_up : IsFalse (gave_up old.history) → IsFalse (gave_up new.history)
+  applied-none_given_up none = gave_up-push old.history new.history (fed_entry (state_of old) 1 command) history refl none
+
+  pub applied-asked : (b : Bool) → is_asked (step (state_of old) command).reply ≡ b → (state_of old).opened ≡ (state_of old).asked
+      → (state_of new).asked ≡ cond b ((state_of new).opened + 1) (state_of new).opened
+  applied-asked b is all_opened =
+      let leaves = leaves-step (state_of old) command in
+      let opened : (state_of new).opened ≡ (state_of old).asked = ap (λ (t : State). t.opened) state-is ∙ leaves.opened ∙ all_opened in
+      ap (λ (t : State). t.asked) state-is ∙ leaves.asked
+      ∙ ap (λ t. cond t ((state_of old).asked + 1) (state_of old).asked) is
+      ∙ ap (λ n. cond b (n + 1) n) (sym opened)
+
+  -- no ask was accepted
+  pub answers-others : is_asked (step (state_of old) command).reply ≡ false → (state_of old).opened ≡ (state_of old).asked
+      → Answers true command old new
+  answers-others is all_opened = record {
+    goes_on = applied-goes_on;
+    session = applied-session;
+    all_opened = sym (applied-asked false is all_opened);
+    commands = applied-commands;
+    prompt = λ _ prompt. record {
+      direct = applied-awaited false is prompt.direct;
+      none_given_up = applied-none_given_up prompt.none_given_up;
+    };
+  }
+
+  -- an ask was accepted
+  pub asks : is_asked (step (state_of old) command).reply ≡ true → (state_of old).opened ≡ (state_of old).asked → IsAsked new
+  asks is all_opened = record { session = applied-session; one_more = applied-asked true is all_opened }
+
+  -- memory was wanting for the batch after it
+  pub asks-stops : Stops command old new
+  asks-stops = record { goes_on = applied-goes_on; session = applied-session; commands = inr applied-commands }
+
+  -- the batch after it was opened and closed
+  pub answers-ask : (committed : Bool) (after : Recorded) → is_asked (step (state_of old) command).reply ≡ true
+      → RunsBatch committed new after → Answers committed command old after
+  answers-ask committed after is ran = record {
+    goes_on = goes-then old new after applied-goes_on ran.goes_on;
+    session = ran.session;
+    all_opened = ran.all_opened;
+    commands = ran.commands ∙ applied-commands;
+    prompt = λ whole prompt. record {
+      direct = ran.direct whole (applied-awaited true is prompt.direct);
+      none_given_up = ran.none_given_up whole (applied-none_given_up prompt.none_given_up);
+    };
+  }
+
+-- memory was wanting for the answer
+pub apply-stops : (board : Recorded) (command : Command) → IsSession board → Stops command board board
+apply-stops board command session = record {
+  goes_on = record { start = refl; more = []; grows = sym (append-nil board.history) };
+  session = session;
+  commands = inl refl;
+}
+
+-- a reply that is not to an accepted ask
+pub not_asked : (reply : Reply) → ((count : ℕ) → reply ≡ Asked count → ⊥) → is_asked reply ≡ false
+not_asked reply others = by_test (is_asked reply) refl
+  where
+    count-of : (r : Reply) → is_asked r ≡ true → (count : ℕ) × (r ≡ Asked count)
+    count-of (Asked count) h = (count, refl)
+    count-of Waiting h = absurd (cc h)
+    count-of Cancelled h = absurd (cc h)
+    count-of (Freed v) h = absurd (cc h)
+    count-of OnMap h = absurd (cc h)
+    count-of (Late a l) h = absurd (cc h)
+    count-of (Picked r) h = absurd (cc h)
+    count-of (Dropped r) h = absurd (cc h)
+    count-of Duty h = absurd (cc h)
+    count-of (Now t) h = absurd (cc h)
+    count-of Noted h = absurd (cc h)
+    count-of (Refused code) h = absurd (cc h)
+
+    by_test : (b : Bool) → is_asked reply ≡ b → b ≡ false
+    by_test false is = refl
+    by_test true is = let (count, asked) = count-of reply is in absurd (others count asked)
+
+-- a board goes on, whatever the answer
+pub goes-of : {E : Type 0} (r : Result Bool E) (command : Command) (old new : Recorded) → IfOk r (λ whole. Answers whole command old new)
+    → OnErr r (Stops command old new) → GoesOn old new
+goes-of (Ok whole) command old new answered stopped = answered.goes_on
+goes-of (Err e) command old new answered stopped = stopped.goes_on
+
+-- the text of a board's history before it went on
+pub told-before : (old new : Recorded) (told : ℕ) → GoesOn old new → told ≡ length old.history
+    → text_of new.start.settings.log 1 1 (take told new.history) ≡ text_of old.start.settings.log 1 1 old.history
+told-before old new told goes_on all =
+    ap (λ (start : State). text_of start.settings.log 1 1 (take told new.history)) goes_on.start
+    ∙ ap (text_of old.start.settings.log 1 1) (ap (λ n. take n new.history) all ∙ ap (take (length old.history)) goes_on.grows
+    ∙ take-append old.history goes_on.more)
+  where
+    take-append : (xs ys : List Entry) → take (length xs) (xs ++ ys) ≡ xs
+    take-append [] ys = refl
+    take-append (x ∷ xs) ys = ap (λ l. x ∷ l) (take-append xs ys)

@@ -1,0 +1,13 @@
+pub mod LogLemmas
+pub mod SmallCosts
+pub mod Leaving
+pub mod Settling
+pub mod Going
+pub mod Opening
+pub mod Answering
+pub mod ReadLines
+pub mod Feeds
+pub mod Ends
+pub mod Replays
+pub mod OneVehicle
+pub mod Begun

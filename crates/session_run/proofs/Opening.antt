@@ -1,0 +1,228 @@
+-- A board whose desk opens the next batch, and closes it.
+use Rattle.std.proofs.Common.{◌≡◌, ℕ, ◌+◌, ◌≤◌, Bool, true, false, not, cond, List, [], ◌∷◌, ◌++◌, Option, Some, None, lt-ltb, refl, sym, ap, subst, ◌∙◌, arith}
+use Rattle.std.specs.Prelude.{option_map, option_and_then, find, nat_lt, ◌==◌, IsSome, IsSomeAnd, All}
+use Rattle.std.specs.List.{filter}
+use Rattle.ride_model.specs.declared.command.Actor.TheVariants.{Desk}
+use Rattle.ride_model.specs.declared.entry.Entry.{Entry}
+use Rattle.ride_model.specs.declared.entry.Event.TheVariants.{Committed, Abandoned}
+use Rattle.ride_model.specs.declared.entry.Outcome.{Outcome}
+use Rattle.ride_model.specs.declared.offer.Seat.{Seat}
+use Rattle.ride_model.specs.declared.reply.RequestState.{RequestState}
+use Rattle.ride_model.specs.declared.reply.RequestState.TheVariants.{InBatch}
+use Rattle.ride_model.specs.declared.vehicle.Ride.{Ride}
+use Rattle.ride_model.specs.Batch.{is_cancelled, was_cancelled, next_batch, after_opening, after_commit, after_abandon, outcomes_of, after_outcomes}
+use Rattle.ride_model.specs.History.{awaited_after}
+use Rattle.ride_model.specs.History.Awaited.{any}
+use Rattle.ride_model.specs.Legal.{all_feeds_ended, after_event, replay, IsLegal, IsLegalEntry, CommitsBatch}
+use Rattle.ride_model.specs.Road.{RoadMap}
+use Rattle.ride_model.specs.Seating.{BatchCopy, IsBatchOver, seat_offer, seating_cost}
+use Rattle.ride_model.specs.Vehicle.{IsLawful}
+use Rattle.ride_model.specs.State.{State, request_state, open_batch_numbered, is_batch}
+use Rattle.batch_commit.specs.Solved.{SolvedBatch}
+use Rattle.model_laws.proofs.Among.{Among}
+use Rattle.model_laws.proofs.Histories.{IsLegal-parts}
+use Rattle.model_laws.proofs.RequestStates.{others-opening, request_state-opening, abandon-is}
+use Rattle.history_laws.specs.Consistent.{IsOpenBatch}
+use Rattle.history_laws.specs.Start.{IsStart}
+use Rattle.history_laws.proofs.EveryState.{consistent}
+use Rattle.history_laws.proofs.Leaving.{is_batch-own}
+use Rattle.history_laws.proofs.Lookups.{all_of, of_all}
+use Rattle.history_laws.proofs.Opening.{is_of-among}
+use Rattle.board_core.specs.declared.opening.Opening.{Opening}
+use Rattle.board_core.specs.declared.opening.Opening.TheVariants.{Batch, Idle, Ended}
+use Rattle.board_core.specs.Opening.{opening_at}
+use Rattle.board_core.specs.Recorded.{Recorded, state_of, opened_entry, committed_entry, abandoned_entry}
+use Rattle.session_run.specs.Running.{IsAsked, IsOpened, RunsBatch, Closes}
+use Rattle.session_run.specs.Settled.{settles}
+use Rattle.session_run.proofs.Going.{state-push, settled-push, awaited-push, gave_up-push, fed-desk, goes-then}
+use Rattle.session_run.proofs.Leaving.{stays-outcomes}
+use Rattle.session_run.proofs.Settling.{outcomes-settled}
+
+-- whether a request's state is that of a cancelled one
+cancelled_in : Option RequestState → Bool
+cancelled_in None = false
+cancelled_in (Some state) = is_cancelled state
+
+was-cancelled : (s : State) (id : ℕ) → was_cancelled s id ≡ cancelled_in (request_state s id)
+unfolding cancelled_in
+was-cancelled s id = by_state (request_state s id) refl
+  where
+    by_state : (o : Option RequestState) → request_state s id ≡ o → was_cancelled s id ≡ cancelled_in o
+    by_state None is = rw is refl
+    by_state (Some state) is = rw is refl
+
+-- no request of a batch that was just opened is cancelled
+opened-not_cancelled : (s : State) (batch : BatchCopy) (ride : Ride) → Among ride batch.requests
+    → was_cancelled (after_opening s batch) ride.id ≡ false
+unfolding cancelled_in
+opened-not_cancelled s batch ride there =
+    was-cancelled (after_opening s batch) ride.id ∙ ap cancelled_in (request_state-opening s batch ride.id
+    ∙ ap (λ b. cond b (option_map (λ _. InBatch batch.number) (request_state s ride.id)) (request_state s ride.id))
+    (is_of-among batch.requests ride there)) ∙ marked (request_state s ride.id)
+  where
+    marked : (o : Option RequestState) → cancelled_in (option_map (λ _. InBatch batch.number) o) ≡ false
+    marked None = refl
+    marked (Some state) = refl
+
+-- a board after an opening
+pub opens : (old new : Recorded) → IsAsked old → new.start ≡ old.start → new.feeds ≡ old.feeds → new.desks ≡ old.desks
+    → new.history ≡ old.history ++ opened_entry (next_batch (state_of old) 1) ∷ []
+    → IsOpenBatch old.desks (state_of new) (next_batch (state_of old) 1) → IsOpened (next_batch (state_of old) 1) new
+opens old new asked start feeds desks history open_now =
+    let s : State = state_of old in
+    let batch : BatchCopy = next_batch s 1 in
+    let is : state_of new ≡ after_opening s batch = state-push old new (opened_entry batch) start history in
+    let others = others-opening s batch in
+    record {
+      feeds_are = feeds ∙ asked.session.feeds_are;
+      desks_are = desks ∙ asked.session.desks_are;
+      none_ended = ap (λ (t : State). t.ended) (is ∙ others) ∙ asked.session.none_ended;
+      one_open = ap (λ (t : State). t.batches) (is ∙ others) ∙ ap (λ bs. bs ++ batch ∷ []) asked.session.none_open;
+      all_opened = ap (λ (t : State). t.opened) (is ∙ others) ∙ sym asked.one_more ∙ sym (ap (λ (t : State). t.asked) (is ∙ others));
+      settled = settled-push old.history new.history (opened_entry batch) history asked.session.settled refl;
+      desk_is = refl;
+      open_now = subst (λ n. IsOpenBatch n (state_of new) batch) asked.session.desks_are open_now;
+      vehicles_stand = sym (ap (λ (t : State). t.vehicles) (is ∙ others));
+      time_is = sym (ap (λ (t : State). t.clock) (is ∙ others));
+      not_cancelled = all_of (λ (ride : Ride). was_cancelled (state_of new) ride.id ≡ false) batch.requests
+          (λ ride there. ap (λ t. was_cancelled t ride.id) is ∙ opened-not_cancelled s batch ride there);
+    }
+
+-- the open batch is found
+pub open-found : (batch : BatchCopy) (s : State) → s.batches ≡ batch ∷ [] → open_batch_numbered s batch.desk batch.number ≡ Some batch
+open-found batch s one =
+    ap (find (is_batch batch.desk batch.number)) one ∙ ap (λ b. cond b (Some batch) None) (is_batch-own batch)
+
+-- no other batch is left
+none-left : (batch : BatchCopy) (batches : List BatchCopy) → batches ≡ batch ∷ []
+    → filter (λ other. not (is_batch batch.desk batch.number other)) batches ≡ []
+none-left batch batches one =
+    ap (filter (λ other. not (is_batch batch.desk batch.number other))) one ∙ ap (λ b. cond (not b) (batch ∷ []) []) (is_batch-own batch)
+
+-- the state after a commit of an open batch
+committed-state : (s : State) (batch : BatchCopy) (cost : ℕ) (seats : List Seat) (prices pays : List (ℕ × ℕ)) (outcomes : List (ℕ × Outcome))
+    → open_batch_numbered s batch.desk batch.number ≡ Some batch
+    → after_event s (Desk batch.desk) (Committed batch.number cost seats prices pays outcomes) ≡ after_commit batch seats s
+committed-state s batch cost seats prices pays outcomes found = rw found refl
+
+abandoned-state : (s : State) (batch : BatchCopy) → open_batch_numbered s batch.desk batch.number ≡ Some batch
+    → after_event s (Desk batch.desk) (Abandoned batch.number) ≡ after_abandon batch s
+abandoned-state s batch found = rw found refl
+
+-- the last entry of a legal history is legal
+last-legal : (feeds desks : ℕ) (start : State) (entries : List Entry) (entry : Entry) → IsLegal feeds desks start (entries ++ entry ∷ [])
+    → IsLegalEntry feeds desks (replay start entries) entry
+unfolding IsLegal
+last-legal feeds desks start entries entry legal = (IsLegal-parts feeds desks start entries (entry ∷ []) legal).1.0
+
+-- each seat of a legal commit has an offer
+committed-offered : (feeds desks : ℕ) (s : State) (solved : SolvedBatch)
+    → open_batch_numbered s solved.batch.desk solved.batch.number ≡ Some solved.batch
+    → IsLegalEntry feeds desks s (committed_entry s solved)
+    → All (λ seat. IsSome (seat_offer s.roads solved.batch seat)) solved.answer.seating
+committed-offered feeds desks s solved found legal =
+    (subst (λ (o : Option BatchCopy). IsSomeAnd o (λ (batch : BatchCopy). CommitsBatch s batch (seating_cost s.roads solved.batch solved.answer.seating)
+    solved.answer.seating solved.answer.prices solved.answer.pays (outcomes_of solved.batch solved.answer.seating s))) found legal).least.seating.offered
+
+-- a board after a commit
+pub commits : (old new : Recorded) (solved : SolvedBatch) → IsOpened solved.batch old → new.start ≡ old.start → new.feeds ≡ old.feeds
+    → new.desks ≡ old.desks → new.history ≡ old.history ++ committed_entry (state_of old) solved ∷ []
+    → IsLegal new.feeds new.desks new.start new.history → Closes true old new
+commits old new solved opened start feeds desks history legal =
+    let s : State = state_of old in
+    let batch : BatchCopy = solved.batch in
+    let entry : Entry = committed_entry s solved in
+    let seats : List Seat = solved.answer.seating in
+    let found : open_batch_numbered s batch.desk batch.number ≡ Some batch = open-found batch s opened.one_open in
+    let is : state_of new ≡ after_commit batch seats s = state-push old new entry start history
+    ∙ committed-state s batch (seating_cost s.roads batch seats) seats solved.answer.prices solved.answer.pays (outcomes_of batch seats s) found in
+    let stays = stays-outcomes batch seats s batch.requests s in
+    let both : IsLegal new.feeds new.desks old.start (old.history ++ entry ∷ [])
+    = subst (λ h. IsLegal new.feeds new.desks old.start h) history (subst (λ st. IsLegal new.feeds new.desks st new.history) start legal) in
+    let fine : settles entry.event ≡ true
+    = outcomes-settled s batch seats opened.vehicles_stand opened.time_is opened.open_now.fleet_fits.ids_differ
+    (committed-offered new.feeds new.desks s solved found (last-legal new.feeds new.desks old.start old.history entry both))
+    batch.requests (λ ride there. of_all (λ (r : Ride). was_cancelled s r.id ≡ false) batch.requests ride opened.not_cancelled there) in
+    record {
+      goes_on = record { start = start; more = entry ∷ []; grows = history };
+      session = record {
+        feeds_are = feeds ∙ opened.feeds_are;
+        desks_are = desks ∙ opened.desks_are;
+        none_ended = ap (λ (t : State). t.ended) is ∙ stays.ended ∙ opened.none_ended;
+        none_open = ap (λ (t : State). t.batches) is ∙ none-left batch (after_outcomes batch seats s batch.requests s).batches
+            (stays.batches ∙ opened.one_open);
+        settled = settled-push old.history new.history entry history opened.settled fine;
+      };
+      all_opened = ap (λ (t : State). t.opened) is ∙ stays.opened ∙ opened.all_opened ∙ sym (ap (λ (t : State). t.asked) is ∙ stays.asked);
+      commands = fed-desk old.history new.history entry batch.desk refl history;
+      direct = λ _ awaited. awaited-push old.history new.history entry history
+          ∙ ap (λ o. option_and_then (λ a. awaited_after a entry.actor entry.event) o) awaited
+          ∙ ap (λ d. cond (d == 1) (Some any) None) opened.desk_is;
+      none_given_up = λ _ none. gave_up-push old.history new.history entry history refl none;
+    }
+
+-- a board after a batch was given up
+pub gives-up : (old new : Recorded) (batch : BatchCopy) → IsOpened batch old → new.start ≡ old.start → new.feeds ≡ old.feeds
+    → new.desks ≡ old.desks → new.history ≡ old.history ++ abandoned_entry batch ∷ [] → Closes false old new
+gives-up old new batch opened start feeds desks history =
+    let s : State = state_of old in
+    let entry : Entry = abandoned_entry batch in
+    let found : open_batch_numbered s batch.desk batch.number ≡ Some batch = open-found batch s opened.one_open in
+    let is : state_of new ≡ after_abandon batch s = state-push old new entry start history ∙ abandoned-state s batch found in
+    let others = abandon-is s batch in
+    record {
+      goes_on = record { start = start; more = entry ∷ []; grows = history };
+      session = record {
+        feeds_are = feeds ∙ opened.feeds_are;
+        desks_are = desks ∙ opened.desks_are;
+        none_ended = ap (λ (t : State). t.ended) (is ∙ others) ∙ opened.none_ended;
+        none_open = ap (λ (t : State). t.batches) (is ∙ others) ∙ none-left batch s.batches opened.one_open;
+        settled = settled-push old.history new.history entry history opened.settled refl;
+      };
+      all_opened = ap (λ (t : State). t.opened) (is ∙ others) ∙ opened.all_opened ∙ sym (ap (λ (t : State). t.asked) (is ∙ others));
+      commands = fed-desk old.history new.history entry batch.desk refl history;
+      direct = λ no. absurd (cc no);
+      none_given_up = λ no. absurd (cc no);
+    }
+
+-- a batch that is opened and closed
+pub runs : (committed : Bool) (old middle new : Recorded) → IsAsked old → middle.start ≡ old.start
+    → middle.history ≡ old.history ++ opened_entry (next_batch (state_of old) 1) ∷ [] → Closes committed middle new
+    → RunsBatch committed old new
+runs committed old middle new asked start history closed =
+    let entry : Entry = opened_entry (next_batch (state_of old) 1) in
+    record {
+      goes_on = goes-then old middle new (record { start = start; more = entry ∷ []; grows = history }) closed.goes_on;
+      session = closed.session;
+      all_opened = closed.all_opened;
+      commands = closed.commands ∙ fed-desk old.history middle.history entry 1 refl history;
+      direct = λ is awaited. closed.direct is (awaited-push old.history middle.history entry history
+          ∙ ap (λ o. option_and_then (λ a. awaited_after a entry.actor entry.event) o) awaited);
+      none_given_up = λ is none. closed.none_given_up is (gave_up-push old.history middle.history entry history refl none);
+    }
+
+-- what pricing asks of an open batch
+pub opened-fits : (board : Recorded) (batch : BatchCopy) → IsOpened batch board → IsStart board.start
+    → IsLegal board.feeds board.desks board.start board.history
+    → (batch.time ≤ 1000000000) × IsBatchOver board.start.roads batch × All (IsLawful board.start.roads) batch.vehicles
+opened-fits board batch opened begins legal =
+    let is = consistent board.feeds board.desks board.start board.history begins legal in
+    let roads : (state_of board).roads ≡ board.start.roads = is.roads_stay in
+    let in_time : batch.time ≤ (state_of board).clock = opened.open_now.in_time in
+    let clock : (state_of board).clock ≤ 1000000000 = is.clock_fits in (
+      omega arith,
+      subst (λ (r : RoadMap). IsBatchOver r batch) roads opened.open_now.over_map,
+      subst (λ (r : RoadMap). All (IsLawful r) batch.vehicles) roads opened.open_now.lawful,
+    )
+
+-- what a desk gets at a board at which a batch is to be opened
+pub next-opened : (s : State) (feeds : ℕ) (batch : BatchCopy) (o : Opening) → o ≡ opening_at feeds s 1 → o ≡ Batch batch
+    → s.asked ≡ s.opened + 1 → batch ≡ next_batch s 1
+next-opened s feeds batch o is got one_more =
+    same batch (next_batch s 1) (sym got ∙ is ∙ ap (λ b. cond b (Batch (next_batch s 1)) (cond (all_feeds_ended feeds s) Ended Idle)) below)
+  where
+    below : nat_lt s.opened s.asked ≡ true
+    below = lt-ltb s.opened s.asked (omega (arith, one_more))
+
+    same : (a b : BatchCopy) → Batch a ≡ Batch b → a ≡ b
+    same a b e = cc e

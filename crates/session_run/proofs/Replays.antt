@@ -1,0 +1,254 @@
+-- What a session's history gives at its end.
+use Rattle.std.proofs.Common.{◌≡◌, ℕ, Bool, true, false, cond, List, [], ◌∷◌, ◌++◌, Option, Some, None, eqb, eq-eqb, take, drop, take-append-drop, refl, sym, ap, subst, ◌∙◌, append_assoc, append-nil, inl}
+use Rattle.std.specs.Prelude.{MatchOption, option_and_then, filter_map, All, ◌&&◌}
+use Rattle.std.specs.List.{list_any, list_all, range_with_len}
+use Rattle.ride_model.specs.declared.command.Actor.{Actor}
+use Rattle.ride_model.specs.declared.command.Actor.TheVariants.{Feed, Desk}
+use Rattle.ride_model.specs.declared.command.Command.{Command}
+use Rattle.ride_model.specs.declared.entry.Ending.{Ending}
+use Rattle.ride_model.specs.declared.entry.Ending.TheVariants.{Whole, Cut}
+use Rattle.ride_model.specs.declared.entry.Entry.{Entry}
+use Rattle.ride_model.specs.declared.settings.Settings.{Settings}
+use Rattle.ride_model.specs.declared.vehicle.Vehicle.{Vehicle}
+use Rattle.ride_model.specs.Fleet.{IsFleet}
+use Rattle.ride_model.specs.History.{fed_commands, awaited_after, is_whole, entries_of, command_of, IsDirect}
+use Rattle.ride_model.specs.Legal.{IsLegal, replay}
+use Rattle.ride_model.specs.Road.{RoadMap, IsRoadMap}
+use Rattle.ride_model.specs.Settings.{IsSettings}
+use Rattle.ride_model.specs.State.{State, start_state, is_actor}
+use Rattle.ride_model.specs.Vehicle.{IsLawful}
+use Rattle.ride_ports.specs.Bytes.{Writes}
+use Rattle.ride_ports.specs.declared.outcome.Ran.{Ran}
+use Rattle.line_text.specs.Lines.{ended_lines, ended_after, rest_of, last_line}
+use Rattle.line_text.proofs.LineLemmas.{ended_lines-append}
+use Rattle.command_lines.specs.Commands.{commands_from, commands_of}
+use Rattle.history_laws.specs.Start.{IsStart}
+use Rattle.history_laws.proofs.KeptHistory.{keeps_promises}
+use Rattle.board_core.specs.Recorded.{Recorded, state_of, end_entry}
+use Rattle.session_run.specs.declared.lines.Stop.{Stop}
+use Rattle.session_run.specs.declared.lines.Stop.TheVariants.{NoMemory, SourceFailed, TooLong}
+use Rattle.session_run.specs.Limits.{AreFirst, IsTooLong, IsWithinLimits, ended_commands}
+use Rattle.session_run.specs.Logged.{IsLogged}
+use Rattle.session_run.specs.Page.{LogState, HasLogged}
+use Rattle.session_run.specs.Reading.{IsEnded, ending_of, is_source_failed, is_too_long}
+use Rattle.session_run.specs.Replay.{IsReadWhole, IsReplay}
+use Rattle.session_run.specs.Running.{IsSession, IsRunning, gave_up}
+use Rattle.session_run.specs.Settled.{IsSettled}
+use Rattle.session_run.proofs.Going.{state-push, settled-push, awaited-push, gave_up-push, fed-append}
+use Rattle.session_run.proofs.ReadLines.{first-then, first-lines}
+
+-- where a session starts
+pub is-start : (roads : RoadMap) (settings : Settings) (fleet : List Vehicle) → IsRoadMap roads → IsSettings settings → IsFleet fleet
+    → All (IsLawful roads) fleet → All (λ (v : Vehicle). v.stops.items ≡ []) fleet → All (λ (v : Vehicle). v.version ≡ 0) fleet
+    → IsStart (start_state roads settings fleet)
+is-start roads settings fleet map ranges fits lawful idle first = record {
+  map_fits = map;
+  settings_fit = ranges;
+  fleet_fits = fits;
+  lawful = lawful;
+  idle = idle;
+  first_versions = first;
+  nothing_yet = refl;
+}
+
+-- what the ends of the feed and the desk leave
+record EndsSo (old new : Recorded) (ending desk_ending : Ending) : Type 0 where
+  ended : (state_of new).ended ≡ (Feed 1, ending) ∷ (Desk 1, desk_ending) ∷ []
+  batches : (state_of new).batches ≡ []
+  opened : (state_of new).opened ≡ (state_of old).opened
+  asked : (state_of new).asked ≡ (state_of old).asked
+  settled : IsSettled new.history
+  commands : fed_commands 1 new.history ≡ fed_commands 1 old.history
+  direct : IsDirect old.history → IsDirect new.history
+  none_given_up : gave_up old.history ≡ false → gave_up new.history ≡ false
+
+-- an end is no command
+fed-end : (entries : List Entry) (actor : Actor) (ending : Ending) → fed_commands 1 (entries ++ end_entry actor ending ∷ []) ≡ fed_commands 1 entries
+unfolding entries_of
+fed-end entries actor ending =
+    fed-append entries (end_entry actor ending ∷ [])
+    ∙ ap (λ cs. fed_commands 1 entries ++ cs) (none (is_actor actor (Feed 1)))
+    ∙ append-nil (fed_commands 1 entries)
+  where
+    none : (b : Bool) → filter_map (λ (e : Entry). command_of e.event) (cond b (end_entry actor ending ∷ []) []) ≡ []
+    none true = refl
+    none false = refl
+
+ends-so : (old new : Recorded) (ending desk_ending : Ending) → IsSession old → new.start ≡ old.start
+    → new.history ≡ old.history ++ end_entry (Feed 1) ending ∷ end_entry (Desk 1) desk_ending ∷ [] → EndsSo old new ending desk_ending
+ends-so old new ending desk_ending session start history =
+    let first : Entry = end_entry (Feed 1) ending in
+    let last : Entry = end_entry (Desk 1) desk_ending in
+    let middle : Recorded = record old { history = old.history ++ first ∷ [] } in
+    let grows : new.history ≡ middle.history ++ last ∷ [] = history ∙ sym (append_assoc old.history (first ∷ []) (last ∷ [])) in
+    let to_middle = state-push old middle first refl refl in
+    let to_new = state-push middle new last start grows in
+    record {
+      ended = ap (λ (t : State). t.ended) to_new ∙ ap (λ (t : State). t.ended ++ (Desk 1, desk_ending) ∷ []) to_middle
+          ∙ ap (λ es. (es ++ (Feed 1, ending) ∷ []) ++ (Desk 1, desk_ending) ∷ []) session.none_ended;
+      batches = ap (λ (t : State). t.batches) to_new ∙ ap (λ (t : State). t.batches) to_middle ∙ session.none_open;
+      opened = ap (λ (t : State). t.opened) to_new ∙ ap (λ (t : State). t.opened) to_middle;
+      asked = ap (λ (t : State). t.asked) to_new ∙ ap (λ (t : State). t.asked) to_middle;
+      settled = settled-push middle.history new.history last grows (settled-push old.history middle.history first refl session.settled refl) refl;
+      commands = ap (fed_commands 1) grows ∙ fed-end middle.history (Desk 1) desk_ending ∙ fed-end old.history (Feed 1) ending;
+      direct = λ direct. awaited-push middle.history new.history last grows
+          ∙ ap (λ o. option_and_then (λ a. awaited_after a last.actor last.event) o)
+          (awaited-push old.history middle.history first refl ∙ ap (λ o. option_and_then (λ a. awaited_after a first.actor first.event) o) direct);
+      none_given_up = λ none. gave_up-push middle.history new.history last grows refl (gave_up-push old.history middle.history first refl refl none);
+    }
+
+-- the commands within the limits are the first
+first-ended : (log : ℕ) (bytes : List ℕ) → AreFirst (ended_commands log bytes) (commands_of log bytes)
+first-ended log bytes =
+    let front : List ℕ = take 67108864 bytes in
+    let within : AreFirst (commands_from log 1 (take 1000000 (ended_lines front))) (commands_from log 1 (ended_lines front))
+    = subst (λ (ls : List (List ℕ)). AreFirst (commands_from log 1 (take 1000000 (ended_lines front))) (commands_from log 1 ls))
+    (take-append-drop 1000000 (ended_lines front))
+    (first-lines log 1 (take 1000000 (ended_lines front)) (drop 1000000 (ended_lines front))) in
+    let all : ended_lines front ++ ended_after (rest_of front) (drop 67108864 bytes) ≡ ended_lines bytes
+    = sym (ended_lines-append front (drop 67108864 bytes)) ∙ ap ended_lines (take-append-drop 67108864 bytes) in
+    let lines : ended_lines front ++ (ended_after (rest_of front) (drop 67108864 bytes) ++ last_line (rest_of bytes))
+    ≡ ended_lines bytes ++ last_line (rest_of bytes)
+    = sym (append_assoc (ended_lines front) (ended_after (rest_of front) (drop 67108864 bytes)) (last_line (rest_of bytes)))
+    ∙ ap (λ ls. ls ++ last_line (rest_of bytes)) all in
+    first-then (ended_commands log bytes) (commands_from log 1 (ended_lines front)) (commands_of log bytes) within
+    (subst (λ (ls : List (List ℕ)). AreFirst (commands_from log 1 (ended_lines front)) (commands_from log 1 ls)) lines
+    (first-lines log 1 (ended_lines front) (ended_after (rest_of front) (drop 67108864 bytes) ++ last_line (rest_of bytes))))
+
+-- the desk ends whole where all was opened
+whole-desk : (opened asked : ℕ) → opened ≡ asked → cond (eqb opened asked) Whole Cut ≡ Whole
+whole-desk opened asked is = ap (λ b. cond b Whole Cut) (eq-eqb opened asked is)
+
+-- what a feed gave, whether it was stopped or not
+abbrev pub Gave : Option Stop → Recorded → Bool → List ℕ → Type 0
+Gave stop board no_memory taken = MatchOption stop
+    (IsRunning board no_memory × IsWithinLimits taken × (fed_commands 1 board.history ≡ commands_of board.start.settings.log taken))
+    (λ why. IsEnded board.start.settings.log why board no_memory taken)
+
+module _ (start : State) (begins : IsStart start) (ran : Ran) (taken : List ℕ) (old new : Recorded) (no_memory : Bool)
+    (old_start : old.start ≡ start) (new_start : new.start ≡ old.start) (feeds : new.feeds ≡ old.feeds) (desks : new.desks ≡ old.desks)
+    (legal : IsLegal new.feeds new.desks new.start new.history) (wanting : ran.no_memory ≡ no_memory) where
+  legal_one : IsSession old → IsLegal 1 1 start new.history
+  legal_one session =
+      subst (λ n. IsLegal n 1 start new.history) (feeds ∙ session.feeds_are)
+      (subst (λ n. IsLegal new.feeds n start new.history) (desks ∙ session.desks_are)
+      (subst (λ (s : State). IsLegal new.feeds new.desks s new.history) (new_start ∙ old_start) legal))
+
+  -- a replay that was cut
+  cut-replay : (ending : Ending) → ending ≡ Cut → IsRunning old no_memory
+      → new.history ≡ old.history ++ end_entry (Feed 1) ending ∷ end_entry (Desk 1) (cond (eqb (state_of old).opened (state_of old).asked) Whole Cut) ∷ []
+      → (IsReadWhole ran → ⊥) → (ran.too_long ≡ true → IsTooLong taken)
+      → fed_commands 1 old.history ≡ ended_commands old.start.settings.log taken → IsReplay start ran taken new.history
+  cut-replay ending is_cut running history not_whole too_long fed =
+      let ends = ends-so old new ending (cond (eqb (state_of old).opened (state_of old).asked) Whole Cut) running.session new_start history in
+      let lawful = legal_one running.session in
+      let commands : fed_commands 1 new.history ≡ ended_commands start.settings.log taken
+      = ends.commands ∙ fed ∙ ap (λ (s : State). ended_commands s.settings.log taken) old_start in
+      record {
+        legal = lawful;
+        promises = keeps_promises 1 1 start new.history begins lawful;
+        settled = ends.settled;
+        first = subst (λ (cs : List Command). AreFirst cs (commands_of start.settings.log taken)) (sym commands) (first-ended start.settings.log taken);
+        whole = λ _ whole. absurd (not_whole whole);
+        cut = λ memory _. record {
+          commands = commands;
+          direct = ends.direct (running.prompt (sym wanting ∙ memory)).direct;
+          none_given_up = ends.none_given_up (running.prompt (sym wanting ∙ memory)).none_given_up;
+          ended = ap (λ (s : State). (replay s new.history).ended) (sym (new_start ∙ old_start)) ∙ ends.ended
+              ∙ ap (λ e. (Feed 1, e) ∷ (Desk 1, cond (eqb (state_of old).opened (state_of old).asked) Whole Cut) ∷ []) is_cut
+              ∙ ap (λ e. (Feed 1, Cut) ∷ (Desk 1, e) ∷ []) (whole-desk (state_of old).opened (state_of old).asked running.all_opened);
+        };
+        too_long = too_long;
+      }
+
+  -- a replay to the end of the feed
+  whole-replay : (ending : Ending) → ending ≡ Whole → IsRunning old no_memory
+      → new.history ≡ old.history ++ end_entry (Feed 1) ending ∷ end_entry (Desk 1) (cond (eqb (state_of old).opened (state_of old).asked) Whole Cut) ∷ []
+      → IsReadWhole ran → IsWithinLimits taken
+      → fed_commands 1 old.history ≡ commands_of old.start.settings.log taken → IsReplay start ran taken new.history
+  whole-replay ending is_whole_end running history read within fed =
+      let ends = ends-so old new ending (cond (eqb (state_of old).opened (state_of old).asked) Whole Cut) running.session new_start history in
+      let lawful = legal_one running.session in
+      let commands : fed_commands 1 new.history ≡ commands_of start.settings.log taken
+      = ends.commands ∙ fed ∙ ap (λ (s : State). commands_of s.settings.log taken) old_start in
+      let at : replay start new.history ≡ state_of new = ap (λ (s : State). replay s new.history) (sym (new_start ∙ old_start)) in
+      let ended : (replay start new.history).ended ≡ (Feed 1, Whole) ∷ (Desk 1, Whole) ∷ []
+      = ap (λ (s : State). s.ended) at ∙ ends.ended
+      ∙ ap (λ e. (Feed 1, e) ∷ (Desk 1, cond (eqb (state_of old).opened (state_of old).asked) Whole Cut) ∷ []) is_whole_end
+      ∙ ap (λ e. (Feed 1, Whole) ∷ (Desk 1, e) ∷ []) (whole-desk (state_of old).opened (state_of old).asked running.all_opened) in
+      record {
+        legal = lawful;
+        promises = keeps_promises 1 1 start new.history begins lawful;
+        settled = ends.settled;
+        first = ([], sym commands ∙ sym (append-nil (fed_commands 1 new.history)));
+        whole = λ memory _. record {
+          within = within;
+          commands = commands;
+          finished = record {
+            feeds_whole = (λ i. list_all (λ feed. list_any (λ (end : Actor × Ending). is_actor end.0 (Feed feed) && is_whole end.1) (ended i)) (range_with_len 1 1));
+            desks_whole = (λ i. list_all (λ desk. list_any (λ (end : Actor × Ending). is_actor end.0 (Desk desk) && is_whole end.1) (ended i)) (range_with_len 1 1));
+            all_opened = ap (λ (s : State). s.opened) at ∙ ends.opened ∙ running.all_opened ∙ sym (ap (λ (s : State). s.asked) at ∙ ends.asked);
+            none_open = ap (λ (s : State). s.batches) at ∙ ends.batches;
+            none_given_up = ends.none_given_up (running.prompt (sym wanting ∙ memory)).none_given_up;
+          };
+          direct = ends.direct (running.prompt (sym wanting ∙ memory)).direct;
+        };
+        cut = λ _ not_whole. absurd (not_whole read);
+        too_long = λ is. absurd (cc (is, read.1));
+      }
+
+  -- a replay that was stopped by want of memory
+  stopped-replay : (ending : Ending) → no_memory ≡ true → IsSession old
+      → new.history ≡ old.history ++ end_entry (Feed 1) ending ∷ end_entry (Desk 1) (cond (eqb (state_of old).opened (state_of old).asked) Whole Cut) ∷ []
+      → (ran.too_long ≡ true → IsTooLong taken)
+      → AreFirst (fed_commands 1 old.history) (commands_of old.start.settings.log taken) → IsReplay start ran taken new.history
+  stopped-replay ending none session history too_long first =
+      let ends = ends-so old new ending (cond (eqb (state_of old).opened (state_of old).asked) Whole Cut) session new_start history in
+      let lawful = legal_one session in
+      record {
+        legal = lawful;
+        promises = keeps_promises 1 1 start new.history begins lawful;
+        settled = ends.settled;
+        first = subst (λ (cs : List Command). AreFirst cs (commands_of start.settings.log taken)) (sym ends.commands)
+            (subst (λ (s : State). AreFirst (fed_commands 1 old.history) (commands_of s.settings.log taken)) old_start first);
+        whole = λ memory _. absurd (cc (memory, wanting, none));
+        cut = λ memory _. absurd (cc (memory, wanting, none));
+        too_long = too_long;
+      }
+
+  -- each replay
+  pub is-replay : (stop : Option Stop) → ran.source_failed ≡ is_source_failed stop → ran.too_long ≡ is_too_long stop
+      → new.history ≡ old.history ++ end_entry (Feed 1) (ending_of stop) ∷ end_entry (Desk 1) (cond (eqb (state_of old).opened (state_of old).asked) Whole Cut) ∷ []
+      → Gave stop old no_memory taken → IsReplay start ran taken new.history
+  is-replay None source long history (running, within, fed) = whole-replay Whole refl running history (source, long) within fed
+  is-replay (Some NoMemory) source long history (session, none, first) =
+      stopped-replay Cut none session history (λ is. absurd (cc (is, long))) first
+  is-replay (Some TooLong) source long history (running, many, fed) =
+      cut-replay Cut refl running history (λ whole. absurd (cc (whole.1, long))) (λ _. many) fed
+  is-replay (Some SourceFailed) source long history (running, fed) =
+      cut-replay Cut refl running history (λ whole. absurd (cc (whole.0, source))) (λ is. absurd (cc (is, long))) fed
+
+-- a replay for which there was no memory
+pub no-replay : (start : State) (ran : Ran) → IsStart start → ran.no_memory ≡ true → ran.too_long ≡ false → IsReplay start ran [] []
+unfolding IsLegal entries_of
+no-replay start ran begins none long =
+    record {
+      legal = tt;
+      promises = keeps_promises 1 1 start [] begins tt;
+      settled = refl;
+      first = (commands_of start.settings.log [], refl);
+      whole = λ memory _. absurd (cc (memory, none));
+      cut = λ memory _. absurd (cc (memory, none));
+      too_long = λ is. absurd (cc (is, long));
+    }
+
+-- a log at its end
+pub is-logged : (ran : Ran) (before after : Option (List ℕ)) (faults n : ℕ) (log : LogState) (text : List ℕ) → ran.sink_failed ≡ log.failed
+    → (log.failed ≡ false → log.page ≡ []) → HasLogged before after faults n log text → IsLogged ran before after text
+is-logged ran before after faults n log text failed nothing_left has = record {
+  whole = λ stands.
+      let still : log.failed ≡ false = sym failed ∙ stands in
+      let (done, written, is) = rw still at has.bytes in
+      inl (subst (Writes before after) (sym (is ∙ ap (λ p. done ++ p) (nothing_left still) ∙ append-nil done)) written);
+  prefix = λ fell. let gone : log.failed ≡ true = sym failed ∙ fell in rw gone at has.bytes;
+}

@@ -1,0 +1,103 @@
+use Rattle.std.proofs.Common.{◌≡◌, ℕ, List, [], ◌∷◌, ◌++◌, Option, Bool, cond, eqb, inr, refl, ap, sym, subst, ◌∙◌}
+use Rattle.std.specs.Prelude.{MatchOption}
+use Rattle.ride_model.specs.declared.command.Actor.TheVariants.{Feed, Desk}
+use Rattle.ride_model.specs.declared.entry.Ending.{Ending}
+use Rattle.ride_model.specs.declared.entry.Ending.TheVariants.{Whole, Cut}
+use Rattle.ride_model.specs.declared.entry.Entry.{Entry}
+use Rattle.ride_model.specs.History.{entries_of, fed_commands}
+use Rattle.ride_model.specs.State.{State, start_state}
+use Rattle.ride_model.specs.Text.{text_of}
+use Rattle.ride_ports.specs.declared.outcome.Ran.{Ran}
+use Rattle.command_lines.specs.Commands.{commands_of}
+use Rattle.history_laws.specs.Start.{IsStart}
+use Rattle.board_core.specs.Recorded.{Recorded, state_of, end_entry}
+use Rattle.session_run.specs.declared.lines.Stop.{Stop}
+use Rattle.session_run.specs.Limits.{IsWithinLimits}
+use Rattle.session_run.specs.Page.{SessionState, HasLogged}
+use Rattle.session_run.specs.Reading.{HasRead, IsEnded, ending_of}
+use Rattle.session_run.specs.Running.{IsRunning}
+use Rattle.ride_ports.proofs.ByteLemmas.{Reads-none}
+use Rattle.session_run.proofs.Replays.{Gave, is-start, is-replay, no-replay, is-logged}
+use Rattle.session_run.proofs.Begun.{rose-where-failed, same-where-sound}
+use Rattle.session_run.proofs.replaying.replay.Goals as goal
+
+pub returns-in_default-clause-log : goal.returns-in_default-clause-log
+returns-in_default-clause-log g c = (
+  [],
+  [],
+  Reads-none (g.S.Source.left c.args.feed.now),
+  no-replay _ _ (is-start c.args.roads.now c.args.settings c.args.fleet c.nodes-nodes.ensures.fits c.requires.settings
+      c.vehicles-vehicles.ensures.is_fleet c.requires.lawful c.requires.idle c.requires.first_versions) refl refl,
+  record { whole = λ _. inr (refl, refl); prefix = λ fell. absurd (cc fell) },
+)
+
+pub returns-clause-log : goal.returns-clause-log
+returns-clause-log g c =
+    let (taken, reads, gave) = c.run_feed-stop.ensures.ran in
+    let start : State = start_state c.args.roads.now c.args.settings c.args.fleet in
+    let begins : IsStart start = is-start c.args.roads.now c.args.settings c.args.fleet c.nodes-nodes.ensures.fits c.requires.settings
+    c.vehicles-vehicles.ensures.is_fleet c.requires.lawful c.requires.idle c.requires.first_versions in
+    let ran : Ran = record {
+      sink_failed = c.sink_failed.result;
+      no_memory = c.no_memory.result;
+      source_failed = c.is_source_failed.result;
+      too_long = c.is_too_long.result;
+    } in
+    let stop : Option Stop = c.run_feed-stop.result in
+    let old : Recorded = c.run_feed-stop.new.session.board in
+    let no_memory : Bool = c.run_feed-stop.new.session.no_memory in
+    let new : Recorded = c.end.new.self.board in
+    let before : c.begin.new.self.board.start ≡ start = ap (λ (s : SessionState). s.board.start) c.begin.ensures.others ∙ c.in-Ok.ensures.start in
+    let old_start : old.start ≡ start = c.run_feed-stop.ensures.start ∙ before in
+    let log : c.begin.new.self.board.start.settings.log ≡ old.start.settings.log =
+    ap (λ (s : State). s.settings.log) (sym c.run_feed-stop.ensures.start) in
+    let given : Gave stop old no_memory taken =
+    subst (λ n. MatchOption stop
+    (IsRunning old no_memory × IsWithinLimits taken × (fed_commands 1 old.history ≡ commands_of n taken))
+    (λ why. IsEnded n why old no_memory taken)) log gave in
+    let history : new.history ≡ old.history ++ end_entry (Feed 1) (ending_of stop)
+    ∷ end_entry (Desk 1) (cond (eqb (state_of old).opened (state_of old).asked) Whole Cut) ∷ [] =
+    subst (λ (e : Ending). new.history ≡ old.history ++ end_entry (Feed 1) e
+    ∷ end_entry (Desk 1) (cond (eqb (state_of old).opened (state_of old).asked) Whole Cut) ∷ []) c.ending_of.ensures c.end.ensures.history in
+    let has = c.end.ensures.told (g.K.Sink.written c.args.out.now) (g.K.Sink.faults c.args.out.now)
+    (c.run_feed-stop.ensures.told (g.K.Sink.written c.args.out.now) (g.K.Sink.faults c.args.out.now) c.begin.ensures.told) in
+    let text : text_of new.start.settings.log 1 1 new.history ≡ text_of c.args.settings.log 1 1 new.history =
+    ap (λ (s : State). text_of s.settings.log 1 1 new.history) (c.end.ensures.start ∙ old_start) in (
+      taken,
+      new.history,
+      reads,
+      is-replay start begins ran taken old new no_memory old_start c.end.ensures.start c.end.ensures.feeds c.end.ensures.desks
+          c.entries-history.ensures.legal (c.no_memory.ensures ∙ c.end.ensures.no_memory) stop c.is_source_failed.ensures c.is_too_long.ensures
+          history given,
+      is-logged ran (g.K.Sink.written c.args.out.now) (g.K.Sink.written c.end.new.out) (g.K.Sink.faults c.args.out.now)
+          (g.K.Sink.faults c.end.new.out) c.end.new.self.log (text_of c.args.settings.log 1 1 new.history) c.sink_failed.ensures
+          c.end.ensures.nothing_left
+          (subst (λ (t : List ℕ). HasLogged (g.K.Sink.written c.args.out.now) (g.K.Sink.written c.end.new.out) (g.K.Sink.faults c.args.out.now)
+          (g.K.Sink.faults c.end.new.out) c.end.new.self.log t) text has),
+    )
+
+-- nothing is read before the feed is
+pub run_feed-stop-requires-clause-nothing_read : goal.run_feed-stop-requires-clause-nothing_read
+unfolding entries_of
+run_feed-stop-requires-clause-nothing_read g c lifetimes outlive =
+    let log = c.begin.new.self.board.start.settings.log in
+    let bare : c.begin.new.self.board.history ≡ [] = ap (λ (s : SessionState). s.board.history) c.begin.ensures.others ∙ c.in-Ok.ensures.history in
+    subst (λ (h : List Entry). HasRead log c.in-Ok.lines (fed_commands 1 h) []) (sym bare) (c.in-Ok.ensures.lines log)
+
+pub returns-clause-sink_fault : goal.returns-clause-sink_fault
+returns-clause-sink_fault g c fell =
+    let has = c.end.ensures.told (g.K.Sink.written c.args.out.now) (g.K.Sink.faults c.args.out.now)
+    (c.run_feed-stop.ensures.told (g.K.Sink.written c.args.out.now) (g.K.Sink.faults c.args.out.now) c.begin.ensures.told) in
+    rose-where-failed _ _ _ _ c.end.new.self.log _ has c.sink_failed.result c.sink_failed.ensures fell
+
+pub returns-clause-sink_counts_none : goal.returns-clause-sink_counts_none
+returns-clause-sink_counts_none g c stood =
+    let has = c.end.ensures.told (g.K.Sink.written c.args.out.now) (g.K.Sink.faults c.args.out.now)
+    (c.run_feed-stop.ensures.told (g.K.Sink.written c.args.out.now) (g.K.Sink.faults c.args.out.now) c.begin.ensures.told) in
+    same-where-sound _ _ _ _ c.end.new.self.log _ has c.sink_failed.result c.sink_failed.ensures stood
+
+pub returns-clause-sink_never_falls : goal.returns-clause-sink_never_falls
+returns-clause-sink_never_falls g c =
+    let has = c.end.ensures.told (g.K.Sink.written c.args.out.now) (g.K.Sink.faults c.args.out.now)
+    (c.run_feed-stop.ensures.told (g.K.Sink.written c.args.out.now) (g.K.Sink.faults c.args.out.now) c.begin.ensures.told) in
+    has.never_falls

@@ -1,0 +1,7 @@
+pub mod Settled
+pub mod Limits
+pub mod Replay
+pub mod Logged
+pub mod Page
+pub mod Running
+pub mod Reading

@@ -1,0 +1,43 @@
+-- What a replay of a feed gives.
+use Rattle.std.specs.Prelude.{◌≡◌, ℕ, true, false, List, [], ◌∷◌, IsFalse}
+use Rattle.std.specs.List.{list_any}
+use Rattle.ride_model.specs.declared.command.Actor.TheVariants.{Feed, Desk}
+use Rattle.ride_model.specs.declared.entry.Ending.TheVariants.{Whole, Cut}
+use Rattle.ride_model.specs.declared.entry.Entry.{Entry}
+use Rattle.ride_model.specs.History.{fed_commands, is_abandoned, IsDirect, IsFinished}
+use Rattle.ride_model.specs.Legal.{IsLegal, replay}
+use Rattle.ride_model.specs.Promises.{KeepsPromises}
+use Rattle.ride_model.specs.State.{State}
+use Rattle.ride_ports.specs.declared.outcome.Ran.{Ran}
+use Rattle.command_lines.specs.Commands.{commands_of}
+use Rattle.session_run.specs.Limits.{IsWithinLimits, IsTooLong, ended_commands, AreFirst}
+use Rattle.session_run.specs.Settled.{IsSettled}
+
+-- a feed within the limits was answered to its end, each accepted ask at once by a commit
+pub record IsWhole (start : State) (taken : List ℕ) (entries : List Entry) : Type 0 where
+  pub within : IsWithinLimits taken
+  pub commands : fed_commands 1 entries ≡ commands_of start.settings.log taken
+  pub finished : IsFinished 1 1 start entries
+  pub direct : IsDirect entries
+
+-- a feed was answered up to its last whole line within the limits, each accepted ask at once by a commit, and then cut
+pub record IsCut (start : State) (taken : List ℕ) (entries : List Entry) : Type 0 where
+  pub commands : fed_commands 1 entries ≡ ended_commands start.settings.log taken
+  pub direct : IsDirect entries
+  pub none_given_up : IsFalse (list_any (λ (entry : Entry). is_abandoned entry.event) entries)
+  pub ended : (replay start entries).ended ≡ (Feed 1, Cut) ∷ (Desk 1, Whole) ∷ []
+
+-- nothing kept the source from being read to its end
+abbrev pub IsReadWhole : Ran → Type 0
+IsReadWhole ran = (ran.source_failed ≡ false) × (ran.too_long ≡ false)
+
+-- a history of one feed and one desk answers the first commands of the bytes that were taken: all of them where nothing
+-- was wanting, those within the limits and before a fault where only the source was
+pub record IsReplay (start : State) (ran : Ran) (taken : List ℕ) (entries : List Entry) : Type 0 where
+  pub legal : IsLegal 1 1 start entries
+  pub promises : KeepsPromises start entries
+  pub settled : IsSettled entries
+  pub first : AreFirst (fed_commands 1 entries) (commands_of start.settings.log taken)
+  pub whole : ran.no_memory ≡ false → IsReadWhole ran → IsWhole start taken entries
+  pub cut : ran.no_memory ≡ false → (IsReadWhole ran → ⊥) → IsCut start taken entries
+  pub too_long : ran.too_long ≡ true → IsTooLong taken

@@ -1,0 +1,94 @@
+-- A board during a session.
+use Rattle.std.specs.Prelude.{◌≡◌, ◌+◌, ◌⊎◌, ◌++◌, Bool, true, false, List, [], ◌∷◌, All, IsFalse, Some}
+use Rattle.std.specs.List.{list_any}
+use Rattle.ride_model.specs.declared.command.Command.{Command}
+use Rattle.ride_model.specs.declared.entry.Entry.{Entry}
+use Rattle.ride_model.specs.declared.vehicle.Ride.{Ride}
+use Rattle.ride_model.specs.Batch.{was_cancelled}
+use Rattle.ride_model.specs.History.{fed_commands, is_abandoned, awaited_in, IsDirect}
+use Rattle.ride_model.specs.History.Awaited.{opening, commit}
+use Rattle.ride_model.specs.Seating.{BatchCopy}
+use Rattle.history_laws.specs.Consistent.{IsOpenBatch}
+use Rattle.board_core.specs.Recorded.{Recorded, state_of}
+use Rattle.session_run.specs.Settled.{IsSettled}
+
+-- whether a batch was given up
+abbrev pub gave_up : List Entry → Bool
+gave_up entries = list_any (λ (entry : Entry). is_abandoned entry.event) entries
+
+-- a board of one feed and one desk, which have not ended, with no open batch
+pub record IsSession (board : Recorded) : Type 0 where
+  pub feeds_are : board.feeds ≡ 1
+  pub desks_are : board.desks ≡ 1
+  pub none_ended : (state_of board).ended ≡ []
+  pub none_open : (state_of board).batches ≡ []
+  pub settled : IsSettled board.history
+
+-- each batch was opened and committed at once
+pub record IsPrompt (entries : List Entry) : Type 0 where
+  pub direct : IsDirect entries
+  pub none_given_up : IsFalse (gave_up entries)
+
+-- a board between two commands, where memory was wanting or not
+pub record IsRunning (board : Recorded) (no_memory : Bool) : Type 0 where
+  pub session : IsSession board
+  pub all_opened : (state_of board).opened ≡ (state_of board).asked
+  pub prompt : no_memory ≡ false → IsPrompt board.history
+
+-- a later board of the same start
+pub record GoesOn (old new : Recorded) : Type 0 where
+  pub start : new.start ≡ old.start
+  pub more : List Entry
+  pub grows : new.history ≡ old.history ++ more
+
+-- a board at which a batch is to be opened: one more was asked for than was opened
+pub record IsAsked (board : Recorded) : Type 0 where
+  pub session : IsSession board
+  pub one_more : (state_of board).asked ≡ (state_of board).opened + 1
+
+-- a board whose desk has just opened a batch, of the vehicles as they stand and of requests that were not cancelled
+pub record IsOpened (batch : BatchCopy) (board : Recorded) : Type 0 where
+  pub feeds_are : board.feeds ≡ 1
+  pub desks_are : board.desks ≡ 1
+  pub none_ended : (state_of board).ended ≡ []
+  pub one_open : (state_of board).batches ≡ batch ∷ []
+  pub all_opened : (state_of board).opened ≡ (state_of board).asked
+  pub settled : IsSettled board.history
+  pub desk_is : batch.desk ≡ 1
+  pub open_now : IsOpenBatch 1 (state_of board) batch
+  pub vehicles_stand : batch.vehicles ≡ (state_of board).vehicles
+  pub time_is : batch.time ≡ (state_of board).clock
+  pub not_cancelled : All (λ (ride : Ride). was_cancelled (state_of board) ride.id ≡ false) batch.requests
+
+-- a batch was opened and committed at once, or given up
+pub record RunsBatch (committed : Bool) (old new : Recorded) : Type 0 where
+  pub goes_on : GoesOn old new
+  pub session : IsSession new
+  pub all_opened : (state_of new).opened ≡ (state_of new).asked
+  pub commands : fed_commands 1 new.history ≡ fed_commands 1 old.history
+  pub direct : committed ≡ true → awaited_in old.history ≡ Some opening → IsDirect new.history
+  pub none_given_up : committed ≡ true → IsFalse (gave_up old.history) → IsFalse (gave_up new.history)
+
+-- an open batch was committed, or given up
+pub record Closes (committed : Bool) (old new : Recorded) : Type 0 where
+  pub goes_on : GoesOn old new
+  pub session : IsSession new
+  pub all_opened : (state_of new).opened ≡ (state_of new).asked
+  pub commands : fed_commands 1 new.history ≡ fed_commands 1 old.history
+  pub direct : committed ≡ true → awaited_in old.history ≡ Some commit → IsDirect new.history
+  pub none_given_up : committed ≡ true → IsFalse (gave_up old.history) → IsFalse (gave_up new.history)
+
+-- a command was answered, and no batch after it was given up
+pub record Answers (whole : Bool) (command : Command) (old new : Recorded) : Type 0 where
+  pub goes_on : GoesOn old new
+  pub session : IsSession new
+  pub all_opened : (state_of new).opened ≡ (state_of new).asked
+  pub commands : fed_commands 1 new.history ≡ fed_commands 1 old.history ++ command ∷ []
+  pub prompt : whole ≡ true → IsPrompt old.history → IsPrompt new.history
+
+-- memory was wanting for the answer, or for the batch after it
+pub record Stops (command : Command) (old new : Recorded) : Type 0 where
+  pub goes_on : GoesOn old new
+  pub session : IsSession new
+  pub commands : (fed_commands 1 new.history ≡ fed_commands 1 old.history)
+      ⊎ (fed_commands 1 new.history ≡ fed_commands 1 old.history ++ command ∷ [])

@@ -1,0 +1,35 @@
+//! The answer to one command.
+ghost use Rattle.std.specs.Prelude.{◌≡◌, ◌<◌, length, IfOk, OnErr};
+ghost use Rattle.ride_model.specs.History.{fed_commands};
+ghost use Rattle.ride_model.specs.Text.{IsSpelledCommand};
+ghost use Rattle.board_core.specs.Recorded.{state_of};
+ghost use Rattle.session_run.specs.Running.{Answers, IsSession, Stops};
+
+use crate::batches::run_batch;
+use crate::tools::Tools;
+use board_core::Board;
+use ride_model::{Command, NoMemory, Reply};
+use std::thread::Threads;
+
+/// Answers a command, and runs a batch after an accepted ask; answers whether no batch was given up.
+pub(crate) fn answer<R: Threads + Sync>(
+    board: &mut Board<'_>,
+    tools: &mut Tools<'_>,
+    rt: &R,
+    command: &Command,
+) -> Result<bool, NoMemory>
+    requires session { IsSession board.old }
+    requires all_opened { (state_of board.old).opened ≡ (state_of board.old).asked }
+    requires roads { tools.old ≡ board.old.start.roads }
+    requires few { length (fed_commands 1 board.old.history) < 1000000000 }
+    requires spelled { IsSpelledCommand board.old.start.settings.log command.now }
+    ensures answered { IfOk result (λ whole. Answers whole command.now board.old board.new) }
+    ensures stopped { OnErr result (Stops command.now board.old board.new) }
+    ensures tools { tools.new ≡ tools.old }
+{
+    let reply = board.apply(1, command)?;
+    if matches!(reply, Reply::Asked { .. }) {
+        return run_batch(board, tools, rt);
+    }
+    Ok(true)
+}

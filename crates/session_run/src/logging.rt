@@ -1,0 +1,93 @@
+//! The log of a session.
+ghost use Rattle.std.specs.Prelude.{◌≡◌, ℕ, ◌≤◌, ◌++◌, [], false, All, IfOk, List, Option};
+ghost use Rattle.ride_model.specs.Text.{HasLine, IsOneOrTwo, entry_line, entry_lines, head_line};
+ghost use Rattle.session_run.specs.Page.{HasLogged};
+
+use crate::page::Page;
+use ride_model::{Entry, NoMemory};
+use ride_ports::Sink;
+use std::alloc::Global;
+use std::marker::Model;
+use trip_log::{print_entry, print_head};
+
+/// A log on its way to a sink. After a failure of the sink nothing more is written.
+#[derive(Drop)]
+pub(crate) struct Logger {
+    page: Page,
+    failed: bool,
+}
+
+impl Model for Logger {
+    ghost use Rattle.session_run.specs.Page.{LogState};
+
+    ghost Value = { LogState };
+
+    ghost view = { λ l. record { page = l.page.text; failed = l.failed } };
+}
+
+impl Logger {
+    pub(crate) fn new(alloc: Global) -> Result<Logger, NoMemory>
+        ensures { IfOk result (λ log. log ≡ record { page = []; failed = false }) }
+    {
+        Ok(Logger {
+            page: Page::new(alloc)?,
+            failed: false,
+        })
+    }
+
+    /// Whether the sink failed.
+    pub(crate) fn failed(&self) -> bool
+        ensures { result ≡ self.now.failed }
+    {
+        self.failed
+    }
+
+    /// Writes the head.
+    pub(crate) fn put_head<K: Sink>(&mut self, out: &mut K, log: u8)
+        requires log { IsOneOrTwo log }
+        requires fresh { self.old ≡ record { page = []; failed = false } }
+        ensures { HasLogged (K.written out.old) (K.written out.new) (K.faults out.old) (K.faults out.new) self.new
+            (head_line log 1 1) }
+    {
+        self.failed = print_head(log, 1, 1, out).is_err();
+    }
+
+    /// Adds the lines of entries.
+    pub(crate) fn put_all<K: Sink>(&mut self, out: &mut K, entries: &[Entry], log: u8)
+        requires log { IsOneOrTwo log }
+        requires have_lines { All (HasLine log) entries.now }
+        ensures { (before : Option (List ℕ)) (faults : ℕ) (text : List ℕ)
+            → HasLogged before (K.written out.old) faults (K.faults out.old) self.old text
+            → HasLogged before (K.written out.new) faults (K.faults out.new) self.new (text ++ entry_lines log entries.now) }
+    {
+        for entry in entries {
+            self.put(out, entry, log);
+        }
+    }
+
+    /// Writes what is left on the page.
+    pub(crate) fn end<K: Sink>(&mut self, out: &mut K)
+        ensures logged { (before : Option (List ℕ)) (faults : ℕ) (text : List ℕ)
+            → HasLogged before (K.written out.old) faults (K.faults out.old) self.old text
+            → HasLogged before (K.written out.new) faults (K.faults out.new) self.new text }
+        ensures nothing_left { self.new.failed ≡ false → self.new.page ≡ [] }
+    {
+        if !self.failed {
+            self.failed = self.page.write_to(out).is_err();
+        }
+    }
+
+    /// Adds the line of an entry.
+    fn put<K: Sink>(&mut self, out: &mut K, entry: &Entry, log: u8)
+        requires log { IsOneOrTwo log }
+        requires has_line { HasLine log entry.now }
+        ensures { (before : Option (List ℕ)) (faults : ℕ) (text : List ℕ)
+            → HasLogged before (K.written out.old) faults (K.faults out.old) self.old text
+            → HasLogged before (K.written out.new) faults (K.faults out.new) self.new (text ++ entry_line log entry.now) }
+    {
+        if self.failed || self.page.add(entry, log) {
+            return;
+        }
+        self.failed = self.page.write_to(out).is_err() || print_entry(entry, log, out).is_err();
+    }
+}

@@ -1,0 +1,157 @@
+//! Replays.
+ghost use Rattle.std.specs.Prelude.{◌≡◌, ◌≢◌, ℕ, ◌≤◌, [], false, All, List, Option, Some, IfOk, IfSome, IsNone, IsTrue, MatchOption};
+ghost use Rattle.ride_model.specs.declared.entry.Entry.{Entry};
+ghost use Rattle.ride_model.specs.declared.vehicle.Vehicle.{Vehicle};
+ghost use Rattle.ride_model.specs.History.{fed_commands};
+ghost use Rattle.ride_model.specs.Settings.{IsSettings};
+ghost use Rattle.ride_model.specs.State.{start_state};
+ghost use Rattle.ride_model.specs.Text.{text_of};
+ghost use Rattle.ride_model.specs.Vehicle.{IsLawful};
+ghost use Rattle.ride_ports.specs.Bytes.{Reads};
+ghost use Rattle.ride_ports.specs.Count.{Rose};
+ghost use Rattle.command_lines.specs.Commands.{commands_of};
+ghost use Rattle.session_run.specs.declared.lines.Stop.TheVariants.{SourceFailed};
+ghost use Rattle.session_run.specs.Limits.{IsWithinLimits};
+ghost use Rattle.session_run.specs.Logged.{IsLogged};
+ghost use Rattle.session_run.specs.Reading.{HasRead, IsEnded, IsTold, ending_of, is_source_failed, is_too_long};
+ghost use Rattle.session_run.specs.Replay.{IsReadWhole, IsReplay};
+ghost use Rattle.session_run.specs.Running.{IsRunning};
+
+use crate::lines::{FeedLines, Stop};
+use crate::reading::read_feed;
+use crate::session::Session;
+use ride_model::{Ending, Fleet, NoMemory, Settings};
+use ride_ports::{Ran, Sink, Source};
+use road_times::Roads;
+use std::alloc::Global;
+use std::thread::Threads;
+
+/// Replays a feed over a fleet, and writes its trip log: after each accepted ask a batch is opened, priced, seated and
+/// committed at once.
+pub fn replay<R: Threads + Sync, S: Source, K: Sink>(
+    rt: &R,
+    alloc: Global,
+    roads: &Roads,
+    settings: Settings,
+    fleet: Fleet,
+    feed: &mut S,
+    out: &mut K,
+) -> Ran
+    requires settings { IsSettings settings }
+    requires lawful { All (IsLawful roads.now) fleet }
+    requires idle { All (λ (v : Vehicle). v.stops.items ≡ []) fleet }
+    requires first_versions { All (λ (v : Vehicle). v.version ≡ 0) fleet }
+
+    // The log is the text of a history that answers the feed.
+    ensures log { (taken : List ℕ) × (entries : List Entry) × Reads (S.left feed.old) (S.left feed.new) taken
+        × IsReplay (start_state roads.now settings fleet) result taken entries
+        × IsLogged result (K.written out.old) (K.written out.new) (text_of settings.log 1 1 entries) }
+    ensures to_end { result.no_memory ≡ false → IsReadWhole result → IfSome (S.left feed.new) (λ bytes. bytes ≡ []) }
+    ensures source_fault { IsTrue result.source_failed → Rose (S.faults feed.old) (S.faults feed.new) }
+    ensures source_counts_none { result.source_failed ≡ false → S.faults feed.new ≡ S.faults feed.old }
+    ensures source_never_falls { S.faults feed.old ≤ S.faults feed.new }
+    ensures sink_fault { IsTrue result.sink_failed → Rose (K.faults out.old) (K.faults out.new) }
+    ensures sink_counts_none { result.sink_failed ≡ false → K.faults out.new ≡ K.faults out.old }
+    ensures sink_never_falls { K.faults out.old ≤ K.faults out.new }
+{
+    // These calls tell that the map and the fleet are within their limits.
+    let _nodes = roads.nodes();
+    let _vehicles = fleet.vehicles();
+    let Ok((mut session, mut lines)) = begun(alloc, roads, settings, fleet) else {
+        return Ran {
+            sink_failed: false,
+            no_memory: true,
+            source_failed: false,
+            too_long: false,
+        };
+    };
+    session.begin(out);
+    let stop = run_feed(&mut session, &mut lines, rt, feed, out);
+    session.end(out, ending_of(stop));
+    // This call tells that the history is legal.
+    let _history = session.entries();
+    Ran {
+        sink_failed: session.sink_failed(),
+        no_memory: session.no_memory(),
+        source_failed: is_source_failed(stop),
+        too_long: is_too_long(stop),
+    }
+}
+
+// How a feed ends that was stopped, or was not.
+fn ending_of(stop: Option<Stop>) -> Ending
+    ensures { result ≡ ending_of stop }
+{
+    match stop {
+        Some(_) => Ending::Cut,
+        None => Ending::Whole,
+    }
+}
+
+// Whether a feed was stopped by its source.
+fn is_source_failed(stop: Option<Stop>) -> bool
+    ensures { result ≡ is_source_failed stop }
+{
+    matches!(stop, Some(Stop::SourceFailed))
+}
+
+// Whether a feed was stopped by its length.
+fn is_too_long(stop: Option<Stop>) -> bool
+    ensures { result ≡ is_too_long stop }
+{
+    matches!(stop, Some(Stop::TooLong))
+}
+
+// A session at its start, and the lines of its feed.
+fn begun<'r>(
+    alloc: Global,
+    roads: &'r Roads,
+    settings: Settings,
+    fleet: Fleet,
+) -> Result<(Session<'r>, FeedLines), NoMemory>
+    requires settings { IsSettings settings }
+    requires lawful { All (IsLawful roads.now) fleet }
+    requires idle { All (λ (v : Vehicle). v.stops.items ≡ []) fleet }
+    requires first_versions { All (λ (v : Vehicle). v.version ≡ 0) fleet }
+    ensures start { IfOk result (λ made. made.0.board.start ≡ start_state roads.now settings fleet) }
+    ensures history { IfOk result (λ made. made.0.board.history ≡ []) }
+    ensures running { IfOk result (λ made. IsRunning made.0.board made.0.no_memory) }
+    ensures log { IfOk result (λ made. made.0.log ≡ record { page = []; failed = false }) }
+    ensures lines { IfOk result (λ made. (log : ℕ) → HasRead log made.1 [] []) }
+{
+    let session = Session::new(alloc, roads, settings, fleet)?;
+    let lines = FeedLines::new(alloc)?;
+    Ok((session, lines))
+}
+
+// Answers a feed to its end, or until something stops it.
+fn run_feed<R: Threads + Sync, S: Source, K: Sink>(
+    session: &mut Session<'_>,
+    lines: &mut FeedLines,
+    rt: &R,
+    feed: &mut S,
+    out: &mut K,
+) -> Option<Stop>
+    requires running { IsRunning session.old.board session.old.no_memory }
+    requires nothing_read { HasRead session.old.board.start.settings.log lines.old (fed_commands 1 session.old.board.history) [] }
+    ensures ran { (taken : List ℕ) × Reads (S.left feed.old) (S.left feed.new) taken × MatchOption result
+        (IsRunning session.new.board session.new.no_memory × IsWithinLimits taken
+        × (fed_commands 1 session.new.board.history ≡ commands_of session.old.board.start.settings.log taken))
+        (λ stop. IsEnded session.old.board.start.settings.log stop session.new.board session.new.no_memory taken) }
+    ensures to_end { IsNone result → IfSome (S.left feed.new) (λ bytes. bytes ≡ []) }
+    ensures fault { result ≡ Some SourceFailed → Rose (S.faults feed.old) (S.faults feed.new) }
+    ensures other_counts_none { result ≢ Some SourceFailed → S.faults feed.new ≡ S.faults feed.old }
+    ensures count_never_falls { S.faults feed.old ≤ S.faults feed.new }
+    ensures start { session.new.board.start ≡ session.old.board.start }
+    ensures told { (earlier : Option (List ℕ)) (faults : ℕ)
+        → IsTold earlier (K.written out.old) faults (K.faults out.old) session.old.log session.old.board
+        → IsTold earlier (K.written out.new) faults (K.faults out.new) session.new.log session.new.board }
+{
+    if let Err(stop) = read_feed(lines, session, rt, feed, out) {
+        return Some(stop);
+    }
+    match lines.end(session, rt, out) {
+        Ok(()) => None,
+        Err(_) => Some(Stop::NoMemory),
+    }
+}
