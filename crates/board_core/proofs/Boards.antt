@@ -92,6 +92,7 @@ board-in_order setup service kept capacity board is =
       few_asked = subst (λ (t : State). t.asked ≤ 2000) same c.few_asked;
       fleet_fits = fleet-same service.vehicles.items board.start.vehicles (ap vehicle_ids (sym vehicles_are) ∙ c.fleet_stays)
           is.recorded.start_fits.fleet_fits;
+      ids_are = is.ids_are ∙ sym c.fleet_stays ∙ ap vehicle_ids vehicles_are;
       lawful = subst (λ (t : State). All (IsLawful t.roads) t.vehicles) same c.lawful;
       versions_fit = subst (λ vs. All HasRoomAbove vs) vehicles_are
           (All-weaker (λ (v : Vehicle). v.version + length s.batches ≤ fed_total board.history + s.opened) HasRoomAbove
@@ -157,6 +158,7 @@ board-fed setup service after kept capacity room board feed command reply spare 
     let stepped_here : step s command ≡ answered_at setup after s reply
     = ap (λ t. step t command) is.mirrors.state_is ∙ stepped in
     record {
+      ids_are = is.ids_are;
       recorded = recorded-push board entry spare is.recorded (numbered, lives, sym (ap (λ (a : Answered). a.reply) stepped_here))
           (within-push board.start.settings.log board.history entry is.recorded.fed_within spelled
           (few-of_feed board.history feed command reply is.recorded.fed_within.few few));
@@ -179,11 +181,12 @@ pub board-new : (roads : RoadMap) (settings : Settings) (fleet : List Vehicle) (
     → IsRoadMap roads → IsSettings settings → IsFleet fleet → All (IsLawful roads) fleet → All (λ (v : Vehicle). v.stops.items ≡ []) fleet
     → All (λ (v : Vehicle). v.version ≡ 0) fleet → IsOneOrTwo feeds → IsOneOrTwo desks
     → service.clock ≡ 0 → service.vehicles.items ≡ fleet → service.requests ≡ [] → service.asked ≡ 0 → 4 ≤ capacity
-    → IsBoard (record { roads = roads; settings = settings }) service none_yet capacity
+    → IsBoard (record { roads = roads; settings = settings; ids = vehicle_ids fleet }) service none_yet capacity
     (record { start = start_state roads settings fleet; feeds = feeds; desks = desks; history = []; spare = 0 })
 unfolding replay IsLegal entries_of
 board-new roads settings fleet feeds desks service capacity map_fits settings_fit fleet_fits lawful idle versions feeds_fit desks_fit
     clock vehicles requests asked room = record {
+      ids_are = refl;
       recorded = record {
         start_fits = record {
           map_fits = map_fits;

@@ -139,6 +139,7 @@ board-closed setup service after kept given_up capacity room board batch entry i
     let c = board-consistent setup service kept capacity board is in
     let facts = open-facts setup service kept capacity board batch is open_is in
     record {
+      ids_are = is.ids_are;
       recorded = recorded-push board entry board.spare is.recorded legal
           (within-push board.start.settings.log board.history entry is.recorded.fed_within spelled
           (λ feed. omega (arith, none-of_others entry not_fed feed, is.recorded.fed_within.few feed)));

@@ -155,6 +155,7 @@ board-ended setup service kept capacity room board actor ending is legal rises =
     let after_end : state_of (pushed board entry board.spare) ≡ with_end s actor ending
     = replay-push board.start board.history entry ∙ by_actor s actor in
     record {
+      ids_are = is.ids_are;
       recorded = recorded-push board entry board.spare is.recorded legal
           (within-push board.start.settings.log board.history entry is.recorded.fed_within tt
           (λ feed. omega (arith, none-of_others entry refl feed, is.recorded.fed_within.few feed)));

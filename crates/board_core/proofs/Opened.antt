@@ -134,6 +134,7 @@ board-opened setup service after kept capacity room board desk batch is numbered
 
     made : IsBoard setup after (with_opened desk kept) room (pushed board entry board.spare)
     made = record {
+      ids_are = is.ids_are;
       recorded = recorded-push board entry board.spare is.recorded legal
           (within-push board.start.settings.log board.history entry is.recorded.fed_within tt
           (λ feed. omega (arith, none-of_others entry refl feed, is.recorded.fed_within.few feed)));

@@ -6,7 +6,7 @@ use Rattle.ride_model.specs.declared.command.Actor.TheVariants.{Feed, Desk}
 use Rattle.ride_model.specs.declared.entry.Ending.{Ending}
 use Rattle.ride_model.specs.declared.entry.Entry.{Entry}
 use Rattle.ride_model.specs.History.{ended_whole, is_abandoned, is_whole}
-use Rattle.ride_model.specs.Seating.{BatchCopy}
+use Rattle.ride_model.specs.Seating.{BatchCopy, vehicle_ids}
 use Rattle.ride_model.specs.State.{State, has_ended, open_batch_of}
 use Rattle.board_core.specs.declared.desks.Desks.{Desks}
 use Rattle.board_core.specs.declared.numbered.Numbered.{Numbered}
@@ -80,5 +80,6 @@ pub record Mirrors (setup : Given) (service : Service) (desks : Desks) (s : Stat
 -- a board in order: it keeps what its history says, and has room for what may come
 pub record IsBoard (setup : Given) (service : Service) (desks : Desks) (capacity : ℕ) (board : Recorded) : Type 0 where
   pub recorded : IsRecorded board
+  pub ids_are : setup.ids ≡ vehicle_ids board.start.vehicles
   pub mirrors : Mirrors setup service desks (state_of board) board.history
   pub room : length board.history + board.spare + places_kept desks ≤ capacity

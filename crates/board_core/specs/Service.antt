@@ -1,12 +1,12 @@
 -- What commands change.
-use Rattle.std.specs.Prelude.{ℕ, ◌≤◌, ◌<◌, ◌^◌, ◌==◌, List, All, Option, find, take}
+use Rattle.std.specs.Prelude.{◌≡◌, ℕ, ◌≤◌, ◌<◌, ◌^◌, ◌==◌, List, All, Option, find, take}
 use Rattle.std.specs.List.{enumerate_from}
 use Rattle.ride_model.specs.declared.reply.Reply.{Reply}
 use Rattle.ride_model.specs.declared.vehicle.Vehicle.{Vehicle}
 use Rattle.ride_model.specs.Fleet.{IsFleet}
 use Rattle.ride_model.specs.Road.{IsRoadMap}
 use Rattle.ride_model.specs.Settings.{IsSettings}
-use Rattle.ride_model.specs.Seating.{BatchCopy}
+use Rattle.ride_model.specs.Seating.{BatchCopy, vehicle_ids}
 use Rattle.ride_model.specs.State.{State}
 use Rattle.ride_model.specs.Step.{Answered}
 use Rattle.ride_model.specs.Vehicle.{IsLawful}
@@ -45,6 +45,7 @@ pub record IsInOrder (setup : Given) (service : Service) : Type 0 where
   pub clock_fits : service.clock ≤ 1000000000
   pub few_asked : service.asked ≤ 2000
   pub fleet_fits : IsFleet service.vehicles.items
+  pub ids_are : setup.ids ≡ vehicle_ids service.vehicles.items
   pub lawful : All (IsLawful setup.roads) service.vehicles.items
   pub versions_fit : All HasRoomAbove service.vehicles.items
   pub promised : (rest : State) → All (HasPromised (state_at setup service rest)) service.vehicles.items

@@ -78,7 +78,7 @@ impl<'r> Board<'r> {
             self.service.vehicles.as_slice(),
             cancelled.as_slice(),
         );
-        self.service.settle(&solved);
+        self.service.settle(self.setup.places(), &solved);
         let desk = solved.batch().desk();
         self.kept.close(desk);
         append(&mut self.history, Actor::Desk(desk), commit_of(solved));

@@ -13,7 +13,6 @@ ghost use Rattle.history_laws.specs.Start.{IsStart};
 ghost use Rattle.board_core.specs.Recorded.{Recorded, state_of};
 
 use crate::desks::Desks;
-use crate::places::find_vehicle;
 use crate::service::Service;
 use crate::setup::Setup;
 use ride_model::{Actor, Entry, Fleet, NoMemory, RequestState, Settings, Vehicle};
@@ -83,8 +82,9 @@ impl<'r> Board<'r> {
         ensures desks { IfOk result (λ board. board.desks ≡ desks) }
         ensures history { IfOk result (λ board. board.history ≡ []) }
     {
-        let setup = Setup::new(alloc, roads, settings)?;
-        let service = Service::new(alloc, fleet.vehicles())?;
+        let vehicles = fleet.vehicles();
+        let setup = Setup::new(alloc, roads, settings, vehicles)?;
+        let service = Service::new(alloc, vehicles)?;
         let kept = Desks::new();
         let history = Vec::with_capacity(alloc, kept.places_kept())?;
         Ok(Board {
@@ -133,7 +133,8 @@ impl<'r> Board<'r> {
     pub fn vehicle(&self, id: u64) -> Option<&Vehicle>
         ensures { option_copied result ≡ find_vehicle (state_of self.now).vehicles id }
     {
-        find_vehicle(self.service.vehicles.as_slice(), id)
+        let place = self.service.place_of(self.setup.places(), id)?;
+        Some(&self.service.vehicles[place])
     }
 
     /// What has become of the request of an id, None where none was accepted.

@@ -1,34 +1,44 @@
-//! Where a vehicle stands in its fleet.
-ghost use Rattle.std.specs.Prelude.{◌≡◌, ◌<◌, length, slice_index_or, Some, None, MatchOption, option_copied};
+//! Where the vehicle of an id stands in its fleet.
+ghost use Rattle.std.specs.Prelude.{◌≡◌, ◌<◌, length, slice_index_or, position, Some, None, MatchOption, IfOk, nat_eq};
+ghost use Rattle.std.specs.List.{IsDistinct};
 ghost use Rattle.ride_model.specs.declared.vehicle.Vehicle.{Vehicle};
-ghost use Rattle.ride_model.specs.Seating.{find_vehicle};
-ghost use Rattle.board_core.specs.Service.{placed_in};
+ghost use Rattle.ride_model.specs.Seating.{vehicle_ids};
 
-use ride_model::Vehicle;
+use indexmap::IndexSet;
+use ride_model::{NoMemory, Vehicle};
+use std::alloc::Global;
+use std::marker::Model;
 
-/// The place of the vehicle of an id.
-pub(crate) fn place_of(vehicles: &[Vehicle], id: u64) -> Option<usize>
-    ensures within { MatchOption result (placed_in vehicles.now id ≡ None) (λ place. place < length vehicles.now) }
-    ensures placed { MatchOption result (placed_in vehicles.now id ≡ None)
-        (λ place. (v : Vehicle) → placed_in vehicles.now id ≡ Some (place, slice_index_or vehicles.now place v)) }
-{
-    for (place, vehicle) in vehicles.iter().enumerate() {
-        if vehicle.id == id {
-            return Some(place);
-        }
-    }
-    None
+/// The ids of a fleet, in order; the place of one is found in constant time.
+#[derive(Drop)]
+pub(crate) struct Places {
+    ids: IndexSet<u64>,
 }
 
-/// The vehicle of an id.
-#[tactic(auto, using(batch_commit::proofs::Found::find_rules))]
-pub(crate) fn find_vehicle(vehicles: &[Vehicle], id: u64) -> Option<&Vehicle>
-    ensures { option_copied result ≡ find_vehicle vehicles.now id }
-{
-    for vehicle in vehicles {
-        if vehicle.id == id {
-            return Some(vehicle);
+impl Model for Places {
+    ghost use Rattle.std.specs.Prelude.{ℕ, List};
+
+    ghost Value = { List ℕ };
+
+    ghost view = { λ places. places.ids.keys };
+}
+
+impl Places {
+    pub(crate) fn new(alloc: Global, fleet: &[Vehicle]) -> Result<Places, NoMemory>
+        requires { IsDistinct nat_eq (vehicle_ids fleet.now) }
+        ensures { IfOk result (λ places. places ≡ vehicle_ids fleet.now) }
+    {
+        let mut ids = IndexSet::with_capacity(alloc, fleet.len())?;
+        for vehicle in fleet {
+            ids.insert(vehicle.id)?;
         }
+        Ok(Places { ids })
     }
-    None
+
+    /// The place of an id.
+    pub(crate) fn of(&self, id: u64) -> Option<usize>
+        ensures { result ≡ position (nat_eq id) self.now }
+    {
+        self.ids.get_index_of(&id)
+    }
 }

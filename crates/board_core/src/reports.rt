@@ -9,7 +9,6 @@ ghost use Rattle.board_core.specs.Given.{Given};
 ghost use Rattle.board_core.specs.Service.{state_at, answered_at, IsInOrder, HasRoomAbove};
 ghost use Rattle.board_core.specs.Reports.{lateness_of, IsMoved};
 
-use crate::places::place_of;
 use crate::plans::{first_stop, put_at, put_before, serve};
 use crate::service::{LAST_TIME, Service};
 use crate::setup::Setup;
@@ -27,7 +26,7 @@ impl Service {
             → at_step (state_at setup.old self.old rest) id node time ≡ answered_at setup.old self.new rest result }
         ensures setup { setup.new ≡ setup.old }
     {
-        let Some(place) = place_of(self.vehicles.as_slice(), id) else {
+        let Some(place) = self.place_of(setup.places(), id) else {
             return Reply::Refused { code: 10 };
         };
         if !setup.is_node(node) {
@@ -48,7 +47,7 @@ impl Service {
         ensures { (rest : State)
             → done_step (state_at setup.now self.old rest) id ≡ answered_at setup.now self.new rest result }
     {
-        let Some(place) = place_of(self.vehicles.as_slice(), id) else {
+        let Some(place) = self.place_of(setup.places(), id) else {
             return Reply::Refused { code: 10 };
         };
         let vehicle = &self.vehicles[place];
@@ -68,12 +67,12 @@ impl Service {
     }
 
     /// A driver comes on duty or goes off duty.
-    pub(crate) fn set_duty(&mut self, id: u64, duty: bool) -> Reply
-        requires { All HasRoomAbove self.old.vehicles.items }
-        ensures { (setup : Given) (rest : State)
-            → duty_step (state_at setup self.old rest) id duty ≡ answered_at setup self.new rest result }
+    pub(crate) fn set_duty(&mut self, setup: &Setup, id: u64, duty: bool) -> Reply
+        requires { IsInOrder setup.now self.old }
+        ensures { (rest : State)
+            → duty_step (state_at setup.now self.old rest) id duty ≡ answered_at setup.now self.new rest result }
     {
-        let Some(place) = place_of(self.vehicles.as_slice(), id) else {
+        let Some(place) = self.place_of(setup.places(), id) else {
             return Reply::Refused { code: 10 };
         };
         let vehicle = &mut self.vehicles[place];

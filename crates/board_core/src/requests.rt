@@ -10,7 +10,6 @@ ghost use Rattle.board_core.specs.Service.{state_at, answered_at, IsInOrder};
 ghost use Rattle.board_core.specs.Wishes.{ride_of, wish_step, joins_nodes, has_odd_load, has_odd_limits, MayBeAccepted};
 ghost use Rattle.request_book.specs.Book.{request_of};
 
-use crate::places::place_of;
 use crate::plans::free;
 use crate::service::{LAST_TIME, Service};
 use crate::setup::Setup;
@@ -91,7 +90,7 @@ impl Service {
             → cancel_step (state_at setup.old self.old rest) id ≡ answered_at setup.old self.new rest result }
         ensures setup { setup.new ≡ setup.old }
     {
-        let Some(place) = place_of(self.vehicles.as_slice(), vehicle) else {
+        let Some(place) = self.place_of(setup.places(), vehicle) else {
             return Reply::Refused { code: 10 };
         };
         free(&mut self.vehicles[place], setup, id);

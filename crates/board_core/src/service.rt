@@ -1,11 +1,14 @@
 //! The service as it stands: what commands change.
-ghost use Rattle.std.specs.Prelude.{◌≡◌, ◌≤◌, [], length, IfOk, OnErr, IsErr};
+ghost use Rattle.std.specs.Prelude.{◌≡◌, ◌≤◌, ◌<◌, [], length, slice_index_or, Some, None, MatchOption, IfOk, OnErr, IsErr};
+ghost use Rattle.ride_model.specs.declared.vehicle.Vehicle.{Vehicle};
+ghost use Rattle.ride_model.specs.Seating.{vehicle_ids};
 ghost use Rattle.ride_model.specs.State.{State};
 ghost use Rattle.ride_model.specs.Step.{step, clock_step, ask_step};
 ghost use Rattle.board_core.specs.Given.{Given};
 ghost use Rattle.board_core.specs.Opening.{IsRequest};
-ghost use Rattle.board_core.specs.Service.{state_at, answered_at, IsInOrder};
+ghost use Rattle.board_core.specs.Service.{state_at, answered_at, placed_in, IsInOrder};
 
+use crate::places::Places;
 use crate::setup::Setup;
 use crate::wishes::Wish;
 use request_book::RequestBook;
@@ -45,6 +48,16 @@ impl Service {
         })
     }
 
+    /// The place of the vehicle of an id.
+    pub(crate) fn place_of(&self, places: &Places, id: u64) -> Option<usize>
+        requires { places.now ≡ vehicle_ids self.now.vehicles.items }
+        ensures within { MatchOption result (placed_in self.now.vehicles.items id ≡ None) (λ place. place < length self.now.vehicles.items) }
+        ensures placed { MatchOption result (placed_in self.now.vehicles.items id ≡ None)
+            (λ place. (v : Vehicle) → placed_in self.now.vehicles.items id ≡ Some (place, slice_index_or self.now.vehicles.items place v)) }
+    {
+        places.of(id)
+    }
+
     /// Answers a command.
     pub(crate) fn answer(&mut self, setup: &mut Setup, command: &Command) -> Result<Reply, NoMemory>
         requires { IsInOrder setup.old self.old }
@@ -82,8 +95,8 @@ impl Service {
                 time,
             } => Ok(self.report(setup, vehicle, node, time)),
             Command::Done { vehicle } => Ok(self.serve(setup, vehicle)),
-            Command::On { vehicle } => Ok(self.set_duty(vehicle, true)),
-            Command::Off { vehicle } => Ok(self.set_duty(vehicle, false)),
+            Command::On { vehicle } => Ok(self.set_duty(setup, vehicle, true)),
+            Command::Off { vehicle } => Ok(self.set_duty(setup, vehicle, false)),
             Command::Clock { time } => Ok(self.advance(time)),
             Command::Ask => Ok(self.ask()),
             Command::Bad { .. } => Ok(Reply::Noted),

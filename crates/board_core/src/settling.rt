@@ -7,12 +7,13 @@ ghost use Rattle.ride_model.specs.Road.{RoadMap};
 ghost use Rattle.ride_model.specs.State.{State};
 ghost use Rattle.ride_model.specs.Step.{raised};
 ghost use Rattle.ride_model.specs.Batch.{seat_of, outcome_of, after_outcome, after_outcomes};
+ghost use Rattle.ride_model.specs.Seating.{vehicle_ids};
 ghost use Rattle.stop_plans.specs.Change.{InsertsInto};
 ghost use Rattle.board_core.specs.Given.{Given};
 ghost use Rattle.board_core.specs.Service.{state_at};
 ghost use Rattle.board_core.specs.Settling.{started, IsCommitted, IsSettledTo, IsToConfirm};
 
-use crate::places::place_of;
+use crate::places::Places;
 use crate::service::Service;
 use batch_commit::Solved;
 use ride_model::{Offer, Outcome, RequestState, Ride, Seat, Vehicle};
@@ -20,19 +21,21 @@ use stop_plans::insert_ride;
 
 impl Service {
     /// Makes of each request of a solved batch what its outcome says.
-    pub(crate) fn settle(&mut self, solved: &Solved)
-        requires { (setup : Given) × (moment : State) × IsCommitted setup moment solved.now × IsSettledTo moment solved.now 0 self.old }
+    pub(crate) fn settle(&mut self, places: &Places, solved: &Solved)
+        requires fleet { places.now ≡ vehicle_ids self.old.vehicles.items }
+        requires settled { (setup : Given) × (moment : State) × IsCommitted setup moment solved.now × IsSettledTo moment solved.now 0 self.old }
         ensures { (setup : Given) (moment rest : State) → IsCommitted setup moment solved.now → IsSettledTo moment solved.now 0 self.old
             → after_outcomes solved.now.batch solved.now.answer.seating moment solved.now.batch.requests (state_at setup self.old rest)
             ≡ state_at setup self.new rest }
     {
         for (r, ride) in solved.batch().requests().iter().enumerate() {
-            self.settle_one(solved, r, *ride);
+            self.settle_one(places, solved, r, *ride);
         }
     }
 
     // Makes of one request what its outcome says.
-    fn settle_one(&mut self, solved: &Solved, r: usize, ride: Ride)
+    fn settle_one(&mut self, places: &Places, solved: &Solved, r: usize, ride: Ride)
+        requires fleet { places.now ≡ vehicle_ids self.old.vehicles.items }
         requires within { r < length solved.now.batch.requests }
         requires ride { ride ≡ slice_index_or solved.now.batch.requests r ride }
         requires settled { (setup : Given) × (moment : State) × IsCommitted setup moment solved.now × IsSettledTo moment solved.now r self.old }
@@ -52,12 +55,13 @@ impl Service {
             Outcome::Moved { .. } | Outcome::Behind { .. } => {
                 self.requests.set_state(ride.id, RequestState::Waiting);
             }
-            Outcome::Confirmed => self.confirm(solved, r, ride),
+            Outcome::Confirmed => self.confirm(places, solved, r, ride),
         }
     }
 
     // Confirms a request: its vehicle has the ride, and the request is that vehicle's.
-    fn confirm(&mut self, solved: &Solved, r: usize, ride: Ride)
+    fn confirm(&mut self, places: &Places, solved: &Solved, r: usize, ride: Ride)
+        requires fleet { places.now ≡ vehicle_ids self.old.vehicles.items }
         requires within { r < length solved.now.batch.requests }
         requires ride { ride ≡ slice_index_or solved.now.batch.requests r ride }
         requires confirms { (setup : Given) × (moment : State) × IsToConfirm setup moment solved.now r ride self.old }
@@ -70,7 +74,7 @@ impl Service {
         let Some(seat) = find_seat(solved.answer().seating.items(), ride.id) else {
             return;
         };
-        let Some(place) = place_of(self.vehicles.as_slice(), seat.vehicle) else {
+        let Some(place) = self.place_of(places, seat.vehicle) else {
             return;
         };
         let Some(offer) = solved.table().cell(r as u32, place as u32) else {

@@ -1,9 +1,12 @@
 //! The roads, and the owner's settings.
 ghost use Rattle.std.specs.Prelude.{◌≡◌, ◌≤◌, ◌<◌, All, IfOk};
+ghost use Rattle.ride_model.specs.Fleet.{IsFleet};
+ghost use Rattle.ride_model.specs.Seating.{vehicle_ids};
 ghost use Rattle.ride_model.specs.Road.{IsRoadMap, IsNode, travel};
 ghost use Rattle.ride_model.specs.Step.{is_node};
 
-use ride_model::{NoMemory, Settings};
+use crate::places::Places;
+use ride_model::{NoMemory, Settings, Vehicle};
 use road_times::{Roads, Scratch};
 use std::alloc::Global;
 use std::marker::Model;
@@ -14,6 +17,7 @@ pub(crate) struct Setup<'r> {
     roads: &'r Roads,
     scratch: Scratch,
     settings: Settings,
+    places: Places,
 }
 
 impl<'r> Model for Setup<'r> {
@@ -22,7 +26,7 @@ impl<'r> Model for Setup<'r> {
 
     ghost Value = { Given };
 
-    ghost view = { λ setup. record { roads = setup.roads.now; settings = setup.settings } };
+    ghost view = { λ setup. record { roads = setup.roads.now; settings = setup.settings; ids = setup.places } };
 
     ghost invariant = { λ setup. setup.scratch.nodes ≡ setup.roads.now.nodes };
 }
@@ -32,17 +36,21 @@ impl<'r> Setup<'r> {
         alloc: Global,
         roads: &'r Roads,
         settings: Settings,
+        fleet: &[Vehicle],
     ) -> Result<Setup<'r>, NoMemory>
-        ensures setup { IfOk result (λ setup. setup ≡ record { roads = roads.now; settings = settings }) }
+        requires fleet { IsFleet fleet.now }
+        ensures setup { IfOk result (λ setup. setup ≡ record { roads = roads.now; settings = settings; ids = vehicle_ids fleet.now }) }
         ensures fits { IsRoadMap roads.now }
     {
         // This call tells that the map is within its limits.
         let _nodes = roads.nodes();
         let scratch = Scratch::new(alloc, roads)?;
+        let places = Places::new(alloc, fleet)?;
         Ok(Setup {
             roads,
             scratch,
             settings,
+            places,
         })
     }
 
@@ -50,6 +58,13 @@ impl<'r> Setup<'r> {
         ensures { result ≡ self.now.settings }
     {
         self.settings
+    }
+
+    /// The places of the vehicles, by their ids.
+    pub(crate) fn places(&self) -> &Places
+        ensures { result.now ≡ self.now.ids }
+    {
+        &self.places
     }
 
     /// Whether a number is that of a node.

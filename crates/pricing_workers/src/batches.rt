@@ -19,11 +19,11 @@ use road_times::{Roads, Scratch};
 use std::alloc::Global;
 use std::thread::{Threads, join_mut};
 
-// Memory: a piece keeps the times of one request only, which take 64 bytes for each wanted node. A batch of 1,000 vehicles of 16
-// stops wants 17,000 nodes, so that two pieces take two megabytes; the rows of all of 128 requests at once would take 139.
+// Memory: a worker keeps the times of one request only, which take 64 bytes for each wanted node. A batch of 1,000 vehicles of 16
+// stops wants 17,000 nodes, which makes a megabyte a worker; the rows of all of 128 requests at once would take 139.
 
-/// The least offer of each vehicle of a batch to each of its requests: rows of times from the road, in as many pieces as there
-/// are scratches up to two, and pairs priced in parallel. A worker passes the gate at place 7 before the rows of each request.
+/// The least offer of each vehicle of a batch to each of its requests: rows of times from the road, by as many workers as there
+/// are scratches and requests, and pairs priced in parallel. A worker passes the gate at place 7 before the rows of each request.
 pub fn price_batch<R: Threads + Sync, G: Gate>(
     rt: &R,
     alloc: Global,
@@ -75,6 +75,7 @@ fn fill_cells<R: Threads + Sync, G: Gate>(
     cells: &mut [Option<Offer>],
 ) -> Result<(), NoMemory>
     requires ready { MayFill job.now.roads.now job.now.batch.now job.now.wanted.now }
+    requires few { length job.now.batch.now.requests ≤ 128 }
     requires requests { All (IsRequest job.now.roads.now job.now.batch.now) job.now.batch.now.requests }
     requires some_scratch { 1 ≤ length scratches.old }
     requires scratches { All (λ scratch. scratch.nodes ≡ job.now.roads.now.nodes) scratches.old }
@@ -83,81 +84,108 @@ fn fill_cells<R: Threads + Sync, G: Gate>(
     ensures scratches { scratches.new ≡ scratches.old }
 {
     let requests = job.batch.requests();
-    let nodes = job.wanted.nodes.len();
-    let mut times = Times::new(alloc, nodes)?;
-    if requests.len() < 2 || scratches.len() < 2 {
-        fill_rows(
-            rt,
-            job,
-            requests,
-            &mut scratches[0],
-            &mut times,
-            gate,
-            cells,
-        );
-        return Ok(());
-    }
-    let mut other_times = Times::new(alloc, nodes)?;
-    let (first, others) = scratches.split_at_mut(1);
-    fill_halves(
+    let workers = requests.len().min(scratches.len()).max(1);
+    let mut times = times_of(alloc, workers, job.wanted.nodes.len())?;
+    fill_pieces(
         rt,
         job,
         requests,
-        &mut first[0],
-        &mut others[0],
-        &mut times,
-        &mut other_times,
+        scratches,
+        times.as_mut_slice(),
         gate,
         cells,
     );
     Ok(())
 }
 
-// Fills the cells of requests, of each half in a thread of its own.
-fn fill_halves<R: Threads + Sync, G: Gate>(
+// Times for so many workers, each with room for so many nodes.
+fn times_of(alloc: Global, workers: usize, nodes: usize) -> Result<Vec<Times>, NoMemory>
+    ensures count { IfOk result (λ times. length times.items ≡ workers) }
+    ensures room { IfOk result (λ times. All (HasRoom nodes) times.items) }
+{
+    let mut times = Vec::with_capacity(alloc, workers)?;
+    for _ in 0..workers {
+        times.push(Times::new(alloc, nodes)?)?;
+    }
+    Ok(times)
+}
+
+// Fills the cells of requests with as many workers as there are times: the first half of the workers fills its part of the
+// requests beside the rest.
+fn fill_pieces<R: Threads + Sync, G: Gate>(
     rt: &R,
     job: &Job,
     requests: &[Ride],
-    scratch: &mut Scratch,
-    other_scratch: &mut Scratch,
-    times: &mut Times,
-    other_times: &mut Times,
+    scratches: &mut [Scratch],
+    times: &mut [Times],
     gate: &G,
     cells: &mut [Option<Offer>],
 )
     requires ready { MayFill job.now.roads.now job.now.batch.now job.now.wanted.now }
+    requires few { length requests.now ≤ 128 }
     requires requests { All (IsRequest job.now.roads.now job.now.batch.now) requests.now }
-    requires scratch { scratch.old.nodes ≡ job.now.roads.now.nodes }
-    requires other_scratch { other_scratch.old.nodes ≡ job.now.roads.now.nodes }
-    requires room { HasRoom (length job.now.wanted.now.nodes.items) times.old }
-    requires other_room { HasRoom (length job.now.wanted.now.nodes.items) other_times.old }
+    requires workers { (1 ≤ length times.old) × (length times.old ≤ 128) }
+    requires own_scratches { length times.old ≤ length scratches.old }
+    requires scratches { All (λ scratch. scratch.nodes ≡ job.now.roads.now.nodes) scratches.old }
+    requires room { All (HasRoom (length job.now.wanted.now.nodes.items)) times.old }
     requires cells { length cells.old ≡ length requests.now * length job.now.batch.now.vehicles }
     ensures cells { AreRowsOf job.now.roads.now job.now.batch.now requests.now cells.new }
-    ensures scratch { scratch.new ≡ scratch.old }
-    ensures other_scratch { other_scratch.new ≡ other_scratch.old }
+    ensures scratches { scratches.new ≡ scratches.old }
 {
-    let (front, back) = requests.split_at(requests.len() / 2);
+    let workers = times.len();
+    if workers < 2 {
+        fill_rows(
+            rt,
+            job,
+            requests,
+            &mut scratches[0],
+            &mut times[0],
+            gate,
+            cells,
+        );
+        return;
+    }
+    let half = workers / 2;
     let columns = job.batch.vehicles().vehicles().len();
+    let (front, back) = requests.split_at(requests.len() * half / workers);
+    let (front_scratches, back_scratches) = scratches.split_at_mut(half);
+    let (front_times, back_times) = times.split_at_mut(half);
     let (front_cells, back_cells) = cells.split_at_mut(front.len() * columns);
     join_mut(
         rt,
         &mut ||
             requires { MayFill job.now.roads.now job.now.batch.now job.now.wanted.now
+                × (length front.now ≤ 128)
                 × All (IsRequest job.now.roads.now job.now.batch.now) front.now
-                × (scratch.now.nodes ≡ job.now.roads.now.nodes)
-                × HasRoom (length job.now.wanted.now.nodes.items) times.now
+                × ((1 ≤ length front_times.now) × (length front_times.now ≤ 128))
+                × (length front_times.now ≤ length front_scratches.now)
+                × All (λ scratch. scratch.nodes ≡ job.now.roads.now.nodes) front_scratches.now
+                × All (HasRoom (length job.now.wanted.now.nodes.items)) front_times.now
                 × (length front_cells.now ≡ length front.now * length job.now.batch.now.vehicles) }
             ensures { AreRowsOf job.entry.now.roads.now job.entry.now.batch.now front.entry.now front_cells.exit.now
-                × (scratch.exit.now ≡ scratch.entry.now) }
-        { fill_rows(rt, job, front, scratch, times, gate, front_cells) },
+                × (front_scratches.exit.now ≡ front_scratches.entry.now) }
+        {
+            fill_pieces(
+                rt,
+                job,
+                front,
+                front_scratches,
+                front_times,
+                gate,
+                front_cells,
+            )
+        },
         &mut ||
             requires { MayFill job.now.roads.now job.now.batch.now job.now.wanted.now
+                × (length back.now ≤ 128)
                 × All (IsRequest job.now.roads.now job.now.batch.now) back.now
-                × (other_scratch.now.nodes ≡ job.now.roads.now.nodes)
-                × HasRoom (length job.now.wanted.now.nodes.items) other_times.now
+                × ((1 ≤ length back_times.now) × (length back_times.now ≤ 128))
+                × (length back_times.now ≤ length back_scratches.now)
+                × All (λ scratch. scratch.nodes ≡ job.now.roads.now.nodes) back_scratches.now
+                × All (HasRoom (length job.now.wanted.now.nodes.items)) back_times.now
                 × (length back_cells.now ≡ length back.now * length job.now.batch.now.vehicles) }
             ensures { AreRowsOf job.entry.now.roads.now job.entry.now.batch.now back.entry.now back_cells.exit.now
-                × (other_scratch.exit.now ≡ other_scratch.entry.now) }
-        { fill_rows(rt, job, back, other_scratch, other_times, gate, back_cells) },
+                × (back_scratches.exit.now ≡ back_scratches.entry.now) }
+        { fill_pieces(rt, job, back, back_scratches, back_times, gate, back_cells) },
     );
 }

@@ -11,3 +11,4 @@ pub mod Ends
 pub mod Replays
 pub mod OneVehicle
 pub mod Begun
+pub mod Stops

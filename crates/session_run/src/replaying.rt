@@ -20,6 +20,7 @@ ghost use Rattle.session_run.specs.Running.{IsRunning};
 use crate::lines::{FeedLines, Stop};
 use crate::reading::read_feed;
 use crate::session::Session;
+use crate::tools::workers_at_hand;
 use ride_model::{Ending, Fleet, NoMemory, Settings};
 use ride_ports::{Ran, Sink, Source};
 use road_times::Roads;
@@ -57,7 +58,7 @@ pub fn replay<R: Threads + Sync, S: Source, K: Sink>(
     // These calls tell that the map and the fleet are within their limits.
     let _nodes = roads.nodes();
     let _vehicles = fleet.vehicles();
-    let Ok((mut session, mut lines)) = begun(alloc, roads, settings, fleet) else {
+    let Ok((mut session, mut lines)) = begun(rt, alloc, roads, settings, fleet) else {
         return Ran {
             sink_failed: false,
             no_memory: true,
@@ -104,6 +105,7 @@ fn is_too_long(stop: Option<Stop>) -> bool
 
 // A session at its start, and the lines of its feed.
 fn begun<'r>(
+    rt: &impl Threads,
     alloc: Global,
     roads: &'r Roads,
     settings: Settings,
@@ -119,7 +121,7 @@ fn begun<'r>(
     ensures log { IfOk result (λ made. made.0.log ≡ record { page = []; failed = false }) }
     ensures lines { IfOk result (λ made. (log : ℕ) → HasRead log made.1 [] []) }
 {
-    let session = Session::new(alloc, roads, settings, fleet)?;
+    let session = Session::new(alloc, roads, settings, fleet, workers_at_hand(rt))?;
     let lines = FeedLines::new(alloc)?;
     Ok((session, lines))
 }

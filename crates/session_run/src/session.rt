@@ -54,7 +54,9 @@ impl<'r> Session<'r> {
         roads: &'r Roads,
         settings: Settings,
         fleet: Fleet,
+        workers: usize,
     ) -> Result<Session<'r>, NoMemory>
+        requires workers { 1 ≤ workers }
         requires settings { IsSettings settings }
         requires lawful { All (IsLawful roads.now) fleet }
         requires idle { All (λ (v : Vehicle). v.stops.items ≡ []) fleet }
@@ -65,7 +67,7 @@ impl<'r> Session<'r> {
         ensures log { IfOk result (λ session. session.log ≡ record { page = []; failed = false }) }
         ensures memory { IfOk result (λ session. session.no_memory ≡ false) }
     {
-        let tools = Tools::new(alloc, roads)?;
+        let tools = Tools::new(alloc, roads, workers)?;
         let log = Logger::new(alloc)?;
         let version = settings.log;
         let board = Board::new(alloc, roads, settings, fleet, 1, 1)?;

@@ -13,7 +13,20 @@ use ride_ports::OpenGate;
 use road_times::{Roads, Scratch};
 use std::alloc::Global;
 use std::marker::Model;
-use std::thread::Threads;
+use std::thread::{Threads, available_parallelism};
+
+/// The most workers that price a batch. Each has a scratch as large as the map.
+const MOST_WORKERS: usize = 16;
+
+/// As many workers as there are processors.
+pub(crate) fn workers_at_hand(rt: &impl Threads) -> usize
+    ensures { 1 ≤ result }
+{
+    match available_parallelism(rt) {
+        Ok(processors) => processors.get().min(MOST_WORKERS),
+        Err(_) => 1,
+    }
+}
 
 /// The roads, and what their searches need.
 #[derive(Drop)]
@@ -35,11 +48,19 @@ impl<'a> Model for Tools<'a> {
 }
 
 impl<'a> Tools<'a> {
-    pub(crate) fn new(alloc: Global, roads: &'a Roads) -> Result<Tools<'a>, NoMemory>
+    /// Tools for so many workers.
+    pub(crate) fn new(
+        alloc: Global,
+        roads: &'a Roads,
+        workers: usize,
+    ) -> Result<Tools<'a>, NoMemory>
+        requires { 1 ≤ workers }
         ensures { IfOk result (λ tools. tools ≡ roads.now) }
     {
-        let mut scratches = Vec::with_capacity(alloc, 1)?;
-        scratches.push(Scratch::new(alloc, roads)?)?;
+        let mut scratches = Vec::with_capacity(alloc, workers)?;
+        for _ in 0..workers {
+            scratches.push(Scratch::new(alloc, roads)?)?;
+        }
         Ok(Tools {
             alloc,
             roads,

@@ -19,6 +19,7 @@ use Rattle.session_run.specs.Running.{IsRunning}
 use Rattle.ride_ports.proofs.ByteLemmas.{Reads-none}
 use Rattle.session_run.proofs.Replays.{Gave, is-start, is-replay, no-replay, is-logged}
 use Rattle.session_run.proofs.Begun.{rose-where-failed, same-where-sound}
+use Rattle.session_run.proofs.Stops.{source-failed, source-sound, read-whole}
 use Rattle.session_run.proofs.replaying.replay.Goals as goal
 
 pub returns-in_default-clause-log : goal.returns-in_default-clause-log
@@ -101,3 +102,18 @@ returns-clause-sink_never_falls g c =
     let has = c.end.ensures.told (g.K.Sink.written c.args.out.now) (g.K.Sink.faults c.args.out.now)
     (c.run_feed-stop.ensures.told (g.K.Sink.written c.args.out.now) (g.K.Sink.faults c.args.out.now) c.begin.ensures.told) in
     has.never_falls
+
+pub returns-clause-to_end : goal.returns-clause-to_end
+returns-clause-to_end g c memory whole =
+    let (taken, reads, ran) = c.run_feed-stop.ensures.ran in
+    c.run_feed-stop.ensures.to_end (read-whole _ _ c.run_feed-stop.result c.run_feed-stop.new.session.board c.run_feed-stop.new.session.no_memory
+    taken (sym (c.no_memory.ensures ∙ c.end.ensures.no_memory) ∙ memory) (sym c.is_source_failed.ensures ∙ whole.0)
+    (sym c.is_too_long.ensures ∙ whole.1) ran)
+
+pub returns-clause-source_fault : goal.returns-clause-source_fault
+returns-clause-source_fault g c failed =
+    c.run_feed-stop.ensures.fault (source-failed c.run_feed-stop.result (sym c.is_source_failed.ensures ∙ failed))
+
+pub returns-clause-source_counts_none : goal.returns-clause-source_counts_none
+returns-clause-source_counts_none g c sound =
+    c.run_feed-stop.ensures.other_counts_none (source-sound c.run_feed-stop.result (sym c.is_source_failed.ensures ∙ sound))

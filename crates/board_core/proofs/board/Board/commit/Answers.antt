@@ -16,6 +16,7 @@ use Rattle.board_core.specs.Kept.{IsBoard, with_closed}
 use Rattle.board_core.specs.Recorded.{Recorded, state_of, committed_entry}
 use Rattle.board_core.specs.Service.{state_at}
 use Rattle.board_core.specs.Settling.{IsCommitted, balance}
+use Rattle.board_core.proofs.Boards.{board-in_order}
 use Rattle.board_core.proofs.Closed.{open-facts, place-kept, board-committed}
 use Rattle.board_core.proofs.Committed.{is-committed, none-settled, commits}
 use Rattle.board_core.proofs.Settled.{earlier-ids}
@@ -97,10 +98,13 @@ committed at outcomes outcomes_are =
     (subst (λ (b : Recorded). IsTableOf b.start.roads at.args.solved.batch at.args.solved.table) (sym at.self.view_is) at.requires.table)
     at.answer-answer.ensures.certified outcomes_are
 
-pub settle-requires : goal.settle-requires
-settle-requires c =
-    let at = (goal.at-settle-requires c).After-as_slice-2 in
-    let d = (goal.at-settle-requires c).After-decide in (
+pub settle-requires-clause-fleet : goal.settle-requires-clause-fleet
+settle-requires-clause-fleet c = c.places.ensures ∙ (board-in_order _ _ _ _ _ c.self.invariant).ids_are
+
+pub settle-requires-clause-settled : goal.settle-requires-clause-settled
+settle-requires-clause-settled c =
+    let at = (goal.at-settle-requires-clause-settled c).After-as_slice-2 in
+    let d = (goal.at-settle-requires-clause-settled c).After-decide in (
       c.self.inside.setup,
       moment at,
       subst (IsCommitted c.self.inside.setup (moment at)) (sym c.decide.ensures.others)

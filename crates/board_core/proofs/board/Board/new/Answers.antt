@@ -1,6 +1,7 @@
 use Rattle.std.proofs.Common.{List, sym, ◌∙◌, ap, subst, arith}
 use Rattle.std.specs.Prelude.{vec_capacity}
 use Rattle.ride_model.specs.declared.entry.Entry.{Entry}
+use Rattle.ride_model.specs.Seating.{vehicle_ids}
 use Rattle.ride_model.specs.State.{start_state}
 use Rattle.board_core.specs.Given.{Given}
 use Rattle.board_core.specs.Kept.{IsBoard, none_yet, places_kept}
@@ -12,10 +13,11 @@ pub invariant_of-result : goal.invariant_of-result
 invariant_of-result c =
     let service = c.in_ok-service.service in
     let made = board-new c.args.roads.now c.args.settings c.args.fleet c.args.feeds c.args.desks service (vec_capacity c.in_ok-history.history)
-    c.new.ensures.fits c.requires.settings c.vehicles.ensures.is_fleet c.requires.lawful c.requires.idle c.requires.first_versions
+    c.new.ensures.fits c.requires.settings c.vehicles-vehicles.ensures.is_fleet c.requires.lawful c.requires.idle c.requires.first_versions
     c.requires.feeds c.requires.desks c.in_ok-service.ensures.clock
-    (c.in_ok-service.ensures.vehicles ∙ c.vehicles.ensures.items) c.in_ok-service.ensures.requests c.in_ok-service.ensures.asked
+    (c.in_ok-service.ensures.vehicles ∙ c.vehicles-vehicles.ensures.items) c.in_ok-service.ensures.requests c.in_ok-service.ensures.asked
     (omega (arith, c.in_ok-history.ensures.capacity, c.places_kept.ensures.places, ap places_kept c.new-kept.ensures)) in
+    let given : Given = record { roads = c.args.roads.now; settings = c.args.settings; ids = vehicle_ids c.args.fleet } in
     let as_board : Given → List Entry → Recorded = λ setup items. record {
       start = start_state setup.roads setup.settings c.args.fleet;
       feeds = c.args.feeds;
@@ -24,8 +26,8 @@ invariant_of-result c =
       spare = 0;
     } in
     subst (λ setup. IsBoard setup service c.new-kept.result (vec_capacity c.in_ok-history.history) (as_board setup c.in_ok-history.history.items))
-    (sym c.in_ok-setup.ensures.setup)
-    (subst (λ kept. IsBoard (record { roads = c.args.roads.now; settings = c.args.settings }) service kept (vec_capacity c.in_ok-history.history)
-    (as_board (record { roads = c.args.roads.now; settings = c.args.settings }) c.in_ok-history.history.items)) (sym c.new-kept.ensures)
-    (subst (λ items. IsBoard (record { roads = c.args.roads.now; settings = c.args.settings }) service none_yet (vec_capacity c.in_ok-history.history)
-    (as_board (record { roads = c.args.roads.now; settings = c.args.settings }) items)) (sym c.in_ok-history.ensures.items) made))
+    (ap (λ vs. record { roads = c.args.roads.now; settings = c.args.settings; ids = vehicle_ids vs }) (sym c.vehicles-vehicles.ensures.items) ∙ sym c.in_ok-setup.ensures.setup)
+    (subst (λ kept. IsBoard given service kept (vec_capacity c.in_ok-history.history)
+    (as_board given c.in_ok-history.history.items)) (sym c.new-kept.ensures)
+    (subst (λ items. IsBoard given service none_yet (vec_capacity c.in_ok-history.history)
+    (as_board given items)) (sym c.in_ok-history.ensures.items) made))

@@ -30,11 +30,11 @@ seat-at c setup moment h = seated setup moment c.args.solved.now c.args.r c.args
 placed : (c : In-Some-place_of) (w : Vehicle) → w ≡ get_or c.args.self.now.vehicles.items c.in-Some-place_of.place w
     → placed_in c.args.self.now.vehicles.items c.in-Some.seat.vehicle ≡ Some (c.in-Some-place_of.place, w)
 placed c w w_is =
-    placed-at c.as_slice.result.now c.args.self.now.vehicles.items c.in-Some.seat.vehicle c.in-Some-place_of.place w
-    c.as_slice.ensures.value c.in-Some-place_of.ensures.placed w_is
+    placed-at c.args.self.now.vehicles.items c.in-Some.seat.vehicle c.in-Some-place_of.place w
+    c.in-Some-place_of.ensures.placed w_is
 
 within : (c : In-Some-place_of) → c.in-Some-place_of.place < length c.args.self.now.vehicles.items
-within c = subst (λ us. c.in-Some-place_of.place < length us) c.as_slice.ensures.value c.in-Some-place_of.ensures.within
+within c = c.in-Some-place_of.ensures.within
 
 -- which is its column
 standing : (c : In-Some-place_of) (setup : Given) (moment : State) → IsToConfirm setup moment c.args.solved.now c.args.r c.args.ride c.args.self.now
@@ -61,7 +61,7 @@ pub returns-in_default-place_of-clause-settled : goal.returns-in_default-place_o
 returns-in_default-place_of-clause-settled c = λ setup moment h.
     absurd (some-vehicle setup moment c.args.solved.now c.args.r c.args.self.now c.in-Some.seat h.committed h.settled
     (seat-at (goal.at-returns-in_default-place_of-clause-settled c).In-Some setup moment h)
-    (ap (λ us. placed_in us c.in-Some.seat.vehicle) (sym c.as_slice.ensures.value) ∙ c.in_default-place_of.ensures.placed))
+    c.in_default-place_of.ensures.placed)
 
 pub overflow_cast-place : goal.overflow_cast-place
 overflow_cast-place c =
@@ -69,7 +69,6 @@ overflow_cast-place c =
     omega (
       arith,
       c.in-Some-place_of.ensures.within,
-      ap length c.as_slice.ensures.value,
       as-many setup moment c.args.solved.now c.args.r c.args.self.now h.committed h.settled,
       h.committed.fleet_fits.few,
     )
@@ -80,7 +79,6 @@ cell-requires-clause-vehicle_in c =
     omega (
       arith,
       c.in-Some-place_of.ensures.within,
-      ap length c.as_slice.ensures.value,
       as-many setup moment c.args.solved.now c.args.r c.args.self.now h.committed h.settled,
       h.committed.table.fits.columns_are,
       ap (λ (t : Table). t.columns) c.table.ensures.table,

@@ -14,14 +14,14 @@ use Rattle.board_core.proofs.service.Service.free.Goals.{After-index_mut}
 -- the vehicle stands at its place
 stands : (c : After-index_mut) → placed_in c.args.self.now.vehicles.items c.args.vehicle ≡ Some (c.in-Some.place, c.index_mut.result.now)
 stands c =
-    placed-at c.as_slice.result.now c.args.self.now.vehicles.items c.args.vehicle c.in-Some.place c.index_mut.result.now
-    c.as_slice.ensures.value c.in-Some.ensures.placed c.index_mut.ensures.value
+    placed-at c.args.self.now.vehicles.items c.args.vehicle c.in-Some.place c.index_mut.result.now
+    c.in-Some.ensures.placed c.index_mut.ensures.value
 
 pub returns-in_default-clause-answered : goal.returns-in_default-clause-answered
 returns-in_default-clause-answered c = λ rest.
     let s : State = state_at c.args.setup.now c.args.self.now rest in
     cancel-by_state s c.args.id (Confirmed c.args.vehicle) (c.requires.confirmed rest)
-    ∙ ap (freed s c.args.id c.args.vehicle) (ap (λ us. placed_in us c.args.vehicle) (sym c.as_slice.ensures.value) ∙ c.in_default.ensures.placed)
+    ∙ ap (freed s c.args.id c.args.vehicle) c.in_default.ensures.placed
 
 pub free-requires-clause-waits : goal.free-requires-clause-waits
 free-requires-clause-waits c =

@@ -16,13 +16,13 @@ use Rattle.board_core.proofs.service.Service.serve.Goals.{After-index-vehicle}
 -- the vehicle stands at its place
 stands : (c : After-index-vehicle) → placed_in c.args.self.now.vehicles.items c.args.id ≡ Some (c.in-Some.place, c.index-vehicle.result.now)
 stands c =
-    placed-at c.as_slice.result.now c.args.self.now.vehicles.items c.args.id c.in-Some.place c.index-vehicle.result.now
-    c.as_slice.ensures.value c.in-Some.ensures.placed c.index-vehicle.ensures
+    placed-at c.args.self.now.vehicles.items c.args.id c.in-Some.place c.index-vehicle.result.now
+    c.in-Some.ensures.placed c.index-vehicle.ensures
 
 pub returns-in_default : goal.returns-in_default
 returns-in_default c = λ rest.
     done-none (state_at c.args.setup.now c.args.self.now rest) c.args.id
-    (ap (λ us. placed_in us c.args.id) (sym c.as_slice.ensures.value) ∙ c.in_default.ensures.placed)
+    c.in_default.ensures.placed
 
 pub returns-in_default-first_stop : goal.returns-in_default-first_stop
 returns-in_default-first_stop c = λ rest.
@@ -50,7 +50,7 @@ returns c = λ rest.
     let (more, is) = c.in-Some-first_stop.ensures in
     let s : State = state_at c.args.setup.now c.args.self.now rest in
     let low : c.in-Some.place < length c.args.self.now.vehicles.items
-    = subst (λ us. c.in-Some.place < length us) c.as_slice.ensures.value c.in-Some.ensures.within in
+    = c.in-Some.ensures.within in
     let stop : Stop = c.in-Some-first_stop.stop in
     let same : c.index-vehicle.result.now ≡ c.index_mut.result.now
     = same-read c.args.self.now.vehicles.items c.in-Some.place c.index-vehicle.result.now c.index_mut.result.now low

@@ -1,4 +1,4 @@
-use Rattle.std.proofs.Common.{◌≡◌, ◌<◌, ◌+◌, length, drop, get_or, ◌∙◌, ap, subst}
+use Rattle.std.proofs.Common.{◌≡◌, ◌<◌, ◌+◌, length, drop, get_or, sym, ◌∙◌, ap, subst}
 use Rattle.std.specs.Prelude.{None}
 use Rattle.ride_model.specs.declared.vehicle.Ride.{Ride}
 use Rattle.ride_model.specs.Batch.{after_outcomes}
@@ -8,7 +8,12 @@ use Rattle.board_core.proofs.Settled.{settle-step}
 use Rattle.board_core.proofs.service.Service.settle.Goals as goal
 
 pub settle_one-requires-clause-settled : goal.settle_one-requires-clause-settled
-settle_one-requires-clause-settled c = let (setup, moment, k, t) = c.requires in (setup, moment, k, c.loop-r.invariant.settled setup moment k t)
+settle_one-requires-clause-settled c = let (setup, moment, k, t) = c.requires.settled in (setup, moment, k, c.loop-r.invariant.settled setup moment k t)
+
+pub settle_one-requires-clause-fleet : goal.settle_one-requires-clause-fleet
+settle_one-requires-clause-fleet c =
+    let (setup, moment, k, t) = c.requires.settled in
+    c.requires.fleet ∙ t.same_ids ∙ sym (c.loop-r.invariant.settled setup moment k t).same_ids
 
 pub loop-r-preserved : goal.loop-r-preserved
 loop-r-preserved c =
