@@ -1,12 +1,8 @@
 //! The dispatcher's program: it reads the words after its name, and ends with the status of `run`.
 #![tactic(auto)]
 
-#[cfg(test)]
-mod edge_rows;
 mod files;
 mod refusals;
-#[cfg(test)]
-mod rows;
 mod session;
 mod stop;
 #[cfg(test)]
