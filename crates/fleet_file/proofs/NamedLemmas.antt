@@ -1,5 +1,5 @@
 -- A text's refusal is neither want of memory nor a fault of reading.
-use Rattle.std.proofs.Common.{◌≡◌, ◌≢◌, ℕ, ◌+◌, ◌≤◌, nat_lt, nat_le, ◌==◌, ◌||◌, Bool, true, false, cond, List, [], ◌∷◌, length, take, Option, Some, None, Result, Ok, Err, IfErr, refl, ap, sym, ◌∙◌, true≢false}
+use Rattle.std.proofs.Common.{◌≡◌, ◌≢◌, ℕ, ◌+◌, nat_lt, nat_le, ◌==◌, ◌||◌, Bool, true, false, cond, List, [], ◌∷◌, length, take, Option, Some, None, Result, Ok, Err, IfErr, refl, ap, sym, ◌∙◌, true≢false}
 use Rattle.std.specs.Prelude.{codes}
 use Rattle.std.specs.List.{list_any}
 use Rattle.std.specs.Str.{bytes_eq}
@@ -76,6 +76,6 @@ pub fleet_text-no_fault : (nodes : ℕ) (bytes : List ℕ) → fleet_text nodes 
 unfolding is_named
 fleet_text-no_fault nodes bytes is = unnamed (fleet_text nodes bytes) ReadFault refl (named-text nodes bytes) is
 
-pub after_ended-no_fault : (nodes : ℕ) (bytes : List ℕ) → after_ended (fleet_format nodes) bytes ≢ Err ReadFault
+pub after_all-no_fault : (nodes : ℕ) (lines : List (List ℕ)) → after_lines (fleet_format nodes) 1 nothing_said lines ≢ Err ReadFault
 unfolding is_named
-after_ended-no_fault nodes bytes is = unnamed (after_ended (fleet_format nodes) bytes) ReadFault refl (named-lines nodes 1 nothing_said (ended_lines bytes)) is
+after_all-no_fault nodes lines is = unnamed (after_lines (fleet_format nodes) 1 nothing_said lines) ReadFault refl (named-lines nodes 1 nothing_said lines) is

@@ -1,9 +1,9 @@
 -- The texts of fleet files: settings and vehicles.
-use Rattle.std.specs.Prelude.{◌≡◌, ℕ, ◌+◌, ◌<◌, ◌==◌, ◌&&◌, ◌||◌, not, nat_lt, nat_le, Bool, true, false, if◌then◌else◌, List, [], ◌∷◌, ◌++◌, length, map, Option, Some, None, option_map, Result, Ok, Err, codes}
+use Rattle.std.specs.Prelude.{ℕ, ◌==◌, ◌||◌, nat_lt, nat_le, Bool, true, false, if◌then◌else◌, List, [], ◌∷◌, ◌++◌, length, Option, Some, None, Result, Ok, Err, codes}
 use Rattle.std.specs.List.{list_any}
 use Rattle.std.specs.Str.{bytes_eq}
 use Rattle.line_text.specs.Fields.{numbers_of, words_of}
-use Rattle.line_text.specs.Texts.{Format, and_then, text_value}
+use Rattle.line_text.specs.Texts.{Format, text_value}
 use Rattle.fleet_file.specs.declared.settings.Name.{Name}
 use Rattle.fleet_file.specs.declared.settings.Name.TheVariants.{Batch, Penalty, Drive, Wait, Lead, Dwell, Log}
 use Rattle.fleet_file.specs.declared.settings.Seen.{Seen}

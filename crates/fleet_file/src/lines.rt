@@ -1,18 +1,19 @@
 //! The lines of a fleet file.
-ghost use Rattle.std.specs.Prelude.{◌≡◌, ℕ, List, take};
-ghost use Rattle.line_text.specs.Fields.{is_over_long, words_of};
+ghost use Rattle.std.specs.Prelude.{◌≡◌};
 ghost use Rattle.fleet_file.specs.FleetText.{setting_of};
 
 use crate::FleetError;
 use crate::settings::{Name, Seen, greatest, has_seen, least, name_of, see, set};
 use crate::vehicles::{has_id, has_value_out, idle_vehicle, read_vehicle};
-use line_text::{Fields, words_of};
+use line_text::{Fields, LineReader, words_of};
 use ride_model::{Fleet, Settings, Vehicle};
 use std::alloc::Global;
 
 /// What the lines so far said.
 #[derive(Drop)]
 pub struct FleetLines {
+    /// The nodes of the map.
+    pub nodes: u32,
     /// With the defaults of those that were not set.
     pub settings: Settings,
     pub seen: Seen,
@@ -24,12 +25,14 @@ impl FleetLines {
     ghost use Rattle.fleet_file.specs.FleetText.{after_words, nothing_said, setting_line, vehicle_from, vehicle_line};
     ghost use Rattle.fleet_file.specs.Reading.{Gives, IsWithin, said};
 
-    /// No lines.
-    pub fn new(alloc: Global) -> FleetLines
+    /// No lines, over a map of so many nodes.
+    pub fn new(alloc: Global, nodes: u32) -> FleetLines
+        ensures map { result.nodes ≡ nodes }
         ensures nothing { said result ≡ nothing_said }
         ensures within { IsWithin result }
     {
         FleetLines {
+            nodes,
             settings: Settings {
                 batch: 32,
                 penalty: 3_600,
@@ -52,21 +55,14 @@ impl FleetLines {
         }
     }
 
-    /// Takes the line of this number, over a map of so many nodes: its first 200 bytes, and
-    /// whether it has more.
-    pub fn line(
-        &mut self,
-        nodes: u32,
-        number: u64,
-        line: &[u8],
-        over: bool,
-    ) -> Result<(), FleetError>
+    /// Takes what the line of this number says.
+    fn words(&mut self, number: u64, words: Option<Fields<'_>>) -> Result<(), FleetError>
         requires { IsWithin self.old }
         ensures within { IsWithin self.new }
-        ensures given { (whole : List ℕ) → line.now ≡ take 200 whole → over ≡ is_over_long whole →
-            Gives result self.new (after_words nodes number (said self.old) (words_of 35 whole)) }
+        ensures map { self.new.nodes ≡ self.old.nodes }
+        ensures given { Gives result self.new (after_words self.old.nodes number (said self.old) words.entry) }
     {
-        let Some(mut fields) = words_of(b'#', line, over) else {
+        let Some(mut fields) = words else {
             return Err(FleetError::BadLine(number));
         };
         let Some(word) = fields.next_field() else {
@@ -76,7 +72,7 @@ impl FleetLines {
             return self.setting_line(number, &mut fields);
         }
         if word == b"vehicle".as_slice() {
-            return self.vehicle_line(nodes, number, &mut fields);
+            return self.vehicle_line(number, &mut fields);
         }
         Err(FleetError::BadLine(number))
     }
@@ -85,6 +81,7 @@ impl FleetLines {
     fn setting_line(&mut self, number: u64, fields: &mut Fields<'_>) -> Result<(), FleetError>
         requires { IsWithin self.old }
         ensures within { IsWithin self.new }
+        ensures map { self.new.nodes ≡ self.old.nodes }
         ensures given { Gives result self.new (setting_line number (said self.old) (setting_of fields.old)) }
     {
         let Some((name, value)) = read_setting(fields) else {
@@ -102,15 +99,11 @@ impl FleetLines {
     }
 
     /// Takes the fields after `vehicle`.
-    fn vehicle_line(
-        &mut self,
-        nodes: u32,
-        number: u64,
-        fields: &mut Fields<'_>,
-    ) -> Result<(), FleetError>
+    fn vehicle_line(&mut self, number: u64, fields: &mut Fields<'_>) -> Result<(), FleetError>
         requires { IsWithin self.old }
         ensures within { IsWithin self.new }
-        ensures given { Gives result self.new (vehicle_line nodes number (said self.old) (vehicle_from (numbers_of fields.old))) }
+        ensures map { self.new.nodes ≡ self.old.nodes }
+        ensures given { Gives result self.new (vehicle_line self.old.nodes number (said self.old) (vehicle_from (numbers_of fields.old))) }
     {
         let Some(new) = read_vehicle(fields) else {
             return Err(FleetError::BadLine(number));
@@ -118,7 +111,7 @@ impl FleetLines {
         if has_id(self.vehicles.as_slice(), new.id) {
             return Err(FleetError::Repeat(number));
         }
-        if new.node == 0 || new.node > u64::from(nodes) {
+        if new.node == 0 || new.node > u64::from(self.nodes) {
             return Err(FleetError::NodeOut(number));
         }
         if has_value_out(&new) {
@@ -131,6 +124,20 @@ impl FleetLines {
             return Err(FleetError::NoMemory);
         };
         Ok(())
+    }
+}
+
+impl LineReader for FleetLines {
+    type Refusal = FleetError;
+
+    ghost use Rattle.fleet_file.specs.Reading.{HasTaken, Refuses};
+
+    ghost takes = { λ first lines now. HasTaken first lines now };
+
+    ghost refuses = { λ first lines e. Refuses first lines e };
+
+    fn line(&mut self, number: u64, line: &[u8], over: bool) -> Result<(), FleetError> {
+        self.words(number, words_of(b'#', line, over))
     }
 }
 

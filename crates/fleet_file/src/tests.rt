@@ -46,6 +46,7 @@ fn odd_spellings_give_the_same_fleet_in_any_pieces(rt: HostRuntime) -> Result<()
 fn each_refusal_has_its_line(rt: HostRuntime) {
     a_text_has_one_answer();
     refuses(&rt, b"set speed 1", FleetError::BadLine(1));
+    refuses(&rt, b"\n# roads\nset lead x", FleetError::BadLine(3));
     refuses(&rt, b"vehicle 1 1 1", FleetError::BadLine(1));
     refuses(&rt, b"set lead 1\nset lead 9999", FleetError::Repeat(2));
     refuses(
@@ -54,9 +55,51 @@ fn each_refusal_has_its_line(rt: HostRuntime) {
         FleetError::Repeat(2),
     );
     refuses(&rt, b"vehicle 1 0 5 0", FleetError::NodeOut(1));
-    refuses(&rt, b"vehicle 1 0 1 0", FleetError::ValueOut(1));
-    refuses(&rt, b"set batch 129", FleetError::ValueOut(1));
-    refuses(&rt, b"set log 3", FleetError::ValueOut(1));
+    refuses(&rt, b"vehicle 1 0 0 0", FleetError::NodeOut(1));
+}
+
+#[test]
+fn a_value_out_of_its_range_is_refused(rt: HostRuntime) {
+    let lines = [
+        b"set batch 0".as_slice(),
+        b"set batch 129",
+        b"set penalty 1000000000001",
+        b"set drive 1001",
+        b"set wait 1001",
+        b"set lead 3601",
+        b"set dwell 3601",
+        b"set log 0",
+        b"set log 3",
+        b"vehicle 1 0 1 0",
+        b"vehicle 1 17 1 0",
+        b"vehicle 1 1 1 0 5",
+        b"vehicle 1 1 1 1000000001",
+    ];
+    for line in lines {
+        refuses(&rt, line, FleetError::ValueOut(1));
+    }
+}
+
+#[test]
+fn an_over_long_line_is_bad_or_a_comment(rt: HostRuntime) -> Result<(), Fail> {
+    let map = Network::new(4, Vec::new(rt.alloc()));
+    let mut bytes = vec![in rt.alloc(); b'#'; 201]?;
+    let mut source = MemSource::new(bytes.as_slice(), &[], &[]);
+    assert!(rt; read_fleet(rt.alloc(), &mut source, &map).is_ok());
+    bytes[0] = b' ';
+    refuses(&rt, bytes.as_slice(), FleetError::BadLine(1));
+    Ok(())
+}
+
+#[test]
+fn more_bytes_than_the_limit_are_too_long(rt: HostRuntime) -> Result<(), Fail> {
+    let map = Network::new(4, Vec::new(rt.alloc()));
+    let mut bytes = vec![in rt.alloc(); b'#'; 1 << 20]?;
+    let mut source = MemSource::new(bytes.as_slice(), &[], &[]);
+    assert!(rt; read_fleet(rt.alloc(), &mut source, &map).is_ok());
+    bytes.push(b'#')?;
+    refuses(&rt, bytes.as_slice(), FleetError::TooLong);
+    Ok(())
 }
 
 // The lines of so many vehicles.

@@ -1,11 +1,10 @@
 -- What a problem line and an arc line make of what was said so far.
-use Rattle.std.proofs.Common.{◌≡◌, ◌≢◌, ℕ, zero, suc, ◌+◌, ◌-◌, ◌^◌, ◌<◌, ◌≤◌, min, nat_lt, Bool, true, false, cond, if◌then◌else◌, List, [], ◌∷◌, ◌++◌, length, take, Option, Some, None, is_some, Result, Ok, Err, IfErr, OnOk, refl, ap, sym, subst, ◌∙◌, arith, length-append, ltb-true, ltb-false}
+use Rattle.std.proofs.Common.{◌≡◌, ℕ, zero, suc, ◌+◌, ◌-◌, ◌^◌, ◌<◌, ◌≤◌, min, nat_lt, true, false, cond, if◌then◌else◌, List, [], ◌∷◌, ◌++◌, length, take, Option, Some, None, is_some, Result, Ok, Err, IfErr, OnOk, refl, ap, sym, subst, ◌∙◌, arith, ltb-true, ltb-false}
 use Rattle.std.specs.Prelude.{All, MatchOption}
 use Rattle.std.proofs.lemmas.List.{take_all, take-append-le, length_push}
 use Rattle.std.proofs.lemmas.List.Elements.{All-append}
 use Rattle.std.proofs.Math.Seq.{take-nil}
 use Rattle.line_text.specs.Fields.{numbers_of}
-use Rattle.line_text.specs.Texts.{and_then}
 use Rattle.ride_model.specs.declared.network.RoadArc.{RoadArc}
 use Rattle.gr_reader.specs.declared.errors.MapError.{MapError}
 use Rattle.gr_reader.specs.declared.errors.MapError.TheVariants.{NoMemory}

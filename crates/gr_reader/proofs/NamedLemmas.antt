@@ -1,16 +1,15 @@
 -- A text's refusal is neither want of memory nor a fault of reading.
-use Rattle.std.proofs.Common.{◌≡◌, ◌≢◌, ℕ, ◌+◌, nat_lt, ◌==◌, ◌||◌, Bool, true, false, cond, List, [], ◌∷◌, ◌++◌, length, take, Option, Some, None, Result, Ok, Err, IfErr, refl, ap, sym, subst, ◌∙◌, true≢false}
+use Rattle.std.proofs.Common.{◌≡◌, ◌≢◌, ℕ, ◌+◌, nat_lt, ◌==◌, ◌||◌, Bool, true, false, cond, List, [], ◌∷◌, length, take, Option, Some, None, Result, Ok, Err, IfErr, refl, ap, sym, ◌∙◌, true≢false}
 use Rattle.std.specs.Prelude.{codes}
 use Rattle.std.specs.Str.{bytes_eq}
 use Rattle.line_text.specs.Fields.{numbers_of, words_of}
 use Rattle.line_text.specs.Lines.{ended_lines, lines_of}
 use Rattle.line_text.specs.Texts.{and_then, after_lines, after_ended}
 use Rattle.ride_model.specs.declared.network.RoadArc.{RoadArc}
-use Rattle.ride_model.specs.Road.{RoadMap}
 use Rattle.gr_reader.specs.declared.lines.Problem.{Problem}
 use Rattle.gr_reader.specs.declared.errors.MapError.{MapError}
 use Rattle.gr_reader.specs.declared.errors.MapError.TheVariants.{NoMemory, ReadFault}
-use Rattle.gr_reader.specs.MapText.{MapSoFar, map_format, map_text, map_of, map_from, after_words, problem_line, arc_line, problem_of, arc_from, checked_problem, checked_arc, is_out}
+use Rattle.gr_reader.specs.MapText.{MapSoFar, map_format, map_text, map_from, after_words, problem_line, arc_line, problem_of, arc_from, checked_problem, checked_arc, is_out}
 
 is_named : MapError → Bool
 is_named NoMemory = false
@@ -88,6 +87,6 @@ pub map_text-no_fault : (bytes : List ℕ) → map_text bytes ≢ Err ReadFault
 unfolding is_named
 map_text-no_fault bytes is = unnamed (map_text bytes) ReadFault refl (named-text bytes) is
 
-pub after_ended-no_fault : (bytes : List ℕ) → after_ended map_format bytes ≢ Err ReadFault
+pub after_all-no_fault : (lines : List (List ℕ)) → after_lines map_format 1 map_format.start lines ≢ Err ReadFault
 unfolding is_named
-after_ended-no_fault bytes is = unnamed (after_ended map_format bytes) ReadFault refl (named-lines 1 map_format.start (ended_lines bytes)) is
+after_all-no_fault lines is = unnamed (after_lines map_format 1 map_format.start lines) ReadFault refl (named-lines 1 map_format.start lines) is

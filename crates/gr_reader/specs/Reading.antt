@@ -1,15 +1,13 @@
 -- What the reader keeps of the lines so far.
-use Rattle.std.specs.Prelude.{◌≡◌, ◌≢◌, ℕ, ◌+◌, ◌≤◌, List, [], length, take, All, Option, Some, None, MatchOption, Result, Ok, Err, MatchResult}
-use Rattle.line_text.specs.Cutter.{CutterState, HasTaken}
-use Rattle.line_text.specs.Lines.{ended_lines}
-use Rattle.line_text.specs.Texts.{after_ended}
+use Rattle.std.specs.Prelude.{◌≡◌, ◌≢◌, ℕ, ◌≤◌, List, [], length, take, All, Option, Some, None, MatchOption, Result, Ok, Err, MatchResult}
+use Rattle.line_text.specs.Texts.{after_lines}
 use Rattle.ride_model.specs.declared.network.RoadArc.{RoadArc}
-use Rattle.ride_model.specs.Road.{RoadMap, IsArc}
+use Rattle.ride_model.specs.Road.{IsArc}
 use Rattle.gr_reader.specs.declared.lines.Problem.{Problem}
 use Rattle.gr_reader.specs.declared.lines.MapLines.{MapLines}
 use Rattle.gr_reader.specs.declared.errors.MapError.{MapError}
-use Rattle.gr_reader.specs.declared.errors.MapError.TheVariants.{NoMemory, ReadFault}
-use Rattle.gr_reader.specs.MapText.{MapSoFar, map_format, map_text}
+use Rattle.gr_reader.specs.declared.errors.MapError.TheVariants.{NoMemory}
+use Rattle.gr_reader.specs.MapText.{MapSoFar, map_format}
 
 -- a problem within the limits
 pub record IsProblem (problem : Problem) : Type 0 where
@@ -43,15 +41,13 @@ Gives outcome lines number answer = MatchResult outcome
     (λ _. (next : MapSoFar) × (answer ≡ Ok next) × Holds lines next × (length next.arcs ≤ number))
     (λ e. e ≢ NoMemory → answer ≡ Err e)
 
--- the reader has read the bytes with no refusal
-pub record HasRead (cutter : CutterState) (lines : MapLines) (bytes : List ℕ) : Type 0 where
-  pub taken : HasTaken cutter bytes
-  pub most : cutter.most ≡ 200
+-- the reader has taken these lines of a map
+pub record HasTaken (lines : List (List ℕ)) (now : MapLines) : Type 0 where
   pub so_far : MapSoFar
-  pub said : after_ended map_format bytes ≡ Ok so_far
-  pub holds : Holds lines so_far
-  pub few : length so_far.arcs ≤ length (ended_lines bytes)
+  pub said : after_lines map_format 1 map_format.start lines ≡ Ok so_far
+  pub holds : Holds now so_far
+  pub few : length so_far.arcs ≤ length lines
 
--- a refusal, unless memory ran out
-abbrev pub RefusesLine : List ℕ → MapError → Type 0
-RefusesLine bytes e = e ≢ NoMemory → after_ended map_format bytes ≡ Err e
+-- the last of these lines of a map is its first faulty one, unless memory ran out
+abbrev pub Refuses : List (List ℕ) → MapError → Type 0
+Refuses lines e = e ≢ NoMemory → after_lines map_format 1 map_format.start lines ≡ Err e

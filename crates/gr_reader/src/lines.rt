@@ -5,7 +5,7 @@ ghost use Rattle.gr_reader.specs.MapText.{arc_from, checked_arc, checked_problem
 ghost use Rattle.gr_reader.specs.Reading.{IsArcAmong, IsProblem};
 
 use crate::MapError;
-use line_text::{Fields, words_of};
+use line_text::{Fields, LineReader, words_of};
 use ride_model::{Network, RoadArc};
 use std::alloc::Global;
 
@@ -43,13 +43,12 @@ impl MapLines {
         }
     }
 
-    /// Takes the line of this number: its first 200 bytes, and whether it has more.
-    pub fn line(&mut self, number: u64, line: &[u8], over: bool) -> Result<(), MapError>
-        ensures { (so_far : MapSoFar) (whole : List ℕ) → Holds self.old so_far → length so_far.arcs < number →
-            line.now ≡ take 200 whole → over ≡ is_over_long whole →
-            Gives result self.new number (after_words number so_far (words_of 99 whole)) }
+    /// Takes what the line of this number says.
+    fn words(&mut self, number: u64, words: Option<Fields<'_>>) -> Result<(), MapError>
+        ensures { (so_far : MapSoFar) → Holds self.old so_far → length so_far.arcs < number →
+            Gives result self.new number (after_words number so_far words.entry) }
     {
-        let Some(mut fields) = words_of(b'c', line, over) else {
+        let Some(mut fields) = words else {
             return Err(MapError::BadLine(number));
         };
         let Some(word) = fields.next_field() else {
@@ -126,6 +125,20 @@ impl MapLines {
             });
         }
         Ok(Network::new(problem.nodes, self.arcs))
+    }
+}
+
+impl LineReader for MapLines {
+    type Refusal = MapError;
+
+    ghost use Rattle.gr_reader.specs.Reading.{HasTaken, Refuses};
+
+    ghost takes = { λ _ lines now. HasTaken lines now };
+
+    ghost refuses = { λ _ lines e. Refuses lines e };
+
+    fn line(&mut self, number: u64, line: &[u8], over: bool) -> Result<(), MapError> {
+        self.words(number, words_of(b'c', line, over))
     }
 }
 

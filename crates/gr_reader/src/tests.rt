@@ -68,3 +68,20 @@ fn a_faulty_line_comes_before_a_later_fault(rt: HostRuntime) {
     assert!(rt; read_map(rt.alloc(), &mut src).is_err_and(|e| e == MapError::ReadFault));
     assert_eq!(rt; src.faults(), 1);
 }
+
+#[test]
+fn an_over_long_line_is_bad_or_a_comment(rt: HostRuntime) -> Result<(), Fail> {
+    let mut bytes = Vec::from_array(rt.alloc(), *b"p sp 1 0\nc")?;
+    bytes.resize(9 + 201, b' ')?;
+    assert!(rt; read(&rt, bytes.as_slice()).is_ok());
+    bytes[9] = b' ';
+    refuses(&rt, bytes.as_slice(), MapError::BadLine(2));
+    Ok(())
+}
+
+#[test]
+fn more_bytes_than_the_limit_are_too_long(rt: HostRuntime) -> Result<(), Fail> {
+    let bytes = vec![in rt.alloc(); b'c'; (1 << 27) + 1]?;
+    refuses(&rt, bytes.as_slice(), MapError::TooLong);
+    Ok(())
+}

@@ -2,5 +2,6 @@ pub mod LineLemmas
 mod CutterLemmas
 mod FieldLemmas
 mod NumberLemmas
+mod ReadingLemmas
 pub mod TextLemmas
 pub mod PrintedLemmas

@@ -8,9 +8,9 @@ use Rattle.std.specs.Str.Parse.{digits_value}
 use Rattle.std.proofs.Math.Nat.{pow-le-pow_right}
 use Rattle.std.proofs.lemmas.Fmt.{decimal_nonempty, digits_decimal, digits_value-decimal, length-decimal-le}
 use Rattle.std.proofs.lemmas.Int.Digits.{digits_value-lt}
-use Rattle.std.proofs.lemmas.Str.Parse.{IsDigitsTest, IsNumeralModel, tells_all_ascii_digits, numerals_by_value}
+use Rattle.std.proofs.lemmas.Str.Parse.{IsNumeralModel, tells_all_ascii_digits, numerals_by_value}
 use Rattle.line_text.specs.Numbers.{number_of}
-use Rattle.line_text.specs.Fields.{is_blank, is_dropped, before_end, without_end, begins_field, joined, runs_of, fields_of, numbers_of}
+use Rattle.line_text.specs.Fields.{is_blank, is_dropped, before_end, without_end, begins_field, runs_of, fields_of, numbers_of}
 use Rattle.line_text.proofs.FieldLemmas.{before_end-not_nil}
 use Rattle.line_text.proofs.NumberLemmas.{number_of-some}
 

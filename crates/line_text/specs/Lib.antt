@@ -3,3 +3,4 @@ pub mod Cutter
 pub mod Numbers
 pub mod Fields
 pub mod Texts
+pub mod Reading

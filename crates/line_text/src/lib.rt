@@ -1,14 +1,16 @@
-//! Lines of a text that comes in any pieces, their fields, and decimal numbers. Only
-//! `LineCutter::new` takes memory.
+//! Lines of a text that comes in any pieces, the reading of a source line by line, the fields of
+//! a line, and decimal numbers. Only `LineCutter::new` takes memory, and `read_lines` by it.
 #![tactic(auto)]
 
 mod cutter;
 mod fields;
 mod numbers;
+mod reading;
 
 pub use cutter::{Cut, LineCutter};
 pub use fields::{Fields, words_of};
 pub use numbers::{put_number, read_number};
+pub use reading::{LineReader, ReadError, read_lines};
 
 /// The most bytes of a line of a map, a fleet file or a feed that is not over-long.
 pub const MOST_LINE: usize = 200;

@@ -1,5 +1,12 @@
 //! Odd spellings of lines, fields and numbers.
-use crate::{Fields, LineCutter, MOST_LINE, put_number, read_number, words_of};
+ghost use Rattle.std.specs.Prelude.{◌≡◌, length};
+
+use crate::{
+    Fields, LineCutter, LineReader, MOST_LINE, ReadError, put_number, read_lines, read_number,
+    words_of,
+};
+use arrayvec::ArrayVec;
+use ride_ports::MemSource;
 use std::test::Fail;
 
 #[test]
@@ -78,4 +85,95 @@ fn lines_are_those_of_all_pieces(rt: HostRuntime) -> Result<(), Fail> {
     assert_eq!(rt; cutter.number(), 3);
     assert_eq!(rt; MOST_LINE, 200);
     Ok(())
+}
+
+// Keeps what it is shown of each line, with a bar after it, and refuses the line `bad`.
+#[derive(Drop)]
+struct Shown {
+    lines: u64,
+    text: ArrayVec<u8, 40>,
+}
+
+impl LineReader for Shown {
+    // The line's number.
+    type Refusal = u64;
+
+    ghost takes = { λ _ lines now. now.lines ≡ length lines };
+
+    ghost refuses = { λ _ lines e. e ≡ length lines };
+
+    fn line(&mut self, number: u64, line: &[u8], over: bool) -> Result<(), u64> {
+        if line == b"bad".as_slice() {
+            return Err(number);
+        }
+        self.lines = number;
+        let _ = self.text.try_extend_from_slice(line);
+        let _ = self.text.try_push(if over { b'+' } else { b'|' });
+        Ok(())
+    }
+}
+
+fn nothing_shown() -> Shown
+    ensures { result.lines ≡ 0 }
+{
+    Shown {
+        lines: 0,
+        text: ArrayVec::new(),
+    }
+}
+
+#[test]
+fn each_line_is_handed_on_once_in_any_pieces(rt: HostRuntime) {
+    for pieces in [&[1][..], &[2], &[7], &[]] {
+        let mut shown = nothing_shown();
+        let mut source = MemSource::new(b"ab\n\nc d\r\nlast", pieces, &[]);
+        assert_eq!(rt; read_lines(rt.alloc(), &mut source, 14, &mut shown), Ok(()));
+        assert_eq!(rt; shown.text.as_slice(), b"ab||c d\r|last|".as_slice());
+        assert_eq!(rt; shown.lines, 4);
+    }
+}
+
+#[test]
+fn a_faulty_line_comes_before_a_later_fault_of_the_source(rt: HostRuntime) {
+    let mut shown = nothing_shown();
+    let mut source = MemSource::new(b"ab\nbad\ncd\n", &[7, 1], &[2]);
+    let read = read_lines(rt.alloc(), &mut source, 100, &mut shown);
+    assert_eq!(rt; read, Err(ReadError::Refused(2)));
+    assert_eq!(rt; source.faults(), 0);
+    let mut shown = nothing_shown();
+    let mut source = MemSource::new(b"ab\nbad\ncd\n", &[6, 1], &[2]);
+    let read = read_lines(rt.alloc(), &mut source, 100, &mut shown);
+    assert_eq!(rt; read, Err(ReadError::ReadFault));
+    assert_eq!(rt; source.faults(), 1);
+    assert_eq!(rt; shown.text.as_slice(), b"ab|".as_slice());
+}
+
+#[test]
+fn the_last_line_needs_no_lf(rt: HostRuntime) {
+    let mut shown = nothing_shown();
+    let mut source = MemSource::new(b"ab\nbad", &[2], &[]);
+    let read = read_lines(rt.alloc(), &mut source, 6, &mut shown);
+    assert_eq!(rt; read, Err(ReadError::Refused(2)));
+    let mut shown = nothing_shown();
+    let mut source = MemSource::new(b"", &[], &[]);
+    assert_eq!(rt; read_lines(rt.alloc(), &mut source, 0, &mut shown), Ok(()));
+    assert_eq!(rt; shown.lines, 0);
+}
+
+#[test]
+fn a_faulty_line_within_the_limit_comes_before_it(rt: HostRuntime) {
+    let cases = [
+        (b"ab\ncd".as_slice(), Ok(())),
+        (b"ab\ncd\n", Err(ReadError::TooLong)),
+        (b"ab\nbad\n", Err(ReadError::TooLong)),
+        (b"bad\ncd\n", Err(ReadError::Refused(1))),
+    ];
+    for (bytes, expected) in cases {
+        for pieces in [&[1][..], &[2], &[7]] {
+            let mut shown = nothing_shown();
+            let mut source = MemSource::new(bytes, pieces, &[]);
+            let read = read_lines(rt.alloc(), &mut source, 5, &mut shown);
+            assert_eq!(rt; read, expected);
+        }
+    }
 }

@@ -1,23 +1,28 @@
-use Rattle.std.proofs.Common.{◌≡◌, ◌++◌, List, ℕ, Err, sym, ◌∙◌}
-use Rattle.std.proofs.lemmas.Result.{err_from_is_err_and}
-use Rattle.ride_ports.proofs.ByteLemmas.{Reads-to_end}
-use Rattle.gr_reader.proofs.ReadLemmas.{HasRead-nothing, told-map, told-refusal, told-front, answer-no_fault}
+use Rattle.std.proofs.Common.{◌≡◌, Err, ap}
+use Rattle.gr_reader.proofs.ReadLemmas.{taken-nothing, told-line, told-too_long, line-no_fault}
 use Rattle.gr_reader.proofs.reading.read_map.Goals as goal
 
 pub read_lines-requires-after_bounds : goal.read_lines-requires-after_bounds
-read_lines-requires-after_bounds g c κs a = HasRead-nothing _ _ c.in-Ok.ensures.nothing_taken c.in-Ok.ensures.most c.new-lines.ensures
+read_lines-requires-after_bounds g c κs within = taken-nothing c.new-lines.result c.new-lines.ensures
 
-pub returns-clause-network : goal.returns-clause-network
-returns-clause-network g c =
-    let (bytes, reads, short, read) = c.in_ok-read_lines.ensures.read in
-    told-map c.end.result _ bytes (c.end.ensures bytes read short) (Reads-to_end reads c.in_ok-read_lines.ensures.to_end)
+pub returns-in-Err-Refused-clause-refused : goal.returns-in-Err-Refused-clause-refused
+returns-in-Err-Refused-clause-refused g c memory fault =
+    let (lines, refuses, first) = c.in-Err-Refused.ensures.refused c.in-Err-Refused.error (ap (λ e. Err e) c.in-Err-Refused.field-0-is) in
+    told-line _ lines c.in-Err-Refused.error refuses first memory
 
-pub returns-clause-refused : goal.returns-clause-refused
-returns-clause-refused g c =
-    let (bytes, reads, short, read) = c.in_ok-read_lines.ensures.read in
-    told-refusal c.end.result _ bytes (c.end.ensures bytes read short) (Reads-to_end reads c.in_ok-read_lines.ensures.to_end)
+pub returns-in-Err-Refused-clause-read_fault : goal.returns-in-Err-Refused-clause-read_fault
+returns-in-Err-Refused-clause-read_fault g c is =
+    let (lines, refuses, first) = c.in-Err-Refused.ensures.refused c.in-Err-Refused.error (ap (λ e. Err e) c.in-Err-Refused.field-0-is) in
+    let same : c.in-Err-Refused.error ≡ _ = cc in
+    absurd (line-no_fault lines c.in-Err-Refused.error refuses same)
 
-pub returns-clause-read_fault : goal.returns-clause-read_fault
-returns-clause-read_fault g c is =
-    let (bytes, reads, short, read) = c.in_ok-read_lines.ensures.read in
-    absurd (answer-no_fault c.end.result bytes (c.end.ensures bytes read short) is)
+pub returns-in-Err-Refused-clause-before_fault : goal.returns-in-Err-Refused-clause-before_fault
+returns-in-Err-Refused-clause-before_fault g c is =
+    let (lines, refuses, first) = c.in-Err-Refused.ensures.refused c.in-Err-Refused.error (ap (λ e. Err e) c.in-Err-Refused.field-0-is) in
+    let same : c.in-Err-Refused.error ≡ _ = cc in
+    absurd (line-no_fault lines c.in-Err-Refused.error refuses same)
+
+pub returns-in-Err-TooLong-clause-refused : goal.returns-in-Err-TooLong-clause-refused
+returns-in-Err-TooLong-clause-refused g c memory fault =
+    let (bytes, full, taken, more) = c.in-Err-TooLong.ensures.too_long (ap (λ e. Err e) c.in-Err-TooLong.field-0-is) in
+    told-too_long _ bytes c.read_lines.new.reader full taken more

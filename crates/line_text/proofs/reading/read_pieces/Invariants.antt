@@ -1,13 +1,13 @@
 use Rattle.std.proofs.Common.{◌≡◌, ℕ, ◌+◌, List, length}
 use Rattle.ride_ports.specs.Bytes.{Reads}
-use Rattle.gr_reader.specs.Reading.{HasRead}
-use Rattle.gr_reader.proofs.reading.read_lines.Given as goal
+use Rattle.line_text.specs.Reading.{HasRead}
+use Rattle.line_text.proofs.reading.read_pieces.Given as goal
 
--- the bytes so far were read with no refusal and no fault
+-- the bytes so far were read with no fault, and the lines that end in them were taken
 abbrev pub invariant-pieces : goal.invariant-pieces
 invariant-pieces g l = record {
   read : (bytes : List ℕ) × Reads (g.S.Source.left l.initial.src) (g.S.Source.left l.src) bytes
-      × (length bytes + l.room ≡ 134217728) × HasRead l.cutter l.lines bytes;
+      × (length bytes + l.room ≡ l.most) × HasRead g.L.LineReader.takes l.initial.reader l.cutter l.reader bytes;
   count : g.S.Source.faults l.src ≡ g.S.Source.faults l.initial.src;
 }
 

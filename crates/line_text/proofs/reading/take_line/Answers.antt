@@ -2,29 +2,29 @@ use Rattle.std.proofs.Common.{◌≡◌, ◌++◌, List, ℕ, Ok, Err, Bool, Mat
 use Rattle.std.proofs.lemmas.Bool.{not-false}
 use Rattle.std.proofs.lemmas.Result.{err_from_is_err_and}
 use Rattle.line_text.specs.Cutter.{Continues, EndsLine}
-use Rattle.fleet_file.specs.Reading.{RefusesLine}
-use Rattle.fleet_file.proofs.ReadLemmas.{HasRead-took, RefusesLine-append}
-use Rattle.fleet_file.proofs.reading.take_line.Goals as goal
+use Rattle.line_text.specs.Reading.{IsRefused}
+use Rattle.line_text.proofs.ReadingLemmas.{read-line, refused-append}
+use Rattle.line_text.proofs.reading.take_line.Goals as goal
 
 pub returns-in_err-line-clause-read : goal.returns-in_err-line-clause-read
-returns-in_err-line-clause-read c bytes read short =
+returns-in_err-line-clause-read g c first bytes read short =
     let failed = err_from_is_err_and c.from_residual.result c.from_residual.ensures.1 in
     let cut = c.take-cut in
     let part : List ℕ = take cut.result.used c.args.piece.now in
     let ends : EndsLine cut.new.self bytes part =
     subst (λ (v : Bool). MatchBool v (EndsLine cut.new.self bytes part) (Continues bytes part)) (not-false _ c.if-not-cut.false) (cut.ensures.lines bytes read.taken) in
-    let refused = HasRead-took {T = Unit {0}} (Err c.in_err-line.field-0.0) c.args.nodes c.args.cutter.now cut.new.self c.args.lines.now c.line-2.new.self bytes part _ _ _ read (omega arith)
-    (cut.ensures.taken bytes read.taken) cut.ensures.most ends c.number.ensures c.line.ensures c.over.ensures c.in_err-line.ensures.given in
+    let refused = read-line {T = Unit {0}} g.L.LineReader.takes g.L.LineReader.refuses (Err c.in_err-line.field-0.0) first c.args.reader.now c.line-2.new.self c.args.cutter.now cut.new.self bytes part _ _ _
+    read (omega arith) (cut.ensures.taken bytes read.taken) cut.ensures.most ends c.number.ensures c.line.ensures c.over.ensures c.in_err-line.ensures in
     let whole : (bytes ++ part) ++ drop cut.result.used c.args.piece.now ≡ bytes ++ c.args.piece.now =
     append_assoc bytes part (drop cut.result.used c.args.piece.now) ∙ ap (λ l. bytes ++ l) (take-append-drop cut.result.used c.args.piece.now) in
-    rw (failed.1, failed.2) (subst (λ (l : List ℕ). RefusesLine c.args.nodes l c.in_err-line.field-0.0) whole
-    (RefusesLine-append c.args.nodes c.in_err-line.field-0.0 (bytes ++ part) (drop cut.result.used c.args.piece.now) refused))
+    rw (failed.1, failed.2) (subst (λ (l : List ℕ). IsRefused g.L.LineReader.refuses first l c.in_err-line.field-0.0) whole
+    (refused-append g.L.LineReader.refuses first (bytes ++ part) (drop cut.result.used c.args.piece.now) c.in_err-line.field-0.0 refused))
 
 pub returns-clause-read : goal.returns-clause-read
-returns-clause-read c bytes read short =
+returns-clause-read g c first bytes read short =
     let cut = c.take-cut in
     let part : List ℕ = take cut.result.used c.args.piece.now in
     let ends : EndsLine cut.new.self bytes part =
     subst (λ (v : Bool). MatchBool v (EndsLine cut.new.self bytes part) (Continues bytes part)) (not-false _ c.if-not-cut.false) (cut.ensures.lines bytes read.taken) in
-    HasRead-took {T = Unit {0}} (Ok c.in_ok-line.field-0) c.args.nodes c.args.cutter.now cut.new.self c.args.lines.now c.line-2.new.self bytes part _ _ _ read (omega arith)
-    (cut.ensures.taken bytes read.taken) cut.ensures.most ends c.number.ensures c.line.ensures c.over.ensures c.in_ok-line.ensures.given
+    read-line {T = Unit {0}} g.L.LineReader.takes g.L.LineReader.refuses (Ok c.in_ok-line.field-0) first c.args.reader.now c.line-2.new.self c.args.cutter.now cut.new.self bytes part _ _ _
+    read (omega arith) (cut.ensures.taken bytes read.taken) cut.ensures.most ends c.number.ensures c.line.ensures c.over.ensures c.in_ok-line.ensures
