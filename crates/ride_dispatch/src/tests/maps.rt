@@ -5,16 +5,18 @@ use std::process::Abort;
 use std::test::Fail;
 use std::thread::Threads;
 
-// Asserts that a map is refused, and by which line.
+// Asserts that a map is refused in pieces of any length, and by which line.
 fn expect_refusal<R: Abort + Threads + Sync + AllocGlobal>(
     rt: &R,
     map: &[u8],
     line: &str,
 ) -> Result<(), Fail> {
-    let setup = Setup::whole(map, ONE_BY_ONE.as_bytes(), FEED.as_bytes());
-    let answer = replayed(rt, setup)?;
-    assert_eq!(rt; answer.written.as_slice(), line.as_bytes());
-    assert_eq!(rt; answer.status, 3);
+    for pieces in [&[1][..], &[2], &[7], &[]] {
+        let setup = Setup::in_pieces(map, ONE_BY_ONE.as_bytes(), FEED.as_bytes(), pieces);
+        let answer = replayed(rt, setup)?;
+        assert_eq!(rt; answer.written.as_slice(), line.as_bytes());
+        assert_eq!(rt; answer.status, 3);
+    }
     Ok(())
 }
 
