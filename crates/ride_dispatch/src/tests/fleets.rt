@@ -6,15 +6,18 @@ use std::process::Abort;
 use std::test::Fail;
 use std::thread::Threads;
 
-// Asserts that a fleet file is refused, and by which line.
+// Asserts that a fleet file is refused in pieces of any length, and by which line.
 fn expect_refusal<R: Abort + Threads + Sync + AllocGlobal>(
     rt: &R,
     fleet: &[u8],
     line: &str,
 ) -> Result<(), Fail> {
-    let answer = replayed(rt, Setup::whole(MAP, fleet, FEED.as_bytes()))?;
-    assert_eq!(rt; answer.written.as_slice(), line.as_bytes());
-    assert_eq!(rt; answer.status, 4);
+    for pieces in [&[1][..], &[2], &[7], &[]] {
+        let setup = Setup::in_pieces(MAP, fleet, FEED.as_bytes(), pieces);
+        let answer = replayed(rt, setup)?;
+        assert_eq!(rt; answer.written.as_slice(), line.as_bytes());
+        assert_eq!(rt; answer.status, 4);
+    }
     Ok(())
 }
 
