@@ -12,3 +12,4 @@ pub mod Replays
 pub mod OneVehicle
 pub mod Begun
 pub mod Stops
+pub mod OpenBatches

@@ -4,6 +4,11 @@ ghost use Rattle.ride_model.specs.declared.vehicle.Vehicle.{Vehicle};
 ghost use Rattle.ride_model.specs.Settings.{IsSettings};
 ghost use Rattle.ride_model.specs.Vehicle.{IsLawful};
 
+mod batches;
+mod days;
+mod readers;
+mod refusals;
+
 use crate::replay;
 use arrayvec::ArrayVec;
 use ride_model::{Fleet, Network, NoMemory, RoadArc, Settings, Vehicle};
