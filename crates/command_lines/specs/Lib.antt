@@ -1,1 +1,4 @@
 pub mod Commands
+pub mod Limits
+pub mod Pieces
+pub mod Feeds

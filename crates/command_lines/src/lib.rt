@@ -1,11 +1,17 @@
-//! The commands of a feed, read from its lines and printed in their canonical spelling. Nothing here takes memory.
+//! The commands of a feed, read from its lines and printed in their canonical spelling. Nothing here takes memory but
+//! `FeedReader::new`.
 #![tactic(auto)]
 
+mod feeds;
 pub mod laws;
+mod lines;
+mod pieces;
 mod printing;
 mod reading;
 mod verbs;
 
+pub use feeds::FeedReader;
+pub use pieces::FeedStop;
 pub use printing::print_command;
 pub use reading::{read_command, read_feed_line};
 

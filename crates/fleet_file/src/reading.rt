@@ -1,5 +1,5 @@
 //! The reader of a fleet file's bytes.
-ghost use Rattle.std.specs.Prelude.{All, ◌≡◌, ◌≢◌, ◌≤◌, ℕ, List, [], Ok, Err, OnOk, IfOk, IfErr, IfSome, IsOk};
+ghost use Rattle.std.specs.Prelude.{All, ◌≡◌, ◌≢◌, ◌≤◌, ℕ, List, [], length, Ok, Err, OnOk, IfOk, IfErr, IfSome, IsOk};
 ghost use Rattle.line_text.specs.Texts.{after_ended};
 ghost use Rattle.ride_model.specs.declared.vehicle.Vehicle.{Vehicle};
 ghost use Rattle.ride_model.specs.Settings.{IsSettings};
@@ -38,10 +38,14 @@ pub fn read_fleet<S: Source>(
     ensures refused { IfErr result (λ e. e ≢ NoMemory → e ≢ ReadFault →
         IfSome (S.left src.old) (λ bytes. fleet_text map.now.nodes bytes ≡ Err e)) }
 
-    // A fault of reading is the source's, and no line was faulty that was read whole.
+    // Whatever it answers, the bytes that are no more left are those that were taken.
+    ensures taken { (taken : List ℕ) × Reads (S.left src.old) (S.left src.new) taken }
+
+    // A fault of reading is the source's, within the limit, and no line was faulty that was read whole.
     ensures read_fault { result ≡ Err ReadFault → Rose (S.faults src.old) (S.faults src.new) }
     ensures before_fault { result ≡ Err ReadFault → (bytes : List ℕ)
-        × Reads (S.left src.old) (S.left src.new) bytes × IsOk (after_ended (fleet_format map.now.nodes) bytes) }
+        × Reads (S.left src.old) (S.left src.new) bytes × (length bytes ≤ 1048576)
+        × IsOk (after_ended (fleet_format map.now.nodes) bytes) }
     ensures other_counts_none { result ≢ Err ReadFault → S.faults src.new ≡ S.faults src.old }
     ensures count_never_falls { S.faults src.old ≤ S.faults src.new }
 {

@@ -1,5 +1,5 @@
 //! The reader of a map's bytes.
-ghost use Rattle.std.specs.Prelude.{◌≡◌, ◌≢◌, ◌≤◌, ℕ, List, [], Ok, Err, OnOk, IfOk, IfErr, IfSome, IsOk};
+ghost use Rattle.std.specs.Prelude.{◌≡◌, ◌≢◌, ◌≤◌, ℕ, List, [], length, Ok, Err, OnOk, IfOk, IfErr, IfSome, IsOk};
 ghost use Rattle.line_text.specs.Texts.{after_ended};
 ghost use Rattle.ride_ports.specs.Bytes.{Reads};
 ghost use Rattle.ride_ports.specs.Count.{Rose};
@@ -25,10 +25,14 @@ pub fn read_map<S: Source>(alloc: Global, src: &mut S) -> Result<Network, MapErr
     ensures refused { IfErr result (λ e. e ≢ NoMemory → e ≢ ReadFault →
         IfSome (S.left src.old) (λ bytes. map_text bytes ≡ Err e)) }
 
-    // A fault of reading is the source's, and no line was faulty that was read whole.
+    // Whatever it answers, the bytes that are no more left are those that were taken.
+    ensures taken { (taken : List ℕ) × Reads (S.left src.old) (S.left src.new) taken }
+
+    // A fault of reading is the source's, within the limit, and no line was faulty that was read whole.
     ensures read_fault { result ≡ Err ReadFault → Rose (S.faults src.old) (S.faults src.new) }
     ensures before_fault { result ≡ Err ReadFault → (bytes : List ℕ)
-        × Reads (S.left src.old) (S.left src.new) bytes × IsOk (after_ended map_format bytes) }
+        × Reads (S.left src.old) (S.left src.new) bytes × (length bytes ≤ 134217728)
+        × IsOk (after_ended map_format bytes) }
     ensures other_counts_none { result ≢ Err ReadFault → S.faults src.new ≡ S.faults src.old }
     ensures count_never_falls { S.faults src.old ≤ S.faults src.new }
 {

@@ -1,7 +1,7 @@
 -- Lines of bytes that come in parts.
-use Rattle.std.proofs.Common.{◌≡◌, ℕ, zero, ◌<◌, get_or, ◌+◌, ◌≤◌, suc, Bool, true, false, cond, ◌==◌, ◌||◌, List, [], ◌∷◌, ◌++◌, length, take, refl, ap, ◌∙◌, append_assoc, append-nil, arith, eqb-true, add-one}
+use Rattle.std.proofs.Common.{◌≡◌, ℕ, zero, ◌<◌, get_or, ◌+◌, ◌≤◌, suc, Bool, true, false, cond, ◌==◌, ◌||◌, List, [], ◌∷◌, ◌++◌, length, take, refl, ap, ◌∙◌, append_assoc, append-nil, length-append, sym, arith, eqb-true, add-one}
 use Rattle.std.specs.List.{list_any, AllByRecursion}
-use Rattle.line_text.specs.Lines.{ended_after, rest_after, first_line, ended_lines, rest_of}
+use Rattle.line_text.specs.Lines.{ended_after, rest_after, first_line, ended_lines, last_line, lines_of, rest_of}
 
 -- no byte is an LF
 abbrev pub HasNoEnd : List ℕ → Type 0
@@ -118,3 +118,37 @@ first_line-none (b ∷ bytes) none =
 pub has_end-none : (piece : List ℕ) → ((k : ℕ) → k < length piece → (get_or piece k 0 == 10) ≡ false) → list_any (λ b. b == 10) piece ≡ false
 has_end-none [] none = refl
 has_end-none (b ∷ bytes) none = rw (none 0 (omega arith)) (has_end-none bytes (λ k below. none (suc k) (omega arith)))
+
+-- bytes are of at least one line
+pub some-line : (line bytes : List ℕ) → 0 < length line + length bytes → 1 ≤ length (ended_after line bytes) + length (last_line (rest_after line bytes))
+unfolding ended_after rest_after
+some-line [] [] some = absurd (omega arith)
+some-line (a ∷ line) [] some = omega arith
+some-line line (b ∷ bytes) some =
+    elim (b == 10) as (λ v. 1 ≤ length (cond v (line ∷ ended_after [] bytes) (ended_after (line ++ b ∷ []) bytes))
+    + length (last_line (cond v (rest_after [] bytes) (rest_after (line ++ b ∷ []) bytes)))) [
+      | true ↦ omega arith
+      | false ↦ some-line (line ++ b ∷ []) bytes (omega (arith, length-append line (b ∷ [])))
+    ]
+
+-- more bytes are of as many lines or more
+pub lines-grow : (xs ys : List ℕ) → length (lines_of xs) ≤ length (lines_of (xs ++ ys))
+lines-grow xs ys = by_rest (rest_of xs) refl
+  where
+    ended : length (ended_lines (xs ++ ys)) ≡ length (ended_lines xs) + length (ended_after (rest_of xs) ys)
+    ended = ap length (ended_lines-append xs ys) ∙ length-append (ended_lines xs) (ended_after (rest_of xs) ys)
+
+    all : length (lines_of (xs ++ ys)) ≡ length (ended_lines (xs ++ ys)) + length (last_line (rest_of (xs ++ ys)))
+    all = length-append (ended_lines (xs ++ ys)) (last_line (rest_of (xs ++ ys)))
+
+    first : length (lines_of xs) ≡ length (ended_lines xs) + length (last_line (rest_of xs))
+    first = length-append (ended_lines xs) (last_line (rest_of xs))
+
+    last : rest_of (xs ++ ys) ≡ rest_after (rest_of xs) ys
+    last = rest_after-append [] xs ys
+
+    by_rest : (rest : List ℕ) → rest_of xs ≡ rest → length (lines_of xs) ≤ length (lines_of (xs ++ ys))
+    by_rest [] is = omega (arith, ended, all, first, ap (λ l. length (last_line l)) is)
+    by_rest (b ∷ rest) is =
+        omega (arith, ended, all, first, ap (λ l. length (last_line l)) is, ap (λ l. length (last_line l)) last,
+        ap (λ l. length (ended_after l ys)) is, ap (λ l. length (last_line (rest_after l ys))) is, some-line (b ∷ rest) ys (omega arith))

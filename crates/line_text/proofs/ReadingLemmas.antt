@@ -1,9 +1,9 @@
 -- What a reader of lines has read after one more piece.
-use Rattle.std.proofs.Common.{◌≡◌, ◌≢◌, ℕ, ◌+◌, ◌-◌, ◌^◌, ◌<◌, ◌≤◌, min, nat_lt, Bool, true, false, cond, Option, Some, None, IfSome, List, [], ◌∷◌, ◌++◌, length, take, drop, Result, Ok, Err, MatchResult, refl, ap, sym, subst, ◌∙◌, arith, append_assoc, append-nil, length-append, length-take-le, length-drop, take-append-drop, take-take}
+use Rattle.std.proofs.Common.{◌≡◌, ◌≢◌, ℕ, ◌+◌, ◌-◌, ◌^◌, ◌<◌, ◌≤◌, min, nat_lt, Bool, true, false, cond, Option, Some, None, IfSome, List, [], ◌∷◌, ◌++◌, length, take, drop, Result, Ok, Err, MatchResult, refl, ap, sym, subst, ◌∙◌, arith, append_assoc, append-nil, length-append, length-take-le, length-drop, take-append-drop, take-take, le-ltb}
 use Rattle.std.proofs.lemmas.List.{take_rest}
 use Rattle.std.proofs.Math.Seq.{take-add, take-append-add}
 use Rattle.ride_ports.specs.Bytes.{Reads}
-use Rattle.ride_ports.proofs.ByteLemmas.{Reads-told}
+use Rattle.ride_ports.proofs.ByteLemmas.{Reads-to_end, Reads-told}
 use Rattle.line_text.specs.Cutter.{CutterState, HasTaken, EndsLine, ShowsRest}
 use Rattle.line_text.specs.Fields.{is_over_long}
 use Rattle.line_text.specs.Lines.{ended_after, ended_lines, last_line, lines_of, rest_of}
@@ -144,6 +144,20 @@ counted-refused refuses first most before after bytes buffer within count e less
         ∙ append_assoc (bytes ++ take within buffer) (drop within (take count buffer)) rest in
         subst (λ (l : List ℕ). AreFirst lines (counted_lines most l)) (sym split)
         (first-then lines (ended_lines (bytes ++ take within buffer)) _ ends (counted-front most (bytes ++ take within buffer) (drop within (take count buffer) ++ rest) fits))
+
+-- what refuses the last line, once all bytes were read
+pub last-refused : {L E : Type 0} (refuses : L → List (List ℕ) → E → Type 0) (first : L) (most : ℕ) (before after : Option (List ℕ)) (bytes : List ℕ) (e : E) →
+    length bytes ≤ most → Reads before after bytes → IfSome after (λ rest. rest ≡ []) → refuses first (lines_of bytes) e →
+    (lines : List (List ℕ)) × refuses first lines e × IfSome before (λ all. AreFirst lines (counted_lines most all))
+last-refused refuses first most before after bytes e short reads end refused = (lines_of bytes, refused, told before (Reads-to_end reads end))
+  where
+    counted : counted_lines most bytes ≡ lines_of bytes
+    counted = ap (λ v. cond v (ended_lines (take most bytes)) (lines_of bytes)) (le-ltb most (length bytes) short)
+
+    told : (before : Option (List ℕ)) → IfSome before (λ all. bytes ≡ all) → IfSome before (λ all. AreFirst (lines_of bytes) (counted_lines most all))
+    told None is = tt
+    told (Some all) is =
+        subst (λ (l : List ℕ). AreFirst (lines_of bytes) (counted_lines most l)) is ([], counted ∙ sym (append-nil (lines_of bytes)))
 
 -- more bytes than the limit
 pub goes-on : (before after : Option (List ℕ)) (bytes buffer : List ℕ) (room count : ℕ) → room < count → count ≤ length buffer → Reads before after (bytes ++ take count buffer) →

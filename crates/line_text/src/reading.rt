@@ -55,6 +55,9 @@ pub fn read_lines<S: Source, L: LineReader>(
 ) -> Result<(), ReadError<L::Refusal>>
     requires { L.takes reader.old [] reader.old }
 
+    // Whatever it answers, the bytes that are no more left are those that were taken.
+    ensures taken { (taken : List ℕ) × Reads (S.left src.old) (S.left src.new) taken }
+
     // All lines of all bytes were taken, in order.
     ensures read { OnOk result ((bytes : List ℕ) × Reads (S.left src.old) (S.left src.new) bytes
         × (length bytes ≤ most) × L.takes reader.old (lines_of bytes) reader.new) }
@@ -99,6 +102,7 @@ fn read_pieces<S: Source, L: LineReader>(
     reader: &mut L,
 ) -> Result<(), ReadError<L::Refusal>>
     requires { HasRead L.takes reader.old cutter.old reader.old [] }
+    ensures taken { (taken : List ℕ) × Reads (S.left src.old) (S.left src.new) taken }
     ensures read { OnOk result ((bytes : List ℕ) × Reads (S.left src.old) (S.left src.new) bytes
         × (length bytes ≤ most) × HasRead L.takes reader.old cutter.new reader.new bytes) }
     ensures to_end { OnOk result (IfSome (S.left src.new) (λ bytes. bytes ≡ [])) }

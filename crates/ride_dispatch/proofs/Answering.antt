@@ -1,5 +1,5 @@
 -- What a status says of the stop that it answers.
-use Rattle.std.proofs.Common.{◌≡◌, ◌≢◌, ◌⊎◌, inl, inr, ℕ, List, [], Option, Err, refl, sym, subst, ◌∙◌, ap, arith}
+use Rattle.std.proofs.Common.{◌≡◌, ◌⊎◌, inl, inr, ℕ, List, Option, subst, ◌∙◌, ap, arith}
 use Rattle.gr_reader.specs.declared.errors.MapError.{MapError}
 use Rattle.fleet_file.specs.declared.errors.FleetError.{FleetError}
 use Rattle.ride_dispatch.specs.declared.stop.Stop.{Stop}

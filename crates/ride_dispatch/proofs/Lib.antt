@@ -3,3 +3,6 @@ mod Stopping
 mod Answering
 mod Told
 mod Sessions
+mod Bringing
+mod Reaching
+mod Statuses

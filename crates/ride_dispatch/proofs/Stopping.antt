@@ -1,8 +1,7 @@
 -- What stops a replay, over the bytes that the shelf tells.
-use Rattle.std.proofs.Common.{◌≡◌, List, ℕ, Option, Some, None, IfSome, Ok, Err, inl, inr, refl}
+use Rattle.std.proofs.Common.{◌≡◌, List, ℕ, Option, Some, None, IfSome, Ok, inr}
 use Rattle.ride_model.specs.Road.{RoadMap}
 use Rattle.gr_reader.specs.MapText.{map_text}
-use Rattle.fleet_file.specs.FleetText.{fleet_text}
 use Rattle.ride_dispatch.specs.declared.stop.Stop.{Stop}
 use Rattle.ride_dispatch.specs.declared.stop.Stop.TheVariants.{NoMemory, ShelfFault, LimitPassed, MapRefused, FleetRefused}
 use Rattle.ride_dispatch.specs.Answers.{StopsFleet, StopsReplay}

@@ -1,5 +1,5 @@
 -- What the readers of map and fleet answer, over what a shelf tells.
-use Rattle.std.specs.Prelude.{◌≡◌, ◌⊎◌, ℕ, ⊤, List, Option, Result, Ok, Err, MatchResult, IfSome, option_and_then, [], codes}
+use Rattle.std.specs.Prelude.{◌≡◌, ◌⊎◌, ℕ, ⊤, List, Option, Result, Ok, Err, MatchResult, IfSome, option_and_then, []}
 use Rattle.ride_ports.specs.Contents.{Contents, bytes_at}
 use Rattle.ride_model.specs.Road.{RoadMap}
 use Rattle.ride_model.specs.declared.settings.Settings.{Settings}

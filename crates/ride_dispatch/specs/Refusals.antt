@@ -1,5 +1,5 @@
 -- What is said of a text that is refused.
-use Rattle.std.specs.Prelude.{◌≡◌, ℕ, ⊤, List, [], ◌++◌, Option, codes, decimal}
+use Rattle.std.specs.Prelude.{ℕ, ⊤, List, [], ◌++◌, Option, codes, decimal}
 use Rattle.ride_ports.specs.Bytes.{Writes, WritesPrefix}
 use Rattle.ride_ports.specs.Count.{Rose}
 use Rattle.gr_reader.specs.declared.errors.MapError.{MapError}

@@ -1,5 +1,5 @@
 -- The words of the program.
-use Rattle.std.specs.Prelude.{◌≡◌, ℕ, ◌==◌, ◌&&◌, if◌then◌else◌, Bool, List, [], ◌∷◌, length, take, slice_index_or, Option, Some, None, codes, bytes_eq}
+use Rattle.std.specs.Prelude.{◌≡◌, ℕ, ◌==◌, ◌&&◌, Bool, List, [], ◌∷◌, length, take, slice_index_or, codes, bytes_eq}
 
 -- the word at a place
 abbrev pub word_at : List (List ℕ) → ℕ → List ℕ

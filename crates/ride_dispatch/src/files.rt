@@ -1,10 +1,14 @@
 //! Named files, each read to its answer and given back.
-ghost use Rattle.std.specs.Prelude.{◌≡◌, ◌≢◌, ◌<◌, ◌≤◌, ◌+◌, ◌++◌, ◌∷◌, [], ℕ, length, string_bytes, All, Err, IfErr, IfOk, OnOk, MatchResult};
+ghost use Rattle.std.specs.Prelude.{◌≡◌, ◌≢◌, ◌<◌, ◌≤◌, ◌+◌, ◌++◌, ◌∷◌, [], ℕ, List, length, string_bytes, All, Err, IfErr, IfOk, OnOk, MatchResult};
 ghost use Rattle.ride_model.specs.declared.vehicle.Vehicle.{Vehicle};
 ghost use Rattle.ride_model.specs.Settings.{IsSettings};
 ghost use Rattle.ride_model.specs.Vehicle.{IsLawful};
+ghost use Rattle.ride_ports.specs.Contents.{GivenBack, given_back};
 ghost use Rattle.ride_ports.specs.Count.{Rose};
+ghost use Rattle.gr_reader.specs.MapText.{map_format};
+ghost use Rattle.fleet_file.specs.FleetText.{fleet_format};
 ghost use Rattle.ride_dispatch.specs.Answers.{stop_of_fleet, stop_of_map, told_bytes, AreTextsOf, ReadsFleet, ReadsMap, StopsReplay};
+ghost use Rattle.ride_dispatch.specs.Files.{BringsTexts, IsReadAs, IsReadBy};
 ghost use Rattle.ride_dispatch.specs.Words.{Begins};
 
 use crate::stop::Stop;
@@ -40,6 +44,8 @@ pub fn bring_texts<H: Shelf>(
     ensures lawful { IfOk result (λ texts. All (IsLawful texts.map) texts.fleet) }
     ensures idle { IfOk result (λ texts. All (λ (v : Vehicle). v.stops.items ≡ []) texts.fleet) }
     ensures first_versions { IfOk result (λ texts. All (λ (v : Vehicle). v.version ≡ 0) texts.fleet) }
+    ensures files { BringsTexts (told_bytes (H.contents shelf.old) (string_bytes map_name))
+        (told_bytes (H.contents shelf.old) (string_bytes fleet_name)) (H.asked shelf.new) (H.back shelf.new) result }
     ensures asked_first { Begins (H.asked shelf.new) (string_bytes map_name ∷ string_bytes fleet_name ∷ []) }
     ensures asked_all { OnOk result (H.asked shelf.new ≡ string_bytes map_name ∷ string_bytes fleet_name ∷ []) }
     ensures all_back { length (H.back shelf.new) ≡ H.brought shelf.new }
@@ -49,6 +55,7 @@ pub fn bring_texts<H: Shelf>(
     ensures all_brought { OnOk result (H.brought shelf.new ≡ 2) }
     ensures few_brought { H.brought shelf.new ≤ 2 }
     ensures count_never_falls { H.faults shelf.old ≤ H.faults shelf.new }
+    ensures counts_none { OnOk result (H.faults shelf.new ≡ H.faults shelf.old) }
 {
     let map = bring_map(alloc, shelf, map_name)?;
     let (settings, fleet) = bring_fleet(alloc, shelf, fleet_name, &map)?;
@@ -64,6 +71,9 @@ fn bring_map<H: Shelf>(alloc: Global, shelf: &mut H, name: String) -> Result<Net
     requires asked_room { length (H.asked shelf.old) < 8 }
     requires back_room { length (H.back shelf.old) < 8 }
     ensures map { ReadsMap (told_bytes (H.contents shelf.old) (string_bytes name)) result }
+    ensures files { (sources : List GivenBack) × (H.back shelf.new ≡ H.back shelf.old ++ sources)
+        × IsReadAs map_format (told_bytes (H.contents shelf.old) (string_bytes name)) sources result }
+    ensures counts_none { OnOk result (H.faults shelf.new ≡ H.faults shelf.old) }
     ensures asked { H.asked shelf.new ≡ H.asked shelf.old ++ string_bytes name ∷ [] }
     ensures returned { H.brought shelf.new + length (H.back shelf.old) ≡ H.brought shelf.old + length (H.back shelf.new) }
     ensures one_back { length (H.back shelf.new) ≤ length (H.back shelf.old) + 1 }
@@ -85,6 +95,7 @@ fn bring_map<H: Shelf>(alloc: Global, shelf: &mut H, name: String) -> Result<Net
 fn map_from<S: Source>(alloc: Global, source: &mut S) -> Result<Network, Stop>
     requires { S.faults source.old ≡ 0 }
     ensures map { ReadsMap (S.left source.old) result }
+    ensures read { IsReadBy map_format (S.left source.old) (given_back (S.faults source.new) (S.left source.new)) result }
     ensures source_fault { result ≡ Err Stop.ShelfFault → 0 < S.faults source.new }
 {
     match read_map(alloc, source) {
@@ -115,6 +126,9 @@ fn bring_fleet<H: Shelf>(
     requires asked_room { length (H.asked shelf.old) < 8 }
     requires back_room { length (H.back shelf.old) < 8 }
     ensures fleet { ReadsFleet map.now.nodes (told_bytes (H.contents shelf.old) (string_bytes name)) result }
+    ensures files { (sources : List GivenBack) × (H.back shelf.new ≡ H.back shelf.old ++ sources)
+        × IsReadAs (fleet_format map.now.nodes) (told_bytes (H.contents shelf.old) (string_bytes name)) sources result }
+    ensures counts_none { OnOk result (H.faults shelf.new ≡ H.faults shelf.old) }
     ensures settings { IfOk result (λ read. IsSettings read.0) }
     ensures lawful { IfOk result (λ read. All (IsLawful map.now) read.1) }
     ensures idle { IfOk result (λ read. All (λ (v : Vehicle). v.stops.items ≡ []) read.1) }
@@ -144,6 +158,7 @@ fn fleet_from<S: Source>(
 ) -> Result<(Settings, Fleet), Stop>
     requires { S.faults source.old ≡ 0 }
     ensures fleet { ReadsFleet map.now.nodes (S.left source.old) result }
+    ensures read { IsReadBy (fleet_format map.now.nodes) (S.left source.old) (given_back (S.faults source.new) (S.left source.new)) result }
     ensures settings { IfOk result (λ read. IsSettings read.0) }
     ensures lawful { IfOk result (λ read. All (IsLawful map.now) read.1) }
     ensures idle { IfOk result (λ read. All (λ (v : Vehicle). v.stops.items ≡ []) read.1) }

@@ -10,17 +10,18 @@ mod tests;
 mod top;
 mod words;
 
-use ride_ports::{FileShelf, OpenGate, StdoutSink};
+use ride_ports::{FileShelf, OpenGate, Sink, StdoutSink, write_all};
 use std::env::{self, Env};
 use std::io;
 use std::process::ExitCode;
 
 fn main(rt: HostRuntime) -> ExitCode {
-    let Ok(words) = command_words(&rt) else {
-        return ExitCode::from(1);
+    let mut out = StdoutSink::new(&rt);
+    let words = match command_words(&rt) {
+        Ok(words) => words,
+        Err(error) => return ExitCode::from(status_without_words(&error, &mut out)),
     };
     let mut shelf = FileShelf::new(&rt);
-    let mut out = StdoutSink::new(&rt);
     let status = top::run(
         &rt,
         rt.alloc(),
@@ -39,4 +40,13 @@ fn command_words<R: Env + AllocGlobal>(rt: &R) -> io::Result<Vec<String>> {
         words.push(word)?;
     }
     Ok(words)
+}
+
+// The status where the words cannot be read: a word that is not UTF-8 is a faulty one.
+fn status_without_words<K: Sink>(error: &io::Error, out: &mut K) -> u8 {
+    if error.kind() != io::ErrorKind::InvalidData {
+        return 1;
+    }
+    let _ = write_all(out, top::WORDS_REFUSED);
+    2
 }

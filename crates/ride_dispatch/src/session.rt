@@ -1,5 +1,5 @@
 //! A session over a feed that a shelf brings.
-ghost use Rattle.std.specs.Prelude.{◌≡◌, ◌<◌, ◌≤◌, ◌+◌, ◌++◌, ◌∷◌, [], length, string_bytes, All, IfOk, IfErr, OnOk, OnErr, Err};
+ghost use Rattle.std.specs.Prelude.{◌≡◌, ◌<◌, ◌≤◌, ◌+◌, ◌++◌, ◌∷◌, [], List, false, length, string_bytes, All, IfOk, IfErr, OnOk, OnErr, Err};
 ghost use Rattle.ride_ports.specs.Contents.{GivenBack};
 ghost use Rattle.ride_ports.specs.Count.{Rose};
 ghost use Rattle.ride_ports.specs.Status.{status_of};
@@ -8,6 +8,7 @@ ghost use Rattle.ride_model.specs.declared.vehicle.Vehicle.{Vehicle};
 ghost use Rattle.ride_model.specs.Settings.{IsSettings};
 ghost use Rattle.ride_model.specs.Vehicle.{IsLawful};
 ghost use Rattle.ride_dispatch.specs.Answers.{told_bytes};
+ghost use Rattle.ride_dispatch.specs.Files.{FeedsSession};
 ghost use Rattle.ride_dispatch.specs.Sessions.{IsReplayed};
 
 use crate::files::Texts;
@@ -49,6 +50,10 @@ pub fn session<R: Threads + Sync, H: Shelf, K: Sink>(
     ensures replayed { IfOk result (λ ran. (feed : GivenBack) × (H.back shelf.new ≡ H.back shelf.old ++ feed ∷ [])
         × IsReplayed roads.now texts.settings texts.fleet (told_bytes (H.contents shelf.old) (string_bytes name)) feed.left ran
         (K.written out.old) (K.written out.new)) }
+    ensures files { (sources : List GivenBack) × (H.back shelf.new ≡ H.back shelf.old ++ sources)
+        × FeedsSession (told_bytes (H.contents shelf.old) (string_bytes name)) sources result }
+    ensures counts_none { IfOk result (λ ran. ran.source_failed ≡ false → H.faults shelf.new ≡ H.faults shelf.old) }
+    ensures sink_counts_none { IfOk result (λ ran. ran.sink_failed ≡ false → K.faults out.new ≡ K.faults out.old) }
     ensures stopped { OnErr result (result ≡ Err Stop.ShelfFault) }
     ensures nothing_written { OnErr result (out.new ≡ out.old) }
     ensures asked { H.asked shelf.new ≡ H.asked shelf.old ++ string_bytes name ∷ [] }

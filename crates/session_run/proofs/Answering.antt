@@ -12,6 +12,7 @@ use Rattle.ride_model.specs.History.Awaited.{any, opening}
 use Rattle.ride_model.specs.State.{State}
 use Rattle.ride_model.specs.Step.{step}
 use Rattle.ride_model.specs.Text.{text_of}
+use Rattle.command_lines.specs.Limits.{AreFirst}
 use Rattle.board_core.specs.Recorded.{Recorded, state_of, fed_entry}
 use Rattle.session_run.specs.Running.{GoesOn, IsSession, IsAsked, RunsBatch, Answers, Stops, gave_up}
 use Rattle.session_run.proofs.Going.{state-push, settled-push, awaited-push, gave_up-push, fed-feed, goes-then}
@@ -158,3 +159,11 @@ told-before old new told goes_on all =
     take-append : (xs ys : List Entry) → take (length xs) (xs ++ ys) ≡ xs
     take-append [] ys = refl
     take-append (x ∷ xs) ys = ap (λ l. x ∷ l) (take-append xs ys)
+
+-- a board that stopped at a command has answered the first commands
+pub stops-first : (command : Command) (old new : Recorded) → Stops command old new
+    → AreFirst (fed_commands 1 new.history) (fed_commands 1 old.history ++ command ∷ [])
+stops-first command old new stops = elim stops.commands [
+  | inl none ↦ (command ∷ [], ap (λ cs. cs ++ command ∷ []) (sym none))
+  | inr one ↦ ([], sym one ∙ sym (append-nil (fed_commands 1 new.history)))
+]

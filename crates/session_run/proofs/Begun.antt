@@ -1,5 +1,5 @@
 -- A session at its start, and what is known of the sink's faults at its end.
-use Rattle.std.proofs.Common.{◌≡◌, ℕ, ◌≤◌, Bool, true, false, List, [], Option, refl, ap, sym, subst, ◌∙◌}
+use Rattle.std.proofs.Common.{◌≡◌, ℕ, Bool, true, false, List, [], Option, refl, ap, sym, subst, ◌∙◌}
 use Rattle.std.specs.Prelude.{MatchBool}
 use Rattle.ride_model.specs.declared.settings.Settings.{Settings}
 use Rattle.ride_model.specs.declared.vehicle.Vehicle.{Vehicle}
@@ -9,7 +9,7 @@ use Rattle.ride_model.specs.State.{State, start_state}
 use Rattle.ride_ports.specs.Count.{Rose}
 use Rattle.board_core.specs.Recorded.{Recorded, state_of}
 use Rattle.session_run.specs.Page.{LogState, HasLogged}
-use Rattle.session_run.specs.Running.{IsRunning, IsSession, IsPrompt}
+use Rattle.session_run.specs.Running.{IsRunning, IsPrompt}
 use Rattle.session_run.specs.Settled.{IsSettled}
 
 -- a board before anything happened is between two commands

@@ -5,8 +5,7 @@ pub mod Settling
 pub mod Going
 pub mod Opening
 pub mod Answering
-pub mod ReadLines
-pub mod Feeds
+pub mod FeedRuns
 pub mod Ends
 pub mod Replays
 pub mod OneVehicle

@@ -1,5 +1,5 @@
 -- Batches that are open while a board goes on.
-use Rattle.std.proofs.Common.{◌≡◌, ◌≢◌, ℕ, suc, ◌≤◌, ◌&&◌, Bool, true, false, not, cond, ◌⊎◌, inl, inr, List, [], ◌∷◌, ◌++◌, length, Option, Some, None, Result, Ok, Err, eqb, refl, sym, ap, subst, ◌∙◌, arith}
+use Rattle.std.proofs.Common.{◌≡◌, ◌≢◌, ℕ, suc, ◌≤◌, Bool, true, false, not, cond, List, [], ◌∷◌, ◌++◌, length, Option, Some, None, Result, Ok, Err, eqb, refl, sym, ap, subst, ◌∙◌, arith}
 use Rattle.std.specs.Prelude.{find, ◌==◌, nat_lt, filter_map, All, IsNone, IfOk, OnOk, OnErr, IfSome}
 use Rattle.std.specs.List.{filter, cons_option}
 use Rattle.std.specs.Option.{option_or}
@@ -17,9 +17,7 @@ use Rattle.ride_model.specs.History.{entries_of, command_of, fed_commands}
 use Rattle.ride_model.specs.Legal.{after_entry, replay, IsLegal, all_feeds_ended}
 use Rattle.ride_model.specs.Road.{RoadMap}
 use Rattle.ride_model.specs.Seating.{BatchCopy, IsBatchOver}
-use Rattle.ride_model.specs.State.{State, has_ended, is_actor, is_batch, open_batch_of, open_batch_numbered}
-use Rattle.ride_model.specs.Step.{step}
-use Rattle.ride_model.specs.Text.{IsOneOrTwo}
+use Rattle.ride_model.specs.State.{State, is_actor, is_batch, open_batch_of, open_batch_numbered}
 use Rattle.ride_model.specs.Vehicle.{IsLawful}
 use Rattle.batch_commit.specs.Solved.{SolvedBatch}
 use Rattle.model_laws.proofs.Certificates.{found_among}

@@ -1,6 +1,6 @@
 -- What a session's history gives at its end.
-use Rattle.std.proofs.Common.{◌≡◌, ℕ, Bool, true, false, cond, List, [], ◌∷◌, ◌++◌, Option, Some, None, eqb, eq-eqb, take, drop, take-append-drop, refl, sym, ap, subst, ◌∙◌, append_assoc, append-nil, inl}
-use Rattle.std.specs.Prelude.{MatchOption, option_and_then, filter_map, All, ◌&&◌}
+use Rattle.std.proofs.Common.{◌≡◌, ℕ, Bool, true, false, cond, List, [], ◌∷◌, ◌++◌, Option, Some, None, eqb, eq-eqb, refl, sym, ap, subst, ◌∙◌, append_assoc, append-nil, inl}
+use Rattle.std.specs.Prelude.{IfSome, option_and_then, filter_map, All, ◌&&◌}
 use Rattle.std.specs.List.{list_any, list_all, range_with_len}
 use Rattle.ride_model.specs.declared.command.Actor.{Actor}
 use Rattle.ride_model.specs.declared.command.Actor.TheVariants.{Feed, Desk}
@@ -19,23 +19,22 @@ use Rattle.ride_model.specs.State.{State, start_state, is_actor}
 use Rattle.ride_model.specs.Vehicle.{IsLawful}
 use Rattle.ride_ports.specs.Bytes.{Writes}
 use Rattle.ride_ports.specs.declared.outcome.Ran.{Ran}
-use Rattle.line_text.specs.Lines.{ended_lines, ended_after, rest_of, last_line}
-use Rattle.line_text.proofs.LineLemmas.{ended_lines-append}
-use Rattle.command_lines.specs.Commands.{commands_from, commands_of}
+use Rattle.ride_model.specs.Text.{HasText}
+use Rattle.command_lines.specs.declared.pieces.FeedStop.TheVariants.{SourceFailed, TooLong}
+use Rattle.command_lines.specs.Commands.{commands_of}
+use Rattle.command_lines.specs.Limits.{AreFirst, IsTooLong, IsWithinLimits, ended_commands}
 use Rattle.history_laws.specs.Start.{IsStart}
 use Rattle.history_laws.proofs.KeptHistory.{keeps_promises}
 use Rattle.board_core.specs.Recorded.{Recorded, state_of, end_entry}
-use Rattle.session_run.specs.declared.lines.Stop.{Stop}
-use Rattle.session_run.specs.declared.lines.Stop.TheVariants.{NoMemory, SourceFailed, TooLong}
-use Rattle.session_run.specs.Limits.{AreFirst, IsTooLong, IsWithinLimits, ended_commands}
+use Rattle.session_run.specs.declared.replaying.Stop.{Stop}
+use Rattle.session_run.specs.declared.replaying.Stop.TheVariants.{NoMemory, OfFeed}
 use Rattle.session_run.specs.Logged.{IsLogged}
 use Rattle.session_run.specs.Page.{LogState, HasLogged}
-use Rattle.session_run.specs.Reading.{IsEnded, ending_of, is_source_failed, is_too_long}
+use Rattle.session_run.specs.Reading.{AreFirstOf, HasEnded, ending_of, is_source_failed, is_too_long}
 use Rattle.session_run.specs.Replay.{IsReadWhole, IsReplay}
 use Rattle.session_run.specs.Running.{IsSession, IsRunning, gave_up}
 use Rattle.session_run.specs.Settled.{IsSettled}
 use Rattle.session_run.proofs.Going.{state-push, settled-push, awaited-push, gave_up-push, fed-append}
-use Rattle.session_run.proofs.ReadLines.{first-then, first-lines}
 
 -- where a session starts
 pub is-start : (roads : RoadMap) (settings : Settings) (fleet : List Vehicle) → IsRoadMap roads → IsSettings settings → IsFleet fleet
@@ -97,58 +96,49 @@ ends-so old new ending desk_ending session start history =
       none_given_up = λ none. gave_up-push middle.history new.history last grows refl (gave_up-push old.history middle.history first refl refl none);
     }
 
--- the commands within the limits are the first
-first-ended : (log : ℕ) (bytes : List ℕ) → AreFirst (ended_commands log bytes) (commands_of log bytes)
-first-ended log bytes =
-    let front : List ℕ = take 67108864 bytes in
-    let within : AreFirst (commands_from log 1 (take 1000000 (ended_lines front))) (commands_from log 1 (ended_lines front))
-    = subst (λ (ls : List (List ℕ)). AreFirst (commands_from log 1 (take 1000000 (ended_lines front))) (commands_from log 1 ls))
-    (take-append-drop 1000000 (ended_lines front))
-    (first-lines log 1 (take 1000000 (ended_lines front)) (drop 1000000 (ended_lines front))) in
-    let all : ended_lines front ++ ended_after (rest_of front) (drop 67108864 bytes) ≡ ended_lines bytes
-    = sym (ended_lines-append front (drop 67108864 bytes)) ∙ ap ended_lines (take-append-drop 67108864 bytes) in
-    let lines : ended_lines front ++ (ended_after (rest_of front) (drop 67108864 bytes) ++ last_line (rest_of bytes))
-    ≡ ended_lines bytes ++ last_line (rest_of bytes)
-    = sym (append_assoc (ended_lines front) (ended_after (rest_of front) (drop 67108864 bytes)) (last_line (rest_of bytes)))
-    ∙ ap (λ ls. ls ++ last_line (rest_of bytes)) all in
-    first-then (ended_commands log bytes) (commands_from log 1 (ended_lines front)) (commands_of log bytes) within
-    (subst (λ (ls : List (List ℕ)). AreFirst (commands_from log 1 (ended_lines front)) (commands_from log 1 ls)) lines
-    (first-lines log 1 (ended_lines front) (ended_after (rest_of front) (drop 67108864 bytes) ++ last_line (rest_of bytes))))
-
 -- the desk ends whole where all was opened
 whole-desk : (opened asked : ℕ) → opened ≡ asked → cond (eqb opened asked) Whole Cut ≡ Whole
 whole-desk opened asked is = ap (λ b. cond b Whole Cut) (eq-eqb opened asked is)
 
--- what a feed gave, whether it was stopped or not
-abbrev pub Gave : Option Stop → Recorded → Bool → List ℕ → Type 0
-Gave stop board no_memory taken = MatchOption stop
-    (IsRunning board no_memory × IsWithinLimits taken × (fed_commands 1 board.history ≡ commands_of board.start.settings.log taken))
-    (λ why. IsEnded board.start.settings.log why board no_memory taken)
-
-module _ (start : State) (begins : IsStart start) (ran : Ran) (taken : List ℕ) (old new : Recorded) (no_memory : Bool)
+module _ (start : State) (begins : IsStart start) (ran : Ran) (feed : Option (List ℕ)) (taken : List ℕ) (old new : Recorded) (no_memory : Bool)
     (old_start : old.start ≡ start) (new_start : new.start ≡ old.start) (feeds : new.feeds ≡ old.feeds) (desks : new.desks ≡ old.desks)
-    (legal : IsLegal new.feeds new.desks new.start new.history) (wanting : ran.no_memory ≡ no_memory) where
+    (legal : IsLegal new.feeds new.desks new.start new.history) (text : HasText new.start.settings.log new.feeds new.desks new.history)
+    (first : AreFirstOf old.start.settings.log feed taken (fed_commands 1 old.history)) (wanting : ran.no_memory ≡ no_memory) where
   legal_one : IsSession old → IsLegal 1 1 start new.history
   legal_one session =
       subst (λ n. IsLegal n 1 start new.history) (feeds ∙ session.feeds_are)
       (subst (λ n. IsLegal new.feeds n start new.history) (desks ∙ session.desks_are)
       (subst (λ (s : State). IsLegal new.feeds new.desks s new.history) (new_start ∙ old_start) legal))
 
+  text_one : IsSession old → HasText start.settings.log 1 1 new.history
+  text_one session =
+      subst (λ n. HasText start.settings.log n 1 new.history) (feeds ∙ session.feeds_are)
+      (subst (λ n. HasText start.settings.log new.feeds n new.history) (desks ∙ session.desks_are)
+      (subst (λ (s : State). HasText s.settings.log new.feeds new.desks new.history) (new_start ∙ old_start) text))
+
+  -- the commands are those of before the ends
+  first_now : fed_commands 1 new.history ≡ fed_commands 1 old.history → AreFirstOf start.settings.log feed taken (fed_commands 1 new.history)
+  first_now same =
+      subst (λ (cs : List Command). AreFirstOf start.settings.log feed taken cs) (sym same)
+      (subst (λ (s : State). AreFirstOf s.settings.log feed taken (fed_commands 1 old.history)) old_start first)
+
   -- a replay that was cut
   cut-replay : (ending : Ending) → ending ≡ Cut → IsRunning old no_memory
       → new.history ≡ old.history ++ end_entry (Feed 1) ending ∷ end_entry (Desk 1) (cond (eqb (state_of old).opened (state_of old).asked) Whole Cut) ∷ []
-      → (IsReadWhole ran → ⊥) → (ran.too_long ≡ true → IsTooLong taken)
-      → fed_commands 1 old.history ≡ ended_commands old.start.settings.log taken → IsReplay start ran taken new.history
-  cut-replay ending is_cut running history not_whole too_long fed =
+      → (IsReadWhole ran → ⊥) → (ran.too_long ≡ false → IsWithinLimits taken) → (ran.too_long ≡ true → IsTooLong taken)
+      → fed_commands 1 old.history ≡ ended_commands old.start.settings.log taken → IsReplay start ran feed taken new.history
+  cut-replay ending is_cut running history not_whole within too_long fed =
       let ends = ends-so old new ending (cond (eqb (state_of old).opened (state_of old).asked) Whole Cut) running.session new_start history in
       let lawful = legal_one running.session in
       let commands : fed_commands 1 new.history ≡ ended_commands start.settings.log taken
       = ends.commands ∙ fed ∙ ap (λ (s : State). ended_commands s.settings.log taken) old_start in
       record {
+        begins = begins;
         legal = lawful;
+        text = text_one running.session;
         promises = keeps_promises 1 1 start new.history begins lawful;
         settled = ends.settled;
-        first = subst (λ (cs : List Command). AreFirst cs (commands_of start.settings.log taken)) (sym commands) (first-ended start.settings.log taken);
+        first = first_now ends.commands;
         whole = λ _ whole. absurd (not_whole whole);
         cut = λ memory _. record {
           commands = commands;
@@ -158,6 +148,7 @@ module _ (start : State) (begins : IsStart start) (ran : Ran) (taken : List ℕ)
               ∙ ap (λ e. (Feed 1, e) ∷ (Desk 1, cond (eqb (state_of old).opened (state_of old).asked) Whole Cut) ∷ []) is_cut
               ∙ ap (λ e. (Feed 1, Cut) ∷ (Desk 1, e) ∷ []) (whole-desk (state_of old).opened (state_of old).asked running.all_opened);
         };
+        within = λ _. within;
         too_long = too_long;
       }
 
@@ -165,7 +156,7 @@ module _ (start : State) (begins : IsStart start) (ran : Ran) (taken : List ℕ)
   whole-replay : (ending : Ending) → ending ≡ Whole → IsRunning old no_memory
       → new.history ≡ old.history ++ end_entry (Feed 1) ending ∷ end_entry (Desk 1) (cond (eqb (state_of old).opened (state_of old).asked) Whole Cut) ∷ []
       → IsReadWhole ran → IsWithinLimits taken
-      → fed_commands 1 old.history ≡ commands_of old.start.settings.log taken → IsReplay start ran taken new.history
+      → fed_commands 1 old.history ≡ commands_of old.start.settings.log taken → IsReplay start ran feed taken new.history
   whole-replay ending is_whole_end running history read within fed =
       let ends = ends-so old new ending (cond (eqb (state_of old).opened (state_of old).asked) Whole Cut) running.session new_start history in
       let lawful = legal_one running.session in
@@ -177,10 +168,12 @@ module _ (start : State) (begins : IsStart start) (ran : Ran) (taken : List ℕ)
       ∙ ap (λ e. (Feed 1, e) ∷ (Desk 1, cond (eqb (state_of old).opened (state_of old).asked) Whole Cut) ∷ []) is_whole_end
       ∙ ap (λ e. (Feed 1, Whole) ∷ (Desk 1, e) ∷ []) (whole-desk (state_of old).opened (state_of old).asked running.all_opened) in
       record {
+        begins = begins;
         legal = lawful;
+        text = text_one running.session;
         promises = keeps_promises 1 1 start new.history begins lawful;
         settled = ends.settled;
-        first = ([], sym commands ∙ sym (append-nil (fed_commands 1 new.history)));
+        first = first_now ends.commands;
         whole = λ memory _. record {
           within = within;
           commands = commands;
@@ -194,53 +187,62 @@ module _ (start : State) (begins : IsStart start) (ran : Ran) (taken : List ℕ)
           direct = ends.direct (running.prompt (sym wanting ∙ memory)).direct;
         };
         cut = λ _ not_whole. absurd (not_whole read);
+        within = λ _ _. within;
         too_long = λ is. absurd (cc (is, read.1));
       }
 
   -- a replay that was stopped by want of memory
   stopped-replay : (ending : Ending) → no_memory ≡ true → IsSession old
       → new.history ≡ old.history ++ end_entry (Feed 1) ending ∷ end_entry (Desk 1) (cond (eqb (state_of old).opened (state_of old).asked) Whole Cut) ∷ []
-      → (ran.too_long ≡ true → IsTooLong taken)
-      → AreFirst (fed_commands 1 old.history) (commands_of old.start.settings.log taken) → IsReplay start ran taken new.history
-  stopped-replay ending none session history too_long first =
+      → (ran.too_long ≡ true → IsTooLong taken) → IsReplay start ran feed taken new.history
+  stopped-replay ending none session history too_long =
       let ends = ends-so old new ending (cond (eqb (state_of old).opened (state_of old).asked) Whole Cut) session new_start history in
       let lawful = legal_one session in
       record {
+        begins = begins;
         legal = lawful;
+        text = text_one session;
         promises = keeps_promises 1 1 start new.history begins lawful;
         settled = ends.settled;
-        first = subst (λ (cs : List Command). AreFirst cs (commands_of start.settings.log taken)) (sym ends.commands)
-            (subst (λ (s : State). AreFirst (fed_commands 1 old.history) (commands_of s.settings.log taken)) old_start first);
+        first = first_now ends.commands;
         whole = λ memory _. absurd (cc (memory, wanting, none));
         cut = λ memory _. absurd (cc (memory, wanting, none));
+        within = λ memory _. absurd (cc (memory, wanting, none));
         too_long = too_long;
       }
 
   -- each replay
   pub is-replay : (stop : Option Stop) → ran.source_failed ≡ is_source_failed stop → ran.too_long ≡ is_too_long stop
       → new.history ≡ old.history ++ end_entry (Feed 1) (ending_of stop) ∷ end_entry (Desk 1) (cond (eqb (state_of old).opened (state_of old).asked) Whole Cut) ∷ []
-      → Gave stop old no_memory taken → IsReplay start ran taken new.history
-  is-replay None source long history (running, within, fed) = whole-replay Whole refl running history (source, long) within fed
-  is-replay (Some NoMemory) source long history (session, none, first) =
-      stopped-replay Cut none session history (λ is. absurd (cc (is, long))) first
-  is-replay (Some TooLong) source long history (running, many, fed) =
-      cut-replay Cut refl running history (λ whole. absurd (cc (whole.1, long))) (λ _. many) fed
-  is-replay (Some SourceFailed) source long history (running, fed) =
-      cut-replay Cut refl running history (λ whole. absurd (cc (whole.0, source))) (λ is. absurd (cc (is, long))) fed
+      → (left : Option (List ℕ)) → HasEnded old.start.settings.log left stop old no_memory taken → IsReplay start ran feed taken new.history
+  is-replay None source long history left (running, whole) = whole-replay Whole refl running history (source, long) whole.within whole.commands_are
+  is-replay (Some NoMemory) source long history left (session, none) = stopped-replay Cut none session history (λ is. absurd (cc (is, long)))
+  is-replay (Some (OfFeed TooLong)) source long history left (running, (many, fed)) =
+      cut-replay Cut refl running history (λ whole. absurd (cc (whole.1, long))) (λ is. absurd (cc (is, long))) (λ _. many) fed
+  is-replay (Some (OfFeed SourceFailed)) source long history left (running, (within, fed)) =
+      cut-replay Cut refl running history (λ whole. absurd (cc (whole.0, source))) (λ _. within) (λ is. absurd (cc (is, long))) fed
 
 -- a replay for which there was no memory
-pub no-replay : (start : State) (ran : Ran) → IsStart start → ran.no_memory ≡ true → ran.too_long ≡ false → IsReplay start ran [] []
+pub no-replay : (start : State) (ran : Ran) (feed : Option (List ℕ)) → IsStart start → HasText start.settings.log 1 1 [] → ran.no_memory ≡ true
+    → ran.too_long ≡ false → IsReplay start ran feed [] []
 unfolding IsLegal entries_of
-no-replay start ran begins none long =
+no-replay start ran feed begins text none long =
     record {
+      begins = begins;
       legal = tt;
+      text = text;
       promises = keeps_promises 1 1 start [] begins tt;
       settled = refl;
-      first = (commands_of start.settings.log [], refl);
+      first = record { of_taken = (commands_of start.settings.log [], refl); of_feed = each feed };
       whole = λ memory _. absurd (cc (memory, none));
       cut = λ memory _. absurd (cc (memory, none));
+      within = λ memory _. absurd (cc (memory, none));
       too_long = λ is. absurd (cc (is, long));
     }
+  where
+    each : (o : Option (List ℕ)) → IfSome o (λ bytes. AreFirst [] (commands_of start.settings.log bytes))
+    each None = tt
+    each (Some bytes) = (commands_of start.settings.log bytes, refl)
 
 -- a log at its end
 pub is-logged : (ran : Ran) (before after : Option (List ℕ)) (faults n : ℕ) (log : LogState) (text : List ℕ) → ran.sink_failed ≡ log.failed

@@ -1,5 +1,4 @@
 pub mod Settled
-pub mod Limits
 pub mod Replay
 pub mod Logged
 pub mod Page

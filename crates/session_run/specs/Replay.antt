@@ -1,5 +1,5 @@
 -- What a replay of a feed gives.
-use Rattle.std.specs.Prelude.{◌≡◌, ℕ, true, false, List, [], ◌∷◌, IsFalse}
+use Rattle.std.specs.Prelude.{◌≡◌, ℕ, true, false, List, Option, [], ◌∷◌, IsFalse}
 use Rattle.std.specs.List.{list_any}
 use Rattle.ride_model.specs.declared.command.Actor.TheVariants.{Feed, Desk}
 use Rattle.ride_model.specs.declared.entry.Ending.TheVariants.{Whole, Cut}
@@ -8,9 +8,12 @@ use Rattle.ride_model.specs.History.{fed_commands, is_abandoned, IsDirect, IsFin
 use Rattle.ride_model.specs.Legal.{IsLegal, replay}
 use Rattle.ride_model.specs.Promises.{KeepsPromises}
 use Rattle.ride_model.specs.State.{State}
+use Rattle.ride_model.specs.Text.{HasText}
 use Rattle.ride_ports.specs.declared.outcome.Ran.{Ran}
 use Rattle.command_lines.specs.Commands.{commands_of}
-use Rattle.session_run.specs.Limits.{IsWithinLimits, IsTooLong, ended_commands, AreFirst}
+use Rattle.command_lines.specs.Limits.{IsWithinLimits, IsTooLong, ended_commands}
+use Rattle.history_laws.specs.Start.{IsStart}
+use Rattle.session_run.specs.Reading.{AreFirstOf}
 use Rattle.session_run.specs.Settled.{IsSettled}
 
 -- a feed within the limits was answered to its end, each accepted ask at once by a commit
@@ -31,13 +34,16 @@ pub record IsCut (start : State) (taken : List ℕ) (entries : List Entry) : Typ
 abbrev pub IsReadWhole : Ran → Type 0
 IsReadWhole ran = (ran.source_failed ≡ false) × (ran.too_long ≡ false)
 
--- a history of one feed and one desk answers the first commands of the bytes that were taken: all of them where nothing
--- was wanting, those within the limits and before a fault where only the source was
-pub record IsReplay (start : State) (ran : Ran) (taken : List ℕ) (entries : List Entry) : Type 0 where
+-- a history of one feed and one desk answers the first commands of a feed, of whose bytes these were taken: all of them
+-- where nothing was wanting, those within the limits and before a fault where only the source was
+pub record IsReplay (start : State) (ran : Ran) (feed : Option (List ℕ)) (taken : List ℕ) (entries : List Entry) : Type 0 where
+  pub begins : IsStart start
   pub legal : IsLegal 1 1 start entries
+  pub text : HasText start.settings.log 1 1 entries
   pub promises : KeepsPromises start entries
   pub settled : IsSettled entries
-  pub first : AreFirst (fed_commands 1 entries) (commands_of start.settings.log taken)
+  pub first : AreFirstOf start.settings.log feed taken (fed_commands 1 entries)
   pub whole : ran.no_memory ≡ false → IsReadWhole ran → IsWhole start taken entries
   pub cut : ran.no_memory ≡ false → (IsReadWhole ran → ⊥) → IsCut start taken entries
+  pub within : ran.no_memory ≡ false → ran.too_long ≡ false → IsWithinLimits taken
   pub too_long : ran.too_long ≡ true → IsTooLong taken

@@ -4,10 +4,8 @@
 
 mod answers;
 mod batches;
-mod lines;
 mod logging;
 mod page;
-mod reading;
 mod replaying;
 mod session;
 mod tools;

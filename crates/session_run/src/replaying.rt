@@ -9,23 +9,27 @@ ghost use Rattle.ride_model.specs.Text.{text_of};
 ghost use Rattle.ride_model.specs.Vehicle.{IsLawful};
 ghost use Rattle.ride_ports.specs.Bytes.{Reads};
 ghost use Rattle.ride_ports.specs.Count.{Rose};
-ghost use Rattle.command_lines.specs.Commands.{commands_of};
-ghost use Rattle.session_run.specs.declared.lines.Stop.TheVariants.{SourceFailed};
-ghost use Rattle.session_run.specs.Limits.{IsWithinLimits};
+ghost use Rattle.command_lines.specs.Feeds.{HasGiven};
 ghost use Rattle.session_run.specs.Logged.{IsLogged};
-ghost use Rattle.session_run.specs.Reading.{HasRead, IsEnded, IsTold, ending_of, is_source_failed, is_too_long};
+ghost use Rattle.session_run.specs.Reading.{HasRun, IsTold, ending_of, is_source_failed, is_too_long};
 ghost use Rattle.session_run.specs.Replay.{IsReadWhole, IsReplay};
 ghost use Rattle.session_run.specs.Running.{IsRunning};
 
-use crate::lines::{FeedLines, Stop};
-use crate::reading::read_feed;
 use crate::session::Session;
 use crate::tools::workers_at_hand;
+use command_lines::{FeedReader, FeedStop};
 use ride_model::{Ending, Fleet, NoMemory, Settings};
 use ride_ports::{Ran, Sink, Source};
 use road_times::Roads;
 use std::alloc::Global;
 use std::thread::Threads;
+
+/// What stops a feed before its end.
+#[derive(Clone, Copy, Debug)]
+pub(crate) enum Stop {
+    NoMemory,
+    OfFeed(FeedStop),
+}
 
 /// Replays a feed over a fleet, and writes its trip log: after each accepted ask a batch is opened, priced, seated and
 /// committed at once.
@@ -45,7 +49,7 @@ pub fn replay<R: Threads + Sync, S: Source, K: Sink>(
 
     // The log is the text of a history that answers the feed.
     ensures log { (taken : List ℕ) × (entries : List Entry) × Reads (S.left feed.old) (S.left feed.new) taken
-        × IsReplay (start_state roads.now settings fleet) result taken entries
+        × IsReplay (start_state roads.now settings fleet) result (S.left feed.old) taken entries
         × IsLogged result (K.written out.old) (K.written out.new) (text_of settings.log 1 1 entries) }
     ensures to_end { result.no_memory ≡ false → IsReadWhole result → IfSome (S.left feed.new) (λ bytes. bytes ≡ []) }
     ensures source_fault { IsTrue result.source_failed → Rose (S.faults feed.old) (S.faults feed.new) }
@@ -58,7 +62,7 @@ pub fn replay<R: Threads + Sync, S: Source, K: Sink>(
     // These calls tell that the map and the fleet are within their limits.
     let _nodes = roads.nodes();
     let _vehicles = fleet.vehicles();
-    let Ok((mut session, mut lines)) = begun(rt, alloc, roads, settings, fleet) else {
+    let Ok((mut session, mut reader)) = begun(rt, alloc, roads, settings, fleet) else {
         return Ran {
             sink_failed: false,
             no_memory: true,
@@ -67,7 +71,7 @@ pub fn replay<R: Threads + Sync, S: Source, K: Sink>(
         };
     };
     session.begin(out);
-    let stop = run_feed(&mut session, &mut lines, rt, feed, out);
+    let stop = run_feed(&mut session, &mut reader, rt, feed, out);
     session.end(out, ending_of(stop));
     // This call tells that the history is legal.
     let _history = session.entries();
@@ -93,24 +97,24 @@ fn ending_of(stop: Option<Stop>) -> Ending
 fn is_source_failed(stop: Option<Stop>) -> bool
     ensures { result ≡ is_source_failed stop }
 {
-    matches!(stop, Some(Stop::SourceFailed))
+    matches!(stop, Some(Stop::OfFeed(FeedStop::SourceFailed)))
 }
 
 // Whether a feed was stopped by its length.
 fn is_too_long(stop: Option<Stop>) -> bool
     ensures { result ≡ is_too_long stop }
 {
-    matches!(stop, Some(Stop::TooLong))
+    matches!(stop, Some(Stop::OfFeed(FeedStop::TooLong)))
 }
 
-// A session at its start, and the lines of its feed.
+// A session at its start, and the reader of its feed.
 fn begun<'r>(
     rt: &impl Threads,
     alloc: Global,
     roads: &'r Roads,
     settings: Settings,
     fleet: Fleet,
-) -> Result<(Session<'r>, FeedLines), NoMemory>
+) -> Result<(Session<'r>, FeedReader), NoMemory>
     requires settings { IsSettings settings }
     requires lawful { All (IsLawful roads.now) fleet }
     requires idle { All (λ (v : Vehicle). v.stops.items ≡ []) fleet }
@@ -119,41 +123,43 @@ fn begun<'r>(
     ensures history { IfOk result (λ made. made.0.board.history ≡ []) }
     ensures running { IfOk result (λ made. IsRunning made.0.board made.0.no_memory) }
     ensures log { IfOk result (λ made. made.0.log ≡ record { page = []; failed = false }) }
-    ensures lines { IfOk result (λ made. (log : ℕ) → HasRead log made.1 [] []) }
+    ensures version { IfOk result (λ made. made.1.log ≡ settings.log) }
+    ensures nothing_given { IfOk result (λ made. (left : Option (List ℕ)) → HasGiven made.1 left [] []) }
 {
+    let reader = FeedReader::new(alloc, settings.log)?;
     let session = Session::new(alloc, roads, settings, fleet, workers_at_hand(rt))?;
-    let lines = FeedLines::new(alloc)?;
-    Ok((session, lines))
+    Ok((session, reader))
 }
 
 // Answers a feed to its end, or until something stops it.
 fn run_feed<R: Threads + Sync, S: Source, K: Sink>(
     session: &mut Session<'_>,
-    lines: &mut FeedLines,
+    reader: &mut FeedReader,
     rt: &R,
     feed: &mut S,
     out: &mut K,
 ) -> Option<Stop>
     requires running { IsRunning session.old.board session.old.no_memory }
-    requires nothing_read { HasRead session.old.board.start.settings.log lines.old (fed_commands 1 session.old.board.history) [] }
-    ensures ran { (taken : List ℕ) × Reads (S.left feed.old) (S.left feed.new) taken × MatchOption result
-        (IsRunning session.new.board session.new.no_memory × IsWithinLimits taken
-        × (fed_commands 1 session.new.board.history ≡ commands_of session.old.board.start.settings.log taken))
-        (λ stop. IsEnded session.old.board.start.settings.log stop session.new.board session.new.no_memory taken) }
-    ensures to_end { IsNone result → IfSome (S.left feed.new) (λ bytes. bytes ≡ []) }
-    ensures fault { result ≡ Some SourceFailed → Rose (S.faults feed.old) (S.faults feed.new) }
-    ensures other_counts_none { result ≢ Some SourceFailed → S.faults feed.new ≡ S.faults feed.old }
+    requires version { reader.old.log ≡ session.old.board.start.settings.log }
+    requires nothing_given { HasGiven reader.old (S.left feed.old) (fed_commands 1 session.old.board.history) [] }
+    ensures ran { HasRun session.old.board.start.settings.log (S.left feed.old) (S.left feed.new) result session.new.board
+        session.new.no_memory }
+    ensures fault { IsTrue (is_source_failed result) → Rose (S.faults feed.old) (S.faults feed.new) }
+    ensures other_counts_none { is_source_failed result ≡ false → S.faults feed.new ≡ S.faults feed.old }
     ensures count_never_falls { S.faults feed.old ≤ S.faults feed.new }
     ensures start { session.new.board.start ≡ session.old.board.start }
     ensures told { (earlier : Option (List ℕ)) (faults : ℕ)
         → IsTold earlier (K.written out.old) faults (K.faults out.old) session.old.log session.old.board
         → IsTold earlier (K.written out.new) faults (K.faults out.new) session.new.log session.new.board }
 {
-    if let Err(stop) = read_feed(lines, session, rt, feed, out) {
-        return Some(stop);
-    }
-    match lines.end(session, rt, out) {
-        Ok(()) => None,
-        Err(_) => Some(Stop::NoMemory),
+    'commands: loop {
+        match reader.next_command(feed) {
+            Ok(Some(command)) => match session.take_command(rt, out, &command) {
+                Ok(()) => {}
+                Err(_) => return Some(Stop::NoMemory),
+            },
+            Ok(None) => return None,
+            Err(stop) => return Some(Stop::OfFeed(stop)),
+        }
     }
 }

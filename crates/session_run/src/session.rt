@@ -7,7 +7,7 @@ ghost use Rattle.ride_model.specs.History.{fed_commands};
 ghost use Rattle.ride_model.specs.Legal.{IsLegal};
 ghost use Rattle.ride_model.specs.Settings.{IsSettings};
 ghost use Rattle.ride_model.specs.State.{start_state};
-ghost use Rattle.ride_model.specs.Text.{IsOneOrTwo, IsSpelledCommand, head_line, text_of};
+ghost use Rattle.ride_model.specs.Text.{HasText, IsOneOrTwo, IsSpelledCommand, head_line, text_of};
 ghost use Rattle.ride_model.specs.Vehicle.{IsLawful};
 ghost use Rattle.board_core.specs.Recorded.{end_entry, state_of};
 ghost use Rattle.session_run.specs.Page.{HasLogged};
@@ -97,10 +97,11 @@ impl<'r> Session<'r> {
         self.version
     }
 
-    /// The history: legal.
+    /// The history: legal, and with a text.
     pub(crate) fn entries(&self) -> &[Entry]
         ensures items { result.now ≡ self.now.board.history }
         ensures legal { IsLegal self.now.board.feeds self.now.board.desks self.now.board.start self.now.board.history }
+        ensures text { HasText self.now.board.start.settings.log self.now.board.feeds self.now.board.desks self.now.board.history }
     {
         self.board.entries()
     }

@@ -1,6 +1,16 @@
-use Rattle.line_text.proofs.ReadingLemmas.{read-nothing}
+use Rattle.std.proofs.Common.{◌≡◌, ◌≤◌, ℕ, subst, arith}
+use Rattle.line_text.specs.Lines.{lines_of}
+use Rattle.line_text.proofs.ReadingLemmas.{last-refused, read-nothing}
 use Rattle.line_text.proofs.reading.read_lines.Goals as goal
 
 pub read_pieces-requires-after_bounds : goal.read_pieces-requires-after_bounds
 read_pieces-requires-after_bounds g c κs within =
     read-nothing g.L.LineReader.takes c.args.reader.now c.in-Ok.cutter c.in-Ok.ensures.nothing_taken c.in-Ok.ensures.most c.requires
+
+pub returns-clause-refused : goal.returns-clause-refused
+returns-clause-refused g c e is =
+    let same : c.in-Err.refusal ≡ e = cc in
+    let (bytes, reads, short, read) = c.in_ok-read_pieces.ensures.read in
+    last-refused g.L.LineReader.refuses c.args.reader.now c.args.most _ _ bytes e short reads c.in_ok-read_pieces.ensures.to_end
+    (subst (λ d. g.L.LineReader.refuses c.args.reader.now (lines_of bytes) d) same
+    (c.in-Err.ensures c.args.reader.now bytes read (omega (arith, c.ranges.most.fits))))

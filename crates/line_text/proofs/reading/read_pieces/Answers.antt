@@ -33,3 +33,13 @@ returns-then-count-room-clause-too_long g c is =
       (c.in_default-take_piece.ensures c.args.reader.now bytes read (omega (arith, c.ranges.most.fits))).lines,
       goes-on _ _ bytes buffer within count (omega arith) fits (Reads-then reads c.in-Ok.ensures.bytes),
     )
+
+pub returns-in-Err-clause-taken : goal.returns-in-Err-clause-taken
+returns-in-Err-clause-taken g c =
+    let (bytes, reads, room, read) = c.pieces.invariant.read in
+    (bytes ++ take c.in-Ok.count c.read.new.buffer, Reads-then reads c.in-Ok.ensures.bytes)
+
+pub returns-then-count-room-clause-taken : goal.returns-then-count-room-clause-taken
+returns-then-count-room-clause-taken g c =
+    let (bytes, reads, room, read) = c.pieces.invariant.read in
+    (bytes ++ take c.in-Ok.count c.read.new.buffer, Reads-then reads c.in-Ok.ensures.bytes)

@@ -1,5 +1,4 @@
-use Rattle.std.proofs.Common.{◌≡◌, ℕ, List, [], ◌∷◌, ◌++◌, Option, Bool, cond, eqb, inr, refl, ap, sym, subst, ◌∙◌}
-use Rattle.std.specs.Prelude.{MatchOption}
+use Rattle.std.proofs.Common.{◌≡◌, ℕ, List, [], ◌∷◌, ◌++◌, Option, Bool, cond, eqb, inr, refl, ap, sym, subst, ◌∙◌, arith}
 use Rattle.ride_model.specs.declared.command.Actor.TheVariants.{Feed, Desk}
 use Rattle.ride_model.specs.declared.entry.Ending.{Ending}
 use Rattle.ride_model.specs.declared.entry.Ending.TheVariants.{Whole, Cut}
@@ -8,18 +7,16 @@ use Rattle.ride_model.specs.History.{entries_of, fed_commands}
 use Rattle.ride_model.specs.State.{State, start_state}
 use Rattle.ride_model.specs.Text.{text_of}
 use Rattle.ride_ports.specs.declared.outcome.Ran.{Ran}
-use Rattle.command_lines.specs.Commands.{commands_of}
 use Rattle.history_laws.specs.Start.{IsStart}
 use Rattle.board_core.specs.Recorded.{Recorded, state_of, end_entry}
-use Rattle.session_run.specs.declared.lines.Stop.{Stop}
-use Rattle.session_run.specs.Limits.{IsWithinLimits}
+use Rattle.session_run.specs.declared.replaying.Stop.{Stop}
+use Rattle.command_lines.specs.Feeds.{HasGiven}
 use Rattle.session_run.specs.Page.{SessionState, HasLogged}
-use Rattle.session_run.specs.Reading.{HasRead, IsEnded, ending_of}
-use Rattle.session_run.specs.Running.{IsRunning}
+use Rattle.session_run.specs.Reading.{AreFirstOf, HasEnded, ending_of}
 use Rattle.ride_ports.proofs.ByteLemmas.{Reads-none}
-use Rattle.session_run.proofs.Replays.{Gave, is-start, is-replay, no-replay, is-logged}
+use Rattle.session_run.proofs.Replays.{is-start, is-replay, no-replay, is-logged}
 use Rattle.session_run.proofs.Begun.{rose-where-failed, same-where-sound}
-use Rattle.session_run.proofs.Stops.{source-failed, source-sound, read-whole}
+use Rattle.session_run.proofs.Stops.{nothing-left}
 use Rattle.session_run.proofs.replaying.replay.Goals as goal
 
 pub returns-in_default-clause-log : goal.returns-in_default-clause-log
@@ -27,14 +24,16 @@ returns-in_default-clause-log g c = (
   [],
   [],
   Reads-none (g.S.Source.left c.args.feed.now),
-  no-replay _ _ (is-start c.args.roads.now c.args.settings c.args.fleet c.nodes-nodes.ensures.fits c.requires.settings
-      c.vehicles-vehicles.ensures.is_fleet c.requires.lawful c.requires.idle c.requires.first_versions) refl refl,
+  no-replay _ _ _ (is-start c.args.roads.now c.args.settings c.args.fleet c.nodes-nodes.ensures.fits c.requires.settings
+      c.vehicles-vehicles.ensures.is_fleet c.requires.lawful c.requires.idle c.requires.first_versions)
+      (record { log_version = (c.requires.settings.log_first, c.requires.settings.log_limit); feeds_number = (omega arith, omega arith); desks_number = (omega arith, omega arith); lines = λ k d below. absurd (omega arith) }) refl refl,
   record { whole = λ _. inr (refl, refl); prefix = λ fell. absurd (cc fell) },
 )
 
 pub returns-clause-log : goal.returns-clause-log
 returns-clause-log g c =
-    let (taken, reads, gave) = c.run_feed-stop.ensures.ran in
+    let runs = c.run_feed-stop.ensures.ran in
+    let taken : List ℕ = runs.taken in
     let start : State = start_state c.args.roads.now c.args.settings c.args.fleet in
     let begins : IsStart start = is-start c.args.roads.now c.args.settings c.args.fleet c.nodes-nodes.ensures.fits c.requires.settings
     c.vehicles-vehicles.ensures.is_fleet c.requires.lawful c.requires.idle c.requires.first_versions in
@@ -52,10 +51,11 @@ returns-clause-log g c =
     let old_start : old.start ≡ start = c.run_feed-stop.ensures.start ∙ before in
     let log : c.begin.new.self.board.start.settings.log ≡ old.start.settings.log =
     ap (λ (s : State). s.settings.log) (sym c.run_feed-stop.ensures.start) in
-    let given : Gave stop old no_memory taken =
-    subst (λ n. MatchOption stop
-    (IsRunning old no_memory × IsWithinLimits taken × (fed_commands 1 old.history ≡ commands_of n taken))
-    (λ why. IsEnded n why old no_memory taken)) log gave in
+    let left : Option (List ℕ) = g.S.Source.left c.run_feed-stop.new.feed in
+    let ended : HasEnded old.start.settings.log left stop old no_memory taken =
+    subst (λ n. HasEnded n left stop old no_memory taken) log runs.ended in
+    let first : AreFirstOf old.start.settings.log (g.S.Source.left c.args.feed.now) taken (fed_commands 1 old.history) =
+    subst (λ n. AreFirstOf n (g.S.Source.left c.args.feed.now) taken (fed_commands 1 old.history)) log runs.first in
     let history : new.history ≡ old.history ++ end_entry (Feed 1) (ending_of stop)
     ∷ end_entry (Desk 1) (cond (eqb (state_of old).opened (state_of old).asked) Whole Cut) ∷ [] =
     subst (λ (e : Ending). new.history ≡ old.history ++ end_entry (Feed 1) e
@@ -66,10 +66,10 @@ returns-clause-log g c =
     ap (λ (s : State). text_of s.settings.log 1 1 new.history) (c.end.ensures.start ∙ old_start) in (
       taken,
       new.history,
-      reads,
-      is-replay start begins ran taken old new no_memory old_start c.end.ensures.start c.end.ensures.feeds c.end.ensures.desks
-          c.entries-history.ensures.legal (c.no_memory.ensures ∙ c.end.ensures.no_memory) stop c.is_source_failed.ensures c.is_too_long.ensures
-          history given,
+      runs.reads,
+      is-replay start begins ran (g.S.Source.left c.args.feed.now) taken old new no_memory old_start c.end.ensures.start c.end.ensures.feeds
+          c.end.ensures.desks c.entries-history.ensures.legal c.entries-history.ensures.text first (c.no_memory.ensures ∙ c.end.ensures.no_memory) stop
+          c.is_source_failed.ensures c.is_too_long.ensures history left ended,
       is-logged ran (g.K.Sink.written c.args.out.now) (g.K.Sink.written c.end.new.out) (g.K.Sink.faults c.args.out.now)
           (g.K.Sink.faults c.end.new.out) c.end.new.self.log (text_of c.args.settings.log 1 1 new.history) c.sink_failed.ensures
           c.end.ensures.nothing_left
@@ -77,13 +77,13 @@ returns-clause-log g c =
           (g.K.Sink.faults c.end.new.out) c.end.new.self.log t) text has),
     )
 
--- nothing is read before the feed is
-pub run_feed-stop-requires-clause-nothing_read : goal.run_feed-stop-requires-clause-nothing_read
+-- nothing is given before the feed is read
+pub run_feed-stop-requires-clause-nothing_given : goal.run_feed-stop-requires-clause-nothing_given
 unfolding entries_of
-run_feed-stop-requires-clause-nothing_read g c lifetimes outlive =
-    let log = c.begin.new.self.board.start.settings.log in
+run_feed-stop-requires-clause-nothing_given g c lifetimes outlive =
+    let left : Option (List ℕ) = g.S.Source.left c.args.feed.now in
     let bare : c.begin.new.self.board.history ≡ [] = ap (λ (s : SessionState). s.board.history) c.begin.ensures.others ∙ c.in-Ok.ensures.history in
-    subst (λ (h : List Entry). HasRead log c.in-Ok.lines (fed_commands 1 h) []) (sym bare) (c.in-Ok.ensures.lines log)
+    subst (λ (h : List Entry). HasGiven c.in-Ok.reader left (fed_commands 1 h) []) (sym bare) (c.in-Ok.ensures.nothing_given left)
 
 pub returns-clause-sink_fault : goal.returns-clause-sink_fault
 returns-clause-sink_fault g c fell =
@@ -105,15 +105,13 @@ returns-clause-sink_never_falls g c =
 
 pub returns-clause-to_end : goal.returns-clause-to_end
 returns-clause-to_end g c memory whole =
-    let (taken, reads, ran) = c.run_feed-stop.ensures.ran in
-    c.run_feed-stop.ensures.to_end (read-whole _ _ c.run_feed-stop.result c.run_feed-stop.new.session.board c.run_feed-stop.new.session.no_memory
-    taken (sym (c.no_memory.ensures ∙ c.end.ensures.no_memory) ∙ memory) (sym c.is_source_failed.ensures ∙ whole.0)
-    (sym c.is_too_long.ensures ∙ whole.1) ran)
+    let runs = c.run_feed-stop.ensures.ran in
+    nothing-left _ _ c.run_feed-stop.result c.run_feed-stop.new.session.board c.run_feed-stop.new.session.no_memory
+    runs.taken (sym (c.no_memory.ensures ∙ c.end.ensures.no_memory) ∙ memory) (sym c.is_source_failed.ensures ∙ whole.0)
+    (sym c.is_too_long.ensures ∙ whole.1) runs.ended
 
 pub returns-clause-source_fault : goal.returns-clause-source_fault
-returns-clause-source_fault g c failed =
-    c.run_feed-stop.ensures.fault (source-failed c.run_feed-stop.result (sym c.is_source_failed.ensures ∙ failed))
+returns-clause-source_fault g c failed = c.run_feed-stop.ensures.fault (sym c.is_source_failed.ensures ∙ failed)
 
 pub returns-clause-source_counts_none : goal.returns-clause-source_counts_none
-returns-clause-source_counts_none g c sound =
-    c.run_feed-stop.ensures.other_counts_none (source-sound c.run_feed-stop.result (sym c.is_source_failed.ensures ∙ sound))
+returns-clause-source_counts_none g c sound = c.run_feed-stop.ensures.other_counts_none (sym c.is_source_failed.ensures ∙ sound)

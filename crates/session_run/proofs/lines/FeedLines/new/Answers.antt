@@ -1,5 +1,0 @@
-use Rattle.session_run.proofs.ReadLines.{read-nothing}
-use Rattle.session_run.proofs.lines.FeedLines.new.Goals as goal
-
-pub returns : goal.returns
-returns c log = read-nothing log c.in_ok-new.field-0 c.in_ok-new.ensures.nothing_taken c.in_ok-new.ensures.most
