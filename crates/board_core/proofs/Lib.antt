@@ -18,3 +18,4 @@ pub mod Marked
 pub mod Opened
 pub mod Settled
 pub mod Committed
+pub mod OpenBatches

@@ -10,6 +10,9 @@ pub mod Fed
 pub mod Asked
 pub mod Opening
 pub mod Leaving
+pub mod Untouched
+pub mod Effects
+pub mod Others
 pub mod Kept
 pub mod Confirming
 pub mod Committing
@@ -25,3 +28,5 @@ pub mod BatchTexts
 pub mod HistoryTexts
 pub mod Closings
 pub mod Standing
+pub mod Finished
+pub mod Unmoved

@@ -2,6 +2,8 @@
 #![tactic(auto)]
 
 pub mod closing;
+pub mod commits;
 pub mod consistency;
+pub mod finishing;
 pub mod promises_kept;
 pub mod texts;

@@ -16,7 +16,7 @@ use Rattle.command_lines.specs.Limits.{AreFirst}
 use Rattle.board_core.specs.Recorded.{Recorded, state_of, fed_entry}
 use Rattle.session_run.specs.Running.{GoesOn, IsSession, IsAsked, RunsBatch, Answers, Stops, gave_up}
 use Rattle.session_run.proofs.Going.{state-push, settled-push, awaited-push, gave_up-push, fed-feed, goes-then}
-use Rattle.session_run.proofs.Leaving.{is_asked, leaves-step}
+use Rattle.history_laws.proofs.Untouched.{is_asked, leaves-step}
 
 -- what is awaited after an answer
 after-reply : (command : Command) (reply : Reply) (b : Bool) → is_asked reply ≡ b

@@ -1,6 +1,5 @@
 pub mod LogLemmas
 pub mod SmallCosts
-pub mod Leaving
 pub mod Settling
 pub mod Going
 pub mod Opening
@@ -11,4 +10,3 @@ pub mod Replays
 pub mod OneVehicle
 pub mod Begun
 pub mod Stops
-pub mod OpenBatches

@@ -35,7 +35,7 @@ use Rattle.board_core.specs.Recorded.{Recorded, state_of, opened_entry, committe
 use Rattle.session_run.specs.Running.{IsAsked, IsOpened, RunsBatch, Closes}
 use Rattle.session_run.specs.Settled.{settles}
 use Rattle.session_run.proofs.Going.{state-push, settled-push, awaited-push, gave_up-push, fed-desk, goes-then}
-use Rattle.session_run.proofs.Leaving.{stays-outcomes}
+use Rattle.history_laws.proofs.Untouched.{stays-outcomes}
 use Rattle.session_run.proofs.Settling.{outcomes-settled}
 
 -- whether a request's state is that of a cancelled one

@@ -1,5 +1,5 @@
 -- Splitting and joining passes keep the rule.
-use Rattle.std.proofs.Common.{◌≡◌, ◌≢◌, ℕ, ◌+◌, ◌-◌, ◌<◌, ◌≤◌, true, false, List, [], ◌∷◌, ◌++◌, length, set, sym, refl, ap, ◌∙◌, subst, ⊎_elim, arith, length-set, Option, Some, None}
+use Rattle.std.proofs.Common.{◌≡◌, ◌≢◌, ℕ, ◌+◌, ◌-◌, ◌<◌, ◌≤◌, true, false, List, [], ◌∷◌, ◌++◌, length, get_or, set, sym, refl, ap, ◌∙◌, subst, ⊎_elim, arith, length-set, Option, Some, None}
 use Rattle.std.proofs.lemmas.List.Elements.{All-push}
 use mathlib.Core.List.{IsPrefix}
 use mathlib.Core.Logic.{dite}
@@ -37,13 +37,16 @@ module _ {T R I : Type 0} (root : T → R) (history : T → List I) (maker : I �
   Fit = Fits root history maker origin
 
   pub looks : (slots id : ℕ) (m : Me (Option T) V) → m.0.is_live ≡ true → Allows Rule slots id m 0 (λ n. n) (Looks (step slots 0 0 0 none) m)
-  looks slots id m live s r deep at small = (m.0, keeps, tt, unmoved root history maker origin s _ _ (set-get_or s.words 0 0) (set_again s.views id m.0 at) r, (refl, joined))
+  looks slots id m live s r deep at small = (m.0, keeps, tt, unmoved root history maker origin s _ _ (set-get_or s.words 0 0) (set_again s.views id m.0 at) r, (refl, joined, counted))
     where
       f : Fit r.log r.spot r.owner (others_in s.views) id m.0
       f = r.each_live id m.0 at live
 
       joined : IsJoined m.0
       joined = record { first_is = f.first_is; second_is = f.second_is; came_back = λ z. (f.leads z).came_back }
+
+      counted : m.0.knowledge.has_turn ≡ true → get_or s.words 0 0 ≡ length m.0.knowledge.seen
+      counted turn = ap (λ ws. get_or ws 0 0) r.words ∙ ap (λ (l : List I). length l) (sym (f.turn_is turn).1)
 
   pub splits : (id : ℕ) (v : V) → v.is_live ≡ true → v.knowledge.number ≡ 0 → 2 ≤ v.knowledge.room → v.knowledge.has_turn ≡ false → Splits Rule id v (left_of v) (right_of v)
   splits id v live zeroth room free s r at = record {

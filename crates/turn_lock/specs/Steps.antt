@@ -1,5 +1,5 @@
 -- What becomes of the views, and what each step of the lock tells its caller.
-use Rattle.std.specs.Prelude.{◌≡◌, ◌≢◌, ℕ, ◌+◌, ◌<◌, Bool, true, false, List, [], ◌∷◌, Option, Some, None}
+use Rattle.std.specs.Prelude.{◌≡◌, ◌≢◌, ℕ, ◌+◌, ◌<◌, Bool, true, false, List, [], ◌∷◌, length, Option, Some, None}
 use mathlib.Core.List.{IsPrefix}
 use Rattle.atomic_table.specs.Table.{Me, Step, rest}
 use Rattle.turn_lock.specs.declared.rule.Knowledge.{Knowledge}
@@ -79,6 +79,6 @@ module _ {T R I : Type 0} where
   abbrev pub HandsOn : Step (Option T) → Me (Option T) (View R I) → ℕ → Me (Option T) (View R I) → Type 0
   HandsOn st m found m' = m' ≡ (with_knowledge m.0 (after_leave m.0.knowledge), rest m.1)
 
-  -- nothing changed, and what holds after a join was learned
+  -- nothing changed, and what holds after a join was learned; with the turn, the history was found as long as what was seen
   abbrev pub Looks : Step (Option T) → Me (Option T) (View R I) → ℕ → Me (Option T) (View R I) → Type 0
-  Looks st m found m' = (m' ≡ m) × IsJoined m.0
+  Looks st m found m' = (m' ≡ m) × IsJoined m.0 × (m.0.knowledge.has_turn ≡ true → found ≡ length m.0.knowledge.seen)

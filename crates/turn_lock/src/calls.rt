@@ -35,6 +35,13 @@ impl<T: Chronicle + Send> Pass<T> {
     {
         self.number
     }
+
+    /// How many items of the history it has seen.
+    pub fn seen(&self) -> u64
+        ensures { result ≡ length (knowledge self.now).seen }
+    {
+        self.seen
+    }
 }
 
 impl<T: Chronicle + Send, A: Allocator> TurnLock<T, A> {
@@ -61,6 +68,7 @@ impl<T: Chronicle + Send, A: Allocator> TurnLock<T, A> {
             seat,
             number: 0,
             room: passes,
+            seen: 0,
         };
         Ok((TurnLock { table }, pass))
     }
@@ -80,6 +88,7 @@ impl<T: Chronicle + Send, A: Allocator> TurnLock<T, A> {
             seat,
             number: pass.room,
             room: 1,
+            seen: pass.seen,
         }
     }
 
@@ -95,10 +104,11 @@ impl<T: Chronicle + Send, A: Allocator> TurnLock<T, A> {
         ensures other_seen { IsPrefix (knowledge other).seen (knowledge pass.new).seen }
         ensures out { (knowledge pass.new).out + 1 ≡ (knowledge pass.old).out }
     {
-        let Pass { seat, .. } = other;
+        let Pass { seat, seen, .. } = other;
         let shared = &self.table.shared;
         shared.join_seat::<Glue>(&mut pass.seat, seat);
         shared.load::<Look>(&mut pass.seat, LENGTH);
+        pass.seen = pass.seen.max(seen);
     }
 
     // Takes the turn if it is free.
@@ -115,7 +125,9 @@ impl<T: Chronicle + Send, A: Allocator> TurnLock<T, A> {
         if found != FREE {
             return None;
         }
-        shared.exchange(&mut pass.seat, VALUE, None)
+        let value = shared.exchange(&mut pass.seat, VALUE, None);
+        pass.seen = shared.load::<Look>(&mut pass.seat, LENGTH);
+        value
     }
 
     /// Waits for the turn and takes the value. A waiting thread sleeps until the turn is handed on.
@@ -151,7 +163,8 @@ impl<T: Chronicle + Send, A: Allocator> TurnLock<T, A> {
         shared.wake_one(TURN);
     }
 
-    /// Puts the value back, whose history has one item more, made by this pass, and hands the turn on.
+    /// Puts the value back, whose history has one item more, made by this pass, and hands the turn on. It wakes the passes
+    /// that wait for news.
     pub fn leave_with(&self, pass: &mut Pass<T>, value: T)
         requires pass { MayLeave self.now pass.old }
         requires root { HasRoot pass.old (T.root value) }
@@ -164,8 +177,27 @@ impl<T: Chronicle + Send, A: Allocator> TurnLock<T, A> {
         let shared = &self.table.shared;
         let _none = shared.exchange(&mut pass.seat, VALUE, Some(value));
         shared.fetch_add::<Note>(&mut pass.seat, LENGTH, 1);
+        pass.seen += 1;
         shared.store::<HandOn>(&mut pass.seat, TURN, FREE);
         shared.wake_one(TURN);
+        shared.wake_all(LENGTH);
+    }
+
+    /// Waits until the history is longer than what the pass has seen. A waiting thread sleeps until an item is noted, also
+    /// where that happens between its look at the length and its sleep: it sleeps only on the length that it has looked at.
+    ///
+    /// It tells nothing of the history. What is new is seen at the next turn.
+    pub fn wait_for_news<R: Wait>(&self, rt: &R, pass: &Pass<T>)
+        requires { MayEnter self.now pass.now }
+    {
+        let shared = &self.table.shared;
+        for _ in rt.forever() {
+            if shared.peek(LENGTH) != pass.seen {
+                return;
+            }
+            // A sleep is on the lower half of a word.
+            shared.park(rt, LENGTH, (pass.seen % (1 << 32)) as u32);
+        }
     }
 
     /// Gives the value back. This needs no memory, so it is never refused: the `Err`, which would hand back both the

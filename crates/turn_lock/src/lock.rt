@@ -1,5 +1,5 @@
 //! The lock and its passes.
-ghost use Rattle.std.specs.Prelude.{◌≡◌, true};
+ghost use Rattle.std.specs.Prelude.{◌≡◌, true, length};
 ghost use Rattle.turn_lock.specs.Steps.{slots_of};
 
 use crate::chronicle::Chronicle;
@@ -26,8 +26,10 @@ pub struct Pass<T: Chronicle + Send> {
     pub(crate) seat: Seat<Option<T>, View<T::Root, T::Item>>,
     pub(crate) number: u32,
     pub(crate) room: u32,
+    pub(crate) seen: u64,
     ghost live: { seat.me.0.is_live ≡ true },
     ghost number_is: { number ≡ seat.me.0.knowledge.number },
     ghost room_is: { room ≡ seat.me.0.knowledge.room },
+    ghost seen_is: { seen ≡ length seat.me.0.knowledge.seen },
     ghost slots_are: { seat.me.1 ≡ slots_of seat.me.0.knowledge.has_turn },
 }

@@ -26,7 +26,7 @@ impl<T: Chronicle> Play<Option<T>, View<T::Root, T::Item>> for HandOn {
     ghost then = { HandsOn };
 }
 
-/// Learns what the rule says of a join.
+/// Learns what the rule says of a join and, with the turn, how long the history is.
 pub(crate) struct Look;
 
 impl<T: Chronicle> Play<Option<T>, View<T::Root, T::Item>> for Look {

@@ -268,3 +268,48 @@ fn items_stay_after_their_passes_are_joined(rt: HostRuntime) -> Result<(), Fail>
     assert_eq!(rt; value.entries.as_slice(), made.as_slice());
     Ok(())
 }
+
+// Waits for news, and then counts the items.
+fn count_news<R: Wait>(rt: &R, lock: &TurnLock<Numbers>, mut pass: Pass<Numbers>) -> usize
+    requires { MayEnter lock.now pass }
+{
+    lock.wait_for_news(rt, &pass);
+    let value = lock.enter(rt, &mut pass);
+    let count = value.entries.len();
+    lock.leave_same(&mut pass, value);
+    count
+}
+
+// One thread waits for news while another writes a number.
+fn count_beside<R: Threads + Wait + Sync>(
+    rt: &R,
+    lock: &TurnLock<Numbers>,
+    one: Pass<Numbers>,
+    two: Pass<Numbers>,
+) -> usize
+    requires one { MayEnter lock.now one }
+    requires two { MayEnter lock.now two }
+{
+    let (count, _two) = join(
+        rt,
+        move || -> usize
+            requires { MayEnter lock.now one }
+        { count_news(rt, lock, one) },
+        move || -> Pass<Numbers>
+            requires { MayEnter lock.now two }
+        { write_all(rt, lock, two, 1) },
+    );
+    count
+}
+
+#[test]
+fn a_pass_that_waits_is_woken_by_an_item(rt: HostRuntime) -> Result<(), Fail> {
+    let (lock, mut first) = TurnLock::new(rt.alloc(), Numbers::new(rt.alloc()), 3)?;
+    let one = lock.split(&mut first);
+    let two = lock.split(&mut first);
+    assert_eq!(rt; first.seen(), 0);
+    assert_eq!(rt; count_beside(&rt, &lock, one, two), 1);
+    let first = write_all(&rt, &lock, first, 1);
+    assert_eq!(rt; first.seen(), 2);
+    Ok(())
+}

@@ -3,7 +3,7 @@ use Rattle.std.proofs.lemmas.Result.{IfOk-weaker, on_err_weaker}
 use Rattle.board_core.specs.Recorded.{Recorded}
 use Rattle.session_run.specs.Running.{RunsBatch, Answers, Stops}
 use Rattle.session_run.proofs.Answering.{answers-others, asks, asks-stops, answers-ask, not_asked}
-use Rattle.session_run.proofs.Leaving.{is_asked}
+use Rattle.history_laws.proofs.Untouched.{is_asked}
 use Rattle.session_run.proofs.answers.answer.Goals as goal
 use Rattle.session_run.proofs.answers.answer.Goals.{in-Asked, in_default}
 

@@ -2,7 +2,7 @@ use Rattle.std.proofs.Common.{◌≢◌, ap, sym, subst, ◌∙◌}
 use Rattle.std.specs.Prelude.{IfSome, Option}
 use Rattle.ride_model.specs.Seating.{BatchCopy}
 use Rattle.board_core.specs.Recorded.{Recorded, state_of}
-use Rattle.session_run.proofs.OpenBatches.{IsOpen, open-abandoned}
+use Rattle.board_core.proofs.OpenBatches.{IsOpen, open-abandoned}
 use Rattle.session_run.proofs.tests.days.abandon.Goals as goal
 
 pub returns-in-Some-clause-others : goal.returns-in-Some-clause-others

@@ -3,7 +3,7 @@ use Rattle.ride_model.specs.Road.{RoadMap}
 use Rattle.ride_model.specs.Seating.{BatchCopy, IsBatchOver}
 use Rattle.ride_model.specs.Vehicle.{IsLawful}
 use Rattle.board_core.specs.Recorded.{Recorded, state_of}
-use Rattle.session_run.proofs.OpenBatches.{IsOpen, open-fits, open-committed, open-abandoned}
+use Rattle.board_core.proofs.OpenBatches.{IsOpen, open-fits, open-committed, open-abandoned}
 use Rattle.session_run.proofs.tests.days.close.Goals as goal
 
 pub solved-requires-clause-time : goal.solved-requires-clause-time

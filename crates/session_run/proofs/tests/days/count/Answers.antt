@@ -1,5 +1,5 @@
 use Rattle.std.proofs.Common.{length, ap, arith}
-use Rattle.session_run.proofs.OpenBatches.{fed-le}
+use Rattle.board_core.proofs.OpenBatches.{fed-le}
 use Rattle.session_run.proofs.tests.days.count.Goals as goal
 
 pub returns : goal.returns

@@ -1,6 +1,6 @@
 use Rattle.std.proofs.Common.{ap}
 use Rattle.board_core.specs.Recorded.{Recorded}
-use Rattle.session_run.proofs.OpenBatches.{open-ended}
+use Rattle.board_core.proofs.OpenBatches.{open-ended}
 use Rattle.session_run.proofs.tests.days.end.Goals as goal
 
 pub returns-clause-held : goal.returns-clause-held

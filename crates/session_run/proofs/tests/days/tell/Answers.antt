@@ -1,6 +1,6 @@
 use Rattle.std.proofs.Common.{ap}
 use Rattle.board_core.specs.Recorded.{Recorded}
-use Rattle.session_run.proofs.OpenBatches.{open-fed}
+use Rattle.board_core.proofs.OpenBatches.{open-fed}
 use Rattle.session_run.proofs.tests.days.tell.Goals as goal
 
 pub returns-clause-held : goal.returns-clause-held

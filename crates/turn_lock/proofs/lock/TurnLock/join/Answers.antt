@@ -16,8 +16,8 @@ join_seat-requires g c =
       joins t.root t.history t.maker (t.root lock.table.shared.key.value.value) pass.seat.id pass.seat.me.0 other.seat.id other.seat.me.0 pass.live other.live c.requires.first c.requires.numbered c.requires.pass.1 c.requires.other.1,
     )
 
-pub load-requires : goal.load-requires
-load-requires g c =
+pub load-pass-requires : goal.load-pass-requires
+load-pass-requires g c =
     let lock = c.args.self.now in
     let seat = c.join_seat.new.seat in
     let t = g.T.Chronicle in (

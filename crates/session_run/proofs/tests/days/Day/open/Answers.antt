@@ -3,7 +3,7 @@ use Rattle.ride_model.specs.State.{State}
 use Rattle.ride_model.specs.Text.{IsOneOrTwo}
 use Rattle.board_core.specs.declared.opening.Opening.{Opening}
 use Rattle.board_core.specs.Recorded.{state_of}
-use Rattle.session_run.proofs.OpenBatches.{still-kept}
+use Rattle.board_core.proofs.OpenBatches.{still-kept}
 use Rattle.session_run.proofs.tests.days.Day.open.Goals as goal
 
 pub invariant_of-self-then-desk-eq1 : goal.invariant_of-self-then-desk-eq1

@@ -1,0 +1,9 @@
+pub mod Parts
+pub mod Points
+pub mod Actors
+pub mod Batches
+pub mod MayEnd
+pub mod Closing
+pub mod Tails
+pub mod Starting
+pub mod Counts

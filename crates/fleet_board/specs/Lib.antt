@@ -1,0 +1,7 @@
+pub mod Passes
+pub mod Openings
+pub mod Commits
+pub mod Turns
+pub mod Sharing
+pub mod Sets
+pub mod Roles
