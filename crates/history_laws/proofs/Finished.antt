@@ -173,7 +173,7 @@ settles-event feeds desks s actor event legal settles = record {
     before desk ended =
         let test = λ (end : Actor × Ending). is_actor end.0 (Desk desk) && is_whole end.1 in
         elim (either_true (ended_whole s (Desk desk)) (list_any test (ends_in actor event)) (
-          sym (ap (list_any test) (effect s actor event).ended ∙ list_any-append test s.ended (ends_in actor event)) ∙ ended
+        sym (ap (list_any test) (effect s actor event).ended ∙ list_any-append test s.ended (ends_in actor event)) ∙ ended
         )) [
           | inl earlier ↦ settles.whole desk earlier
           | inr now ↦ none_at_end feeds desks s actor event desk legal now

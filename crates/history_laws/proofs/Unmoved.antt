@@ -99,8 +99,8 @@ unmoved-outcomes s batch seats id differs (ride ∷ rides) t distinct =
     not_its rider x seated confirmed =
         let equal = standing_version s batch x (was_cancelled s rider) (sym (ap (outcome_by batch s (was_cancelled s rider)) seated) ∙ confirmed) in
         ne_eqb x.vehicle id (λ same. differs (
-          subst (λ k. version_of batch.vehicles k ≡ version_of s.vehicles k) same
-          (eqb-true (version_of batch.vehicles x.vehicle) (version_of s.vehicles x.vehicle) equal)
+        subst (λ k. version_of batch.vehicles k ≡ version_of s.vehicles k) same
+        (eqb-true (version_of batch.vehicles x.vehicle) (version_of s.vehicles x.vehicle) equal)
         ))
 
 -- a commit leaves it

@@ -18,5 +18,5 @@ pub fn a_commit_changes_only_standing_vehicles()
         → IsLegal feeds desks start before → open_batch_numbered (replay start before) desk number ≡ Some batch
         → version_of batch.vehicles id ≢ version_of (replay start before).vehicles id
         → find_vehicle (replay start (before ++ record { actor = Desk desk; event = Committed number cost seats prices pays outcomes } ∷ [])).vehicles id
-            ≡ find_vehicle (replay start before).vehicles id }
+        ≡ find_vehicle (replay start before).vehicles id }
 {}

@@ -150,5 +150,14 @@ lines-grow xs ys = by_rest (rest_of xs) refl
     by_rest : (rest : List ℕ) → rest_of xs ≡ rest → length (lines_of xs) ≤ length (lines_of (xs ++ ys))
     by_rest [] is = omega (arith, ended, all, first, ap (λ l. length (last_line l)) is)
     by_rest (b ∷ rest) is =
-        omega (arith, ended, all, first, ap (λ l. length (last_line l)) is, ap (λ l. length (last_line l)) last,
-        ap (λ l. length (ended_after l ys)) is, ap (λ l. length (last_line (rest_after l ys))) is, some-line (b ∷ rest) ys (omega arith))
+        omega (
+          arith,
+          ended,
+          all,
+          first,
+          ap (λ l. length (last_line l)) is,
+          ap (λ l. length (last_line l)) last,
+          ap (λ l. length (ended_after l ys)) is,
+          ap (λ l. length (last_line (rest_after l ys))) is,
+          some-line (b ∷ rest) ys (omega arith),
+        )
