@@ -53,7 +53,7 @@ open-facts setup service kept capacity board batch is open_is =
     }
 
 -- what is found by desk among batches without one
-find-without : (desk number d : ℕ) (batches : List BatchCopy) → ((b : BatchCopy) → Among b batches → eqb b.desk desk ≡ true → eqb b.number number ≡ true)
+pub find-without : (desk number d : ℕ) (batches : List BatchCopy) → ((b : BatchCopy) → Among b batches → eqb b.desk desk ≡ true → eqb b.number number ≡ true)
     → find (λ (b : BatchCopy). b.desk == d) (filter (λ other. not (is_batch desk number other)) batches)
     ≡ cond (eqb desk d) None (find (λ (b : BatchCopy). b.desk == d) batches)
 find-without desk number d [] same = nothing (eqb desk d)

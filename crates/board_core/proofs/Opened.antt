@@ -46,7 +46,7 @@ opened-state setup service after s batch is after_is =
     ∙ ap (λ (service : Service). state_at setup service s) (sym after_is))
 
 -- the open batch of a desk, where one more is open
-open-with : (desk d : ℕ) (batch : BatchCopy) (batches : List BatchCopy) → batch.desk ≡ desk
+pub open-with : (desk d : ℕ) (batch : BatchCopy) (batches : List BatchCopy) → batch.desk ≡ desk
     → find (λ (b : BatchCopy). b.desk == desk) batches ≡ None
     → find (λ (b : BatchCopy). b.desk == d) (batches ++ batch ∷ []) ≡ cond (eqb desk d) (Some batch) (find (λ (b : BatchCopy). b.desk == d) batches)
 open-with desk d batch batches is none =

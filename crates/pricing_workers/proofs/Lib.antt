@@ -4,3 +4,5 @@ pub mod Filling
 pub mod Nodes
 pub mod PairFacts
 pub mod Trials
+pub mod SeatOffers
+pub mod SmallCosts

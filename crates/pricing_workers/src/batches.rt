@@ -9,6 +9,7 @@ ghost use Rattle.pricing_workers.specs.Cells.{AreRowsOf};
 ghost use Rattle.pricing_workers.specs.Pairs.{IsRequest, MayFill};
 ghost use Rattle.pricing_workers.specs.Rows.{HasRoom};
 
+use crate::pairs::Search;
 use crate::pieces::{Job, fill_rows};
 use crate::times::Times;
 use crate::wanted::Wanted;
@@ -40,8 +41,30 @@ pub fn price_batch<R: Threads + Sync, G: Gate>(
     ensures table { IfOk result (λ table. IsTableOf roads.now batch.now table) }
     ensures scratches { scratches.new ≡ scratches.old }
 {
+    price_batch_by(rt, alloc, Search::BySlack, batch, roads, scratches, gate)
+}
+
+/// The same by one of the ways to search a pair's places.
+pub fn price_batch_by<R: Threads + Sync, G: Gate>(
+    rt: &R,
+    alloc: Global,
+    search: Search,
+    batch: &Batch,
+    roads: &Roads,
+    scratches: &mut [Scratch],
+    gate: &G,
+) -> Result<PriceTable, NoMemory>
+    requires some_scratch { 1 ≤ length scratches.old }
+    requires scratches { All (λ scratch. scratch.nodes ≡ roads.now.nodes) scratches.old }
+    requires time { batch.now.time ≤ 1000000000 }
+    requires over_map { IsBatchOver roads.now batch.now }
+    requires lawful { All (IsLawful roads.now) batch.now.vehicles }
+    ensures table { IfOk result (λ table. IsTableOf roads.now batch.now table) }
+    ensures scratches { scratches.new ≡ scratches.old }
+{
     let wanted = wanted_of(alloc, batch, roads)?;
     let job = Job {
+        search,
         roads,
         batch,
         wanted: &wanted,

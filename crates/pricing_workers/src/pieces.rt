@@ -6,7 +6,7 @@ ghost use Rattle.pricing_workers.specs.Cells.{IsCellOf, IsRowOf, AreRowsOf};
 ghost use Rattle.pricing_workers.specs.Pairs.{IsRequest, MayFill, MayPrice};
 ghost use Rattle.pricing_workers.specs.Rows.{HasRoom};
 
-use crate::pairs::price_pair;
+use crate::pairs::{Search, price_pair};
 use crate::times::Times;
 use crate::wanted::Wanted;
 use batch_commit::Batch;
@@ -22,6 +22,7 @@ const BEFORE_ROWS: u32 = 7;
 /// What all workers of a batch read.
 #[derive(Clone, Copy)]
 pub(crate) struct Job<'a> {
+    pub(crate) search: Search,
     pub(crate) roads: &'a Roads,
     pub(crate) batch: &'a Batch,
     pub(crate) wanted: &'a Wanted,
@@ -67,7 +68,7 @@ fn fill_row<R: Threads + Sync>(
     requires cells { length cells.old ≡ length job.now.batch.now.vehicles }
     ensures { IsRowOf job.now.roads.now job.now.batch.now ride.now cells.new }
 {
-    let (batch, wanted) = (job.batch, job.wanted);
+    let (search, batch, wanted) = (job.search, job.batch, job.wanted);
     par_for_each_mut(
         rt,
         cells,
@@ -77,7 +78,7 @@ fn fill_row<R: Threads + Sync>(
             ensures { (roads : RoadMap) (v : Vehicle) → MayPrice roads batch.entry.now wanted.entry.now times.entry.now ride.entry.now
                 → IsCellOf roads batch.entry.now ride.entry.now (slice_index_or batch.entry.now.vehicles place v) cell.new }
         {
-            *cell = price_pair(batch, wanted, times, ride, place);
+            *cell = price_pair(search, batch, wanted, times, ride, place);
         },
     );
 }

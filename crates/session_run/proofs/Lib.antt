@@ -1,5 +1,4 @@
 pub mod LogLemmas
-pub mod SmallCosts
 pub mod Settling
 pub mod Going
 pub mod Opening

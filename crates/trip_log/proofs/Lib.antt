@@ -1,10 +1,10 @@
 pub mod PrintsLemmas
 pub mod LineLemmas
-mod CutLemmas
-mod SolidLemmas
+pub mod CutLemmas
+pub mod SolidLemmas
 mod ItemLemmas
-mod ReadLemmas
-mod TextLemmas
+pub mod ReadLemmas
+pub mod TextLemmas
 mod CompareLemmas
 mod HeadLemmas
 mod SpelledLemmas

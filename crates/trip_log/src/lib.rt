@@ -15,7 +15,7 @@ mod reading;
 mod replies;
 
 pub use printing::{print_entry, print_head};
-pub use reading::{Head, read_entry, read_head};
+pub use reading::{Head, read_entry, read_head, spells};
 
 #[cfg(test)]
 mod reading_tests;

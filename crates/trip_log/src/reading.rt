@@ -78,8 +78,8 @@ fn spells_head(log: u8, feeds: u8, desks: u8, line: &[u8]) -> bool
     printed.is_ok() && whole
 }
 
-// Whether the line of an entry is this line and an LF.
-fn spells(entry: &Entry, log: u8, line: &[u8]) -> bool
+/// Whether the line of an entry is this line and an LF.
+pub fn spells(entry: &Entry, log: u8, line: &[u8]) -> bool
     requires log { IsOneOrTwo log }
     requires has_line { HasLine log entry.now }
     ensures is { IsTrue result → entry_line log entry.now ≡ line.now ++ 10 ∷ [] }

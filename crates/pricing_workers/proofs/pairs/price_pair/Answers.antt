@@ -13,8 +13,8 @@ near-near-requires c =
     c.index-vehicles-place.is (c.vehicles-2.ensures.items ∙ c.vehicles.ensures) c.index-plan.ensures in
     record { wide = facts.wide }
 
-pub best_place_fast-requires-clause-asked : goal.best_place_fast-requires-clause-asked
-best_place_fast-requires-clause-asked c =
+pub least_offer-requires-clause-asked : goal.least_offer-requires-clause-asked
+least_offer-requires-clause-asked c =
     let (roads, may) = c.requires.ready in
     let v = c.index-vehicles-place.result in
     let ride = c.args.ride.now in
@@ -28,8 +28,8 @@ best_place_fast-requires-clause-asked c =
           facts (c.near-near.ensures roads ride facts.holds))),
     )
 
-pub best_place_fast-requires-clause-slack : goal.best_place_fast-requires-clause-slack
-best_place_fast-requires-clause-slack c =
+pub least_offer-requires-clause-slack : goal.least_offer-requires-clause-slack
+least_offer-requires-clause-slack c =
     let (roads, may) = c.requires.ready in
     let facts = pair-facts roads c.args.batch.now c.args.wanted.now c.args.times.now c.args.ride.now c.args.place
     c.index-vehicles-place.result c.index-plan.result.now c.vehicles-2.result.now may c.requires.place
@@ -49,10 +49,10 @@ returns c = λ roads d may.
     facts (c.near-near.ensures roads ride facts.holds) in
     let shown = subst (λ time. IsAsked roads v ride time c.settings.result.now c.near-near.result) (sym c.time.ensures)
     (subst (λ settings. IsAsked roads v ride batch.time settings c.near-near.result) (sym c.settings.ensures.settings) asked) in
-    let cell : IsCellOf roads batch ride v c.best_place_fast.result
-    = cell-of roads batch ride v c.best_place_fast.result
-    (rw (sym c.settings.ensures.settings, sym c.time.ensures) (c.best_place_fast.ensures.price roads shown))
-    (rw (sym c.settings.ensures.settings, sym c.time.ensures) (c.best_place_fast.ensures.an_offer roads shown)) in
-    subst (λ u. IsCellOf roads batch ride u c.best_place_fast.result)
+    let cell : IsCellOf roads batch ride v c.least_offer.result
+    = cell-of roads batch ride v c.least_offer.result
+    (rw (sym c.settings.ensures.settings, sym c.time.ensures) (c.least_offer.ensures.price roads shown))
+    (rw (sym c.settings.ensures.settings, sym c.time.ensures) (c.least_offer.ensures.an_offer roads shown)) in
+    subst (λ u. IsCellOf roads batch ride u c.least_offer.result)
     (c.index-vehicles-place.is ∙ ap (λ vs. get_or vs c.args.place v) same ∙ get_or_default batch.vehicles c.args.place v d c.requires.place)
     cell

@@ -3,7 +3,7 @@ use Rattle.std.proofs.lemmas.Result.{IfOk-weaker}
 use Rattle.ride_model.specs.Road.{RoadMap}
 use Rattle.ride_model.specs.Seating.{IsBatchOver}
 use Rattle.batch_commit.specs.Table.{HasSmallCosts, IsTableOf}
-use Rattle.session_run.proofs.SmallCosts.{small-costs}
+use Rattle.pricing_workers.proofs.SmallCosts.{small-costs}
 use Rattle.session_run.proofs.tools.Tools.priced.Goals as goal
 
 pub returns-clause-small : goal.returns-clause-small

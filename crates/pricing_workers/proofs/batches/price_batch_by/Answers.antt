@@ -1,4 +1,4 @@
-use Rattle.pricing_workers.proofs.batches.price_batch.Goals as goal
+use Rattle.pricing_workers.proofs.batches.price_batch_by.Goals as goal
 
 pub fill_cells-requires-clause-requests : goal.fill_cells-requires-clause-requests
 fill_cells-requires-clause-requests g c κs within =

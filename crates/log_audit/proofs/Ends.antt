@@ -1,0 +1,220 @@
+-- How an audit ends.
+use Rattle.std.proofs.Common.{◌≡◌, ◌≢◌, ℕ, ◌+◌, ◌-◌, ◌<◌, ◌≤◌, inl, inr, List, [], ◌∷◌, ◌++◌, length, take, Option, None, Some, refl, sym, ◌∙◌, ap, subst, arith, append_assoc, append-nil, length-append}
+use Rattle.std.specs.Prelude.{IfSome, Ok, Err}
+use Rattle.std.proofs.Math.Seq.{take-append-add}
+use Rattle.std.proofs.lemmas.Bool.{ne_eqb}
+use Rattle.std.proofs.lemmas.List.{length-map}
+use Rattle.ride_ports.specs.Bytes.{Reads}
+use Rattle.ride_ports.proofs.ByteLemmas.{Reads-to_end}
+use Rattle.line_text.specs.Lines.{ended_after, rest_after, ended_lines, rest_of, last_line, lines_of}
+use Rattle.line_text.proofs.LineLemmas.{ended_lines-append, ended_after-no_end, rest_after-append, rest_after-no_end, HasNoEnd}
+use Rattle.ride_model.specs.declared.entry.Entry.{Entry}
+use Rattle.ride_model.specs.State.{State}
+use Rattle.ride_model.specs.Legal.{replay}
+use Rattle.ride_model.specs.Text.{entry_line}
+use Rattle.history_laws.specs.Start.{IsStart}
+use Rattle.trip_log.specs.Cuts.{front_of}
+use Rattle.trip_log.proofs.TextLemmas.{cut-text, rest-text}
+use Rattle.log_audit.specs.declared.lines.LogLines.{LogLines}
+use Rattle.log_audit.specs.declared.verdict.AuditFault.TheVariants.{ReadFault, TooLong}
+use Rattle.log_audit.specs.declared.verdict.Totals.{Totals}
+use Rattle.log_audit.specs.declared.verdict.Verdict.TheVariants.{Yes, No}
+use Rattle.log_audit.specs.declared.verdict.Why.{Why}
+use Rattle.log_audit.specs.declared.verdict.Why.TheVariants.{Spelling, Actor as ToActor, Reply as ToReply, Batch as ToBatch, Seating as ToSeating, Prices as ToPrices, Outcomes as ToOutcomes}
+use Rattle.log_audit.specs.Audit.{Tells, IsLogOf, IsWrongNext, IsAnswer}
+use Rattle.log_audit.specs.Audited.{NoneWrong}
+use Rattle.log_audit.specs.Limits.{most_bytes, most_lines, IsTooLong, lines_within, Counts}
+use Rattle.log_audit.specs.LogLines.{HasNoLf, IsAtEnd, IsNextLine, IsStop, pending}
+use Rattle.log_audit.specs.Totals.{AreTotalsOf}
+use Rattle.log_audit.specs.Words.{IsFault}
+use Rattle.log_audit.proofs.LineParts.{told-by}
+use Rattle.log_audit.proofs.OneAnswer.{wrong-later}
+use Rattle.log_audit.proofs.WholeLines.{no-entry-first}
+
+-- the lines of a text: the head, and one for each entry
+pub count-text : (start : State) (feeds desks : ℕ) (entries : List Entry) (text : List ℕ) → IsLogOf start feeds desks entries text
+    → length (ended_lines text) ≡ length entries + 1
+count-text start feeds desks entries text good =
+    let lines = ap (λ l. length (ended_lines l)) good.text_is ∙ ap length (cut-text start.settings.log feeds desks entries good.has_text) in
+    omega (arith, lines, length-map entries (λ (entry : Entry). front_of (entry_line start.settings.log entry)))
+
+pub whole-text : (start : State) (feeds desks : ℕ) (entries : List Entry) (text : List ℕ) → IsLogOf start feeds desks entries text
+    → rest_of text ≡ []
+whole-text start feeds desks entries text good = ap rest_of good.text_is ∙ rest-text start.settings.log feeds desks entries good.has_text
+
+-- bytes without LF end no line
+no_end : (bytes : List ℕ) → HasNoLf bytes → HasNoEnd bytes
+no_end [] none = tt
+no_end (b ∷ bytes) (first, rest) = (ne_eqb b 10 first, no_end bytes rest)
+
+pub ended-rest : (bytes rest : List ℕ) → rest_of bytes ≡ [] → HasNoLf rest
+    → (ended_lines (bytes ++ rest) ≡ ended_lines bytes) × (rest_of (bytes ++ rest) ≡ rest)
+unfolding ended_after rest_after
+ended-rest bytes rest whole none = (
+  ended_lines-append bytes rest ∙ ap (λ l. ended_lines bytes ++ ended_after l rest) whole
+      ∙ ap (λ l. ended_lines bytes ++ l) (ap (ended_after []) (sym (append-nil rest)) ∙ ended_after-no_end [] rest [] (no_end rest none))
+      ∙ append-nil (ended_lines bytes),
+  rest_after-append [] bytes rest ∙ ap (λ l. rest_after l rest) whole
+      ∙ ap (rest_after []) (sym (append-nil rest)) ∙ rest_after-no_end [] rest [] (no_end rest none),
+)
+
+-- what was read to its end is within the limits
+pub not-too-long : (before left : Option (List ℕ)) (bytes rest : List ℕ) → rest_of bytes ≡ [] → IsAtEnd before left bytes rest → IsTooLong (bytes ++ rest) → ⊥
+not-too-long before left bytes rest whole end (inl long) = omega (arith, long, end.few_bytes)
+not-too-long before left bytes rest whole end (inr long) =
+    let (ended, last) = ended-rest bytes rest whole end.no_lf in
+    by_rest rest (length (lines_of (bytes ++ rest))) long end.one_more
+    (length-append (ended_lines (bytes ++ rest)) (last_line (rest_of (bytes ++ rest)))
+    ∙ (λ i. length (ended i) + length (last_line (last i))))
+  where
+    by_rest : (r : List ℕ) (many : ℕ) → most_lines < many → (r ≢ [] → length (ended_lines bytes) < most_lines)
+        → many ≡ length (ended_lines bytes) + length (last_line r) → ⊥
+    by_rest [] many long more is = omega (arith, long, is, end.few_lines)
+    by_rest (b ∷ r) many long more is =
+        let some : b ∷ r ≢ [] = λ none. cc none in
+        omega (arith, long, is, more some)
+
+-- all the bytes that were told were read
+pub all-read : (before left : Option (List ℕ)) (read : List ℕ) (P : List ℕ → Type 0) → Reads before left read → IfSome left (λ more. more ≡ [])
+    → P read → IfSome before P
+all-read before left read P reads end holds = by_case before (Reads-to_end reads end)
+  where
+    by_case : (o : Option (List ℕ)) → IfSome o (λ all. read ≡ all) → IfSome o P
+    by_case None is = tt
+    by_case (Some all) is = subst P is holds
+
+-- the log is whole
+pub ends-yes : (before left : Option (List ℕ)) (start : State) (feeds desks : ℕ) (entries : List Entry) (text : List ℕ) (totals : Totals)
+    → IsLogOf start feeds desks entries text → AreTotalsOf feeds desks start entries totals → IsAtEnd before left text []
+    → IfSome before (λ all. IsAnswer start all (Ok (Yes totals)))
+ends-yes before left start feeds desks entries text totals good are end =
+    all-read before left (text ++ []) (λ all. IsAnswer start all (Ok (Yes totals))) end.reads end.to_end
+    (subst (λ all. IsAnswer start all (Ok (Yes totals))) (sym (append-nil text)) (
+      feeds,
+      desks,
+      entries,
+      good,
+      are,
+      λ long. not-too-long before left text [] (whole-text start feeds desks entries text good) end (subst IsTooLong (sym (append-nil text)) long),
+    ))
+
+-- its last line has no LF
+pub ends-unfinished : (before left : Option (List ℕ)) (start : State) (feeds desks : ℕ) (entries : List Entry) (text rest : List ℕ) (line : ℕ)
+    → IsLogOf start feeds desks entries text → IsAtEnd before left text rest → rest ≢ [] → line ≡ length entries + 2
+    → IfSome before (λ all. IsAnswer start all (Ok (No line Spelling)))
+ends-unfinished before left start feeds desks entries text rest line good end some line_is =
+    all-read before left (text ++ rest) (λ all. IsAnswer start all (Ok (No line Spelling))) end.reads end.to_end (
+      inr (record {
+        feeds = feeds;
+        desks = desks;
+        entries = entries;
+        front = text;
+        rest = rest;
+        bytes_are = refl;
+        log = good;
+        wrong = (some, λ entry tells. no-entry-first start.settings.log entry tells.first.0 rest end.no_lf tells.first.1);
+        line_is = line_is;
+      }),
+      λ long. absurd (not-too-long before left text rest (whole-text start feeds desks entries text good) end long),
+    )
+
+-- a line that an LF ends within the limits counts
+pub counts-front : (front more : List ℕ) (line : ℕ) → length front ≤ most_bytes → length (ended_lines front) ≤ most_lines
+    → line ≤ length (ended_lines front) → Counts (front ++ more) line
+counts-front front more line few_bytes few_lines low long =
+    let split : take most_bytes (front ++ more) ≡ front ++ take (most_bytes - length front) more = take-append-more most_bytes front more few_bytes in
+    omega (
+      arith,
+      low,
+      few_lines,
+      ap (λ l. length (ended_lines l)) split,
+      ap length (ended_lines-append front (take (most_bytes - length front) more)),
+      length-append (ended_lines front) (ended_after (rest_of front) (take (most_bytes - length front) more)),
+    )
+  where
+    take-append-more : (n : ℕ) (xs ys : List ℕ) → length xs ≤ n → take n (xs ++ ys) ≡ xs ++ take (n - length xs) ys
+    take-append-more n xs ys fits =
+        let split : n ≡ length xs + (n - length xs) = omega arith in
+        ap (λ m. take m (xs ++ ys)) split ∙ take-append-add xs ys (n - length xs)
+
+-- a line with its LF ends one line
+pub one-line-more : (text line : List ℕ) → rest_of text ≡ [] → HasNoLf line
+    → length (ended_lines (text ++ line ++ 10 ∷ [])) ≡ length (ended_lines text) + 1
+unfolding ended_after
+one-line-more text line whole none =
+    let (ended, rest) = ended-rest text line whole none in
+    let lines : ended_lines ((text ++ line) ++ 10 ∷ []) ≡ ended_lines text ++ line ∷ []
+    = ended_lines-append (text ++ line) (10 ∷ []) ∙ (λ i. ended i ++ ended_after (rest i) (10 ∷ [])) in
+    omega (arith, ap length lines, length-append (ended_lines text) (line ∷ []))
+
+-- a line is wrong
+pub ends-wrong : (before left : Option (List ℕ)) (start : State) (feeds desks : ℕ) (entries : List Entry) (text line : List ℕ) (lines : LogLines) (number : ℕ) (why : Why)
+    → IsLogOf start feeds desks entries text → IsNextLine before left lines text line
+    → ((more : List ℕ) → IsWrongNext start feeds desks entries ((line ++ 10 ∷ []) ++ more) why) → number ≡ length entries + 2
+    → IfSome before (λ all. IsAnswer start all (Ok (No number why)))
+ends-wrong before left start feeds desks entries text line lines number why good next wrong number_is =
+    let front : List ℕ = text ++ line ++ 10 ∷ [] in
+    let ended : length (ended_lines front) ≡ length (ended_lines text) + 1
+    = one-line-more text line (whole-text start feeds desks entries text good) next.no_lf in
+    told-by before left (front ++ pending lines) (λ all. IsAnswer start all (Ok (No number why))) next.read.reads
+    (λ later. (
+      inr (record {
+        feeds = feeds;
+        desks = desks;
+        entries = entries;
+        front = text;
+        rest = (line ++ 10 ∷ []) ++ (pending lines ++ later);
+        bytes_are = append_assoc front (pending lines) later ∙ ap (λ l. l ++ (pending lines ++ later)) (append_assoc text line (10 ∷ []))
+            ∙ append_assoc text (line ++ 10 ∷ []) (pending lines ++ later);
+        log = good;
+        wrong = wrong (pending lines ++ later);
+        line_is = number_is;
+      }),
+      subst (λ all. Counts all number) (sym (append_assoc front (pending lines) later))
+          (counts-front front (pending lines ++ later) number (omega (arith, next.read.bytes_counted)) (omega (arith, next.read.lines_counted))
+          (omega (arith, number_is, ended, count-text start feeds desks entries text good))),
+    ))
+
+-- the log is too long
+pub ends-too_long : (before left : Option (List ℕ)) (start : State) (feeds desks : ℕ) (entries : List Entry) (text : List ℕ) → IsStart start
+    → IsLogOf start feeds desks entries text → IsStop before left text TooLong → IfSome before (λ all. IsAnswer start all (Err TooLong))
+ends-too_long before left start feeds desks entries text begins good stop = by_case before stop
+  where
+    by_case : (o : Option (List ℕ)) → IfSome o (λ all. (more : List ℕ) × (all ≡ text ++ more) × IsTooLong all × (lines_within all ≤ length (ended_lines text)))
+        → IfSome o (λ all. IsAnswer start all (Err TooLong))
+    by_case None h = tt
+    by_case (Some all) (more, is, long, within) = (
+      long,
+      λ line why wrong counts.
+          let late = wrong-later start feeds desks entries text more all line why begins good is wrong in
+          omega (arith, late, within, counts long, count-text start feeds desks entries text good),
+    )
+
+-- a read failed
+pub ends-fault : (before left : Option (List ℕ)) (start : State) (feeds desks : ℕ) (entries : List Entry) (text : List ℕ) → IsStart start
+    → IsLogOf start feeds desks entries text → IsStop before left text ReadFault
+    → (bytes : List ℕ) × Reads before left bytes × NoneWrong start bytes
+ends-fault before left start feeds desks entries text begins good (rest, none, reads) = (
+  text ++ rest,
+  reads,
+  λ line why wrong low.
+      let late = wrong-later start feeds desks entries text rest (text ++ rest) line why begins good refl wrong in
+      omega (
+        arith,
+        late,
+        low,
+        count-text start feeds desks entries text good,
+        ap length (ended-rest text rest (whole-text start feeds desks entries text good) none).0,
+      ),
+)
+
+-- an entry that is wrong at its place
+pub wrong-next : (start : State) (feeds desks : ℕ) (entries : List Entry) (rest : List ℕ) (entry : Entry) (why : Why) → Tells start.settings.log rest entry
+    → IsFault why feeds desks (replay start entries) entry.actor entry.event → IsWrongNext start feeds desks entries rest why
+wrong-next start feeds desks entries rest entry Spelling tells fault = absurd (fault.fault tt)
+wrong-next start feeds desks entries rest entry ToActor tells fault = (entry, tells, fault)
+wrong-next start feeds desks entries rest entry ToReply tells fault = (entry, tells, fault)
+wrong-next start feeds desks entries rest entry ToBatch tells fault = (entry, tells, fault)
+wrong-next start feeds desks entries rest entry ToSeating tells fault = (entry, tells, fault)
+wrong-next start feeds desks entries rest entry ToPrices tells fault = (entry, tells, fault)
+wrong-next start feeds desks entries rest entry ToOutcomes tells fault = (entry, tells, fault)

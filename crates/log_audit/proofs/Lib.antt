@@ -1,0 +1,17 @@
+pub mod LineParts
+pub mod Legality
+pub mod OpenOnes
+pub mod DearSeats
+pub mod OwnCells
+pub mod ShortLines
+pub mod OneAnswer
+pub mod WholeLines
+pub mod Ends
+pub mod Judged
+pub mod FedCounts
+pub mod Vehicles
+pub mod Placing
+pub mod SeatCosts
+pub mod SaidCommits
+pub mod AuditSteps
+pub mod FewOutcomes

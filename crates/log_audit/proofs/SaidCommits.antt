@@ -1,0 +1,102 @@
+-- Commits that were judged.
+use Rattle.std.proofs.Common.{◌≡◌, ℕ, List, [], ◌∷◌, ◌++◌, Option, None, Some, Vec, Global, refl, sym, ◌∙◌, ap, subst}
+use Rattle.std.specs.Prelude.{MatchOption}
+use Rattle.ride_model.specs.declared.command.Actor.TheVariants.{Desk}
+use Rattle.ride_model.specs.declared.entry.Entry.{Entry}
+use Rattle.ride_model.specs.declared.entry.Event.TheVariants.{Committed}
+use Rattle.ride_model.specs.declared.entry.Outcome.{Outcome}
+use Rattle.ride_model.specs.declared.offer.Seat.{Seat}
+use Rattle.ride_model.specs.Batch.{outcomes_of}
+use Rattle.ride_model.specs.Road.{RoadMap}
+use Rattle.ride_model.specs.Seating.{BatchCopy, Certifies, IsSeating, seating_cost}
+use Rattle.ride_model.specs.State.{State, open_batch_numbered}
+use Rattle.batch_commit.specs.Solved.{SolvedBatch}
+use Rattle.batch_commit.specs.Table.{IsTableOf}
+use Rattle.board_core.specs.Recorded.{Recorded, state_of, committed_entry}
+use Rattle.log_audit.specs.declared.seating.Placed.{Placed}
+use Rattle.log_audit.specs.declared.verdict.Why.TheVariants.{Seating, Prices, Outcomes}
+use Rattle.log_audit.specs.Seated.{ArePlaced, IsSeatedAt}
+use Rattle.log_audit.specs.Words.{IsFault}
+use Rattle.log_audit.proofs.Legality.{fault-seating, fault-prices, fault-outcomes}
+
+-- what a commit says
+pub record Said : Type 0 where
+  pub number : ℕ
+  pub cost : ℕ
+  pub seats : List Seat
+  pub prices : List (ℕ × ℕ)
+  pub pays : List (ℕ × ℕ)
+
+-- the entry of a commit
+abbrev pub said_entry : ℕ → Said → List (ℕ × Outcome) → Entry
+said_entry desk said outcomes = record { actor = Desk desk; event = Committed said.number said.cost said.seats said.prices said.pays outcomes }
+
+-- what the answer to a seating says
+abbrev pub SeatedAnswer : RoadMap → BatchCopy → List Seat → ℕ → Option (Vec Placed Global) → Type 0
+SeatedAnswer roads batch seats cost o = MatchOption o (IsSeatedAt roads batch seats cost → ⊥)
+    (λ placed. IsSeatedAt roads batch seats cost × ArePlaced roads batch seats placed.items)
+
+-- the seats are no seating of this cost
+pub seats-wrong : (board : Recorded) (desk : ℕ) (said : Said) (outcomes : List (ℕ × Outcome)) (batch : BatchCopy) (roads : RoadMap) (seats : List Seat)
+    (o : Option (Vec Placed Global)) → open_batch_numbered (state_of board) desk said.number ≡ Some batch → (state_of board).roads ≡ roads
+    → seats ≡ said.seats → o ≡ None → SeatedAnswer roads batch seats said.cost o
+    → IsFault Seating board.feeds board.desks (state_of board) (Desk desk) (said_entry desk said outcomes).event
+seats-wrong board desk said outcomes batch roads seats o found roads_are seats_are none answer =
+    fault-seating board.feeds board.desks (state_of board) desk said.number said.cost said.seats said.prices said.pays outcomes batch found
+    (λ h. subst (SeatedAnswer roads batch seats said.cost) none answer
+    (subst (λ r. IsSeatedAt r batch seats said.cost) roads_are
+    (subst (λ x. IsSeatedAt (state_of board).roads batch x said.cost) (sym seats_are) h)))
+
+-- they are one
+pub seats-right : (s : State) (said : Said) (batch : BatchCopy) (roads : RoadMap) (seats : List Seat)
+    (o : Option (Vec Placed Global)) (placed : Vec Placed Global) → s.roads ≡ roads → seats ≡ said.seats → o ≡ Some placed
+    → SeatedAnswer roads batch seats said.cost o → IsSeatedAt s.roads batch said.seats said.cost
+seats-right s said batch roads seats o placed roads_are seats_are some answer =
+    subst (λ r. IsSeatedAt r batch said.seats said.cost) (sym roads_are)
+    (subst (λ x. IsSeatedAt roads batch x said.cost) seats_are (subst (SeatedAnswer roads batch seats said.cost) some answer).0)
+
+-- what the answer to prices says
+abbrev pub SolvedFacts : RoadMap → BatchCopy → Said → SolvedBatch → Type 0
+SolvedFacts roads batch said solved = (solved.batch ≡ batch) × (solved.answer.seating ≡ said.seats) × (solved.answer.prices ≡ said.prices)
+    × (solved.answer.pays ≡ said.pays) × Certifies roads batch said.seats said.prices said.pays × IsTableOf roads batch solved.table
+
+abbrev pub SolvedAnswer : RoadMap → BatchCopy → Said → Option SolvedBatch → Type 0
+SolvedAnswer roads batch said o = MatchOption o (Certifies roads batch said.seats said.prices said.pays → ⊥) (SolvedFacts roads batch said)
+
+pub prices-wrong : (board : Recorded) (desk : ℕ) (said : Said) (outcomes : List (ℕ × Outcome)) (batch : BatchCopy) (roads : RoadMap)
+    (o : Option SolvedBatch) → open_batch_numbered (state_of board) desk said.number ≡ Some batch → (state_of board).roads ≡ roads
+    → IsSeatedAt (state_of board).roads batch said.seats said.cost → o ≡ None → SolvedAnswer roads batch said o
+    → IsFault Prices board.feeds board.desks (state_of board) (Desk desk) (said_entry desk said outcomes).event
+prices-wrong board desk said outcomes batch roads o found roads_are seated none answer =
+    fault-prices board.feeds board.desks (state_of board) desk said.number said.cost said.seats said.prices said.pays outcomes batch found seated
+    (λ h. subst (SolvedAnswer roads batch said) none answer (subst (λ r. Certifies r batch said.seats said.prices said.pays) roads_are h))
+
+pub prices-right : (batch : BatchCopy) (said : Said) (roads : RoadMap) (o : Option SolvedBatch) (solved : SolvedBatch) → o ≡ Some solved
+    → SolvedAnswer roads batch said o → SolvedFacts roads batch said solved
+prices-right batch said roads o solved some answer = subst (SolvedAnswer roads batch said) some answer
+
+-- where the commit is another than the board's, its outcomes are others
+pub outcomes-wrong : (board : Recorded) (desk : ℕ) (said : Said) (outcomes : List (ℕ × Outcome)) (batch : BatchCopy) (roads : RoadMap)
+    (solved : SolvedBatch) → open_batch_numbered (state_of board) desk said.number ≡ Some batch → (state_of board).roads ≡ roads
+    → batch.desk ≡ desk → batch.number ≡ said.number → IsSeatedAt (state_of board).roads batch said.seats said.cost
+    → SolvedFacts roads batch said solved → (said_entry desk said outcomes ≡ committed_entry (state_of board) solved → ⊥)
+    → IsFault Outcomes board.feeds board.desks (state_of board) (Desk desk) (said_entry desk said outcomes).event
+outcomes-wrong board desk said outcomes batch roads solved found roads_are desk_is number_is seated facts differs =
+    let s : State = state_of board in
+    let (batch_is, seats_are, prices_are, pays_are, certified, of_map) = facts in
+    let number_same : said.number ≡ solved.batch.number = sym (ap (λ (b : BatchCopy). b.number) batch_is ∙ number_is) in
+    let desk_same : desk ≡ solved.batch.desk = sym (ap (λ (b : BatchCopy). b.desk) batch_is ∙ desk_is) in
+    let seats_same : said.seats ≡ solved.answer.seating = sym seats_are in
+    let prices_same : said.prices ≡ solved.answer.prices = sym prices_are in
+    let pays_same : said.pays ≡ solved.answer.pays = sym pays_are in
+    let batch_same : batch ≡ solved.batch = sym batch_is in
+    let cost_same : said.cost ≡ seating_cost s.roads solved.batch solved.answer.seating
+    = seated.1 ∙ (λ i. seating_cost s.roads (batch_same i) (seats_same i)) in
+    fault-outcomes board.feeds board.desks s desk said.number said.cost said.seats said.prices said.pays outcomes batch found seated
+    (subst (λ r. Certifies r batch said.seats said.prices said.pays) (sym roads_are) certified)
+    (λ same.
+    let outcomes_same : outcomes ≡ outcomes_of solved.batch solved.answer.seating s = same ∙ (λ i. outcomes_of (batch_same i) (seats_same i) s) in
+    differs (λ i. record {
+      actor = Desk (desk_same i);
+      event = Committed (number_same i) (cost_same i) (seats_same i) (prices_same i) (pays_same i) (outcomes_same i);
+    }))

@@ -1,0 +1,149 @@
+use Rattle.std.proofs.Common.{◌≡◌, ◌+◌, ◌<◌, ℕ, List, Option, None, Some, length, refl, sym, ◌∙◌, ap, subst, arith}
+use Rattle.std.specs.Prelude.{IfSome}
+use Rattle.std.proofs.lemmas.Result.{err_from_is_err_and}
+use Rattle.ride_model.specs.State.{State}
+use Rattle.log_audit.specs.declared.verdict.Verdict.TheVariants.{Yes, No}
+use Rattle.log_audit.specs.declared.verdict.Why.TheVariants.{Spelling}
+use Rattle.log_audit.specs.Audit.{IsAnswer}
+use Rattle.log_audit.specs.Audited.{text_so_far}
+use Rattle.log_audit.specs.LogLines.{HasRead, IsNext}
+use Rattle.std.specs.Prelude.{Ok}
+use Rattle.log_audit.proofs.AuditSteps.{LineJudged, few-entries, log-of, stop-answer, stop-fault}
+use Rattle.log_audit.proofs.Ends.{count-text, ends-unfinished, ends-wrong, ends-yes, one-line-more, whole-text}
+use Rattle.log_audit.proofs.auditing.further_lines.Goals as goal
+
+pub lines-init : goal.lines-init
+lines-init g c = record { auditing = c.requires.auditing; start = refl; read = λ before read. read; count = refl }
+
+pub next-requires-clause-read : goal.next-requires-clause-read
+next-requires-clause-read g c κs within =
+    let (before, read) = c.requires.read in
+    let board = c.lines.auditor.board in
+    let good = log-of board c.entries.ensures.legal c.entries.ensures.text in (
+      before,
+      text_so_far board,
+      c.lines.invariant.read before read,
+      whole-text board.start board.feeds board.desks board.history (text_so_far board) good,
+    )
+
+pub returns-in_err-next-clause-answer : goal.returns-in_err-next-clause-answer
+returns-in_err-next-clause-answer g c = λ before read no_memory no_fault.
+    let failed = err_from_is_err_and c.from_residual.result c.from_residual.ensures.1 in
+    let board = c.lines.auditor.board in
+    let good = log-of board c.entries.ensures.legal c.entries.ensures.text in
+    stop-answer before _ board.start c.args.auditor.now.board.start board.feeds board.desks board.history (text_so_far board) failed.0
+    c.in_err-next.field-0.0 c.from_residual.result failed.1 failed.2 c.entries.ensures.start good c.lines.invariant.start
+    (c.in_err-next.ensures.next before (text_so_far board) (c.lines.invariant.read before read)
+    (whole-text board.start board.feeds board.desks board.history (text_so_far board) good)) no_fault
+
+pub returns-in_err-next-clause-before_fault : goal.returns-in_err-next-clause-before_fault
+returns-in_err-next-clause-before_fault g c = λ before read fault.
+    let failed = err_from_is_err_and c.from_residual.result c.from_residual.ensures.1 in
+    let board = c.lines.auditor.board in
+    let good = log-of board c.entries.ensures.legal c.entries.ensures.text in
+    stop-fault before _ board.start c.args.auditor.now.board.start board.feeds board.desks board.history (text_so_far board) failed.0
+    c.in_err-next.field-0.0 c.from_residual.result failed.1 failed.2 c.entries.ensures.start good c.lines.invariant.start
+    (c.in_err-next.ensures.next before (text_so_far board) (c.lines.invariant.read before read)
+    (whole-text board.start board.feeds board.desks board.history (text_so_far board) good)) fault
+
+pub judge_line-requires-clause-auditing : goal.judge_line-requires-clause-auditing
+judge_line-requires-clause-auditing g c κs within = c.lines.invariant.auditing
+
+pub judge_line-requires-clause-few : goal.judge_line-requires-clause-few
+judge_line-requires-clause-few g c κs within =
+    let (before, read) = c.requires.read in
+    let board = c.lines.auditor.board in
+    let good = log-of board c.entries.ensures.legal c.entries.ensures.text in
+    omega (
+      arith,
+      few-entries before _ c.lines.lines board.start board.feeds board.desks board.history (text_so_far board) good
+          (c.lines.invariant.read before read),
+    )
+
+pub totals_of-requires : goal.totals_of-requires
+totals_of-requires g c =
+    let (before, read) = c.requires.read in
+    let board = c.lines.auditor.board in
+    let good = log-of board c.entries.ensures.legal c.entries.ensures.text in
+    omega (
+      arith,
+      few-entries before _ c.lines.lines board.start board.feeds board.desks board.history (text_so_far board) good
+          (c.lines.invariant.read before read),
+    )
+
+pub returns-in-End-clause-answer : goal.returns-in-End-clause-answer
+returns-in-End-clause-answer g c = λ before read no_memory no_fault.
+    let board = c.lines.auditor.board in
+    let good = log-of board c.entries.ensures.legal c.entries.ensures.text in
+    let next = subst (IsNext before _ c.next.new.self (text_so_far board)) c.in-End.is
+    (c.in_ok-next.ensures.next before (text_so_far board) (c.lines.invariant.read before read)
+    (whole-text board.start board.feeds board.desks board.history (text_so_far board) good)) in
+    subst (λ (s : State). IfSome before (λ all. IsAnswer s all (Ok (Yes c.totals_of.result)))) c.lines.invariant.start
+    (ends-yes before _ board.start board.feeds board.desks board.history (text_so_far board) c.totals_of.result good c.totals_of.ensures next)
+
+pub returns-in-End-clause-to_end : goal.returns-in-End-clause-to_end
+returns-in-End-clause-to_end g c = λ totals is.
+    let (before, read) = c.requires.read in
+    let board = c.lines.auditor.board in
+    let good = log-of board c.entries.ensures.legal c.entries.ensures.text in
+    let next = subst (IsNext before _ c.next.new.self (text_so_far board)) c.in-End.is
+    (c.in_ok-next.ensures.next before (text_so_far board) (c.lines.invariant.read before read)
+    (whole-text board.start board.feeds board.desks board.history (text_so_far board) good)) in
+    next.to_end
+
+pub returns-in-Some-clause-answer : goal.returns-in-Some-clause-answer
+returns-in-Some-clause-answer g c = λ before read no_memory no_fault.
+    let board = c.lines.auditor.board in
+    let good = log-of board c.entries.ensures.legal c.entries.ensures.text in
+    let (line, it) = subst (IsNext before _ c.next.new.self (text_so_far board)) c.in-Line.is
+    (c.in_ok-next.ensures.next before (text_so_far board) (c.lines.invariant.read before read)
+    (whole-text board.start board.feeds board.desks board.history (text_so_far board) good)) in
+    let wrong = subst (LineJudged c.lines.auditor c.judge_line.new.auditor line) c.in-Some.is
+    (c.in_ok-why-in-Line.ensures line it.no_lf it.shown it.over) in
+    subst (λ (s : State). IfSome before (λ all. IsAnswer s all (Ok (No (length c.entries.result.now + 2) c.in-Some.why)))) c.lines.invariant.start
+    (ends-wrong before _ board.start board.feeds board.desks board.history (text_so_far board) line c.next.new.self (length c.entries.result.now + 2)
+    c.in-Some.why good it wrong (omega (arith, ap length c.entries.ensures.items)))
+
+pub returns-in-Unfinished-clause-answer : goal.returns-in-Unfinished-clause-answer
+returns-in-Unfinished-clause-answer g c = λ before read no_memory no_fault.
+    let board = c.lines.auditor.board in
+    let good = log-of board c.entries.ensures.legal c.entries.ensures.text in
+    let (rest, end, some) = subst (IsNext before _ c.next.new.self (text_so_far board)) c.in-Unfinished.is
+    (c.in_ok-next.ensures.next before (text_so_far board) (c.lines.invariant.read before read)
+    (whole-text board.start board.feeds board.desks board.history (text_so_far board) good)) in
+    subst (λ (s : State). IfSome before (λ all. IsAnswer s all (Ok (No (length c.entries.result.now + 2) Spelling)))) c.lines.invariant.start
+    (ends-unfinished before _ board.start board.feeds board.desks board.history (text_so_far board) rest (length c.entries.result.now + 2) good end some
+    (omega (arith, ap length c.entries.ensures.items)))
+
+pub lines-smaller : goal.lines-smaller
+lines-smaller g c =
+    let (before, read) = c.requires.read in
+    let board = c.lines.auditor.board in
+    let good = log-of board c.entries.ensures.legal c.entries.ensures.text in
+    let now = c.lines.invariant.read before read in
+    let whole = whole-text board.start board.feeds board.desks board.history (text_so_far board) good in
+    let (line, it) = subst (IsNext before _ c.next.new.self (text_so_far board)) c.in-Line.is
+    (c.in_ok-next.ensures.next before (text_so_far board) now whole) in
+    omega (arith, now.lines_counted, it.read.lines_counted, one-line-more (text_so_far board) line whole it.no_lf)
+
+pub lines-preserved : goal.lines-preserved
+lines-preserved g c =
+    let (some, first) = c.requires.read in
+    let board = c.lines.auditor.board in
+    let good = log-of board c.entries.ensures.legal c.entries.ensures.text in
+    let whole = whole-text board.start board.feeds board.desks board.history (text_so_far board) good in
+    let (line, it) = subst (IsNext some _ c.next.new.self (text_so_far board)) c.in-Line.is
+    (c.in_ok-next.ensures.next some (text_so_far board) (c.lines.invariant.read some first) whole) in
+    let went = subst (LineJudged c.lines.auditor c.judge_line.new.auditor line) c.in_default.is
+    (c.in_ok-why-in-Line.ensures line it.no_lf it.shown it.over) in
+    record {
+      auditing = went.0;
+      start = went.1 ∙ c.lines.invariant.start;
+      read = λ before read.
+          let (now, that) = subst (IsNext before _ c.next.new.self (text_so_far board)) c.in-Line.is
+          (c.in_ok-next.ensures.next before (text_so_far board) (c.lines.invariant.read before read) whole) in
+          let goes = subst (LineJudged c.lines.auditor c.judge_line.new.auditor now) c.in_default.is
+          (c.in_ok-why-in-Line.ensures now that.no_lf that.shown that.over) in
+          subst (HasRead before _ c.next.new.self) (sym goes.2) that.read;
+      count = c.in_ok-next.ensures.other_counts_none (λ is. (cc is)) ∙ c.lines.invariant.count;
+    }

@@ -1,0 +1,29 @@
+use Rattle.std.proofs.Common.{◌≡◌, Option, Some, None, Bool, true, false, cond, eqb, refl, sym, ◌∙◌, ap}
+use Rattle.std.proofs.lemmas.Bool.{eq-eqb, ne_eqb}
+use Rattle.ride_model.specs.Seating.{BatchCopy}
+use Rattle.board_core.specs.Recorded.{state_of}
+use Rattle.history_laws.proofs.EveryState.{consistent}
+use Rattle.log_audit.proofs.OpenOnes.{none-numbered, numbered-of}
+use Rattle.log_audit.proofs.auditor.Auditor.take_numbered.Goals as goal
+
+pub returns-in_err-batch-clause-batch : goal.returns-in_err-batch-clause-batch
+returns-in_err-batch-clause-batch c =
+    c.from_residual.ensures
+    ∙ sym (none-numbered c.args.desk c.args.number (state_of c.args.self.now.board).batches
+    (sym (c.in_err-batch.ensures.batch ∙ c.requires.auditing.open_are c.args.desk c.requires.desk)))
+
+pub returns-then-number-clause-batch : goal.returns-then-number-clause-batch
+returns-then-number-clause-batch c =
+    let board = c.args.self.now.board in
+    let differ = (consistent board.feeds board.desks board.start board.history c.entries-history.ensures.start c.entries-history.ensures.legal).desks_differ in
+    let found = sym (c.in_ok-batch.ensures.batch ∙ c.requires.auditing.open_are c.args.desk c.requires.desk) in
+    sym (numbered-of c.args.desk c.args.number (state_of board).batches c.in_ok-batch.batch differ found
+    ∙ ap (λ t. cond t (Some c.in_ok-batch.batch) None) (eq-eqb c.in_ok-batch.batch.number c.args.number (sym c.number.ensures ∙ c.if-number.true)))
+
+pub returns-else-number-clause-batch : goal.returns-else-number-clause-batch
+returns-else-number-clause-batch c =
+    let board = c.args.self.now.board in
+    let differ = (consistent board.feeds board.desks board.start board.history c.entries-history.ensures.start c.entries-history.ensures.legal).desks_differ in
+    let found = sym (c.in_ok-batch.ensures.batch ∙ c.requires.auditing.open_are c.args.desk c.requires.desk) in
+    sym (numbered-of c.args.desk c.args.number (state_of board).batches c.in_ok-batch.batch differ found
+    ∙ ap (λ t. cond t (Some c.in_ok-batch.batch) None) (ne_eqb c.in_ok-batch.batch.number c.args.number (λ same. c.if-number.false (c.number.ensures ∙ same))))

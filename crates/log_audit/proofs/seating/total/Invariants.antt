@@ -1,0 +1,11 @@
+use Rattle.std.proofs.Common.{◌≡◌, ◌*◌, ◌^◌, ◌≤◌, take}
+use Rattle.std.specs.Prelude.{sum_by}
+use Rattle.log_audit.specs.declared.seating.Placed.{Placed}
+use Rattle.log_audit.proofs.seating.total.Given as goal
+
+-- the sum so far
+abbrev pub invariant-loop-one : goal.invariant-loop-one
+invariant-loop-one l = record {
+  cost : l.sum ≡ sum_by (λ (one : Placed). one.offer.cost) (take l.one-index l.placed);
+  limit : l.sum ≤ l.one-index * 2 ^ 64;
+}

@@ -1,0 +1,11 @@
+use Rattle.std.proofs.Common.{◌≡◌, ◌+◌, length, take, refl, sym, ◌∙◌, ap, arith}
+use Rattle.std.proofs.lemmas.List.{take_all}
+use Rattle.ride_model.specs.declared.entry.Entry.{Entry}
+use Rattle.ride_model.specs.History.{dropped_total, is_dropped}
+use Rattle.log_audit.proofs.totals.dropped_in.Goals as goal
+
+pub loop-entry-init : goal.loop-entry-init
+loop-entry-init c = refl
+
+pub returns : goal.returns
+returns c = c.loop-entry.invariant ∙ ap dropped_total (take_all c.loop-entry.entry-index c.args.entries.now (omega (arith, c.loop-entry-test.false)))

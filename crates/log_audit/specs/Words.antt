@@ -1,0 +1,79 @@
+-- Why a line of a log is wrong: what each word asks of an entry at a state, and the first word that is not met.
+use Rattle.std.specs.Prelude.{◌≡◌, ℕ, ◌<◌, ⊤, IsTrue, IsFalse, IsSome, IfSome}
+use Rattle.ride_model.specs.declared.command.Actor.{Actor}
+use Rattle.ride_model.specs.declared.command.Actor.TheVariants.{Feed, Desk}
+use Rattle.ride_model.specs.declared.entry.Event.{Event}
+use Rattle.ride_model.specs.declared.entry.Event.TheVariants.{Fed, Finish, Opened, Committed, Abandoned}
+use Rattle.ride_model.specs.Batch.{may_open, next_batch, outcomes_of}
+use Rattle.ride_model.specs.Legal.{IsNumbered, MayEnd, NamesBatch}
+use Rattle.ride_model.specs.Seating.{BatchCopy, IsSeating, Certifies, seating_cost}
+use Rattle.ride_model.specs.State.{State, has_ended, open_batch_numbered}
+use Rattle.ride_model.specs.Step.{step}
+use Rattle.log_audit.specs.declared.verdict.Why.{Why}
+use Rattle.log_audit.specs.declared.verdict.Why.TheVariants.{Spelling, Actor as ToActor, Reply as ToReply, Batch as ToBatch, Seating as ToSeating, Prices as ToPrices, Outcomes as ToOutcomes}
+
+-- the actor may do this now: it is one of those that the head names and has not ended; a desk opens a batch where it may,
+-- closes a batch that it has open, and ends where it may
+abbrev pub MayAct : ℕ → ℕ → State → Actor → Event → Type 0
+MayAct feeds desks s (Feed feed) (Fed _ _) = IsNumbered feeds feed × IsFalse (has_ended s (Feed feed))
+MayAct feeds desks s (Feed feed) (Finish _) = IsNumbered feeds feed × IsFalse (has_ended s (Feed feed))
+MayAct feeds desks s (Desk desk) (Finish ending) =
+    IsNumbered desks desk × IsFalse (has_ended s (Desk desk)) × MayEnd feeds s desk ending
+MayAct feeds desks s (Desk desk) (Opened _ _ _ _) = IsNumbered desks desk × IsTrue (may_open s desk)
+MayAct feeds desks s (Desk desk) (Committed number _ _ _ _ _) = IsSome (open_batch_numbered s desk number)
+MayAct feeds desks s (Desk desk) (Abandoned number) = IsSome (open_batch_numbered s desk number)
+MayAct feeds desks s _ _ = ⊥
+
+-- the reply to a command is that of the rules of dispatch
+abbrev pub IsAnswered : State → Event → Type 0
+IsAnswered s (Fed command reply) = reply ≡ (step s command).reply
+IsAnswered s _ = ⊤
+
+-- an opening names the desk's next batch
+abbrev pub IsNamed : State → Actor → Event → Type 0
+IsNamed s (Desk desk) (Opened number time requests plans) = NamesBatch (next_batch s desk) number time requests plans
+IsNamed s _ _ = ⊤
+
+-- the seats of a commit are a seating of the open batch, and the cost is what it costs
+abbrev pub IsSeated : State → Actor → Event → Type 0
+IsSeated s (Desk desk) (Committed number cost seats _ _ _) =
+    IfSome (open_batch_numbered s desk number)
+    (λ (batch : BatchCopy). IsSeating s.roads batch seats × (cost ≡ seating_cost s.roads batch seats))
+IsSeated s _ _ = ⊤
+
+-- the prices and payments of a commit certify its seating
+abbrev pub IsPriced : State → Actor → Event → Type 0
+IsPriced s (Desk desk) (Committed number _ seats prices pays _) =
+    IfSome (open_batch_numbered s desk number) (λ (batch : BatchCopy). Certifies s.roads batch seats prices pays)
+IsPriced s _ _ = ⊤
+
+-- the outcomes of a commit are those of the moment
+abbrev pub IsDecided : State → Actor → Event → Type 0
+IsDecided s (Desk desk) (Committed number _ seats _ _ outcomes) =
+    IfSome (open_batch_numbered s desk number) (λ (batch : BatchCopy). outcomes ≡ outcomes_of batch seats s)
+IsDecided s _ _ = ⊤
+
+-- what a word asks of an event of an actor at a state, with so many feeds and desks; an entry that was read is spelled
+abbrev pub Meets : Why → ℕ → ℕ → State → Actor → Event → Type 0
+Meets Spelling feeds desks s actor event = ⊤
+Meets ToActor feeds desks s actor event = MayAct feeds desks s actor event
+Meets ToReply feeds desks s actor event = IsAnswered s event
+Meets ToBatch feeds desks s actor event = IsNamed s actor event
+Meets ToSeating feeds desks s actor event = IsSeated s actor event
+Meets ToPrices feeds desks s actor event = IsPriced s actor event
+Meets ToOutcomes feeds desks s actor event = IsDecided s actor event
+
+-- the place of a word in the order of the tests
+abbrev pub rank : Why → ℕ
+rank Spelling = 0
+rank ToActor = 1
+rank ToReply = 2
+rank ToBatch = 3
+rank ToSeating = 4
+rank ToPrices = 5
+rank ToOutcomes = 6
+
+-- the first word that an event does not meet
+pub record IsFault (why : Why) (feeds desks : ℕ) (s : State) (actor : Actor) (event : Event) : Type 0 where
+  pub before : (earlier : Why) → rank earlier < rank why → Meets earlier feeds desks s actor event
+  pub fault : Meets why feeds desks s actor event → ⊥

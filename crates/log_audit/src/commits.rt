@@ -1,0 +1,133 @@
+//! Commits: the seats are a seating, its cost is the cost that is said, the prices certify it, and the outcomes are those of the moment.
+ghost use Rattle.std.specs.Prelude.{◌≡◌, ℕ, ◌≤◌, List, All, IfOk, MatchOption};
+ghost use Rattle.ride_model.specs.declared.command.Actor.TheVariants.{Desk};
+ghost use Rattle.ride_model.specs.declared.entry.Event.TheVariants.{Committed};
+ghost use Rattle.ride_model.specs.declared.entry.Outcome.{Outcome};
+ghost use Rattle.ride_model.specs.Road.{RoadMap};
+ghost use Rattle.ride_model.specs.Seating.{Certifies, IsBatchOver, IsSeating};
+ghost use Rattle.ride_model.specs.Text.{IsOneOrTwo};
+ghost use Rattle.ride_model.specs.Vehicle.{IsLawful};
+ghost use Rattle.batch_commit.specs.Answer.{IsSeatAt};
+ghost use Rattle.batch_commit.specs.Table.{IsTableOf};
+ghost use Rattle.log_audit.specs.Auditing.{IsAuditing, IsJudged, IsLineOf};
+ghost use Rattle.log_audit.specs.Seated.{ArePlaced};
+
+use crate::Why;
+use crate::auditor::Auditor;
+use crate::seating::{Placed, seated};
+use batch_commit::{Answer, Batch, PriceTable, Solved};
+use dual_check::certifies;
+use ride_model::{AmountList, NoMemory, Seat, SeatList};
+use std::thread::Threads;
+
+/// What a commit says but for the outcomes.
+#[derive(Debug, Drop)]
+pub(crate) struct Commit {
+    pub(crate) number: u64,
+    pub(crate) cost: u64,
+    pub(crate) seats: SeatList,
+    pub(crate) prices: AmountList,
+    pub(crate) pays: AmountList,
+}
+
+impl<'r> Auditor<'r> {
+    /// Judges the line of a commit.
+    pub(crate) fn judge_committed<R: Threads + Sync>(
+        &mut self,
+        rt: &R,
+        desk: u8,
+        commit: Commit,
+        line: &[u8],
+    ) -> Result<Option<Why>, NoMemory>
+        requires auditing { IsAuditing self.old }
+        requires desk { IsOneOrTwo desk }
+        ensures { (outcomes : List (ℕ × Outcome))
+            → IsLineOf self.old.log (record {
+              actor = Desk desk;
+              event = Committed commit.number commit.cost commit.seats commit.prices
+                  commit.pays outcomes;
+            }) line.now
+            → IfOk result (IsJudged self.old self.new (record {
+              actor = Desk desk;
+              event = Committed commit.number commit.cost commit.seats
+                  commit.prices commit.pays outcomes;
+            })) }
+    {
+        // This call tells that the history is legal.
+        let _history = self.board.entries();
+        let Some(batch) = self.take_numbered(desk, commit.number) else {
+            return Ok(Some(Why::Actor));
+        };
+        let seats = commit.seats.items();
+        let Some(placed) = seated(&mut self.pricing, &batch, seats, commit.cost)? else {
+            return Ok(Some(Why::Seating));
+        };
+        let Some(solved) = self.solved(rt, batch, commit, placed.as_slice())? else {
+            return Ok(Some(Why::Prices));
+        };
+        self.board.commit(solved);
+        // This call tells that the history is legal and has a text.
+        let _history = self.board.entries();
+        Ok(self.unless_told(line, Why::Outcomes))
+    }
+
+    // The batch with its own table and the commit's answer, where its prices certify its seating.
+    fn solved<R: Threads + Sync>(
+        &mut self,
+        rt: &R,
+        batch: Batch,
+        commit: Commit,
+        placed: &[Placed],
+    ) -> Result<Option<Solved>, NoMemory>
+        requires time { batch.time ≤ 1000000000 }
+        requires over_map { IsBatchOver self.old.pricing batch }
+        requires lawful { All (IsLawful self.old.pricing) batch.vehicles }
+        requires seating { IsSeating self.old.pricing batch commit.seats }
+        requires placed { ArePlaced self.old.pricing batch commit.seats placed.now }
+        ensures solved { IfOk result (λ solved. MatchOption solved
+            (Certifies self.old.pricing batch commit.seats commit.prices commit.pays → ⊥)
+            (λ solved. (solved.batch ≡ batch) × (solved.answer.seating ≡ commit.seats) × (solved.answer.prices ≡ commit.prices)
+            × (solved.answer.pays ≡ commit.pays) × Certifies self.old.pricing batch commit.seats commit.prices commit.pays
+            × IsTableOf self.old.pricing batch solved.table)) }
+        ensures kept { self.new ≡ self.old }
+    {
+        let table = self.pricing.table(rt, &batch)?;
+        let Some(table) = with_own_offers(table, &batch, commit.seats.items(), placed) else {
+            return Ok(None);
+        };
+        if !certifies(&batch, &table, &commit.seats, &commit.prices, &commit.pays) {
+            return Ok(None);
+        }
+        let alloc = self.pricing.alloc();
+        let answer = Answer::of(alloc, commit.seats, commit.prices, commit.pays)?;
+        Ok(Some(Solved::tie(batch, table, answer)))
+    }
+}
+
+// A batch's table with the seats' own offers in their cells, where each costs no more than its pair's price.
+fn with_own_offers(
+    table: PriceTable,
+    batch: &Batch,
+    seats: &[Seat],
+    placed: &[Placed],
+) -> Option<PriceTable>
+    requires table { (roads : RoadMap) × IsTableOf roads batch.now table × IsSeating roads batch.now seats.now
+        × ArePlaced roads batch.now seats.now placed.now }
+    ensures table { (roads : RoadMap) → IsTableOf roads batch.now table → IsSeating roads batch.now seats.now
+        → ArePlaced roads batch.now seats.now placed.now → MatchOption result
+        ((prices pays : List (ℕ × ℕ)) → Certifies roads batch.now seats.now prices pays → ⊥)
+        (λ own. IsTableOf roads batch.now own × All (λ seat. (r : ℕ) × (c : ℕ) × IsSeatAt batch.now own seat r c) seats.now) }
+{
+    // These calls tell that the requests differ, and the vehicles.
+    let _requests = batch.requests();
+    let _vehicles = batch.vehicles().vehicles();
+    let mut table = table;
+    for one in placed {
+        let least = table.cell(one.request, one.vehicle)?;
+        if one.offer.cost > least.cost {
+            return None;
+        }
+        table.put(one.request, one.vehicle, one.offer);
+    }
+    Some(table)
+}

@@ -1,0 +1,20 @@
+//! The audit of a trip log: whether it is the text of a legal history over a map and a fleet. No solver is trusted: each commit's
+//! pairs are priced again by whole plans, and its prices are checked to certify its seating.
+#![tactic(auto)]
+
+mod auditing;
+mod auditor;
+mod commits;
+mod desks;
+mod feeds;
+mod laws;
+mod lines;
+mod open_batches;
+mod pricing;
+mod seating;
+mod totals;
+mod verdict;
+
+pub use auditing::audit;
+pub use laws::{a_log_has_one_answer, words_together_are_legality};
+pub use verdict::{AuditFault, Totals, Verdict, Why};

@@ -1,0 +1,48 @@
+//! What an audit answers.
+
+/// Whether a log is the text of a legal history.
+#[derive(Clone, Copy, Debug, PartialEq, Eq)]
+pub enum Verdict {
+    Yes(Totals),
+    /// The number of the first wrong line, from 1, and the first of its faults.
+    No { line: u64, why: Why },
+}
+
+/// How much a history has of what matters, and whether it is finished.
+#[derive(Clone, Copy, Debug, PartialEq, Eq)]
+pub struct Totals {
+    pub entries: u64,
+    pub confirmed: u64,
+    pub away: u64,
+    pub picked: u64,
+    pub dropped: u64,
+    pub finished: bool,
+}
+
+/// Why a line is wrong, in the order in which the tests come.
+#[derive(Clone, Copy, Debug, PartialEq, Eq)]
+pub enum Why {
+    /// It is no head, or no entry's line.
+    Spelling,
+    /// Its actor may not do this now.
+    Actor,
+    /// The reply to the command is another.
+    Reply,
+    /// The batch that is opened is another.
+    Batch,
+    /// The seats are no seating of the batch, or its cost is another.
+    Seating,
+    /// The prices and payments do not certify the seating.
+    Prices,
+    /// What becomes of the requests is another.
+    Outcomes,
+}
+
+/// Why a log was not judged.
+#[derive(Clone, Copy, Debug, PartialEq, Eq)]
+pub enum AuditFault {
+    ReadFault,
+    /// It has more bytes or more lines than a log may have.
+    TooLong,
+    NoMemory,
+}

@@ -1,0 +1,32 @@
+//! The workers that price batches.
+ghost use Rattle.std.specs.Prelude.{◌≡◌, ◌≤◌, length, All, IfOk};
+
+use ride_ports::NoMemory;
+use road_times::{Roads, Scratch};
+use std::alloc::Global;
+use std::thread::{Threads, available_parallelism};
+
+/// The most workers that price a batch. Each has a scratch as large as the map.
+const MOST_WORKERS: usize = 16;
+
+/// As many workers as there are processors.
+pub fn workers_at_hand(rt: &impl Threads) -> usize
+    ensures { 1 ≤ result }
+{
+    match available_parallelism(rt) {
+        Ok(processors) => processors.get().min(MOST_WORKERS),
+        Err(_) => 1,
+    }
+}
+
+/// A scratch for each of so many workers.
+pub fn scratches_of(alloc: Global, roads: &Roads, workers: usize) -> Result<Vec<Scratch>, NoMemory>
+    ensures count { IfOk result (λ scratches. length scratches.items ≡ workers) }
+    ensures nodes { IfOk result (λ scratches. All (λ scratch. scratch.nodes ≡ roads.now.nodes) scratches.items) }
+{
+    let mut scratches = Vec::with_capacity(alloc, workers)?;
+    for _ in 0..workers {
+        scratches.push(Scratch::new(alloc, roads)?)?;
+    }
+    Ok(scratches)
+}
