@@ -26,7 +26,7 @@ use Rattle.log_audit.specs.declared.verdict.Verdict.TheVariants.{No}
 use Rattle.log_audit.specs.declared.verdict.Why.{Why}
 use Rattle.log_audit.specs.declared.verdict.Why.TheVariants.{Spelling}
 use Rattle.log_audit.specs.Audit.{HasNoHead, IsAnswer, IsLogOf, IsWrongLine}
-use Rattle.log_audit.specs.Audited.{HasReadHead, HasReadNoHead, IsWrongLineAfter, NoneWrong, text_so_far}
+use Rattle.log_audit.specs.Audited.{FailsAfter, HasReadHead, HasReadNoHead, IsWrongLineAfter, text_so_far}
 use Rattle.log_audit.specs.Auditing.{GoesOn, IsAuditing, IsJudged, IsLineOf}
 use Rattle.log_audit.specs.Limits.{Counts, IsTooLong, lines_within, most_line, most_lines}
 use Rattle.log_audit.specs.LogLines.{HasNoLf, HasRead, IsAtEnd, IsNext, IsNextLine, IsStop, pending}
@@ -125,7 +125,7 @@ stops-answer before left start feeds desks entries text NoMemory begins good sto
 
 pub stops-fault : (before left : Option (List ℕ)) (start : State) (feeds desks : ℕ) (entries : List Entry) (text : List ℕ) (e : AuditFault)
     → IsStart start → IsLogOf start feeds desks entries text → IsStop before left text e
-    → ◌≡◌ {A = Result Verdict AuditFault} (Err e) (Err ReadFault) → (bytes : List ℕ) × Reads before left bytes × NoneWrong start bytes
+    → ◌≡◌ {A = Result Verdict AuditFault} (Err e) (Err ReadFault) → FailsAfter start before left
 stops-fault before left start feeds desks entries text TooLong begins good stop is = absurd (cc is)
 stops-fault before left start feeds desks entries text ReadFault begins good stop is =
     ends-fault before left start feeds desks entries text begins good stop
@@ -292,10 +292,10 @@ stop-answer before left start old_start feeds desks entries text e stop r is sam
 
 pub stop-fault : (before left : Option (List ℕ)) (start old_start : State) (feeds desks : ℕ) (entries : List Entry) (text : List ℕ) (e stop : AuditFault)
     (r : Result Verdict AuditFault) → r ≡ Err e → e ≡ stop → IsStart start → IsLogOf start feeds desks entries text → start ≡ old_start
-    → IsStop before left text stop → r ≡ Err ReadFault → (bytes : List ℕ) × Reads before left bytes × NoneWrong old_start bytes
+    → IsStop before left text stop → r ≡ Err ReadFault → FailsAfter old_start before left
 stop-fault before left start old_start feeds desks entries text e stop r is same begins good starts stopped fault =
     let whole : r ≡ Err stop = is ∙ (λ i. Err (same i)) in
-    subst (λ s. (bytes : List ℕ) × Reads before left bytes × NoneWrong s bytes) starts
+    subst (λ s. FailsAfter s before left) starts
     (stops-fault before left start feeds desks entries text stop begins good stopped (sym whole ∙ fault))
 
 -- the log of a board
@@ -327,18 +327,20 @@ stop-head before left start e stop r is same stopped other =
     (stops-head before left start stop stopped (λ fault. other (whole ∙ fault)))
 
 pub fault-head : (before left : Option (List ℕ)) (start : State) (e stop : AuditFault) (r : Result Verdict AuditFault) → r ≡ Err e → e ≡ stop
-    → IsStop before left [] stop → r ≡ Err ReadFault → (bytes : List ℕ) × Reads before left bytes × NoneWrong start bytes
+    → IsStop before left [] stop → r ≡ Err ReadFault → FailsAfter start before left
 fault-head before left start e stop r is same stopped fault = by_stop stop stopped (sym (is ∙ (λ i. Err (same i))) ∙ fault)
   where
     by_stop : (x : AuditFault) → IsStop before left [] x → ◌≡◌ {A = Result Verdict AuditFault} (Err x) (Err ReadFault)
-        → (bytes : List ℕ) × Reads before left bytes × NoneWrong start bytes
+        → FailsAfter start before left
     by_stop TooLong h f = absurd (cc f)
     by_stop NoMemory h f = absurd (cc f)
-    by_stop ReadFault (rest, none, reads) f = (
-      rest,
-      reads,
-      λ line why wrong low. omega (arith, number-some start rest line why wrong, low, ended-nothing, ap length (ended-rest [] rest rest-nothing none).0),
-    )
+    by_stop ReadFault (rest, none, reads, within) f = record {
+      bytes = rest;
+      reads = reads;
+      within = within;
+      none_wrong = λ line why wrong low.
+          omega (arith, number-some start rest line why wrong, low, ended-nothing, ap length (ended-rest [] rest rest-nothing none).0);
+    }
 
 -- the answer where there is no head
 pub no-head-answer : (before : Option (List ℕ)) (start : State) → HasReadNoHead before start.settings.log

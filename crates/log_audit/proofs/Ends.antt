@@ -22,7 +22,7 @@ use Rattle.log_audit.specs.declared.verdict.Verdict.TheVariants.{Yes, No}
 use Rattle.log_audit.specs.declared.verdict.Why.{Why}
 use Rattle.log_audit.specs.declared.verdict.Why.TheVariants.{Spelling, Actor as ToActor, Reply as ToReply, Batch as ToBatch, Seating as ToSeating, Prices as ToPrices, Outcomes as ToOutcomes}
 use Rattle.log_audit.specs.Audit.{Tells, IsLogOf, IsWrongNext, IsAnswer}
-use Rattle.log_audit.specs.Audited.{NoneWrong}
+use Rattle.log_audit.specs.Audited.{FailsAfter}
 use Rattle.log_audit.specs.Limits.{most_bytes, most_lines, IsTooLong, lines_within, Counts}
 use Rattle.log_audit.specs.LogLines.{HasNoLf, IsAtEnd, IsNextLine, IsStop, pending}
 use Rattle.log_audit.specs.Totals.{AreTotalsOf}
@@ -193,11 +193,12 @@ ends-too_long before left start feeds desks entries text begins good stop = by_c
 -- a read failed
 pub ends-fault : (before left : Option (List ℕ)) (start : State) (feeds desks : ℕ) (entries : List Entry) (text : List ℕ) → IsStart start
     → IsLogOf start feeds desks entries text → IsStop before left text ReadFault
-    → (bytes : List ℕ) × Reads before left bytes × NoneWrong start bytes
-ends-fault before left start feeds desks entries text begins good (rest, none, reads) = (
-  text ++ rest,
-  reads,
-  λ line why wrong low.
+    → FailsAfter start before left
+ends-fault before left start feeds desks entries text begins good (rest, none, reads, within) = record {
+  bytes = text ++ rest;
+  reads = reads;
+  within = within;
+  none_wrong = λ line why wrong low.
       let late = wrong-later start feeds desks entries text rest (text ++ rest) line why begins good refl wrong in
       omega (
         arith,
@@ -205,8 +206,8 @@ ends-fault before left start feeds desks entries text begins good (rest, none, r
         low,
         count-text start feeds desks entries text good,
         ap length (ended-rest text rest (whole-text start feeds desks entries text good) none).0,
-      ),
-)
+      );
+}
 
 -- an entry that is wrong at its place
 pub wrong-next : (start : State) (feeds desks : ℕ) (entries : List Entry) (rest : List ℕ) (entry : Entry) (why : Why) → Tells start.settings.log rest entry

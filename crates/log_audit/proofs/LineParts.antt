@@ -1,5 +1,5 @@
 -- The lines of a log that comes in parts.
-use Rattle.std.proofs.Common.{◌≡◌, ◌≢◌, ℕ, suc, ◌+◌, ◌-◌, ◌<◌, ◌≤◌, inl, inr, min, Bool, true, false, cond, ◌==◌, List, [], ◌∷◌, ◌++◌, length, take, drop, Option, None, Some, refl, ap, sym, subst, ◌∙◌, arith, append_assoc, append-nil, length-append, nat_lt}
+use Rattle.std.proofs.Common.{◌≡◌, ◌≢◌, ℕ, zero, suc, ◌+◌, ◌-◌, ◌<◌, ◌≤◌, inl, inr, min, Bool, true, false, cond, ◌==◌, List, [], ◌∷◌, ◌++◌, length, take, drop, Option, None, Some, refl, ap, sym, subst, ◌∙◌, arith, append_assoc, append-nil, length-append, nat_lt}
 use Rattle.std.specs.Prelude.{IfSome, MatchBool}
 use Rattle.std.specs.List.{AllByRecursion, flat_map}
 use Rattle.std.proofs.Math.Seq.{take-append_seam}
@@ -7,7 +7,7 @@ use Rattle.std.proofs.lemmas.Bool.{eqb-true, ne_eqb, eq-eqb, eqb-false}
 use Rattle.std.proofs.lemmas.Grind.{flat_map-append}
 use Rattle.std.proofs.lemmas.List.{length_push, drop-drop, drop-take, length-drop, length-take-le, take-append-drop}
 use Rattle.ride_ports.specs.Bytes.{Reads}
-use Rattle.ride_ports.proofs.ByteLemmas.{Reads-none, Reads-told}
+use Rattle.ride_ports.proofs.ByteLemmas.{Reads-none, Reads-then, Reads-told}
 use Rattle.line_text.specs.Cutter.{CutterState, HasTaken, EndsLine, Continues}
 use Rattle.line_text.specs.Lines.{ended_after, rest_after, ended_lines, rest_of, last_line, lines_of}
 use Rattle.line_text.proofs.LineLemmas.{ended_lines-append, rest_after-append}
@@ -17,7 +17,7 @@ use Rattle.log_audit.specs.declared.lines.Next.{Next}
 use Rattle.log_audit.specs.declared.lines.Next.TheVariants.{Line, Unfinished, End}
 use Rattle.log_audit.specs.declared.verdict.AuditFault.{AuditFault}
 use Rattle.log_audit.specs.declared.verdict.AuditFault.TheVariants.{ReadFault, TooLong, NoMemory}
-use Rattle.log_audit.specs.LogLines.{HasNoLf, pending, HasRead, IsAtEnd, IsNextLine, IsNext, IsStop, IsLast, IsCutOff}
+use Rattle.log_audit.specs.LogLines.{HasNoLf, pending, HasRead, IsAtEnd, IsNextLine, IsNext, IsStop, IsLast, IsCutOff, TakesSome}
 
 -- nothing is read at first
 pub read-nothing : (left : Option (List ℕ)) (lines : LogLines) → HasTaken lines.cutter [] → lines.cutter.most ≡ most_line
@@ -256,11 +256,38 @@ stops-lines before left lines bytes part read begins some full =
       subst (λ all. lines_within all ≤ length (ended_lines bytes)) (sym is) both.1,
     ))
 
+-- a last line counts only where one more may begin
+short-last : (rest : List ℕ) (lines_left : ℕ) → (lines_left ≡ 0 → rest ≡ []) → length (last_line rest) ≤ lines_left
+short-last [] lines_left fresh = omega arith
+short-last (b ∷ rest) zero fresh = absurd (cc (fresh refl))
+short-last (b ∷ rest) (suc lines_left) fresh = omega arith
+
+-- what was read is within the limits
+pub within-limits : (before left : Option (List ℕ)) (lines : LogLines) (bytes : List ℕ) → HasRead before left lines bytes → IsTooLong bytes → ⊥
+within-limits before left lines bytes read (inl long) = omega (arith, long, read.bytes_counted)
+within-limits before left lines bytes read (inr many) =
+    omega (
+      arith,
+      many,
+      length-append (ended_lines bytes) (last_line (rest_of bytes)),
+      short-last (rest_of bytes) lines.lines_left read.fresh,
+      read.lines_counted,
+    )
+
+-- nothing was taken of a source
+pub takes-none : (known : Option (List ℕ)) → TakesSome known known
+takes-none known = ([], Reads-none known)
+
+-- some bytes were taken, and then some more
+pub takes-then : {a b c : Option (List ℕ)} → TakesSome a b → TakesSome b c → TakesSome a c
+takes-then {a} {b} {c} (xs, first) (ys, second) = (xs ++ ys, Reads-then first second)
+
 -- no more bytes come
 pub stops-bytes : (before left : Option (List ℕ)) (bytes part : List ℕ) (fault : AuditFault) → Begins bytes part
     → IsCutOff before left (bytes ++ part) fault → IsStop before left bytes fault
 stops-bytes before left bytes part NoMemory begins cut = cut
-stops-bytes before left bytes part ReadFault begins cut = (part, subst HasNoLf begins.is_rest (no_lf-rest (bytes ++ part)), cut)
+stops-bytes before left bytes part ReadFault begins (reads, within) =
+    (part, subst HasNoLf begins.is_rest (no_lf-rest (bytes ++ part)), reads, within)
 stops-bytes before left bytes part TooLong begins (full, told) = by_told before told
   where
     some : (more : List ℕ) → more ≢ [] → 0 < length more

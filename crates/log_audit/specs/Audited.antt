@@ -5,16 +5,24 @@ use Rattle.ride_model.specs.declared.entry.Entry.{Entry}
 use Rattle.ride_model.specs.State.{State}
 use Rattle.ride_model.specs.Text.{IsOneOrTwo, head_line, text_of}
 use Rattle.board_core.specs.Recorded.{Recorded}
+use Rattle.ride_ports.specs.Bytes.{Reads}
 use Rattle.trip_log.specs.declared.reading.Head.{Head}
 use Rattle.log_audit.specs.declared.lines.LogLines.{LogLines}
 use Rattle.log_audit.specs.declared.verdict.Why.{Why}
 use Rattle.log_audit.specs.Audit.{HasNoHead, IsWrongLine, IsWrongNext}
-use Rattle.log_audit.specs.Limits.{Counts}
+use Rattle.log_audit.specs.Limits.{Counts, IsTooLong}
 use Rattle.log_audit.specs.LogLines.{HasNoLf, HasRead}
 
 -- no line of these bytes that an LF ends is wrong
 abbrev pub NoneWrong : State → List ℕ → Type 0
 NoneWrong start bytes = (line : ℕ) (why : Why) → IsWrongLine start bytes line why → line ≤ length (ended_lines bytes) → ⊥
+
+-- a source failed after these bytes, which are within the limits, and none of their lines is wrong
+pub record FailsAfter (start : State) (before left : Option (List ℕ)) : Type 0 where
+  pub bytes : List ℕ
+  pub reads : Reads before left bytes
+  pub within : IsTooLong bytes → ⊥
+  pub none_wrong : NoneWrong start bytes
 
 -- a source's first line is the head
 pub record HasReadHead (before left : Option (List ℕ)) (lines : LogLines) (log : ℕ) (head : Head) : Type 0 where

@@ -11,6 +11,10 @@ use Rattle.log_audit.specs.declared.verdict.AuditFault.{AuditFault}
 use Rattle.log_audit.specs.declared.verdict.AuditFault.TheVariants.{ReadFault, TooLong, NoMemory}
 use Rattle.log_audit.specs.Limits.{most_line, most_bytes, most_lines, IsTooLong, lines_within}
 
+-- some bytes of a source were taken
+abbrev pub TakesSome : Option (List ℕ) → Option (List ℕ) → Type 0
+TakesSome before left = (taken : List ℕ) × Reads before left taken
+
 -- bytes without an LF
 abbrev pub HasNoLf : List ℕ → Type 0
 HasNoLf bytes = AllByRecursion (λ b. b ≢ 10) bytes
@@ -53,11 +57,11 @@ IsNext before left lines bytes Line = (line : List ℕ) × IsNextLine before lef
 IsNext before left lines bytes Unfinished = (rest : List ℕ) × IsAtEnd before left bytes rest × (rest ≢ [])
 IsNext before left lines bytes End = IsAtEnd before left bytes []
 
--- why nothing comes after whole lines: the log is too long, and no more of its lines count; or a read failed
+-- why nothing comes after whole lines: the log is too long, and no more of its lines count; or a read failed within the limits
 abbrev pub IsStop : Option (List ℕ) → Option (List ℕ) → List ℕ → AuditFault → Type 0
 IsStop before left bytes TooLong =
     IfSome before (λ all. (more : List ℕ) × (all ≡ bytes ++ more) × IsTooLong all × (lines_within all ≤ length (ended_lines bytes)))
-IsStop before left bytes ReadFault = (rest : List ℕ) × HasNoLf rest × Reads before left (bytes ++ rest)
+IsStop before left bytes ReadFault = (rest : List ℕ) × HasNoLf rest × Reads before left (bytes ++ rest) × (IsTooLong (bytes ++ rest) → ⊥)
 IsStop before left bytes NoMemory = ⊥
 
 -- what stands after the last LF at the end of the source
@@ -66,9 +70,9 @@ IsLast rest Line = ⊥
 IsLast rest Unfinished = rest ≢ []
 IsLast rest End = rest ≡ []
 
--- why no more bytes come after these: there are more than a log may have, or a read failed
+-- why no more bytes come after these: there are more than a log may have, or a read failed within the limits
 abbrev pub IsCutOff : Option (List ℕ) → Option (List ℕ) → List ℕ → AuditFault → Type 0
 IsCutOff before left bytes TooLong =
     (length bytes ≡ most_bytes) × IfSome before (λ all. (more : List ℕ) × (more ≢ []) × (all ≡ bytes ++ more))
-IsCutOff before left bytes ReadFault = Reads before left bytes
+IsCutOff before left bytes ReadFault = Reads before left bytes × (IsTooLong bytes → ⊥)
 IsCutOff before left bytes NoMemory = ⊥

@@ -5,7 +5,6 @@ ghost use Rattle.ride_model.specs.Settings.{IsSettings};
 ghost use Rattle.ride_model.specs.State.{start_state};
 ghost use Rattle.ride_model.specs.Text.{IsOneOrTwo, head_line};
 ghost use Rattle.ride_model.specs.Vehicle.{IsLawful};
-ghost use Rattle.ride_ports.specs.Bytes.{Reads};
 ghost use Rattle.ride_ports.specs.Count.{Rose};
 ghost use Rattle.log_audit.specs.declared.verdict.AuditFault.{AuditFault};
 ghost use Rattle.log_audit.specs.declared.verdict.AuditFault.TheVariants.{NoMemory, ReadFault};
@@ -13,10 +12,10 @@ ghost use Rattle.log_audit.specs.declared.verdict.Totals.{Totals};
 ghost use Rattle.log_audit.specs.declared.verdict.Verdict.{Verdict};
 ghost use Rattle.log_audit.specs.declared.verdict.Verdict.TheVariants.{Yes};
 ghost use Rattle.log_audit.specs.Audit.{IsAnswer};
-ghost use Rattle.log_audit.specs.Audited.{HasReadHead, HasReadNoHead, IsWrongLineAfter, NoneWrong, text_so_far};
+ghost use Rattle.log_audit.specs.Audited.{FailsAfter, HasReadHead, HasReadNoHead, IsWrongLineAfter, text_so_far};
 ghost use Rattle.log_audit.specs.Auditing.{GoesOn, IsAuditing};
 ghost use Rattle.log_audit.specs.Limits.{most_line};
-ghost use Rattle.log_audit.specs.LogLines.{HasNoLf, HasRead, IsStop};
+ghost use Rattle.log_audit.specs.LogLines.{HasNoLf, HasRead, IsStop, TakesSome};
 
 use crate::auditor::Auditor;
 use crate::lines::{LogLines, Next};
@@ -53,8 +52,8 @@ pub fn audit<R: Threads + Sync, S: Source>(
 
     // A fault of reading is the source's, and no line was wrong that was read whole.
     ensures read_fault { result ≡ Err ReadFault → Rose (S.faults log.old) (S.faults log.new) }
-    ensures before_fault { result ≡ Err ReadFault → (bytes : List ℕ)
-        × Reads (S.left log.old) (S.left log.new) bytes × NoneWrong (start_state roads.now settings fleet) bytes }
+    ensures before_fault { result ≡ Err ReadFault → FailsAfter (start_state roads.now settings fleet) (S.left log.old) (S.left log.new) }
+    ensures taken { TakesSome (S.left log.old) (S.left log.new) }
     ensures other_counts_none { result ≢ Err ReadFault → S.faults log.new ≡ S.faults log.old }
     ensures count_never_falls { S.faults log.old ≤ S.faults log.new }
 {
@@ -91,6 +90,7 @@ fn first_line<S: Source>(
     ensures head { (before : Option (List ℕ)) → HasRead before (S.left log.old) lines.old [] → MatchResult result
         (λ head. MatchOption head (HasReadNoHead before version) (HasReadHead before (S.left log.new) lines.new version))
         (IsStop before (S.left log.new) []) }
+    ensures taken { TakesSome (S.left log.old) (S.left log.new) }
     ensures fault { result ≡ Err ReadFault → Rose (S.faults log.old) (S.faults log.new) }
     ensures other_counts_none { result ≢ Err ReadFault → S.faults log.new ≡ S.faults log.old }
     ensures count_never_falls { S.faults log.old ≤ S.faults log.new }
@@ -136,8 +136,8 @@ fn further_lines<R: Threads + Sync, S: Source>(
         → result ≢ Err NoMemory → result ≢ Err ReadFault → IfSome before (λ bytes. IsAnswer auditor.old.board.start bytes result) }
     ensures to_end { (totals : Totals) → result ≡ Ok (Yes totals) → IfSome (S.left log.new) (λ bytes. bytes ≡ []) }
     ensures before_fault { (before : Option (List ℕ)) → HasRead before (S.left log.old) lines.old (text_so_far auditor.old.board)
-        → result ≡ Err ReadFault
-        → (bytes : List ℕ) × Reads before (S.left log.new) bytes × NoneWrong auditor.old.board.start bytes }
+        → result ≡ Err ReadFault → FailsAfter auditor.old.board.start before (S.left log.new) }
+    ensures taken { TakesSome (S.left log.old) (S.left log.new) }
     ensures fault { result ≡ Err ReadFault → Rose (S.faults log.old) (S.faults log.new) }
     ensures other_counts_none { result ≢ Err ReadFault → S.faults log.new ≡ S.faults log.old }
     ensures count_never_falls { S.faults log.old ≤ S.faults log.new }

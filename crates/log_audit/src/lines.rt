@@ -5,7 +5,7 @@ ghost use Rattle.line_text.specs.Lines.{rest_of};
 ghost use Rattle.ride_ports.specs.Bytes.{Reads};
 ghost use Rattle.ride_ports.specs.Count.{Rose};
 ghost use Rattle.log_audit.specs.declared.verdict.AuditFault.TheVariants.{NoMemory, ReadFault, TooLong};
-ghost use Rattle.log_audit.specs.LogLines.{HasRead, IsCutOff, IsLast, IsNext, IsStop};
+ghost use Rattle.log_audit.specs.LogLines.{HasRead, IsCutOff, IsLast, IsNext, IsStop, TakesSome};
 
 use crate::AuditFault;
 use line_text::LineCutter;
@@ -85,6 +85,7 @@ impl LogLines {
             → rest_of bytes ≡ [] → MatchResult result
             (IsNext before (S.left source.new) self.new bytes)
             (IsStop before (S.left source.new) bytes) }
+        ensures taken { TakesSome (S.left source.old) (S.left source.new) }
         ensures fault { result ≡ Err ReadFault → Rose (S.faults source.old) (S.faults source.new) }
         ensures other_counts_none { result ≢ Err ReadFault → S.faults source.new ≡ S.faults source.old }
         ensures count_never_falls { S.faults source.old ≤ S.faults source.new }
@@ -125,6 +126,7 @@ impl LogLines {
             ≡ self.old.bytes_left + (self.old.end - self.old.start)) }
         ensures stop { (before : Option (List ℕ)) (bytes : List ℕ) → HasRead before (S.left source.old) self.old bytes
             → IfErr result (IsCutOff before (S.left source.new) bytes) }
+        ensures taken { TakesSome (S.left source.old) (S.left source.new) }
         ensures fault { result ≡ Err ReadFault → Rose (S.faults source.old) (S.faults source.new) }
         ensures other_counts_none { result ≢ Err ReadFault → S.faults source.new ≡ S.faults source.old }
         ensures count_never_falls { S.faults source.old ≤ S.faults source.new }
@@ -147,6 +149,7 @@ impl LogLines {
         ensures work { IfOk result (λ _. self.new.bytes_left + (self.new.end - self.new.start) ≡ self.old.bytes_left) }
         ensures stop { (before : Option (List ℕ)) (bytes : List ℕ) → HasRead before (S.left source.old) self.old bytes
             → IfErr result (IsCutOff before (S.left source.new) bytes) }
+        ensures taken { TakesSome (S.left source.old) (S.left source.new) }
         ensures fault { result ≡ Err ReadFault → Rose (S.faults source.old) (S.faults source.new) }
         ensures other_counts_none { result ≢ Err ReadFault → S.faults source.new ≡ S.faults source.old }
         ensures count_never_falls { S.faults source.old ≤ S.faults source.new }
@@ -193,6 +196,7 @@ fn read_into<S: Source>(source: &mut S, buffer: &mut [u8], room: usize) -> Resul
     ensures end { IfOk result (λ count. count ≡ 0 → IfSome (S.left source.new) (λ bytes. bytes ≡ [])) }
     ensures only_faults { IfErr result (λ e. e ≡ ReadFault) }
     ensures failed_stays { OnErr result (S.left source.new ≡ S.left source.old) }
+    ensures taken { TakesSome (S.left source.old) (S.left source.new) }
     ensures fault { result ≡ Err ReadFault → Rose (S.faults source.old) (S.faults source.new) }
     ensures other_counts_none { result ≢ Err ReadFault → S.faults source.new ≡ S.faults source.old }
     ensures count_never_falls { S.faults source.old ≤ S.faults source.new }
@@ -209,6 +213,7 @@ fn ends<S: Source>(source: &mut S) -> Result<bool, AuditFault>
     ensures same { IfOk result (λ _. S.left source.new ≡ S.left source.old) }
     ensures too_long { result ≡ Err TooLong → IfSome (S.left source.old) (λ bytes. bytes ≢ []) }
     ensures failed_stays { result ≡ Err ReadFault → S.left source.new ≡ S.left source.old }
+    ensures taken { TakesSome (S.left source.old) (S.left source.new) }
     ensures fault { result ≡ Err ReadFault → Rose (S.faults source.old) (S.faults source.new) }
     ensures other_counts_none { result ≢ Err ReadFault → S.faults source.new ≡ S.faults source.old }
     ensures count_never_falls { S.faults source.old ≤ S.faults source.new }

@@ -1,8 +1,15 @@
-mod Saying
-mod Stopping
-mod Answering
-mod Told
-mod Sessions
-mod Bringing
-mod Reaching
-mod Statuses
+pub mod Wishes
+pub mod Saying
+pub mod Stopping
+pub mod Bringing
+pub mod Told
+pub mod StopAnswers
+pub mod Reaching
+pub mod Runs
+pub mod Works
+pub mod Audits
+pub mod Statuses
+pub mod Sessions
+pub mod Ends
+pub mod Services
+pub mod Completing

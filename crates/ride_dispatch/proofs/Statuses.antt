@@ -1,6 +1,8 @@
 -- What a status tells of what was wanting.
-use Rattle.std.proofs.Common.{◌≡◌, ◌≢◌, ◌⊎◌, inl, inr, ℕ, ◌+◌, ◌≤◌, Bool, true, false, cond, List, length, Option, Some, Ok, Err, IfSome, refl, ap, sym, subst, ◌∙◌, arith, length-append}
+use Rattle.std.proofs.Common.{◌≡◌, ◌≢◌, ◌⊎◌, inl, inr, ℕ, zero, suc, ◌+◌, ◌<◌, ◌≤◌, Bool, true, false, cond, List, length, Option, Some, Ok, Err, IfSome, refl, ap, sym, subst, ◌∙◌, arith, length-append}
 use Rattle.ride_ports.specs.Bytes.{Reads}
+use Rattle.ride_ports.specs.Contents.{GivenBack}
+use Rattle.ride_ports.specs.Count.{Rose}
 use Rattle.ride_ports.specs.Status.{status_of as status_ran}
 use Rattle.ride_ports.specs.declared.outcome.Ran.{Ran}
 use Rattle.ride_ports.proofs.ByteLemmas.{Reads-told}
@@ -8,16 +10,18 @@ use Rattle.line_text.specs.Lines.{lines_of}
 use Rattle.line_text.proofs.LineLemmas.{lines-grow}
 use Rattle.ride_model.specs.Road.{RoadMap}
 use Rattle.gr_reader.specs.MapText.{map_text}
+use Rattle.gr_reader.specs.declared.errors.MapError.{MapError}
 use Rattle.gr_reader.specs.declared.errors.MapError.TheVariants.{TooLong}
 use Rattle.fleet_file.specs.FleetText.{fleet_text}
+use Rattle.fleet_file.specs.declared.errors.FleetError.{FleetError}
 use Rattle.fleet_file.specs.declared.errors.FleetError.TheVariants.{TooLong as IsTooLongFleet}
 use Rattle.command_lines.specs.Limits.{IsTooLong, IsWithinLimits}
 use Rattle.session_run.specs.Replay.{IsReadWhole}
-use Rattle.ride_dispatch.specs.Answers.{StopsReplay, status_of}
-use Rattle.ride_dispatch.specs.Files.{AreWhole}
-use Rattle.ride_dispatch.specs.Sessions.{IsSession}
-use Rattle.ride_dispatch.specs.declared.stop.Stop.{Stop}
-use Rattle.ride_dispatch.specs.declared.stop.Stop.TheVariants.{NoMemory, ShelfFault, LimitPassed, MapRefused, FleetRefused}
+use Rattle.ride_dispatch.specs.Answers.{PassesLimit, RefusesFleet, RefusesMap, told_bytes}
+use Rattle.ride_dispatch.specs.Files.{AreTexts, IsFeedWithin}
+use Rattle.ride_dispatch.specs.Refusals.{fleet_refusal, map_refusal}
+use Rattle.ride_dispatch.specs.Runs.{IsRun, SaysTo, Seen}
+use Rattle.ride_dispatch.specs.Sessions.{EndsReplay}
 
 -- a session's status, by its flags
 abbrev status_by : Bool → Bool → Bool → Bool → ℕ
@@ -43,7 +47,7 @@ pub record NoneWanting (ran : Ran) : Type 0 where
 
 -- a whole session
 pub whole-status : (ran : Ran) → status_ran ran ≡ 0 → NoneWanting ran
-whole-status ran zero = by ran.sink_failed ran.no_memory ran.source_failed ran.too_long refl refl refl refl zero
+whole-status ran nought = by ran.sink_failed ran.no_memory ran.source_failed ran.too_long refl refl refl refl nought
   where
     by : (k m s l : Bool) → ran.sink_failed ≡ k → ran.no_memory ≡ m → ran.source_failed ≡ s → ran.too_long ≡ l
         → status_by k m s l ≡ 0 → NoneWanting ran
@@ -53,25 +57,46 @@ whole-status ran zero = by ran.sink_failed ran.no_memory ran.source_failed ran.t
     by false false false true a b c d is = absurd (omega arith)
     by false false false false a b c d is = record { sink = a; memory = b; read = (c, d) }
 
--- a session whose feed was too long
-pub long-status : (ran : Ran) → status_ran ran ≡ 8 → ran.too_long ≡ true
-long-status ran eight = by ran.sink_failed ran.no_memory ran.source_failed ran.too_long refl eight
+-- a session whose source, or whose sink, failed
+pub source-status : (ran : Ran) → status_ran ran ≡ 5 → ran.source_failed ≡ true
+source-status ran five = by ran.sink_failed ran.no_memory ran.source_failed ran.too_long refl five
   where
-    by : (k m s l : Bool) → ran.too_long ≡ l → status_by k m s l ≡ 8 → ran.too_long ≡ true
+    by : (k m s l : Bool) → ran.source_failed ≡ s → status_by k m s l ≡ 5 → ran.source_failed ≡ true
     by true m s l d is = absurd (omega arith)
     by false true s l d is = absurd (omega arith)
-    by false false true l d is = absurd (omega arith)
-    by false false false true d is = d
+    by false false true l d is = d
+    by false false false true d is = absurd (omega arith)
     by false false false false d is = absurd (omega arith)
 
--- a session answers neither 2 nor 7
-pub ran-possible : (ran : Ran) → (status_ran ran ≤ 8) × (status_ran ran ≢ 7) × (status_ran ran ≢ 2)
+pub sink-status : (ran : Ran) → status_ran ran ≡ 6 → ran.sink_failed ≡ true
+sink-status ran six = by ran.sink_failed ran.no_memory ran.source_failed ran.too_long refl six
+  where
+    by : (k m s l : Bool) → ran.sink_failed ≡ k → status_by k m s l ≡ 6 → ran.sink_failed ≡ true
+    by true m s l d is = d
+    by false true s l d is = absurd (omega arith)
+    by false false true l d is = absurd (omega arith)
+    by false false false true d is = absurd (omega arith)
+    by false false false false d is = absurd (omega arith)
+
+-- a session whose feed was too long
+pub long-status : (ran : Ran) → status_ran ran ≡ 8 → (ran.no_memory ≡ false) × (ran.too_long ≡ true)
+long-status ran eight = by ran.sink_failed ran.no_memory ran.source_failed ran.too_long refl refl eight
+  where
+    by : (k m s l : Bool) → ran.no_memory ≡ m → ran.too_long ≡ l → status_by k m s l ≡ 8 → (ran.no_memory ≡ false) × (ran.too_long ≡ true)
+    by true m s l c d is = absurd (omega arith)
+    by false true s l c d is = absurd (omega arith)
+    by false false true l c d is = absurd (omega arith)
+    by false false false true c d is = (c, d)
+    by false false false false c d is = absurd (omega arith)
+
+-- a session answers none of 2, 3, 4 and 7
+pub ran-possible : (ran : Ran) → (status_ran ran ≤ 8) × (status_ran ran ≢ 7) × (status_ran ran ≢ 2) × (status_ran ran ≢ 3) × (status_ran ran ≢ 4)
 ran-possible ran = elim (ran-status ran) [
-  | inl a ↦ (omega arith, (λ is. omega arith), λ is. omega arith)
-  | inr (inl a) ↦ (omega arith, (λ is. omega arith), λ is. omega arith)
-  | inr (inr (inl a)) ↦ (omega arith, (λ is. omega arith), λ is. omega arith)
-  | inr (inr (inr (inl a))) ↦ (omega arith, (λ is. omega arith), λ is. omega arith)
-  | inr (inr (inr (inr a))) ↦ (omega arith, (λ is. omega arith), λ is. omega arith)
+  | inl a ↦ (omega arith, (λ is. omega arith), (λ is. omega arith), (λ is. omega arith), λ is. omega arith)
+  | inr (inl a) ↦ (omega arith, (λ is. omega arith), (λ is. omega arith), (λ is. omega arith), λ is. omega arith)
+  | inr (inr (inl a)) ↦ (omega arith, (λ is. omega arith), (λ is. omega arith), (λ is. omega arith), λ is. omega arith)
+  | inr (inr (inr (inl a))) ↦ (omega arith, (λ is. omega arith), (λ is. omega arith), (λ is. omega arith), λ is. omega arith)
+  | inr (inr (inr (inr a))) ↦ (omega arith, (λ is. omega arith), (λ is. omega arith), (λ is. omega arith), λ is. omega arith)
 ]
 
 -- bytes within the limits do not begin with too many
@@ -85,77 +110,92 @@ within-not-long bytes taken left within reads long =
       | inr lines_many ↦ omega (arith, within.few_lines, lines, lines_many)
     ]
 
--- a whole feed is not too long
-pub feed-not-long : (map fleet feed left : Option (List ℕ)) (ran : Ran) (before after : Option (List ℕ)) → AreWhole map fleet feed
-    → IsSession map fleet feed left ran before after → status_ran ran ≢ 8
-feed-not-long map fleet feed left ran before after whole session eight =
-    within-not-long whole.feed_bytes session.session.taken left whole.within
-    (subst (λ (o : Option (List ℕ)). IfSome o (λ bytes. Reads (Some bytes) left session.session.taken)) whole.feed_is session.session.feed_is)
-    (session.session.replayed.too_long (long-status ran eight))
+-- the same of what was told of a name and left of its source
+pub told-not-long : (feed left : Option (List ℕ)) (taken : List ℕ) → IsFeedWithin feed → IfSome feed (λ bytes. Reads (Some bytes) left taken) → IsTooLong taken → ⊥
+told-not-long feed left taken (bytes, is, within) reads long =
+    within-not-long bytes taken left within (subst (λ (o : Option (List ℕ)). IfSome o (λ b. Reads (Some b) left taken)) is reads) long
 
--- what stops a run of whole files
-pub whole-files : (map fleet feed : Option (List ℕ)) (stop : Stop) → AreWhole map fleet feed → StopsReplay map fleet stop
-    → (stop ≡ NoMemory) ⊎ (stop ≡ ShelfFault)
-whole-files map fleet feed NoMemory whole stops = inl refl
-whole-files map fleet feed ShelfFault whole stops = inr refl
-whole-files map fleet feed (MapRefused e) whole (of_map, is) =
+-- a replay's feed within the limits is not too long
+pub replay-not-long : (map fleet feed : Option (List ℕ)) (back : List GivenBack) (status : ℕ) (before after : Option (List ℕ)) → IsFeedWithin feed
+    → EndsReplay map fleet feed back status before after → status ≡ 8 → ⊥
+replay-not-long map fleet feed back status before after within (ran, first, source, status_is, back_is, session) eight =
+    told-not-long feed source.left session.session.taken within session.session.feed_is
+    (session.session.replayed.too_long (long-status ran (sym status_is ∙ eight)).1)
+
+-- a map and a fleet file have no refusal and pass no limit
+pub not-refused-map : (map fleet : Option (List ℕ)) (e : MapError) → AreTexts map fleet → IfSome map (λ bytes. map_text bytes ≡ Err e) → ⊥
+not-refused-map map fleet e texts is =
     absurd (cc (
-      subst (λ (o : Option (List ℕ)). IfSome o (λ bytes. map_text bytes ≡ Err e)) whole.map_is is,
-      subst (λ (o : Option (List ℕ)). IfSome o (λ bytes. map_text bytes ≡ Ok whole.network)) whole.map_is whole.texts.map_is,
+      subst (λ (o : Option (List ℕ)). IfSome o (λ bytes. map_text bytes ≡ Err e)) texts.map_is is,
+      subst (λ (o : Option (List ℕ)). IfSome o (λ bytes. map_text bytes ≡ Ok texts.network)) texts.map_is texts.texts.map_is,
     ))
-whole-files map fleet feed (FleetRefused e) whole (of_fleet, is) =
+
+pub not-refused-fleet : (map fleet : Option (List ℕ)) (e : FleetError) → AreTexts map fleet
+    → IfSome map (λ bytes. (network : RoadMap) × (map_text bytes ≡ Ok network) × IfSome fleet (λ text. fleet_text network.nodes text ≡ Err e)) → ⊥
+not-refused-fleet map fleet e texts is =
     let (network, is_map, refused) = subst (λ (o : Option (List ℕ)). IfSome o (λ bytes. (network : RoadMap) × (map_text bytes ≡ Ok network)
-    × IfSome fleet (λ text. fleet_text network.nodes text ≡ Err e))) whole.map_is is in
-    let same : network ≡ whole.network = cc (
+    × IfSome fleet (λ text. fleet_text network.nodes text ≡ Err e))) texts.map_is is in
+    let same : network ≡ texts.network = cc (
       is_map,
-      subst (λ (o : Option (List ℕ)). IfSome o (λ bytes. map_text bytes ≡ Ok whole.network)) whole.map_is whole.texts.map_is,
+      subst (λ (o : Option (List ℕ)). IfSome o (λ bytes. map_text bytes ≡ Ok texts.network)) texts.map_is texts.texts.map_is,
     ) in
     absurd (cc (
-      subst (λ (n : RoadMap). fleet_text n.nodes whole.fleet_bytes ≡ Err e) same
-          (subst (λ (o : Option (List ℕ)). IfSome o (λ text. fleet_text network.nodes text ≡ Err e)) whole.fleet_is refused),
-      subst (λ (o : Option (List ℕ)). IfSome o (λ text. fleet_text whole.network.nodes text ≡ Ok (whole.settings, whole.vehicles))) whole.fleet_is whole.texts.fleet_is,
-    ))
-whole-files map fleet feed LimitPassed whole (inl is) =
-    absurd (cc (
-      subst (λ (o : Option (List ℕ)). IfSome o (λ bytes. map_text bytes ≡ Err TooLong)) whole.map_is is,
-      subst (λ (o : Option (List ℕ)). IfSome o (λ bytes. map_text bytes ≡ Ok whole.network)) whole.map_is whole.texts.map_is,
-    ))
-whole-files map fleet feed LimitPassed whole (inr is) =
-    let (network, is_map, refused) = subst (λ (o : Option (List ℕ)). IfSome o (λ bytes. (network : RoadMap) × (map_text bytes ≡ Ok network)
-    × IfSome fleet (λ text. fleet_text network.nodes text ≡ Err IsTooLongFleet))) whole.map_is is in
-    let same : network ≡ whole.network = cc (
-      is_map,
-      subst (λ (o : Option (List ℕ)). IfSome o (λ bytes. map_text bytes ≡ Ok whole.network)) whole.map_is whole.texts.map_is,
-    ) in
-    absurd (cc (
-      subst (λ (n : RoadMap). fleet_text n.nodes whole.fleet_bytes ≡ Err IsTooLongFleet) same
-          (subst (λ (o : Option (List ℕ)). IfSome o (λ text. fleet_text network.nodes text ≡ Err IsTooLongFleet)) whole.fleet_is refused),
-      subst (λ (o : Option (List ℕ)). IfSome o (λ text. fleet_text whole.network.nodes text ≡ Ok (whole.settings, whole.vehicles))) whole.fleet_is whole.texts.fleet_is,
+      subst (λ (n : RoadMap). fleet_text n.nodes texts.fleet_bytes ≡ Err e) same
+          (subst (λ (o : Option (List ℕ)). IfSome o (λ text. fleet_text network.nodes text ≡ Err e)) texts.fleet_is refused),
+      subst (λ (o : Option (List ℕ)). IfSome o (λ text. fleet_text texts.network.nodes text ≡ Ok (texts.settings, texts.vehicles))) texts.fleet_is texts.texts.fleet_is,
     ))
 
--- a run that stopped answers the status of what stopped it, or 1
-pub stop-possible : (stop : Stop) (status : ℕ) → (status ≡ status_of stop) ⊎ (status ≡ 1) → (status ≤ 8) × (status ≢ 7)
-stop-possible stop status (inr one) = (omega arith, λ is. omega arith)
-stop-possible NoMemory status (inl is) = (omega arith, λ seven. omega arith)
-stop-possible (MapRefused e) status (inl is) = (omega arith, λ seven. omega arith)
-stop-possible (FleetRefused e) status (inl is) = (omega arith, λ seven. omega arith)
-stop-possible ShelfFault status (inl is) = (omega arith, λ seven. omega arith)
-stop-possible LimitPassed status (inl is) = (omega arith, λ seven. omega arith)
+-- a number up to 8
+pub up-to-eight : (n : ℕ) → n ≤ 8 → (n ≡ 0) ⊎ (n ≡ 1) ⊎ (n ≡ 2) ⊎ (n ≡ 3) ⊎ (n ≡ 4) ⊎ (n ≡ 5) ⊎ (n ≡ 6) ⊎ (n ≡ 7) ⊎ (n ≡ 8)
+up-to-eight zero few = inl refl
+up-to-eight (suc zero) few = inr (inl refl)
+up-to-eight (suc (suc zero)) few = inr (inr (inl refl))
+up-to-eight (suc (suc (suc zero))) few = inr (inr (inr (inl refl)))
+up-to-eight (suc (suc (suc (suc zero)))) few = inr (inr (inr (inr (inl refl))))
+up-to-eight (suc (suc (suc (suc (suc zero))))) few = inr (inr (inr (inr (inr (inl refl)))))
+up-to-eight (suc (suc (suc (suc (suc (suc zero)))))) few = inr (inr (inr (inr (inr (inr (inl refl))))))
+up-to-eight (suc (suc (suc (suc (suc (suc (suc zero))))))) few = inr (inr (inr (inr (inr (inr (inr (inl refl)))))))
+up-to-eight (suc (suc (suc (suc (suc (suc (suc (suc zero)))))))) few = inr (inr (inr (inr (inr (inr (inr (inr refl)))))))
+up-to-eight (suc (suc (suc (suc (suc (suc (suc (suc (suc n))))))))) few = absurd (omega arith)
 
--- a fault is that of the shelf or a source
-pub stop-of-five : (stop : Stop) (status : ℕ) → (status ≡ status_of stop) ⊎ (status ≡ 1) → status ≡ 5 → stop ≡ ShelfFault
-stop-of-five stop status (inr one) five = absurd (omega arith)
-stop-of-five NoMemory status (inl is) five = absurd (omega arith)
-stop-of-five (MapRefused e) status (inl is) five = absurd (omega arith)
-stop-of-five (FleetRefused e) status (inl is) five = absurd (omega arith)
-stop-of-five ShelfFault status (inl is) five = refl
-stop-of-five LimitPassed status (inl is) five = absurd (omega arith)
+pub below-or-at : (a b : ℕ) → a ≤ b → (a < b) ⊎ (a ≡ b)
+below-or-at zero zero few = inr refl
+below-or-at zero (suc b) few = inl (omega arith)
+below-or-at (suc a) zero few = absurd (omega arith)
+below-or-at (suc a) (suc b) few = elim (below-or-at a b (omega arith)) [ inl below ↦ inl (omega (arith, below)) | inr same ↦ inr (ap suc same) ]
 
--- a run that stopped is not whole
-pub stop-not-whole : (stop : Stop) (status : ℕ) → (status ≡ status_of stop) ⊎ (status ≡ 1) → status ≡ 0 → ⊥
-stop-not-whole stop status (inr one) zero = omega arith
-stop-not-whole NoMemory status (inl is) zero = omega arith
-stop-not-whole (MapRefused e) status (inl is) zero = omega arith
-stop-not-whole (FleetRefused e) status (inl is) zero = omega arith
-stop-not-whole ShelfFault status (inl is) zero = omega arith
-stop-not-whole LimitPassed status (inl is) zero = omega arith
+-- a run of texts without faults, whose last sources were not too long, is whole, or memory was wanting, or its log was wrong
+pub complete-run : (m f : List ℕ) (others : List (List ℕ)) (s : Seen) (status : ℕ) → IsRun m f others s status
+    → AreTexts (told_bytes s.told m) (told_bytes s.told f) → (Rose s.shelf_before s.shelf_after → ⊥) → (Rose s.sink_before s.sink_after → ⊥)
+    → (status ≡ 8 → s.brought ≡ 2 + length others → ⊥) → (status ≡ 0) ⊎ (status ≡ 1) ⊎ (status ≡ 7)
+complete-run m f others s status run texts no_fault no_sink no_limit =
+    elim (up-to-eight status run.statuses.0) [
+      | inl is ↦ inl is
+      | inr (inl is) ↦ inr (inl is)
+      | inr (inr (inl is)) ↦ absurd (run.statuses.1 is)
+      | inr (inr (inr (inl is))) ↦ absurd (not-map (run.map_refused is))
+      | inr (inr (inr (inr (inl is)))) ↦ absurd (not-fleet (run.fleet_refused is))
+      | inr (inr (inr (inr (inr (inl is))))) ↦ absurd (no_fault (run.shelf_fault is))
+      | inr (inr (inr (inr (inr (inr (inl is)))))) ↦ absurd (no_sink (run.sink_fault is))
+      | inr (inr (inr (inr (inr (inr (inr (inl is))))))) ↦ inr (inr is)
+      | inr (inr (inr (inr (inr (inr (inr (inr is))))))) ↦ absurd (elim (below-or-at s.brought (2 + length others) run.few_brought) [
+        | inl below ↦ not-limit (run.limit_passed is below)
+        | inr all ↦ no_limit is all
+      ])
+    ]
+  where
+    map : Option (List ℕ)
+    map = told_bytes s.told m
+
+    fleet : Option (List ℕ)
+    fleet = told_bytes s.told f
+
+    not-map : (e : MapError) × RefusesMap map e × SaysTo s (map_refusal e) → ⊥
+    not-map (e, (of_map, is), said) = not-refused-map map fleet e texts is
+
+    not-fleet : (e : FleetError) × RefusesFleet map fleet e × SaysTo s (fleet_refusal e) → ⊥
+    not-fleet (e, (of_fleet, is), said) = not-refused-fleet map fleet e texts is
+
+    not-limit : PassesLimit map fleet → ⊥
+    not-limit (inl is) = not-refused-map map fleet TooLong texts is
+    not-limit (inr is) = not-refused-fleet map fleet IsTooLongFleet texts is

@@ -4,11 +4,11 @@ use Rattle.ride_model.specs.Road.{RoadMap}
 use Rattle.gr_reader.specs.MapText.{map_text}
 use Rattle.ride_dispatch.specs.declared.stop.Stop.{Stop}
 use Rattle.ride_dispatch.specs.declared.stop.Stop.TheVariants.{NoMemory, ShelfFault, LimitPassed, MapRefused, FleetRefused}
-use Rattle.ride_dispatch.specs.Answers.{StopsFleet, StopsReplay}
+use Rattle.ride_dispatch.specs.Answers.{StopsFleet, StopsTexts}
 
 -- a network, and a fleet file whose reading stopped
 pub stops_at_fleet : (map fleet : Option (List ℕ)) (network : RoadMap) (stop : Stop) → IfSome map (λ bytes. map_text bytes ≡ Ok network)
-    → StopsFleet network.nodes fleet stop → StopsReplay map fleet stop
+    → StopsFleet network.nodes fleet stop → StopsTexts map fleet stop
 stops_at_fleet map fleet network NoMemory is stops = tt
 stops_at_fleet map fleet network ShelfFault is stops = tt
 stops_at_fleet None fleet network LimitPassed is stops = inr tt

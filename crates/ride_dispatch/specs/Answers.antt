@@ -79,13 +79,13 @@ pub record AreTextsOf (network : RoadMap) (settings : Settings) (vehicles : List
   pub map_is : IfSome map (λ bytes. map_text bytes ≡ Ok network)
   pub fleet_is : IfSome fleet (λ text. fleet_text network.nodes text ≡ Ok (settings, vehicles))
 
--- why a replay stopped before its session
-abbrev pub StopsReplay : Option (List ℕ) → Option (List ℕ) → Stop → Type 0
-StopsReplay map fleet NoMemory = ⊤
-StopsReplay map fleet ShelfFault = ⊤
-StopsReplay map fleet LimitPassed = PassesLimit map fleet
-StopsReplay map fleet (MapRefused e) = RefusesMap map e
-StopsReplay map fleet (FleetRefused e) = RefusesFleet map fleet e
+-- why a run stopped over its map and its fleet file
+abbrev pub StopsTexts : Option (List ℕ) → Option (List ℕ) → Stop → Type 0
+StopsTexts map fleet NoMemory = ⊤
+StopsTexts map fleet ShelfFault = ⊤
+StopsTexts map fleet LimitPassed = PassesLimit map fleet
+StopsTexts map fleet (MapRefused e) = RefusesMap map e
+StopsTexts map fleet (FleetRefused e) = RefusesFleet map fleet e
 
 -- the exit status of a run that stopped
 abbrev pub status_of : Stop → ℕ

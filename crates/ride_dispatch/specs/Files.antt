@@ -2,16 +2,16 @@
 use Rattle.std.specs.Prelude.{◌≡◌, ◌≢◌, ◌⊎◌, ℕ, ◌≤◌, ⊤, List, [], ◌∷◌, length, Option, Some, Result, Ok, Err, IfSome, IsOk, OnOk, false}
 use Rattle.line_text.specs.Texts.{Format, after_ended}
 use Rattle.ride_ports.specs.Bytes.{Reads}
-use Rattle.ride_ports.specs.Contents.{GivenBack}
-use Rattle.ride_ports.specs.declared.outcome.Ran.{Ran}
+use Rattle.ride_ports.specs.Contents.{Contents, GivenBack}
 use Rattle.ride_model.specs.Road.{RoadMap}
 use Rattle.ride_model.specs.declared.settings.Settings.{Settings}
 use Rattle.ride_model.specs.declared.vehicle.Vehicle.{Vehicle}
 use Rattle.gr_reader.specs.MapText.{map_format, map_text}
 use Rattle.fleet_file.specs.FleetText.{fleet_format}
 use Rattle.command_lines.specs.Limits.{IsWithinLimits}
-use Rattle.session_run.specs.Replay.{IsReadWhole}
-use Rattle.ride_dispatch.specs.Answers.{AreTextsOf}
+use Rattle.log_audit.specs.Limits.{IsTooLong}
+use Rattle.ride_dispatch.specs.Answers.{told_bytes, AreTextsOf}
+use Rattle.ride_dispatch.specs.Words.{Wanted, a_replay, a_service, an_audit}
 use Rattle.ride_dispatch.specs.declared.files.Texts.{Texts}
 use Rattle.ride_dispatch.specs.declared.stop.Stop.{Stop}
 use Rattle.ride_dispatch.specs.declared.stop.Stop.TheVariants.{NoMemory, ShelfFault}
@@ -60,38 +60,27 @@ BringsTexts map fleet (m ∷ f ∷ []) back outcome =
     × IsReadAs (fleet_format network.nodes) fleet rest outcome
 BringsTexts map fleet asked back outcome = ⊥
 
--- a feed was brought and a session ran over it, or it was not brought
-abbrev pub FeedsSession : Option (List ℕ) → List GivenBack → Result Ran Stop → Type 0
-FeedsSession feed [] outcome = outcome ≡ Err ShelfFault
-FeedsSession feed (source ∷ []) outcome = (ran : Ran) × (outcome ≡ Ok ran) × ((taken : List ℕ) × IsLeftOf feed source taken)
-    × (ran.no_memory ≡ false → IsReadWhole ran → IsSpent source)
-FeedsSession feed (source ∷ other ∷ sources) outcome = ⊥
-
--- how far a replay came: which names were asked for, which sources given back
-abbrev pub Reaches : Option (List ℕ) → Option (List ℕ) → Option (List ℕ) → List (List ℕ) → List GivenBack → Result Ran Stop → Type 0
-Reaches map fleet feed [] back outcome = (back ≡ []) × (outcome ≡ Err NoMemory)
-Reaches map fleet feed (m ∷ f ∷ r ∷ []) back outcome =
-    (texts : Texts) × (first : GivenBack) × (second : GivenBack) × (rest : List GivenBack) × (back ≡ first ∷ second ∷ rest)
-    × AreTextsOf texts.map texts.settings texts.fleet map fleet × BringsTexts map fleet (m ∷ f ∷ []) (first ∷ second ∷ []) (Ok texts)
-    × FeedsSession feed rest outcome
-Reaches map fleet feed asked back outcome =
-    (texts : Result Texts Stop) × (stop : Stop) × (outcome ≡ Err stop) × BringsTexts map fleet asked back texts
-    × ((stop ≡ NoMemory) ⊎ (texts ≡ Err stop))
-
--- the exit statuses of a replay
-abbrev pub IsReplayStatus : ℕ → Type 0
-IsReplayStatus status = (status ≤ 8) × (status ≢ 7)
-
--- a map, a fleet file over it and a feed within the limits
-pub record AreWhole (map fleet feed : Option (List ℕ)) : Type 0 where
+-- the bytes of a map and of a fleet file over it
+pub record AreTexts (map fleet : Option (List ℕ)) : Type 0 where
   pub map_bytes : List ℕ
   pub fleet_bytes : List ℕ
-  pub feed_bytes : List ℕ
   pub map_is : map ≡ Some map_bytes
   pub fleet_is : fleet ≡ Some fleet_bytes
-  pub feed_is : feed ≡ Some feed_bytes
   pub network : RoadMap
   pub settings : Settings
   pub vehicles : List Vehicle
   pub texts : AreTextsOf network settings vehicles map fleet
-  pub within : IsWithinLimits feed_bytes
+
+-- the bytes of a feed, or of a log, within the limits
+abbrev pub IsFeedWithin : Option (List ℕ) → Type 0
+IsFeedWithin feed = (bytes : List ℕ) × (feed ≡ Some bytes) × IsWithinLimits bytes
+
+abbrev pub IsLogWithin : Option (List ℕ) → Type 0
+IsLogWithin log = (bytes : List ℕ) × (log ≡ Some bytes) × (IsTooLong bytes → ⊥)
+
+-- the files of what is wanted are told: a map, a fleet file over it, and others within their limits
+abbrev pub AreWhole : Option Contents → Wanted → Type 0
+AreWhole told (a_replay map fleet feed) = AreTexts (told_bytes told map) (told_bytes told fleet) × IsFeedWithin (told_bytes told feed)
+AreWhole told (an_audit map fleet log) = AreTexts (told_bytes told map) (told_bytes told fleet) × IsLogWithin (told_bytes told log)
+AreWhole told (a_service map fleet riders drivers workers desks) = AreTexts (told_bytes told map) (told_bytes told fleet)
+    × IsFeedWithin (told_bytes told riders) × IsFeedWithin (told_bytes told drivers)

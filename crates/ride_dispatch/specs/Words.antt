@@ -1,34 +1,157 @@
--- The words of the program.
-use Rattle.std.specs.Prelude.{◌≡◌, ℕ, ◌==◌, ◌&&◌, Bool, List, [], ◌∷◌, length, take, slice_index_or, codes, bytes_eq}
+-- What the words of the program ask for.
+use Rattle.std.specs.Prelude.{◌≡◌, ◌⊎◌, ℕ, ◌≤◌, ◌&&◌, nat_le, if◌then◌else◌, true, Bool, List, [], ◌∷◌, length, take, slice_index_or, codes, bytes_eq, string_bytes, Option, Some, None, option_and_then, option_map, ⊤, Result, MatchResult}
+use Rattle.line_text.specs.Numbers.{number_of}
+use Rattle.ride_model.specs.Text.{IsOneOrTwo}
+use Rattle.clap.specs.Walk.{Rule, first_of}
+use Rattle.clap.specs.Simple.{App, matches_of, new_app, new_rule, on_top, with_rule}
+use Rattle.clap.specs.Faults.{fault_of}
+use Rattle.clap.specs.Kinds.{Kinds}
+use Rattle.clap.specs.declared.builder.action.ArgAction.TheVariants.{Set}
+use Rattle.ride_dispatch.specs.declared.words.Wish.{Wish}
+use Rattle.ride_dispatch.specs.declared.words.Wish.TheVariants.{Replay, Audit, Serve}
+use Rattle.ride_dispatch.specs.declared.words.WordsError.{WordsError}
+use Rattle.ride_dispatch.specs.declared.words.WordsError.TheVariants.{Refused}
 
--- the word at a place
-abbrev pub word_at : List (List ℕ) → ℕ → List ℕ
-word_at words place = slice_index_or words place []
+-- what is wanted of a run, by the names of its files: the replay of a map, a fleet file and a feed, the audit of a map, a fleet
+-- file and a log, or the service of a map, a fleet file, riders and drivers, by so many workers and desks
+pub data Wanted : Type 0 where
+  a_replay : List ℕ → List ℕ → List ℕ → Wanted
+  an_audit : List ℕ → List ℕ → List ℕ → Wanted
+  a_service : List ℕ → List ℕ → List ℕ → List ℕ → ℕ → ℕ → Wanted
 
--- whether the word at a place is this one
-abbrev pub is_word : List (List ℕ) → ℕ → List ℕ → Bool
-is_word words place word = bytes_eq (word_at words place) word
+-- an option that has to be given, with one value, and a command of this name that has neither help nor version
+abbrev pub option_rule : List ℕ → Rule
+option_rule name = record (new_rule name) { long = Some name; required = true; action = Some Set }
 
--- whether the words are `replay --map NAME --fleet NAME --feed NAME`
-abbrev pub are_replay : List (List ℕ) → Bool
-are_replay words =
-    length words == 7 && is_word words 0 (codes "replay") && is_word words 1 (codes "--map")
-    && is_word words 3 (codes "--fleet") && is_word words 5 (codes "--feed")
+abbrev pub bare_command : List ℕ → App
+bare_command name = on_top (λ s. record s { disable_help_flag = true; disable_version_flag = true }) (new_app name)
 
--- the name of a replay's map, and that of its fleet file
-abbrev pub map_name : List (List ℕ) → List ℕ
-map_name words = word_at words 2
+abbrev pub with_option : App → List ℕ → App
+with_option command name = with_rule command (option_rule name)
 
-abbrev pub fleet_name : List (List ℕ) → List ℕ
-fleet_name words = word_at words 4
+-- the command of each first word, with its options
+abbrev pub over_map_and_fleet : List ℕ → App
+over_map_and_fleet name = with_option (with_option (bare_command name) (codes "map")) (codes "fleet")
 
--- and that of its feed
-abbrev pub feed_name : List (List ℕ) → List ℕ
-feed_name words = word_at words 6
+abbrev pub replay_command : App
+replay_command = with_option (over_map_and_fleet (codes "replay")) (codes "feed")
 
--- the names of a replay's map, fleet and feed
-abbrev pub names_of : List (List ℕ) → List (List ℕ)
-names_of words = map_name words ∷ fleet_name words ∷ feed_name words ∷ []
+abbrev pub audit_command : App
+audit_command = with_option (over_map_and_fleet (codes "audit")) (codes "log")
+
+abbrev pub serve_command : App
+serve_command =
+    with_option (with_option (with_option (with_option (over_map_and_fleet (codes "serve")) (codes "riders")) (codes "drivers"))
+    (codes "workers")) (codes "desks")
+
+-- what was found, where no fault was
+abbrev pub unless : Kinds → Option (List ℕ) → Option (List ℕ)
+unless [] found = found
+unless (fault ∷ faults) found = None
+
+-- the value that a command finds of an option in words in which it finds no fault
+unfoldable pub value_of : App → List (List ℕ) → List ℕ → Option (List ℕ)
+value_of command words option = unless (fault_of command words) (first_of option (matches_of command words))
+
+-- the number of a text, where it is one from the least to the most
+abbrev pub within : ℕ → ℕ → ℕ → Option ℕ
+within least most number = if nat_le least number && nat_le number most then Some number else None
+
+abbrev pub number_within : ℕ → ℕ → List ℕ → Option ℕ
+number_within least most text = option_and_then (within least most) (number_of text)
+
+-- what three texts ask for, where they are there
+abbrev pub of_three : (List ℕ → List ℕ → List ℕ → Wanted) → Option (List ℕ) → Option (List ℕ) → Option (List ℕ) → Option Wanted
+of_three ask first second third =
+    option_and_then (λ a. option_and_then (λ b. option_map (λ c. ask a b c) third) second) first
+
+abbrev pub replay_wish : List (List ℕ) → Option Wanted
+replay_wish words =
+    let value = value_of replay_command words in
+    of_three a_replay (value (codes "map")) (value (codes "fleet")) (value (codes "feed"))
+
+abbrev pub audit_wish : List (List ℕ) → Option Wanted
+audit_wish words =
+    let value = value_of audit_command words in
+    of_three an_audit (value (codes "map")) (value (codes "fleet")) (value (codes "log"))
+
+abbrev pub serve_wish : List (List ℕ) → Option Wanted
+serve_wish words =
+    let value = value_of serve_command words in
+    option_and_then (λ map. option_and_then (λ fleet. option_and_then (λ riders. option_and_then (λ drivers.
+    option_and_then (λ workers. option_map (λ desks. a_service map fleet riders drivers workers desks)
+    (option_and_then (number_within 1 2) (value (codes "desks"))))
+    (option_and_then (number_within 1 16) (value (codes "workers"))))
+    (value (codes "drivers"))) (value (codes "riders"))) (value (codes "fleet"))) (value (codes "map"))
+
+-- what the words ask for, by the first of them; nothing where they are not in order
+abbrev pub first_word : List (List ℕ) → List ℕ
+first_word words = slice_index_or words 0 []
+
+unfoldable pub wish_of : List (List ℕ) → Option Wanted
+wish_of words =
+    if bytes_eq (first_word words) (codes "replay") then replay_wish words
+    else (if bytes_eq (first_word words) (codes "audit") then audit_wish words
+    else (if bytes_eq (first_word words) (codes "serve") then serve_wish words else None))
+
+-- what a wish that was read asks for
+abbrev pub wanted_by : Wish → Wanted
+wanted_by (Replay map fleet feed) = a_replay (string_bytes map) (string_bytes fleet) (string_bytes feed)
+wanted_by (Audit map fleet log) = an_audit (string_bytes map) (string_bytes fleet) (string_bytes log)
+wanted_by (Serve map fleet riders drivers workers desks) =
+    a_service (string_bytes map) (string_bytes fleet) (string_bytes riders) (string_bytes drivers) workers desks
+
+-- the numbers of a wish are within their ranges
+abbrev pub IsInRange : Wish → Type 0
+IsInRange (Serve map fleet riders drivers workers desks) = (1 ≤ workers) × (workers ≤ 16) × IsOneOrTwo desks
+IsInRange _ = ⊤
+
+-- words that ask for this were read: the wish was found, or they were refused; or memory was wanting
+abbrev pub IsWishOf : Option Wanted → Result Wish WordsError → Type 0
+IsWishOf wanted outcome =
+    MatchResult outcome (λ wish. wanted ≡ Some (wanted_by wish)) (λ error. error ≡ Refused → wanted ≡ None)
+
+-- the names of a wish, in the order of the options: those of the map and the fleet file, and the others
+abbrev pub map_name : Wanted → List ℕ
+map_name (a_replay map fleet feed) = map
+map_name (an_audit map fleet log) = map
+map_name (a_service map fleet riders drivers workers desks) = map
+
+abbrev pub fleet_name : Wanted → List ℕ
+fleet_name (a_replay map fleet feed) = fleet
+fleet_name (an_audit map fleet log) = fleet
+fleet_name (a_service map fleet riders drivers workers desks) = fleet
+
+abbrev pub other_names : Wanted → List (List ℕ)
+other_names (a_replay map fleet feed) = feed ∷ []
+other_names (an_audit map fleet log) = log ∷ []
+other_names (a_service map fleet riders drivers workers desks) = riders ∷ drivers ∷ []
+
+abbrev pub names_of : Wanted → List (List ℕ)
+names_of wanted = map_name wanted ∷ fleet_name wanted ∷ other_names wanted
+
+-- what is said of a replay alone, of an audit alone and of a service alone
+abbrev pub OfReplay : (List ℕ → List ℕ → List ℕ → Type 0) → Wanted → Type 0
+OfReplay say (a_replay map fleet feed) = say map fleet feed
+OfReplay say _ = ⊤
+
+abbrev pub OfAudit : (List ℕ → List ℕ → List ℕ → Type 0) → Wanted → Type 0
+OfAudit say (an_audit map fleet log) = say map fleet log
+OfAudit say _ = ⊤
+
+abbrev pub OfService : (List ℕ → List ℕ → List ℕ → List ℕ → ℕ → ℕ → Type 0) → Wanted → Type 0
+OfService say (a_service map fleet riders drivers workers desks) = say map fleet riders drivers workers desks
+OfService say _ = ⊤
+
+-- an audit is wanted
+abbrev pub IsAudit : Wanted → Type 0
+IsAudit (an_audit map fleet log) = ⊤
+IsAudit _ = ⊥
+
+-- how a run ends that no fault kept from its end: whole, or for want of memory; an audit may find its log wrong
+abbrev pub Ends : Wanted → ℕ → Type 0
+Ends (an_audit map fleet log) status = (status ≡ 0) ⊎ (status ≡ 1) ⊎ (status ≡ 7)
+Ends _ status = (status ≡ 0) ⊎ (status ≡ 1)
 
 -- a list begins another
 abbrev pub Begins : List (List ℕ) → List (List ℕ) → Type 0

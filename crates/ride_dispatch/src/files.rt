@@ -1,5 +1,5 @@
 //! Named files, each read to its answer and given back.
-ghost use Rattle.std.specs.Prelude.{◌≡◌, ◌≢◌, ◌<◌, ◌≤◌, ◌+◌, ◌++◌, ◌∷◌, [], ℕ, List, length, string_bytes, All, Err, IfErr, IfOk, OnOk, MatchResult};
+ghost use Rattle.std.specs.Prelude.{◌≡◌, ◌≢◌, ◌<◌, ◌≤◌, ◌+◌, ◌++◌, ◌∷◌, [], ℕ, List, length, string_bytes, All, Err, IfErr, IfOk, OnOk, OnErr, MatchResult};
 ghost use Rattle.ride_model.specs.declared.vehicle.Vehicle.{Vehicle};
 ghost use Rattle.ride_model.specs.Settings.{IsSettings};
 ghost use Rattle.ride_model.specs.Vehicle.{IsLawful};
@@ -7,7 +7,7 @@ ghost use Rattle.ride_ports.specs.Contents.{GivenBack, given_back};
 ghost use Rattle.ride_ports.specs.Count.{Rose};
 ghost use Rattle.gr_reader.specs.MapText.{map_format};
 ghost use Rattle.fleet_file.specs.FleetText.{fleet_format};
-ghost use Rattle.ride_dispatch.specs.Answers.{stop_of_fleet, stop_of_map, told_bytes, AreTextsOf, ReadsFleet, ReadsMap, StopsReplay};
+ghost use Rattle.ride_dispatch.specs.Answers.{stop_of_fleet, stop_of_map, told_bytes, AreTextsOf, ReadsFleet, ReadsMap, StopsTexts};
 ghost use Rattle.ride_dispatch.specs.Files.{BringsTexts, IsReadAs, IsReadBy};
 ghost use Rattle.ride_dispatch.specs.Words.{Begins};
 
@@ -16,17 +16,18 @@ use fleet_file::{FleetError, read_fleet};
 use gr_reader::{MapError, read_map};
 use ride_model::{Fleet, Network, Settings};
 use ride_ports::{Shelf, Source};
+use road_times::Roads;
 use std::alloc::Global;
 
-/// What the files of a map and a fleet say.
+/// What the files of a map and a fleet say, the map as its roads.
 #[derive(Drop)]
 pub struct Texts {
-    pub map: Network,
+    pub roads: Roads,
     pub settings: Settings,
     pub fleet: Fleet,
 }
 
-/// Brings a map and then a fleet file over it.
+/// Brings a map and then a fleet file over it, and makes the map's roads.
 pub fn bring_texts<H: Shelf>(
     alloc: Global,
     shelf: &mut H,
@@ -37,11 +38,11 @@ pub fn bring_texts<H: Shelf>(
     requires none_brought { H.brought shelf.old ≡ 0 }
     requires none_back { H.back shelf.old ≡ [] }
     ensures texts { MatchResult result
-        (λ texts. AreTextsOf texts.map texts.settings texts.fleet (told_bytes (H.contents shelf.old) (string_bytes map_name))
+        (λ texts. AreTextsOf texts.roads texts.settings texts.fleet (told_bytes (H.contents shelf.old) (string_bytes map_name))
         (told_bytes (H.contents shelf.old) (string_bytes fleet_name)))
-        (StopsReplay (told_bytes (H.contents shelf.old) (string_bytes map_name)) (told_bytes (H.contents shelf.old) (string_bytes fleet_name))) }
+        (StopsTexts (told_bytes (H.contents shelf.old) (string_bytes map_name)) (told_bytes (H.contents shelf.old) (string_bytes fleet_name))) }
     ensures settings { IfOk result (λ texts. IsSettings texts.settings) }
-    ensures lawful { IfOk result (λ texts. All (IsLawful texts.map) texts.fleet) }
+    ensures lawful { IfOk result (λ texts. All (IsLawful texts.roads) texts.fleet) }
     ensures idle { IfOk result (λ texts. All (λ (v : Vehicle). v.stops.items ≡ []) texts.fleet) }
     ensures first_versions { IfOk result (λ texts. All (λ (v : Vehicle). v.version ≡ 0) texts.fleet) }
     ensures files { BringsTexts (told_bytes (H.contents shelf.old) (string_bytes map_name))
@@ -59,11 +60,23 @@ pub fn bring_texts<H: Shelf>(
 {
     let map = bring_map(alloc, shelf, map_name)?;
     let (settings, fleet) = bring_fleet(alloc, shelf, fleet_name, &map)?;
+    let roads = roads_of(alloc, &map)?;
     Ok(Texts {
-        map,
+        roads,
         settings,
         fleet,
     })
+}
+
+// The roads of a map.
+fn roads_of(alloc: Global, map: &Network) -> Result<Roads, Stop>
+    ensures roads { IfOk result (λ roads. roads ≡ map.now) }
+    ensures stopped { OnErr result (result ≡ Err Stop.NoMemory) }
+{
+    match Roads::new(alloc, map) {
+        Ok(roads) => Ok(roads),
+        Err(_) => Err(Stop::NoMemory),
+    }
 }
 
 // Brings a map, reads it to its answer and gives it back.

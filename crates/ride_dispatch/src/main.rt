@@ -1,9 +1,12 @@
 //! The dispatcher's program: it reads the words after its name, and ends with the status of `run`.
 #![tactic(auto)]
 
+mod answering;
+mod auditing;
 mod files;
 mod refusals;
-mod session;
+mod replaying;
+mod serving;
 mod stop;
 #[cfg(test)]
 mod tests;

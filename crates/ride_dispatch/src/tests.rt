@@ -1,40 +1,48 @@
-//! The top call over memory: what a run is given, and what it answers.
+//! The top call over memory: tables of cases, each given to one driver.
+ghost use Rattle.std.specs.Prelude.{◌≡◌};
+ghost use Rattle.ride_ports.specs.Calls.{ArePieces};
 ghost use Rattle.ride_ports.specs.MemFile.{HaveDistinctNames, HavePieces};
 
+mod audits;
 mod edges;
 mod faults;
-mod fleets;
-mod log_text;
-mod maps;
-mod reports;
+mod gates;
+mod refusals;
+mod replays;
 mod seatings;
-mod stays;
+mod serving;
+mod stops;
+mod texts;
 
 use crate::top::run;
-use ride_ports::{MemFile, MemShelf, MemSink, NoMemory, OpenGate};
+use ride_ports::{Gate, MemFile, MemShelf, MemSink, NoMemory, OpenGate};
 use std::alloc::Global;
 use std::process::Abort;
+use std::sync::Wait;
 use std::thread::Threads;
+use texts::Part;
 
 /// Four nodes in a line, a minute between neighbors.
-const MAP: &[u8] = b"p sp 4 6\n\
+const LINE: &[Part] = &[Part::Text(
+    "p sp 4 6\n\
 a 1 2 60\n\
 a 2 1 60\n\
 a 2 3 60\n\
 a 3 2 60\n\
 a 3 4 60\n\
-a 4 3 60\n";
+a 4 3 60\n",
+)];
 
 /// The defaults, and one vehicle of two seats at node 1.
-const DEFAULTS: &str = "vehicle 1 2 1 0\n";
+const DEFAULTS: &[Part] = &[Part::Text("vehicle 1 2 1 0\n")];
 
 /// The same with batches of one request.
-const ONE_BY_ONE: &str = "set batch 1\nvehicle 1 2 1 0\n";
+const ONE_BY_ONE: &[Part] = &[Part::Text("set batch 1\nvehicle 1 2 1 0\n")];
 
 /// One request, and a batch of it.
 const FEED: &str = "request 7 2 4 1 600 300\nbatch\n";
 
-/// The log of this feed.
+/// The log of this feed, with batches of one request.
 const LOG: &str = "log 1 feeds 1 desks 1\n\
 f1 request 7 2 4 1 600 300 = waiting\n\
 f1 batch = asked 1\n\
@@ -43,11 +51,12 @@ d1 commit 1 cost 180 seats 7:1:0:0 prices 7:180 pays outcomes 7:confirmed\n\
 f1 end\n\
 d1 end\n";
 
-/// The words of a replay of all three files.
 const REPLAY: [&str; 7] = ["replay", "--map", "m", "--fleet", "f", "--feed", "r"];
 
+const AUDIT: [&str; 7] = ["audit", "--map", "m", "--fleet", "f", "--log", "l"];
+
 /// More bytes than each log here has.
-const ROOM: usize = 400_000;
+const ROOM: usize = 6_000_000;
 
 /// A file: its bytes, the lengths of the pieces in which reads give them, of which the last one
 /// holds on, and the numbers of the reads that fail.
@@ -61,45 +70,36 @@ struct File<'a> {
 impl<'a> File<'a> {
     /// A file that one read gives whole.
     fn whole(bytes: &'a [u8]) -> File<'a> {
-        File::in_pieces(bytes, &[])
-    }
-
-    fn in_pieces(bytes: &'a [u8], pieces: &'a [usize]) -> File<'a> {
         File {
             bytes,
-            pieces,
+            pieces: &[],
             failing: &[],
         }
     }
 }
 
-/// The files of a replay, and how many bytes its sink takes before it fails.
+/// The files of a run under the names `m`, `f`, `r`, `d` and `l`, and how many bytes its sink takes before it fails.
 #[derive(Clone, Copy)]
 struct Setup<'a> {
     map: File<'a>,
     fleet: File<'a>,
     feed: File<'a>,
+    drivers: File<'a>,
+    log: File<'a>,
     room: usize,
 }
 
 impl<'a> Setup<'a> {
     /// Files that are read whole, and a sink that takes all.
-    fn whole(map: &'a [u8], fleet: &'a [u8], feed: &'a [u8]) -> Setup<'a> {
-        Setup::in_pieces(map, fleet, feed, &[])
-    }
-
-    fn in_pieces(map: &'a [u8], fleet: &'a [u8], feed: &'a [u8], pieces: &'a [usize]) -> Setup<'a> {
+    fn whole(map: &'a [u8], fleet: &'a [u8], feed: &'a [u8], log: &'a [u8]) -> Setup<'a> {
         Setup {
-            map: File::in_pieces(map, pieces),
-            fleet: File::in_pieces(fleet, pieces),
-            feed: File::in_pieces(feed, pieces),
+            map: File::whole(map),
+            fleet: File::whole(fleet),
+            feed: File::whole(feed),
+            drivers: File::whole(b""),
+            log: File::whole(log),
             room: ROOM,
         }
-    }
-
-    /// One request over the road of four nodes.
-    fn plain() -> Setup<'a> {
-        Setup::whole(MAP, ONE_BY_ONE.as_bytes(), FEED.as_bytes())
     }
 }
 
@@ -111,58 +111,58 @@ struct Answer {
     faults: u64,
 }
 
-// What a replay answers.
-fn replayed<R: Abort + Threads + Sync + AllocGlobal>(
-    rt: &R,
-    setup: Setup<'_>,
-) -> Result<Answer, NoMemory> {
-    answer_to(rt, &REPLAY, setup)
+impl Answer {
+    fn text(&self) -> &str {
+        str::from_utf8(self.written.as_slice()).unwrap_or("(no text)")
+    }
 }
 
 // What a run answers to these words.
-fn answer_to<R: Abort + Threads + Sync + AllocGlobal>(
+fn answer_to<R: Abort + Threads + Wait + Sync + AllocGlobal>(
     rt: &R,
     texts: &[&str],
     setup: Setup<'_>,
 ) -> Result<Answer, NoMemory> {
-    let Setup {
-        map,
-        fleet,
-        feed,
-        room,
-    } = setup;
-    assert!(rt; map.pieces.iter().all(|piece| *piece > 0));
-    assert!(rt; fleet.pieces.iter().all(|piece| *piece > 0));
-    assert!(rt; feed.pieces.iter().all(|piece| *piece > 0));
+    answer_with(rt, texts, setup, &OpenGate)
+}
+
+// What a run answers to these words, with a gate.
+fn answer_with<R: Abort + Threads + Wait + Sync + AllocGlobal, G: Gate>(
+    rt: &R,
+    texts: &[&str],
+    setup: Setup<'_>,
+    gate: &G,
+) -> Result<Answer, NoMemory> {
     let files = [
-        MemFile {
-            name: "m",
-            bytes: map.bytes,
-            pieces: map.pieces,
-            failing: map.failing,
-        },
-        MemFile {
-            name: "f",
-            bytes: fleet.bytes,
-            pieces: fleet.pieces,
-            failing: fleet.failing,
-        },
-        MemFile {
-            name: "r",
-            bytes: feed.bytes,
-            pieces: feed.pieces,
-            failing: feed.failing,
-        },
+        file_of(rt, "m", setup.map),
+        file_of(rt, "f", setup.fleet),
+        file_of(rt, "r", setup.feed),
+        file_of(rt, "d", setup.drivers),
+        file_of(rt, "l", setup.log),
     ];
-    answer_over(rt, texts, &files, room)
+    answer_over(rt, texts, &files, setup.room, gate)
+}
+
+fn file_of<'a>(rt: &impl Abort, name: &'a str, file: File<'a>) -> MemFile<'a>
+    ensures name { result.name.now ≡ name.now }
+    ensures pieces { ArePieces result.pieces.now }
+{
+    assert!(rt; file.pieces.iter().all(|piece| *piece > 0));
+    MemFile {
+        name,
+        bytes: file.bytes,
+        pieces: file.pieces,
+        failing: file.failing,
+    }
 }
 
 // What a run over these files answers.
-fn answer_over<'a, R: Threads + Sync + AllocGlobal>(
+fn answer_over<'a, R: Threads + Wait + Sync + AllocGlobal, G: Gate>(
     rt: &R,
     texts: &[&str],
     files: &'a [MemFile<'a>],
     room: usize,
+    gate: &G,
 ) -> Result<Answer, NoMemory>
     requires names { HaveDistinctNames files.now }
     requires pieces { HavePieces files.now }
@@ -171,7 +171,7 @@ fn answer_over<'a, R: Threads + Sync + AllocGlobal>(
     let words = words_of(alloc, texts)?;
     let mut shelf = MemShelf::new(alloc, files, &[]);
     let mut out = MemSink::new(alloc, room, &[], &[])?;
-    let status = run(rt, alloc, words.as_slice(), &mut shelf, &mut out, &OpenGate);
+    let status = run(rt, alloc, words.as_slice(), &mut shelf, &mut out, gate);
     Ok(Answer {
         status,
         written: out.written().to_vec(alloc)?,

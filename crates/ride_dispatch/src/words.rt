@@ -1,57 +1,115 @@
 //! The words after the program's name.
-ghost use Rattle.std.specs.Prelude.{◌≡◌, ◌<◌, length, map, string_bytes, Err, IfOk, OnErr};
-ghost use Rattle.ride_dispatch.specs.Words.{is_word, are_replay, map_name, fleet_name, feed_name, word_at};
+ghost use Rattle.std.specs.Prelude.{◌≡◌, ◌<◌, bytes_eq, length, map, string_bytes, IfOk};
+ghost use Rattle.ride_dispatch.specs.Words.{audit_wish, first_word, replay_wish, serve_wish, wish_of, IsInRange, IsWishOf};
 
-use crate::stop::Stop;
+mod commands;
+mod values;
 
-/// The names of a replay's map, fleet file and feed.
+use commands::{audit_command, replay_command, serve_command};
+use std::alloc::Global;
+use values::{number, read_by, text};
+
+/// What the words ask for, with a variant for each first word.
 #[derive(Drop)]
-pub struct Names {
-    pub map: String,
-    pub fleet: String,
-    pub feed: String,
+pub enum Wish {
+    Replay {
+        map: String,
+        fleet: String,
+        feed: String,
+    },
+    Audit {
+        map: String,
+        fleet: String,
+        log: String,
+    },
+    Serve {
+        map: String,
+        fleet: String,
+        riders: String,
+        drivers: String,
+        workers: u32,
+        desks: u8,
+    },
 }
 
-impl Names {
-    /// The names that the words of a replay give.
-    pub fn of(words: &[String]) -> Result<Names, Stop>
-        requires { length words.now ≡ 7 }
-        ensures map { IfOk result (λ names. string_bytes names.map ≡ map_name (map string_bytes words.now)) }
-        ensures fleet { IfOk result (λ names. string_bytes names.fleet ≡ fleet_name (map string_bytes words.now)) }
-        ensures feed { IfOk result (λ names. string_bytes names.feed ≡ feed_name (map string_bytes words.now)) }
-        ensures stopped { OnErr result (result ≡ Err Stop.NoMemory) }
-    {
-        let map = word(words, 2)?;
-        let fleet = word(words, 4)?;
-        let feed = word(words, 6)?;
-        Ok(Names { map, fleet, feed })
+/// Why the words ask for nothing.
+#[derive(Clone, Copy, Debug, PartialEq, Eq)]
+pub enum WordsError {
+    /// They are not in order.
+    Refused,
+    NoMemory,
+}
+
+/// What the words ask for: the first says what, and the others are its options, in any order.
+pub fn read_words(alloc: Global, words: &[String]) -> Result<Wish, WordsError>
+    ensures wish { IsWishOf (wish_of (map string_bytes words.now)) result }
+    ensures in_range { IfOk result IsInRange }
+{
+    if words.is_empty() {
+        return Err(WordsError::Refused);
     }
+    if begins(words, "replay") {
+        return replay_words(alloc, words);
+    }
+    if begins(words, "audit") {
+        return audit_words(alloc, words);
+    }
+    if begins(words, "serve") {
+        return serve_words(alloc, words);
+    }
+    Err(WordsError::Refused)
 }
 
-// A copy of the word at a place.
-fn word(words: &[String], place: usize) -> Result<String, Stop>
-    requires { place < length words.now }
-    ensures copy { IfOk result (λ copy. string_bytes copy ≡ word_at (map string_bytes words.now) place) }
-    ensures stopped { OnErr result (result ≡ Err Stop.NoMemory) }
+// Whether this is the first word.
+fn begins(words: &[String], word: &str) -> bool
+    requires { 0 < length words.now }
+    ensures { result ≡ bytes_eq (first_word (map string_bytes words.now)) word.now }
 {
-    words[place].clone().map_err(|_| Stop::NoMemory)
+    words[0].as_str() == word
 }
 
-/// Whether the words are `replay --map NAME --fleet NAME --feed NAME`.
-pub fn is_replay(words: &[String]) -> bool
-    ensures { result ≡ are_replay (map string_bytes words.now) }
+// The options of a replay.
+fn replay_words(alloc: Global, words: &[String]) -> Result<Wish, WordsError>
+    ensures wish { IsWishOf (replay_wish (map string_bytes words.now)) result }
+    ensures in_range { IfOk result IsInRange }
 {
-    words.len() == 7
-        && has_word(words, 0, "replay")
-        && has_word(words, 1, "--map")
-        && has_word(words, 3, "--fleet")
-        && has_word(words, 5, "--feed")
+    let given = read_by(replay_command(alloc)?, words)?;
+    let map = text(alloc, &given, "map")?;
+    let fleet = text(alloc, &given, "fleet")?;
+    let feed = text(alloc, &given, "feed")?;
+    Ok(Wish::Replay { map, fleet, feed })
 }
 
-// Whether the word at a place is this one.
-fn has_word(words: &[String], place: usize, word: &str) -> bool
-    requires { place < length words.now }
-    ensures { result ≡ is_word (map string_bytes words.now) place word.now }
+// The options of an audit.
+fn audit_words(alloc: Global, words: &[String]) -> Result<Wish, WordsError>
+    ensures wish { IsWishOf (audit_wish (map string_bytes words.now)) result }
+    ensures in_range { IfOk result IsInRange }
 {
-    words[place].as_str() == word
+    let given = read_by(audit_command(alloc)?, words)?;
+    let map = text(alloc, &given, "map")?;
+    let fleet = text(alloc, &given, "fleet")?;
+    let log = text(alloc, &given, "log")?;
+    Ok(Wish::Audit { map, fleet, log })
+}
+
+// The options of a service.
+fn serve_words(alloc: Global, words: &[String]) -> Result<Wish, WordsError>
+    ensures wish { IsWishOf (serve_wish (map string_bytes words.now)) result }
+    ensures in_range { IfOk result IsInRange }
+{
+    let given = read_by(serve_command(alloc)?, words)?;
+    let map = text(alloc, &given, "map")?;
+    let fleet = text(alloc, &given, "fleet")?;
+    let riders = text(alloc, &given, "riders")?;
+    let drivers = text(alloc, &given, "drivers")?;
+    let workers = number(&given, "workers", 1, 16)? as u32;
+    let desks = number(&given, "desks", 1, 2)? as u8;
+    Ok(Wish::Serve {
+        map,
+        fleet,
+        riders,
+        drivers,
+        workers,
+        desks,
+    })
 }

@@ -6,6 +6,15 @@ pub mod Answering
 pub mod FeedRuns
 pub mod Ends
 pub mod Replays
-pub mod OneVehicle
 pub mod Begun
-pub mod Stops
+pub mod NothingLeft
+pub mod MadeEntries
+pub mod FeedEnds
+pub mod BatchRuns
+pub mod Scribing
+pub mod FeedParts
+pub mod DeskParts
+pub mod Sessions
+pub mod StageLemmas
+pub mod ScribeRuns
+pub mod Served

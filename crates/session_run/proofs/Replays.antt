@@ -26,8 +26,8 @@ use Rattle.command_lines.specs.Limits.{AreFirst, IsTooLong, IsWithinLimits, ende
 use Rattle.history_laws.specs.Start.{IsStart}
 use Rattle.history_laws.proofs.KeptHistory.{keeps_promises}
 use Rattle.board_core.specs.Recorded.{Recorded, state_of, end_entry}
-use Rattle.session_run.specs.declared.replaying.Stop.{Stop}
-use Rattle.session_run.specs.declared.replaying.Stop.TheVariants.{NoMemory, OfFeed}
+use Rattle.session_run.specs.declared.stops.Stop.{Stop}
+use Rattle.session_run.specs.declared.stops.Stop.TheVariants.{NoMemory, OfFeed}
 use Rattle.session_run.specs.Logged.{IsLogged}
 use Rattle.session_run.specs.Page.{LogState, HasLogged}
 use Rattle.session_run.specs.Reading.{AreFirstOf, HasEnded, ending_of, is_source_failed, is_too_long}

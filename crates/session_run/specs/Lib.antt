@@ -4,3 +4,8 @@ pub mod Logged
 pub mod Page
 pub mod Running
 pub mod Reading
+pub mod Loops
+pub mod Serving
+pub mod Making
+pub mod Actors
+pub mod Stages

@@ -11,8 +11,8 @@ use Rattle.command_lines.specs.Commands.{commands_of}
 use Rattle.command_lines.specs.Feeds.{IsStopped, IsWhole}
 use Rattle.command_lines.specs.Limits.{AreFirst}
 use Rattle.board_core.specs.Recorded.{Recorded}
-use Rattle.session_run.specs.declared.replaying.Stop.{Stop}
-use Rattle.session_run.specs.declared.replaying.Stop.TheVariants.{NoMemory, OfFeed}
+use Rattle.session_run.specs.declared.stops.Stop.{Stop}
+use Rattle.session_run.specs.declared.stops.Stop.TheVariants.{NoMemory, OfFeed}
 use Rattle.session_run.specs.Page.{LogState, HasLogged}
 use Rattle.session_run.specs.Running.{IsSession, IsRunning}
 
@@ -44,7 +44,11 @@ abbrev pub IsTold : Option (List ℕ) → Option (List ℕ) → ℕ → ℕ → 
 IsTold earlier now faults_before faults_now log board =
     HasLogged earlier now faults_before faults_now log (text_of board.start.settings.log 1 1 board.history)
 
--- whether a feed was stopped by its source, or by its length
+-- whether a feed was stopped for want of memory, by its source, or by its length
+abbrev pub is_no_memory : Option Stop → Bool
+is_no_memory (Some NoMemory) = true
+is_no_memory _ = false
+
 abbrev pub is_source_failed : Option Stop → Bool
 is_source_failed (Some (OfFeed SourceFailed)) = true
 is_source_failed _ = false

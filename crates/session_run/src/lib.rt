@@ -1,16 +1,16 @@
-//! A session of one feed: each command is given to the board, after each accepted ask a batch is opened, priced, seated and
-//! committed at once, and the trip log is written as it comes.
+//! Sessions, whose trip log is written as it comes. In a replay of one feed a batch is opened, priced, seated and committed at
+//! once after each accepted ask; in a session of two feeds riders and drivers are answered while desks price.
 #![tactic(auto)]
 
 mod answers;
 mod batches;
+mod live;
 mod logging;
 mod page;
 mod replaying;
 mod session;
+mod stops;
 mod tools;
 
+pub use live::{Scribed, desk_loop, feed_loop, scribe_loop, serve};
 pub use replaying::replay;
-
-#[cfg(test)]
-mod tests;

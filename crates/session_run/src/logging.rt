@@ -1,5 +1,5 @@
 //! The log of a session.
-ghost use Rattle.std.specs.Prelude.{◌≡◌, ℕ, ◌≤◌, ◌++◌, [], false, All, IfOk, List, Option};
+ghost use Rattle.std.specs.Prelude.{◌≡◌, ℕ, ◌≤◌, ◌++◌, [], false, true, All, IfOk, List, Option};
 ghost use Rattle.ride_model.specs.Text.{HasLine, IsOneOrTwo, entry_line, entry_lines, head_line};
 ghost use Rattle.session_run.specs.Page.{HasLogged};
 
@@ -42,14 +42,24 @@ impl Logger {
         self.failed
     }
 
-    /// Writes the head.
-    pub(crate) fn put_head<K: Sink>(&mut self, out: &mut K, log: u8)
+    /// Writes the head of a log of so many feeds and desks.
+    pub(crate) fn put_head<K: Sink>(&mut self, out: &mut K, log: u8, feeds: u8, desks: u8)
         requires log { IsOneOrTwo log }
+        requires feeds { IsOneOrTwo feeds }
+        requires desks { IsOneOrTwo desks }
         requires fresh { self.old ≡ record { page = []; failed = false } }
-        ensures { HasLogged (K.written out.old) (K.written out.new) (K.faults out.old) (K.faults out.new) self.new
-            (head_line log 1 1) }
+        ensures logged { HasLogged (K.written out.old) (K.written out.new) (K.faults out.old) (K.faults out.new) self.new
+            (head_line log feeds desks) }
+        ensures bare { self.new.page ≡ [] }
     {
-        self.failed = print_head(log, 1, 1, out).is_err();
+        self.failed = print_head(log, feeds, desks, out).is_err();
+    }
+
+    /// Notes that the sink failed at what others wrote to it.
+    pub(crate) fn fail(&mut self)
+        ensures { self.new ≡ record self.old { failed = true } }
+    {
+        self.failed = true;
     }
 
     /// Adds the lines of entries.

@@ -11,25 +11,19 @@ ghost use Rattle.ride_ports.specs.Bytes.{Reads};
 ghost use Rattle.ride_ports.specs.Count.{Rose};
 ghost use Rattle.command_lines.specs.Feeds.{HasGiven};
 ghost use Rattle.session_run.specs.Logged.{IsLogged};
-ghost use Rattle.session_run.specs.Reading.{HasRun, IsTold, ending_of, is_source_failed, is_too_long};
+ghost use Rattle.session_run.specs.Reading.{HasRun, IsTold, is_source_failed};
 ghost use Rattle.session_run.specs.Replay.{IsReadWhole, IsReplay};
 ghost use Rattle.session_run.specs.Running.{IsRunning};
 
 use crate::session::Session;
-use crate::tools::workers_at_hand;
-use command_lines::{FeedReader, FeedStop};
-use ride_model::{Ending, Fleet, NoMemory, Settings};
+use crate::stops::{Stop, ending_of, is_source_failed, is_too_long};
+use command_lines::FeedReader;
+use pricing_workers::workers_at_hand;
+use ride_model::{Fleet, NoMemory, Settings};
 use ride_ports::{Ran, Sink, Source};
 use road_times::Roads;
 use std::alloc::Global;
 use std::thread::Threads;
-
-/// What stops a feed before its end.
-#[derive(Clone, Copy, Debug)]
-pub(crate) enum Stop {
-    NoMemory,
-    OfFeed(FeedStop),
-}
 
 /// Replays a feed over a fleet, and writes its trip log: after each accepted ask a batch is opened, priced, seated and
 /// committed at once.
@@ -81,30 +75,6 @@ pub fn replay<R: Threads + Sync, S: Source, K: Sink>(
         source_failed: is_source_failed(stop),
         too_long: is_too_long(stop),
     }
-}
-
-// How a feed ends that was stopped, or was not.
-fn ending_of(stop: Option<Stop>) -> Ending
-    ensures { result ≡ ending_of stop }
-{
-    match stop {
-        Some(_) => Ending::Cut,
-        None => Ending::Whole,
-    }
-}
-
-// Whether a feed was stopped by its source.
-fn is_source_failed(stop: Option<Stop>) -> bool
-    ensures { result ≡ is_source_failed stop }
-{
-    matches!(stop, Some(Stop::OfFeed(FeedStop::SourceFailed)))
-}
-
-// Whether a feed was stopped by its length.
-fn is_too_long(stop: Option<Stop>) -> bool
-    ensures { result ≡ is_too_long stop }
-{
-    matches!(stop, Some(Stop::OfFeed(FeedStop::TooLong)))
 }
 
 // A session at its start, and the reader of its feed.

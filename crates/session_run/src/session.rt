@@ -123,7 +123,7 @@ impl<'r> Session<'r> {
     {
         // This call tells that the version is 1 or 2.
         let _history = self.board.entries();
-        self.log.put_head(out, self.version);
+        self.log.put_head(out, self.version, 1, 1);
     }
 
     /// Answers a command and runs the batch after an accepted ask, and logs what became of it.

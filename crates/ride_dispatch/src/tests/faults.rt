@@ -1,192 +1,478 @@
-//! Words that are not in order, files that are missing, and reads and writes that fail.
-use super::{Answer, FEED, File, LOG, MAP, ONE_BY_ONE, Setup, answer_to, replayed};
+//! Words that are not in order, files that are missing, reads and writes that fail, and files beyond their limits.
+use super::texts::{Part, text_of};
+use super::{AUDIT, FEED, File, LINE, LOG, ONE_BY_ONE, REPLAY, ROOM, Setup, answer_to};
 use std::process::Abort;
+use std::sync::Wait;
 use std::test::Fail;
+use std::thread::Threads;
 
-#[test]
-fn a_replay_in_pieces_of_any_length(rt: HostRuntime) -> Result<(), Fail> {
-    for pieces in [&[1][..], &[2], &[7], &[]] {
-        let setup = Setup::in_pieces(MAP, ONE_BY_ONE.as_bytes(), FEED.as_bytes(), pieces);
-        let answer = replayed(&rt, setup)?;
-        assert_eq!(rt; answer.status, 0);
-        assert_eq!(rt; answer.written.as_slice(), LOG.as_bytes());
-    }
-    Ok(())
+/// The reads of a file that fail, numbered from 1, and the lengths of its pieces.
+struct Reads {
+    pieces: &'static [usize],
+    failing: &'static [u64],
 }
 
-#[test]
-fn words_that_are_not_in_order_are_refused(rt: HostRuntime) -> Result<(), Fail> {
-    for words in [
-        &[][..],
-        &["plan"],
-        &["replay", "--map", "m", "--fleet", "f"],
-    ] {
-        let answer = answer_to(&rt, words, Setup::plain())?;
-        assert_eq!(rt; answer.status, 2);
-        assert_eq!(rt; answer.written.as_slice(), b"words refused\n".as_slice());
-        let short = Setup {
-            room: 7,
-            ..Setup::plain()
-        };
-        let answer = answer_to(&rt, words, short)?;
-        assert_eq!(rt; answer.status, 2);
-        assert_eq!(rt; answer.written.as_slice(), b"words r".as_slice());
-    }
-    Ok(())
+const WHOLE: Reads = Reads {
+    pieces: &[],
+    failing: &[],
+};
+
+/// A replay of one request whose files, reads or sink are other ones, and how it ends.
+struct Fault {
+    shows: &'static str,
+    words: &'static [&'static str],
+    map: &'static [Part],
+    reads_of_map: Reads,
+    fleet: &'static [Part],
+    feed: &'static [Part],
+    reads_of_feed: Reads,
+    room: usize,
+    status: u8,
+    written: &'static str,
+    faults: u64,
 }
 
-// Asserts that a run met one fault of its shelf and wrote nothing.
-fn expect_fault(rt: &impl Abort, answer: &Answer) {
-    assert_eq!(rt; answer.status, 5);
-    assert!(rt; answer.written.is_empty());
-    assert_eq!(rt; answer.faults, 1);
-}
-
-#[test]
-fn a_file_that_is_missing_is_a_fault_of_the_shelf(rt: HostRuntime) -> Result<(), Fail> {
-    for words in [
-        ["replay", "--map", "x", "--fleet", "f", "--feed", "r"],
-        ["replay", "--map", "m", "--fleet", "x", "--feed", "r"],
-        ["replay", "--map", "m", "--fleet", "f", "--feed", "x"],
-    ] {
-        expect_fault(&rt, &answer_to(&rt, &words, Setup::plain())?);
-    }
-    Ok(())
-}
-
-#[test]
-fn a_read_of_a_map_that_fails_is_a_fault_of_the_shelf(rt: HostRuntime) -> Result<(), Fail> {
-    for read in 1..=9 {
-        let setup = Setup {
-            map: File {
-                failing: &[read],
-                ..File::in_pieces(MAP, &[7])
-            },
-            ..Setup::plain()
-        };
-        expect_fault(&rt, &replayed(&rt, setup)?);
-    }
-    Ok(())
-}
-
-#[test]
-fn a_faulty_line_that_was_read_whole_comes_before_a_fault(rt: HostRuntime) -> Result<(), Fail> {
-    let mut map = [0; MAP.len()];
-    map.copy_from_slice(MAP);
-    map[54..].copy_from_slice(b"a 4 5 60\n");
-    for (pieces, read) in [(&[][..], 2), (&[7], 10)] {
-        let setup = Setup {
-            map: File {
-                failing: &[read],
-                ..File::in_pieces(&map, pieces)
-            },
-            ..Setup::plain()
-        };
-        let answer = replayed(&rt, setup)?;
-        assert_eq!(rt; answer.status, 3);
-        assert_eq!(rt;
-            answer.written.as_slice(),
-            b"map refused 4 line 7\n".as_slice()
-        );
-    }
-    Ok(())
-}
-
-#[test]
-fn a_read_of_a_fleet_file_that_fails_is_a_fault_of_the_shelf(rt: HostRuntime) -> Result<(), Fail> {
-    for read in 1..=4 {
-        let setup = Setup {
-            fleet: File {
-                failing: &[read],
-                ..File::in_pieces(ONE_BY_ONE.as_bytes(), &[7])
-            },
-            ..Setup::plain()
-        };
-        expect_fault(&rt, &replayed(&rt, setup)?);
-    }
-    Ok(())
-}
-
-#[test]
-fn a_feed_whose_read_fails_is_cut(rt: HostRuntime) -> Result<(), Fail> {
-    for (read, log) in [
-        (1, "log 1 feeds 1 desks 1\nf1 cut\nd1 end\n"),
-        (
-            2,
-            "log 1 feeds 1 desks 1\n\
+static FAULTS: [Fault; 19] = [
+    Fault {
+        shows: "words that are not in order",
+        words: &[],
+        map: LINE,
+        reads_of_map: WHOLE,
+        fleet: ONE_BY_ONE,
+        feed: &[Part::Text(FEED)],
+        reads_of_feed: WHOLE,
+        room: ROOM,
+        status: 2,
+        written: "words refused\n",
+        faults: 0,
+    },
+    Fault {
+        shows: "words that are not in order, to a full sink",
+        words: &[],
+        map: LINE,
+        reads_of_map: WHOLE,
+        fleet: ONE_BY_ONE,
+        feed: &[Part::Text(FEED)],
+        reads_of_feed: WHOLE,
+        room: 7,
+        status: 2,
+        written: "words r",
+        faults: 0,
+    },
+    Fault {
+        shows: "words that are not in order",
+        words: &["plan"],
+        map: LINE,
+        reads_of_map: WHOLE,
+        fleet: ONE_BY_ONE,
+        feed: &[Part::Text(FEED)],
+        reads_of_feed: WHOLE,
+        room: ROOM,
+        status: 2,
+        written: "words refused\n",
+        faults: 0,
+    },
+    Fault {
+        shows: "words that are not in order, to a full sink",
+        words: &["plan"],
+        map: LINE,
+        reads_of_map: WHOLE,
+        fleet: ONE_BY_ONE,
+        feed: &[Part::Text(FEED)],
+        reads_of_feed: WHOLE,
+        room: 7,
+        status: 2,
+        written: "words r",
+        faults: 0,
+    },
+    Fault {
+        shows: "words that are not in order",
+        words: &["replay", "--map", "m", "--fleet", "f"],
+        map: LINE,
+        reads_of_map: WHOLE,
+        fleet: ONE_BY_ONE,
+        feed: &[Part::Text(FEED)],
+        reads_of_feed: WHOLE,
+        room: ROOM,
+        status: 2,
+        written: "words refused\n",
+        faults: 0,
+    },
+    Fault {
+        shows: "words that are not in order, to a full sink",
+        words: &["replay", "--map", "m", "--fleet", "f"],
+        map: LINE,
+        reads_of_map: WHOLE,
+        fleet: ONE_BY_ONE,
+        feed: &[Part::Text(FEED)],
+        reads_of_feed: WHOLE,
+        room: 7,
+        status: 2,
+        written: "words r",
+        faults: 0,
+    },
+    Fault {
+        shows: "a file that is missing",
+        words: &["replay", "--map", "x", "--fleet", "f", "--feed", "r"],
+        map: LINE,
+        reads_of_map: WHOLE,
+        fleet: ONE_BY_ONE,
+        feed: &[Part::Text(FEED)],
+        reads_of_feed: WHOLE,
+        room: ROOM,
+        status: 5,
+        written: "",
+        faults: 1,
+    },
+    Fault {
+        shows: "a file that is missing",
+        words: &["replay", "--map", "m", "--fleet", "x", "--feed", "r"],
+        map: LINE,
+        reads_of_map: WHOLE,
+        fleet: ONE_BY_ONE,
+        feed: &[Part::Text(FEED)],
+        reads_of_feed: WHOLE,
+        room: ROOM,
+        status: 5,
+        written: "",
+        faults: 1,
+    },
+    Fault {
+        shows: "a file that is missing",
+        words: &["replay", "--map", "m", "--fleet", "f", "--feed", "x"],
+        map: LINE,
+        reads_of_map: WHOLE,
+        fleet: ONE_BY_ONE,
+        feed: &[Part::Text(FEED)],
+        reads_of_feed: WHOLE,
+        room: ROOM,
+        status: 5,
+        written: "",
+        faults: 1,
+    },
+    Fault {
+        shows: "a faulty line of a map that was read whole comes before a fault",
+        words: &REPLAY,
+        map: &[Part::Text(
+            "p sp 4 6\n\
+a 1 2 60\n\
+a 2 1 60\n\
+a 2 3 60\n\
+a 3 2 60\n\
+a 3 4 60\n\
+a 4 5 60\n",
+        )],
+        reads_of_map: Reads {
+            pieces: &[],
+            failing: &[2],
+        },
+        fleet: ONE_BY_ONE,
+        feed: &[Part::Text(FEED)],
+        reads_of_feed: WHOLE,
+        room: ROOM,
+        status: 3,
+        written: "map refused 4 line 7\n",
+        faults: 0,
+    },
+    Fault {
+        shows: "a faulty line of a map in pieces comes before a fault",
+        words: &REPLAY,
+        map: &[Part::Text(
+            "p sp 4 6\n\
+a 1 2 60\n\
+a 2 1 60\n\
+a 2 3 60\n\
+a 3 2 60\n\
+a 3 4 60\n\
+a 4 5 60\n",
+        )],
+        reads_of_map: Reads {
+            pieces: &[7],
+            failing: &[10],
+        },
+        fleet: ONE_BY_ONE,
+        feed: &[Part::Text(FEED)],
+        reads_of_feed: WHOLE,
+        room: ROOM,
+        status: 3,
+        written: "map refused 4 line 7\n",
+        faults: 0,
+    },
+    Fault {
+        shows: "a feed whose first read fails is cut",
+        words: &REPLAY,
+        map: LINE,
+        reads_of_map: WHOLE,
+        fleet: ONE_BY_ONE,
+        feed: &[Part::Text(FEED)],
+        reads_of_feed: Reads {
+            pieces: &[24],
+            failing: &[1],
+        },
+        room: ROOM,
+        status: 5,
+        written: "log 1 feeds 1 desks 1\n\
+f1 cut\n\
+d1 end\n",
+        faults: 1,
+    },
+    Fault {
+        shows: "a feed whose second read fails is cut behind its first line",
+        words: &REPLAY,
+        map: LINE,
+        reads_of_map: WHOLE,
+        fleet: ONE_BY_ONE,
+        feed: &[Part::Text(FEED)],
+        reads_of_feed: Reads {
+            pieces: &[24],
+            failing: &[2],
+        },
+        room: ROOM,
+        status: 5,
+        written: "log 1 feeds 1 desks 1\n\
 f1 request 7 2 4 1 600 300 = waiting\n\
 f1 cut\n\
 d1 end\n",
-        ),
-    ] {
-        let setup = Setup {
-            feed: File {
-                failing: &[read],
-                ..File::in_pieces(FEED.as_bytes(), &[24])
-            },
-            ..Setup::plain()
-        };
-        let answer = replayed(&rt, setup)?;
-        assert_eq!(rt; answer.status, 5);
-        assert_eq!(rt; answer.written.as_slice(), log.as_bytes());
-        assert_eq!(rt; answer.faults, 1);
-    }
-    Ok(())
-}
-
-#[test]
-fn a_sink_that_fails_keeps_the_first_bytes(rt: HostRuntime) -> Result<(), Fail> {
-    for room in 0..LOG.len() {
-        let setup = Setup {
-            room,
-            ..Setup::plain()
-        };
-        let answer = replayed(&rt, setup)?;
-        assert_eq!(rt; answer.status, 6);
-        assert_eq!(rt; answer.written.as_slice(), &LOG.as_bytes()[..room]);
-        assert_eq!(rt; answer.faults, 0);
-    }
-    let setup = Setup {
-        room: LOG.len(),
-        ..Setup::plain()
-    };
-    assert_eq!(rt; replayed(&rt, setup)?.status, 0);
-    Ok(())
-}
-
-#[test]
-fn a_fault_of_the_sink_comes_before_one_of_the_feed(rt: HostRuntime) -> Result<(), Fail> {
-    let setup = Setup {
-        feed: File {
+        faults: 1,
+    },
+    Fault {
+        shows: "a fault of the sink comes before one of the feed",
+        words: &REPLAY,
+        map: LINE,
+        reads_of_map: WHOLE,
+        fleet: ONE_BY_ONE,
+        feed: &[Part::Text(FEED)],
+        reads_of_feed: Reads {
+            pieces: &[24],
             failing: &[2],
-            ..File::in_pieces(FEED.as_bytes(), &[24])
         },
         room: 10,
-        ..Setup::plain()
+        status: 6,
+        written: "log 1 feed",
+        faults: 1,
+    },
+    Fault {
+        shows: "a refusal of a map stands where the sink fails at its line",
+        words: &REPLAY,
+        map: &[],
+        reads_of_map: WHOLE,
+        fleet: ONE_BY_ONE,
+        feed: &[Part::Text(FEED)],
+        reads_of_feed: WHOLE,
+        room: 5,
+        status: 3,
+        written: "map r",
+        faults: 0,
+    },
+    Fault {
+        shows: "a refusal of a fleet file stands where the sink fails at its line",
+        words: &REPLAY,
+        map: LINE,
+        reads_of_map: WHOLE,
+        fleet: &[Part::Text("vehicles")],
+        feed: &[Part::Text(FEED)],
+        reads_of_feed: WHOLE,
+        room: 5,
+        status: 4,
+        written: "fleet",
+        faults: 0,
+    },
+    Fault {
+        shows: "a feed of too many lines is cut",
+        words: &REPLAY,
+        map: LINE,
+        reads_of_map: WHOLE,
+        fleet: ONE_BY_ONE,
+        feed: &[Part::Each(1, 1_000_001, "\n")],
+        reads_of_feed: WHOLE,
+        room: ROOM,
+        status: 8,
+        written: "log 1 feeds 1 desks 1\n\
+f1 cut\n\
+d1 end\n",
+        faults: 0,
+    },
+    Fault {
+        shows: "a feed of too many bytes is cut",
+        words: &REPLAY,
+        map: LINE,
+        reads_of_map: WHOLE,
+        fleet: ONE_BY_ONE,
+        feed: &[Part::Each(
+            1,
+            671_089,
+            "#--------------------------------------------------------------------------------------------------\n",
+        )],
+        reads_of_feed: WHOLE,
+        room: ROOM,
+        status: 8,
+        written: "log 1 feeds 1 desks 1\n\
+f1 cut\n\
+d1 end\n",
+        faults: 0,
+    },
+    Fault {
+        shows: "a fleet file of more than a mebibyte",
+        words: &REPLAY,
+        map: LINE,
+        reads_of_map: WHOLE,
+        fleet: &[Part::Each(1, 1_048_577, "\n")],
+        feed: &[Part::Text(FEED)],
+        reads_of_feed: WHOLE,
+        room: ROOM,
+        status: 8,
+        written: "",
+        faults: 0,
+    },
+];
+
+#[test]
+fn faults_have_their_status_and_text(rt: HostRuntime) -> Result<(), Fail> {
+    for case in FAULTS.as_slice() {
+        expect(&rt, case)?;
+    }
+    Ok(())
+}
+
+fn expect<R: Abort + Threads + Wait + Sync + AllocGlobal>(
+    rt: &R,
+    case: &Fault,
+) -> Result<(), Fail> {
+    let map = text_of(rt.alloc(), case.map)?;
+    let fleet = text_of(rt.alloc(), case.fleet)?;
+    let feed = text_of(rt.alloc(), case.feed)?;
+    let files = Setup {
+        map: File {
+            bytes: map.as_bytes(),
+            pieces: case.reads_of_map.pieces,
+            failing: case.reads_of_map.failing,
+        },
+        fleet: File::whole(fleet.as_bytes()),
+        feed: File {
+            bytes: feed.as_bytes(),
+            pieces: case.reads_of_feed.pieces,
+            failing: case.reads_of_feed.failing,
+        },
+        drivers: File::whole(b""),
+        log: File::whole(b""),
+        room: case.room,
     };
-    let answer = replayed(&rt, setup)?;
-    assert_eq!(rt; answer.status, 6);
-    assert_eq!(rt; answer.written.as_slice(), b"log 1 feed".as_slice());
+    let answer = answer_to(rt, case.words, files)?;
+    assert_eq!(rt; answer.text(), case.written, "{}", case.shows);
+    assert_eq!(rt; answer.status, case.status, "{}", case.shows);
+    assert_eq!(rt; answer.faults, case.faults, "{}", case.shows);
+    Ok(())
+}
+
+/// Which file's read fails.
+#[derive(Clone, Copy)]
+enum Failing {
+    Map,
+    Fleet,
+    Feed,
+    Log,
+}
+
+// The files of one request and its log, one read of one of which fails.
+fn one_failing<'a>(files: Setup<'a>, which: Failing, read: &'a [u64]) -> Setup<'a> {
+    match which {
+        Failing::Map => Setup {
+            map: in_pieces(files.map.bytes, &[7], read),
+            ..files
+        },
+        Failing::Fleet => Setup {
+            fleet: in_pieces(files.fleet.bytes, &[7], read),
+            ..files
+        },
+        Failing::Feed => Setup {
+            feed: in_pieces(files.feed.bytes, &[7], read),
+            ..files
+        },
+        Failing::Log => Setup {
+            log: in_pieces(files.log.bytes, &[7], read),
+            ..files
+        },
+    }
+}
+
+fn in_pieces<'a>(bytes: &'a [u8], pieces: &'a [usize], failing: &'a [u64]) -> File<'a> {
+    File {
+        bytes,
+        pieces,
+        failing,
+    }
+}
+
+#[test]
+fn each_read_fails_in_turn(rt: HostRuntime) -> Result<(), Fail> {
+    let map = text_of(rt.alloc(), LINE)?;
+    let fleet = text_of(rt.alloc(), ONE_BY_ONE)?;
+    let files = Setup::whole(
+        map.as_bytes(),
+        fleet.as_bytes(),
+        FEED.as_bytes(),
+        LOG.as_bytes(),
+    );
+    // A file of n bytes is read n / 7 times, and once more at its end.
+    for (words, which, reads) in [
+        (&REPLAY, Failing::Map, 10),
+        (&REPLAY, Failing::Fleet, 5),
+        (&REPLAY, Failing::Feed, 6),
+        (&AUDIT, Failing::Map, 10),
+        (&AUDIT, Failing::Fleet, 5),
+        (&AUDIT, Failing::Log, 30),
+    ] {
+        for read in 1..=reads {
+            let answer = answer_to(&rt, words, one_failing(files, which, &[read]))?;
+            assert_eq!(rt; (answer.status, answer.faults), (5, 1), "read {read}");
+        }
+        let answer = answer_to(&rt, words, one_failing(files, which, &[reads + 1]))?;
+        assert_eq!(rt; (answer.status, answer.faults), (0, 0));
+    }
     Ok(())
 }
 
 #[test]
-fn a_refusal_stands_where_the_sink_fails_at_its_line(rt: HostRuntime) -> Result<(), Fail> {
-    let setup = Setup {
-        map: File::whole(b""),
-        room: 5,
-        ..Setup::plain()
-    };
-    let answer = replayed(&rt, setup)?;
-    assert_eq!(rt; answer.status, 3);
-    assert_eq!(rt; answer.written.as_slice(), b"map r".as_slice());
-    let setup = Setup {
-        fleet: File::whole(b"vehicles"),
-        room: 5,
-        ..Setup::plain()
-    };
-    let answer = replayed(&rt, setup)?;
-    assert_eq!(rt; answer.status, 4);
-    assert_eq!(rt; answer.written.as_slice(), b"fleet".as_slice());
+fn a_sink_that_fails_has_the_first_bytes(rt: HostRuntime) -> Result<(), Fail> {
+    let map = text_of(rt.alloc(), LINE)?;
+    let fleet = text_of(rt.alloc(), ONE_BY_ONE)?;
+    let files = Setup::whole(
+        map.as_bytes(),
+        fleet.as_bytes(),
+        FEED.as_bytes(),
+        LOG.as_bytes(),
+    );
+    let line = "yes entries 6 confirmed 1 away 0 picked 0 dropped 0 finished yes\n";
+    for (words, text) in [(&REPLAY, LOG), (&AUDIT, line)] {
+        for room in 0..text.len() {
+            let answer = answer_to(&rt, words, Setup { room, ..files })?;
+            assert_eq!(rt; answer.written.as_slice(), &text.as_bytes()[..room]);
+            assert_eq!(rt; (answer.status, answer.faults), (6, 0));
+        }
+        let room = text.len();
+        let answer = answer_to(&rt, words, Setup { room, ..files })?;
+        assert_eq!(rt; answer.text(), text);
+        assert_eq!(rt; answer.status, 0);
+    }
+    Ok(())
+}
+
+#[test]
+fn a_replay_in_pieces_of_any_length(rt: HostRuntime) -> Result<(), Fail> {
+    let map = text_of(rt.alloc(), LINE)?;
+    let fleet = text_of(rt.alloc(), ONE_BY_ONE)?;
+    for pieces in [&[1][..], &[2], &[7], &[]] {
+        let files = Setup {
+            map: in_pieces(map.as_bytes(), pieces, &[]),
+            fleet: in_pieces(fleet.as_bytes(), pieces, &[]),
+            feed: in_pieces(FEED.as_bytes(), pieces, &[]),
+            drivers: File::whole(b""),
+            log: File::whole(b""),
+            room: ROOM,
+        };
+        let answer = answer_to(&rt, &REPLAY, files)?;
+        assert_eq!(rt; answer.text(), LOG);
+        assert_eq!(rt; answer.status, 0);
+    }
     Ok(())
 }

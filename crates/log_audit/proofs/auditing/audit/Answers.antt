@@ -6,9 +6,10 @@ use Rattle.history_laws.specs.Start.{IsStart}
 use Rattle.ride_ports.specs.Bytes.{Reads}
 use Rattle.trip_log.specs.declared.reading.Head.{Head}
 use Rattle.log_audit.specs.Audit.{IsAnswer}
-use Rattle.log_audit.specs.Audited.{HasReadHead, HasReadNoHead, NoneWrong}
+use Rattle.log_audit.specs.Audited.{FailsAfter, HasReadHead, HasReadNoHead}
 use Rattle.log_audit.specs.LogLines.{HasRead}
 use Rattle.log_audit.proofs.AuditSteps.{board-nothing, fault-head, no-head-answer, only-answer, stop-head}
+use Rattle.log_audit.proofs.LineParts.{takes-then}
 use Rattle.log_audit.proofs.auditing.audit.Goals as goal
 
 pub returns-in_err-head-clause-answer : goal.returns-in_err-head-clause-answer
@@ -134,8 +135,8 @@ returns-clause-no_other g c = λ no_memory no_fault.
     (c.further_lines.ensures.answer before read no_memory no_fault))
 
 moved-fault : {left : Option (List ℕ)} (before : Option (List ℕ)) (s t : State) → s ≡ t
-    → (bytes : List ℕ) × Reads before left bytes × NoneWrong s bytes → (bytes : List ℕ) × Reads before left bytes × NoneWrong t bytes
-moved-fault {left} before s t same h = subst (λ (x : State). (bytes : List ℕ) × Reads before left bytes × NoneWrong x bytes) same h
+    → FailsAfter s before left → FailsAfter t before left
+moved-fault {left} before s t same h = subst (λ (x : State). FailsAfter x before left) same h
 
 pub returns-clause-before_fault : goal.returns-clause-before_fault
 returns-clause-before_fault g c = λ fault.
@@ -152,3 +153,6 @@ returns-clause-before_fault g c = λ fault.
 pub returns-clause-other_counts_none : goal.returns-clause-other_counts_none
 returns-clause-other_counts_none g c = λ no_fault.
     c.further_lines.ensures.other_counts_none no_fault ∙ c.in_ok-head.ensures.other_counts_none (λ is. (cc is))
+
+pub returns-clause-taken : goal.returns-clause-taken
+returns-clause-taken g c = takes-then c.in_ok-head.ensures.taken c.further_lines.ensures.taken

@@ -10,10 +10,11 @@ use Rattle.log_audit.specs.LogLines.{HasRead, IsNext}
 use Rattle.std.specs.Prelude.{Ok}
 use Rattle.log_audit.proofs.AuditSteps.{LineJudged, few-entries, log-of, stop-answer, stop-fault}
 use Rattle.log_audit.proofs.Ends.{count-text, ends-unfinished, ends-wrong, ends-yes, one-line-more, whole-text}
+use Rattle.log_audit.proofs.LineParts.{takes-none, takes-then}
 use Rattle.log_audit.proofs.auditing.further_lines.Goals as goal
 
 pub lines-init : goal.lines-init
-lines-init g c = record { auditing = c.requires.auditing; start = refl; read = λ before read. read; count = refl }
+lines-init g c = record { auditing = c.requires.auditing; start = refl; read = λ before read. read; taken = takes-none _; count = refl }
 
 pub next-requires-clause-read : goal.next-requires-clause-read
 next-requires-clause-read g c κs within =
@@ -45,6 +46,18 @@ returns-in_err-next-clause-before_fault g c = λ before read fault.
     c.in_err-next.field-0.0 c.from_residual.result failed.1 failed.2 c.entries.ensures.start good c.lines.invariant.start
     (c.in_err-next.ensures.next before (text_so_far board) (c.lines.invariant.read before read)
     (whole-text board.start board.feeds board.desks board.history (text_so_far board) good)) fault
+
+pub returns-in_err-next-clause-taken : goal.returns-in_err-next-clause-taken
+returns-in_err-next-clause-taken g c = takes-then c.lines.invariant.taken c.in_err-next.ensures.taken
+
+pub returns-in-End-clause-taken : goal.returns-in-End-clause-taken
+returns-in-End-clause-taken g c = takes-then c.lines.invariant.taken c.in_ok-next.ensures.taken
+
+pub returns-in-Some-clause-taken : goal.returns-in-Some-clause-taken
+returns-in-Some-clause-taken g c = takes-then c.lines.invariant.taken c.in_ok-next.ensures.taken
+
+pub returns-in-Unfinished-clause-taken : goal.returns-in-Unfinished-clause-taken
+returns-in-Unfinished-clause-taken g c = takes-then c.lines.invariant.taken c.in_ok-next.ensures.taken
 
 pub judge_line-requires-clause-auditing : goal.judge_line-requires-clause-auditing
 judge_line-requires-clause-auditing g c κs within = c.lines.invariant.auditing
@@ -145,5 +158,9 @@ lines-preserved g c =
           let goes = subst (LineJudged c.lines.auditor c.judge_line.new.auditor now) c.in_default.is
           (c.in_ok-why-in-Line.ensures now that.no_lf that.shown that.over) in
           subst (HasRead before _ c.next.new.self) (sym goes.2) that.read;
+      taken = takes-then c.lines.invariant.taken c.in_ok-next.ensures.taken;
       count = c.in_ok-next.ensures.other_counts_none (λ is. (cc is)) ∙ c.lines.invariant.count;
     }
+
+pub returns-in_err-why-in-Line-clause-taken : goal.returns-in_err-why-in-Line-clause-taken
+returns-in_err-why-in-Line-clause-taken g c = takes-then c.lines.invariant.taken c.in_ok-next.ensures.taken

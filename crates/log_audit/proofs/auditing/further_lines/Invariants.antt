@@ -1,7 +1,7 @@
 use Rattle.std.proofs.Common.{◌≡◌, ℕ, List, Option}
 use Rattle.log_audit.specs.Audited.{text_so_far}
 use Rattle.log_audit.specs.Auditing.{IsAuditing}
-use Rattle.log_audit.specs.LogLines.{HasRead}
+use Rattle.log_audit.specs.LogLines.{HasRead, TakesSome}
 use Rattle.log_audit.proofs.auditing.further_lines.Given as goal
 
 -- the lines so far were right
@@ -11,6 +11,7 @@ invariant-lines g l = record {
   start : l.auditor.board.start ≡ l.initial.auditor.board.start;
   read : (before : Option (List ℕ)) → HasRead before (g.S.Source.left l.initial.log) l.initial.lines (text_so_far l.initial.auditor.board)
       → HasRead before (g.S.Source.left l.log) l.lines (text_so_far l.auditor.board);
+  taken : TakesSome (g.S.Source.left l.initial.log) (g.S.Source.left l.log);
   count : g.S.Source.faults l.log ≡ g.S.Source.faults l.initial.log;
 }
 

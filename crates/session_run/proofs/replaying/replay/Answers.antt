@@ -9,14 +9,14 @@ use Rattle.ride_model.specs.Text.{text_of}
 use Rattle.ride_ports.specs.declared.outcome.Ran.{Ran}
 use Rattle.history_laws.specs.Start.{IsStart}
 use Rattle.board_core.specs.Recorded.{Recorded, state_of, end_entry}
-use Rattle.session_run.specs.declared.replaying.Stop.{Stop}
+use Rattle.session_run.specs.declared.stops.Stop.{Stop}
 use Rattle.command_lines.specs.Feeds.{HasGiven}
 use Rattle.session_run.specs.Page.{SessionState, HasLogged}
 use Rattle.session_run.specs.Reading.{AreFirstOf, HasEnded, ending_of}
 use Rattle.ride_ports.proofs.ByteLemmas.{Reads-none}
 use Rattle.session_run.proofs.Replays.{is-start, is-replay, no-replay, is-logged}
 use Rattle.session_run.proofs.Begun.{rose-where-failed, same-where-sound}
-use Rattle.session_run.proofs.Stops.{nothing-left}
+use Rattle.session_run.proofs.NothingLeft.{nothing-left}
 use Rattle.session_run.proofs.replaying.replay.Goals as goal
 
 pub returns-in_default-clause-log : goal.returns-in_default-clause-log

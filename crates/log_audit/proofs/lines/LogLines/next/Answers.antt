@@ -3,13 +3,14 @@ use Rattle.std.specs.Prelude.{IfSome}
 use Rattle.std.specs.Prelude.{IfSome}
 use Rattle.std.proofs.lemmas.Result.{err_from_is_err_and}
 use Rattle.log_audit.specs.LogLines.{HasRead}
-use Rattle.log_audit.proofs.LineParts.{at-end, stops-lines, stops-bytes, next-line, begins-more, begins-nothing}
+use Rattle.log_audit.proofs.LineParts.{at-end, stops-lines, stops-bytes, next-line, begins-more, begins-nothing, takes-none, takes-then}
 use Rattle.log_audit.proofs.lines.LogLines.next.Goals as goal
 
 pub parts-init : goal.parts-init
 parts-init g c = record {
   read = λ before bytes read whole.
       ([], subst (HasRead before (g.S.Source.left c.args.source.now) c.args.self.now) (sym (append-nil bytes)) read, begins-nothing bytes whole);
+  taken = takes-none (g.S.Source.left c.args.source.now);
   count = refl;
 }
 
@@ -66,5 +67,18 @@ parts-preserved g c = record {
         subst (HasRead before _ c.take_part.new.self) (append_assoc bytes part piece) more,
         begins-more bytes part piece begins lines,
       );
+  taken = takes-then c.parts.invariant.taken c.in_ok-has_pending.ensures.taken;
   count = c.in_ok-has_pending.ensures.other_counts_none (λ is. (cc is)) ∙ c.parts.invariant.count;
 }
+
+pub returns-in_err-has_pending-clause-taken : goal.returns-in_err-has_pending-clause-taken
+returns-in_err-has_pending-clause-taken g c = takes-then c.parts.invariant.taken c.in_err-has_pending.ensures.taken
+
+pub returns-then-not-branch-clause-taken : goal.returns-then-not-branch-clause-taken
+returns-then-not-branch-clause-taken g c = takes-then c.parts.invariant.taken c.in_ok-has_pending.ensures.taken
+
+pub returns-then-self-eq0-clause-taken : goal.returns-then-self-eq0-clause-taken
+returns-then-self-eq0-clause-taken g c = takes-then c.parts.invariant.taken c.in_ok-has_pending.ensures.taken
+
+pub returns-then-take_part-clause-taken : goal.returns-then-take_part-clause-taken
+returns-then-take_part-clause-taken g c = takes-then c.parts.invariant.taken c.in_ok-has_pending.ensures.taken

@@ -11,4 +11,4 @@ returns-clause-told g c =
     subst (λ (t : List ℕ). HasLogged (g.K.Sink.written c.args.out.now) (g.K.Sink.written c.put_head.new.out) (g.K.Sink.faults c.args.out.now)
     (g.K.Sink.faults c.put_head.new.out) c.put_head.new.self t)
     (ap (λ n. head_line n 1 1) c.self.invariant.1 ∙ sym (ap (text_of log 1 1) bare ∙ text_of-none log))
-    c.put_head.ensures
+    c.put_head.ensures.logged

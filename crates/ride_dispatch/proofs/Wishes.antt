@@ -1,0 +1,62 @@
+-- What words ask for, by their first word and by what a command finds in them.
+use Rattle.std.proofs.Common.{◌≡◌, ◌≢◌, inl, inr, ℕ, true, false, List, [], ◌∷◌, Option, Some, None, refl, sym, ap, ◌∙◌, codes, length, map, arith}
+use Rattle.std.specs.Prelude.{bytes_eq}
+use Rattle.clap.specs.Faults.{fault_of, is_simple_and_free}
+use Rattle.clap.specs.Kinds.{HasKind, Kinds}
+use Rattle.clap.specs.Matches.{first_value, found_of}
+use Rattle.clap.specs.Simple.{App, HasMatchesOf, is_simple, matches_of}
+use Rattle.clap.specs.Walk.{first_of, rows_of}
+use Rattle.clap.specs.Values.{kind_of}
+use Rattle.clap.specs.declared.error.Error.{Error}
+use Rattle.clap.specs.declared.error.kind.ErrorKind.TheVariants.{OutOfMemory}
+use Rattle.clap.specs.declared.parser.matches.ArgMatches.{ArgMatches}
+use Rattle.clap.proofs.WalkLemmas.{first_value-rows, both}
+use Rattle.ride_dispatch.specs.Words.{audit_wish, first_word, replay_wish, serve_wish, unless, value_of, wish_of}
+
+-- by the first word
+pub asks-replay : (words : List (List ℕ)) → bytes_eq (first_word words) (codes "replay") ≡ true → wish_of words ≡ replay_wish words
+unfolding wish_of
+asks-replay words is = rw is refl
+
+pub asks-audit : (words : List (List ℕ)) → bytes_eq (first_word words) (codes "replay") ≡ false → bytes_eq (first_word words) (codes "audit") ≡ true
+    → wish_of words ≡ audit_wish words
+unfolding wish_of
+asks-audit words first is = rw (first, is) refl
+
+pub asks-serve : (words : List (List ℕ)) → bytes_eq (first_word words) (codes "replay") ≡ false → bytes_eq (first_word words) (codes "audit") ≡ false
+    → bytes_eq (first_word words) (codes "serve") ≡ true → wish_of words ≡ serve_wish words
+unfolding wish_of
+asks-serve words first second is = rw (first, second, is) refl
+
+pub asks-nothing : (words : List (List ℕ)) → bytes_eq (first_word words) (codes "replay") ≡ false → bytes_eq (first_word words) (codes "audit") ≡ false
+    → bytes_eq (first_word words) (codes "serve") ≡ false → wish_of words ≡ None
+unfolding wish_of
+asks-nothing words first second third = rw (first, second, third) refl
+
+-- no words ask for nothing
+pub no-words : {S : Type 0} (text : S → List ℕ) (words : List S) → length words ≡ 0 → wish_of (map text words) ≡ None
+unfolding wish_of
+no-words text [] is = refl
+no-words text (word ∷ words) is = absurd (omega arith)
+
+-- the value of an option in words that a command takes
+value-taken : (command : App) (words : List (List ℕ)) (option : List ℕ) → fault_of command words ≡ []
+    → first_of option (matches_of command words) ≡ value_of command words option
+unfolding value_of
+value-taken command words option none = rw none refl
+
+pub taken : (command : App) (words : List (List ℕ)) (m : ArgMatches) (option : List ℕ) → is_simple_and_free command ≡ true
+    → fault_of command words ≡ [] → HasMatchesOf command words m → first_value (found_of m) option ≡ value_of command words option
+taken command words m option simple none has =
+    first_value-rows (found_of m) option ∙ ap (first_of option) (has (both _ _ simple).0).0 ∙ value-taken command words option none
+
+-- and in words in which it finds a fault
+by-kinds : (kinds : Kinds) (found : Option (List ℕ)) (e : Error) → kind_of e ≢ OutOfMemory → HasKind kinds e → unless kinds found ≡ None
+by-kinds [] found e other (inl memory) = absurd (other memory)
+by-kinds [] found e other (inr never) = absurd never
+by-kinds (k ∷ kinds) found e other has = refl
+
+pub refused : (command : App) (words : List (List ℕ)) (e : Error) (option : List ℕ) → kind_of e ≢ OutOfMemory → HasKind (fault_of command words) e
+    → value_of command words option ≡ None
+unfolding value_of
+refused command words e option other has = by-kinds (fault_of command words) (first_of option (matches_of command words)) e other has

@@ -1,0 +1,17 @@
+use Rattle.std.proofs.Common.{◌≡◌, subst, sym, ◌∙◌, map, Ok, Err}
+use Rattle.std.specs.Prelude.{string_bytes}
+use Rattle.clap.specs.Faults.{fault_of}
+use Rattle.clap.specs.Kinds.{FailsBy}
+use Rattle.clap.specs.Simple.{app_of}
+use Rattle.ride_dispatch.proofs.Wishes.{refused, taken}
+use Rattle.ride_dispatch.proofs.words.values.read_by.Goals as goal
+
+pub returns-in-Ok : goal.returns-in-Ok
+returns-in-Ok c option =
+    taken (app_of c.args.command) (map string_bytes c.args.words.now) c.in-Ok.given option c.requires.simple
+    (c.in-Ok.ensures.kinds c.requires.simple) c.in-Ok.ensures.matches
+
+pub returns : goal.returns
+returns c is option =
+    refused (app_of c.args.command) (map string_bytes c.args.words.now) c.in-Err.error option
+    (λ memory. c.in_default.not-OutOfMemory (c.kind.ensures ∙ memory)) (c.in-Err.ensures.kinds c.requires.simple)

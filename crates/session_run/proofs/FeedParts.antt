@@ -1,0 +1,136 @@
+-- What a feed's loop leaves of the history: its answers and its end.
+use Rattle.std.proofs.Common.{◌≡◌, ℕ, ◌≤◌, ◌-◌, Bool, true, false, cond, ◌||◌, ◌⊎◌, inl, inr, List, [], ◌∷◌, ◌++◌, refl, sym, ap, subst, ◌∙◌, append-nil, arith}
+use Rattle.std.specs.Prelude.{IsTrue, nat_le}
+use Rattle.std.proofs.lemmas.List.Elements.{filter_map-append}
+use Rattle.std.proofs.lemmas.List.Folds.{list_any-append}
+use Rattle.ride_model.specs.declared.command.Actor.{Actor}
+use Rattle.ride_model.specs.declared.command.Actor.TheVariants.{Feed, Desk}
+use Rattle.ride_model.specs.declared.command.Command.{Command}
+use Rattle.ride_model.specs.declared.entry.Ending.{Ending}
+use Rattle.ride_model.specs.declared.entry.Ending.TheVariants.{Whole, Cut}
+use Rattle.ride_model.specs.declared.entry.Entry.{Entry}
+use Rattle.ride_model.specs.History.{command_of, entries_of, fed_commands}
+use Rattle.ride_model.specs.Text.{IsOneOrTwo}
+use Rattle.ride_ports.specs.declared.outcome.Ran.{Ran}
+use Rattle.ride_ports.specs.Count.{Rose}
+use Rattle.command_lines.specs.Feeds.{IsWhole}
+use Rattle.command_lines.specs.Limits.{IsTooLong, ended_commands}
+use Rattle.history_laws.specs.Finishing.{has_whole_end, is_whole_end}
+use Rattle.board_core.specs.Recorded.{Recorded, end_entry}
+use Rattle.fleet_board.specs.Passes.{Known, actor_of, commands_in}
+use Rattle.fleet_board.specs.Sets.{IsPartOf, newcomer}
+use Rattle.session_run.specs.Loops.{HasFed, RunsFeed}
+use Rattle.session_run.specs.Reading.{AreFirstOf}
+use Rattle.session_run.specs.Replay.{IsReadWhole}
+use Rattle.session_run.specs.Serving.{FeedRun, IsFeedOf}
+
+-- one or the other
+pub true_or_false : (b : Bool) → (b ≡ true) ⊎ (b ≡ false)
+true_or_false true = inl refl
+true_or_false false = inr refl
+
+-- a feed was read whole, or something of it kept it from that
+read_whole : (ran : Ran) → IsReadWhole ran ⊎ ((ran.source_failed ≡ true) ⊎ (ran.too_long ≡ true))
+read_whole ran = elim (true_or_false ran.source_failed) [
+  | inl failed ↦ inr (inl failed)
+  | inr sound ↦ elim (true_or_false ran.too_long) [
+    | inl long ↦ inr (inr long)
+    | inr short ↦ inl (sound, short)
+  ]
+]
+
+-- which is not that it was read whole
+not_whole : (ran : Ran) → (ran.source_failed ≡ true) ⊎ (ran.too_long ≡ true) → IsReadWhole ran → ⊥
+not_whole ran (inl failed) (sound, short) = absurd (cc (failed, sound))
+not_whole ran (inr long) (sound, short) = absurd (cc (long, short))
+
+-- an end is no command
+pub commands-ended : (answers : List Entry) (actor : Actor) (ending : Ending) → commands_in (answers ++ end_entry actor ending ∷ []) ≡ commands_in answers
+commands-ended answers actor ending =
+    filter_map-append (λ (entry : Entry). command_of entry.event) answers (end_entry actor ending ∷ []) ∙ append-nil (commands_in answers)
+
+-- a part that ends whole has a whole end
+pub ends-whole : (made : List Entry) (actor : Actor) (ending : Ending) → ending ≡ Whole → has_whole_end (made ++ end_entry actor ending ∷ []) ≡ true
+ends-whole made actor ending whole =
+    list_any-append (λ (entry : Entry). is_whole_end entry.event) made (end_entry actor ending ∷ [])
+    ∙ ap (λ (e : Ending). has_whole_end made || has_whole_end (end_entry actor e ∷ [])) whole ∙ or_true (has_whole_end made)
+  where
+    or_true : (b : Bool) → (b || true) ≡ true
+    or_true true = refl
+    or_true false = refl
+
+-- a feed's actor
+feed-actor : (n : ℕ) → IsOneOrTwo n → actor_of n ≡ Feed n
+feed-actor n (low, high) = ap (λ b. cond b (Feed n) (Desk (n - 2))) (small n high)
+  where
+    small : (m : ℕ) → m ≤ 2 → nat_le m 2 ≡ true
+    small m h = grind arith
+
+-- what the history has of a feed
+pub record FeedOf (log feed : ℕ) (run : FeedRun) (own session : Ran) (history : List Entry) : Type 0 where
+  pub taken : List ℕ
+  pub is : IsFeedOf log feed run session taken history
+  pub too_long : own.too_long ≡ true → IsTooLong taken
+  pub ends_whole : own.no_memory ≡ false → IsReadWhole own → has_whole_end (entries_of (Feed feed) history) ≡ true
+
+module _ (log : ℕ) (run : FeedRun) (own : Ran) (taken : List ℕ) (answers : List Entry) (ending : Ending)
+    (fed : HasFed log run.bytes run.left own taken answers ending) where
+  -- a feed that ended whole was read whole, and memory was not wanting
+  whole-read : ending ≡ Whole → (own.no_memory ≡ false) × IsReadWhole own
+  whole-read whole = elim (true_or_false own.no_memory) [
+    | inl wanting ↦ absurd (cc (fed.wanting wanting, whole))
+    | inr memory ↦ elim (read_whole own) [
+      | inl read ↦ (memory, read)
+      | inr kept ↦ absurd (cc ((fed.cut memory (not_whole own kept)).0, whole))
+    ]
+  ]
+
+  -- one that was cut without want of memory was kept from it by its source
+  cut-kept : own.no_memory ≡ false → ending ≡ Cut
+      → (commands_in answers ≡ ended_commands log taken) × ((own.source_failed ≡ true) ⊎ (own.too_long ≡ true))
+  cut-kept memory cut = elim (read_whole own) [
+    | inl read ↦ absurd (cc ((fed.whole memory read).0, cut))
+    | inr kept ↦ ((fed.cut memory (not_whole own kept)).1, kept)
+  ]
+
+pub feed-of : (log feed : ℕ) (run : FeedRun) (own session : Ran) (root : Recorded) (old new : Known) (history : List Entry)
+    → IsOneOrTwo feed → old ≡ newcomer root feed → RunsFeed log run.bytes run.left own old new → IsPartOf history (Feed feed) new
+    → (IsTrue own.source_failed → Rose run.faults_before run.faults_after)
+    → (own.source_failed ≡ false → run.faults_after ≡ run.faults_before)
+    → (session.no_memory ≡ false → own.no_memory ≡ false) → FeedOf log feed run own session history
+feed-of log feed run own session root old new history fits fresh runs its fault sound memory =
+    record {
+      taken = runs.taken;
+      is = record {
+        reads = runs.fed.reads;
+        answers = runs.answers;
+        ending = runs.ending;
+        part = part;
+        fed = runs.fed.fed;
+        first = subst (λ (cs : List Command). AreFirstOf log run.bytes runs.taken cs) (sym commands) runs.fed.first;
+        whole = λ whole.
+            let (wants_none, read) = whole-read log run own runs.taken runs.answers runs.ending runs.fed whole in (
+              subst (λ (cs : List Command). IsWhole log run.left cs runs.taken) (sym commands) (runs.fed.whole wants_none read).1,
+              sound read.0,
+            );
+        cut = λ wants_none cut.
+            let (are, kept) = cut-kept log run own runs.taken runs.answers runs.ending runs.fed (memory wants_none) cut in
+            (commands ∙ are, by_cause kept);
+      };
+      too_long = runs.fed.too_long;
+      ends_whole = λ wants_none read. ap has_whole_end part
+          ∙ ends-whole runs.answers (Feed feed) runs.ending (runs.fed.whole wants_none read).0;
+    }
+  where
+    part : entries_of (Feed feed) history ≡ runs.answers ++ end_entry (Feed feed) runs.ending ∷ []
+    part =
+        sym its.own_all ∙ runs.ends.own_is
+        ∙ ap (λ (k : Known). (k.own ++ runs.answers) ++ end_entry (actor_of k.number) runs.ending ∷ []) fresh
+        ∙ ap (λ (actor : Actor). runs.answers ++ end_entry actor runs.ending ∷ []) (feed-actor feed fits)
+
+    commands : fed_commands feed history ≡ commands_in runs.answers
+    commands = ap commands_in part ∙ commands-ended runs.answers (Feed feed) runs.ending
+
+    by_cause : (own.source_failed ≡ true) ⊎ (own.too_long ≡ true) → Rose run.faults_before run.faults_after ⊎ IsTooLong runs.taken
+    by_cause (inl failed) = inl (fault failed)
+    by_cause (inr long) = inr (runs.fed.too_long long)

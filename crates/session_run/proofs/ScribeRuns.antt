@@ -1,0 +1,58 @@
+-- What a scribe leaves, by what its loop says.
+use Rattle.std.proofs.Common.{◌≡◌, ℕ, ◌≤◌, Bool, true, false, List, length, take, Option, Result, Ok, Err, refl, sym, subst, arith}
+use Rattle.std.specs.Prelude.{IfOk, OnErr, OnOk, min}
+use Rattle.std.proofs.lemmas.List.{take_min}
+use Rattle.ride_model.specs.declared.entry.Entry.{Entry}
+use Rattle.ride_model.specs.Text.{entry_lines}
+use Rattle.ride_ports.specs.Bytes.{WritesPrefix}
+use Rattle.ride_ports.specs.Count.{Rose}
+use Rattle.ride_ports.specs.declared.sources.Failed.{Failed}
+use Rattle.session_run.specs.declared.live.scribes.Scribed.{Scribed}
+use Rattle.session_run.specs.Actors.{HasToldSome, bare}
+use Rattle.session_run.specs.Loops.{HasScribed, HasScribedSome}
+use Rattle.session_run.proofs.LogLemmas.{logged-failed, logged-line, logged-line_failed}
+
+-- so many entries were logged, and whether the sink took the head
+pub record Told (log : ℕ) (head_failed : Bool) (before after : Option (List ℕ)) (faults m : ℕ) (scribed : Result Scribed Failed) (seen : List Entry)
+    : Type 0 where
+  pub count : ℕ
+  pub within : count ≤ length seen
+  pub answered : IfOk scribed (λ (s : Scribed). (s.entries ≡ count) × (head_failed ≡ false))
+  pub some : HasToldSome log head_failed before after faults m scribed count seen
+
+-- where the head failed nothing is written
+pub untold : (log : ℕ) (now : Option (List ℕ)) (m : ℕ) (seen : List Entry) → Told log true now now m m (Err record {}) seen
+untold log now m seen = record {
+  count = 0;
+  within = omega arith;
+  answered = tt;
+  some = record {
+    told = λ earlier faults text has. logged-failed earlier now faults m (bare true) text (entry_lines log (take 0 seen)) refl has;
+  };
+}
+
+-- what a loop wrote after the head
+pub told : (log : ℕ) (before after : Option (List ℕ)) (faults m : ℕ) (scribed : Result Scribed Failed) (seen : List Entry)
+    → IfOk scribed (λ (s : Scribed). HasScribed log before after s.entries seen) → OnErr scribed (HasScribedSome log before after seen)
+    → OnErr scribed (Rose faults m) → OnOk scribed (m ≡ faults) → faults ≤ m → Told log false before after faults m scribed seen
+told log before after faults m (Ok s) seen has part fault counts falls = record {
+  count = s.entries;
+  within = has.some;
+  answered = (refl, refl);
+  some = record {
+    told = λ earlier first text logged.
+        logged-line earlier before after first faults m (bare false) (bare false) text (entry_lines log (take s.entries seen)) refl refl refl refl
+        has.written counts logged;
+  };
+}
+told log before after faults m (Err f) seen has part fault counts falls = record {
+  count = min part.count (length seen);
+  within = omega arith;
+  answered = tt;
+  some = record {
+    told = λ earlier first text logged.
+        logged-line_failed earlier before after first faults m (bare false) (bare true) text
+        (entry_lines log (take (min part.count (length seen)) seen)) refl refl refl
+        (subst (λ (es : List Entry). WritesPrefix before after (entry_lines log es)) (sym (take_min part.count seen)) part.prefix) fault falls logged;
+  };
+}

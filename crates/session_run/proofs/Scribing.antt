@@ -1,0 +1,205 @@
+-- What a scribe has written of what its pass has seen.
+use Rattle.std.proofs.Common.{◌≡◌, ℕ, ◌+◌, ◌-◌, ◌≤◌, true, false, List, [], Result, Ok, Err, ◌++◌, length, take, drop, Option, refl, sym, ap, subst, ◌∙◌, append_assoc, append-nil, length-append, length-drop, arith}
+use Rattle.std.specs.Prelude.{All, IfOk, OnErr, OnOk, min}
+use Rattle.std.proofs.Math.Seq.{take-add}
+use Rattle.std.proofs.lemmas.List.{length-take, take-append-le, take_min}
+use Rattle.std.proofs.lemmas.List.Elements.{All-drop, All-take}
+use Rattle.ride_model.specs.declared.entry.Entry.{Entry}
+use Rattle.ride_model.specs.Text.{HasLine, entry_lines}
+use Rattle.ride_ports.specs.Bytes.{Writes, WritesPrefix}
+use Rattle.ride_ports.specs.Count.{Rose}
+use Rattle.board_core.specs.Recorded.{Recorded}
+use Rattle.fleet_board.specs.Passes.{AddsNone, IsPoint, Known, root_of}
+use Rattle.ride_ports.specs.declared.sources.Failed.{Failed}
+use Rattle.session_run.specs.declared.live.scribes.Scribed.{Scribed}
+use Rattle.session_run.specs.Actors.{bare}
+use Rattle.session_run.specs.Loops.{HasScribed, HasScribedSome}
+use Rattle.session_run.specs.Page.{HasLogged, LogState}
+use Rattle.session_run.proofs.LogLemmas.{entry_lines-append}
+
+-- no call adds nothing, and two that add nothing add nothing together
+pub adds_none-same : (k : Known) → AddsNone k k
+adds_none-same k = record { sees = record { goes_on = ([], sym (append-nil k.seen)); own_stays = refl }; rest = refl }
+
+pub adds_none-then : (a b c : Known) → AddsNone a b → AddsNone b c → AddsNone a c
+adds_none-then a b c first second =
+    let (some, to_b) = first.sees.goes_on in
+    let (more, to_c) = second.sees.goes_on in
+    record {
+      sees = record {
+        goes_on = (some ++ more, to_c ∙ ap (λ (seen : List Entry). seen ++ more) to_b ∙ append_assoc a.seen some more);
+        own_stays = second.sees.own_stays ∙ first.sees.own_stays;
+      };
+      rest = second.rest ∙ ap (λ (k : Known). record k { seen = c.seen }) first.rest;
+    }
+
+-- the board as it began is the same
+pub root-stays : (old new : Known) → AddsNone old new → root_of new ≡ root_of old
+root-stays old new none = ap root_of none.rest
+
+-- what has been seen begins what is seen
+pub first-stay : (old new : Known) (count : ℕ) → AddsNone old new → count ≤ length old.seen → take count new.seen ≡ take count old.seen
+first-stay old new count none within =
+    let (more, goes_on) = none.sees.goes_on in
+    ap (take count) goes_on ∙ take-append-le count old.seen more within
+
+pub seen-grows : (old new : Known) → AddsNone old new → length old.seen ≤ length new.seen
+seen-grows old new none =
+    let (more, goes_on) = none.sees.goes_on in
+    omega (arith, ap (λ (seen : List Entry). length seen) goes_on, length-append old.seen more)
+
+-- the entries that a look gives, and the place behind them
+pub record Looks (old new : Known) (count : ℕ) (items : List Entry) (next : ℕ) : Type 0 where
+  pub none : AddsNone old new
+  pub items_are : items ≡ take 1024 (drop count new.seen)
+  pub next_is : next ≡ count + length items
+
+pub looks-of : (old new : Known) (count : ℕ) (items entries : List Entry) (next : ℕ) → AddsNone old new → items ≡ entries
+    → entries ≡ take 1024 (drop count new.seen) → next ≡ count + length entries → Looks old new count items next
+looks-of old new count items entries next none is are next_is = record {
+  none = none;
+  items_are = is ∙ are;
+  next_is = next_is ∙ ap (λ (es : List Entry). count + length es) (sym is);
+}
+
+module _ (old new : Known) (count : ℕ) (items : List Entry) (next : ℕ) (looks : Looks old new count items next) (within : count ≤ length old.seen) where
+  still-within : count ≤ length new.seen
+  still-within = omega (arith, seen-grows old new looks.none, within)
+
+  many : length items ≡ min 1024 (length new.seen - count)
+  many = ap (λ (es : List Entry). length es) looks.items_are ∙ length-take 1024 (drop count new.seen) ∙ ap (min 1024) (length-drop count new.seen)
+
+  pub next-within : next ≤ length new.seen
+  next-within = omega (arith, looks.next_is, many, still-within)
+
+  -- the first entries are those of before and these
+  pub next-entries : take next new.seen ≡ take count old.seen ++ items
+  next-entries =
+      ap (λ n. take n new.seen) looks.next_is ∙ take-add count (length items) new.seen
+      ∙ (λ i. first-stay old new count looks.none within i ++ all i)
+    where
+      all : take (length items) (drop count new.seen) ≡ items
+      all =
+          ap (λ n. take n (drop count new.seen)) (ap (λ (es : List Entry). length es) looks.items_are ∙ length-take 1024 (drop count new.seen))
+          ∙ take_min 1024 (drop count new.seen) ∙ sym looks.items_are
+
+  -- where a look gives none, all that is seen was written
+  pub none-next : length items ≡ 0 → next ≡ length new.seen
+  none-next none = omega (arith, looks.next_is, many, still-within, none)
+
+-- the entries that a look gives have lines
+pub next-lines : (log count : ℕ) (items : List Entry) (first k : Known) → AddsNone first k → log ≡ (root_of first).start.settings.log → IsPoint k
+    → items ≡ take 1024 (drop count k.seen) → All (HasLine log) items
+next-lines log count items first k none log_is point are =
+    subst (λ (es : List Entry). All (HasLine log) es) (sym are)
+    (All-take (HasLine log) 1024 (drop count k.seen) (All-drop (HasLine log) count k.seen
+    (subst (λ n. All (HasLine n) k.seen) (ap (λ (r : Recorded). r.start.settings.log) (root-stays first k none) ∙ sym log_is) point.text.lines)))
+
+-- a scribe that began at one point and stands at another, and whose sink has not failed
+pub record IsScribing (log : ℕ) (first k : Known) (before now : Option (List ℕ)) (faults m : ℕ) (logger : LogState) (count : ℕ) : Type 0 where
+  pub none : AddsNone first k
+  pub within : count ≤ length k.seen
+  pub stands : logger.failed ≡ false
+  pub logged : HasLogged before now faults m logger (entry_lines log (take count k.seen))
+
+-- after a look whose entries were put
+pub scribing-told : (log : ℕ) (first old new : Known) (before now later : Option (List ℕ)) (faults m n : ℕ) (logger after : LogState)
+    (count next : ℕ) (items : List Entry) → IsScribing log first old before now faults m logger count → Looks old new count items next
+    → ((earlier : Option (List ℕ)) (at : ℕ) (text : List ℕ) → HasLogged earlier now at m logger text
+    → HasLogged earlier later at n after (text ++ entry_lines log items))
+    → HasLogged before later faults n after (entry_lines log (take next new.seen))
+scribing-told log first old new before now later faults m n logger after count next items s looks told =
+    subst (λ (t : List ℕ). HasLogged before later faults n after t)
+    (sym (ap (entry_lines log) (next-entries old new count items next looks s.within) ∙ entry_lines-append log (take count old.seen) items))
+    (told before faults (entry_lines log (take count old.seen)) s.logged)
+
+pub scribing-on : (log : ℕ) (first old new : Known) (before now later : Option (List ℕ)) (faults m n : ℕ) (logger after : LogState)
+    (count next : ℕ) (items : List Entry) → IsScribing log first old before now faults m logger count → Looks old new count items next
+    → ((earlier : Option (List ℕ)) (at : ℕ) (text : List ℕ) → HasLogged earlier now at m logger text
+    → HasLogged earlier later at n after (text ++ entry_lines log items))
+    → after.failed ≡ false → IsScribing log first new before later faults n after next
+scribing-on log first old new before now later faults m n logger after count next items s looks told stands = record {
+  none = adds_none-then first old new s.none looks.none;
+  within = next-within old new count items next looks s.within;
+  stands = stands;
+  logged = scribing-told log first old new before now later faults m n logger after count next items s looks told;
+}
+
+-- after a look for which memory was wanting
+pub scribing-still : (log : ℕ) (first old new : Known) (before now : Option (List ℕ)) (faults m : ℕ) (logger : LogState) (count : ℕ)
+    → IsScribing log first old before now faults m logger count → AddsNone old new → IsScribing log first new before now faults m logger count
+scribing-still log first old new before now faults m logger count s none = record {
+  none = adds_none-then first old new s.none none;
+  within = omega (arith, seen-grows old new none, s.within);
+  stands = s.stands;
+  logged = subst (λ (es : List Entry). HasLogged before now faults m logger (entry_lines log es)) (sym (first-stay old new count none s.within)) s.logged;
+}
+
+-- what was logged with nothing left on the page was written, and a prefix where the sink failed
+pub written-whole : (before now : Option (List ℕ)) (faults m : ℕ) (logger : LogState) (text : List ℕ) → logger.failed ≡ false → logger.page ≡ []
+    → HasLogged before now faults m logger text → Writes before now text
+written-whole before now faults m logger text stands empty has =
+    let (done, written, is) = rw stands at has.bytes in
+    subst (Writes before now) (sym (is ∙ ap (λ (p : List ℕ). done ++ p) empty ∙ append-nil done)) written
+
+pub written-part : (before now : Option (List ℕ)) (faults m : ℕ) (logger : LogState) (text : List ℕ) → logger.failed ≡ true
+    → HasLogged before now faults m logger text → WritesPrefix before now text
+written-part before now faults m logger text failed has = rw failed at has.bytes
+
+pub counts-none : (before now : Option (List ℕ)) (faults m : ℕ) (logger : LogState) (text : List ℕ) → logger.failed ≡ false
+    → HasLogged before now faults m logger text → m ≡ faults
+counts-none before now faults m logger text stands has = rw stands at has.faults
+
+pub counts-fault : (before now : Option (List ℕ)) (faults m : ℕ) (logger : LogState) (text : List ℕ) → logger.failed ≡ true
+    → HasLogged before now faults m logger text → Rose faults m
+counts-fault before now faults m logger text failed has = rw failed at has.faults
+
+pub has-scribed : (log : ℕ) (before now : Option (List ℕ)) (faults m : ℕ) (logger : LogState) (count : ℕ) (seen : List Entry) → count ≤ length seen
+    → logger.failed ≡ false → logger.page ≡ [] → HasLogged before now faults m logger (entry_lines log (take count seen))
+    → HasScribed log before now count seen
+has-scribed log before now faults m logger count seen within stands empty has = record {
+  some = within;
+  written = written-whole before now faults m logger (entry_lines log (take count seen)) stands empty has;
+}
+
+pub has-scribed-some : (log : ℕ) (before now : Option (List ℕ)) (faults m : ℕ) (logger : LogState) (count : ℕ) (seen : List Entry)
+    → logger.failed ≡ true → HasLogged before now faults m logger (entry_lines log (take count seen)) → HasScribedSome log before now seen
+has-scribed-some log before now faults m logger count seen failed has = record {
+  count = count;
+  prefix = written-part before now faults m logger (entry_lines log (take count seen)) failed has;
+}
+
+-- what a scribe answers for which memory was wanting
+pub record CutShort (log : ℕ) (before now : Option (List ℕ)) (faults m : ℕ) (scribed : Result Scribed Failed) (seen : List Entry) : Type 0 where
+  pub written : IfOk scribed (λ (s : Scribed). HasScribed log before now s.entries seen)
+  pub not_whole : IfOk scribed (λ (s : Scribed). s.whole ≡ false)
+  pub prefix : OnErr scribed (HasScribedSome log before now seen)
+  pub fault : OnErr scribed (Rose faults m)
+  pub counts_none : OnOk scribed (m ≡ faults)
+
+pub cut-short : (log : ℕ) (before now : Option (List ℕ)) (faults m : ℕ) (logger : LogState) (count : ℕ) (seen : List Entry) (scribed : Result Scribed Failed)
+    → count ≤ length seen → HasLogged before now faults m logger (entry_lines log (take count seen))
+    → OnOk scribed (logger ≡ bare false) → OnErr scribed (logger.failed ≡ true)
+    → IfOk scribed (λ (s : Scribed). s ≡ record { entries = count; whole = false }) → CutShort log before now faults m scribed seen
+cut-short log before now faults m logger count seen (Ok s) within has empty failed is =
+    let stands : logger.failed ≡ false = ap (λ (l : LogState). l.failed) empty in
+    record {
+      written = subst (λ n. HasScribed log before now n seen) (sym (ap (λ (t : Scribed). t.entries) is))
+          (has-scribed log before now faults m logger count seen within stands (ap (λ (l : LogState). l.page) empty) has);
+      not_whole = ap (λ (t : Scribed). t.whole) is;
+      prefix = tt;
+      fault = tt;
+      counts_none = counts-none before now faults m logger (entry_lines log (take count seen)) stands has;
+    }
+cut-short log before now faults m logger count seen (Err f) within has empty failed is = record {
+  written = tt;
+  not_whole = tt;
+  prefix = has-scribed-some log before now faults m logger count seen failed has;
+  fault = counts-fault before now faults m logger (entry_lines log (take count seen)) failed has;
+  counts_none = tt;
+}
+
+pub never_whole : (scribed : Result Scribed Failed) (P : Scribed → Type 0) → IfOk scribed (λ (s : Scribed). s.whole ≡ false)
+    → IfOk scribed (λ (s : Scribed). s.whole ≡ true → P s)
+never_whole (Ok s) P is = λ whole. absurd (cc (is, whole))
+never_whole (Err f) P is = tt

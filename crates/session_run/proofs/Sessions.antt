@@ -1,0 +1,83 @@
+-- What a session gives, by what its actors' loops and its log say.
+use Rattle.std.proofs.Common.{◌≡◌, ℕ, ◌≤◌, Bool, true, false, ◌||◌, ◌⊎◌, inl, inr, List, [], ◌++◌, length, take, drop, Option, refl, sym, ap, subst, ◌∙◌, take-append-drop, arith}
+use Rattle.std.proofs.lemmas.List.{take-append-le}
+use mathlib.Core.List.{IsPrefix}
+use Rattle.ride_model.specs.declared.command.Actor.TheVariants.{Feed, Desk}
+use Rattle.ride_model.specs.declared.entry.Entry.{Entry}
+use Rattle.ride_model.specs.History.{entries_of}
+use Rattle.ride_model.specs.Legal.{IsLegal, IsNumbered}
+use Rattle.ride_model.specs.State.{State}
+use Rattle.ride_model.specs.Text.{HasText, entry_lines, head_line, text_of}
+use Rattle.ride_ports.specs.declared.outcome.Ran.{Ran}
+use Rattle.history_laws.specs.Finishing.{has_whole_end}
+use Rattle.history_laws.specs.Start.{IsStart}
+use Rattle.history_laws.proofs.Finished.{whole-finished}
+use Rattle.history_laws.proofs.KeptHistory.{keeps_promises}
+use Rattle.session_run.specs.Page.{HasLogged, LogState}
+use Rattle.session_run.specs.Replay.{IsReadWhole}
+use Rattle.session_run.specs.Serving.{HasServed, IsWrittenOut}
+use Rattle.session_run.proofs.DeskParts.{DeskWhole, none-given_up, part-whole}
+use Rattle.session_run.proofs.LogLemmas.{text_of-append}
+use Rattle.session_run.proofs.Scribing.{written-part, written-whole}
+
+-- neither of two, and one of two
+pub neither : (a b : Bool) → (a || b) ≡ false → (a ≡ false) × (b ≡ false)
+neither true b h = absurd (cc h)
+neither false b h = (refl, h)
+
+pub one_of : (a b : Bool) → (a || b) ≡ true → (a ≡ true) ⊎ (b ≡ true)
+one_of true b h = inl refl
+one_of false b h = inr h
+
+-- one of at most two is the first or the second
+pub first-or-second : (P : ℕ → Type 0) (n : ℕ) → P 1 → P 2 → 1 ≤ n → n ≤ 2 → P n
+first-or-second P n first second low high = elim (which n low high) [
+  | inl is ↦ subst P (sym is) first
+  | inr is ↦ subst P (sym is) second
+]
+  where
+    which : (m : ℕ) → 1 ≤ m → m ≤ 2 → (m ≡ 1) ⊎ (m ≡ 2)
+    which m from to = grind arith
+
+-- a session's history keeps its promises, and is finished where nothing was wanting
+pub served : (start : State) (desks : ℕ) (ran : Ran) (entries : List Entry) → IsStart start → IsLegal 2 desks start entries
+    → HasText start.settings.log 2 desks entries
+    → (ran.no_memory ≡ false → (desk : ℕ) → IsNumbered desks desk → DeskWhole desk entries)
+    → (ran.no_memory ≡ false → IsReadWhole ran → (feed : ℕ) → IsNumbered 2 feed → has_whole_end (entries_of (Feed feed) entries) ≡ true)
+    → HasServed start desks ran entries
+served start desks ran entries begins legal text desks_whole feeds_whole = record {
+  begins = begins;
+  legal = legal;
+  text = text;
+  promises = keeps_promises 2 desks start entries begins legal;
+  desks_whole = λ memory desk fits. part-whole start entries (Desk desk) (desks_whole memory desk fits).whole;
+  none_given_up = λ memory.
+      none-given_up 2 desks start [] entries begins legal (λ desk fits. (desks_whole memory desk fits).none_given_up);
+  finished = λ memory read. whole-finished 2 desks start entries begins text.desks_number.0 legal (record {
+    feeds_whole = feeds_whole memory read;
+    desks_whole = λ desk fits. (desks_whole memory desk fits).whole;
+    none_given_up = λ desk fits. (desks_whole memory desk fits).none_given_up;
+  });
+}
+
+-- the head, what a scribe wrote of what it had seen, and the rest are the text of the history
+pub text-joined : (log desks count : ℕ) (seen history : List Entry) → IsPrefix seen history → count ≤ length seen
+    → (head_line log 2 desks ++ entry_lines log (take count seen)) ++ entry_lines log (drop count history) ≡ text_of log 2 desks history
+unfolding text_of
+text-joined log desks count seen history (more, is) within =
+    (λ i. (head_line log 2 desks ++ entry_lines log (first i)) ++ entry_lines log (drop count history))
+    ∙ sym (text_of-append log 2 desks (take count history) (drop count history))
+    ∙ ap (text_of log 2 desks) (take-append-drop count history)
+  where
+    first : take count seen ≡ take count history
+    first = sym (ap (take count) (sym is) ∙ take-append-le count seen more within)
+
+-- the log was written
+pub written-out : (ran : Ran) (before now : Option (List ℕ)) (faults m : ℕ) (logger : LogState) (text : List ℕ) → ran.sink_failed ≡ logger.failed
+    → (logger.failed ≡ false → logger.page ≡ []) → HasLogged before now faults m logger text → IsWrittenOut ran before now text
+written-out ran before now faults m logger text is nothing_left has = record {
+  whole = λ sound.
+      let stands : logger.failed ≡ false = sym is ∙ sound in
+      written-whole before now faults m logger text stands (nothing_left stands) has;
+  prefix = λ fell. written-part before now faults m logger text (sym is ∙ fell) has;
+}

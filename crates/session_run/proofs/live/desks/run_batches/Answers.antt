@@ -1,0 +1,44 @@
+use Rattle.std.proofs.Common.{◌≡◌, ◌≤◌, List, length, ap, sym, subst, ◌∙◌}
+use Rattle.std.specs.Prelude.{All}
+use Rattle.road_times.specs.Room.{Room}
+use Rattle.board_core.specs.Recorded.{Recorded}
+use Rattle.turn_lock.specs.Passes.{knowledge}
+use Rattle.fleet_board.specs.Openings.{OpensBatch}
+use Rattle.fleet_board.specs.Passes.{Known}
+use Rattle.fleet_board.proofs.MayEnd.{desk-may_end}
+use Rattle.session_run.proofs.BatchRuns.{batch-then, batches-same, batches-wanting}
+use Rattle.session_run.proofs.MadeEntries.{root-added}
+use Rattle.session_run.proofs.live.desks.run_batches.Goals as goal
+
+-- one batch more was closed
+pub batches-preserved-in-Ok-Batch : goal.batches-preserved-in-Ok-Batch
+batches-preserved-in-Ok-Batch g c =
+    let before : Known = knowledge c.batches.pass in
+    let opened : Known = knowledge c.open_batch.new.pass in
+    let after : Known = knowledge c.close_batch.new.pass in
+    let opens : OpensBatch before opened c.in-Ok-Batch.batch = rw c.in-Ok-Batch.field-0-is at c.in-Ok-Batch.ensures.opening in
+    let closes = c.close_batch.ensures.closed in
+    record {
+      goes = tt;
+      finite = tt;
+      desk = c.close_batch.ensures.desk;
+      roads = ap (λ (r : Recorded). r.start.roads) (root-added opened after closes.entry closes.adds ∙ root-added before opened _ opens.entry)
+          ∙ c.batches.invariant.roads;
+      kept = c.close_batch.ensures.scratches ∙ c.batches.invariant.kept;
+      some_scratch = subst (λ (s : List Room). 1 ≤ length s) (sym c.close_batch.ensures.scratches) c.batches.invariant.some_scratch;
+      scratches = subst (λ (s : List Room). All (λ (scratch : Room). scratch.nodes ≡ c.args.roads.now.nodes) s)
+          (sym c.close_batch.ensures.scratches) c.batches.invariant.scratches;
+      ran = batch-then c.batches.no_memory c.close_batch.result (knowledge c.args.pass.now) before opened after c.in-Ok-Batch.batch
+          c.batches.invariant.ran opens closes;
+    }
+
+pub returns-in-Ok-Ended-clause-may_end : goal.returns-in-Ok-Ended-clause-may_end
+returns-in-Ok-Ended-clause-may_end g c =
+    desk-may_end (knowledge c.batches.pass) (knowledge c.open_batch.new.pass) c.open_batch.ensures.point c.open_batch.ensures.desk
+    (rw c.in-Ok-Ended.field-0-is at c.in-Ok-Ended.ensures.opening)
+
+pub returns-in-Err-clause-ran : goal.returns-in-Err-clause-ran
+returns-in-Err-clause-ran g c =
+    batches-wanting c.batches.no_memory (knowledge c.args.pass.now) (knowledge c.open_batch.new.pass)
+    (batches-same c.batches.no_memory (knowledge c.args.pass.now) (knowledge c.batches.pass) (knowledge c.open_batch.new.pass) c.batches.invariant.ran
+    c.in-Err.ensures.no_memory)

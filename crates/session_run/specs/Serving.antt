@@ -1,0 +1,80 @@
+-- What a session of two feeds gives.
+use Rattle.std.specs.Prelude.{◌≡◌, ℕ, ◌⊎◌, true, false, List, [], ◌∷◌, ◌++◌, Option, IsTrue, IsFalse}
+use Rattle.std.specs.List.{list_any}
+use Rattle.ride_model.specs.declared.command.Actor.TheVariants.{Feed, Desk}
+use Rattle.ride_model.specs.declared.entry.Ending.{Ending}
+use Rattle.ride_model.specs.declared.entry.Ending.TheVariants.{Whole, Cut}
+use Rattle.ride_model.specs.declared.entry.Entry.{Entry}
+use Rattle.ride_model.specs.History.{ended_whole, entries_of, fed_commands, is_abandoned, IsFinished}
+use Rattle.ride_model.specs.Legal.{IsLegal, IsNumbered, replay}
+use Rattle.ride_model.specs.Promises.{KeepsPromises}
+use Rattle.ride_model.specs.State.{State}
+use Rattle.ride_model.specs.Text.{HasText, text_of}
+use Rattle.ride_ports.specs.declared.outcome.Ran.{Ran}
+use Rattle.ride_ports.specs.Bytes.{Reads, Writes, WritesPrefix}
+use Rattle.ride_ports.specs.Count.{Rose}
+use Rattle.command_lines.specs.Feeds.{IsWhole}
+use Rattle.command_lines.specs.Limits.{IsTooLong, ended_commands}
+use Rattle.history_laws.specs.Start.{IsStart}
+use Rattle.board_core.specs.Recorded.{end_entry}
+use Rattle.session_run.specs.Loops.{AreFed}
+use Rattle.session_run.specs.Reading.{AreFirstOf}
+use Rattle.session_run.specs.Replay.{IsReadWhole}
+
+-- a feed of a session, before and after it: the bytes that its source has left, and the faults that it counts
+pub record FeedRun : Type 0 where
+  pub bytes : Option (List ℕ)
+  pub left : Option (List ℕ)
+  pub faults_before : ℕ
+  pub faults_after : ℕ
+
+abbrev pub feed_run : Option (List ℕ) → Option (List ℕ) → ℕ → ℕ → FeedRun
+feed_run bytes left before after = record { bytes = bytes; left = left; faults_before = before; faults_after = after }
+
+-- a history has this part of a feed, of whose bytes these were taken: the answers to its commands, once and in order, and its
+-- end. It ended whole exactly where all its commands were answered, and where memory was not wanting it was cut exactly where
+-- its own source failed or was too long, after the commands of the lines that an LF ends within the limits
+pub record IsFeedOf (log feed : ℕ) (run : FeedRun) (ran : Ran) (taken : List ℕ) (entries : List Entry) : Type 0 where
+  pub reads : Reads run.bytes run.left taken
+  pub answers : List Entry
+  pub ending : Ending
+  pub part : entries_of (Feed feed) entries ≡ answers ++ end_entry (Feed feed) ending ∷ []
+  pub fed : AreFed answers
+  pub first : AreFirstOf log run.bytes taken (fed_commands feed entries)
+  pub whole : ending ≡ Whole → IsWhole log run.left (fed_commands feed entries) taken × (run.faults_after ≡ run.faults_before)
+  pub cut : ran.no_memory ≡ false → ending ≡ Cut → (fed_commands feed entries ≡ ended_commands log taken)
+      × (Rose run.faults_before run.faults_after ⊎ IsTooLong taken)
+
+-- a legal history of two feeds, which keeps its promises. Where memory was not wanting each desk ended whole and no batch was
+-- given up, and where both feeds were read whole too it is finished
+pub record HasServed (start : State) (desks : ℕ) (ran : Ran) (entries : List Entry) : Type 0 where
+  pub begins : IsStart start
+  pub legal : IsLegal 2 desks start entries
+  pub text : HasText start.settings.log 2 desks entries
+  pub promises : KeepsPromises start entries
+  pub desks_whole : ran.no_memory ≡ false → (desk : ℕ) → IsNumbered desks desk
+      → IsTrue (ended_whole (replay start entries) (Desk desk))
+  pub none_given_up : ran.no_memory ≡ false → IsFalse (list_any (λ (entry : Entry). is_abandoned entry.event) entries)
+  pub finished : ran.no_memory ≡ false → IsReadWhole ran → IsFinished 2 desks start entries
+
+-- the whole log was written, or a prefix of it where the sink failed
+pub record IsWrittenOut (ran : Ran) (before after : Option (List ℕ)) (text : List ℕ) : Type 0 where
+  pub whole : ran.sink_failed ≡ false → Writes before after text
+  pub prefix : ran.sink_failed ≡ true → WritesPrefix before after text
+
+-- memory was wanting before anything was read or written
+pub record HasNotServed (riders drivers : FeedRun) (ran : Ran) (before after : Option (List ℕ)) : Type 0 where
+  pub wanting : ran.no_memory ≡ true
+  pub nothing_written : after ≡ before
+  pub nothing_read_of_riders : riders.left ≡ riders.bytes
+  pub nothing_read_of_drivers : drivers.left ≡ drivers.bytes
+
+-- a session was served: its history answers both feeds, and its text is the log
+abbrev pub IsServed : State → ℕ → FeedRun → FeedRun → Ran → Option (List ℕ) → Option (List ℕ) → Type 0
+IsServed start desks riders drivers ran before after =
+    (riders_taken drivers_taken : List ℕ) × (entries : List Entry)
+    × HasServed start desks ran entries
+    × IsFeedOf start.settings.log 1 riders ran riders_taken entries
+    × IsFeedOf start.settings.log 2 drivers ran drivers_taken entries
+    × (ran.too_long ≡ true → IsTooLong riders_taken ⊎ IsTooLong drivers_taken)
+    × IsWrittenOut ran before after (text_of start.settings.log 2 desks entries)

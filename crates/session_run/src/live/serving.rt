@@ -1,0 +1,171 @@
+//! Sessions of two feeds.
+ghost use Rattle.std.specs.Prelude.{◌≡◌, ◌≢◌, ℕ, ◌≤◌, ◌⊎◌, ◌++◌, [], false, true, drop, is_err, length, All, IfOk, List, Option, IsTrue};
+ghost use Rattle.ride_model.specs.declared.entry.Entry.{Entry};
+ghost use Rattle.ride_model.specs.declared.vehicle.Vehicle.{Vehicle};
+ghost use Rattle.ride_model.specs.Settings.{IsSettings};
+ghost use Rattle.ride_model.specs.State.{start_state};
+ghost use Rattle.ride_model.specs.Text.{HasLine, IsOneOrTwo, entry_lines, text_of};
+ghost use Rattle.ride_model.specs.Vehicle.{IsLawful};
+ghost use Rattle.ride_ports.specs.Count.{Rose, most_count};
+ghost use Rattle.command_lines.specs.Limits.{IsTooLong};
+ghost use Rattle.session_run.specs.declared.live.scribes.Scribed.{Scribed};
+ghost use Rattle.session_run.specs.Actors.{bare};
+ghost use Rattle.session_run.specs.Page.{HasLogged};
+ghost use Rattle.session_run.specs.Serving.{HasNotServed, HasServed, IsFeedOf, IsServed, IsWrittenOut, feed_run};
+ghost use Rattle.session_run.specs.Stages.{IsReady, root_at};
+
+use super::actors::run_actors;
+use super::outcomes::ran_of;
+use super::scribes::Scribed;
+use super::stages::{Stage, begun, closed};
+use crate::logging::Logger;
+use ride_model::{Entry, Fleet, Settings};
+use ride_ports::{Failed, Gate, Ran, Sink, Source};
+use road_times::Roads;
+use std::alloc::Global;
+use std::sync::Wait;
+use std::thread::Threads;
+
+/// Serves the feeds of riders and of drivers over a fleet, by one or two desks with so many workers each, and writes the trip
+/// log while the session runs. Riders are feed 1, drivers feed 2.
+pub fn serve<R: Threads + Wait + Sync, S: Source, K: Sink, G: Gate>(
+    rt: &R,
+    alloc: Global,
+    roads: &Roads,
+    settings: Settings,
+    fleet: Fleet,
+    riders: &mut S,
+    drivers: &mut S,
+    workers: u32,
+    desks: u8,
+    out: &mut K,
+    gate: &G,
+) -> Ran
+    requires settings { IsSettings settings }
+    requires lawful { All (IsLawful roads.now) fleet }
+    requires idle { All (λ (v : Vehicle). v.stops.items ≡ []) fleet }
+    requires first_versions { All (λ (v : Vehicle). v.version ≡ 0) fleet }
+    requires workers { (1 ≤ workers) × (workers ≤ 16) }
+    requires desks { IsOneOrTwo desks }
+    requires riders_count { S.faults riders.old ≢ most_count }
+    requires drivers_count { S.faults drivers.old ≢ most_count }
+
+    // The log is the text of a history that answers both feeds, however their commands met.
+    ensures log { HasNotServed (feed_run (S.left riders.old) (S.left riders.new) (S.faults riders.old) (S.faults riders.new))
+        (feed_run (S.left drivers.old) (S.left drivers.new) (S.faults drivers.old) (S.faults drivers.new)) result
+        (K.written out.old) (K.written out.new)
+        ⊎ ((riders_taken drivers_taken : List ℕ) × (entries : List Entry)
+        × HasServed (start_state roads.now settings fleet) desks result entries
+        × IsFeedOf settings.log 1 (feed_run (S.left riders.old) (S.left riders.new) (S.faults riders.old) (S.faults riders.new)) result
+        riders_taken entries
+        × IsFeedOf settings.log 2 (feed_run (S.left drivers.old) (S.left drivers.new) (S.faults drivers.old) (S.faults drivers.new)) result
+        drivers_taken entries
+        × (result.too_long ≡ true → IsTooLong riders_taken ⊎ IsTooLong drivers_taken)
+        × IsWrittenOut result (K.written out.old) (K.written out.new) (text_of settings.log 2 desks entries)) }
+    ensures source_fault { IsTrue result.source_failed
+        → Rose (S.faults riders.old) (S.faults riders.new) ⊎ Rose (S.faults drivers.old) (S.faults drivers.new) }
+    ensures riders_count_none { result.source_failed ≡ false → S.faults riders.new ≡ S.faults riders.old }
+    ensures drivers_count_none { result.source_failed ≡ false → S.faults drivers.new ≡ S.faults drivers.old }
+    ensures riders_never_fall { S.faults riders.old ≤ S.faults riders.new }
+    ensures drivers_never_fall { S.faults drivers.old ≤ S.faults drivers.new }
+    ensures sink_fault { IsTrue result.sink_failed → Rose (K.faults out.old) (K.faults out.new) }
+    ensures sink_counts_none { result.sink_failed ≡ false → K.faults out.new ≡ K.faults out.old }
+    ensures sink_never_falls { K.faults out.old ≤ K.faults out.new }
+{
+    let log = settings.log;
+    match begun(alloc, roads, settings, fleet, workers as usize, desks) {
+        Ok(stage) => run(
+            rt, alloc, stage, roads, riders, drivers, out, gate, log, desks,
+        ),
+        Err(_) => Ran {
+            sink_failed: false,
+            no_memory: true,
+            source_failed: false,
+            too_long: false,
+        },
+    }
+}
+
+// Runs a session of so many desks to its end, and writes the whole of its log.
+fn run<'r, R: Threads + Wait + Sync, S: Source, K: Sink, G: Gate>(
+    rt: &R,
+    alloc: Global,
+    stage: Stage<'r>,
+    roads: &Roads,
+    riders: &mut S,
+    drivers: &mut S,
+    out: &mut K,
+    gate: &G,
+    log: u8,
+    desks: u8,
+) -> Ran
+    requires ready { IsReady roads.now stage }
+    requires roads { (root_at stage).start.roads ≡ roads.now }
+    requires log { (root_at stage).start.settings.log ≡ log }
+    requires feeds { (root_at stage).feeds ≡ 2 }
+    requires desks { (root_at stage).desks ≡ desks }
+    ensures served { IsServed (root_at stage.entry).start desks
+        (feed_run (S.left riders.old) (S.left riders.new) (S.faults riders.old) (S.faults riders.new))
+        (feed_run (S.left drivers.old) (S.left drivers.new) (S.faults drivers.old) (S.faults drivers.new))
+        result (K.written out.old) (K.written out.new) }
+    ensures source_fault { IsTrue result.source_failed
+        → Rose (S.faults riders.old) (S.faults riders.new) ⊎ Rose (S.faults drivers.old) (S.faults drivers.new) }
+    ensures riders_count_none { result.source_failed ≡ false → S.faults riders.new ≡ S.faults riders.old }
+    ensures drivers_count_none { result.source_failed ≡ false → S.faults drivers.new ≡ S.faults drivers.old }
+    ensures riders_never_fall { S.faults riders.old ≤ S.faults riders.new }
+    ensures drivers_never_fall { S.faults drivers.old ≤ S.faults drivers.new }
+    ensures sink_fault { IsTrue result.sink_failed → Rose (K.faults out.old) (K.faults out.new) }
+    ensures sink_counts_none { result.sink_failed ≡ false → K.faults out.new ≡ K.faults out.old }
+    ensures sink_never_falls { K.faults out.old ≤ K.faults out.new }
+{
+    let Stage {
+        board,
+        mut actors,
+        mut logger,
+    } = stage;
+    logger.put_head(out, log, 2, desks);
+    let head_failed = logger.failed();
+    let answers = run_actors(
+        rt,
+        alloc,
+        &board,
+        &mut actors,
+        roads,
+        riders,
+        drivers,
+        out,
+        gate,
+        log,
+        head_failed,
+    );
+    let board = closed(board, actors);
+    put_rest(&mut logger, out, board.entries(), &answers.scribed, log);
+    ran_of(&answers, logger.failed())
+}
+
+// Writes what a scribe has not written, unless the sink failed.
+fn put_rest<K: Sink>(
+    logger: &mut Logger,
+    out: &mut K,
+    entries: &[Entry],
+    scribed: &Result<Scribed, Failed>,
+    log: u8,
+)
+    requires log { IsOneOrTwo log }
+    requires have_lines { All (HasLine log) entries.now }
+    requires within { IfOk scribed.now (λ (s : Scribed). s.entries ≤ length entries.now) }
+    requires sound { IfOk scribed.now (λ (s : Scribed). logger.old ≡ bare false) }
+    ensures logged { (before : Option (List ℕ)) (faults count : ℕ) (text : List ℕ)
+        → IfOk scribed.now (λ (s : Scribed). s.entries ≡ count)
+        → HasLogged before (K.written out.old) faults (K.faults out.old) (bare (is_err scribed.now)) text
+        → HasLogged before (K.written out.new) faults (K.faults out.new) logger.new (text ++ entry_lines log (drop count entries.now)) }
+    ensures nothing_left { logger.new.failed ≡ false → logger.new.page ≡ [] }
+{
+    match scribed {
+        Ok(scribed) => {
+            logger.put_all(out, &entries[scribed.entries as usize..], log);
+            logger.end(out);
+        }
+        Err(_) => logger.fail(),
+    }
+}

@@ -1,0 +1,153 @@
+//! A session from before its actors run to after they did.
+ghost use Rattle.std.specs.Prelude.{◌≡◌, ◌≤◌, [], All, IfOk, IsSome, MatchOption, None, Some};
+ghost use Rattle.ride_model.specs.declared.vehicle.Vehicle.{Vehicle};
+ghost use Rattle.ride_model.specs.Settings.{IsSettings};
+ghost use Rattle.ride_model.specs.State.{start_state};
+ghost use Rattle.ride_model.specs.Text.{IsOneOrTwo};
+ghost use Rattle.ride_model.specs.Vehicle.{IsLawful};
+ghost use Rattle.session_run.specs.Stages.{HasScratches, IsClosed, IsReady, MayClose, root_at, session_root};
+
+use super::actors::Actors;
+use super::desk_pairs::Desk;
+use crate::logging::Logger;
+use board_core::Board;
+use fleet_board::{ActorPass, PassSet, SharedBoard};
+use pricing_workers::scratches_of;
+use ride_model::{Fleet, NoMemory, Settings};
+use road_times::Roads;
+use std::alloc::Global;
+
+/// A board, its actors, and the log that is written of it.
+#[derive(Drop)]
+pub(super) struct Stage<'r> {
+    pub(super) board: SharedBoard<'r>,
+    pub(super) actors: Actors<'r>,
+    pub(super) logger: Logger,
+}
+
+/// Takes all memory that a session needs before its actors run.
+pub(super) fn begun<'r>(
+    alloc: Global,
+    roads: &'r Roads,
+    settings: Settings,
+    fleet: Fleet,
+    workers: usize,
+    desks: u8,
+) -> Result<Stage<'r>, NoMemory>
+    requires settings { IsSettings settings }
+    requires lawful { All (IsLawful roads.now) fleet }
+    requires idle { All (λ (v : Vehicle). v.stops.items ≡ []) fleet }
+    requires first_versions { All (λ (v : Vehicle). v.version ≡ 0) fleet }
+    requires workers { 1 ≤ workers }
+    requires desks { IsOneOrTwo desks }
+    ensures ready { IfOk result (IsReady roads.now) }
+    ensures root { IfOk result (λ stage. root_at stage ≡ session_root (start_state roads.now settings fleet) desks) }
+{
+    let logger = Logger::new(alloc)?;
+    let board = Board::new(alloc, roads, settings, fleet, 2, desks)?;
+    let (board, passes) = SharedBoard::start(alloc, board)?;
+    let actors = actors_of(alloc, roads, passes, workers)?;
+    Ok(Stage {
+        board,
+        actors,
+        logger,
+    })
+}
+
+// The actors of a set of passes, with scratches for their desks.
+fn actors_of<'r>(
+    alloc: Global,
+    roads: &Roads,
+    passes: PassSet<'r>,
+    workers: usize,
+) -> Result<Actors<'r>, NoMemory>
+    requires feed_1 { IsSome passes.feed_1 }
+    requires feed_2 { IsSome passes.feed_2 }
+    requires desk_1 { IsSome passes.desk_1 }
+    requires workers { 1 ≤ workers }
+    ensures feed_1 { IfOk result (λ actors. passes.entry.feed_1 ≡ Some actors.feed_1) }
+    ensures feed_2 { IfOk result (λ actors. passes.entry.feed_2 ≡ Some actors.feed_2) }
+    ensures desk_1 { IfOk result (λ actors. (passes.entry.desk_1 ≡ Some actors.desk_1.pass)
+        × HasScratches roads.now actors.desk_1.scratches.items) }
+    ensures desk_2 { IfOk result (λ actors. MatchOption actors.desk_2 (passes.entry.desk_2 ≡ None)
+        (λ desk. (passes.entry.desk_2 ≡ Some desk.pass) × HasScratches roads.now desk.scratches.items)) }
+    ensures scribe { IfOk result (λ actors. actors.scribe ≡ passes.entry.scribe) }
+{
+    let PassSet {
+        feed_1,
+        feed_2,
+        desk_1,
+        desk_2,
+        scribe,
+    } = passes;
+    let Some(feed_1) = feed_1 else {
+        unreachable!();
+    };
+    let Some(feed_2) = feed_2 else {
+        unreachable!();
+    };
+    let Some(desk_1) = desk_of(alloc, roads, desk_1, workers)? else {
+        unreachable!();
+    };
+    let desk_2 = desk_of(alloc, roads, desk_2, workers)?;
+    Ok(Actors {
+        feed_1,
+        feed_2,
+        desk_1,
+        desk_2,
+        scribe,
+    })
+}
+
+// The desk of a pass, with a scratch for each of so many workers.
+fn desk_of<'r>(
+    alloc: Global,
+    roads: &Roads,
+    pass: Option<ActorPass<'r>>,
+    workers: usize,
+) -> Result<Option<Desk<'r>>, NoMemory>
+    requires { 1 ≤ workers }
+    ensures { IfOk result (λ made. MatchOption made (pass.entry ≡ None)
+        (λ desk. (pass.entry ≡ Some desk.pass) × HasScratches roads.now desk.scratches.items)) }
+{
+    let Some(pass) = pass else {
+        return Ok(None);
+    };
+    let scratches = scratches_of(alloc, roads, workers)?;
+    Ok(Some(Desk { pass, scratches }))
+}
+
+/// Takes the board back from its actors.
+pub(super) fn closed<'r>(board: SharedBoard<'r>, actors: Actors<'r>) -> Board<'r>
+    requires { MayClose board actors }
+    ensures { IsClosed actors.entry result }
+{
+    let Actors {
+        feed_1,
+        feed_2,
+        desk_1,
+        desk_2,
+        scribe,
+    } = actors;
+    let passes = PassSet {
+        feed_1: Some(feed_1),
+        feed_2: Some(feed_2),
+        desk_1: Some(desk_1.pass),
+        desk_2: pass_of(desk_2),
+        scribe,
+    };
+    match board.close(passes) {
+        Ok(board) => board,
+        Err(_) => unreachable!(),
+    }
+}
+
+// The pass of a desk.
+fn pass_of<'r>(desk: Option<Desk<'r>>) -> Option<ActorPass<'r>>
+    ensures { MatchOption desk.entry (result ≡ None) (λ d. result ≡ Some d.pass) }
+{
+    match desk {
+        Some(desk) => Some(desk.pass),
+        None => None,
+    }
+}
