@@ -3,5 +3,8 @@ pub mod Joined
 pub mod FewRides
 pub mod OfferLaws
 pub mod LeastOffers
+pub mod PlanTimes
+pub mod LongerDrives
+pub mod NoOffers
 pub mod Examples
 pub mod Trials

@@ -1,7 +1,6 @@
 -- Legs, read from the times near a ride.
 use Rattle.std.proofs.Common.{◌≡◌, ℕ, zero, suc, ◌-◌, ◌<◌, ◌≤◌, List, [], ◌∷◌, length, get_or, refl, ◌∙◌, ap, arith}
-use Rattle.std.specs.Prelude.{Option, Some, None, unwrap_or}
-use Rattle.std.specs.List.{last_or}
+use Rattle.std.specs.Prelude.{Option, Some}
 use Rattle.insertion.specs.declared.near.NearStop.{NearStop}
 use Rattle.insertion.specs.Joined.{leg_before, leg_after}
 
@@ -28,15 +27,3 @@ pub after-none : (time_of : NearStop → Option ℕ) (stops : List NearStop) (pl
 after-none time_of [] place past = refl
 after-none time_of (s ∷ stops) zero past = absurd (omega arith)
 after-none time_of (s ∷ stops) (suc place) past = after-none time_of stops place (omega arith)
-
--- the last of a list is the one before its end
-pub last-read : (times : List ℕ) (d : ℕ) → 0 < length times → get_or times (length times - 1) d ≡ unwrap_or (last_or None times) 0
-last-read [] d some = absurd (omega arith)
-last-read (t ∷ times) d some = from_first t times
-  where
-    from_first : (first : ℕ) (ts : List ℕ) → get_or (first ∷ ts) (suc (length ts) - 1) d ≡ unwrap_or (last_or (Some first) ts) 0
-    from_first first [] = refl
-    from_first first (u ∷ ts) = ap (λ n. get_or (first ∷ u ∷ ts) n d) (less (length ts)) ∙ from_first u ts
-      where
-        less : (n : ℕ) → suc (suc n) - 1 ≡ suc (suc n - 1)
-        less n = omega arith

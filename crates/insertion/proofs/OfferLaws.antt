@@ -1,5 +1,5 @@
 -- Offers, from the times near a ride and the plan with it.
-use Rattle.std.proofs.Common.{◌≡◌, ℕ, zero, suc, ◌+◌, ◌<◌, ◌≤◌, ◌⊎◌, inl, inr, Bool, true, false, cond, ◌&&◌, List, [], ◌∷◌, ◌++◌, length, eqb, leb, leb-true, refl, sym, ◌∙◌, ap, subst, arith, slice_index}
+use Rattle.std.proofs.Common.{◌≡◌, ℕ, suc, ◌+◌, ◌<◌, ◌≤◌, ◌⊎◌, inl, inr, Bool, true, false, cond, ◌&&◌, List, [], ◌∷◌, ◌++◌, length, eqb, leb, leb-true, refl, sym, ◌∙◌, ap, subst, arith}
 use Rattle.std.specs.Prelude.{Option, Some, None, option_map, option_and_then}
 use Rattle.std.specs.List.{list_all}
 use Rattle.std.proofs.lemmas.Bool.{eqb-true, eq-eqb}
@@ -12,15 +12,12 @@ use Rattle.ride_model.specs.declared.vehicle.Vehicle.{Vehicle}
 use Rattle.ride_model.specs.Road.{RoadMap, travel}
 use Rattle.ride_model.specs.Vehicle.{HasLegs, IsRouted}
 use Rattle.ride_model.specs.Loads.{loads_fit}
-use Rattle.ride_model.specs.Times.{times_of}
 use Rattle.ride_model.specs.Keeps.{keeps, keeps_ride}
 use Rattle.ride_model.specs.Insertion.{routed, stops_with, with_plan, inserted}
 use Rattle.ride_model.specs.Offers.{is_open, leg_at, joins_of, cost_of, start_of, offer_of, offer_of_plan}
-use Rattle.model_laws.proofs.Among.{Among}
 use Rattle.model_laws.proofs.PlanStops.{unlegged-routed}
 use Rattle.model_laws.proofs.AboardLoads.{and-true, length-same}
 use Rattle.model_laws.proofs.Insertions.{inserted_facts, length-stops_with, routed-with}
-use Rattle.model_laws.proofs.Costs.{arrival-kept}
 use Rattle.stop_plans.specs.Change.{InsertsInto}
 use Rattle.insertion.specs.declared.near.Near.{Near}
 use Rattle.insertion.specs.declared.near.NearStop.{NearStop}
@@ -230,16 +227,6 @@ of-plan roads settings v ride time offer new h may =
 pub new-routed : (roads : RoadMap) (v : Vehicle) (ride : Ride) (offer : Offer) (new : Vehicle) → InsertsInto roads v ride offer new → IsRouted roads new
 new-routed roads v ride offer new h =
     routed-with roads v ride offer.i offer.j new h.lawful.routed h.ride_fits h.fresh h.waits h.in_order h.in_range h.inserted_is
-
--- an arrival of a plan that keeps its promises is bounded
-pub arrival-le : (roads : RoadMap) (v : Vehicle) (start dwell place : ℕ) → IsRouted roads v → keeps v start dwell ≡ true
-    → slice_index (times_of v start dwell) place ≤ 1001003600
-arrival-le roads v start dwell place routed kept = index-le (times_of v start dwell) place (λ u there. arrival-kept roads v start dwell u routed kept there)
-  where
-    index-le : (xs : List ℕ) (n : ℕ) → ((u : ℕ) → Among u xs → u ≤ 1001003600) → slice_index xs n ≤ 1001003600
-    index-le [] n h = omega arith
-    index-le (x ∷ xs) zero h = h x (inl refl)
-    index-le (x ∷ xs) (suc n) h = index-le xs n (λ u there. h u (inr there))
 
 -- the offer of a plan, by whether it keeps its promises
 pub plan-broken : (settings : Settings) (v : Vehicle) (i j time start : ℕ) (new : Vehicle) → start ≡ start_of v settings.lead time

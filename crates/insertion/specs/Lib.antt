@@ -1,5 +1,7 @@
 pub mod Asked
 pub mod Joined
+pub mod Arrivals
+pub mod Drawn
 pub mod Least
 pub mod Examples
 pub mod Trials

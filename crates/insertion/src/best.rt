@@ -1,14 +1,17 @@
 //! The cheapest places.
-ghost use Rattle.std.specs.Prelude.{◌≡◌, ◌≤◌, ◌⊎◌, length, IfSome, Some};
+ghost use Rattle.std.specs.Prelude.{◌≡◌, ◌≤◌, ◌⊎◌, length, IfSome, Option, Some};
 ghost use Rattle.ride_model.specs.declared.offer.Offer.{Offer};
 ghost use Rattle.ride_model.specs.Road.{RoadMap, lesser};
 ghost use Rattle.ride_model.specs.Offers.{offer_of, price};
+ghost use Rattle.insertion.specs.Arrivals.{plan_of, is_by};
 ghost use Rattle.insertion.specs.Asked.{IsAsked};
+ghost use Rattle.insertion.specs.Drawn.{IsDrawnFor};
 ghost use Rattle.insertion.specs.Least.{cost_if_any, least_with_pickup};
 
 use crate::near::Near;
-use crate::offer::offer_at;
-use crate::prices::number_of_stops;
+use crate::offer::{drawn_at, kept};
+use crate::plan::{Plan, pickup_at, plan_of};
+use crate::prices::{is_open, number_of_stops};
 use ride_model::{Offer, Ride, Settings, Vehicle};
 
 /// An offer of a vehicle to a ride of least cost, for a batch of the time `now`; none where there is no offer.
@@ -25,37 +28,97 @@ pub fn best_place(
     ensures an_offer { (roads : RoadMap) → IsAsked roads vehicle.now ride.now now settings.now near.now
         → IfSome result (λ (offer : Offer). offer_of roads settings.now vehicle.now ride.now now offer.i offer.j ≡ Some offer) }
 {
+    if !is_open(vehicle, now) {
+        return None;
+    }
+    // The plan with the ride would have more than 16 stops.
+    if number_of_stops(vehicle) > 14 {
+        return None;
+    }
+    let plan = plan_of(vehicle, now, settings);
     let mut best = None;
     for i in 0..number_of_stops(vehicle) as u32 + 1 {
-        best = cheaper(
-            best,
-            best_with_pickup_at(vehicle, ride, i, now, settings, near),
-        );
+        best = best_with_pickup_at(best, vehicle, ride, i, settings, near, &plan);
     }
     best
 }
 
-// The best of the offers with the pickup at a place.
+// The best of an offer and those with the pickup at a place, of which there is none where it would be too late already.
 fn best_with_pickup_at(
+    other: Option<Offer>,
     vehicle: &Vehicle,
     ride: &Ride,
     i: u32,
-    now: u64,
     settings: &Settings,
     near: &Near,
+    plan: &Plan,
 ) -> Option<Offer>
-    requires asked { (roads : RoadMap) × IsAsked roads vehicle.now ride.now now settings.now near.now }
+    requires asked { (roads : RoadMap) × IsAsked roads vehicle.now ride.now plan.now.time settings.now near.now }
+    requires plan { plan.now ≡ plan_of vehicle.now plan.now.time settings.now }
     requires within { i ≤ length vehicle.now.stops.items }
-    ensures cost { (roads : RoadMap) → IsAsked roads vehicle.now ride.now now settings.now near.now
-        → cost_if_any result ≡ least_with_pickup roads settings.now vehicle.now ride.now now i i }
-    ensures an_offer { (roads : RoadMap) → IsAsked roads vehicle.now ride.now now settings.now near.now
-        → IfSome result (λ (offer : Offer). offer_of roads settings.now vehicle.now ride.now now offer.i offer.j ≡ Some offer) }
+    requires room { length vehicle.now.stops.items ≤ 14 }
+    ensures cost { (roads : RoadMap) → IsAsked roads vehicle.now ride.now plan.now.time settings.now near.now
+        → cost_if_any result ≡ lesser (cost_if_any other) (least_with_pickup roads settings.now vehicle.now ride.now plan.now.time i i) }
+    ensures an_offer { (roads : RoadMap) → IsAsked roads vehicle.now ride.now plan.now.time settings.now near.now
+        → IfSome other (λ (offer : Offer). offer_of roads settings.now vehicle.now ride.now plan.now.time offer.i offer.j ≡ Some offer)
+        → IfSome result (λ (offer : Offer). offer_of roads settings.now vehicle.now ride.now plan.now.time offer.i offer.j ≡ Some offer) }
 {
-    let mut best = None;
+    let pickup = pickup_at(near, settings.dwell, plan, i as usize);
+    if !is_by(ride.latest, pickup) {
+        return other;
+    }
+    let mut best = other;
     for j in i..number_of_stops(vehicle) as u32 + 1 {
-        best = cheaper(best, offer_at(vehicle, ride, i, j, now, settings, near));
+        let drawn = drawn_at(vehicle, i, j, settings, near, plan);
+        best = better(best, vehicle, ride, drawn, settings.dwell);
     }
     best
+}
+
+// The cheaper of an offer and one that is drawn, the plan of which is looked at only where it costs less.
+fn better(
+    best: Option<Offer>,
+    vehicle: &Vehicle,
+    ride: &Ride,
+    drawn: Option<Offer>,
+    dwell: u64,
+) -> Option<Offer>
+    requires drawn { (roads : RoadMap) × (offer : Option Offer) × IsDrawnFor roads vehicle.now ride.now dwell drawn offer }
+    requires dwell_limit { dwell ≤ 3600 }
+    ensures cost { (roads : RoadMap) (offer : Option Offer) → IsDrawnFor roads vehicle.now ride.now dwell drawn offer
+        → cost_if_any result ≡ lesser (cost_if_any best) (cost_if_any offer) }
+    ensures one { (roads : RoadMap) (offer : Option Offer) → IsDrawnFor roads vehicle.now ride.now dwell drawn offer
+        → (result ≡ best) ⊎ (result ≡ offer) }
+{
+    match drawn {
+        None => best,
+        Some(drawn) => {
+            if is_by(drawn.cost, cost_if_any(best)) {
+                return best;
+            }
+            cheaper(best, kept(vehicle, ride, drawn, dwell))
+        }
+    }
+}
+
+// What an offer costs, where there is one.
+fn cost_if_any(offer: Option<Offer>) -> Option<u64>
+    ensures { result ≡ cost_if_any offer }
+{
+    match offer {
+        Some(offer) => Some(offer.cost),
+        None => None,
+    }
+}
+
+// Whether there is a number, and it is not above a limit.
+fn is_by(limit: u64, number: Option<u64>) -> bool
+    ensures { result ≡ is_by limit number }
+{
+    match number {
+        Some(number) => number <= limit,
+        None => false,
+    }
 }
 
 // The cheaper of two offers, the first where they cost the same.

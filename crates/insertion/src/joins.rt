@@ -43,8 +43,8 @@ fn joined(
     })
 }
 
-// The leg to a pickup before the stop at a place.
-fn to_pickup(first: Option<u64>, stops: &[NearStop], place: usize) -> Option<u64>
+/// The leg to a pickup before the stop at a place.
+pub fn to_pickup(first: Option<u64>, stops: &[NearStop], place: usize) -> Option<u64>
     requires { place ≤ length stops.now }
     ensures { result ≡ leg_before first (λ (stop : NearStop). stop.to_from) stops.now place }
 {

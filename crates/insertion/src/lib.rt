@@ -1,8 +1,9 @@
-//! Where one more ride fits into a vehicle's plan, and what it costs there: the plain way, which tries every pair of places
-//! by the whole plan. A check of another way's answers can rely on it.
+//! Where one more ride fits into a vehicle's plan, and what it costs there: the plain way, which goes over the pairs of places
+//! and looks at the whole plan wherever it would cost less. A check of another way's answers can rely on it.
 #![tactic(auto)]
 
 mod best;
+mod drives;
 pub mod joins;
 mod near;
 mod offer;

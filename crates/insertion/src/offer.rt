@@ -1,16 +1,20 @@
 //! The offer at two places.
-ghost use Rattle.std.specs.Prelude.{◌≡◌, ◌≤◌};
+ghost use Rattle.std.specs.Prelude.{◌≡◌, ◌≤◌, ◌+◌, ◌-◌, ◌*◌, All, Option, length};
+ghost use Rattle.ride_model.specs.declared.offer.Offer.{Offer};
+ghost use Rattle.ride_model.specs.declared.vehicle.Ride.{Ride};
 ghost use Rattle.ride_model.specs.declared.vehicle.Vehicle.{Vehicle};
 ghost use Rattle.ride_model.specs.Road.{RoadMap};
-ghost use Rattle.ride_model.specs.Offers.{start_of, offer_of, offer_of_plan};
+ghost use Rattle.ride_model.specs.Offers.{offer_of};
 ghost use Rattle.ride_model.specs.Settings.{IsSettings};
-ghost use Rattle.stop_plans.specs.Change.{InsertsInto};
+ghost use Rattle.insertion.specs.Arrivals.{plan_of, leave_at};
 ghost use Rattle.insertion.specs.Asked.{IsAsked};
+ghost use Rattle.insertion.specs.Drawn.{drives_more, IsDrawn, IsDrawnFor, AreShort};
 
+use crate::drives::drives_more;
 use crate::joins::joins_at;
 use crate::near::Near;
-use crate::plan::{arrival_at, drive};
-use crate::prices::{cost, may_offer, number_of_stops, start_of};
+use crate::plan::{Plan, leave_at, plan_of};
+use crate::prices::{cost, may_offer, number_of_stops};
 use promises::keeps;
 use ride_model::{Offer, Ride, Settings, Vehicle};
 use stop_plans::insert_ride;
@@ -31,7 +35,28 @@ pub fn offer_at(
     ensures { (roads : RoadMap) → IsAsked roads vehicle.now ride.now now settings.now near.now
         → result ≡ offer_of roads settings.now vehicle.now ride.now now i j }
 {
-    if !may_offer(vehicle, i as usize, j as usize, now) {
+    let plan = plan_of(vehicle, now, settings);
+    match drawn_at(vehicle, i, j, settings, near, &plan) {
+        Some(drawn) => kept(vehicle, ride, drawn, settings.dwell),
+        None => None,
+    }
+}
+
+/// The offer of a vehicle with this plan at two places, were the promises kept.
+pub fn drawn_at(
+    vehicle: &Vehicle,
+    i: u32,
+    j: u32,
+    settings: &Settings,
+    near: &Near,
+    plan: &Plan,
+) -> Option<Offer>
+    requires asked { (roads : RoadMap) × (ride : Ride) × IsAsked roads vehicle.now ride plan.now.time settings.now near.now }
+    requires plan { plan.now ≡ plan_of vehicle.now plan.now.time settings.now }
+    ensures { (roads : RoadMap) (ride : Ride) → IsAsked roads vehicle.now ride plan.now.time settings.now near.now
+        → IsDrawnFor roads vehicle.now ride settings.now.dwell result (offer_of roads settings.now vehicle.now ride plan.now.time i j) }
+{
+    if !may_offer(vehicle, i as usize, j as usize, plan.time) {
         return None;
     }
     // The plan with the ride would have more than 16 stops.
@@ -41,41 +66,49 @@ pub fn offer_at(
     match joins_at(near, i as usize, j as usize) {
         None => None,
         Some(joins) => {
-            let start = start_of(vehicle, settings.lead, now);
             let offer = Offer {
                 i,
                 j,
                 cost: 0,
-                start,
+                start: plan.start,
                 joins,
             };
-            priced(vehicle, ride, offer, now, settings)
+            Some(priced(vehicle, offer, settings, plan))
         }
     }
 }
 
-// The offer with its cost, where the plan keeps its promises.
-fn priced(
-    vehicle: &Vehicle,
-    ride: &Ride,
-    offer: Offer,
-    now: u64,
-    settings: &Settings,
-) -> Option<Offer>
-    requires inserts { (roads : RoadMap) × (new : Vehicle) × InsertsInto roads vehicle.now ride.now offer new }
+// The offer with its cost.
+fn priced(vehicle: &Vehicle, offer: Offer, settings: &Settings, plan: &Plan) -> Offer
     requires ranges { IsSettings settings.now }
-    requires time_limit { now ≤ 1000000000 }
-    requires start { offer.start ≡ start_of vehicle.now settings.now.lead now }
-    ensures { (roads : RoadMap) (new : Vehicle) → InsertsInto roads vehicle.now ride.now offer new
-        → result ≡ offer_of_plan settings.now vehicle.now offer.i offer.j now new }
+    requires short { AreShort offer.joins }
+    requires within { offer.i ≤ length plan.now.times.items }
+    requires start_limit { plan.now.start ≤ 1000003600 }
+    requires soon { All (λ time. time ≤ 10000000000000000) plan.now.times.items }
+    ensures { result ≡ record offer {
+      cost = settings.now.drive * drives_more settings.now.dwell vehicle.now.stops.items offer.i offer.j offer.joins
+          + settings.now.wait * (leave_at plan.now.start settings.now.dwell plan.now.times.items offer.i + offer.joins.to_pickup - plan.now.time);
+    } }
 {
-    let mut plan = vehicle.copy();
-    insert_ride(&mut plan, *ride, &offer);
-    if !keeps(&plan, offer.start, settings.dwell) {
-        return None;
+    let (i, j) = (offer.i as usize, offer.j as usize);
+    let driven = drives_more(settings.dwell, vehicle.stops.as_slice(), i, j, &offer.joins);
+    let leave = leave_at(plan.start, settings.dwell, plan.times.as_slice(), i);
+    let waited = (leave + offer.joins.to_pickup).saturating_sub(plan.time);
+    let cost = cost(settings, driven, waited);
+    Offer { cost, ..offer }
+}
+
+/// The offer that is drawn, where its plan keeps the promises.
+pub fn kept(vehicle: &Vehicle, ride: &Ride, drawn: Offer, dwell: u64) -> Option<Offer>
+    requires drawn { (roads : RoadMap) × (offer : Option Offer) × IsDrawn roads vehicle.now ride.now dwell drawn offer }
+    requires dwell_limit { dwell ≤ 3600 }
+    ensures { (roads : RoadMap) (offer : Option Offer) → IsDrawn roads vehicle.now ride.now dwell drawn offer → result ≡ offer }
+{
+    let mut new = vehicle.copy();
+    insert_ride(&mut new, *ride, &drawn);
+    if keeps(&new, drawn.start, dwell) {
+        Some(drawn)
+    } else {
+        None
     }
-    let driven = drive(&plan, settings.dwell) - drive(vehicle, settings.dwell);
-    let pickup = arrival_at(&plan, offer.start, settings.dwell, offer.i as usize);
-    let cost = cost(settings, driven, pickup.saturating_sub(now));
-    Some(Offer { cost, ..offer })
 }

@@ -1,47 +1,68 @@
-//! A vehicle's plan with a ride more, and what it takes.
-ghost use Rattle.std.specs.Prelude.{◌≡◌, ◌<◌, ◌≤◌, length, slice_index, unwrap_or};
-ghost use Rattle.std.specs.List.{last_or};
-ghost use Rattle.ride_model.specs.Times.{times_of, drive_of};
+//! A vehicle's plan for a batch, and when it comes to which place.
+ghost use Rattle.std.specs.Prelude.{◌≡◌, ◌≤◌, length, All, IfSome};
 ghost use Rattle.ride_model.specs.Vehicle.{IsRoutedSomewhere};
+ghost use Rattle.insertion.specs.Arrivals.{plan_of, leave_at, pickup_at};
+ghost use Rattle.insertion.specs.Joined.{to_pickup_of};
 
-use ride_model::Vehicle;
+use crate::joins::to_pickup;
+use crate::near::Near;
+use crate::prices::start_of;
+use arrayvec::ArrayVec;
+use ride_model::{Settings, Vehicle};
 use stop_plans::times;
 
-/// The seconds from the start to the last arrival, 0 for an idle vehicle.
-pub fn drive(vehicle: &Vehicle, dwell: u64) -> u64
-    requires routed { IsRoutedSomewhere vehicle.now }
-    requires dwell_limit { dwell ≤ 3600 }
-    ensures { result ≡ drive_of vehicle.now dwell }
-{
-    last_of(times(vehicle, 0, dwell).as_slice())
+/// A vehicle's plan for a batch.
+#[derive(Debug, Drop)]
+pub struct Plan {
+    /// The time of the batch.
+    pub time: u64,
+    pub start: u64,
+    /// The arrival at each stop.
+    pub times: ArrayVec<u64, 16>,
 }
 
-// The last of times, 0 where there is none.
-fn last_of(times: &[u64]) -> u64
-    ensures { result ≡ unwrap_or (last_or None times.now) 0 }
+/// A vehicle's plan for a batch of this time.
+pub fn plan_of(vehicle: &Vehicle, time: u64, settings: &Settings) -> Plan
+    requires routed { IsRoutedSomewhere vehicle.now }
+    requires time_limit { time ≤ 1000000000 }
+    requires lead_limit { settings.now.lead ≤ 3600 }
+    requires dwell_limit { settings.now.dwell ≤ 3600 }
+    ensures { result ≡ plan_of vehicle.now time settings.now }
 {
-    if times.is_empty() {
-        0
-    } else {
-        times[times.len() - 1]
+    let start = start_of(vehicle, settings.lead, time);
+    Plan {
+        time,
+        start,
+        times: times(vehicle, start, settings.dwell),
     }
 }
 
-/// The arrival at the stop at a place.
-pub fn arrival_at(vehicle: &Vehicle, start: u64, dwell: u64, place: usize) -> u64
-    requires routed { IsRoutedSomewhere vehicle.now }
-    requires start_limit { start ≤ 1000003600 }
+/// The arrival at a pickup directly before the stop at a place, where there is a way to it.
+pub fn pickup_at(near: &Near, dwell: u64, plan: &Plan, place: usize) -> Option<u64>
+    requires within_near { place ≤ length near.now.stops.items }
+    requires within_plan { place ≤ length plan.now.times.items }
+    requires start_limit { plan.now.start ≤ 10000000000000000 }
+    requires soon { All (λ time. time ≤ 10000000000000000) plan.now.times.items }
     requires dwell_limit { dwell ≤ 3600 }
-    requires within { place < length vehicle.now.stops.items }
-    ensures { result ≡ slice_index (times_of vehicle.now start dwell) place }
+    requires short { IfSome (to_pickup_of near.now place) (λ seconds. seconds ≤ 500000000000000) }
+    ensures { result ≡ pickup_at near.now dwell plan.now place }
 {
-    time_at(times(vehicle, start, dwell).as_slice(), place)
+    let leg = to_pickup(near.at_from, near.stops.as_slice(), place)?;
+    Some(leave_at(plan.start, dwell, plan.times.as_slice(), place) + leg)
 }
 
-// The time at a place.
-fn time_at(times: &[u64], place: usize) -> u64
-    requires { place < length times.now }
-    ensures { result ≡ slice_index times.now place }
+/// When a vehicle with these arrivals leaves for a place.
+pub fn leave_at(start: u64, dwell: u64, times: &[u64], place: usize) -> u64
+    requires within { place ≤ length times.now }
+    requires start_limit { start ≤ 10000000000000000 }
+    requires soon { All (λ time. time ≤ 10000000000000000) times.now }
+    requires dwell_limit { dwell ≤ 3600 }
+    ensures time { result ≡ leave_at start dwell times.now place }
+    ensures bounded { result ≤ 10000000000003600 }
 {
-    times[place]
+    if place == 0 {
+        start
+    } else {
+        times[place - 1] + dwell
+    }
 }

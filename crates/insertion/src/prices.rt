@@ -11,8 +11,8 @@ pub fn may_offer(vehicle: &Vehicle, i: usize, j: usize, time: u64) -> bool
     is_open(vehicle, time) && i <= j && j <= number_of_stops(vehicle)
 }
 
-// On duty, and idle or not yet at its next node.
-fn is_open(vehicle: &Vehicle, time: u64) -> bool
+/// Whether it is on duty, and idle or not yet at its next node.
+pub fn is_open(vehicle: &Vehicle, time: u64) -> bool
     ensures { result ≡ is_open vehicle.now time }
 {
     vehicle.duty && (is_idle(vehicle) || time <= vehicle.ready)
@@ -49,8 +49,8 @@ fn is_idle(vehicle: &Vehicle) -> bool
 pub fn cost(settings: &Settings, driven: u64, waited: u64) -> u64
     requires drive_limit { settings.now.drive ≤ 1000 }
     requires wait_limit { settings.now.wait ≤ 1000 }
-    requires short_drive { driven ≤ 1001003600 }
-    requires short_wait { waited ≤ 1001003600 }
+    requires short_drive { driven ≤ 3000000000000000 }
+    requires short_wait { waited ≤ 15000000000000000 }
     ensures { result ≡ settings.now.drive * driven + settings.now.wait * waited }
 {
     settings.drive * driven + settings.wait * waited

@@ -4,6 +4,7 @@ ghost use Rattle.ride_ports.specs.Calls.{ArePieces};
 ghost use Rattle.ride_ports.specs.MemFile.{HaveDistinctNames, HavePieces};
 
 mod audits;
+mod drawn;
 mod edges;
 mod faults;
 mod gates;
@@ -55,6 +56,9 @@ const REPLAY: [&str; 7] = ["replay", "--map", "m", "--fleet", "f", "--feed", "r"
 
 const AUDIT: [&str; 7] = ["audit", "--map", "m", "--fleet", "f", "--log", "l"];
 
+/// The lengths of the pieces in which files are read: one, two or seven bytes, or all at once.
+const PIECES: [&[usize]; 4] = [&[1], &[2], &[7], &[]];
+
 /// More bytes than each log here has.
 const ROOM: usize = 6_000_000;
 
@@ -70,10 +74,14 @@ struct File<'a> {
 impl<'a> File<'a> {
     /// A file that one read gives whole.
     fn whole(bytes: &'a [u8]) -> File<'a> {
+        File::new(bytes, &[], &[])
+    }
+
+    fn new(bytes: &'a [u8], pieces: &'a [usize], failing: &'a [u64]) -> File<'a> {
         File {
             bytes,
-            pieces: &[],
-            failing: &[],
+            pieces,
+            failing,
         }
     }
 }
@@ -90,16 +98,39 @@ struct Setup<'a> {
 }
 
 impl<'a> Setup<'a> {
+    /// The files of a replay.
+    fn new(map: File<'a>, fleet: File<'a>, feed: File<'a>, room: usize) -> Setup<'a> {
+        Setup {
+            map,
+            fleet,
+            feed,
+            drivers: File::whole(b""),
+            log: File::whole(b""),
+            room,
+        }
+    }
+
     /// Files that are read whole, and a sink that takes all.
     fn whole(map: &'a [u8], fleet: &'a [u8], feed: &'a [u8], log: &'a [u8]) -> Setup<'a> {
-        Setup {
-            map: File::whole(map),
-            fleet: File::whole(fleet),
-            feed: File::whole(feed),
-            drivers: File::whole(b""),
-            log: File::whole(log),
-            room: ROOM,
-        }
+        Setup::new(
+            File::whole(map),
+            File::whole(fleet),
+            File::whole(feed),
+            ROOM,
+        )
+        .with_log(File::whole(log))
+    }
+
+    fn with_drivers(self, drivers: File<'a>) -> Setup<'a> {
+        Setup { drivers, ..self }
+    }
+
+    fn with_log(self, log: File<'a>) -> Setup<'a> {
+        Setup { log, ..self }
+    }
+
+    fn with_room(self, room: usize) -> Setup<'a> {
+        Setup { room, ..self }
     }
 }
 

@@ -303,23 +303,16 @@ fn a_wrong_line_that_was_read_whole_comes_before_a_fault(rt: HostRuntime) -> Res
     let map = text_of(rt.alloc(), LINE)?;
     let fleet = text_of(rt.alloc(), ONE_BY_ONE)?;
     let wrong = changed(rt.alloc(), LOG, &PLAIN[3])?;
-    let files = Setup::whole(map.as_bytes(), fleet.as_bytes(), b"", b"");
     // The first read gives five lines, of which the last is wrong.
-    let log = File {
-        bytes: wrong.as_bytes(),
-        pieces: &[188],
-        failing: &[2],
-    };
-    let answer = answer_to(&rt, &AUDIT, Setup { log, ..files })?;
+    let log = File::new(wrong.as_bytes(), &[188], &[2]);
+    let files = Setup::whole(map.as_bytes(), fleet.as_bytes(), b"", b"").with_log(log);
+    let answer = answer_to(&rt, &AUDIT, files)?;
     assert_eq!(rt; answer.text(), "no 5 prices\n");
     assert_eq!(rt; answer.status, 7);
     // The first read gives four lines, which are right.
-    let log = File {
-        bytes: LOG.as_bytes(),
-        pieces: &[114],
-        failing: &[2],
-    };
-    let answer = answer_to(&rt, &AUDIT, Setup { log, ..files })?;
+    let log = File::new(LOG.as_bytes(), &[114], &[2]);
+    let files = Setup::whole(map.as_bytes(), fleet.as_bytes(), b"", b"").with_log(log);
+    let answer = answer_to(&rt, &AUDIT, files)?;
     assert_eq!(rt; answer.text(), "");
     assert_eq!(rt; (answer.status, answer.faults), (5, 1));
     Ok(())

@@ -1,6 +1,6 @@
 //! Words that are not in order, files that are missing, reads and writes that fail, and files beyond their limits.
 use super::texts::{Part, text_of};
-use super::{AUDIT, FEED, File, LINE, LOG, ONE_BY_ONE, REPLAY, ROOM, Setup, answer_to};
+use super::{AUDIT, FEED, File, LINE, LOG, ONE_BY_ONE, PIECES, REPLAY, ROOM, Setup, answer_to};
 use std::process::Abort;
 use std::sync::Wait;
 use std::test::Fail;
@@ -10,6 +10,12 @@ use std::thread::Threads;
 struct Reads {
     pieces: &'static [usize],
     failing: &'static [u64],
+}
+
+impl Reads {
+    fn of<'a>(&'a self, bytes: &'a [u8]) -> File<'a> {
+        File::new(bytes, self.pieces, self.failing)
+    }
 }
 
 const WHOLE: Reads = Reads {
@@ -341,22 +347,12 @@ fn expect<R: Abort + Threads + Wait + Sync + AllocGlobal>(
     let map = text_of(rt.alloc(), case.map)?;
     let fleet = text_of(rt.alloc(), case.fleet)?;
     let feed = text_of(rt.alloc(), case.feed)?;
-    let files = Setup {
-        map: File {
-            bytes: map.as_bytes(),
-            pieces: case.reads_of_map.pieces,
-            failing: case.reads_of_map.failing,
-        },
-        fleet: File::whole(fleet.as_bytes()),
-        feed: File {
-            bytes: feed.as_bytes(),
-            pieces: case.reads_of_feed.pieces,
-            failing: case.reads_of_feed.failing,
-        },
-        drivers: File::whole(b""),
-        log: File::whole(b""),
-        room: case.room,
-    };
+    let files = Setup::new(
+        case.reads_of_map.of(map.as_bytes()),
+        File::whole(fleet.as_bytes()),
+        case.reads_of_feed.of(feed.as_bytes()),
+        case.room,
+    );
     let answer = answer_to(rt, case.words, files)?;
     assert_eq!(rt; answer.text(), case.written, "{}", case.shows);
     assert_eq!(rt; answer.status, case.status, "{}", case.shows);
@@ -377,29 +373,21 @@ enum Failing {
 fn one_failing<'a>(files: Setup<'a>, which: Failing, read: &'a [u64]) -> Setup<'a> {
     match which {
         Failing::Map => Setup {
-            map: in_pieces(files.map.bytes, &[7], read),
+            map: File::new(files.map.bytes, &[7], read),
             ..files
         },
         Failing::Fleet => Setup {
-            fleet: in_pieces(files.fleet.bytes, &[7], read),
+            fleet: File::new(files.fleet.bytes, &[7], read),
             ..files
         },
         Failing::Feed => Setup {
-            feed: in_pieces(files.feed.bytes, &[7], read),
+            feed: File::new(files.feed.bytes, &[7], read),
             ..files
         },
         Failing::Log => Setup {
-            log: in_pieces(files.log.bytes, &[7], read),
+            log: File::new(files.log.bytes, &[7], read),
             ..files
         },
-    }
-}
-
-fn in_pieces<'a>(bytes: &'a [u8], pieces: &'a [usize], failing: &'a [u64]) -> File<'a> {
-    File {
-        bytes,
-        pieces,
-        failing,
     }
 }
 
@@ -445,12 +433,12 @@ fn a_sink_that_fails_has_the_first_bytes(rt: HostRuntime) -> Result<(), Fail> {
     let line = "yes entries 6 confirmed 1 away 0 picked 0 dropped 0 finished yes\n";
     for (words, text) in [(&REPLAY, LOG), (&AUDIT, line)] {
         for room in 0..text.len() {
-            let answer = answer_to(&rt, words, Setup { room, ..files })?;
+            let answer = answer_to(&rt, words, files.with_room(room))?;
             assert_eq!(rt; answer.written.as_slice(), &text.as_bytes()[..room]);
             assert_eq!(rt; (answer.status, answer.faults), (6, 0));
         }
         let room = text.len();
-        let answer = answer_to(&rt, words, Setup { room, ..files })?;
+        let answer = answer_to(&rt, words, files.with_room(room))?;
         assert_eq!(rt; answer.text(), text);
         assert_eq!(rt; answer.status, 0);
     }
@@ -461,15 +449,13 @@ fn a_sink_that_fails_has_the_first_bytes(rt: HostRuntime) -> Result<(), Fail> {
 fn a_replay_in_pieces_of_any_length(rt: HostRuntime) -> Result<(), Fail> {
     let map = text_of(rt.alloc(), LINE)?;
     let fleet = text_of(rt.alloc(), ONE_BY_ONE)?;
-    for pieces in [&[1][..], &[2], &[7], &[]] {
-        let files = Setup {
-            map: in_pieces(map.as_bytes(), pieces, &[]),
-            fleet: in_pieces(fleet.as_bytes(), pieces, &[]),
-            feed: in_pieces(FEED.as_bytes(), pieces, &[]),
-            drivers: File::whole(b""),
-            log: File::whole(b""),
-            room: ROOM,
-        };
+    for pieces in PIECES {
+        let files = Setup::new(
+            File::new(map.as_bytes(), pieces, &[]),
+            File::new(fleet.as_bytes(), pieces, &[]),
+            File::new(FEED.as_bytes(), pieces, &[]),
+            ROOM,
+        );
         let answer = answer_to(&rt, &REPLAY, files)?;
         assert_eq!(rt; answer.text(), LOG);
         assert_eq!(rt; answer.status, 0);

@@ -1,6 +1,6 @@
 //! Maps and fleet files that are refused, in pieces of any length: which line says so.
 use super::texts::{Part, text_of};
-use super::{File, LINE, ONE_BY_ONE, REPLAY, Setup, answer_to};
+use super::{File, LINE, ONE_BY_ONE, PIECES, REPLAY, ROOM, Setup, answer_to};
 use std::process::Abort;
 use std::sync::Wait;
 use std::test::Fail;
@@ -43,18 +43,13 @@ fn expect<R: Abort + Threads + Wait + Sync + AllocGlobal>(
 ) -> Result<(), Fail> {
     let map = text_of(rt.alloc(), map)?;
     let fleet = text_of(rt.alloc(), fleet)?;
-    for pieces in [&[1][..], &[2], &[7], &[]] {
-        let files = Setup {
-            map: File {
-                pieces,
-                ..File::whole(map.as_bytes())
-            },
-            fleet: File {
-                pieces,
-                ..File::whole(fleet.as_bytes())
-            },
-            ..Setup::whole(b"", b"", b"", b"")
-        };
+    for pieces in PIECES {
+        let files = Setup::new(
+            File::new(map.as_bytes(), pieces, &[]),
+            File::new(fleet.as_bytes(), pieces, &[]),
+            File::whole(b""),
+            ROOM,
+        );
         let answer = answer_to(rt, &REPLAY, files)?;
         assert_eq!(rt; answer.text(), case.line, "{}", case.shows);
         assert_eq!(rt;

@@ -1,7 +1,7 @@
 //! Sessions of two feeds: what happens while a batch is open, and what an audit says of each log.
 use super::gates::{Gated, Meeting};
 use super::texts::{Part, is_like, text_of};
-use super::{AUDIT, DEFAULTS, File, LINE, Setup, answer_to, answer_with};
+use super::{AUDIT, DEFAULTS, FEED, File, LINE, Setup, answer_to, answer_with};
 use std::alloc::Global;
 use std::process::Abort;
 use std::sync::Wait;
@@ -122,6 +122,24 @@ d1 end\n",
     },
 ];
 
+fn serve_words<'a>(workers: &'a str, desks: &'a str) -> [&'a str; 13] {
+    [
+        "serve",
+        "--map",
+        "m",
+        "--fleet",
+        "f",
+        "--riders",
+        "r",
+        "--drivers",
+        "d",
+        "--workers",
+        workers,
+        "--desks",
+        desks,
+    ]
+}
+
 #[test]
 fn sessions_of_two_feeds_have_their_lines(rt: HostRuntime) -> Result<(), Fail> {
     for case in SESSIONS.as_slice() {
@@ -138,30 +156,14 @@ fn expect<R: Abort + Threads + Wait + Sync + AllocGlobal>(
     let alloc = rt.alloc();
     let map = text_of(alloc, LINE)?;
     let fleet = text_of(alloc, case.fleet)?;
-    let files = Setup {
-        drivers: File::whole(case.drivers.as_bytes()),
-        ..Setup::whole(
-            map.as_bytes(),
-            fleet.as_bytes(),
-            case.riders.as_bytes(),
-            b"",
-        )
-    };
-    let words = [
-        "serve",
-        "--map",
-        "m",
-        "--fleet",
-        "f",
-        "--riders",
-        "r",
-        "--drivers",
-        "d",
-        "--workers",
-        case.workers,
-        "--desks",
-        case.desks,
-    ];
+    let files = Setup::whole(
+        map.as_bytes(),
+        fleet.as_bytes(),
+        case.riders.as_bytes(),
+        b"",
+    )
+    .with_drivers(File::whole(case.drivers.as_bytes()));
+    let words = serve_words(case.workers, case.desks);
     let gate = Gated::new(case.meetings);
     let answer = answer_with(rt, &words, files, &gate)?;
     assert!(rt; gate.all_met(), "{}: {}", case.shows, answer.text());
@@ -189,17 +191,13 @@ fn lines_of(alloc: Global, log: &str, actors: &[&str]) -> Result<String, Fail> {
 }
 
 // Asserts what an audit says of a log over a map and a fleet.
-fn expect_audit<R: Abort + Threads + Wait + Sync + AllocGlobal>(
+fn expect_audit<'a, R: Abort + Threads + Wait + Sync + AllocGlobal>(
     rt: &R,
-    files: Setup<'_>,
-    log: &[u8],
+    files: Setup<'a>,
+    log: &'a [u8],
     line: &str,
 ) -> Result<(), Fail> {
-    let files = Setup {
-        log: File::whole(log),
-        ..files
-    };
-    let answer = answer_to(rt, &AUDIT, files)?;
+    let answer = answer_to(rt, &AUDIT, files.with_log(File::whole(log)))?;
     assert_eq!(rt; answer.text(), line);
     assert_eq!(rt; answer.status, 0);
     Ok(())
@@ -209,27 +207,8 @@ fn expect_audit<R: Abort + Threads + Wait + Sync + AllocGlobal>(
 fn two_desks_seat_one_request_once(rt: HostRuntime) -> Result<(), Fail> {
     let map = text_of(rt.alloc(), LINE)?;
     let fleet = text_of(rt.alloc(), DEFAULTS)?;
-    let files = Setup::whole(
-        map.as_bytes(),
-        fleet.as_bytes(),
-        b"request 7 2 4 1 600 300\nbatch\n",
-        b"",
-    );
-    let words = [
-        "serve",
-        "--map",
-        "m",
-        "--fleet",
-        "f",
-        "--riders",
-        "r",
-        "--drivers",
-        "d",
-        "--workers",
-        "2",
-        "--desks",
-        "2",
-    ];
+    let files = Setup::whole(map.as_bytes(), fleet.as_bytes(), FEED.as_bytes(), b"");
+    let words = serve_words("2", "2");
     for _ in 0..20 {
         let answer = answer_to(&rt, &words, files)?;
         assert_eq!(rt; answer.status, 0);
@@ -243,35 +222,10 @@ fn two_desks_seat_one_request_once(rt: HostRuntime) -> Result<(), Fail> {
 fn a_feed_that_fails_is_cut_alone(rt: HostRuntime) -> Result<(), Fail> {
     let map = text_of(rt.alloc(), LINE)?;
     let fleet = text_of(rt.alloc(), DEFAULTS)?;
-    let drivers = File {
-        bytes: b"",
-        pieces: &[],
-        failing: &[1],
-    };
-    let files = Setup {
-        drivers,
-        ..Setup::whole(
-            map.as_bytes(),
-            fleet.as_bytes(),
-            b"request 7 2 4 1 600 300\nbatch\n",
-            b"",
-        )
-    };
-    let words = [
-        "serve",
-        "--map",
-        "m",
-        "--fleet",
-        "f",
-        "--riders",
-        "r",
-        "--drivers",
-        "d",
-        "--workers",
-        "1",
-        "--desks",
-        "1",
-    ];
+    let files = Setup::whole(map.as_bytes(), fleet.as_bytes(), FEED.as_bytes(), b"").with_drivers(
+        File::new(b"", &[], &[1]),
+    );
+    let words = serve_words("1", "1");
     let answer = answer_to(&rt, &words, files)?;
     assert_eq!(rt; (answer.status, answer.faults), (5, 1));
     for (actors, lines) in [
