@@ -6,6 +6,7 @@
                             over 1,000 vehicles on a map of New York's size
   live.py silence PROGRAM   ten seconds of two silent pipes
   live.py memory PROGRAM    two feeds of 1,000,000 lines, and two desks of 8 workers on the largest map
+  live.py day PROGRAM       the city's day of write_day.py: a replay, the audit of its log, and one and two desks
 """
 import os
 import random
@@ -111,10 +112,9 @@ def until(session, wanted, buffer):
 
 def answers(program, folder):
     here = os.path.dirname(os.path.abspath(__file__))
-    with open(f"{folder}/map", "w") as file:
-        subprocess.run([sys.executable, f"{here}/write_map.py"], stdout=file, check=True)
+    subprocess.run([sys.executable, f"{here}/write_map.py", f"{folder}/map"], check=True)
     draw = random.Random(1)
-    nodes = int(open(f"{folder}/map").readline().split()[2])
+    nodes = 264_346
     fleet = "".join(f"vehicle {v} 16 {draw.randint(1, nodes)} 0\n" for v in range(1, 1001))
     write(f"{folder}/fleet", "set batch 128\n" + fleet)
     session, riders, drivers = pipes(program, folder, 2, 1)
@@ -174,6 +174,23 @@ def memory(program, folder):
     print(f"two desks of 8 workers on the largest map: {megabytes:.0f} MB")
 
 
+def day(program, folder):
+    here = os.path.dirname(os.path.abspath(__file__))
+    subprocess.run([sys.executable, f"{here}/write_day.py", "city", f"{folder}/map", f"{folder}/fleet", f"{folder}/feed"], check=True)
+    feed = open(f"{folder}/feed").readlines()
+    write(f"{folder}/riders", "".join(line for line in feed if not line.startswith("cancel")))
+    write(f"{folder}/drivers", "".join(line for line in feed if line.startswith("cancel")))
+    files = ["--map", f"{folder}/map", "--fleet", f"{folder}/fleet"]
+    with open(f"{folder}/log", "wb") as log:
+        clock, busy, _ = run([program, "replay", *files, "--feed", f"{folder}/feed"], stdout=log)
+    print(f"replay: {clock:.1f} s by the clock, {busy:.1f} s of processors")
+    clock, busy, megabytes = run([program, "audit", *files, "--log", f"{folder}/log"])
+    print(f"audit: {clock:.1f} s by the clock, {busy:.1f} s of processors, {megabytes:.0f} MB")
+    for desks in (1, 2):
+        clock, busy, megabytes = run([program] + words(folder, 4 // desks, desks))
+        print(f"desks {desks}: {2_000 / clock * 3600:,.0f} batches an hour, {clock:.1f} s by the clock, {busy:.1f} s of processors, {megabytes:.0f} MB")
+
+
 if __name__ == "__main__":
     with tempfile.TemporaryDirectory() as folder:
-        {"speed": speed, "answers": answers, "silence": silence, "memory": memory}[sys.argv[1]](sys.argv[2], folder)
+        {"speed": speed, "answers": answers, "silence": silence, "memory": memory, "day": day}[sys.argv[1]](sys.argv[2], folder)
