@@ -8,6 +8,7 @@ mod drawn;
 mod edges;
 mod faults;
 mod gates;
+mod limits;
 mod refusals;
 mod replays;
 mod seatings;
@@ -145,6 +146,11 @@ struct Answer {
 impl Answer {
     fn text(&self) -> &str {
         str::from_utf8(self.written.as_slice()).unwrap_or("(no text)")
+    }
+
+    /// Whether it ended so, wrote just this and met no fault of the shelf.
+    fn is(&self, status: u8, text: &str) -> bool {
+        self.status == status && self.faults == 0 && self.text() == text
     }
 }
 

@@ -48,7 +48,7 @@ fn push_command(text: &mut String, draws: &mut Draws, id: u64) -> Result<(), Fai
     match draws.draw(10) {
         0..=3 => {
             let to = draws.draw(5);
-            let latest = time + 60;
+            let latest = time.saturating_add(60);
             writeln!(text, "request {id} {node} {to} 1 {latest} 400")?;
         }
         4 => writeln!(text, "cancel {}", draws.draw(80))?,

@@ -38,85 +38,7 @@ struct Fault {
     faults: u64,
 }
 
-static FAULTS: [Fault; 19] = [
-    Fault {
-        shows: "words that are not in order",
-        words: &[],
-        map: LINE,
-        reads_of_map: WHOLE,
-        fleet: ONE_BY_ONE,
-        feed: &[Part::Text(FEED)],
-        reads_of_feed: WHOLE,
-        room: ROOM,
-        status: 2,
-        written: "words refused\n",
-        faults: 0,
-    },
-    Fault {
-        shows: "words that are not in order, to a full sink",
-        words: &[],
-        map: LINE,
-        reads_of_map: WHOLE,
-        fleet: ONE_BY_ONE,
-        feed: &[Part::Text(FEED)],
-        reads_of_feed: WHOLE,
-        room: 7,
-        status: 2,
-        written: "words r",
-        faults: 0,
-    },
-    Fault {
-        shows: "words that are not in order",
-        words: &["plan"],
-        map: LINE,
-        reads_of_map: WHOLE,
-        fleet: ONE_BY_ONE,
-        feed: &[Part::Text(FEED)],
-        reads_of_feed: WHOLE,
-        room: ROOM,
-        status: 2,
-        written: "words refused\n",
-        faults: 0,
-    },
-    Fault {
-        shows: "words that are not in order, to a full sink",
-        words: &["plan"],
-        map: LINE,
-        reads_of_map: WHOLE,
-        fleet: ONE_BY_ONE,
-        feed: &[Part::Text(FEED)],
-        reads_of_feed: WHOLE,
-        room: 7,
-        status: 2,
-        written: "words r",
-        faults: 0,
-    },
-    Fault {
-        shows: "words that are not in order",
-        words: &["replay", "--map", "m", "--fleet", "f"],
-        map: LINE,
-        reads_of_map: WHOLE,
-        fleet: ONE_BY_ONE,
-        feed: &[Part::Text(FEED)],
-        reads_of_feed: WHOLE,
-        room: ROOM,
-        status: 2,
-        written: "words refused\n",
-        faults: 0,
-    },
-    Fault {
-        shows: "words that are not in order, to a full sink",
-        words: &["replay", "--map", "m", "--fleet", "f"],
-        map: LINE,
-        reads_of_map: WHOLE,
-        fleet: ONE_BY_ONE,
-        feed: &[Part::Text(FEED)],
-        reads_of_feed: WHOLE,
-        room: 7,
-        status: 2,
-        written: "words r",
-        faults: 0,
-    },
+static FAULTS: [Fault; 13] = [
     Fault {
         shows: "a file that is missing",
         words: &["replay", "--map", "x", "--fleet", "f", "--feed", "r"],
@@ -331,6 +253,131 @@ d1 end\n",
         faults: 0,
     },
 ];
+
+/// Words that are not in order.
+const REFUSED: [&[&str]; 17] = [
+    &[],
+    &["plan"],
+    &["--help"],
+    &["replay", "--help"],
+    &["replay", "--version"],
+    &["replay", "help"],
+    &["replay", "--map", "m", "--fleet", "f"],
+    &["replay", "--map", "m", "--fleet", "f", "--feed"],
+    &[
+        "replay", "--map", "m", "--map", "m", "--fleet", "f", "--feed", "r",
+    ],
+    &[
+        "replay", "--map", "m", "--fleet", "f", "--feed", "r", "more",
+    ],
+    &["replay", "--map", "m", "--fleet", "f", "--log", "l"],
+    &["audit", "--map", "m", "--fleet", "f", "--feed", "r"],
+    &[
+        "serve",
+        "--map",
+        "m",
+        "--fleet",
+        "f",
+        "--riders",
+        "r",
+        "--drivers",
+        "d",
+        "--workers",
+        "0",
+        "--desks",
+        "1",
+    ],
+    &[
+        "serve",
+        "--map",
+        "m",
+        "--fleet",
+        "f",
+        "--riders",
+        "r",
+        "--drivers",
+        "d",
+        "--workers",
+        "17",
+        "--desks",
+        "1",
+    ],
+    &[
+        "serve",
+        "--map",
+        "m",
+        "--fleet",
+        "f",
+        "--riders",
+        "r",
+        "--drivers",
+        "d",
+        "--workers",
+        "1",
+        "--desks",
+        "0",
+    ],
+    &[
+        "serve",
+        "--map",
+        "m",
+        "--fleet",
+        "f",
+        "--riders",
+        "r",
+        "--drivers",
+        "d",
+        "--workers",
+        "1",
+        "--desks",
+        "3",
+    ],
+    &[
+        "serve",
+        "--map",
+        "m",
+        "--fleet",
+        "f",
+        "--riders",
+        "r",
+        "--drivers",
+        "d",
+        "--workers",
+        "one",
+        "--desks",
+        "1",
+    ],
+];
+
+/// Words that are in order, whatever the order of their options.
+const IN_ORDER: [&[&str]; 4] = [
+    &["replay", "--map", "m", "--fleet", "f", "--feed", "r"],
+    &["replay", "--feed", "r", "--map", "m", "--fleet", "f"],
+    &["replay", "--fleet", "f", "--feed", "r", "--map", "m"],
+    &["replay", "--feed=r", "--map=m", "--fleet", "f"],
+];
+
+#[test]
+fn words_are_in_order_or_refused(rt: HostRuntime) -> Result<(), Fail> {
+    let map = text_of(rt.alloc(), LINE)?;
+    let fleet = text_of(rt.alloc(), ONE_BY_ONE)?;
+    let files = Setup::whole(map.as_bytes(), fleet.as_bytes(), FEED.as_bytes(), b"");
+    for words in REFUSED {
+        let answer = answer_to(&rt, words, files)?;
+        assert_eq!(rt;
+            (answer.status, answer.text()),
+            (2, "words refused\n"),
+            "{words:?}"
+        );
+        let answer = answer_to(&rt, words, files.with_room(7))?;
+        assert_eq!(rt; (answer.status, answer.text()), (2, "words r"), "{words:?}");
+    }
+    for words in IN_ORDER {
+        let answer = answer_to(&rt, words, files)?;
+        assert_eq!(rt; (answer.status, answer.text()), (0, LOG), "{words:?}");
+    }
+    Ok(())
+}
 
 #[test]
 fn faults_have_their_status_and_text(rt: HostRuntime) -> Result<(), Fail> {

@@ -51,13 +51,7 @@ fn expect<R: Abort + Threads + Wait + Sync + AllocGlobal>(
             ROOM,
         );
         let answer = answer_to(rt, &REPLAY, files)?;
-        assert_eq!(rt; answer.text(), case.line, "{}", case.shows);
-        assert_eq!(rt;
-            (answer.status, answer.faults),
-            (status, 0),
-            "{}",
-            case.shows
-        );
+        assert!(rt; answer.is(status, case.line), "{}", case.shows);
     }
     Ok(())
 }

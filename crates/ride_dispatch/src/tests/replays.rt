@@ -1,5 +1,6 @@
 //! Replays that run whole: their logs, and what an audit says of them.
 use super::edges::EDGES;
+use super::limits::LIMITS;
 use super::seatings::SEATINGS;
 use super::stops::STOPS;
 use super::texts::{Part, is_like, text_of};
@@ -31,8 +32,13 @@ fn stops_and_reports_have_their_logs(rt: HostRuntime) -> Result<(), Fail> {
 }
 
 #[test]
-fn empty_and_extreme_files_have_their_logs(rt: HostRuntime) -> Result<(), Fail> {
+fn odd_files_have_their_logs(rt: HostRuntime) -> Result<(), Fail> {
     expect_all(&rt, EDGES.as_slice())
+}
+
+#[test]
+fn files_at_their_limits_have_their_logs(rt: HostRuntime) -> Result<(), Fail> {
+    expect_all(&rt, LIMITS.as_slice())
 }
 
 fn expect_all<R: Abort + Threads + Wait + Sync + AllocGlobal>(
