@@ -1,1 +1,4 @@
 mod AskedAt
+mod IdleVehicle
+mod ClockRuns
+mod Looks

@@ -1,2 +1,3 @@
 pub mod Streets
 pub mod Places
+pub mod Shared

@@ -1,19 +1,27 @@
 //! Times the parts of the dispatcher whose speed matters, each by a word: `new_york` for rows of travel times, `read_map FILE`
-//! for the reading of a map, `grids` for least pairings, `places` for the cheapest places in a plan. With no word it prints the answers of small ones, with no times.
+//! for the reading of a map, `grids` for least pairings, `places` for the cheapest places in a plan, `shared` for calls of a board
+//! that threads share. With no word it prints the answers of small ones, with no times.
 #![tactic(auto)]
 
 mod assignment;
+mod boards;
 mod grid;
 mod places;
 mod reading;
 mod rows;
+mod shared;
 
 use anyhow::{Result, bail};
 use std::alloc::Global;
 use std::env;
 use std::rt::{Clock, Env, Files};
+use std::sync::Wait;
+use std::thread::Threads;
 
-fn run<R: Clock + Print + Env + Files + AllocGlobal>(rt: &R, alloc: Global) -> Result<()>
+fn run<R: Clock + Print + Env + Files + Threads + Wait + Sync + AllocGlobal>(
+    rt: &R,
+    alloc: Global,
+) -> Result<()>
 where
     R::File: Send,
 {
@@ -21,14 +29,16 @@ where
     let Some(word) = words.next() else {
         rows::small(rt, alloc)?;
         assignment::product(rt, alloc)?;
-        return places::small(rt);
+        places::small(rt)?;
+        return shared::small(rt, alloc);
     };
     match (word.as_str(), words.next()) {
         ("grids", None) => assignment::grids(rt, alloc),
         ("places", None) => places::places(rt),
+        ("shared", None) => shared::shared(rt, alloc),
         ("new_york", None) => rows::new_york(rt, alloc),
         ("read_map", Some(name)) => reading::time_map(rt, alloc, name),
-        _ => bail!("grids, new_york, places, or read_map and a file's name"),
+        _ => bail!("grids, new_york, places, shared, or read_map and a file's name"),
     }
 }
 

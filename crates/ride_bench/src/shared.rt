@@ -1,0 +1,378 @@
+//! The board's own calls, and the same calls through passes of a shared board.
+ghost use Rattle.std.specs.Prelude.{◌≡◌, ◌≤◌, ◌+◌, [], length, Some, IsSome, IfOk, OnOk};
+ghost use Rattle.std.specs.Thread.{IsSync};
+ghost use Rattle.turn_lock.specs.Passes.{knowledge};
+ghost use Rattle.fleet_board.specs.Passes.{commands_in};
+ghost use Rattle.fleet_board.specs.Roles.{MayFeed};
+ghost use Rattle.ride_bench.specs.Shared.{MayBegin, MayLook};
+
+use crate::boards::{board, line};
+use anyhow::Result;
+use board_core::Board;
+use fleet_board::{ActorPass, PassSet, SharedBoard};
+use ride_model::{Command, Ending, Entry, Event, NoMemory};
+use road_times::Roads;
+use std::alloc::{AllocError, Global};
+use std::rt::Clock;
+use std::sync::Wait;
+use std::thread::{Threads, join_mut};
+use std::time::Instant;
+
+/// The most entries that the scribe copies at a look.
+const MOST: u32 = 1024;
+
+/// How many commands are timed.
+const COMMANDS: u32 = 1_000_000;
+
+/// The passes of two feeds and of the scribe.
+#[derive(Drop)]
+struct Passes<'r> {
+    first: ActorPass<'r>,
+    second: ActorPass<'r>,
+    scribe: ActorPass<'r>,
+}
+
+// Applies so many commands as feed 1, without a lock.
+fn apply_clocks(board: &mut Board<'_>, count: u32) -> Result<(), NoMemory>
+    requires feeds { board.old.feeds ≡ 2 }
+    requires history { board.old.history ≡ [] }
+    requires count { count ≤ 1000000 }
+    ensures applied { OnOk result (length board.new.history ≡ count) }
+{
+    // This call tells that no feed has ended.
+    let _entries = board.entries();
+    for time in 0..count {
+        let _reply = board.apply(
+            1,
+            &Command::Clock {
+                time: u64::from(time),
+            },
+        )?;
+    }
+    Ok(())
+}
+
+// Submits so many commands of a feed.
+fn submit_clocks<'r, R: Wait>(
+    rt: &R,
+    board: &SharedBoard<'r>,
+    feed: &mut ActorPass<'r>,
+    count: u32,
+) -> Result<(), NoMemory>
+    requires feed { MayBegin board.now feed.old }
+    requires count { count ≤ 1000000 }
+    ensures feed { MayFeed board.now feed.new }
+    ensures submitted { OnOk result (length (commands_in (knowledge feed.new).own) ≡ count) }
+{
+    for time in 0..count {
+        let _reply = board.submit(
+            rt,
+            feed,
+            &Command::Clock {
+                time: u64::from(time),
+            },
+        )?;
+    }
+    Ok(())
+}
+
+// Submits so many commands of a feed and ends it, so that the scribe ends too.
+fn run_feed<'r, R: Wait>(
+    rt: &R,
+    board: &SharedBoard<'r>,
+    feed: &mut ActorPass<'r>,
+    count: u32,
+) -> Result<(), NoMemory>
+    requires feed { MayBegin board.now feed.old }
+    requires count { count ≤ 1000000 }
+    ensures submitted { OnOk result (length (commands_in (knowledge feed.new).own) ≡ count) }
+{
+    let submitted = submit_clocks(rt, board, feed, count);
+    board.end(rt, feed, Ending::Whole);
+    submitted
+}
+
+// Runs two feeds in a thread each.
+fn run_feeds<'a, 'r, R: Threads + Wait + Sync>(
+    rt: &'a R,
+    board: &'a SharedBoard<'r>,
+    first: &mut ActorPass<'r>,
+    second: &mut ActorPass<'r>,
+    each: u32,
+) -> (Result<(), NoMemory>, Result<(), NoMemory>)
+    requires first { MayBegin board.now first.old }
+    requires second { MayBegin board.now second.old }
+    requires each { each ≤ 1000000 }
+    ensures first { OnOk result.0 (length (commands_in (knowledge first.new).own) ≡ each) }
+    ensures second { OnOk result.1 (length (commands_in (knowledge second.new).own) ≡ each) }
+{
+    join_mut(
+        rt,
+        &mut || -> Result<(), NoMemory>
+            requires { MayBegin board.now first.now × (each ≤ 1000000) }
+            ensures { OnOk result (length (commands_in (knowledge first.exit.now).own) ≡ each) }
+        { run_feed(rt, board, first, each) },
+        &mut || -> Result<(), NoMemory>
+            requires { MayBegin board.now second.now × (each ≤ 1000000) }
+            ensures { OnOk result (length (commands_in (knowledge second.exit.now).own) ≡ each) }
+        { run_feed(rt, board, second, each) },
+    )
+}
+
+// How many of these entries end an actor.
+fn ends_in(entries: &[Entry]) -> u32 {
+    let mut ends = 0u32;
+    for entry in entries {
+        if matches!(entry.event, Event::Finish { .. }) {
+            ends = ends.wrapping_add(1);
+        }
+    }
+    ends
+}
+
+// The next entries of the history from a place on: the place behind them, and how many of them end an actor.
+fn look<'r, R: Wait>(
+    rt: &R,
+    alloc: Global,
+    board: &SharedBoard<'r>,
+    scribe: &mut ActorPass<'r>,
+    from: u64,
+) -> Result<(u64, u32), NoMemory>
+    requires scribe { MayLook board.now scribe.old }
+    requires from { from ≤ length (knowledge scribe.old).seen }
+    ensures scribe { MayLook board.now scribe.new }
+    ensures next { IfOk result (λ found. (from ≤ found.0) × (found.0 ≤ length (knowledge scribe.new).seen)) }
+{
+    let tail = board.tail(rt, alloc, scribe, from, MOST)?;
+    let entries = tail.entries.as_slice();
+    let next = place_behind(from, entries)?;
+    Ok((next, ends_in(entries)))
+}
+
+// The place behind entries. More than a number counts do not fit into memory.
+fn place_behind(from: u64, entries: &[Entry]) -> Result<u64, NoMemory>
+    ensures { IfOk result (λ next. next ≡ from + length entries.now) }
+{
+    from.checked_add(entries.len() as u64).ok_or(AllocError)
+}
+
+// Looks at the history as it grows until two actors have ended, and answers how many entries it has seen by then.
+fn run_scribe<'r, R: Wait>(
+    rt: &R,
+    alloc: Global,
+    board: &SharedBoard<'r>,
+    scribe: &mut ActorPass<'r>,
+) -> Result<u64, NoMemory>
+    requires scribe { MayLook board.now scribe.old }
+    ensures seen { IfOk result (λ count. count ≤ length (knowledge scribe.new).seen) }
+{
+    let mut count = 0;
+    let mut ends = 0u32;
+    'looks: for _ in rt.forever() {
+        let (next, more_ends) = look(rt, alloc, board, scribe, count)?;
+        let caught_up = next == count;
+        count = next;
+        ends = ends.wrapping_add(more_ends);
+        if ends >= 2 {
+            return Ok(count);
+        }
+        if caught_up {
+            board.wait_for_news(rt, scribe);
+        }
+    }
+    unreachable!()
+}
+
+// Runs two feeds, and the scribe beside them. Where a thread cannot be made the scribe comes last.
+fn run_all<'a, 'r, R: Threads + Wait + Sync>(
+    rt: &'a R,
+    alloc: Global,
+    board: &'a SharedBoard<'r>,
+    first: &mut ActorPass<'r>,
+    second: &mut ActorPass<'r>,
+    scribe: &mut ActorPass<'r>,
+    each: u32,
+) -> (
+    Result<u64, NoMemory>,
+    (Result<(), NoMemory>, Result<(), NoMemory>),
+)
+    requires first { MayBegin board.now first.old }
+    requires second { MayBegin board.now second.old }
+    requires scribe { MayLook board.now scribe.old }
+    requires each { each ≤ 1000000 }
+    ensures first { OnOk result.1.0 (length (commands_in (knowledge first.new).own) ≡ each) }
+    ensures second { OnOk result.1.1 (length (commands_in (knowledge second.new).own) ≡ each) }
+    ensures seen { IfOk result.0 (λ count. count ≤ length (knowledge scribe.new).seen) }
+{
+    join_mut(
+        rt,
+        &mut || -> Result<u64, NoMemory>
+            requires { MayLook board.now scribe.now }
+            ensures { IfOk result (λ count. count ≤ length (knowledge scribe.exit.now).seen) }
+        { run_scribe(rt, alloc, board, scribe) },
+        &mut || -> (Result<(), NoMemory>, Result<(), NoMemory>)
+            requires { IsSync R.row × MayBegin board.now first.now × MayBegin board.now second.now × (each ≤ 1000000) }
+            ensures { OnOk result.0 (length (commands_in (knowledge first.exit.now).own) ≡ each)
+                × OnOk result.1 (length (commands_in (knowledge second.exit.now).own) ≡ each) }
+        { run_feeds(rt, board, first, second, each) },
+    )
+}
+
+// The passes of two feeds and of the scribe.
+fn passes_of<'r>(passes: PassSet<'r>) -> Passes<'r>
+    requires first { IsSome passes.feed_1 }
+    requires second { IsSome passes.feed_2 }
+    ensures first { passes.entry.feed_1 ≡ Some result.first }
+    ensures second { passes.entry.feed_2 ≡ Some result.second }
+    ensures scribe { passes.entry.scribe ≡ result.scribe }
+{
+    let PassSet {
+        feed_1,
+        feed_2,
+        scribe,
+        ..
+    } = passes;
+    let Some(first) = feed_1 else {
+        unreachable!();
+    };
+    let Some(second) = feed_2 else {
+        unreachable!();
+    };
+    Passes {
+        first,
+        second,
+        scribe,
+    }
+}
+
+// A shared board on which nothing happened yet, and its passes.
+fn share(alloc: Global, roads: &Roads) -> Result<(SharedBoard<'_>, Passes<'_>), NoMemory>
+    requires { roads.now.nodes ≡ 4 }
+    ensures first { IfOk result (λ r. MayBegin r.0 r.1.first) }
+    ensures second { IfOk result (λ r. MayBegin r.0 r.1.second) }
+    ensures scribe { IfOk result (λ r. MayLook r.0 r.1.scribe) }
+{
+    let board = board(alloc, roads)?;
+    let (board, passes) = SharedBoard::start(alloc, board)?;
+    Ok((board, passes_of(passes)))
+}
+
+// Prints how many commands a second were answered.
+fn print_rate(rt: &impl Print, name: &str, micros: u128) -> Result<()> {
+    let rate = u128::from(COMMANDS) * 1_000_000 / micros.max(1);
+    println!(rt; "{name}: {rate} commands a second")?;
+    Ok(())
+}
+
+// The microseconds of the board's own calls, without a lock.
+fn time_own<R: Clock>(rt: &R, alloc: Global, roads: &Roads) -> Result<u128>
+    requires { roads.now.nodes ≡ 4 }
+{
+    let mut board = board(alloc, roads)?;
+    let start = Instant::now(rt)?;
+    apply_clocks(&mut board, COMMANDS)?;
+    Ok(start.elapsed(rt)?.as_micros())
+}
+
+// The microseconds of one pass.
+fn time_one<R: Clock + Wait>(rt: &R, alloc: Global, roads: &Roads) -> Result<u128>
+    requires { roads.now.nodes ≡ 4 }
+{
+    let (board, passes) = share(alloc, roads)?;
+    let mut first = passes.first;
+    let start = Instant::now(rt)?;
+    run_feed(rt, &board, &mut first, COMMANDS)?;
+    Ok(start.elapsed(rt)?.as_micros())
+}
+
+// The microseconds of two passes.
+fn time_two<R: Clock + Threads + Wait + Sync>(rt: &R, alloc: Global, roads: &Roads) -> Result<u128>
+    requires { roads.now.nodes ≡ 4 }
+{
+    let (board, passes) = share(alloc, roads)?;
+    let start = Instant::now(rt)?;
+    both_fed(rt, &board, passes, COMMANDS / 2)?;
+    Ok(start.elapsed(rt)?.as_micros())
+}
+
+// Runs two feeds of new passes.
+fn both_fed<'r, R: Threads + Wait + Sync>(
+    rt: &R,
+    board: &SharedBoard<'r>,
+    passes: Passes<'r>,
+    each: u32,
+) -> Result<(), NoMemory>
+    requires first { MayBegin board.now passes.first }
+    requires second { MayBegin board.now passes.second }
+    requires each { each ≤ 1000000 }
+{
+    let Passes {
+        mut first,
+        mut second,
+        ..
+    } = passes;
+    let (first_fed, second_fed) = run_feeds(rt, board, &mut first, &mut second, each);
+    first_fed.and(second_fed)
+}
+
+// Runs two feeds and the scribe of new passes, and answers how many entries the scribe saw.
+fn all_seen<'r, R: Threads + Wait + Sync>(
+    rt: &R,
+    alloc: Global,
+    board: &SharedBoard<'r>,
+    passes: Passes<'r>,
+    each: u32,
+) -> Result<u64, NoMemory>
+    requires first { MayBegin board.now passes.first }
+    requires second { MayBegin board.now passes.second }
+    requires scribe { MayLook board.now passes.scribe }
+    requires each { each ≤ 1000000 }
+{
+    let Passes {
+        mut first,
+        mut second,
+        mut scribe,
+    } = passes;
+    let (seen, (first_fed, second_fed)) = run_all(
+        rt,
+        alloc,
+        board,
+        &mut first,
+        &mut second,
+        &mut scribe,
+        each,
+    );
+    first_fed.and(second_fed).and(seen)
+}
+
+// The microseconds of two passes while the scribe looks.
+fn time_all<R: Clock + Threads + Wait + Sync>(rt: &R, alloc: Global, roads: &Roads) -> Result<u128>
+    requires { roads.now.nodes ≡ 4 }
+{
+    let (board, passes) = share(alloc, roads)?;
+    let start = Instant::now(rt)?;
+    all_seen(rt, alloc, &board, passes, COMMANDS / 2)?;
+    Ok(start.elapsed(rt)?.as_micros())
+}
+
+/// Prints how many entries two passes of 1,000 submits and an end each leave.
+pub fn small<R: Print + Threads + Wait + Sync>(rt: &R, alloc: Global) -> Result<()> {
+    let roads = line(alloc)?;
+    let (board, passes) = share(alloc, &roads)?;
+    let entries = all_seen(rt, alloc, &board, passes, 1000)?;
+    println!(rt; "shared {entries} entries")?;
+    Ok(())
+}
+
+/// Times the board's own calls, and those of one pass, of two, and of two beside the scribe.
+pub fn shared<R: Clock + Print + Threads + Wait + Sync>(rt: &R, alloc: Global) -> Result<()> {
+    let roads = line(alloc)?;
+    print_rate(rt, "no lock", time_own(rt, alloc, &roads)?)?;
+    print_rate(rt, "one pass", time_one(rt, alloc, &roads)?)?;
+    print_rate(rt, "two passes", time_two(rt, alloc, &roads)?)?;
+    print_rate(
+        rt,
+        "two passes and the scribe",
+        time_all(rt, alloc, &roads)?,
+    )
+}
