@@ -1,0 +1,14 @@
+pub mod Keys
+pub mod HeldEntries
+pub mod Bookings
+pub mod Entered
+pub mod Shown
+pub mod Filtered
+pub mod BookingOrder
+pub mod Made
+pub mod Standing
+pub mod AfterCalls
+pub mod Sound
+pub mod Moments
+pub mod Once
+pub mod Releasing

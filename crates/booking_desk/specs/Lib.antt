@@ -1,0 +1,5 @@
+pub mod Desk
+pub mod Kept
+pub mod Released
+pub mod Steps
+pub mod Releases
