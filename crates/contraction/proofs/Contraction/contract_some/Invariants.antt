@@ -1,0 +1,13 @@
+use Rattle.std.proofs.Common.{◌≡◌}
+use Rattle.ride_model.specs.Road.{RoadMap}
+use Rattle.contraction.specs.Contracted.{IsContractionOf}
+use Rattle.contraction.proofs.Contraction.contract_some.Given as goal
+
+abbrev pub invariant-loop-left : goal.invariant-loop-left
+invariant-loop-left l = record {
+  hierarchy : (roads : RoadMap) → IsContractionOf roads l.initial.self → IsContractionOf roads l.self;
+  nodes : l.self.nodes ≡ l.initial.self.nodes;
+}
+
+abbrev pub decreases-loop-left : goal.decreases-loop-left
+decreases-loop-left l = l.left

@@ -1,0 +1,250 @@
+-- Shortcuts, and the contraction of a node that is bypassed.
+use Rattle.std.proofs.Common.{◌≡◌, ℕ, ◌+◌, ◌<◌, ◌≤◌, inl, inr, List, [], ◌∷◌, length, get_or, refl, sym, ◌∙◌, ap, subst, arith, length-append}
+use Rattle.std.specs.Prelude.{Contains}
+use Rattle.std.proofs.lemmas.Bool.{cases_eq, cases_lt}
+use Rattle.ride_model.specs.declared.network.RoadArc.{RoadArc}
+use Rattle.ride_model.specs.Road.{RoadMap}
+use Rattle.road_times.specs.declared.side.Side.TheVariants.{Out, Back}
+use Rattle.std.proofs.lemmas.List.{get_or_default}
+use Rattle.hierarchy_laws.specs.Hierarchy.{IsHierarchy, IsApart, IsBypassed}
+use Rattle.hierarchy_laws.proofs.Ways.{reaches-same, reaches-arc, reaches-append, reaches-mapped, reaches-carried}
+use Rattle.hierarchy_laws.proofs.Growing.{hierarchy-grown, hierarchy-taken}
+use Rattle.contraction.specs.declared.graph.Link.{Link}
+use Rattle.contraction.specs.declared.graph.Neighbor.{Neighbor}
+use Rattle.contraction.specs.declared.graph.Graph.{Graph}
+use Rattle.contraction.specs.Graph.{link_at, IsLinked, IsGraph, IsSameGraph, HasPushed, IsNeighbor, IsTakenOut}
+use Rattle.contraction.specs.Levels.{level_in}
+use Rattle.contraction.specs.Witness.{ReachesPast}
+use Rattle.contraction.specs.Growth.{IsHierarchyGraph, IsShortcut, HasShortcuts, IsIncoming, IsOutgoing, IsCovered}
+use Rattle.contraction.proofs.GraphSteps.{link-before, link-last, length-pushed}
+
+-- a graph whose lists stay has no new shortcut
+pub shortcuts-same : (node : ℕ) (old new : Graph) → IsSameGraph old new → HasShortcuts node old new
+shortcuts-same node old new same = record {
+  nodes = same.nodes;
+  levels = same.levels;
+  order = same.order;
+  kept = λ arc there. subst (λ links. IsLinked links arc) (sym same.links) there;
+  added = λ arc there. inl (subst (λ links. IsLinked links arc) same.links there);
+}
+
+pub shortcuts-none : (node : ℕ) (graph : Graph) → HasShortcuts node graph graph
+shortcuts-none node graph = shortcuts-same node graph graph (record { nodes = refl; links = refl; levels = refl; order = refl })
+
+-- shortcuts upon shortcuts
+pub shortcuts-append : (node : ℕ) (first second third : Graph) → HasShortcuts node first second → HasShortcuts node second third
+    → HasShortcuts node first third
+shortcuts-append node first second third a b = record {
+  nodes = b.nodes ∙ a.nodes;
+  levels = b.levels ∙ a.levels;
+  order = b.order ∙ a.order;
+  kept = λ arc there. b.kept arc (a.kept arc there);
+  added = λ arc there. elim (b.added arc there) [
+    | inl earlier ↦ a.added arc earlier
+    | inr shortcut ↦ inr record {
+      way = reaches-carried (IsLinked second.links.items) (IsLinked first.links.items) arc.tail arc.head arc.seconds
+          (λ link its. elim (a.added link its) [
+            | inl old ↦ reaches-arc (IsLinked first.links.items) link old
+            | inr new ↦ new.way
+          ]) shortcut.way;
+      tail_live = ap (λ ls. level_in ls arc.tail) (sym a.levels) ∙ shortcut.tail_live;
+      head_live = ap (λ ls. level_in ls arc.head) (sym a.levels) ∙ shortcut.head_live;
+      tail_apart = shortcut.tail_apart;
+      head_apart = shortcut.head_apart;
+    }
+  ];
+}
+
+-- a shortcut is added
+pub shortcuts-pushed : (node : ℕ) (old new : Graph) (arc : RoadArc) → HasPushed old new arc → IsShortcut old node arc → HasShortcuts node old new
+shortcuts-pushed node old new arc pushed shortcut = record {
+  nodes = pushed.nodes;
+  levels = pushed.levels;
+  order = pushed.order;
+  kept = λ other (place, low, is).
+      let (link, _, links) = pushed.links in (
+        place,
+        omega (arith, low, length-pushed old.links.items new.links.items link links),
+        ap (λ (l : Link). l.arc) (link-before old.links.items new.links.items link links place low) ∙ is,
+      );
+  added = λ other (place, low, is).
+      let (link, its, links) = pushed.links in
+      elim (cases_lt place (length old.links.items)) [
+        | inl earlier ↦ inl (place, earlier, ap (λ (l : Link). l.arc) (sym (link-before old.links.items new.links.items link links place earlier)) ∙ is)
+        | inr last ↦
+            let at : place ≡ length old.links.items = omega (arith, low, length-pushed old.links.items new.links.items link links) in
+            let same : arc ≡ other
+            = sym its ∙ ap (λ (l : Link). l.arc) (sym (ap (link_at new.links.items) at ∙ link-last old.links.items new.links.items link links)) ∙ is in
+            inr (subst (IsShortcut old node) same shortcut)
+      ];
+}
+
+-- what a pushed arc links
+pub linked-pushed : (old new : Graph) (arc : RoadArc) → HasPushed old new arc → IsLinked new.links.items arc
+linked-pushed old new arc pushed =
+    let (link, its, links) = pushed.links in (
+      length old.links.items,
+      omega (arith, length-pushed old.links.items new.links.items link links),
+      ap (λ (l : Link). l.arc) (link-last old.links.items new.links.items link links) ∙ its,
+    )
+
+-- the arc from neighbor to neighbor over a node is a shortcut
+pub over-node : (graph : Graph) (node : ℕ) (into onward : Neighbor) (seconds : ℕ) → IsIncoming graph node into → IsOutgoing graph node onward
+    → into.seconds + onward.seconds ≡ seconds → IsShortcut graph node (record { tail = into.node; head = onward.node; seconds = seconds })
+over-node graph node into onward seconds a b total = record {
+  way = reaches-append (IsLinked graph.links.items) into.node node onward.node into.seconds onward.seconds seconds (omega arith)
+      (reaches-arc (IsLinked graph.links.items) (record { tail = into.node; head = node; seconds = into.seconds }) a.linked)
+      (reaches-arc (IsLinked graph.links.items) (record { tail = node; head = onward.node; seconds = onward.seconds }) b.linked);
+  tail_live = a.live;
+  head_live = b.live;
+  tail_apart = a.apart;
+  head_apart = b.apart;
+}
+
+-- ways past a node stay when shortcuts are added
+pub past-wider : (node : ℕ) (old new : Graph) (avoided x y limit : ℕ) → HasShortcuts node old new
+    → ReachesPast old.links.items old.levels.items (length old.order.items) avoided x y limit
+    → ReachesPast new.links.items new.levels.items (length new.order.items) avoided x y limit
+past-wider node old new avoided x y limit grown r =
+    subst (λ ls. ReachesPast new.links.items ls (length new.order.items) avoided x y limit) (sym grown.levels)
+    (subst (λ os. ReachesPast new.links.items old.levels.items (length os) avoided x y limit) (sym grown.order)
+    (reaches-mapped (IsApart (IsLinked old.links.items) (level_in old.levels.items) (length old.order.items) avoided)
+    (IsApart (IsLinked new.links.items) (level_in old.levels.items) (length old.order.items) avoided) x y limit
+    (λ arc apart. ((grown.kept arc apart.0.0, apart.0.1, apart.0.2), apart.1, apart.2)) r))
+
+pub covered-wider : (node : ℕ) (old new : Graph) (into onward : Neighbor) → HasShortcuts node old new → IsCovered old node into onward
+    → IsCovered new node into onward
+covered-wider node old new into onward grown covered = λ differ.
+    past-wider node old new node into.node onward.node (into.seconds + onward.seconds) grown (covered differ)
+
+pub incoming-wider : (node : ℕ) (old new : Graph) (neighbor : Neighbor) → HasShortcuts node old new → IsIncoming old node neighbor
+    → IsIncoming new node neighbor
+incoming-wider node old new neighbor grown its = record {
+  linked = grown.kept _ its.linked;
+  live = ap (λ ls. level_in ls neighbor.node) grown.levels ∙ its.live;
+  apart = its.apart;
+}
+
+pub outgoing-wider : (node : ℕ) (old new : Graph) (neighbor : Neighbor) → HasShortcuts node old new → IsOutgoing old node neighbor
+    → IsOutgoing new node neighbor
+outgoing-wider node old new neighbor grown its = record {
+  linked = grown.kept _ its.linked;
+  live = ap (λ ls. level_in ls neighbor.node) grown.levels ∙ its.live;
+  apart = its.apart;
+}
+
+-- a shortcut that was added covers its pair
+pub covered-pushed : (node : ℕ) (old new : Graph) (into onward : Neighbor) (seconds : ℕ) → IsGraph old → IsIncoming old node into → IsOutgoing old node onward
+    → into.seconds + onward.seconds ≡ seconds → HasPushed old new (record { tail = into.node; head = onward.node; seconds = seconds })
+    → IsCovered new node into onward
+covered-pushed node old new into onward seconds is a b total pushed = λ _.
+    let arc : RoadArc = record { tail = into.node; head = onward.node; seconds = seconds } in
+    let short : length new.order.items < 4294967295 = omega (arith, ap (λ os. length os) pushed.order, is.ordered.short) in
+    let tail_live = ap (λ ls. level_in ls into.node) pushed.levels ∙ a.live in
+    let head_live = ap (λ ls. level_in ls onward.node) pushed.levels ∙ b.live in
+    subst (ReachesPast new.links.items new.levels.items (length new.order.items) node into.node onward.node) (sym total)
+    (reaches-arc (IsApart (IsLinked new.links.items) (level_in new.levels.items) (length new.order.items) node) arc
+    ((linked-pushed old new arc pushed, omega (arith, tail_live, short), omega (arith, head_live, short)), a.apart, b.apart))
+
+-- a neighbor by a link that leads to a node, or from it
+pub incoming-from_neighbor : (graph : Graph) (node : ℕ) (neighbor : Neighbor) → IsNeighbor Back graph node neighbor → IsIncoming graph node neighbor
+incoming-from_neighbor graph node neighbor (place, onward, is) =
+    subst (IsIncoming graph node) is record {
+      linked = (place, onward.there, ap (λ n. record { tail = (link_at graph.links.items place).arc.tail; head = n; seconds = (link_at graph.links.items place).arc.seconds }) onward.tail);
+      live = onward.live;
+      apart = onward.apart;
+    }
+
+pub outgoing-from_neighbor : (graph : Graph) (node : ℕ) (neighbor : Neighbor) → IsNeighbor Out graph node neighbor → IsOutgoing graph node neighbor
+outgoing-from_neighbor graph node neighbor (place, onward, is) =
+    subst (IsOutgoing graph node) is record {
+      linked = (place, onward.there, ap (λ n. record { tail = n; head = (link_at graph.links.items place).arc.head; seconds = (link_at graph.links.items place).arc.seconds }) onward.tail);
+      live = onward.live;
+      apart = onward.apart;
+    }
+
+-- shortcuts keep a hierarchy
+pub grown-hierarchy : (node : ℕ) (roads : RoadMap) (old new : Graph) → IsGraph old → HasShortcuts node old new → IsHierarchyGraph roads old
+    → IsHierarchyGraph roads new
+grown-hierarchy node roads old new is grown h =
+    subst (λ ls. IsHierarchy (Contains roads.arcs) (IsLinked new.links.items) (level_in ls) (length new.order.items)) (sym grown.levels)
+    (subst (λ os. IsHierarchy (Contains roads.arcs) (IsLinked new.links.items) (level_in old.levels.items) (length os)) (sym grown.order)
+    (hierarchy-grown (Contains roads.arcs) (IsLinked old.links.items) (IsLinked new.links.items) (level_in old.levels.items) (length old.order.items) h grown.kept
+    (λ arc there. elim (grown.added arc there) [
+      | inl earlier ↦ inl earlier
+      | inr shortcut ↦ inr (shortcut.way, omega (arith, shortcut.tail_live, is.ordered.short), omega (arith, shortcut.head_live, is.ordered.short))
+    ])))
+
+-- a node that is not contracted is in the core
+live_from_high : (graph : Graph) (x : ℕ) → IsGraph graph → length graph.order.items ≤ level_in graph.levels.items x → level_in graph.levels.items x ≡ 4294967295
+live_from_high graph x is high = elim (is.ordered.cored x) [
+  | inl low ↦ absurd (omega arith)
+  | inr live ↦ live
+]
+
+-- where each pair of neighbors is covered, the node is bypassed
+pub covered-bypassed : (node : ℕ) (old new : Graph) (ins outs : List Neighbor) → IsGraph old → HasShortcuts node old new
+    → ((into : Neighbor) → IsNeighbor Back old node into → Contains ins into)
+    → ((onward : Neighbor) → IsNeighbor Out old node onward → Contains outs onward)
+    → ((into onward : Neighbor) → Contains ins into → Contains outs onward → IsCovered new node into onward)
+    → IsBypassed (IsLinked new.links.items) (level_in new.levels.items) (length new.order.items) node
+covered-bypassed node old new ins outs is grown all_in all_out covered into onward in_remains on_remains head tail in_apart on_apart =
+    elim (cases_eq into.tail onward.head) [
+      | inl same ↦ reaches-same _ into.tail onward.head (into.seconds + onward.seconds) same
+      | inr differ ↦ covered (record { node = into.tail; seconds = into.seconds }) (record { node = onward.head; seconds = onward.seconds })
+          (all_in _ from_in) (all_out _ to_out) differ
+    ]
+  where
+    live : (x : ℕ) → length new.order.items ≤ level_in new.levels.items x → level_in old.levels.items x ≡ 4294967295
+    live x high = live_from_high old x is (omega (arith, ap (λ ls. level_in ls x) grown.levels, ap (λ os. length os) grown.order))
+
+    from_in : IsNeighbor Back old node (record { node = into.tail; seconds = into.seconds })
+    from_in = elim (grown.added into in_remains.0) [
+      | inl (place, low, its) ↦ (
+        place,
+        record {
+          there = low;
+          tail = ap (λ (a : RoadArc). a.head) its ∙ head;
+          live = ap (λ (a : RoadArc). level_in old.levels.items a.tail) its ∙ live into.tail in_remains.1;
+          apart = λ e. in_apart (ap (λ (a : RoadArc). a.tail) (sym its) ∙ e);
+        },
+        ap (λ (a : RoadArc). record { node = a.tail; seconds = a.seconds }) its,
+      )
+      | inr shortcut ↦ absurd (shortcut.head_apart head)
+    ]
+
+    to_out : IsNeighbor Out old node (record { node = onward.head; seconds = onward.seconds })
+    to_out = elim (grown.added onward on_remains.0) [
+      | inl (place, low, its) ↦ (
+        place,
+        record {
+          there = low;
+          tail = ap (λ (a : RoadArc). a.tail) its ∙ tail;
+          live = ap (λ (a : RoadArc). level_in old.levels.items a.head) its ∙ live onward.head on_remains.2;
+          apart = λ e. on_apart (ap (λ (a : RoadArc). a.head) (sym its) ∙ e);
+        },
+        ap (λ (a : RoadArc). record { node = a.head; seconds = a.seconds }) its,
+      )
+      | inr shortcut ↦ absurd (shortcut.tail_apart tail)
+    ]
+
+-- a node that is bypassed leaves the core
+pub taken-hierarchy : (node : ℕ) (roads : RoadMap) (old new : Graph) → IsGraph old → IsTakenOut old new node
+    → level_in old.levels.items node ≡ 4294967295 → IsBypassed (IsLinked old.links.items) (level_in old.levels.items) (length old.order.items) node
+    → IsHierarchyGraph roads old → IsHierarchyGraph roads new
+taken-hierarchy node roads old new is taken live bypassed h =
+    subst (λ links. IsHierarchy (Contains roads.arcs) (IsLinked links) (level_in new.levels.items) (length new.order.items)) (sym taken.links)
+    (subst (IsHierarchy (Contains roads.arcs) (IsLinked old.links.items) (level_in new.levels.items)) (sym count)
+    (hierarchy-taken (Contains roads.arcs) (IsLinked old.links.items) (level_in old.levels.items) (level_in new.levels.items) (length old.order.items) node h
+    (omega (arith, live, is.ordered.short))
+    (record { its_level = taken.its_level; others = taken.others })
+    bypassed))
+  where
+    count : length new.order.items ≡ length old.order.items + 1
+    count = omega (arith, ap (λ os. length os) taken.order, length-append old.order.items (node ∷ []))
+
+-- the element of a list at the place of a loop
+pub at_loop : (list : List Neighbor) (index place : ℕ) (d neighbor : Neighbor) → place ≡ index → index < length list → get_or list place neighbor ≡ neighbor
+    → get_or list index d ≡ neighbor
+at_loop list index place d neighbor same low is =
+    get_or_default list index d neighbor low ∙ ap (λ p. get_or list p neighbor) (sym same) ∙ is

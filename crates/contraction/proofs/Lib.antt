@@ -1,0 +1,7 @@
+pub mod ChainSteps
+pub mod GraphSteps
+pub mod Collecting
+pub mod Witnesses
+pub mod Growths
+pub mod Views
+pub mod Pruning

@@ -1,0 +1,143 @@
+-- The steps of a witness search.
+use Rattle.std.proofs.Common.{◌≡◌, ◌≢◌, ℕ, ◌+◌, ◌<◌, ◌≤◌, inl, inr, length, get_or, set, refl, sym, ◌∙◌, ap, subst, arith}
+use Rattle.std.specs.Prelude.{Option, Some, None, min, replicate}
+use Rattle.hierarchy_laws.specs.Ways.{Reaches}
+use Rattle.hierarchy_laws.specs.Hierarchy.{IsApart}
+use Rattle.hierarchy_laws.proofs.Ways.{reaches-same, reaches-behind}
+use Rattle.road_times.proofs.Lists.{all_none}
+use Rattle.std.proofs.lemmas.Bool.{cases_eq, cases_lt}
+use Rattle.std.proofs.lemmas.List.{get_or-set_same, get_or-set_other, length-set, length-replicate}
+use Rattle.radix_queue.specs.Queue.{key_of, lesser_key}
+use Rattle.contraction.specs.declared.graph.Graph.{Graph}
+use Rattle.contraction.specs.declared.witness.Reached.{Reached}
+use Rattle.contraction.specs.declared.witness.Witness.{Witness}
+use Rattle.contraction.specs.Graph.{link_at, IsLinked, IsGraph}
+use Rattle.contraction.specs.Levels.{level_in}
+use Rattle.contraction.specs.Witness.{IsFound, IsRoomy, IsWitness, reached_at, nothing_reached}
+
+-- the key after another was offered is one of the two
+lesser-cases : (had : Option ℕ) (time key : ℕ) (Holds : ℕ → Type 0) → ((k : ℕ) → had ≡ Some k → Holds k) → Holds time
+    → Some (lesser_key had time) ≡ Some key → Holds key
+lesser-cases None time key Holds old new is = subst Holds (cc is) new
+lesser-cases (Some k) time key Holds old new is =
+    let same : min k time ≡ key = cc is in
+    elim (cases_lt k time) [
+      | inl low ↦ (let e : k ≡ key = grind arith in subst Holds e (old k refl))
+      | inr high ↦ (let e : time ≡ key = grind arith in subst Holds e new)
+    ]
+
+-- what is known after a way to a node was noted
+pub witness-improved : (old new : Witness) (node time nodes : ℕ) → IsRoomy nodes old → node ≤ nodes
+    → new.round ≡ old.round → new.reached.items ≡ set old.reached.items node (record { round = old.round; time = time })
+    → key_of new.queue node ≡ Some (lesser_key (key_of old.queue node) time)
+    → ((other : ℕ) → other ≢ node → key_of new.queue other ≡ key_of old.queue other)
+    → (graph : Graph) (avoided source : ℕ) → IsFound graph avoided source node time → IsWitness graph avoided source old
+    → IsWitness graph avoided source new
+witness-improved old new node time nodes roomy low round reached key others graph avoided source found w = record {
+  keyed = λ other its is. elim (cases_eq other node) [
+    | inl same ↦
+        subst (λ n. IsFound graph avoided source n its) (sym same)
+        (lesser-cases (key_of old.queue node) time its (IsFound graph avoided source node) (λ k had. w.keyed node k had) found (sym key ∙ sym (ap (key_of new.queue) same) ∙ is))
+    | inr differs ↦ w.keyed other its (sym (others other differs) ∙ is)
+  ];
+  timed = λ other is. elim (cases_eq other node) [
+    | inl same ↦
+        let at : reached_at new other ≡ record { round = old.round; time = time } = ap (reached_at new) same ∙ here in
+        subst (λ n. IsFound graph avoided source n (reached_at new other).time) (sym same)
+        (subst (IsFound graph avoided source node) (sym (ap (λ (r : Reached). r.time) at)) found)
+    | inr differs ↦
+        let at : reached_at new other ≡ reached_at old other
+        = ap (λ rs. get_or rs other nothing_reached) reached ∙ get_or-set_other old.reached.items node other _ nothing_reached differs in
+        subst (λ (r : Reached). IsFound graph avoided source other r.time) (sym at)
+        (w.timed other (sym (ap (λ (r : Reached). r.round) at) ∙ is ∙ round))
+  ];
+}
+  where
+    here : reached_at new node ≡ record { round = old.round; time = time }
+    here = ap (λ rs. get_or rs node nothing_reached) reached
+        ∙ get_or-set_same old.reached.items node _ nothing_reached (omega (arith, roomy.sized))
+
+pub roomy-improved : (old new : Witness) (node time nodes : ℕ) → IsRoomy nodes old → node ≤ nodes
+    → new.round ≡ old.round → new.reached.items ≡ set old.reached.items node (record { round = old.round; time = time })
+    → length new.queue.keys ≡ length old.queue.keys → IsRoomy nodes new
+roomy-improved old new node time nodes roomy low round reached keys = record {
+  keys = keys ∙ roomy.keys;
+  sized = ap (λ rs. length rs) reached ∙ length-set old.reached.items node _ ∙ roomy.sized;
+  rounds = λ other. elim (cases_eq other node) [
+    | inl same ↦
+        let at = ap (reached_at new) same ∙ ap (λ rs. get_or rs node nothing_reached) reached
+        ∙ get_or-set_same old.reached.items node (record { round = old.round; time = time }) nothing_reached (omega (arith, roomy.sized)) in
+        omega (arith, ap (λ (r : Reached). r.round) at, round)
+    | inr differs ↦
+        let at : reached_at new other ≡ reached_at old other
+        = ap (λ rs. get_or rs other nothing_reached) reached ∙ get_or-set_other old.reached.items node other _ nothing_reached differs in
+        omega (arith, ap (λ (r : Reached). r.round) at, roomy.rounds other, round)
+  ];
+}
+
+-- a round begins: nothing is known
+pub roomy-begun : (old new : Witness) (nodes : ℕ) → IsRoomy nodes old → new.round ≡ old.round + 1 → new.reached.items ≡ old.reached.items
+    → new.queue.keys ≡ replicate (length old.queue.keys) None → IsRoomy nodes new
+roomy-begun old new nodes roomy round reached keys = record {
+  keys = ap (λ ks. length ks) keys ∙ length-replicate (length old.queue.keys) None ∙ roomy.keys;
+  sized = ap (λ rs. length rs) reached ∙ roomy.sized;
+  rounds = λ node. omega (arith, ap (λ rs. (get_or rs node nothing_reached).round) reached, roomy.rounds node, round);
+}
+
+pub witness-begun : (old new : Witness) (nodes : ℕ) → IsRoomy nodes old → new.round ≡ old.round + 1 → new.reached.items ≡ old.reached.items
+    → new.queue.keys ≡ replicate (length old.queue.keys) None → (graph : Graph) (avoided source : ℕ) → IsWitness graph avoided source new
+witness-begun old new nodes roomy round reached keys graph avoided source = record {
+  keyed = λ node key is.
+      let none : key_of new.queue node ≡ None = ap (λ ks. get_or ks node None) keys ∙ all_none (length old.queue.keys) node in
+      let both : Some key ≡ None = sym is ∙ none in absurd (cc both);
+  timed = λ node is. absurd (omega (arith, ap (λ rs. (get_or rs node nothing_reached).round) reached, roomy.rounds node, round, is));
+}
+
+-- from a node that was found a link leads on
+pub found-onward : (graph : Graph) (avoided source node place time more : ℕ) → IsGraph graph → place < length graph.links.items
+    → IsFound graph avoided source node time → (link_at graph.links.items place).arc.tail ≡ node
+    → level_in graph.levels.items (link_at graph.links.items place).arc.head ≡ 4294967295 → (link_at graph.links.items place).arc.head ≢ avoided
+    → time + (link_at graph.links.items place).arc.seconds ≡ more
+    → IsFound graph avoided source (link_at graph.links.items place).arc.head more
+found-onward graph avoided source node place time more is low found tail live apart total = record {
+  way = reaches-behind (IsApart (IsLinked graph.links.items) (level_in graph.levels.items) (length graph.order.items) avoided)
+      (link_at graph.links.items place).arc source (link_at graph.links.items place).arc.head time more refl (omega arith) (
+        ((place, low, refl), omega (arith, ap (level_in graph.levels.items) tail, found.live, is.ordered.short), omega (arith, live, is.ordered.short)),
+        (λ e. found.apart (sym tail ∙ e)),
+        apart,
+      )
+      (subst (λ n. Reaches (IsApart (IsLinked graph.links.items) (level_in graph.levels.items) (length graph.order.items) avoided) source n time) (sym tail) found.way);
+  live = live;
+  apart = apart;
+}
+
+-- the source is found
+pub found-source : (graph : Graph) (avoided source : ℕ) → level_in graph.levels.items source ≡ 4294967295 → source ≢ avoided
+    → IsFound graph avoided source source 0
+found-source graph avoided source live apart = record {
+  way = reaches-same _ source source 0 refl;
+  live = live;
+  apart = apart;
+}
+
+-- a node is taken from the queue
+pub witness-taken : (old new : Witness) (node : ℕ) (graph : Graph) (avoided source : ℕ) → IsWitness graph avoided source old
+    → new.round ≡ old.round → new.reached.items ≡ old.reached.items → key_of new.queue node ≡ None
+    → ((other : ℕ) → other ≢ node → key_of new.queue other ≡ key_of old.queue other) → IsWitness graph avoided source new
+witness-taken old new node graph avoided source w round reached gone others = record {
+  keyed = λ other key is. elim (cases_eq other node) [
+    | inl same ↦ (let both : Some key ≡ None = sym is ∙ ap (key_of new.queue) same ∙ gone in absurd (cc both))
+    | inr differs ↦ w.keyed other key (sym (others other differs) ∙ is)
+  ];
+  timed = λ other is.
+      subst (λ rs. IsFound graph avoided source other (get_or rs other nothing_reached).time) (sym reached)
+      (w.timed other (ap (λ rs. (get_or rs other nothing_reached).round) (sym reached) ∙ is ∙ round));
+}
+
+pub roomy-taken : (old new : Witness) (nodes : ℕ) → IsRoomy nodes old → new.round ≡ old.round → new.reached.items ≡ old.reached.items
+    → length new.queue.keys ≡ length old.queue.keys → IsRoomy nodes new
+roomy-taken old new nodes roomy round reached keys = record {
+  keys = keys ∙ roomy.keys;
+  sized = ap (λ rs. length rs) reached ∙ roomy.sized;
+  rounds = λ node. omega (arith, ap (λ rs. (get_or rs node nothing_reached).round) reached, roomy.rounds node, round);
+}

@@ -1,0 +1,17 @@
+use Rattle.std.proofs.Common.{◌≡◌, ℕ}
+use Rattle.road_times.specs.declared.side.Side.TheVariants.{Out}
+use Rattle.contraction.specs.Witness.{IsFound, IsRoomy, IsWitness}
+use Rattle.contraction.proofs.Collecting.{IsCursor}
+use Rattle.contraction.proofs.witness.Witness.relax.Given as goal
+
+abbrev pub invariant-loop-cursor : goal.invariant-loop-cursor
+invariant-loop-cursor l = record {
+  at_link : IsCursor Out l.graph.links.items l.node l.cursor;
+  room : IsRoomy l.graph.nodes l.self;
+  floor : l.self.queue.floor ≡ l.time;
+  ways : (source : ℕ) → IsFound l.graph l.avoided source l.node l.time → IsWitness l.graph l.avoided source l.initial.self
+      → IsWitness l.graph l.avoided source l.self;
+}
+
+abbrev pub decreases-loop-cursor : goal.decreases-loop-cursor
+decreases-loop-cursor l = l.cursor

@@ -1,0 +1,223 @@
+//! The contraction of a road map, node after node, in the order of a heuristic.
+//!
+//! Geisberger, Sanders, Schultes and Delling, "Contraction hierarchies: faster and simpler hierarchical routing in road
+//! networks", 2008. Whatever the heuristic answers, what stands is a hierarchy of the map: its order, the limits of its
+//! searches and its budget stand in no contract.
+#![tactic(auto)]
+
+ghost use Rattle.std.specs.Prelude.{◌≡◌, ℕ, ◌+◌, ◌<◌, ◌≤◌, length, Some, IfOk, IfSome, slice_get, slice_index_or};
+ghost use Rattle.ride_model.specs.Road.{RoadMap};
+ghost use Rattle.radix_queue.specs.Queue.{Queue};
+ghost use Rattle.contraction.specs.Contracted.{IsContractionOf, IsFitContraction};
+ghost use Rattle.contraction.specs.Levels.{level_in};
+
+use radix_queue::RadixQueue;
+use ride_model::{Network, RoadArc};
+use std::alloc::{AllocError, Global};
+use std::marker::Model;
+
+mod graph;
+mod shortcuts;
+mod start;
+mod witness;
+
+use graph::{Graph, MOST_LINKS, Neighbor};
+use shortcuts::{contract, judge};
+use start::{first_candidates, graph_of};
+use witness::Witness;
+
+/// Want of memory.
+pub type NoMemory = AllocError;
+
+/// How many links may be looked at, for each node and arc of the map, before the contraction ends.
+const MOST_WORK: u64 = 1_000;
+
+/// What is added to each priority, so that none is below zero.
+pub(crate) const BIAS: u64 = 1 << 32;
+
+// Memory: a link takes 20 bytes, and a node 88: 20 in the graph, 40 in the witness, 24 in the queue and 4 for its depth. The
+// largest map, 500,000 nodes and 2,000,000 arcs, takes at most 144 megabytes while it is contracted.
+
+/// A road map that is being contracted.
+#[derive(Drop)]
+pub struct Contraction {
+    graph: Graph,
+    witness: Witness,
+    queue: RadixQueue,
+    depths: Vec<u32>,
+    ins: Vec<Neighbor>,
+    outs: Vec<Neighbor>,
+    most_links: usize,
+    work_left: u64,
+}
+
+impl Model for Contraction {
+    ghost use Rattle.std.specs.Prelude.{◌≡◌, ◌+◌, length};
+    ghost use Rattle.contraction.specs.Contracted.{Contracted};
+
+    ghost Value = { Contracted };
+
+    ghost use Rattle.contraction.specs.View.{contracted_of};
+    ghost use Rattle.contraction.specs.Graph.{IsGraph};
+    ghost use Rattle.contraction.specs.Witness.{IsRoomy};
+
+    ghost view = { λ c. contracted_of c.graph };
+
+    ghost invariant = { λ c. IsGraph c.graph × IsRoomy c.graph.nodes c.witness × (length c.queue.keys ≡ c.graph.nodes + 1) };
+}
+
+/// The priority of a node: few shortcuts, many links that go, and neighbors of which few are contracted.
+fn priority(shortcuts: u64, depth: u64, degree: u64) -> u64 {
+    let more = shortcuts
+        .saturating_mul(2)
+        .saturating_add(depth.saturating_mul(2));
+    BIAS.saturating_add(more).saturating_sub(degree)
+}
+
+/// Notes that a neighbor of these nodes was contracted, at this depth.
+fn deepen(depths: &mut [u32], neighbors: &[Neighbor], depth: u32) {
+    for neighbor in neighbors {
+        if let Some(had) = depths.get_mut(neighbor.node as usize) {
+            *had = (*had).max(depth);
+        }
+    }
+}
+
+impl Contraction {
+    /// A map of which no node is contracted.
+    pub fn new(alloc: Global, map: &Network) -> Result<Contraction, NoMemory>
+        ensures hierarchy { IfOk result (IsContractionOf map.now) }
+        ensures nodes { IfOk result (λ contraction. contraction.nodes ≡ map.now.nodes) }
+    {
+        let arcs = map.arcs().len();
+        let most_links = arcs + arcs / 2 + arcs;
+        let graph = graph_of(alloc, map, most_links)?;
+        let witness = Witness::new(alloc, map.nodes())?;
+        let queue = first_candidates(alloc, map)?;
+        let depths = vec![in alloc; 0u32; map.nodes() as usize + 1]?;
+        Ok(Contraction {
+            graph,
+            witness,
+            queue,
+            depths,
+            ins: Vec::new(alloc),
+            outs: Vec::new(alloc),
+            most_links,
+            work_left: MOST_WORK * (u64::from(map.nodes()) + arcs as u64),
+        })
+    }
+
+    /// Judges the next node, and contracts it if no other is to come before it. Answers how many links were looked at, and None
+    /// where nothing is left to contract, or the budget is spent.
+    fn step(&mut self) -> Result<Option<u64>, NoMemory>
+        ensures hierarchy { (roads : RoadMap) → IsContractionOf roads self.old → IsContractionOf roads self.new }
+        ensures nodes { self.new.nodes ≡ self.old.nodes }
+    {
+        if self.work_left == 0 {
+            return Ok(None);
+        }
+        let Some((node, key)) = self.queue.take_least() else {
+            return Ok(None);
+        };
+        let judged = judge(
+            &self.graph,
+            &mut self.witness,
+            node,
+            &mut self.ins,
+            &mut self.outs,
+        )?;
+        self.work_left = self.work_left.saturating_sub(judged.work);
+        if judged.shortcuts > self.most_links.saturating_sub(self.graph.links.len()) as u64 {
+            self.work_left = 0;
+            return Ok(None);
+        }
+        let depth = self.depths.get(node as usize).copied().unwrap_or(0);
+        let degree = self.ins.len().saturating_add(self.outs.len()) as u64;
+        let wanted = priority(judged.shortcuts, u64::from(depth), degree);
+        if wanted > key {
+            self.queue.put_or_lower(node, wanted);
+            return Ok(Some(judged.work));
+        }
+        if node == 0 {
+            return Ok(Some(judged.work));
+        }
+        let Some(work) = contract(
+            &mut self.graph,
+            &mut self.witness,
+            node,
+            &mut self.ins,
+            &mut self.outs,
+        )?
+        else {
+            return Ok(Some(judged.work));
+        };
+        self.work_left = self.work_left.saturating_sub(work);
+        deepen(
+            self.depths.as_mut_slice(),
+            self.ins.as_slice(),
+            depth.saturating_add(1),
+        );
+        deepen(
+            self.depths.as_mut_slice(),
+            self.outs.as_slice(),
+            depth.saturating_add(1),
+        );
+        Ok(Some(judged.work.saturating_add(work)))
+    }
+
+    /// Contracts nodes until so many links were looked at. Answers whether more is left to contract: false where no node is
+    /// left, or where the budget of shortcuts or of work is spent; then the rest stays as the core.
+    pub fn contract_some(&mut self, fuel: u64) -> Result<bool, NoMemory>
+        ensures hierarchy { (roads : RoadMap) → IsContractionOf roads self.old → IsContractionOf roads self.new }
+        ensures nodes { self.new.nodes ≡ self.old.nodes }
+    {
+        let mut left = fuel;
+        while left > 0 {
+            let Some(work) = self.step()? else {
+                return Ok(false);
+            };
+            left = left.saturating_sub(work.max(1));
+        }
+        Ok(true)
+    }
+
+    /// The number of nodes.
+    pub fn nodes(&self) -> u32
+        ensures nodes { result ≡ self.now.nodes }
+        ensures fits { IsFitContraction self.now }
+    {
+        self.graph.nodes
+    }
+
+    /// The level of each node, where that of a node of the core is u32::MAX.
+    pub fn levels(&self) -> &[u32]
+        ensures { result.now ≡ self.now.levels }
+    {
+        self.graph.levels.as_slice()
+    }
+
+    /// The contracted nodes in the order of their levels.
+    pub fn order(&self) -> &[u32]
+        ensures { result.now ≡ self.now.order }
+    {
+        self.graph.order.as_slice()
+    }
+
+    /// The number of arcs and shortcuts.
+    pub fn links(&self) -> usize
+        ensures { result ≡ length self.now.arcs }
+    {
+        self.graph.links.len()
+    }
+
+    /// An arc or a shortcut.
+    pub fn link(&self, place: usize) -> RoadArc
+        requires { place < length self.now.arcs }
+        ensures { slice_get self.now.arcs place ≡ Some result }
+    {
+        self.graph.links[place].arc
+    }
+}
+
+#[cfg(test)]
+mod tests;

@@ -1,0 +1,4 @@
+pub mod Ways
+pub mod Growing
+pub mod Climbing
+pub mod Sweeping
