@@ -1,0 +1,11 @@
+pub mod DrawLemmas
+pub mod ListsOfRanges
+pub mod AllOfPieces
+pub mod ArcLemmas
+pub mod NetworkLimits
+pub mod VehicleLemmas
+pub mod FleetLimits
+pub mod RequestLemmas
+pub mod CommandLimits
+pub mod FirstLegs
+pub mod Accepted

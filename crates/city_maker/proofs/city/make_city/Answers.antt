@@ -1,0 +1,59 @@
+use Rattle.std.proofs.Common.{◌≡◌, [], refl, sym, subst, ◌∙◌, ap, ◌+◌, arith}
+use Rattle.std.proofs.lemmas.List.Elements.{All-same}
+use Rattle.std.specs.Prelude.{All}
+use Rattle.ride_model.specs.Fleet.{IsFleet}
+use Rattle.ride_model.specs.Road.{RoadMap, IsRoadMap}
+use Rattle.ride_model.specs.Text.{IsSpelledCommand}
+use Rattle.ride_model.specs.Vehicle.{IsLawful}
+use Rattle.ride_model.specs.declared.vehicle.Vehicle.{Vehicle}
+use Rattle.city_maker.specs.Draws.{state_after}
+use Rattle.city_maker.specs.Feed.{draws_before}
+use Rattle.city_maker.specs.Fleets.{fleet_of, road_draws}
+use Rattle.city_maker.specs.Cities.{IsOnMap}
+use Rattle.city_maker.specs.Plan.{nodes_of}
+use Rattle.city_maker.specs.Roads.{network_of}
+use Rattle.city_maker.proofs.NetworkLimits.{network-fits, network-is}
+use Rattle.city_maker.proofs.FleetLimits.{fleet-fits, fleet-lawful, fleet-idle, fleet-first_versions}
+use Rattle.city_maker.proofs.CommandLimits.{commands-spelled, commands-on_map}
+use Rattle.city_maker.proofs.city.make_city.Goals as goal
+
+pub vehicles-requires-clause-drawn : goal.vehicles-requires-clause-drawn
+unfolding road_draws
+vehicles-requires-clause-drawn c = c.in_ok-roads.ensures.draws
+
+pub commands-requires-clause-drawn : goal.commands-requires-clause-drawn
+unfolding draws_before
+commands-requires-clause-drawn c =
+    let plan = c.args.plan.now in
+    let same : road_draws plan + plan.vehicles ≡ draws_before plan 0 = omega arith in
+    c.in_ok-vehicles.ensures.drawn ∙ ap (state_after plan.seed) same
+
+pub new-requires : goal.new-requires
+new-requires c =
+    subst IsRoadMap (sym (network-is c.args.plan.now (record { nodes = nodes_of c.args.plan.now; arcs = c.in_ok-roads.roads.arcs.items }) refl c.in_ok-roads.ensures.arcs))
+    (network-fits c.args.plan.now c.requires)
+
+pub new-requires-2 : goal.new-requires-2
+new-requires-2 c = subst IsFleet (sym c.in_ok-vehicles.ensures.vehicles) (fleet-fits c.args.plan.now c.requires)
+
+pub returns-clause-lawful : goal.returns-clause-lawful
+returns-clause-lawful c =
+    let plan = c.args.plan.now in
+    let network : c.new.result ≡ network_of plan = network-is plan c.new.result c.new.ensures.nodes (c.new.ensures.arcs ∙ c.in_ok-roads.ensures.arcs) in
+    let fleet : c.new-2.result ≡ fleet_of plan = c.new-2.ensures ∙ c.in_ok-vehicles.ensures.vehicles in
+    subst (λ (roads : RoadMap). All (IsLawful roads) c.new-2.result) (sym network) (All-same (IsLawful (network_of plan)) c.new-2.result _ fleet (fleet-lawful plan c.requires))
+
+pub returns-clause-idle : goal.returns-clause-idle
+returns-clause-idle c = All-same (λ (v : Vehicle). v.stops.items ≡ []) c.new-2.result _ (c.new-2.ensures ∙ c.in_ok-vehicles.ensures.vehicles) (fleet-idle c.args.plan.now)
+
+pub returns-clause-first_versions : goal.returns-clause-first_versions
+returns-clause-first_versions c = All-same (λ (v : Vehicle). v.version ≡ 0) c.new-2.result _ (c.new-2.ensures ∙ c.in_ok-vehicles.ensures.vehicles) (fleet-first_versions c.args.plan.now)
+
+pub returns-clause-spelled : goal.returns-clause-spelled
+returns-clause-spelled c = All-same (IsSpelledCommand 1) c.of.result _ (c.of.ensures ∙ c.in_ok-commands.ensures) (commands-spelled c.args.plan.now c.requires)
+
+pub returns-clause-on_map : goal.returns-clause-on_map
+returns-clause-on_map c =
+    let plan = c.args.plan.now in
+    let network : c.new.result ≡ network_of plan = network-is plan c.new.result c.new.ensures.nodes (c.new.ensures.arcs ∙ c.in_ok-roads.ensures.arcs) in
+    subst (λ (roads : RoadMap). All (IsOnMap roads) c.of.result) (sym network) (All-same (IsOnMap (network_of plan)) c.of.result _ (c.of.ensures ∙ c.in_ok-commands.ensures) (commands-on_map plan c.requires))

@@ -1,0 +1,9 @@
+pub mod Draws
+pub mod Plan
+pub mod Roads
+pub mod Fleets
+pub mod Feed
+pub mod Cities
+pub mod Steps
+pub mod Growth
+pub mod Reports

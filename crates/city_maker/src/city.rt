@@ -1,0 +1,70 @@
+//! Cities.
+ghost use Rattle.std.specs.Prelude.{◌≡◌, [], All, IfOk};
+ghost use Rattle.ride_model.specs.declared.vehicle.Vehicle.{Vehicle};
+ghost use Rattle.ride_model.specs.Settings.{IsSettings};
+ghost use Rattle.ride_model.specs.Text.{IsSpelledCommand};
+ghost use Rattle.ride_model.specs.Vehicle.{IsLawful};
+ghost use Rattle.city_maker.specs.Plan.{IsPlan};
+ghost use Rattle.city_maker.specs.Roads.{network_of};
+ghost use Rattle.city_maker.specs.Fleets.{default_settings, fleet_of};
+ghost use Rattle.city_maker.specs.Feed.{commands_of};
+ghost use Rattle.city_maker.specs.Cities.{IsOnMap};
+
+use crate::CityPlan;
+use crate::feed::commands;
+use crate::fleets::vehicles;
+use crate::roads::grid;
+use ride_model::{Command, Fleet, ItemList, Network, NoMemory, Settings};
+use std::alloc::Global;
+
+/// Commands, in order.
+pub type CommandList = ItemList<Command>;
+
+/// The settings where none is set.
+const DEFAULTS: Settings = Settings {
+    batch: 32,
+    penalty: 3_600,
+    drive: 1,
+    wait: 0,
+    lead: 0,
+    dwell: 0,
+    log: 1,
+};
+
+/// A city to drill: its roads, its settings, its fleet, and what feed 1 gives.
+#[derive(Debug, Drop)]
+pub struct City {
+    pub network: Network,
+    pub settings: Settings,
+    pub fleet: Fleet,
+    pub commands: CommandList,
+}
+
+/// The city of a plan.
+pub fn make_city(alloc: Global, plan: &CityPlan) -> Result<City, NoMemory>
+    requires { IsPlan plan.now }
+    ensures network { IfOk result (λ city. city.network ≡ network_of plan.now) }
+    ensures settings { IfOk result (λ city. city.settings ≡ default_settings) }
+    ensures fleet { IfOk result (λ city. city.fleet ≡ fleet_of plan.now) }
+    ensures commands { IfOk result (λ city. city.commands ≡ commands_of plan.now) }
+
+    // The settings are within their ranges, and each vehicle is as a fleet starts: lawful over the map, idle, of version 0.
+    ensures settings_fit { IfOk result (λ city. IsSettings city.settings) }
+    ensures lawful { IfOk result (λ city. All (IsLawful city.network) city.fleet) }
+    ensures idle { IfOk result (λ city. All (λ (v : Vehicle). v.stops.items ≡ []) city.fleet) }
+    ensures first_versions { IfOk result (λ city. All (λ (v : Vehicle). v.version ≡ 0) city.fleet) }
+
+    // Each command has a text, and each node that it names is on the map.
+    ensures spelled { IfOk result (λ city. All (IsSpelledCommand 1) city.commands) }
+    ensures on_map { IfOk result (λ city. All (IsOnMap city.network) city.commands) }
+{
+    let mut roads = grid(alloc, plan.side, plan.seed)?;
+    let vehicles = vehicles(alloc, plan, &mut roads.draws)?;
+    let commands = commands(alloc, plan, &mut roads.draws)?;
+    Ok(City {
+        network: Network::new(plan.side * plan.side, roads.arcs),
+        settings: DEFAULTS,
+        fleet: Fleet::new(vehicles),
+        commands: CommandList::of(commands),
+    })
+}
