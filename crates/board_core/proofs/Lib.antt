@@ -19,3 +19,4 @@ pub mod Opened
 pub mod Settled
 pub mod Committed
 pub mod OpenBatches
+pub mod FewOutcomes

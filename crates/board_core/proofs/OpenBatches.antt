@@ -1,5 +1,5 @@
 -- Batches that are open while a board goes on.
-use Rattle.std.proofs.Common.{◌≡◌, ◌≢◌, ℕ, suc, ◌≤◌, ◌&&◌, Bool, true, false, not, cond, ◌⊎◌, inl, inr, List, [], ◌∷◌, ◌++◌, length, Option, Some, None, Result, Ok, Err, eqb, refl, sym, ap, subst, ◌∙◌, arith}
+use Rattle.std.proofs.Common.{◌≡◌, ◌≢◌, ℕ, suc, ◌≤◌, Bool, true, false, not, cond, List, [], ◌∷◌, ◌++◌, length, Option, Some, None, Result, Ok, Err, eqb, refl, sym, ap, subst, ◌∙◌, arith}
 use Rattle.std.specs.Prelude.{find, ◌==◌, nat_lt, filter_map, All, IsNone, IfOk, OnOk, OnErr, IfSome}
 use Rattle.std.specs.List.{filter, cons_option}
 use Rattle.std.specs.Option.{option_or}
@@ -17,9 +17,7 @@ use Rattle.ride_model.specs.History.{entries_of, command_of, fed_commands}
 use Rattle.ride_model.specs.Legal.{after_entry, replay, IsLegal, all_feeds_ended}
 use Rattle.ride_model.specs.Road.{RoadMap}
 use Rattle.ride_model.specs.Seating.{BatchCopy, IsBatchOver}
-use Rattle.ride_model.specs.State.{State, has_ended, is_actor, is_batch, open_batch_of, open_batch_numbered}
-use Rattle.ride_model.specs.Step.{step}
-use Rattle.ride_model.specs.Text.{IsOneOrTwo}
+use Rattle.ride_model.specs.State.{State, is_actor, is_batch, open_batch_of, open_batch_numbered}
 use Rattle.ride_model.specs.Vehicle.{IsLawful}
 use Rattle.batch_commit.specs.Solved.{SolvedBatch}
 use Rattle.model_laws.proofs.Certificates.{found_among}
@@ -269,3 +267,11 @@ fed-le feed entries =
       length-filter_map (λ (entry : Entry). command_of entry.event) (filter (λ (entry : Entry). is_actor entry.actor (Feed feed)) entries),
       length-filter-le (λ (entry : Entry). is_actor entry.actor (Feed feed)) entries,
     )
+
+-- what holds of an open batch
+pub open-batch : (s : State) (desk number : ℕ) (P : BatchCopy → Type 0) → All P s.batches → IfSome (open_batch_numbered s desk number) P
+open-batch s desk number P each =
+    elim (open_batch_numbered s desk number) as (λ o. open_batch_numbered s desk number ≡ o → IfSome o P) [
+      | None ↦ λ _. tt
+      | Some batch ↦ λ is. of_all P s.batches batch each (found_among (is_batch desk number) s.batches batch is).0
+    ] refl

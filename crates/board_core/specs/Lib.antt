@@ -9,3 +9,4 @@ pub mod Legs
 pub mod Reports
 pub mod Marking
 pub mod Settling
+pub mod Totals

@@ -129,6 +129,13 @@ impl<'r> Board<'r> {
         self.service.clock
     }
 
+    /// The vehicles in fleet order, as they stand.
+    pub fn vehicles(&self) -> &[Vehicle]
+        ensures { result.now ≡ (state_of self.now).vehicles }
+    {
+        self.service.vehicles.as_slice()
+    }
+
     /// The vehicle of an id, as it stands.
     pub fn vehicle(&self, id: u64) -> Option<&Vehicle>
         ensures { option_copied result ≡ find_vehicle (state_of self.now).vehicles id }

@@ -19,8 +19,10 @@ mod requests;
 mod service;
 mod settling;
 mod setup;
+mod totals;
 mod waiting;
 mod wishes;
 
 pub use board::Board;
 pub use opening::Opening;
+pub use totals::Totals;

@@ -1,5 +1,5 @@
 -- How many commands a pass has.
-use Rattle.std.proofs.Common.{ℕ, ◌≤◌, List, length, ap, arith}
+use Rattle.std.proofs.Common.{◌≤◌, List, length, ap, arith}
 use Rattle.std.specs.Prelude.{◌==◌}
 use Rattle.ride_model.specs.declared.entry.Entry.{Entry}
 use Rattle.ride_model.specs.History.{command_of}

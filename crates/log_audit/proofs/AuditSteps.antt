@@ -1,10 +1,9 @@
 -- The steps of an audit: its head, a line after it, and how it ends.
-use Rattle.std.proofs.Common.{◌≡◌, ◌≢◌, ℕ, ◌+◌, ◌<◌, ◌≤◌, inl, inr, true, false, List, [], ◌∷◌, ◌++◌, length, take, Option, None, Some, refl, sym, ◌∙◌, ap, subst, arith, append_assoc, append-nil, length-append}
+use Rattle.std.proofs.Common.{◌≡◌, ◌≢◌, ℕ, ◌+◌, ◌≤◌, inl, inr, true, false, List, [], ◌∷◌, ◌++◌, length, take, Option, None, Some, refl, sym, ◌∙◌, ap, subst, arith, append_assoc, length-append}
 use Rattle.std.specs.Prelude.{IfSome, IfNone, IfOk, Result, Ok, Err, MatchOption, nat_lt, codes, decimal}
 use Rattle.std.proofs.lemmas.Bool.{ltb-true, lt-ltb, cases_lt}
 use Rattle.std.proofs.lemmas.Fmt.{decimal_digit}
 use Rattle.std.proofs.lemmas.List.{take_all}
-use Rattle.ride_ports.specs.Bytes.{Reads}
 use Rattle.line_text.specs.Lines.{ended_after, ended_lines, rest_after, rest_of}
 use Rattle.ride_model.specs.declared.entry.Entry.{Entry}
 use Rattle.ride_model.specs.Legal.{IsLegal}
@@ -27,7 +26,7 @@ use Rattle.log_audit.specs.declared.verdict.Why.{Why}
 use Rattle.log_audit.specs.declared.verdict.Why.TheVariants.{Spelling}
 use Rattle.log_audit.specs.Audit.{HasNoHead, IsAnswer, IsLogOf, IsWrongLine}
 use Rattle.log_audit.specs.Audited.{FailsAfter, HasReadHead, HasReadNoHead, IsWrongLineAfter, text_so_far}
-use Rattle.log_audit.specs.Auditing.{GoesOn, IsAuditing, IsJudged, IsLineOf}
+use Rattle.log_audit.specs.Auditing.{IsAuditing, IsJudged, IsLineOf}
 use Rattle.log_audit.specs.Limits.{Counts, IsTooLong, lines_within, most_line, most_lines}
 use Rattle.log_audit.specs.LogLines.{HasNoLf, HasRead, IsAtEnd, IsNext, IsNextLine, IsStop, pending}
 use Rattle.log_audit.specs.Words.{IsFault}

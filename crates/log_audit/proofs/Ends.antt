@@ -17,7 +17,7 @@ use Rattle.trip_log.specs.Cuts.{front_of}
 use Rattle.trip_log.proofs.TextLemmas.{cut-text, rest-text}
 use Rattle.log_audit.specs.declared.lines.LogLines.{LogLines}
 use Rattle.log_audit.specs.declared.verdict.AuditFault.TheVariants.{ReadFault, TooLong}
-use Rattle.log_audit.specs.declared.verdict.Totals.{Totals}
+use Rattle.board_core.specs.declared.totals.Totals.{Totals}
 use Rattle.log_audit.specs.declared.verdict.Verdict.TheVariants.{Yes, No}
 use Rattle.log_audit.specs.declared.verdict.Why.{Why}
 use Rattle.log_audit.specs.declared.verdict.Why.TheVariants.{Spelling, Actor as ToActor, Reply as ToReply, Batch as ToBatch, Seating as ToSeating, Prices as ToPrices, Outcomes as ToOutcomes}
@@ -25,7 +25,7 @@ use Rattle.log_audit.specs.Audit.{Tells, IsLogOf, IsWrongNext, IsAnswer}
 use Rattle.log_audit.specs.Audited.{FailsAfter}
 use Rattle.log_audit.specs.Limits.{most_bytes, most_lines, IsTooLong, lines_within, Counts}
 use Rattle.log_audit.specs.LogLines.{HasNoLf, IsAtEnd, IsNextLine, IsStop, pending}
-use Rattle.log_audit.specs.Totals.{AreTotalsOf}
+use Rattle.board_core.specs.Totals.{AreTotalsOf}
 use Rattle.log_audit.specs.Words.{IsFault}
 use Rattle.log_audit.proofs.LineParts.{told-by}
 use Rattle.log_audit.proofs.OneAnswer.{wrong-later}

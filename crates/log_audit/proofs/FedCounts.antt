@@ -1,6 +1,6 @@
 -- How many commands of a feed a history has at most.
 use Rattle.std.proofs.Common.{ℕ, suc, ◌≤◌, List, [], ◌∷◌, length, arith}
-use Rattle.std.specs.Prelude.{filter, filter_map, Option, None, Some}
+use Rattle.std.specs.Prelude.{filter_map, Option, None, Some}
 use Rattle.std.specs.List.{cons_option}
 use Rattle.ride_model.specs.declared.command.Actor.TheVariants.{Feed}
 use Rattle.ride_model.specs.declared.entry.Entry.{Entry}

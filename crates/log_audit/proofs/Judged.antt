@@ -2,25 +2,14 @@
 use Rattle.std.proofs.Common.{◌≡◌, ◌≢◌, ℕ, List, [], ◌∷◌, ◌++◌, Option, None, Some, refl, sym, ◌∙◌, ap, subst}
 use Rattle.std.specs.Prelude.{All}
 use Rattle.std.proofs.lemmas.List.Elements.{All-contains, Contains-push}
-use Rattle.ride_model.specs.declared.command.Actor.TheVariants.{Feed, Desk}
-use Rattle.ride_model.specs.declared.command.Command.{Command}
 use Rattle.ride_model.specs.declared.entry.Entry.{Entry}
-use Rattle.ride_model.specs.declared.entry.Event.TheVariants.{Fed, Opened, Committed}
-use Rattle.ride_model.specs.declared.entry.Outcome.{Outcome}
-use Rattle.ride_model.specs.declared.reply.Reply.{Reply}
-use Rattle.ride_model.specs.Batch.{outcomes_of}
-use Rattle.ride_model.specs.Legal.{IsNumbered, NamesBatch, versions_of}
-use Rattle.ride_model.specs.Road.{RoadMap}
-use Rattle.ride_model.specs.Seating.{BatchCopy, seating_cost}
 use Rattle.ride_model.specs.State.{State}
-use Rattle.ride_model.specs.Step.{step}
 use Rattle.ride_model.specs.Text.{HasLine, HasText, IsOneOrTwo, entry_line}
-use Rattle.ride_model.specs.Vehicle.{ride_ids}
 use Rattle.trip_log.proofs.ReadLemmas.{lines-same}
-use Rattle.board_core.specs.Recorded.{Recorded, state_of, fed_entry, opened_entry, committed_entry}
+use Rattle.board_core.specs.Recorded.{Recorded, state_of}
 use Rattle.log_audit.specs.declared.auditor.Auditor.{Auditor}
 use Rattle.log_audit.specs.declared.verdict.Why.{Why}
-use Rattle.log_audit.specs.Auditing.{IsAuditing, GoesOn, IsJudged, IsLineOf}
+use Rattle.log_audit.specs.Auditing.{IsAuditing, IsJudged, IsLineOf}
 use Rattle.log_audit.specs.OpenBatches.{AreOpen}
 use Rattle.log_audit.specs.Words.{IsFault}
 

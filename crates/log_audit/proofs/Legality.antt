@@ -1,28 +1,24 @@
 -- The words why a line is wrong: together they are what makes an entry legal, and only one is the first that is not met.
-use Rattle.std.proofs.Common.{◌≡◌, ℕ, ◌+◌, ◌<◌, ◌≤◌, ◌⊎◌, inl, inr, List, refl, sym, ◌∙◌, ap, subst, arith}
-use Rattle.std.specs.Prelude.{◌==◌, if◌then◌else◌, Option, Some, None, IsSome, IfSome, IsSomeAnd, IsTrue, IsFalse, All, nat_eq}
+use Rattle.std.proofs.Common.{◌≡◌, ℕ, ◌<◌, inl, inr, List, refl, sym, ◌∙◌, ap, subst, arith}
+use Rattle.std.specs.Prelude.{◌==◌, if◌then◌else◌, Option, Some, None, IsSome, IfSome, IsSomeAnd, All, nat_eq}
 use Rattle.std.specs.List.{IsDistinct}
 use Rattle.std.proofs.lemmas.Bool.{cases_order}
 use Rattle.ride_model.specs.declared.command.Actor.{Actor}
 use Rattle.ride_model.specs.declared.command.Actor.TheVariants.{Feed, Desk}
-use Rattle.ride_model.specs.declared.command.Command.{Command}
 use Rattle.ride_model.specs.declared.entry.Entry.{Entry}
 use Rattle.ride_model.specs.declared.entry.Event.{Event}
 use Rattle.ride_model.specs.declared.entry.Event.TheVariants.{Fed, Finish, Opened, Committed, Abandoned}
 use Rattle.ride_model.specs.declared.entry.Outcome.{Outcome}
 use Rattle.ride_model.specs.declared.offer.Seat.{Seat}
-use Rattle.ride_model.specs.declared.reply.Reply.{Reply}
-use Rattle.ride_model.specs.Batch.{next_batch, outcomes_of}
-use Rattle.ride_model.specs.Legal.{IsLegal, IsLegalEntry, IsLegalEvent, CommitsBatch, NamesBatch, replay}
+use Rattle.ride_model.specs.Batch.{outcomes_of}
+use Rattle.ride_model.specs.Legal.{IsLegal, IsLegalEvent, CommitsBatch, replay}
 use Rattle.ride_model.specs.Seating.{BatchCopy, IsSeating, Certifies, seating_cost}
-use Rattle.ride_model.specs.State.{State, open_batch_numbered, is_batch}
-use Rattle.ride_model.specs.Step.{step}
+use Rattle.ride_model.specs.State.{State, open_batch_numbered}
 use Rattle.ride_model.specs.Vehicle.{ride_ids}
-use Rattle.model_laws.proofs.Certificates.{certified_is_least, found_among}
+use Rattle.model_laws.proofs.Certificates.{certified_is_least}
 use Rattle.history_laws.specs.Start.{IsStart}
-use Rattle.history_laws.specs.Consistent.{IsOpenBatch}
 use Rattle.history_laws.proofs.EveryState.{consistent}
-use Rattle.history_laws.proofs.Lookups.{of_all}
+use Rattle.board_core.proofs.OpenBatches.{open-batch}
 use Rattle.log_audit.specs.declared.verdict.Why.{Why}
 use Rattle.log_audit.specs.declared.verdict.Why.TheVariants.{Spelling, Actor as ToActor, Reply as ToReply, Batch as ToBatch, Seating as ToSeating, Prices as ToPrices, Outcomes as ToOutcomes}
 use Rattle.log_audit.specs.Words.{MayAct, IsAnswered, IsNamed, IsSeated, IsPriced, IsDecided, Meets, rank, IsFault}
@@ -162,14 +158,6 @@ module _ (feeds desks : ℕ) (s : State) (desk number cost : ℕ) (seats : List 
       before ToSeating low = of_batch (λ b. IsSeating s.roads b seats × (cost ≡ seating_cost s.roads b seats)) seated
       before ToPrices low = of_batch (λ b. Certifies s.roads b seats prices pays) priced
       before ToOutcomes low = absurd (omega arith)
-
--- what holds of an open batch
-pub open-batch : (s : State) (desk number : ℕ) (P : BatchCopy → Type 0) → All P s.batches → IfSome (open_batch_numbered s desk number) P
-open-batch s desk number P each =
-    elim (open_batch_numbered s desk number) as (λ o. open_batch_numbered s desk number ≡ o → IfSome o P) [
-      | None ↦ λ _. tt
-      | Some batch ↦ λ is. of_all P s.batches batch each (found_among (is_batch desk number) s.batches batch is).0
-    ] refl
 
 -- a commit of an open batch
 commit-words : (s : State) (o : Option BatchCopy) (cost : ℕ) (seats : List Seat) (prices pays : List (ℕ × ℕ)) (outcomes : List (ℕ × Outcome))

@@ -14,4 +14,3 @@ pub mod Placing
 pub mod SeatCosts
 pub mod SaidCommits
 pub mod AuditSteps
-pub mod FewOutcomes

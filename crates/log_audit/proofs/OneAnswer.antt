@@ -1,5 +1,5 @@
 -- A log has at most one answer.
-use Rattle.std.proofs.Common.{◌≡◌, ◌≢◌, ℕ, suc, ◌+◌, ◌<◌, ◌≤◌, ◌⊎◌, inl, inr, Bool, true, false, List, [], ◌∷◌, ◌++◌, length, refl, sym, ◌∙◌, ap, subst, arith, append_assoc, append-nil, length-append}
+use Rattle.std.proofs.Common.{◌≡◌, ◌≢◌, ℕ, ◌+◌, ◌<◌, ◌≤◌, ◌⊎◌, inl, inr, Bool, true, false, List, [], ◌∷◌, ◌++◌, length, refl, sym, ◌∙◌, ap, subst, arith, append_assoc, append-nil, length-append}
 use Rattle.std.specs.Prelude.{All, IsTrue, Result, Ok, Err}
 use Rattle.std.specs.List.{AllByRecursion, join_with_byte}
 use Rattle.std.proofs.lemmas.Bool.{cases_lt}
@@ -11,15 +11,16 @@ use Rattle.ride_model.specs.Text.{HasLine, IsOneOrTwo, actor_field, event_fields
 use Rattle.model_laws.proofs.Histories.{IsLegal-parts}
 use Rattle.history_laws.specs.Start.{IsStart}
 use Rattle.trip_log.proofs.TextLemmas.{lines-go_on, texts-go_on, texts-same}
+use Rattle.board_core.proofs.FewOutcomes.{first-legal}
 use Rattle.log_audit.specs.declared.verdict.AuditFault.{AuditFault}
 use Rattle.log_audit.specs.declared.verdict.AuditFault.TheVariants.{ReadFault, TooLong, NoMemory}
-use Rattle.log_audit.specs.declared.verdict.Totals.{Totals}
+use Rattle.board_core.specs.declared.totals.Totals.{Totals}
 use Rattle.log_audit.specs.declared.verdict.Verdict.{Verdict}
 use Rattle.log_audit.specs.declared.verdict.Verdict.TheVariants.{Yes, No}
 use Rattle.log_audit.specs.declared.verdict.Why.{Why}
 use Rattle.log_audit.specs.declared.verdict.Why.TheVariants.{Spelling, Actor as ToActor, Reply as ToReply, Batch as ToBatch, Seating as ToSeating, Prices as ToPrices, Outcomes as ToOutcomes}
 use Rattle.log_audit.specs.Audit.{Tells, TellsNone, IsLogOf, IsWrongNext, IsWrongEntry, IsWrongHead, IsWrongLine, IsAnswer}
-use Rattle.log_audit.specs.Totals.{AreTotalsOf}
+use Rattle.board_core.specs.Totals.{AreTotalsOf}
 use Rattle.log_audit.specs.Words.{IsFault}
 use Rattle.log_audit.proofs.Legality.{legal-words, one-fault}
 use Rattle.log_audit.proofs.ShortLines.{legal-short}
@@ -102,12 +103,6 @@ not-wrong start feeds desks entries rest why entry fits tells legal wrong = elim
       fault.fault (legal-words feeds desks (replay start entries) other.actor other.event
       (subst (IsLegalEntry feeds desks (replay start entries)) (sym same) legal) why)
 ]
-
--- the first entry of a legal history is legal
-pub first-legal : (feeds desks : ℕ) (s : State) (entry : Entry) (entries : List Entry) → IsLegal feeds desks s (entry ∷ entries)
-    → IsLegalEntry feeds desks s entry
-unfolding IsLegal
-first-legal feeds desks s entry entries legal = legal.0
 
 -- the text of a legal history that the bytes begin with is no longer than what stands before a wrong line
 pub no-longer : (start : State) (feeds desks : ℕ) (entries : List Entry) (front more bytes : List ℕ) (line : ℕ) (why : Why) → IsStart start

@@ -1,5 +1,5 @@
 -- The open batches of a log's desks, entry by entry.
-use Rattle.std.proofs.Common.{◌≡◌, ◌≢◌, ℕ, ◌+◌, ◌≤◌, Bool, true, false, not, cond, inl, inr, List, [], ◌∷◌, ◌++◌, eqb, refl, sym, ap, subst, ◌∙◌, arith}
+use Rattle.std.proofs.Common.{◌≡◌, ℕ, ◌≤◌, Bool, true, false, not, cond, List, [], ◌∷◌, ◌++◌, eqb, refl, sym, ap, subst, ◌∙◌, arith}
 use Rattle.std.specs.Prelude.{◌==◌, ◌&&◌, map, find, filter, nat_lt, is_some, Option, Some, None, All, IsTrue}
 use Rattle.std.specs.List.{AllByRecursion, IsDistinct}
 use Rattle.std.proofs.lemmas.Bool.{eqb-true, eqb-false, eq-eqb, ne_eqb, and_parts}
@@ -14,7 +14,6 @@ use Rattle.ride_model.specs.Legal.{after_entry, all_feeds_ended, replay, IsLegal
 use Rattle.ride_model.specs.Road.{RoadMap}
 use Rattle.ride_model.specs.Seating.{BatchCopy, IsBatchOver}
 use Rattle.ride_model.specs.State.{State, has_ended, is_batch, open_batch_of, open_batch_numbered}
-use Rattle.ride_model.specs.Step.{step}
 use Rattle.ride_model.specs.Text.{IsOneOrTwo}
 use Rattle.ride_model.specs.Vehicle.{IsLawful}
 use Rattle.batch_commit.specs.Solved.{SolvedBatch}
@@ -23,8 +22,8 @@ use Rattle.model_laws.proofs.Certificates.{found_among}
 use Rattle.model_laws.proofs.Histories.{replay-push}
 use Rattle.model_laws.proofs.RequestStates.{others-opening, abandon-is}
 use Rattle.history_laws.proofs.Untouched.{leaves-step, stays-outcomes}
-use Rattle.history_laws.specs.Consistent.{IsConsistent, IsOpenBatch}
-use Rattle.history_laws.specs.Start.{IsStart, fed_total}
+use Rattle.history_laws.specs.Consistent.{IsOpenBatch}
+use Rattle.history_laws.specs.Start.{IsStart}
 use Rattle.history_laws.proofs.EveryState.{consistent}
 use Rattle.history_laws.proofs.Lookups.{of_all, found_by}
 use Rattle.trip_log.proofs.ReadLemmas.{for_one_or_two}

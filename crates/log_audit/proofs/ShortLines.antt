@@ -1,6 +1,6 @@
 -- The line of a legal entry is short.
-use Rattle.std.proofs.Common.{◌≡◌, ℕ, ◌+◌, ◌*◌, ◌<◌, ◌≤◌, Bool, true, false, cond, List, [], ◌∷◌, ◌++◌, length, take, Option, None, Some, refl, sym, ◌∙◌, ap, subst, arith, length-append}
-use Rattle.std.specs.Prelude.{◌==◌, min, codes, decimal, map, filter, All, IfSome, IsSomeAnd}
+use Rattle.std.proofs.Common.{◌≡◌, ℕ, ◌+◌, ◌*◌, ◌≤◌, Bool, true, false, cond, List, [], ◌∷◌, ◌++◌, length, take, Option, None, Some, ap, arith, length-append}
+use Rattle.std.specs.Prelude.{◌==◌, codes, decimal, map, All, IfSome, IsSomeAnd}
 use Rattle.std.specs.List.{AllByRecursion, join_with_byte}
 use Rattle.std.proofs.lemmas.Fmt.{length-decimal-le}
 use Rattle.std.proofs.lemmas.List.{length-map, length-take}
@@ -22,15 +22,15 @@ use Rattle.ride_model.specs.declared.vehicle.Ride.{Ride}
 use Rattle.ride_model.specs.declared.vehicle.Vehicle.{Vehicle}
 use Rattle.ride_model.specs.Batch.{next_batch, outcome_of, outcomes_of, waiting_rides}
 use Rattle.ride_model.specs.Legal.{CommitsBatch, IsLegal, IsLegalEntry, IsLegalEvent, replay, versions_of}
-use Rattle.ride_model.specs.Seating.{BatchCopy, amount_ids, has_amount, vehicle_ids}
+use Rattle.ride_model.specs.Seating.{BatchCopy, has_amount, vehicle_ids}
 use Rattle.ride_model.specs.State.{State, open_batch_numbered}
-use Rattle.ride_model.specs.Text.{HasLine, IsOneOrTwo, IsSpelled, IsSpelledActor, IsSpelledCommand, IsSpelledEvent, IsSpelledOutcome, IsSpelledPair, IsSpelledReply, IsSpelledSeat, actor_field, amount_field, broken_fields, chairs_fields, command_fields, entry_line, event_fields, fed_fields, outcome_field, plan_field, reply_fields, seat_field}
+use Rattle.ride_model.specs.Text.{HasLine, IsSpelled, IsSpelledActor, IsSpelledCommand, IsSpelledEvent, IsSpelledOutcome, IsSpelledPair, IsSpelledReply, IsSpelledSeat, actor_field, amount_field, broken_fields, chairs_fields, command_fields, entry_line, event_fields, fed_fields, outcome_field, plan_field, reply_fields, seat_field}
 use Rattle.ride_model.specs.Vehicle.{ride_ids}
 use Rattle.history_laws.specs.Start.{IsStart}
 use Rattle.history_laws.proofs.EveryState.{consistent}
 use Rattle.history_laws.proofs.Raised.{length-filter-le}
 use Rattle.log_audit.specs.Limits.{most_line}
-use Rattle.log_audit.proofs.Legality.{open-batch}
+use Rattle.board_core.proofs.OpenBatches.{open-batch}
 use Rattle.log_audit.proofs.SeatCosts.{few-seats}
 
 -- so many fields at most, each of 80 bytes at most

@@ -6,13 +6,12 @@ use Rattle.ride_model.specs.State.{State}
 use Rattle.ride_model.specs.Text.{HasLine, HasText, IsOneOrTwo, entry_line, head_line, text_of}
 use Rattle.log_audit.specs.declared.verdict.AuditFault.{AuditFault}
 use Rattle.log_audit.specs.declared.verdict.AuditFault.TheVariants.{ReadFault, TooLong, NoMemory}
-use Rattle.log_audit.specs.declared.verdict.Totals.{Totals}
 use Rattle.log_audit.specs.declared.verdict.Verdict.{Verdict}
 use Rattle.log_audit.specs.declared.verdict.Verdict.TheVariants.{Yes, No}
 use Rattle.log_audit.specs.declared.verdict.Why.{Why}
 use Rattle.log_audit.specs.declared.verdict.Why.TheVariants.{Spelling}
 use Rattle.log_audit.specs.Limits.{most_line, IsTooLong, Counts}
-use Rattle.log_audit.specs.Totals.{AreTotalsOf}
+use Rattle.board_core.specs.Totals.{AreTotalsOf}
 use Rattle.log_audit.specs.Words.{IsFault}
 
 -- bytes begin with these

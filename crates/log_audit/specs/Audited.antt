@@ -1,7 +1,6 @@
 -- What an audit knows of a log of which it has read some lines.
 use Rattle.std.specs.Prelude.{◌≡◌, ℕ, ◌≤◌, ◌++◌, ◌∷◌, [], List, length, Option, IfSome}
 use Rattle.line_text.specs.Lines.{ended_lines}
-use Rattle.ride_model.specs.declared.entry.Entry.{Entry}
 use Rattle.ride_model.specs.State.{State}
 use Rattle.ride_model.specs.Text.{IsOneOrTwo, head_line, text_of}
 use Rattle.board_core.specs.Recorded.{Recorded}
@@ -11,7 +10,7 @@ use Rattle.log_audit.specs.declared.lines.LogLines.{LogLines}
 use Rattle.log_audit.specs.declared.verdict.Why.{Why}
 use Rattle.log_audit.specs.Audit.{HasNoHead, IsWrongLine, IsWrongNext}
 use Rattle.log_audit.specs.Limits.{Counts, IsTooLong}
-use Rattle.log_audit.specs.LogLines.{HasNoLf, HasRead}
+use Rattle.log_audit.specs.LogLines.{HasRead}
 
 -- no line of these bytes that an LF ends is wrong
 abbrev pub NoneWrong : State → List ℕ → Type 0

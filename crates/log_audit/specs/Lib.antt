@@ -3,7 +3,6 @@ pub mod LogLines
 pub mod OpenBatches
 pub mod Words
 pub mod Seated
-pub mod Totals
 pub mod Audit
 pub mod Auditing
 pub mod Audited

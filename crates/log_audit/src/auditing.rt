@@ -8,7 +8,7 @@ ghost use Rattle.ride_model.specs.Vehicle.{IsLawful};
 ghost use Rattle.ride_ports.specs.Count.{Rose};
 ghost use Rattle.log_audit.specs.declared.verdict.AuditFault.{AuditFault};
 ghost use Rattle.log_audit.specs.declared.verdict.AuditFault.TheVariants.{NoMemory, ReadFault};
-ghost use Rattle.log_audit.specs.declared.verdict.Totals.{Totals};
+ghost use Rattle.board_core.specs.declared.totals.Totals.{Totals};
 ghost use Rattle.log_audit.specs.declared.verdict.Verdict.{Verdict};
 ghost use Rattle.log_audit.specs.declared.verdict.Verdict.TheVariants.{Yes};
 ghost use Rattle.log_audit.specs.Audit.{IsAnswer};
@@ -19,7 +19,6 @@ ghost use Rattle.log_audit.specs.LogLines.{HasNoLf, HasRead, IsStop, TakesSome};
 
 use crate::auditor::Auditor;
 use crate::lines::{LogLines, Next};
-use crate::totals::totals_of;
 use crate::{AuditFault, Verdict, Why};
 use ride_model::{Fleet, NoMemory, Settings};
 use ride_ports::Source;
@@ -155,7 +154,7 @@ fn further_lines<R: Threads + Sync, S: Source>(
                 let why = Why::Spelling;
                 return Ok(Verdict::No { line, why });
             }
-            Next::End => return Ok(Verdict::Yes(totals_of(&auditor.board))),
+            Next::End => return Ok(Verdict::Yes(auditor.board.totals())),
         }
     }
 }

@@ -12,9 +12,8 @@ mod lines;
 mod open_batches;
 mod pricing;
 mod seating;
-mod totals;
 mod verdict;
 
 pub use auditing::audit;
 pub use laws::{a_log_has_one_answer, words_together_are_legality};
-pub use verdict::{AuditFault, Totals, Verdict, Why};
+pub use verdict::{AuditFault, Verdict, Why};

@@ -1,4 +1,5 @@
 //! What an audit answers.
+use board_core::Totals;
 
 /// Whether a log is the text of a legal history.
 #[derive(Clone, Copy, Debug, PartialEq, Eq)]
@@ -6,17 +7,6 @@ pub enum Verdict {
     Yes(Totals),
     /// The number of the first wrong line, from 1, and the first of its faults.
     No { line: u64, why: Why },
-}
-
-/// How much a history has of what matters, and whether it is finished.
-#[derive(Clone, Copy, Debug, PartialEq, Eq)]
-pub struct Totals {
-    pub entries: u64,
-    pub confirmed: u64,
-    pub away: u64,
-    pub picked: u64,
-    pub dropped: u64,
-    pub finished: bool,
 }
 
 /// Why a line is wrong, in the order in which the tests come.

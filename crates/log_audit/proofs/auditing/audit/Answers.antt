@@ -1,12 +1,11 @@
-use Rattle.std.proofs.Common.{◌≡◌, ℕ, List, Option, None, Some, refl, sym, ◌∙◌, ap, subst}
+use Rattle.std.proofs.Common.{◌≡◌, ℕ, List, Option, None, Some, refl, ◌∙◌, ap, subst}
 use Rattle.std.specs.Prelude.{IfSome, MatchOption}
 use Rattle.std.proofs.lemmas.Result.{err_from_is_err_and}
 use Rattle.ride_model.specs.State.{State, start_state}
 use Rattle.history_laws.specs.Start.{IsStart}
-use Rattle.ride_ports.specs.Bytes.{Reads}
 use Rattle.trip_log.specs.declared.reading.Head.{Head}
 use Rattle.log_audit.specs.Audit.{IsAnswer}
-use Rattle.log_audit.specs.Audited.{FailsAfter, HasReadHead, HasReadNoHead}
+use Rattle.log_audit.specs.Audited.{FailsAfter, HasReadNoHead}
 use Rattle.log_audit.specs.LogLines.{HasRead}
 use Rattle.log_audit.proofs.AuditSteps.{board-nothing, fault-head, no-head-answer, only-answer, stop-head}
 use Rattle.log_audit.proofs.LineParts.{takes-then}

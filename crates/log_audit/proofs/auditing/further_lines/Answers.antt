@@ -1,4 +1,4 @@
-use Rattle.std.proofs.Common.{◌≡◌, ◌+◌, ◌<◌, ℕ, List, Option, None, Some, length, refl, sym, ◌∙◌, ap, subst, arith}
+use Rattle.std.proofs.Common.{◌+◌, length, refl, sym, ◌∙◌, ap, subst, arith}
 use Rattle.std.specs.Prelude.{IfSome}
 use Rattle.std.proofs.lemmas.Result.{err_from_is_err_and}
 use Rattle.ride_model.specs.State.{State}
@@ -9,7 +9,7 @@ use Rattle.log_audit.specs.Audited.{text_so_far}
 use Rattle.log_audit.specs.LogLines.{HasRead, IsNext}
 use Rattle.std.specs.Prelude.{Ok}
 use Rattle.log_audit.proofs.AuditSteps.{LineJudged, few-entries, log-of, stop-answer, stop-fault}
-use Rattle.log_audit.proofs.Ends.{count-text, ends-unfinished, ends-wrong, ends-yes, one-line-more, whole-text}
+use Rattle.log_audit.proofs.Ends.{ends-unfinished, ends-wrong, ends-yes, one-line-more, whole-text}
 use Rattle.log_audit.proofs.LineParts.{takes-none, takes-then}
 use Rattle.log_audit.proofs.auditing.further_lines.Goals as goal
 
@@ -73,8 +73,8 @@ judge_line-requires-clause-few g c κs within =
           (c.lines.invariant.read before read),
     )
 
-pub totals_of-requires : goal.totals_of-requires
-totals_of-requires g c =
+pub totals-requires : goal.totals-requires
+totals-requires g c =
     let (before, read) = c.requires.read in
     let board = c.lines.auditor.board in
     let good = log-of board c.entries.ensures.legal c.entries.ensures.text in
@@ -91,8 +91,8 @@ returns-in-End-clause-answer g c = λ before read no_memory no_fault.
     let next = subst (IsNext before _ c.next.new.self (text_so_far board)) c.in-End.is
     (c.in_ok-next.ensures.next before (text_so_far board) (c.lines.invariant.read before read)
     (whole-text board.start board.feeds board.desks board.history (text_so_far board) good)) in
-    subst (λ (s : State). IfSome before (λ all. IsAnswer s all (Ok (Yes c.totals_of.result)))) c.lines.invariant.start
-    (ends-yes before _ board.start board.feeds board.desks board.history (text_so_far board) c.totals_of.result good c.totals_of.ensures next)
+    subst (λ (s : State). IfSome before (λ all. IsAnswer s all (Ok (Yes c.totals.result)))) c.lines.invariant.start
+    (ends-yes before _ board.start board.feeds board.desks board.history (text_so_far board) c.totals.result good c.totals.ensures.totals next)
 
 pub returns-in-End-clause-to_end : goal.returns-in-End-clause-to_end
 returns-in-End-clause-to_end g c = λ totals is.

@@ -1,9 +1,8 @@
-use Rattle.std.proofs.Common.{◌≡◌, ◌<◌, ◌+◌, ℕ, Some, None, length, get_or, sym, ◌∙◌, ap, subst, arith, nat_eq}
+use Rattle.std.proofs.Common.{◌+◌, get_or, sym, ◌∙◌, ap, subst, arith, nat_eq}
 use Rattle.std.specs.Prelude.{option_copied}
 use Rattle.std.specs.List.{IsDistinct}
 use Rattle.ride_model.specs.Seating.{vehicle_ids}
-use Rattle.ride_model.specs.Vehicle.{ride_ids}
-use Rattle.log_audit.proofs.OwnCells.{OwnsSoFar, own-none, own-more, own-dear, own-there, own-all, own-inside, place-read, no_place, Premises}
+use Rattle.log_audit.proofs.OwnCells.{OwnsSoFar, own-none, own-more, own-dear, own-there, own-all, own-inside, place-read, no_place}
 use Rattle.log_audit.proofs.commits.with_own_offers.Goals as goal
 
 pub loop-one-init : goal.loop-one-init

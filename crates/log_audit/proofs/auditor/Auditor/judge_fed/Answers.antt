@@ -1,11 +1,11 @@
-use Rattle.std.proofs.Common.{◌≡◌, ℕ, ◌≤◌, List, [], ◌∷◌, refl, ap, subst, ◌∙◌, arith}
+use Rattle.std.proofs.Common.{refl, ap, arith}
 use Rattle.ride_model.specs.declared.command.Actor.TheVariants.{Feed}
 use Rattle.ride_model.specs.declared.entry.Entry.{Entry}
 use Rattle.ride_model.specs.declared.entry.Event.TheVariants.{Fed}
 use Rattle.ride_model.specs.declared.reply.Reply.{Reply}
 use Rattle.board_core.specs.Recorded.{Recorded, state_of, fed_entry}
 use Rattle.log_audit.specs.declared.verdict.Why.TheVariants.{Reply as ToReply}
-use Rattle.log_audit.proofs.Judged.{Went, auditing-on, judged}
+use Rattle.log_audit.proofs.Judged.{auditing-on, judged}
 use Rattle.log_audit.proofs.Legality.{fault-reply}
 use Rattle.log_audit.proofs.OpenOnes.{open-fed}
 use Rattle.log_audit.proofs.FedCounts.{length-fed-le}

@@ -8,7 +8,6 @@ use Rattle.ride_model.specs.Seating.{BatchCopy}
 use Rattle.ride_model.specs.Vehicle.{ride_ids}
 use Rattle.board_core.specs.declared.opening.Opening.{Opening}
 use Rattle.board_core.specs.Recorded.{Recorded, state_of, opened_entry}
-use Rattle.log_audit.specs.declared.auditor.Auditor.{Auditor}
 use Rattle.log_audit.specs.declared.verdict.Why.TheVariants.{Batch as ToBatch}
 use Rattle.log_audit.specs.OpenBatches.{AreOpen}
 use Rattle.log_audit.proofs.Judged.{auditing-on, judged}

@@ -1,4 +1,4 @@
-use Rattle.std.proofs.Common.{◌≡◌, [], ap, sym, ◌∙◌, subst}
+use Rattle.std.proofs.Common.{ap, sym, ◌∙◌, subst}
 use Rattle.ride_model.specs.State.{State}
 use Rattle.ride_model.specs.Legal.{replay}
 use Rattle.log_audit.specs.OpenBatches.{AreOpen}

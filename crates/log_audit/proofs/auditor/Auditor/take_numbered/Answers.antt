@@ -1,6 +1,5 @@
-use Rattle.std.proofs.Common.{◌≡◌, Option, Some, None, Bool, true, false, cond, eqb, refl, sym, ◌∙◌, ap}
+use Rattle.std.proofs.Common.{Some, None, cond, sym, ◌∙◌, ap}
 use Rattle.std.proofs.lemmas.Bool.{eq-eqb, ne_eqb}
-use Rattle.ride_model.specs.Seating.{BatchCopy}
 use Rattle.board_core.specs.Recorded.{state_of}
 use Rattle.history_laws.proofs.EveryState.{consistent}
 use Rattle.log_audit.proofs.OpenOnes.{none-numbered, numbered-of}

@@ -1,5 +1,5 @@
 -- How many outcomes a legal history has.
-use Rattle.std.proofs.Common.{◌≡◌, ℕ, ◌+◌, ◌*◌, ◌<◌, ◌≤◌, Bool, List, [], ◌∷◌, ◌++◌, length, get_or, take, Option, None, Some, refl, sym, ◌∙◌, ap, subst, arith, append_assoc}
+use Rattle.std.proofs.Common.{◌≡◌, ℕ, ◌+◌, ◌*◌, ◌<◌, ◌≤◌, Bool, List, [], ◌∷◌, ◌++◌, length, get_or, take, Option, None, Some, sym, ◌∙◌, ap, subst, arith, append_assoc}
 use Rattle.std.specs.Prelude.{sum_by, count_by, IfSome, IsSomeAnd, All}
 use Rattle.std.proofs.lemmas.List.{length-map, take_more}
 use Rattle.std.proofs.lemmas.List.Sums.{sum_by-cons, sum_by_push, length-filter}
@@ -21,8 +21,13 @@ use Rattle.history_laws.specs.Start.{IsStart}
 use Rattle.history_laws.proofs.EveryState.{consistent}
 use Rattle.history_laws.proofs.Raised.{length-filter-le}
 use Rattle.model_laws.proofs.Histories.{IsLegal-parts}
-use Rattle.log_audit.proofs.Legality.{open-batch}
-use Rattle.log_audit.proofs.OneAnswer.{first-legal}
+use Rattle.board_core.proofs.OpenBatches.{open-batch}
+
+-- the first entry of a legal history is legal
+pub first-legal : (feeds desks : ℕ) (s : State) (entry : Entry) (entries : List Entry) → IsLegal feeds desks s (entry ∷ entries)
+    → IsLegalEntry feeds desks s entry
+unfolding IsLegal
+first-legal feeds desks s entry entries legal = legal.0
 
 -- one for each request
 outcomes-length : (b : BatchCopy) (seats : List Seat) (t : State) → length (outcomes_of b seats t) ≡ length b.requests

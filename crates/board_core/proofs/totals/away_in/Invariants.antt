@@ -1,6 +1,6 @@
 use Rattle.std.proofs.Common.{◌≡◌, take}
 use Rattle.ride_model.specs.History.{away_total}
-use Rattle.log_audit.proofs.totals.away_in.Given as goal
+use Rattle.board_core.proofs.totals.away_in.Given as goal
 
 -- the entries so far are counted
 abbrev pub invariant-loop-entry : goal.invariant-loop-entry

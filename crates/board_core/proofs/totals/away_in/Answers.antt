@@ -1,10 +1,10 @@
-use Rattle.std.proofs.Common.{◌≡◌, ◌+◌, length, take, refl, sym, ◌∙◌, ap, arith}
+use Rattle.std.proofs.Common.{◌+◌, refl, ◌∙◌, ap, arith}
 use Rattle.std.proofs.lemmas.List.{take_all}
 use Rattle.std.proofs.lemmas.List.Sums.{sum_by-take-le}
 use Rattle.ride_model.specs.declared.entry.Entry.{Entry}
 use Rattle.ride_model.specs.History.{away_total, is_away, outcomes_in}
-use Rattle.log_audit.proofs.FewOutcomes.{sum-more}
-use Rattle.log_audit.proofs.totals.away_in.Goals as goal
+use Rattle.board_core.proofs.FewOutcomes.{sum-more}
+use Rattle.board_core.proofs.totals.away_in.Goals as goal
 
 pub loop-entry-init : goal.loop-entry-init
 loop-entry-init c = refl

@@ -1,25 +1,37 @@
 //! What is counted of a history.
-ghost use Rattle.std.specs.Prelude.{◌≡◌, ◌≤◌, ◌<◌, ◌^◌, length};
+ghost use Rattle.std.specs.Prelude.{◌≡◌, ◌<◌, ◌^◌, length};
 ghost use Rattle.ride_model.specs.History.{away_total, confirmed_total, dropped_total, is_away, is_confirmed, is_dropped, is_picked, outcomes_in, picked_total};
-ghost use Rattle.log_audit.specs.Totals.{AreTotalsOf};
+ghost use Rattle.board_core.specs.Totals.{AreTotalsOf};
 
-use crate::Totals;
-use board_core::Board;
+use crate::Board;
 use ride_model::{Entry, Event, Outcome, Reply};
 
-/// The totals of a board's history.
-pub(crate) fn totals_of(board: &Board<'_>) -> Totals
-    requires { length board.now.history ≤ 2100000 }
-    ensures { AreTotalsOf board.now.feeds board.now.desks board.now.start board.now.history result }
-{
-    let entries = board.entries();
-    Totals {
-        entries: entries.len() as u64,
-        confirmed: confirmed_in(entries),
-        away: away_in(entries),
-        picked: picked_in(entries),
-        dropped: dropped_in(entries),
-        finished: board.finished(),
+/// How much a history has of what matters, and whether it is finished.
+#[derive(Clone, Copy, Debug, PartialEq, Eq)]
+pub struct Totals {
+    pub entries: u64,
+    pub confirmed: u64,
+    pub away: u64,
+    pub picked: u64,
+    pub dropped: u64,
+    pub finished: bool,
+}
+
+impl<'r> Board<'r> {
+    /// The totals of the history, which is gone through once.
+    pub fn totals(&self) -> Totals
+        requires few { length self.now.history < 2 ^ 56 }
+        ensures totals { AreTotalsOf self.now.feeds self.now.desks self.now.start self.now.history result }
+    {
+        let entries = self.entries();
+        Totals {
+            entries: entries.len() as u64,
+            confirmed: confirmed_in(entries),
+            away: away_in(entries),
+            picked: picked_in(entries),
+            dropped: dropped_in(entries),
+            finished: self.finished(),
+        }
     }
 }
 

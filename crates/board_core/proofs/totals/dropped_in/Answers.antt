@@ -1,8 +1,7 @@
-use Rattle.std.proofs.Common.{◌≡◌, ◌+◌, length, take, refl, sym, ◌∙◌, ap, arith}
+use Rattle.std.proofs.Common.{refl, ◌∙◌, ap, arith}
 use Rattle.std.proofs.lemmas.List.{take_all}
-use Rattle.ride_model.specs.declared.entry.Entry.{Entry}
-use Rattle.ride_model.specs.History.{dropped_total, is_dropped}
-use Rattle.log_audit.proofs.totals.dropped_in.Goals as goal
+use Rattle.ride_model.specs.History.{dropped_total}
+use Rattle.board_core.proofs.totals.dropped_in.Goals as goal
 
 pub loop-entry-init : goal.loop-entry-init
 loop-entry-init c = refl
