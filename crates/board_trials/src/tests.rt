@@ -6,10 +6,12 @@ ghost use Rattle.ride_model.specs.Text.{HasLine, IsOneOrTwo};
 ghost use Rattle.ride_model.specs.Vehicle.{IsLawful};
 
 mod batches;
+mod cities;
 mod days;
+mod drills;
 mod readers;
+mod searches;
 mod shared;
-mod solving;
 
 use arrayvec::ArrayVec;
 use ride_model::{Command, Entry, Fleet, Network, NoMemory, RoadArc, Settings, Vehicle};

@@ -13,3 +13,4 @@ pub mod Sessions
 pub mod Ends
 pub mod Services
 pub mod Completing
+pub mod Drills

@@ -1,6 +1,7 @@
 -- What words ask for, by their first word and by what a command finds in them.
-use Rattle.std.proofs.Common.{◌≡◌, ◌≢◌, inl, inr, ℕ, true, false, List, [], ◌∷◌, Option, Some, None, refl, sym, ap, ◌∙◌, codes, length, map, arith}
-use Rattle.std.specs.Prelude.{bytes_eq}
+use Rattle.std.proofs.Common.{◌≡◌, ◌≢◌, inl, inr, ℕ, Bool, true, false, List, [], ◌∷◌, Option, Some, None, refl, sym, ap, ◌∙◌, codes, length, map, arith}
+use Rattle.std.specs.Prelude.{bytes_eq, MatchBool}
+use Rattle.std.proofs.lemmas.Slice.Eq.{bytes_eq-Decides}
 use Rattle.clap.specs.Faults.{fault_of, is_simple_and_free}
 use Rattle.clap.specs.Kinds.{HasKind, Kinds}
 use Rattle.clap.specs.Matches.{first_value, found_of}
@@ -11,7 +12,7 @@ use Rattle.clap.specs.declared.error.Error.{Error}
 use Rattle.clap.specs.declared.error.kind.ErrorKind.TheVariants.{OutOfMemory}
 use Rattle.clap.specs.declared.parser.matches.ArgMatches.{ArgMatches}
 use Rattle.clap.proofs.WalkLemmas.{first_value-rows, both}
-use Rattle.ride_dispatch.specs.Words.{audit_wish, first_word, replay_wish, serve_wish, unless, value_of, wish_of}
+use Rattle.ride_dispatch.specs.Words.{audit_wish, drill_of, drill_wish, first_word, replay_wish, serve_wish, unless, value_of, wish_of}
 
 -- by the first word
 pub asks-replay : (words : List (List ℕ)) → bytes_eq (first_word words) (codes "replay") ≡ true → wish_of words ≡ replay_wish words
@@ -32,6 +33,31 @@ pub asks-nothing : (words : List (List ℕ)) → bytes_eq (first_word words) (co
     → bytes_eq (first_word words) (codes "serve") ≡ false → wish_of words ≡ None
 unfolding wish_of
 asks-nothing words first second third = rw (first, second, third) refl
+
+-- words for a drill ask for no run over files
+pub asks-drill : (words : List (List ℕ)) → bytes_eq (first_word words) (codes "drill") ≡ true → drill_of words ≡ drill_wish words
+unfolding drill_of
+asks-drill words is = rw is refl
+
+pub asks-drill_alone : (words : List (List ℕ)) → bytes_eq (first_word words) (codes "drill") ≡ true → wish_of words ≡ None
+unfolding wish_of
+asks-drill_alone words is =
+    let word : first_word words ≡ codes "drill" = (bytes_eq-Decides (first_word words) (codes "drill")).0 is in
+    rw word refl
+
+pub asks-no_drill : (words : List (List ℕ)) → bytes_eq (first_word words) (codes "drill") ≡ false → drill_of words ≡ None
+unfolding drill_of
+asks-no_drill words is = rw is refl
+
+pub no-drill : {S : Type 0} (text : S → List ℕ) (words : List S) → length words ≡ 0 → drill_of (map text words) ≡ None
+unfolding drill_of
+no-drill text [] is = refl
+no-drill text (word ∷ words) is = absurd (omega arith)
+
+pub drill-or-not : (words : List (List ℕ)) (b : Bool) → b ≡ bytes_eq (first_word words) (codes "drill")
+    → MatchBool b ((wish_of words ≡ None) × (drill_of words ≡ drill_wish words)) (drill_of words ≡ None)
+drill-or-not words true is = (asks-drill_alone words (sym is), asks-drill words (sym is))
+drill-or-not words false is = asks-no_drill words (sym is)
 
 -- no words ask for nothing
 pub no-words : {S : Type 0} (text : S → List ℕ) (words : List S) → length words ≡ 0 → wish_of (map text words) ≡ None

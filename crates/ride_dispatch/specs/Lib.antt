@@ -5,3 +5,5 @@ pub mod Files
 pub mod Runs
 pub mod Sessions
 pub mod Audits
+pub mod Asks
+pub mod Drills

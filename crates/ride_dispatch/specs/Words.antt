@@ -1,5 +1,5 @@
 -- What the words of the program ask for.
-use Rattle.std.specs.Prelude.{◌≡◌, ◌⊎◌, ℕ, ◌≤◌, ◌&&◌, nat_le, if◌then◌else◌, true, Bool, List, [], ◌∷◌, length, take, slice_index_or, codes, bytes_eq, string_bytes, Option, Some, None, option_and_then, option_map, ⊤, Result, MatchResult}
+use Rattle.std.specs.Prelude.{◌≡◌, ◌⊎◌, ℕ, ◌≤◌, ◌&&◌, nat_le, if◌then◌else◌, true, Bool, List, [], ◌∷◌, length, take, slice_index_or, codes, bytes_eq, string_bytes, Option, Some, None, option_and_then, option_map, ⊤, Result, Ok, Err, MatchResult}
 use Rattle.line_text.specs.Numbers.{number_of}
 use Rattle.ride_model.specs.Text.{IsOneOrTwo}
 use Rattle.clap.specs.Walk.{Rule, first_of}
@@ -7,12 +7,15 @@ use Rattle.clap.specs.Simple.{App, matches_of, new_app, new_rule, on_top, with_r
 use Rattle.clap.specs.Faults.{fault_of}
 use Rattle.clap.specs.Kinds.{Kinds}
 use Rattle.clap.specs.declared.builder.action.ArgAction.TheVariants.{Set}
+use Rattle.city_maker.specs.declared.plan.CityPlan.{CityPlan}
+use Rattle.ride_dispatch.specs.declared.words.Ask.{Ask}
+use Rattle.ride_dispatch.specs.declared.words.Ask.TheVariants.{ForDrill, OverFiles}
 use Rattle.ride_dispatch.specs.declared.words.Wish.{Wish}
 use Rattle.ride_dispatch.specs.declared.words.Wish.TheVariants.{Replay, Audit, Serve}
 use Rattle.ride_dispatch.specs.declared.words.WordsError.{WordsError}
 use Rattle.ride_dispatch.specs.declared.words.WordsError.TheVariants.{Refused}
 
--- what is wanted of a run, by the names of its files: the replay of a map, a fleet file and a feed, the audit of a map, a fleet
+-- what is wanted of a run over files, by their names: the replay of a map, a fleet file and a feed, the audit of a map, a fleet
 -- file and a log, or the service of a map, a fleet file, riders and drivers, by so many workers and desks
 pub data Wanted : Type 0 where
   a_replay : List ℕ → List ℕ → List ℕ → Wanted
@@ -43,6 +46,11 @@ abbrev pub serve_command : App
 serve_command =
     with_option (with_option (with_option (with_option (over_map_and_fleet (codes "serve")) (codes "riders")) (codes "drivers"))
     (codes "workers")) (codes "desks")
+
+abbrev pub drill_command : App
+drill_command =
+    with_option (with_option (with_option (with_option (bare_command (codes "drill")) (codes "side")) (codes "vehicles")) (codes "requests"))
+    (codes "seed")
 
 -- what was found, where no fault was
 abbrev pub unless : Kinds → Option (List ℕ) → Option (List ℕ)
@@ -94,6 +102,23 @@ wish_of words =
     else (if bytes_eq (first_word words) (codes "audit") then audit_wish words
     else (if bytes_eq (first_word words) (codes "serve") then serve_wish words else None))
 
+-- the plan of a drill that the words ask for, by the ranges of plans
+abbrev pub plan_of : ℕ → ℕ → ℕ → ℕ → CityPlan
+plan_of side vehicles requests seed = record { side = side; vehicles = vehicles; requests = requests; seed = seed }
+
+abbrev pub drill_wish : List (List ℕ) → Option CityPlan
+drill_wish words =
+    let value = value_of drill_command words in
+    option_and_then (λ side. option_and_then (λ vehicles. option_and_then (λ requests. option_map (λ seed. plan_of side vehicles requests seed)
+    (option_and_then (number_within 0 2147483647) (value (codes "seed"))))
+    (option_and_then (number_within 0 16000) (value (codes "requests"))))
+    (option_and_then (number_within 0 1000) (value (codes "vehicles"))))
+    (option_and_then (number_within 2 100) (value (codes "side")))
+
+-- the drill that the words ask for, where the first of them does
+unfoldable pub drill_of : List (List ℕ) → Option CityPlan
+drill_of words = if bytes_eq (first_word words) (codes "drill") then drill_wish words else None
+
 -- what a wish that was read asks for
 abbrev pub wanted_by : Wish → Wanted
 wanted_by (Replay map fleet feed) = a_replay (string_bytes map) (string_bytes fleet) (string_bytes feed)
@@ -110,6 +135,16 @@ IsInRange _ = ⊤
 abbrev pub IsWishOf : Option Wanted → Result Wish WordsError → Type 0
 IsWishOf wanted outcome =
     MatchResult outcome (λ wish. wanted ≡ Some (wanted_by wish)) (λ error. error ≡ Refused → wanted ≡ None)
+
+-- words that ask for this plan were read: it was found, or they were refused; or memory was wanting
+abbrev pub IsPlanOf : Option CityPlan → Result CityPlan WordsError → Type 0
+IsPlanOf plan outcome = MatchResult outcome (λ found. plan ≡ Some found) (λ error. error ≡ Refused → plan ≡ None)
+
+-- words were read: they ask for a run over files, or for a drill; or they were refused, or memory was wanting
+abbrev pub IsAskOf : List (List ℕ) → Result Ask WordsError → Type 0
+IsAskOf words (Ok (OverFiles wish)) = (wish_of words ≡ Some (wanted_by wish)) × (drill_of words ≡ None)
+IsAskOf words (Ok (ForDrill plan)) = (wish_of words ≡ None) × (drill_of words ≡ Some plan)
+IsAskOf words (Err error) = error ≡ Refused → (wish_of words ≡ None) × (drill_of words ≡ None)
 
 -- the names of a wish, in the order of the options: those of the map and the fleet file, and the others
 abbrev pub map_name : Wanted → List ℕ

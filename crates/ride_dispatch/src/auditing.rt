@@ -10,8 +10,9 @@ ghost use Rattle.ride_dispatch.specs.Runs.{IsRun, IsWork, seen};
 
 use crate::answering::answer;
 use crate::files::{Texts, bring_texts};
+use board_core::Totals;
 use line_text::put_number;
-use log_audit::{AuditFault, Totals, Verdict, Why};
+use log_audit::{AuditFault, Verdict, Why};
 use ride_ports::{NoMemory, Shelf, Sink, write_all};
 use std::alloc::Global;
 use std::thread::Threads;

@@ -3,6 +3,7 @@
 
 mod answering;
 mod auditing;
+mod drilling;
 mod files;
 mod refusals;
 mod replaying;

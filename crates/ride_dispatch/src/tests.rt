@@ -5,6 +5,7 @@ ghost use Rattle.ride_ports.specs.MemFile.{HaveDistinctNames, HavePieces};
 
 mod audits;
 mod drawn;
+mod drills;
 mod edges;
 mod faults;
 mod gates;
@@ -17,7 +18,8 @@ mod stops;
 mod texts;
 
 use crate::top::run;
-use ride_ports::{Gate, MemFile, MemShelf, MemSink, NoMemory, OpenGate};
+use gates::{Gated, Watched};
+use ride_ports::{Gate, MemFile, MemShelf, MemSink, NoMemory, OpenGate, Sink};
 use std::alloc::Global;
 use std::process::Abort;
 use std::sync::Wait;
@@ -160,24 +162,51 @@ fn answer_to<R: Abort + Threads + Wait + Sync + AllocGlobal>(
     texts: &[&str],
     setup: Setup<'_>,
 ) -> Result<Answer, NoMemory> {
-    answer_with(rt, texts, setup, &OpenGate)
+    let files = files_of(rt, setup);
+    let mut out = MemSink::new(rt.alloc(), setup.room, &[], &[])?;
+    let (status, faults) = run_over(rt, texts, &files, &mut out, &OpenGate)?;
+    answer_of(rt.alloc(), status, faults, &out)
 }
 
-// What a run answers to these words, with a gate.
-fn answer_with<R: Abort + Threads + Wait + Sync + AllocGlobal, G: Gate>(
+// What a run answers to these words, with a gate that knows what was logged.
+fn answer_with<R: Abort + Threads + Wait + Sync + AllocGlobal>(
     rt: &R,
     texts: &[&str],
     setup: Setup<'_>,
-    gate: &G,
+    gate: &Gated<'_>,
 ) -> Result<Answer, NoMemory> {
-    let files = [
+    let files = files_of(rt, setup);
+    let sink = MemSink::new(rt.alloc(), setup.room, &[], &[])?;
+    let mut out = Watched { sink, gate };
+    let (status, faults) = run_over(rt, texts, &files, &mut out, gate)?;
+    answer_of(rt.alloc(), status, faults, &out.sink)
+}
+
+fn answer_of(
+    alloc: Global,
+    status: u8,
+    faults: u64,
+    out: &MemSink<'_>,
+) -> Result<Answer, NoMemory> {
+    Ok(Answer {
+        status,
+        written: out.written().to_vec(alloc)?,
+        faults,
+    })
+}
+
+// The files of a run.
+fn files_of<'a>(rt: &impl Abort, setup: Setup<'a>) -> [MemFile<'a>; 5]
+    ensures names { HaveDistinctNames result }
+    ensures pieces { HavePieces result }
+{
+    [
         file_of(rt, "m", setup.map),
         file_of(rt, "f", setup.fleet),
         file_of(rt, "r", setup.feed),
         file_of(rt, "d", setup.drivers),
         file_of(rt, "l", setup.log),
-    ];
-    answer_over(rt, texts, &files, setup.room, gate)
+    ]
 }
 
 fn file_of<'a>(rt: &impl Abort, name: &'a str, file: File<'a>) -> MemFile<'a>
@@ -193,27 +222,22 @@ fn file_of<'a>(rt: &impl Abort, name: &'a str, file: File<'a>) -> MemFile<'a>
     }
 }
 
-// What a run over these files answers.
-fn answer_over<'a, R: Threads + Wait + Sync + AllocGlobal, G: Gate>(
+// The status of a run over these files, and the faults that its shelf counted.
+fn run_over<'a, R: Threads + Wait + Sync + AllocGlobal, K: Sink, G: Gate>(
     rt: &R,
     texts: &[&str],
     files: &'a [MemFile<'a>],
-    room: usize,
+    out: &mut K,
     gate: &G,
-) -> Result<Answer, NoMemory>
+) -> Result<(u8, u64), NoMemory>
     requires names { HaveDistinctNames files.now }
     requires pieces { HavePieces files.now }
 {
     let alloc = rt.alloc();
     let words = words_of(alloc, texts)?;
     let mut shelf = MemShelf::new(alloc, files, &[]);
-    let mut out = MemSink::new(alloc, room, &[], &[])?;
-    let status = run(rt, alloc, words.as_slice(), &mut shelf, &mut out, gate);
-    Ok(Answer {
-        status,
-        written: out.written().to_vec(alloc)?,
-        faults: shelf.faults(),
-    })
+    let status = run(rt, alloc, words.as_slice(), &mut shelf, out, gate);
+    Ok((status, shelf.faults()))
 }
 
 fn words_of(alloc: Global, texts: &[&str]) -> Result<Vec<String>, NoMemory> {

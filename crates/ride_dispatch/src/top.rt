@@ -11,16 +11,18 @@ ghost use Rattle.fleet_file.specs.declared.errors.FleetError.{FleetError};
 ghost use Rattle.fleet_file.specs.FleetText.{fleet_format};
 ghost use Rattle.ride_dispatch.specs.Answers.{told_bytes, AreTextsOf, PassesLimit, RefusesFleet, RefusesMap};
 ghost use Rattle.ride_dispatch.specs.Audits.{EndsAudit};
+ghost use Rattle.ride_dispatch.specs.Drills.{EndsDrill};
 ghost use Rattle.ride_dispatch.specs.Files.{AreGivenBack, AreWhole, FailsIn, IsSpent};
 ghost use Rattle.ride_dispatch.specs.Refusals.{fleet_refusal, map_refusal, Says};
 ghost use Rattle.ride_dispatch.specs.Runs.{files_of, seen, IsRun};
 ghost use Rattle.ride_dispatch.specs.Sessions.{EndsReplay, EndsService};
-ghost use Rattle.ride_dispatch.specs.Words.{fleet_name, map_name, names_of, other_names, wanted_by, wish_of, Begins, Ends, IsAudit, IsInRange, OfAudit, OfReplay, OfService};
+ghost use Rattle.ride_dispatch.specs.Words.{drill_of, fleet_name, map_name, names_of, other_names, wanted_by, wish_of, Begins, Ends, IsAudit, IsInRange, OfAudit, OfReplay, OfService};
 
 use crate::auditing::audit;
+use crate::drilling::drill;
 use crate::replaying::replay;
 use crate::serving::serve;
-use crate::words::{Wish, WordsError, read_words};
+use crate::words::{Ask, Wish, WordsError, read_ask};
 use ride_ports::{Gate, Shelf, Sink, write_all};
 use std::alloc::Global;
 use std::sync::Wait;
@@ -29,7 +31,7 @@ use std::thread::Threads;
 /// What is written where the words are not in order.
 pub const WORDS_REFUSED: &[u8] = b"words refused\n";
 
-/// Runs what the words ask for, and answers the exit status: 0 for a whole run, 1 for want of memory, 2 for words that are
+/// Runs what the words ask for, a run over files or a drill, and answers the exit status: 0 for a whole run, 1 for want of memory, 2 for words that are
 /// not in order, 3 and 4 for a map or a fleet file that is refused, 5 for a fault of the shelf or of a source, 6 for one of
 /// the sink, 7 for a log that an audit finds wrong, and 8 for a source that gives more than its limit.
 pub fn run<R: Threads + Wait + Sync, H: Shelf, K: Sink, G: Gate>(
@@ -45,10 +47,10 @@ pub fn run<R: Threads + Wait + Sync, H: Shelf, K: Sink, G: Gate>(
     requires none_back { H.back shelf.old ≡ [] }
 
     // Words that are not in order, of which status 2 tells unless memory was wanting.
-    ensures words { wish_of (map string_bytes words.now) ≡ None → (result ≡ 2) ⊎ (result ≡ 1) }
-    ensures words_refused { result ≡ 2 → (wish_of (map string_bytes words.now) ≡ None)
+    ensures words { wish_of (map string_bytes words.now) ≡ None → drill_of (map string_bytes words.now) ≡ None → (result ≡ 2) ⊎ (result ≡ 1) }
+    ensures words_refused { result ≡ 2 → (wish_of (map string_bytes words.now) ≡ None) × (drill_of (map string_bytes words.now) ≡ None)
         × Says (K.written out.old) (K.written out.new) (K.faults out.old) (K.faults out.new) (codes "words refused\n") }
-    ensures words_unread { wish_of (map string_bytes words.now) ≡ None → result ≡ 1 → K.written out.new ≡ K.written out.old }
+    ensures words_unread { wish_of (map string_bytes words.now) ≡ None → drill_of (map string_bytes words.now) ≡ None → result ≡ 1 → K.written out.new ≡ K.written out.old }
     ensures asked_none { wish_of (map string_bytes words.now) ≡ None → H.asked shelf.new ≡ [] }
 
     // The map and the fleet file that the words name.
@@ -107,6 +109,11 @@ pub fn run<R: Threads + Wait + Sync, H: Shelf, K: Sink, G: Gate>(
         H.brought shelf.new ≡ 4 → EndsService (told_bytes (H.contents shelf.old) map) (told_bytes (H.contents shelf.old) fleet)
         (told_bytes (H.contents shelf.old) riders) (told_bytes (H.contents shelf.old) drivers) desks (H.back shelf.new) result
         (K.written out.old) (K.written out.new))) }
+
+    // Where the words ask for a drill, one ran over no file.
+    ensures drilled { IfSome (drill_of (map string_bytes words.now)) (λ plan. EndsDrill plan
+        (seen (H.contents shelf.old) (H.asked shelf.new) (H.brought shelf.new) (H.back shelf.new) (H.faults shelf.old) (H.faults shelf.new)
+        (K.written out.old) (K.written out.new) (K.faults out.old) (K.faults out.new)) result) }
     ensures statuses { result ≤ 8 }
     ensures seven_of_audits { IfSome (wish_of (map string_bytes words.now)) (λ wanted. result ≡ 7 → IsAudit wanted) }
 
@@ -129,10 +136,10 @@ fn run_words<R: Threads + Wait + Sync, H: Shelf, K: Sink, G: Gate>(
     requires none_asked { H.asked shelf.old ≡ [] }
     requires none_brought { H.brought shelf.old ≡ 0 }
     requires none_back { H.back shelf.old ≡ [] }
-    ensures words { wish_of (map string_bytes words.now) ≡ None → (result ≡ 2) ⊎ (result ≡ 1) }
-    ensures words_refused { result ≡ 2 → (wish_of (map string_bytes words.now) ≡ None)
+    ensures words { wish_of (map string_bytes words.now) ≡ None → drill_of (map string_bytes words.now) ≡ None → (result ≡ 2) ⊎ (result ≡ 1) }
+    ensures words_refused { result ≡ 2 → (wish_of (map string_bytes words.now) ≡ None) × (drill_of (map string_bytes words.now) ≡ None)
         × Says (K.written out.old) (K.written out.new) (K.faults out.old) (K.faults out.new) (codes "words refused\n") }
-    ensures words_unread { wish_of (map string_bytes words.now) ≡ None → result ≡ 1 → K.written out.new ≡ K.written out.old }
+    ensures words_unread { wish_of (map string_bytes words.now) ≡ None → drill_of (map string_bytes words.now) ≡ None → result ≡ 1 → K.written out.new ≡ K.written out.old }
     ensures none { wish_of (map string_bytes words.now) ≡ None → (H.asked shelf.new ≡ []) × (H.brought shelf.new ≡ 0) × (H.back shelf.new ≡ []) }
     ensures run { IfSome (wish_of (map string_bytes words.now)) (λ wanted. IsRun (map_name wanted) (fleet_name wanted) (other_names wanted)
         (seen (H.contents shelf.old) (H.asked shelf.new) (H.brought shelf.new) (H.back shelf.new) (H.faults shelf.old) (H.faults shelf.new)
@@ -148,12 +155,16 @@ fn run_words<R: Threads + Wait + Sync, H: Shelf, K: Sink, G: Gate>(
         H.brought shelf.new ≡ 4 → EndsService (told_bytes (H.contents shelf.old) map) (told_bytes (H.contents shelf.old) fleet)
         (told_bytes (H.contents shelf.old) riders) (told_bytes (H.contents shelf.old) drivers) desks (H.back shelf.new) result
         (K.written out.old) (K.written out.new))) }
+    ensures drilled { IfSome (drill_of (map string_bytes words.now)) (λ plan. EndsDrill plan
+        (seen (H.contents shelf.old) (H.asked shelf.new) (H.brought shelf.new) (H.back shelf.new) (H.faults shelf.old) (H.faults shelf.new)
+        (K.written out.old) (K.written out.new) (K.faults out.old) (K.faults out.new)) result) }
     ensures seven_of_audits { IfSome (wish_of (map string_bytes words.now)) (λ wanted. result ≡ 7 → IsAudit wanted) }
     ensures complete { IfSome (wish_of (map string_bytes words.now)) (λ wanted. AreWhole (H.contents shelf.old) wanted
         → (Rose (H.faults shelf.old) (H.faults shelf.new) → ⊥) → (Rose (K.faults out.old) (K.faults out.new) → ⊥) → Ends wanted result) }
 {
-    match read_words(alloc, words) {
-        Ok(wish) => grant(rt, alloc, wish, shelf, out, gate),
+    match read_ask(alloc, words) {
+        Ok(Ask::OverFiles(wish)) => grant(rt, alloc, wish, shelf, out, gate),
+        Ok(Ask::ForDrill(plan)) => drill(rt, alloc, &plan, shelf, out),
         Err(WordsError::Refused) => {
             let _ = write_all(out, WORDS_REFUSED);
             2

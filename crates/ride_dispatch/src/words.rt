@@ -1,15 +1,25 @@
 //! The words after the program's name.
-ghost use Rattle.std.specs.Prelude.{◌≡◌, ◌<◌, bytes_eq, length, map, string_bytes, IfOk};
-ghost use Rattle.ride_dispatch.specs.Words.{audit_wish, first_word, replay_wish, serve_wish, wish_of, IsInRange, IsWishOf};
+ghost use Rattle.std.specs.Prelude.{◌≡◌, ◌<◌, bytes_eq, length, map, None, string_bytes, IfOk, MatchBool};
+ghost use Rattle.city_maker.specs.Plan.{IsPlan};
+ghost use Rattle.ride_dispatch.specs.Words.{audit_wish, drill_of, drill_wish, first_word, replay_wish, serve_wish, wish_of, IsAskOf, IsInRange, IsPlanOf, IsWishOf};
+ghost use Rattle.ride_dispatch.specs.Asks.{IsAskInRange};
 
 mod commands;
 mod values;
 
-use commands::{audit_command, replay_command, serve_command};
+use city_maker::CityPlan;
+use commands::{audit_command, drill_command, replay_command, serve_command};
 use std::alloc::Global;
 use values::{number, read_by, text};
 
-/// What the words ask for, with a variant for each first word.
+/// What the words ask for: a run over files, or a drill.
+#[derive(Drop)]
+pub enum Ask {
+    OverFiles(Wish),
+    ForDrill(CityPlan),
+}
+
+/// A run over files, with a variant for each first word.
 #[derive(Drop)]
 pub enum Wish {
     Replay {
@@ -41,7 +51,54 @@ pub enum WordsError {
 }
 
 /// What the words ask for: the first says what, and the others are its options, in any order.
-pub fn read_words(alloc: Global, words: &[String]) -> Result<Wish, WordsError>
+pub fn read_ask(alloc: Global, words: &[String]) -> Result<Ask, WordsError>
+    ensures ask { IsAskOf (map string_bytes words.now) result }
+    ensures in_range { IfOk result IsAskInRange }
+{
+    if asks_for_drill(words) {
+        match drill_words(alloc, words) {
+            Ok(plan) => return Ok(Ask::ForDrill(plan)),
+            Err(error) => return Err(error),
+        }
+    }
+    match read_words(alloc, words) {
+        Ok(wish) => Ok(Ask::OverFiles(wish)),
+        Err(error) => Err(error),
+    }
+}
+
+// Whether the words ask for a drill, and so for no run over files.
+fn asks_for_drill(words: &[String]) -> bool
+    ensures { MatchBool result
+        ((wish_of (map string_bytes words.now) ≡ None) × (drill_of (map string_bytes words.now) ≡ drill_wish (map string_bytes words.now)))
+        (drill_of (map string_bytes words.now) ≡ None) }
+{
+    if words.is_empty() {
+        return false;
+    }
+    begins(words, "drill")
+}
+
+// The options of a drill.
+fn drill_words(alloc: Global, words: &[String]) -> Result<CityPlan, WordsError>
+    ensures plan { IsPlanOf (drill_wish (map string_bytes words.now)) result }
+    ensures in_range { IfOk result IsPlan }
+{
+    let given = read_by(drill_command(alloc)?, words)?;
+    let side = number(&given, "side", 2, 100)? as u32;
+    let vehicles = number(&given, "vehicles", 0, 1_000)? as u32;
+    let requests = number(&given, "requests", 0, 16_000)? as u32;
+    let seed = number(&given, "seed", 0, 2_147_483_647)? as u32;
+    Ok(CityPlan {
+        side,
+        vehicles,
+        requests,
+        seed,
+    })
+}
+
+// The run over files that the words ask for.
+fn read_words(alloc: Global, words: &[String]) -> Result<Wish, WordsError>
     ensures wish { IsWishOf (wish_of (map string_bytes words.now)) result }
     ensures in_range { IfOk result IsInRange }
 {

@@ -20,12 +20,12 @@ running-at-start board roads settings fleet start feeds desks history =
     let at_start : state_of board ≡ start_state roads settings fleet = ap (replay board.start) history ∙ start in
     record {
       session = record {
-        feeds_are = feeds;
         desks_are = desks;
         none_ended = ap (λ (s : State). s.ended) at_start;
         none_open = ap (λ (s : State). s.batches) at_start;
         settled = subst IsSettled (sym history) refl;
       };
+      one_feed = feeds;
       all_opened = ap (λ (s : State). s.opened) at_start ∙ sym (ap (λ (s : State). s.asked) at_start);
       prompt = λ _. subst IsPrompt (sym history) (record { direct = refl; none_given_up = refl });
     }

@@ -15,27 +15,27 @@ use Rattle.session_run.specs.Running.{GoesOn, IsSession}
 use Rattle.session_run.proofs.Going.{state-push}
 
 -- a board goes on by entries
-pub goes-by : (old new : Recorded) (more : List Entry) → new.start ≡ old.start → new.history ≡ old.history ++ more → GoesOn old new
-goes-by old new more start grows = record { start = start; more = more; grows = grows }
+pub goes-by : (old new : Recorded) (more : List Entry) → new.start ≡ old.start → new.feeds ≡ old.feeds → new.history ≡ old.history ++ more → GoesOn old new
+goes-by old new more start feeds grows = record { start = start; feeds = feeds; more = more; grows = grows }
 
 -- the desk may end after the feed
-pub desk-may_end : (old new : Recorded) (ending desk_ending : Ending) → IsSession old → new.start ≡ old.start → new.feeds ≡ old.feeds
+pub desk-may_end : (old new : Recorded) (ending desk_ending : Ending) → IsSession old → old.feeds ≡ 1 → new.start ≡ old.start → new.feeds ≡ old.feeds
     → new.desks ≡ old.desks → new.history ≡ old.history ++ end_entry (Feed 1) ending ∷ []
     → (desk_ending ≡ Whole → (state_of old).opened ≡ (state_of old).asked)
     → ((1 ≤ 1) × (1 ≤ new.desks)) × IsFalse (has_ended (state_of new) (Desk 1)) × MayEnd new.feeds (state_of new) 1 desk_ending
-desk-may_end old new ending desk_ending session start feeds desks history whole =
+desk-may_end old new ending desk_ending session one_feed start feeds desks history whole =
     let is = state-push old new (end_entry (Feed 1) ending) start history in
     let ended : (state_of new).ended ≡ (Feed 1, ending) ∷ []
     = ap (λ (t : State). t.ended) is ∙ ap (λ es. es ++ (Feed 1, ending) ∷ []) session.none_ended in
     let one_desk : new.desks ≡ 1 = desks ∙ session.desks_are in
-    let one_feed : new.feeds ≡ 1 = feeds ∙ session.feeds_are in (
+    let still_one : new.feeds ≡ 1 = feeds ∙ one_feed in (
       (omega arith, omega arith),
       ap (list_any (λ (end : Actor × Ending). is_actor end.0 (Desk 1))) ended,
       record {
         none_open = ap (λ bs. is_some (find (λ (batch : BatchCopy). batch.desk == 1) bs)) (ap (λ (t : State). t.batches) is ∙ session.none_open);
         whole = λ is_whole. (
           ap (λ (t : State). t.opened) is ∙ whole is_whole ∙ sym (ap (λ (t : State). t.asked) is),
-          (λ i. list_all (λ feed. list_any (λ (end : Actor × Ending). is_actor end.0 (Feed feed)) (ended i)) (range_with_len 1 (one_feed i))),
+          (λ i. list_all (λ feed. list_any (λ (end : Actor × Ending). is_actor end.0 (Feed feed)) (ended i)) (range_with_len 1 (still_one i))),
         );
       },
     )

@@ -1,7 +1,8 @@
 -- Histories that go on by an entry.
-use Rattle.std.proofs.Common.{◌≡◌, ℕ, Bool, true, false, cond, List, [], ◌∷◌, ◌++◌, Option, Some, refl, ap, ◌∙◌, append_assoc}
+use Rattle.std.proofs.Common.{◌≡◌, ℕ, Bool, true, false, cond, List, [], ◌∷◌, ◌++◌, Option, Some, refl, ap, ◌∙◌, append_assoc, append-nil, ◌≢◌}
 use Rattle.std.specs.Prelude.{filter_map, option_and_then, ◌&&◌, ◌||◌}
 use Rattle.std.specs.List.{filter, cons_option, list_all}
+use Rattle.std.proofs.lemmas.Bool.{eq-eqb, ne_eqb}
 use Rattle.std.proofs.lemmas.List.Elements.{filter-append, filter_map-append}
 use Rattle.std.proofs.lemmas.List.Folds.{list_any-append, list_all-append}
 use Rattle.std.proofs.lemmas.List.Sums.{fold-append}
@@ -53,39 +54,47 @@ gave_up-push old new entry history fine none =
     both false false h k = refl
 
 -- the commands of a feed in two parts of a history
-pub fed-append : (first second : List Entry) → fed_commands 1 (first ++ second) ≡ fed_commands 1 first ++ fed_commands 1 second
+pub fed-append : (feed : ℕ) (first second : List Entry) → fed_commands feed (first ++ second) ≡ fed_commands feed first ++ fed_commands feed second
 unfolding entries_of
-fed-append first second =
-    ap (filter_map (λ (entry : Entry). command_of entry.event)) (filter-append (λ (entry : Entry). is_actor entry.actor (Feed 1)) first second)
-    ∙ filter_map-append (λ (entry : Entry). command_of entry.event) (filter (λ (entry : Entry). is_actor entry.actor (Feed 1)) first)
-    (filter (λ (entry : Entry). is_actor entry.actor (Feed 1)) second)
+fed-append feed first second =
+    ap (filter_map (λ (entry : Entry). command_of entry.event)) (filter-append (λ (entry : Entry). is_actor entry.actor (Feed feed)) first second)
+    ∙ filter_map-append (λ (entry : Entry). command_of entry.event) (filter (λ (entry : Entry). is_actor entry.actor (Feed feed)) first)
+    (filter (λ (entry : Entry). is_actor entry.actor (Feed feed)) second)
 
 -- an entry of a desk is no command
-pub fed-desk : (old new : List Entry) (entry : Entry) (desk : ℕ) → entry.actor ≡ Desk desk → new ≡ old ++ entry ∷ []
-    → fed_commands 1 new ≡ fed_commands 1 old
+pub fed-desk : (feed : ℕ) (old new : List Entry) (entry : Entry) (desk : ℕ) → entry.actor ≡ Desk desk → new ≡ old ++ entry ∷ []
+    → fed_commands feed new ≡ fed_commands feed old
 unfolding entries_of
-fed-desk old new entry desk actor history =
-    ap (fed_commands 1) history ∙ fed-append old (entry ∷ [])
-    ∙ ap (λ a. fed_commands 1 old ++ filter_map (λ (e : Entry). command_of e.event) (cond (is_actor a (Feed 1)) (entry ∷ []) [])) actor
-    ∙ append_nil (fed_commands 1 old)
-  where
-    append_nil : {X : Type 0} (xs : List X) → xs ++ [] ≡ xs
-    append_nil [] = refl
-    append_nil (x ∷ xs) = ap (λ ys. x ∷ ys) (append_nil xs)
+fed-desk feed old new entry desk actor history =
+    ap (fed_commands feed) history ∙ fed-append feed old (entry ∷ [])
+    ∙ ap (λ a. fed_commands feed old ++ filter_map (λ (e : Entry). command_of e.event) (cond (is_actor a (Feed feed)) (entry ∷ []) [])) actor
+    ∙ append-nil (fed_commands feed old)
+
+-- an entry of another feed adds no command of a feed
+pub fed-other : (feed other : ℕ) (old new : List Entry) (entry : Entry) → entry.actor ≡ Feed other → other ≢ feed → new ≡ old ++ entry ∷ []
+    → fed_commands feed new ≡ fed_commands feed old
+unfolding entries_of
+fed-other feed other old new entry actor differs history =
+    ap (fed_commands feed) history ∙ fed-append feed old (entry ∷ [])
+    ∙ ap (λ a. fed_commands feed old ++ filter_map (λ (e : Entry). command_of e.event) (cond (is_actor a (Feed feed)) (entry ∷ []) [])) actor
+    ∙ ap (λ b. fed_commands feed old ++ filter_map (λ (e : Entry). command_of e.event) (cond b (entry ∷ []) [])) (ne_eqb other feed differs)
+    ∙ append-nil (fed_commands feed old)
 
 -- an entry of the feed with a command
-pub fed-feed : (old new : List Entry) (entry : Entry) (command : Command) → entry.actor ≡ Feed 1 → command_of entry.event ≡ Some command
-    → new ≡ old ++ entry ∷ [] → fed_commands 1 new ≡ fed_commands 1 old ++ command ∷ []
+pub fed-feed : (feed : ℕ) (old new : List Entry) (entry : Entry) (command : Command) → entry.actor ≡ Feed feed → command_of entry.event ≡ Some command
+    → new ≡ old ++ entry ∷ [] → fed_commands feed new ≡ fed_commands feed old ++ command ∷ []
 unfolding entries_of
-fed-feed old new entry command actor event history =
-    ap (fed_commands 1) history ∙ fed-append old (entry ∷ [])
-    ∙ ap (λ a. fed_commands 1 old ++ filter_map (λ (e : Entry). command_of e.event) (cond (is_actor a (Feed 1)) (entry ∷ []) [])) actor
-    ∙ ap (λ c. fed_commands 1 old ++ cons_option c []) event
+fed-feed feed old new entry command actor event history =
+    ap (fed_commands feed) history ∙ fed-append feed old (entry ∷ [])
+    ∙ ap (λ a. fed_commands feed old ++ filter_map (λ (e : Entry). command_of e.event) (cond (is_actor a (Feed feed)) (entry ∷ []) [])) actor
+    ∙ ap (λ b. fed_commands feed old ++ filter_map (λ (e : Entry). command_of e.event) (cond b (entry ∷ []) [])) (eq-eqb feed feed refl)
+    ∙ ap (λ c. fed_commands feed old ++ cons_option c []) event
 
 -- a board that goes on twice
 pub goes-then : (a b c : Recorded) → GoesOn a b → GoesOn b c → GoesOn a c
 goes-then a b c first second = record {
   start = second.start ∙ first.start;
+  feeds = second.feeds ∙ first.feeds;
   more = first.more ++ second.more;
   grows = second.grows ∙ ap (λ h. h ++ second.more) first.grows ∙ append_assoc a.history first.more second.more;
 }

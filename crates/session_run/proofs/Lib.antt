@@ -5,6 +5,11 @@ pub mod Opening
 pub mod Answering
 pub mod FeedRuns
 pub mod Ends
+pub mod DriverReports
+pub mod DrillFleet
+pub mod DrillSteps
+pub mod DrillEnds
+pub mod DrillCity
 pub mod Replays
 pub mod Begun
 pub mod NothingLeft

@@ -13,4 +13,4 @@ pub nothing-left : (log : ℕ) (left : Option (List ℕ)) (stop : Option Stop) (
 nothing-left log left None board no_memory taken memory sound short ended = ended.1.to_end
 nothing-left log left (Some (OfFeed SourceFailed)) board no_memory taken memory sound short ended = absurd (true≢false sound)
 nothing-left log left (Some (OfFeed TooLong)) board no_memory taken memory sound short ended = absurd (true≢false short)
-nothing-left log left (Some NoMemory) board no_memory taken memory sound short ended = absurd (true≢false (sym ended.1 ∙ memory))
+nothing-left log left (Some NoMemory) board no_memory taken memory sound short ended = absurd (true≢false (sym ended.2 ∙ memory))

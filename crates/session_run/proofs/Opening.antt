@@ -1,5 +1,5 @@
 -- A board whose desk opens the next batch, and closes it.
-use Rattle.std.proofs.Common.{◌≡◌, ℕ, ◌+◌, ◌≤◌, Bool, true, false, not, cond, List, [], ◌∷◌, ◌++◌, Option, Some, None, lt-ltb, refl, sym, ap, subst, ◌∙◌, arith}
+use Rattle.std.proofs.Common.{◌≡◌, ℕ, ◌+◌, ◌≤◌, Bool, true, false, not, cond, List, [], ◌∷◌, ◌++◌, Option, Some, None, lt-ltb, refl, sym, ap, subst, ◌∙◌, arith, append_assoc}
 use Rattle.std.specs.Prelude.{option_map, option_and_then, find, nat_lt, ◌==◌, IsSome, IsSomeAnd, All}
 use Rattle.std.specs.List.{filter}
 use Rattle.ride_model.specs.declared.command.Actor.TheVariants.{Desk}
@@ -74,7 +74,6 @@ opens old new asked start feeds desks history open_now =
     let is : state_of new ≡ after_opening s batch = state-push old new (opened_entry batch) start history in
     let others = others-opening s batch in
     record {
-      feeds_are = feeds ∙ asked.session.feeds_are;
       desks_are = desks ∙ asked.session.desks_are;
       none_ended = ap (λ (t : State). t.ended) (is ∙ others) ∙ asked.session.none_ended;
       one_open = ap (λ (t : State). t.batches) (is ∙ others) ∙ ap (λ bs. bs ++ batch ∷ []) asked.session.none_open;
@@ -144,9 +143,8 @@ commits old new solved opened start feeds desks history legal =
     (committed-offered new.feeds new.desks s solved found (last-legal new.feeds new.desks old.start old.history entry both))
     batch.requests (λ ride there. of_all (λ (r : Ride). was_cancelled s r.id ≡ false) batch.requests ride opened.not_cancelled there) in
     record {
-      goes_on = record { start = start; more = entry ∷ []; grows = history };
+      goes_on = record { start = start; feeds = feeds; more = entry ∷ []; grows = history };
       session = record {
-        feeds_are = feeds ∙ opened.feeds_are;
         desks_are = desks ∙ opened.desks_are;
         none_ended = ap (λ (t : State). t.ended) is ∙ stays.ended ∙ opened.none_ended;
         none_open = ap (λ (t : State). t.batches) is ∙ none-left batch (after_outcomes batch seats s batch.requests s).batches
@@ -154,7 +152,8 @@ commits old new solved opened start feeds desks history legal =
         settled = settled-push old.history new.history entry history opened.settled fine;
       };
       all_opened = ap (λ (t : State). t.opened) is ∙ stays.opened ∙ opened.all_opened ∙ sym (ap (λ (t : State). t.asked) is ∙ stays.asked);
-      commands = fed-desk old.history new.history entry batch.desk refl history;
+      commands = λ feed. fed-desk feed old.history new.history entry batch.desk refl history;
+      entry = λ _. (entry, history, ap (λ desk. Desk desk) opened.desk_is, tt);
       direct = λ _ awaited. awaited-push old.history new.history entry history
           ∙ ap (λ o. option_and_then (λ a. awaited_after a entry.actor entry.event) o) awaited
           ∙ ap (λ d. cond (d == 1) (Some any) None) opened.desk_is;
@@ -171,31 +170,37 @@ gives-up old new batch opened start feeds desks history =
     let is : state_of new ≡ after_abandon batch s = state-push old new entry start history ∙ abandoned-state s batch found in
     let others = abandon-is s batch in
     record {
-      goes_on = record { start = start; more = entry ∷ []; grows = history };
+      goes_on = record { start = start; feeds = feeds; more = entry ∷ []; grows = history };
       session = record {
-        feeds_are = feeds ∙ opened.feeds_are;
         desks_are = desks ∙ opened.desks_are;
         none_ended = ap (λ (t : State). t.ended) (is ∙ others) ∙ opened.none_ended;
         none_open = ap (λ (t : State). t.batches) (is ∙ others) ∙ none-left batch s.batches opened.one_open;
         settled = settled-push old.history new.history entry history opened.settled refl;
       };
       all_opened = ap (λ (t : State). t.opened) (is ∙ others) ∙ opened.all_opened ∙ sym (ap (λ (t : State). t.asked) (is ∙ others));
-      commands = fed-desk old.history new.history entry batch.desk refl history;
+      commands = λ feed. fed-desk feed old.history new.history entry batch.desk refl history;
+      entry = λ no. absurd (cc no);
       direct = λ no. absurd (cc no);
       none_given_up = λ no. absurd (cc no);
     }
 
 -- a batch that is opened and closed
-pub runs : (committed : Bool) (old middle new : Recorded) → IsAsked old → middle.start ≡ old.start
+pub runs : (committed : Bool) (old middle new : Recorded) → IsAsked old → middle.start ≡ old.start → middle.feeds ≡ old.feeds
     → middle.history ≡ old.history ++ opened_entry (next_batch (state_of old) 1) ∷ [] → Closes committed middle new
     → RunsBatch committed old new
-runs committed old middle new asked start history closed =
+runs committed old middle new asked start feeds history closed =
     let entry : Entry = opened_entry (next_batch (state_of old) 1) in
     record {
-      goes_on = goes-then old middle new (record { start = start; more = entry ∷ []; grows = history }) closed.goes_on;
+      goes_on = goes-then old middle new (record { start = start; feeds = feeds; more = entry ∷ []; grows = history }) closed.goes_on;
       session = closed.session;
       all_opened = closed.all_opened;
-      commands = closed.commands ∙ fed-desk old.history middle.history entry 1 refl history;
+      commands = λ feed. closed.commands feed ∙ fed-desk feed old.history middle.history entry 1 refl history;
+      entries = λ is. let (closing, grows, actor, commit) = closed.entry is in (
+        entry,
+        closing,
+        grows ∙ ap (λ h. h ++ closing ∷ []) history ∙ append_assoc old.history (entry ∷ []) (closing ∷ []),
+        record { opener = refl; opens = tt; committer = actor; commits = commit },
+      );
       direct = λ is awaited. closed.direct is (awaited-push old.history middle.history entry history
           ∙ ap (λ o. option_and_then (λ a. awaited_after a entry.actor entry.event) o) awaited);
       none_given_up = λ is none. closed.none_given_up is (gave_up-push old.history middle.history entry history refl none);

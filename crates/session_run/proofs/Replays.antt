@@ -65,7 +65,7 @@ record EndsSo (old new : Recorded) (ending desk_ending : Ending) : Type 0 where
 fed-end : (entries : List Entry) (actor : Actor) (ending : Ending) → fed_commands 1 (entries ++ end_entry actor ending ∷ []) ≡ fed_commands 1 entries
 unfolding entries_of
 fed-end entries actor ending =
-    fed-append entries (end_entry actor ending ∷ [])
+    fed-append 1 entries (end_entry actor ending ∷ [])
     ∙ ap (λ cs. fed_commands 1 entries ++ cs) (none (is_actor actor (Feed 1)))
     ∙ append-nil (fed_commands 1 entries)
   where
@@ -104,15 +104,15 @@ module _ (start : State) (begins : IsStart start) (ran : Ran) (feed : Option (Li
     (old_start : old.start ≡ start) (new_start : new.start ≡ old.start) (feeds : new.feeds ≡ old.feeds) (desks : new.desks ≡ old.desks)
     (legal : IsLegal new.feeds new.desks new.start new.history) (text : HasText new.start.settings.log new.feeds new.desks new.history)
     (first : AreFirstOf old.start.settings.log feed taken (fed_commands 1 old.history)) (wanting : ran.no_memory ≡ no_memory) where
-  legal_one : IsSession old → IsLegal 1 1 start new.history
-  legal_one session =
-      subst (λ n. IsLegal n 1 start new.history) (feeds ∙ session.feeds_are)
+  legal_one : IsSession old → old.feeds ≡ 1 → IsLegal 1 1 start new.history
+  legal_one session one_feed =
+      subst (λ n. IsLegal n 1 start new.history) (feeds ∙ one_feed)
       (subst (λ n. IsLegal new.feeds n start new.history) (desks ∙ session.desks_are)
       (subst (λ (s : State). IsLegal new.feeds new.desks s new.history) (new_start ∙ old_start) legal))
 
-  text_one : IsSession old → HasText start.settings.log 1 1 new.history
-  text_one session =
-      subst (λ n. HasText start.settings.log n 1 new.history) (feeds ∙ session.feeds_are)
+  text_one : IsSession old → old.feeds ≡ 1 → HasText start.settings.log 1 1 new.history
+  text_one session one_feed =
+      subst (λ n. HasText start.settings.log n 1 new.history) (feeds ∙ one_feed)
       (subst (λ n. HasText start.settings.log new.feeds n new.history) (desks ∙ session.desks_are)
       (subst (λ (s : State). HasText s.settings.log new.feeds new.desks new.history) (new_start ∙ old_start) text))
 
@@ -129,13 +129,13 @@ module _ (start : State) (begins : IsStart start) (ran : Ran) (feed : Option (Li
       → fed_commands 1 old.history ≡ ended_commands old.start.settings.log taken → IsReplay start ran feed taken new.history
   cut-replay ending is_cut running history not_whole within too_long fed =
       let ends = ends-so old new ending (cond (eqb (state_of old).opened (state_of old).asked) Whole Cut) running.session new_start history in
-      let lawful = legal_one running.session in
+      let lawful = legal_one running.session running.one_feed in
       let commands : fed_commands 1 new.history ≡ ended_commands start.settings.log taken
       = ends.commands ∙ fed ∙ ap (λ (s : State). ended_commands s.settings.log taken) old_start in
       record {
         begins = begins;
         legal = lawful;
-        text = text_one running.session;
+        text = text_one running.session running.one_feed;
         promises = keeps_promises 1 1 start new.history begins lawful;
         settled = ends.settled;
         first = first_now ends.commands;
@@ -159,7 +159,7 @@ module _ (start : State) (begins : IsStart start) (ran : Ran) (feed : Option (Li
       → fed_commands 1 old.history ≡ commands_of old.start.settings.log taken → IsReplay start ran feed taken new.history
   whole-replay ending is_whole_end running history read within fed =
       let ends = ends-so old new ending (cond (eqb (state_of old).opened (state_of old).asked) Whole Cut) running.session new_start history in
-      let lawful = legal_one running.session in
+      let lawful = legal_one running.session running.one_feed in
       let commands : fed_commands 1 new.history ≡ commands_of start.settings.log taken
       = ends.commands ∙ fed ∙ ap (λ (s : State). commands_of s.settings.log taken) old_start in
       let at : replay start new.history ≡ state_of new = ap (λ (s : State). replay s new.history) (sym (new_start ∙ old_start)) in
@@ -170,7 +170,7 @@ module _ (start : State) (begins : IsStart start) (ran : Ran) (feed : Option (Li
       record {
         begins = begins;
         legal = lawful;
-        text = text_one running.session;
+        text = text_one running.session running.one_feed;
         promises = keeps_promises 1 1 start new.history begins lawful;
         settled = ends.settled;
         first = first_now ends.commands;
@@ -192,16 +192,16 @@ module _ (start : State) (begins : IsStart start) (ran : Ran) (feed : Option (Li
       }
 
   -- a replay that was stopped by want of memory
-  stopped-replay : (ending : Ending) → no_memory ≡ true → IsSession old
+  stopped-replay : (ending : Ending) → no_memory ≡ true → IsSession old → old.feeds ≡ 1
       → new.history ≡ old.history ++ end_entry (Feed 1) ending ∷ end_entry (Desk 1) (cond (eqb (state_of old).opened (state_of old).asked) Whole Cut) ∷ []
       → (ran.too_long ≡ true → IsTooLong taken) → IsReplay start ran feed taken new.history
-  stopped-replay ending none session history too_long =
+  stopped-replay ending none session one_feed history too_long =
       let ends = ends-so old new ending (cond (eqb (state_of old).opened (state_of old).asked) Whole Cut) session new_start history in
-      let lawful = legal_one session in
+      let lawful = legal_one session one_feed in
       record {
         begins = begins;
         legal = lawful;
-        text = text_one session;
+        text = text_one session one_feed;
         promises = keeps_promises 1 1 start new.history begins lawful;
         settled = ends.settled;
         first = first_now ends.commands;
@@ -216,7 +216,7 @@ module _ (start : State) (begins : IsStart start) (ran : Ran) (feed : Option (Li
       → new.history ≡ old.history ++ end_entry (Feed 1) (ending_of stop) ∷ end_entry (Desk 1) (cond (eqb (state_of old).opened (state_of old).asked) Whole Cut) ∷ []
       → (left : Option (List ℕ)) → HasEnded old.start.settings.log left stop old no_memory taken → IsReplay start ran feed taken new.history
   is-replay None source long history left (running, whole) = whole-replay Whole refl running history (source, long) whole.within whole.commands_are
-  is-replay (Some NoMemory) source long history left (session, none) = stopped-replay Cut none session history (λ is. absurd (cc (is, long)))
+  is-replay (Some NoMemory) source long history left (session, one_feed, none) = stopped-replay Cut none session one_feed history (λ is. absurd (cc (is, long)))
   is-replay (Some (OfFeed TooLong)) source long history left (running, (many, fed)) =
       cut-replay Cut refl running history (λ whole. absurd (cc (whole.1, long))) (λ is. absurd (cc (is, long))) (λ _. many) fed
   is-replay (Some (OfFeed SourceFailed)) source long history left (running, (within, fed)) =

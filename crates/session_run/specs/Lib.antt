@@ -6,6 +6,7 @@ pub mod Running
 pub mod Reading
 pub mod Loops
 pub mod Serving
+pub mod Drills
 pub mod Making
 pub mod Actors
 pub mod Stages

@@ -23,7 +23,7 @@ pub record AreFirstOf (log : ℕ) (feed : Option (List ℕ)) (taken : List ℕ) 
 
 -- why a session's feed was stopped after these bytes: memory was wanting, or the feed gave no more
 abbrev pub IsEnded : ℕ → Stop → Recorded → Bool → List ℕ → Type 0
-IsEnded log NoMemory board no_memory bytes = IsSession board × (no_memory ≡ true)
+IsEnded log NoMemory board no_memory bytes = IsSession board × (board.feeds ≡ 1) × (no_memory ≡ true)
 IsEnded log (OfFeed stop) board no_memory bytes = IsRunning board no_memory × IsStopped log stop (fed_commands 1 board.history) bytes
 
 -- a session's feed was answered to its end, or until something stopped it

@@ -6,7 +6,7 @@ ghost use Rattle.board_core.specs.Recorded.{state_of};
 ghost use Rattle.session_run.specs.Running.{Answers, IsSession, Stops};
 
 use crate::batches::run_batch;
-use crate::tools::Tools;
+use crate::tools::DeskTools;
 use board_core::Board;
 use ride_model::{Command, NoMemory, Reply};
 use std::thread::Threads;
@@ -14,7 +14,7 @@ use std::thread::Threads;
 /// Answers a command, and runs a batch after an accepted ask; answers whether no batch was given up.
 pub(crate) fn answer<R: Threads + Sync>(
     board: &mut Board<'_>,
-    tools: &mut Tools<'_>,
+    tools: &mut DeskTools<'_>,
     rt: &R,
     command: &Command,
 ) -> Result<bool, NoMemory>
@@ -27,6 +27,8 @@ pub(crate) fn answer<R: Threads + Sync>(
     ensures stopped { OnErr result (Stops command.now board.old board.new) }
     ensures tools { tools.new ≡ tools.old }
 {
+    // This call tells that the board has a feed.
+    let _entries = board.entries();
     let reply = board.apply(1, command)?;
     if matches!(reply, Reply::Asked { .. }) {
         return run_batch(board, tools, rt);

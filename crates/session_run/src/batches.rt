@@ -3,7 +3,7 @@ ghost use Rattle.std.specs.Prelude.{◌≡◌, true, IfOk, OnErr};
 ghost use Rattle.batch_commit.specs.Table.{IsTableOf};
 ghost use Rattle.session_run.specs.Running.{Closes, IsAsked, IsOpened, RunsBatch};
 
-use crate::tools::Tools;
+use crate::tools::DeskTools;
 use batch_commit::{Batch, Solved};
 use board_core::{Board, Opening};
 use ride_model::NoMemory;
@@ -12,7 +12,7 @@ use std::thread::Threads;
 /// Opens the next batch and commits it at once, or gives it up where memory is wanting; answers whether it was committed.
 pub(crate) fn run_batch<R: Threads + Sync>(
     board: &mut Board<'_>,
-    tools: &mut Tools<'_>,
+    tools: &mut DeskTools<'_>,
     rt: &R,
 ) -> Result<bool, NoMemory>
     requires asked { IsAsked board.old }
@@ -30,7 +30,7 @@ pub(crate) fn run_batch<R: Threads + Sync>(
 /// Commits an open batch, or gives it up where memory is wanting; answers whether it was committed.
 fn close_batch<R: Threads + Sync>(
     board: &mut Board<'_>,
-    tools: &mut Tools<'_>,
+    tools: &mut DeskTools<'_>,
     rt: &R,
     batch: Batch,
 ) -> bool

@@ -1,9 +1,11 @@
 //! Sessions, whose trip log is written as it comes. In a replay of one feed a batch is opened, priced, seated and committed at
-//! once after each accepted ask; in a session of two feeds riders and drivers are answered while desks price.
+//! once after each accepted ask; in a session of two feeds riders and drivers are answered while desks price; a drill is the
+//! session of a generated city.
 #![tactic(auto)]
 
 mod answers;
 mod batches;
+mod drills;
 mod live;
 mod logging;
 mod page;
@@ -12,5 +14,7 @@ mod session;
 mod stops;
 mod tools;
 
+pub use drills::drill;
 pub use live::{Scribed, desk_loop, feed_loop, scribe_loop, serve};
 pub use replaying::replay;
+pub use tools::DeskTools;

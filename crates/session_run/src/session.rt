@@ -16,7 +16,7 @@ ghost use Rattle.session_run.specs.Running.{IsRunning, IsSession, Stops};
 
 use crate::answers::answer;
 use crate::logging::Logger;
-use crate::tools::Tools;
+use crate::tools::DeskTools;
 use board_core::Board;
 use ride_model::{Actor, Command, Ending, Entry, Fleet, NoMemory, Settings};
 use ride_ports::Sink;
@@ -29,7 +29,7 @@ use std::thread::Threads;
 #[derive(Drop)]
 pub(crate) struct Session<'r> {
     board: Board<'r>,
-    tools: Tools<'r>,
+    tools: DeskTools<'r>,
     log: Logger,
     /// The version of the log.
     version: u8,
@@ -67,7 +67,7 @@ impl<'r> Session<'r> {
         ensures log { IfOk result (λ session. session.log ≡ record { page = []; failed = false }) }
         ensures memory { IfOk result (λ session. session.no_memory ≡ false) }
     {
-        let tools = Tools::new(alloc, roads, workers)?;
+        let tools = DeskTools::new(alloc, roads, workers)?;
         let log = Logger::new(alloc)?;
         let version = settings.log;
         let board = Board::new(alloc, roads, settings, fleet, 1, 1)?;
@@ -159,6 +159,7 @@ impl<'r> Session<'r> {
     /// Ends the feed and the desk, and the log with them. The desk ends whole where all batches were opened.
     pub(crate) fn end<K: Sink>(&mut self, out: &mut K, ending: Ending)
         requires session { IsSession self.old.board }
+        requires one_feed { self.old.board.feeds ≡ 1 }
         ensures history { self.new.board.history ≡ self.old.board.history ++ end_entry (Feed 1) ending
             ∷ end_entry (Desk 1) (if nat_eq (state_of self.old.board).opened (state_of self.old.board).asked then Whole else Cut) ∷ [] }
         ensures start { self.new.board.start ≡ self.old.board.start }
@@ -179,6 +180,7 @@ impl<'r> Session<'r> {
     // Ends the feed, and then the desk.
     fn end_actors(&mut self, ending: Ending)
         requires session { IsSession self.old.board }
+        requires one_feed { self.old.board.feeds ≡ 1 }
         ensures history { self.new.board.history ≡ self.old.board.history ++ end_entry (Feed 1) ending
             ∷ end_entry (Desk 1) (if nat_eq (state_of self.old.board).opened (state_of self.old.board).asked then Whole else Cut) ∷ [] }
         ensures start { self.new.board.start ≡ self.old.board.start }

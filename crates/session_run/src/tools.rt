@@ -15,15 +15,15 @@ use std::alloc::Global;
 use std::marker::Model;
 use std::thread::Threads;
 
-/// The roads, and what their searches need.
+/// What a desk prices and seats its batches with: the roads, and a scratch for each of its workers.
 #[derive(Drop)]
-pub(crate) struct Tools<'a> {
+pub struct DeskTools<'a> {
     alloc: Global,
     roads: &'a Roads,
     scratches: Vec<Scratch>,
 }
 
-impl<'a> Model for Tools<'a> {
+impl<'a> Model for DeskTools<'a> {
     ghost use Rattle.std.specs.Prelude.{◌≡◌, ◌≤◌, length, All};
     ghost use Rattle.ride_model.specs.Road.{RoadMap};
 
@@ -34,18 +34,14 @@ impl<'a> Model for Tools<'a> {
     ghost invariant = { λ t. (1 ≤ length t.scratches.items) × All (λ scratch. scratch.nodes ≡ t.roads.now.nodes) t.scratches.items };
 }
 
-impl<'a> Tools<'a> {
-    /// Tools for so many workers.
-    pub(crate) fn new(
-        alloc: Global,
-        roads: &'a Roads,
-        workers: usize,
-    ) -> Result<Tools<'a>, NoMemory>
+impl<'a> DeskTools<'a> {
+    /// The tools of a desk of so many workers.
+    pub fn new(alloc: Global, roads: &'a Roads, workers: usize) -> Result<DeskTools<'a>, NoMemory>
         requires { 1 ≤ workers }
         ensures { IfOk result (λ tools. tools ≡ roads.now) }
     {
         let scratches = scratches_of(alloc, roads, workers)?;
-        Ok(Tools {
+        Ok(DeskTools {
             alloc,
             roads,
             scratches,
@@ -53,11 +49,7 @@ impl<'a> Tools<'a> {
     }
 
     /// A batch with a least seating and its prices, or the batch again where memory is wanting.
-    pub(crate) fn solved<R: Threads + Sync>(
-        &mut self,
-        rt: &R,
-        batch: Batch,
-    ) -> Result<Solved, Batch>
+    pub fn solved<R: Threads + Sync>(&mut self, rt: &R, batch: Batch) -> Result<Solved, Batch>
         requires time { batch.time ≤ 1000000000 }
         requires over_map { IsBatchOver self.old batch }
         requires lawful { All (IsLawful self.old) batch.vehicles }

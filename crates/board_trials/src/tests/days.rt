@@ -9,12 +9,12 @@ ghost use Rattle.ride_model.specs.Text.{IsOneOrTwo, IsSpelledCommand};
 ghost use Rattle.board_core.specs.declared.opening.Opening.{Opening};
 ghost use Rattle.board_core.specs.Recorded.{state_of};
 
-use super::solving::Tools;
 use super::{fleet, lines_of, settings};
 use batch_commit::Batch;
 use board_core::{Board, Opening};
 use ride_model::{Actor, Command, Ending, NoMemory, Reply};
 use road_times::Roads;
+use session_run::DeskTools;
 use std::alloc::Global;
 use std::marker::Model;
 use std::process::Abort;
@@ -50,7 +50,7 @@ pub(super) enum Step {
 #[derive(Drop)]
 pub(super) struct Day<'r> {
     board: Board<'r>,
-    tools: Tools<'r>,
+    tools: DeskTools<'r>,
     /// The version of the log.
     log: u8,
     first: Option<Batch>,
@@ -84,7 +84,7 @@ impl<'r> Day<'r> {
         requires feeds { IsOneOrTwo feeds }
         requires desks { IsOneOrTwo desks }
     {
-        let tools = Tools::new(alloc, roads)?;
+        let tools = DeskTools::new(alloc, roads, 2)?;
         let settings = settings(1);
         let log = settings.log;
         let fleet = fleet(alloc, roads)?;
@@ -218,8 +218,8 @@ fn count(board: &Board<'_>) -> usize
     board.entries().len()
 }
 
-// Gives a feed's command.
-fn tell(
+/// Gives a feed's command.
+pub(super) fn tell(
     rt: &impl Abort,
     board: &mut Board<'_>,
     feed: u8,
@@ -236,8 +236,8 @@ fn tell(
     board.apply(feed, &command)
 }
 
-// What a desk gets that asks for a batch.
-fn open(rt: &impl Abort, board: &mut Board<'_>, desk: u8) -> Result<Opening, NoMemory>
+/// What a desk gets that asks for a batch.
+pub(super) fn open(rt: &impl Abort, board: &mut Board<'_>, desk: u8) -> Result<Opening, NoMemory>
     ensures start { board.new.start ≡ board.old.start }
     ensures held { (b : BatchCopy) → open_batch_numbered (state_of board.old) b.desk b.number ≡ Some b
         → open_batch_numbered (state_of board.new) b.desk b.number ≡ Some b }
@@ -255,7 +255,7 @@ fn open(rt: &impl Abort, board: &mut Board<'_>, desk: u8) -> Result<Opening, NoM
 fn commit<R: Threads + Sync + Abort>(
     rt: &R,
     board: &mut Board<'_>,
-    tools: &mut Tools<'_>,
+    tools: &mut DeskTools<'_>,
     kept: &mut Option<Batch>,
 )
     requires held { IfSome kept.old (λ (b : BatchCopy). open_batch_numbered (state_of board.old) b.desk b.number ≡ Some b) }
@@ -278,7 +278,7 @@ fn commit<R: Threads + Sync + Abort>(
 fn close<R: Threads + Sync>(
     rt: &R,
     board: &mut Board<'_>,
-    tools: &mut Tools<'_>,
+    tools: &mut DeskTools<'_>,
     batch: Batch,
 ) -> bool
     requires held { open_batch_numbered (state_of board.old) batch.desk batch.number ≡ Some batch }

@@ -8,13 +8,13 @@ ghost use Rattle.fleet_board.specs.Roles.{MayFeed, MayOpen, MayCommit};
 ghost use Rattle.fleet_board.specs.Sharing.{MayUse};
 
 use super::days::is_spelled;
-use super::solving::Tools;
 use super::{fleet, line, request, settings};
 use batch_commit::Batch;
 use board_core::{Board, Opening};
 use fleet_board::{ActorPass, PassSet, SharedBoard};
 use ride_model::{Command, Event, NoMemory, Outcome};
 use road_times::Roads;
+use session_run::DeskTools;
 use std::process::Abort;
 use std::sync::Wait;
 use std::test::Fail;
@@ -60,7 +60,7 @@ fn commit<'r, R: Threads + Wait + Sync + Abort>(
     rt: &R,
     board: &SharedBoard<'r>,
     desk: &mut ActorPass<'r>,
-    tools: &mut Tools<'_>,
+    tools: &mut DeskTools<'_>,
     batch: Batch,
 )
     requires desk { MayCommit board.now desk.old batch }
@@ -96,7 +96,7 @@ fn open_and_commit<'r, R: Threads + Wait + Sync + Abort>(
     board: &SharedBoard<'r>,
     first: &mut ActorPass<'r>,
     second: &mut ActorPass<'r>,
-    tools: &mut Tools<'_>,
+    tools: &mut DeskTools<'_>,
 )
     requires first { MayOpen board.now first.old }
     requires second { MayOpen board.now second.old }
@@ -132,40 +132,71 @@ fn expect_tails<'r, R: Wait + Abort + AllocGlobal>(
     }
 }
 
-// The last entry is a commit that finds the vehicle moved since the batch of request 8 was opened.
-fn expect_stale<'r, R: Wait + Abort + AllocGlobal>(
+// The last of so many entries is a commit with one outcome.
+fn expect_outcome<'r, R: Wait + Abort + AllocGlobal>(
     rt: &R,
     board: &SharedBoard<'r>,
     scribe: &mut ActorPass<'r>,
+    entries: u64,
+    request: u64,
+    outcome: Outcome,
 )
     requires pass { MayUse board.now scribe.old }
     requires point { IsPoint (knowledge scribe.old) }
+    ensures pass { MayUse board.now scribe.new }
+    ensures point { IsPoint (knowledge scribe.new) }
 {
-    let Ok(tail) = board.tail(rt, rt.alloc(), scribe, 7, 3) else {
+    let Ok(tail) = board.tail(rt, rt.alloc(), scribe, entries.saturating_sub(1), 3) else {
         panic!(rt; "there is memory");
     };
-    let Some(last) = tail.entries.last() else {
-        panic!(rt; "there are eight entries");
-    };
-    let Event::Committed { outcomes, .. } = &last.event else {
+    assert_eq!(rt; tail.entries.len(), 1);
+    let Event::Committed { outcomes, .. } = &tail.entries[0].event else {
         panic!(rt; "the last one is a commit");
     };
-    let moved = Outcome::Moved {
-        named: 0,
-        stands: 1,
-    };
-    assert!(rt; outcomes.items() == [(8, moved)].as_slice());
+    assert!(rt; outcomes.items() == [(request, outcome)].as_slice());
 }
 
-// Two desks over one vehicle, each with a batch of one request, of which the second one's pair is stale.
-fn run_two_desks<R: Threads + Wait + Sync + Abort + AllocGlobal>(
+// A rider cancels while the batch is open, whose commit finds the request gone.
+fn cancel_in_an_open_batch<'r, R: Threads + Wait + Sync + Abort>(
+    rt: &R,
+    board: &SharedBoard<'r>,
+    feed: &mut ActorPass<'r>,
+    desk: &mut ActorPass<'r>,
+    tools: &mut DeskTools<'_>,
+)
+    requires feed { MayFeed board.now feed.old }
+    requires version { (root_of (knowledge feed.old)).start.settings.log ≡ 1 }
+    requires few { length (commands_in (knowledge feed.old).own) < 900 }
+    requires desk { MayOpen board.now desk.old }
+    requires roads { tools.old ≡ (root_of (knowledge desk.old)).start.roads }
+    ensures desk { MayOpen board.now desk.new }
+{
+    tell(rt, board, feed, request(7, 2, 4, 600));
+    tell(rt, board, feed, Command::Ask);
+    let batch = open(rt, board, desk);
+    tell(rt, board, feed, Command::Cancel { id: 7 });
+    commit(rt, board, desk, tools, batch);
+}
+
+/// What happens to a shared board of one feed and two desks.
+#[derive(Clone, Copy)]
+enum Play {
+    /// Each desk has a batch of one request, and the second one's pair is stale.
+    TwoDesks,
+    /// A rider cancels while the batch is open.
+    CancelInAnOpenBatch,
+}
+
+// Runs a play over one vehicle, and asserts what its last commit found.
+fn run<R: Threads + Wait + Sync + Abort + AllocGlobal>(
     rt: &R,
     roads: &Roads,
+    play: Play,
 ) -> Result<(), NoMemory>
     requires { roads.now.nodes ≡ 4 }
 {
     let alloc = rt.alloc();
-    let mut tools = Tools::new(alloc, roads)?;
+    let mut tools = DeskTools::new(alloc, roads, 2)?;
     let board = Board::new(alloc, roads, settings(1), fleet(alloc, roads)?, 1, 2)?;
     let (board, passes) = SharedBoard::start(alloc, board)?;
     let PassSet {
@@ -184,16 +215,29 @@ fn run_two_desks<R: Threads + Wait + Sync + Abort + AllocGlobal>(
     let Some(mut second) = desk_2 else {
         panic!(rt; "this board has two desks");
     };
-    ask_for_two(rt, &board, &mut feed);
-    open_and_commit(rt, &board, &mut first, &mut second, &mut tools);
-    expect_tails(rt, &board, &mut scribe, 8);
-    expect_stale(rt, &board, &mut scribe);
+    match play {
+        Play::TwoDesks => {
+            ask_for_two(rt, &board, &mut feed);
+            open_and_commit(rt, &board, &mut first, &mut second, &mut tools);
+            expect_tails(rt, &board, &mut scribe, 8);
+            let moved = Outcome::Moved {
+                named: 0,
+                stands: 1,
+            };
+            expect_outcome(rt, &board, &mut scribe, 8, 8, moved);
+        }
+        Play::CancelInAnOpenBatch => {
+            cancel_in_an_open_batch(rt, &board, &mut feed, &mut first, &mut tools);
+            expect_outcome(rt, &board, &mut scribe, 5, 7, Outcome::Gone);
+        }
+    }
     Ok(())
 }
 
 #[test]
-fn two_desks_and_one_vehicle(rt: HostRuntime) -> Result<(), Fail> {
+fn pairs_that_went_stale_on_a_shared_board_are_named(rt: HostRuntime) -> Result<(), Fail> {
     let roads = line(&rt, rt.alloc())?;
-    run_two_desks(&rt, &roads)?;
+    run(&rt, &roads, Play::TwoDesks)?;
+    run(&rt, &roads, Play::CancelInAnOpenBatch)?;
     Ok(())
 }

@@ -1,4 +1,5 @@
-//! Sessions over drawn feeds: whatever the two feeds hold and however the threads meet, an audit says yes to the log.
+//! Sessions over drawn feeds: whatever the two feeds hold and however the threads meet, an audit says yes to the log, in which
+//! the lines of each feed stand once and in order.
 use super::texts::text_of;
 use super::{AUDIT, File, LINE, Setup, answer_to};
 use std::alloc::Global;
@@ -62,7 +63,7 @@ fn push_command(text: &mut String, draws: &mut Draws, id: u64) -> Result<(), Fai
 }
 
 #[test]
-fn an_audit_says_yes_to_each_log_of_drawn_feeds(rt: HostRuntime) -> Result<(), Fail> {
+fn an_audit_says_yes_to_each_log_of_drawn_feeds_in_order(rt: HostRuntime) -> Result<(), Fail> {
     let map = text_of(rt.alloc(), LINE)?;
     for seed in 0..SESSIONS {
         expect_yes(&rt, map.as_bytes(), seed)?;
@@ -97,6 +98,14 @@ fn expect_yes<R: Abort + Threads + Wait + Sync + AllocGlobal>(
     ];
     let answer = answer_to(rt, &words, files)?;
     assert_eq!(rt; (answer.status, answer.faults), (0, 0), "seed {seed}");
+    assert!(rt;
+        is_in_order(answer.text(), "f1 ", riders.as_str()),
+        "seed {seed}"
+    );
+    assert!(rt;
+        is_in_order(answer.text(), "f2 ", drivers.as_str()),
+        "seed {seed}"
+    );
     let log = Setup::whole(map, FLEET.as_bytes(), b"", answer.written.as_slice());
     let audit = answer_to(rt, &AUDIT, log)?;
     assert_eq!(rt;
@@ -108,4 +117,23 @@ fn expect_yes<R: Abort + Threads + Wait + Sync + AllocGlobal>(
     );
     assert!(rt; audit.text().ends_with("finished yes\n"), "seed {seed}");
     Ok(())
+}
+
+// Whether the lines of a feed in the log are answers to its lines, in order, and then its end.
+fn is_in_order(log: &str, actor: &str, feed: &str) -> bool {
+    let mut answers = log.split('\n').filter_map(|line| line.strip_prefix(actor));
+    for line in feed.split('\n') {
+        let Some(answer) = answers.next() else {
+            return false;
+        };
+        let wanted = match line {
+            "" => "end",
+            "no command" => "bad ",
+            _ => line,
+        };
+        if !answer.starts_with(wanted) {
+            return false;
+        }
+    }
+    answers.next().is_none()
 }

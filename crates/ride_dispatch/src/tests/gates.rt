@@ -1,5 +1,7 @@
-//! Gates at which a thread waits for another one.
-use ride_ports::Gate;
+//! Gates at which a thread waits for another one, or for a line of the log.
+ghost use Rattle.std.specs.Prelude.{Some};
+
+use ride_ports::{Failed, Gate, MemSink, Sink};
 use std::sync::atomic::{AtomicU64, Ordering};
 use std::thread;
 
@@ -9,6 +11,12 @@ pub(super) struct Meeting {
     pub(super) until: u32,
     pub(super) times: u64,
 }
+
+/// The place that is passed once the log has the line of the first opening. No loop passes it.
+pub(super) const LOGGED: u32 = 8;
+
+/// How the line of the first opening begins.
+const FIRST_OPENING: &str = "d1 open 1 at 0 requests 7 plans 1@0\n";
 
 /// How often a thread looks whether another one has come.
 const MOST_TURNS: u64 = 10_000_000;
@@ -20,6 +28,7 @@ pub(super) struct Gated<'a> {
     one: AtomicU64,
     six: AtomicU64,
     seven: AtomicU64,
+    logged: AtomicU64,
     missed: AtomicU64,
 }
 
@@ -30,6 +39,7 @@ impl<'a> Gated<'a> {
             one: AtomicU64::new(0),
             six: AtomicU64::new(0),
             seven: AtomicU64::new(0),
+            logged: AtomicU64::new(0),
             missed: AtomicU64::new(0),
         }
     }
@@ -50,6 +60,9 @@ impl<'a> Gated<'a> {
             7 => {
                 let _ = self.seven.fetch_add(1, Ordering::SeqCst);
             }
+            LOGGED => {
+                let _ = self.logged.fetch_add(1, Ordering::SeqCst);
+            }
             _ => {}
         }
     }
@@ -60,6 +73,7 @@ impl<'a> Gated<'a> {
             1 => self.one.load(Ordering::SeqCst),
             6 => self.six.load(Ordering::SeqCst),
             7 => self.seven.load(Ordering::SeqCst),
+            LOGGED => self.logged.load(Ordering::SeqCst),
             _ => 0,
         }
     }
@@ -83,5 +97,26 @@ impl<'a> Gate for Gated<'a> {
                 self.wait_for(meeting);
             }
         }
+    }
+}
+
+/// A sink that passes a gate once it has taken the line of the first opening.
+#[derive(Drop)]
+pub(super) struct Watched<'a> {
+    pub(super) sink: MemSink<'a>,
+    pub(super) gate: &'a Gated<'a>,
+}
+
+impl<'a> Sink for Watched<'a> {
+    ghost written = { λ w. Some w.sink.written };
+
+    ghost faults = { λ w. w.sink.calls.faults };
+
+    fn write(&mut self, piece: &[u8]) -> Result<usize, Failed> {
+        let count = self.sink.write(piece)?;
+        if str::from_utf8(self.sink.written()).is_ok_and(|text| text.contains(FIRST_OPENING)) {
+            self.gate.pass(LOGGED);
+        }
+        Ok(count)
     }
 }

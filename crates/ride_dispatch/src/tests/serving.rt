@@ -1,5 +1,5 @@
 //! Sessions of two feeds: what happens while a batch is open, and what an audit says of each log.
-use super::gates::{Gated, Meeting};
+use super::gates::{Gated, LOGGED, Meeting};
 use super::texts::{Part, is_like, text_of};
 use super::{AUDIT, DEFAULTS, FEED, File, LINE, Setup, answer_to, answer_with};
 use std::alloc::Global;
@@ -24,7 +24,7 @@ struct Session {
     audit: &'static str,
 }
 
-static SESSIONS: [Session; 5] = [
+static SESSIONS: [Session; 6] = [
     Session {
         shows: "a plan moves while its batch is open",
         fleet: DEFAULTS,
@@ -75,6 +75,33 @@ d1 end\n",
 f2 clock 20 = now 20\n\
 d1 commit 1 cost 180 seats 7:1:0:0 prices* outcomes 7:behind:10:20\n\
 d1 open 2 at 20 requests 7 plans 1@0\n\
+d1 commit 2 cost 180 seats 7:1:0:0 prices* outcomes 7:confirmed\n\
+d1 end\n",
+        audit: "yes entries 11 confirmed 1 away 0 picked 0 dropped 0 finished yes\n",
+    },
+    Session {
+        shows: "the log is written while the session runs",
+        fleet: DEFAULTS,
+        riders: RIDERS,
+        drivers: "at 1 1 5\n",
+        workers: "1",
+        desks: "1",
+        meetings: &[
+            Meeting {
+                waits: 5,
+                until: LOGGED,
+                times: 1,
+            },
+            Meeting {
+                waits: 1,
+                until: 6,
+                times: 1,
+            },
+        ],
+        lines: "d1 open 1 at 0 requests 7 plans 1@0\n\
+f2 at 1 1 5 = onmap\n\
+d1 commit 1 cost 180 seats 7:1:0:0 prices* outcomes 7:moved:0:1\n\
+d1 open 2 at 0 requests 7 plans 1@1\n\
 d1 commit 2 cost 180 seats 7:1:0:0 prices* outcomes 7:confirmed\n\
 d1 end\n",
         audit: "yes entries 11 confirmed 1 away 0 picked 0 dropped 0 finished yes\n",
@@ -218,22 +245,57 @@ fn two_desks_seat_one_request_once(rt: HostRuntime) -> Result<(), Fail> {
     Ok(())
 }
 
+/// A drivers' feed that fails, and its lines in the log.
+struct Failing {
+    drivers: &'static [u8],
+    pieces: &'static [usize],
+    failing: &'static [u64],
+    lines: &'static str,
+}
+
+static FAILING: [Failing; 2] = [
+    Failing {
+        drivers: b"",
+        pieces: &[],
+        failing: &[1],
+        lines: "f2 cut\n",
+    },
+    // In the middle of its second line, which is dropped.
+    Failing {
+        drivers: b"clock 0\nclock 0\n",
+        pieces: &[11],
+        failing: &[2],
+        lines: "f2 clock 0 = now 0\nf2 cut\n",
+    },
+];
+
 #[test]
 fn a_feed_that_fails_is_cut_alone(rt: HostRuntime) -> Result<(), Fail> {
     let map = text_of(rt.alloc(), LINE)?;
     let fleet = text_of(rt.alloc(), DEFAULTS)?;
-    let files = Setup::whole(map.as_bytes(), fleet.as_bytes(), FEED.as_bytes(), b"").with_drivers(
-        File::new(b"", &[], &[1]),
-    );
+    let files = Setup::whole(map.as_bytes(), fleet.as_bytes(), FEED.as_bytes(), b"");
+    for case in FAILING.as_slice() {
+        let drivers = File::new(case.drivers, case.pieces, case.failing);
+        expect_cut_alone(&rt, files.with_drivers(drivers), case.lines)?;
+    }
+    Ok(())
+}
+
+// Asserts that riders and desk end whole, and these lines of the drivers.
+fn expect_cut_alone<R: Abort + Threads + Wait + Sync + AllocGlobal>(
+    rt: &R,
+    files: Setup<'_>,
+    drivers: &str,
+) -> Result<(), Fail> {
     let words = serve_words("1", "1");
-    let answer = answer_to(&rt, &words, files)?;
+    let answer = answer_to(rt, &words, files)?;
     assert_eq!(rt; (answer.status, answer.faults), (5, 1));
-    for (actors, lines) in [
+    for (actor, lines) in [
         (
             "f1",
             "f1 request 7 2 4 1 600 300 = waiting\nf1 batch = asked 1\nf1 end\n",
         ),
-        ("f2", "f2 cut\n"),
+        ("f2", drivers),
         (
             "d1",
             "d1 open 1 at 0 requests 7 plans 1@0\n\
@@ -241,7 +303,7 @@ d1 commit 1 cost 180 seats 7:1:0:0 prices* outcomes 7:confirmed\n\
 d1 end\n",
         ),
     ] {
-        let found = lines_of(rt.alloc(), answer.text(), &[actors])?;
+        let found = lines_of(rt.alloc(), answer.text(), &[actor])?;
         assert!(rt; is_like(found.as_str(), lines), "{}", answer.text());
     }
     Ok(())

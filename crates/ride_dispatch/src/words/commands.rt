@@ -2,7 +2,7 @@
 ghost use Rattle.std.specs.Prelude.{◌≡◌, false, Err, IfOk, OnErr};
 ghost use Rattle.clap.specs.Simple.{app_of};
 ghost use Rattle.clap.specs.Walk.{rule_of};
-ghost use Rattle.ride_dispatch.specs.Words.{audit_command, bare_command, option_rule, over_map_and_fleet, replay_command, serve_command, with_option};
+ghost use Rattle.ride_dispatch.specs.Words.{audit_command, bare_command, drill_command, option_rule, over_map_and_fleet, replay_command, serve_command, with_option};
 
 use super::WordsError;
 use clap::{Arg, ArgAction, Command};
@@ -36,6 +36,17 @@ pub fn serve_command<'a>(alloc: Global) -> Result<Command<'a>, WordsError>
     let command = with_option(command, alloc, "drivers")?;
     let command = with_option(command, alloc, "workers")?;
     with_option(command, alloc, "desks")
+}
+
+/// The command of a drill.
+pub fn drill_command<'a>(alloc: Global) -> Result<Command<'a>, WordsError>
+    ensures command { IfOk result (λ command. app_of command ≡ drill_command) }
+    ensures stopped { OnErr result (result ≡ Err WordsError.NoMemory) }
+{
+    let command = with_option(bare_command(alloc, "drill"), alloc, "side")?;
+    let command = with_option(command, alloc, "vehicles")?;
+    let command = with_option(command, alloc, "requests")?;
+    with_option(command, alloc, "seed")
 }
 
 // A command of this name over a map and a fleet file.

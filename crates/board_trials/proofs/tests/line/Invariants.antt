@@ -1,4 +1,4 @@
-use Rattle.std.proofs.Common.{◌≡◌, ◌≤◌, ℕ}
+use Rattle.std.proofs.Common.{◌≤◌}
 use Rattle.std.specs.Prelude.{All}
 use Rattle.ride_model.specs.declared.network.RoadArc.{RoadArc}
 use Rattle.board_trials.proofs.tests.line.Given as goal

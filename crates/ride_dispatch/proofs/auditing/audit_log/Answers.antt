@@ -1,8 +1,7 @@
-use Rattle.std.proofs.Common.{◌≡◌, ℕ, List, Option, ◌∷◌, ◌++◌, [], Ok, Err, refl, ap, sym, subst, ◌∙◌, arith, append-nil}
+use Rattle.std.proofs.Common.{ℕ, ◌∷◌, ◌++◌, [], refl, ap, sym, subst, ◌∙◌, arith, append-nil}
 use Rattle.std.specs.Prelude.{string_bytes}
 use Rattle.ride_ports.specs.Contents.{given_back}
 use Rattle.ride_ports.specs.Count.{Rose}
-use Rattle.ride_model.specs.State.{start_state}
 use Rattle.ride_dispatch.proofs.Audits.{audited-of, said-five, said-statuses, said-zero}
 use Rattle.ride_dispatch.proofs.Bringing.{left-of, left-of-content}
 use Rattle.ride_dispatch.proofs.Works.{all-brought, not-brought, rose-above, spent-alone}

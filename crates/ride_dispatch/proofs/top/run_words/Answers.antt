@@ -1,5 +1,14 @@
+use Rattle.std.proofs.Common.{refl, map}
+use Rattle.std.specs.Prelude.{string_bytes}
+use Rattle.ride_dispatch.specs.Words.{drill_of}
+use Rattle.ride_dispatch.proofs.Drills.{unread-words}
 use Rattle.ride_dispatch.proofs.Runs.{of-some}
 use Rattle.ride_dispatch.proofs.top.run_words.Goals as goal
 
-pub returns-in-Ok-clause-complete : goal.returns-in-Ok-clause-complete
-returns-in-Ok-clause-complete g c = of-some _ _ _ c.in-Ok.ensures.wish c.grant.ensures.complete
+pub returns-in-Ok-OverFiles-clause-complete : goal.returns-in-Ok-OverFiles-clause-complete
+returns-in-Ok-OverFiles-clause-complete g c =
+    let ask = rw c.in-Ok-OverFiles.field-0-is at c.in-Ok-OverFiles.ensures.ask in of-some _ _ _ ask.0 c.grant.ensures.complete
+
+pub returns-in-Err-NoMemory-clause-drilled : goal.returns-in-Err-NoMemory-clause-drilled
+returns-in-Err-NoMemory-clause-drilled g c =
+    unread-words (drill_of (map string_bytes c.args.words.now)) _ c.requires.none_asked c.requires.none_brought c.requires.none_back refl refl

@@ -1,4 +1,4 @@
-use Rattle.std.proofs.Common.{◌≡◌, List, ℕ, Option, rules, sym, subst, ◌∙◌, map}
+use Rattle.std.proofs.Common.{Option, rules, sym, subst, ◌∙◌, map}
 use Rattle.std.specs.Prelude.{string_bytes}
 use Rattle.ride_dispatch.specs.Words.{IsWishOf, Wanted}
 use Rattle.ride_dispatch.proofs.Wishes.{asks-audit, asks-nothing, asks-replay, asks-serve, no-words}

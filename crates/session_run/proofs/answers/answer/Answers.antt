@@ -1,4 +1,4 @@
-use Rattle.std.proofs.Common.{◌≡◌, true, false, ap, sym, subst, ◌∙◌}
+use Rattle.std.proofs.Common.{◌≡◌, true, false, ap, sym, subst, ◌∙◌, arith}
 use Rattle.std.proofs.lemmas.Result.{IfOk-weaker, on_err_weaker}
 use Rattle.board_core.specs.Recorded.{Recorded}
 use Rattle.session_run.specs.Running.{RunsBatch, Answers, Stops}
@@ -45,3 +45,6 @@ returns-then-matches-clause-stopped g c =
     (ap (λ (b : Recorded). b.start) c.apply.ensures.others) (ap (λ (b : Recorded). b.feeds) c.apply.ensures.others)
     (ap (λ (b : Recorded). b.desks) c.apply.ensures.others) c.in_ok-reply.ensures.entry))
     c.run_batch.ensures.no_memory
+
+pub apply-requires-clause-feed : goal.apply-requires-clause-feed
+apply-requires-clause-feed g c = (omega arith, c.entries-entries.ensures.text.feeds_number.0)

@@ -29,5 +29,6 @@ returns-clause-ran g c =
     let is : c.in-Batch.batch ≡ next_batch (state_of old) 1 =
     next-opened (state_of old) old.feeds c.in-Batch.batch c.in_ok-batch.field-0 c.in_ok-batch.ensures.opening c.in-Batch.is c.requires.asked.one_more in
     runs c.close_batch.result old new c.close_batch.new.board c.requires.asked (ap (λ (b : Recorded). b.start) c.open_batch.ensures.others)
+    (ap (λ (b : Recorded). b.feeds) c.open_batch.ensures.others)
     (subst (λ (b : BatchCopy). new.history ≡ old.history ++ opened_entry b ∷ []) is
     (c.in_ok-batch.ensures.entry c.in-Batch.batch (ap (λ (o : Opening). Ok o) c.in-Batch.is))) c.close_batch.ensures.closed

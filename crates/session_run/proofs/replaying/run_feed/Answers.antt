@@ -56,7 +56,11 @@ returns-in-Err-take_command-clause-ran g c =
           (given-first-of c.next_command.new.self log (g.S.Source.left c.args.feed.now) (g.S.Source.left c.next_command.new.source)
           (old ++ c.in-Ok-Some.command ∷ []) (taken ++ more) (c.next_command.ensures.log ∙ c.commands.invariant.version) (Reads-then reads reads_more)
           (step old taken given));
-      ended = (c.in-Err-take_command.ensures.stopped.session, c.in-Err-take_command.ensures.no_memory);
+      ended = (
+        c.in-Err-take_command.ensures.stopped.session,
+        c.in-Err-take_command.ensures.stopped.goes_on.feeds ∙ c.commands.invariant.running.one_feed,
+        c.in-Err-take_command.ensures.no_memory,
+      );
     }
 
 pub returns-in-Err-take_command-clause-told : goal.returns-in-Err-take_command-clause-told

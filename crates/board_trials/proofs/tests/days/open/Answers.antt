@@ -1,6 +1,6 @@
 use Rattle.std.proofs.Common.{rules, ap}
 use Rattle.board_core.specs.Recorded.{Recorded}
-use Rattle.board_core.proofs.OpenBatches.{Gets, gets}
+use Rattle.board_core.proofs.OpenBatches.{gets}
 use Rattle.board_trials.proofs.tests.days.open.Goals as goal
 
 pub returns-clause-held : goal.returns-clause-held

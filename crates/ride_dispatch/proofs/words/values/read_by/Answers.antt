@@ -1,7 +1,5 @@
-use Rattle.std.proofs.Common.{◌≡◌, subst, sym, ◌∙◌, map, Ok, Err}
+use Rattle.std.proofs.Common.{◌∙◌, map}
 use Rattle.std.specs.Prelude.{string_bytes}
-use Rattle.clap.specs.Faults.{fault_of}
-use Rattle.clap.specs.Kinds.{FailsBy}
 use Rattle.clap.specs.Simple.{app_of}
 use Rattle.ride_dispatch.proofs.Wishes.{refused, taken}
 use Rattle.ride_dispatch.proofs.words.values.read_by.Goals as goal

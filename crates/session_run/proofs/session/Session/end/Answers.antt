@@ -13,7 +13,7 @@ returns-clause-told g c earlier faults has =
     let told : ℕ = length c.entries-told.result.now in
     let all : told ≡ length old.history = ap length (c.entries-told.ensures.items ∙ ap (λ (s : SessionState). s.board.history) c.self.view_is) in
     let same : text_of new.start.settings.log 1 1 (take told new.history) ≡ text_of old.start.settings.log 1 1 old.history =
-    told-before old new told (goes-by old new _ c.end_actors.ensures.start c.end_actors.ensures.history) all in
+    told-before old new told (goes-by old new _ c.end_actors.ensures.start c.end_actors.ensures.feeds c.end_actors.ensures.history) all in
     let log : c.end_actors.new.self.log ≡ c.args.self.now.log = ap (λ (s : SessionState). s.log) c.end_actors.ensures.others in
     let before : HasLogged earlier (g.K.Sink.written c.args.out.now) faults (g.K.Sink.faults c.args.out.now) c.end_actors.new.self.log
     (text_of new.start.settings.log 1 1 (take told new.history)) =

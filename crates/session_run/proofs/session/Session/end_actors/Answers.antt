@@ -16,5 +16,6 @@ end-requires-2 c =
     ] in
     desk-may_end c.self.inside.board c.end.new.self c.args.ending c.if-whole.desk_ending
     (subst (λ (s : SessionState). IsSession s.board) (sym c.self.view_is) c.requires.session)
+    (subst (λ (s : SessionState). s.board.feeds ≡ 1) (sym c.self.view_is) c.requires.one_feed)
     (ap (λ (b : Recorded). b.start) c.end.ensures.others) (ap (λ (b : Recorded). b.feeds) c.end.ensures.others)
     (ap (λ (b : Recorded). b.desks) c.end.ensures.others) c.end.ensures.entry whole

@@ -1,0 +1,128 @@
+//! Both ways to search a pair's places, over the first batch of a generated city.
+ghost use Rattle.std.specs.Prelude.{◌≡◌, ◌≤◌, ◌<◌, Some, IfOk, length};
+ghost use Rattle.ride_model.specs.Seating.{BatchCopy};
+ghost use Rattle.ride_model.specs.State.{open_batch_numbered};
+ghost use Rattle.board_core.specs.Recorded.{state_of};
+
+use super::cities::PLAN;
+use super::days::{open, tell};
+use batch_commit::{Batch, PriceTable};
+use board_core::{Board, Opening};
+use city_maker::{City, make_city};
+use pricing_workers::{Search, price_batch_by, scratches_of};
+use ride_model::{Command, NoMemory};
+use ride_ports::OpenGate;
+use road_times::Roads;
+use std::alloc::Global;
+use std::process::Abort;
+use std::test::Fail;
+use std::thread::Threads;
+
+/// The batch after the first commands, of which the last asks for it.
+fn first_batch(
+    rt: &impl Abort,
+    board: &mut Board<'_>,
+    commands: &[Command],
+) -> Result<Batch, NoMemory>
+    ensures start { board.new.start ≡ board.old.start }
+    ensures held { IfOk result (λ (b : BatchCopy). open_batch_numbered (state_of board.new) b.desk b.number ≡ Some b) }
+{
+    for command in commands {
+        tell(rt, board, 1, *command)?;
+    }
+    match open(rt, board, 1)? {
+        Opening::Batch(batch) => Ok(batch),
+        Opening::Idle => panic!(rt; "a batch was asked for"),
+        Opening::Ended => panic!(rt; "a batch was asked for"),
+    }
+}
+
+/// What the least offer of a pair costs, where there is one.
+fn cost_at(table: &PriceTable, request: u32, vehicle: u32) -> Option<u64>
+    requires request { request < table.now.rows }
+    requires vehicle { vehicle < table.now.columns }
+{
+    table.cell(request, vehicle).map(|offer| offer.cost)
+}
+
+/// Every vehicle costs a request the same by both tables; answers how many can take it.
+fn count_alike(
+    rt: &impl Abort,
+    fast: &PriceTable,
+    plain: &PriceTable,
+    request: u32,
+    vehicles: u32,
+) -> u32
+    requires fast { (request < fast.now.rows) × (vehicles ≤ fast.now.columns) }
+    requires plain { (request < plain.now.rows) × (vehicles ≤ plain.now.columns) }
+{
+    let mut offers = 0u32;
+    for vehicle in 0..vehicles {
+        let cost = cost_at(fast, request, vehicle);
+        assert_eq!(rt; cost, cost_at(plain, request, vehicle));
+        offers = offers.wrapping_add(u32::from(cost.is_some()));
+    }
+    offers
+}
+
+/// The prices of an open batch, by one of the ways to search a pair's places.
+fn table_of<R: Threads + Sync>(
+    rt: &R,
+    alloc: Global,
+    search: Search,
+    board: &Board<'_>,
+    batch: &Batch,
+    roads: &Roads,
+) -> Result<PriceTable, NoMemory>
+    requires held { open_batch_numbered (state_of board.now) batch.now.desk batch.now.number ≡ Some batch.now }
+    requires roads { roads.now ≡ board.now.start.roads }
+    ensures rows { IfOk result (λ table. table.rows ≡ length batch.now.requests) }
+    ensures columns { IfOk result (λ table. table.columns ≡ length batch.now.vehicles) }
+{
+    // This call tells that the history is legal.
+    let _history = board.entries();
+    let mut scratches = scratches_of(alloc, roads, 2)?;
+    let places = scratches.as_mut_slice();
+    price_batch_by(rt, alloc, search, batch, roads, places, &OpenGate)
+}
+
+/// All pairs of an open batch cost the same by both searches; answers how many have an offer.
+fn offers_of<R: Threads + Sync + Abort>(
+    rt: &R,
+    alloc: Global,
+    board: &Board<'_>,
+    batch: &Batch,
+    roads: &Roads,
+) -> Result<u32, NoMemory>
+    requires held { open_batch_numbered (state_of board.now) batch.now.desk batch.now.number ≡ Some batch.now }
+    requires roads { roads.now ≡ board.now.start.roads }
+{
+    let fast = table_of(rt, alloc, Search::BySlack, board, batch, roads)?;
+    let plain = table_of(rt, alloc, Search::ByWholePlans, board, batch, roads)?;
+    let vehicles = batch.vehicles().vehicles().len() as u32;
+    let mut offers = 0u32;
+    for request in 0..batch.requests().len() as u32 {
+        offers = offers.wrapping_add(count_alike(rt, &fast, &plain, request, vehicles));
+    }
+    Ok(offers)
+}
+
+#[test]
+fn both_searches_price_a_citys_first_batch_alike(rt: HostRuntime) -> Result<(), Fail> {
+    let alloc = rt.alloc();
+    let City {
+        network,
+        settings,
+        fleet,
+        commands,
+    } = make_city(alloc, &PLAN)?;
+    let roads = Roads::new(alloc, &network)?;
+    let mut board = Board::new(alloc, &roads, settings, fleet, 1, 1)?;
+    // A clock, the eight requests of a group, and what asks for their batch.
+    assert!(&rt; commands.items().len() >= 10);
+    let batch = first_batch(&rt, &mut board, &commands.items()[..10])?;
+    assert_eq!(&rt; batch.requests().len(), 8);
+    assert_eq!(&rt; batch.vehicles().vehicles().len(), 20);
+    assert!(&rt; offers_of(&rt, alloc, &board, &batch, &roads)? > 0);
+    Ok(())
+}
