@@ -11,4 +11,8 @@ pub mod AfterCalls
 pub mod Sound
 pub mod Moments
 pub mod Once
+pub mod Due
 pub mod Releasing
+pub mod OutputLemmas
+pub mod BookedLines
+pub mod FeedRuns

@@ -1,21 +1,20 @@
 -- What a desk has submitted so far.
-use Rattle.std.proofs.Common.{◌≡◌, ℕ, ◌≤◌, ◌+◌, Bool, true, false, leb, List, [], ◌∷◌, ◌++◌, Option, Some, None, length, All, refl, sym, ap, subst, ◌∙◌, arith, append_assoc, append-nil}
-use Rattle.std.specs.Prelude.{filter, find, option_map}
-use Rattle.std.specs.Option.{option_map_or}
+use Rattle.std.proofs.Common.{◌≡◌, ℕ, ◌≤◌, ◌+◌, Bool, true, false, leb, List, [], ◌∷◌, ◌++◌, Some, None, length, All, refl, sym, ap, subst, ◌∙◌, arith, append_assoc, append-nil}
+use Rattle.std.specs.Prelude.{filter, find}
 use Rattle.std.specs.List.{AllByRecursion, AllZip}
 use Rattle.std.proofs.lemmas.List.{length-append}
 use Rattle.std.proofs.lemmas.List.Elements.{All-head, All-rest, All-tail, filter-append, filter_map-append}
 use Rattle.turn_lock.proofs.Lists.{prefix_self, prefix_trans}
 use Rattle.ride_model.specs.declared.command.Actor.TheVariants.{Feed}
-use Rattle.ride_model.specs.declared.command.Command.{Command}
 use Rattle.ride_model.specs.declared.entry.Entry.{Entry}
 use Rattle.ride_model.specs.declared.entry.Event.TheVariants.{Fed}
 use Rattle.ride_model.specs.declared.reply.Reply.{Reply}
 use Rattle.ride_model.specs.History.{command_of}
 use Rattle.ride_model.specs.Text.{IsSpelledCommand}
 use Rattle.fleet_board.specs.Passes.{Known, AddsEntry, AddsNone, commands_in, root_of}
-use Rattle.booking_desk.specs.Desk.{Booking, DeskState, after_take, after_unbook, due_of, id_of, is_due}
+use Rattle.booking_desk.specs.Desk.{Booking, DeskState, after_take, due_of, is_due}
 use Rattle.booking_desk.specs.Releases.{HasSubmitted, IsAnswerTo, all_due}
+use Rattle.booking_desk.proofs.Due.{taken-rest}
 use Rattle.booking_desk.proofs.Filtered.{all-append, filter-all}
 
 -- these bookings were due and are submitted, and few enough are left
@@ -27,16 +26,6 @@ pub record ReleasesSoFar (desk new_desk : DeskState) (pass new_pass : Known) (co
   pub spelled : All (λ (b : Booking). IsSpelledCommand (root_of new_pass).start.settings.log b.request) new_desk.held
   pub few : length (commands_in new_pass.own) ≤ 900000000 + count
   pub most : count + length new_desk.held ≤ 100000
-
--- the booking of which a request is
-pub booking-of : (o : Option Booking) (request : Command) → option_map (λ (b : Booking). b.request) o ≡ Some request
-    → (b : Booking) × (o ≡ Some b) × (b.request ≡ request)
-booking-of None request is = absurd (cc is)
-booking-of (Some b) request is = (b, refl, cc is)
-
-pub none-of : (o : Option Booking) → option_map (λ (b : Booking). b.request) o ≡ None → o ≡ None
-none-of None is = refl
-none-of (Some b) is = absurd (cc is)
 
 none-due : (p : Booking → Bool) (bs : List Booking) → find p bs ≡ None → filter p bs ≡ []
 none-due p [] h = refl
@@ -95,13 +84,6 @@ found-holds P p (x ∷ bs) b all h = by (found-holds P p bs b (All-tail P x bs a
         let same : x ≡ b = cc in
         subst P same (All-head P x bs all)
     by ih false at = ih (rw at at h)
-
--- taking the first booking changes nothing else
-taken-rest : (desk new : DeskState) (b : Booking) → due_of desk ≡ Some b → new ≡ after_take desk → new ≡ record desk { held = new.held }
-taken-rest desk new b due is =
-    let taken : new ≡ after_unbook desk (id_of b) =
-    is ∙ ap (λ (o : Option Booking). option_map_or (λ (x : Booking). after_unbook desk (id_of x)) o desk) due in
-    taken ∙ ap (λ bs. record desk { held = bs }) (sym (ap (λ (d : DeskState). d.held) taken))
 
 module _ (desk now : DeskState) (pass seen : Known) (count : ℕ) (so_far : ReleasesSoFar desk now pass seen count) where
   clock-is : now.clock ≡ desk.clock

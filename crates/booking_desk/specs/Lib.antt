@@ -3,3 +3,9 @@ pub mod Kept
 pub mod Released
 pub mod Steps
 pub mod Releases
+pub mod BookLines
+pub mod BookText
+pub mod Booked
+pub mod Asked
+pub mod Output
+pub mod FeedDesk

@@ -9,7 +9,7 @@ use std::test::Fail;
 
 /// What is done at a desk.
 #[derive(Clone, Copy, Debug)]
-enum Action {
+pub(crate) enum Action {
     /// Books the request of an id for a release.
     Book(u64, u64),
     Unbook(u64),
@@ -156,7 +156,7 @@ fn days(rt: HostRuntime) -> Result<(), Fail> {
 }
 
 /// The number after another of a linear congruential generator.
-fn after(seed: u64) -> u64 {
+pub(crate) fn after(seed: u64) -> u64 {
     seed.wrapping_mul(6_364_136_223_846_793_005)
         .wrapping_add(1_442_695_040_888_963_407)
 }

@@ -8,7 +8,8 @@ use Rattle.ride_model.specs.Text.{IsSpelledCommand}
 use Rattle.turn_lock.specs.Passes.{knowledge}
 use Rattle.fleet_board.specs.Passes.{AddsEntry, Known, root_of}
 use Rattle.booking_desk.specs.Desk.{Booking, due_of, is_due}
-use Rattle.booking_desk.proofs.Releasing.{all-released, booking-of, found-holds, none-of, releases-more, releases-none, some-released, submitted-none}
+use Rattle.booking_desk.proofs.Due.{booking-of, none-of}
+use Rattle.booking_desk.proofs.Releasing.{all-released, found-holds, releases-more, releases-none, some-released, submitted-none}
 use Rattle.booking_desk.proofs.desk.BookingDesk.release_due.Goals as goal
 
 none-from-not_some : {X : Type 0} (o : Option X) → ((x : X) → o ≡ Some x → ⊥) → o ≡ None

@@ -1,0 +1,266 @@
+-- The lines of a feed that were booked when it ended or was stopped.
+use Rattle.std.proofs.Common.{◌≡◌, ◌≢◌, ℕ, ◌<◌, Bool, true, false, nat_lt, take, List, [], ◌∷◌, ◌++◌, length, Option, Some, None, refl, ap, sym, subst, ◌∙◌, arith, append_assoc, append-nil, length-append}
+use Rattle.std.specs.Prelude.{IfSome}
+use mathlib.Core.List.{IsPrefix}
+use Rattle.line_text.specs.Lines.{ended_lines, last_line, lines_of, rest_of}
+use Rattle.line_text.specs.Fields.{is_over_long}
+use Rattle.line_reader.specs.declared.answers.ReadStop.{ReadStop}
+use Rattle.line_reader.specs.declared.answers.ReadStop.TheVariants.{SourceFailed, TooLong}
+use Rattle.line_reader.specs.declared.limits.Limits.{Limits}
+use Rattle.line_reader.specs.Limits.{IsWithinLimits}
+use Rattle.line_reader.specs.Reader.{ReaderState, HasGiven, IsAtEnd, IsNextLine, IsShown, IsStopped}
+use Rattle.line_reader.proofs.LineParts.{ended-after_whole, first-within}
+use Rattle.ride_ports.specs.Bytes.{Reads, Writes, WritesPrefix}
+use Rattle.ride_ports.specs.declared.outcome.Ran.{Ran}
+use Rattle.ride_ports.proofs.ByteLemmas.{Reads-to_end, Reads-told, Writes-none, WritesPrefix-of_first}
+use Rattle.booking_desk.specs.declared.feed_desk.FeedDesk.{FeedDesk}
+use Rattle.booking_desk.specs.declared.stops.Stop.{Stop}
+use Rattle.booking_desk.specs.declared.stops.Stop.TheVariants.{NoMemory, SinkFailed, OfFeed}
+use Rattle.booking_desk.specs.BookLines.{calls_in}
+use Rattle.booking_desk.specs.BookText.{feed_limits, last_line_after, most_bookings, text_of_lines}
+use Rattle.booking_desk.specs.Booked.{AreFirstOf, IsBooked}
+use Rattle.booking_desk.specs.FeedDesk.{HasRun, IsEnded, is_no_memory, is_source_failed, is_too_long, run_text}
+use Rattle.booking_desk.specs.Output.{HasPut}
+use Rattle.booking_desk.specs.Released.{desk_after}
+use Rattle.booking_desk.proofs.BookedLines.{text-nothing}
+use Rattle.booking_desk.proofs.OutputLemmas.{written-prefix, written-whole}
+
+-- whole lines are the first lines of them and more bytes
+first-of-more : (bytes more : List ℕ) → rest_of bytes ≡ [] → IsPrefix (ended_lines bytes) (lines_of (bytes ++ more))
+first-of-more bytes more whole = (
+  ended_lines more ++ last_line (rest_of (bytes ++ more)),
+  sym (append_assoc (ended_lines bytes) (ended_lines more) (last_line (rest_of (bytes ++ more))))
+      ∙ ap (λ ls. ls ++ last_line (rest_of (bytes ++ more))) (sym (ended-after_whole bytes more whole)),
+)
+
+-- whole lines that were read are the first of a feed
+pub whole-first : (feed left : Option (List ℕ)) (bytes more : List ℕ) → rest_of bytes ≡ [] → Reads feed left (bytes ++ more)
+    → AreFirstOf feed (bytes ++ more) (ended_lines bytes)
+whole-first feed left bytes more whole reads = record {
+  of_taken = first-of-more bytes more whole;
+  of_feed = each feed reads;
+}
+  where
+    each : (o : Option (List ℕ)) → Reads o left (bytes ++ more) → IfSome o (λ all. IsPrefix (ended_lines bytes) (lines_of all))
+    each None r = tt
+    each (Some all) r =
+        let (rest, _, is) = Reads-told all r refl in
+        subst (λ (l : List ℕ). IsPrefix (ended_lines bytes) (lines_of l)) (sym (is ∙ append_assoc bytes more rest))
+        (first-of-more bytes (more ++ rest) whole)
+
+-- all lines are those of a feed that was read to its end
+pub all-first : (feed left : Option (List ℕ)) (taken : List ℕ) → Reads feed left taken → IfSome left (λ rest. rest ≡ []) → AreFirstOf feed taken (lines_of taken)
+all-first feed left taken reads end = record {
+  of_taken = ([], append-nil (lines_of taken));
+  of_feed = each feed (Reads-to_end reads end);
+}
+  where
+    each : (o : Option (List ℕ)) → IfSome o (λ all. taken ≡ all) → IfSome o (λ all. IsPrefix (lines_of taken) (lines_of all))
+    each None h = tt
+    each (Some all) h = subst (λ (l : List ℕ). IsPrefix (lines_of taken) (lines_of l)) h ([], append-nil (lines_of taken))
+
+-- a feed that was stopped in its midst
+pub run-cut : (feed left : Option (List ℕ)) (stop : Stop) (desk : FeedDesk) (reader : ReaderState) (bytes : List ℕ) → HasGiven feed left reader bytes
+    → IsEnded (Some stop) left (bytes ++ reader.pending) desk (ended_lines bytes) → HasRun feed left (Some stop) desk (bytes ++ reader.pending) (ended_lines bytes)
+run-cut feed left stop desk reader bytes given ended = record {
+  reads = given.read.reads;
+  first = whole-first feed left bytes reader.pending given.whole given.read.reads;
+  ended = ended;
+}
+
+-- a line was read that was not booked
+pub run-short : (feed left : Option (List ℕ)) (desk : FeedDesk) (reader : ReaderState) (bytes line : List ℕ) → rest_of bytes ≡ []
+    → IsNextLine feed left reader bytes line → HasRun feed left (Some NoMemory) desk (bytes ++ (line ++ (10 ∷ [] ++ reader.pending))) (ended_lines bytes)
+run-short feed left desk reader bytes line whole next =
+    let is : (bytes ++ line ++ 10 ∷ []) ++ reader.pending ≡ bytes ++ (line ++ (10 ∷ [] ++ reader.pending))
+    = append_assoc (bytes ++ line) (10 ∷ []) reader.pending ∙ append_assoc bytes line (10 ∷ [] ++ reader.pending) in
+    let reads : Reads feed left (bytes ++ (line ++ (10 ∷ [] ++ reader.pending))) = subst (λ (l : List ℕ). Reads feed left l) is next.given.read.reads in
+    record {
+      reads = reads;
+      first = whole-first feed left bytes (line ++ (10 ∷ [] ++ reader.pending)) whole reads;
+      ended = tt;
+    }
+
+-- a last line was read that was not booked
+pub run-short_last : (feed left : Option (List ℕ)) (desk : FeedDesk) (bytes rest : List ℕ) → rest_of bytes ≡ []
+    → IsAtEnd feed left feed_limits bytes rest → HasRun feed left (Some NoMemory) desk (bytes ++ rest) (ended_lines bytes)
+run-short_last feed left desk bytes rest whole next = record {
+  reads = next.reads;
+  first = whole-first feed left bytes rest whole next.reads;
+  ended = tt;
+}
+
+-- a feed that gave no more lines
+pub run-stopped : (feed left : Option (List ℕ)) (stop : ReadStop) (desk : FeedDesk) (bytes : List ℕ) → rest_of bytes ≡ []
+    → (stopped : IsStopped feed left feed_limits bytes stop) → HasRun feed left (Some (OfFeed stop)) desk (bytes ++ stopped.rest) (ended_lines bytes)
+run-stopped feed left stop desk bytes whole stopped = record {
+  reads = stopped.reads;
+  first = whole-first feed left bytes stopped.rest whole stopped.reads;
+  ended = (sym stopped.lines_are, stopped.why);
+}
+
+-- the lines of whole lines and a rest
+pub lines-at_end : (feed left : Option (List ℕ)) (bytes rest : List ℕ) → IsAtEnd feed left feed_limits bytes rest
+    → lines_of (bytes ++ rest) ≡ ended_lines bytes ++ last_line rest
+lines-at_end feed left bytes rest end = (λ i. end.ended_are i ++ last_line (end.rest_is i))
+
+pub last-is : (rest : List ℕ) → rest ≢ [] → last_line rest ≡ rest ∷ []
+last-is [] some = absurd (some refl)
+last-is (b ∷ rest) some = refl
+
+-- a feed that was booked to its end
+pub run-whole : (feed left : Option (List ℕ)) (desk : FeedDesk) (bytes rest : List ℕ) (lines : List (List ℕ))
+    → IsAtEnd feed left feed_limits bytes rest → lines ≡ ended_lines bytes ++ last_line rest → desk.desk ≡ desk_after most_bookings (calls_in lines)
+    → HasRun feed left None desk (bytes ++ rest) lines
+run-whole feed left desk bytes rest lines end are desk_is =
+    let all : lines ≡ lines_of (bytes ++ rest) = are ∙ sym (lines-at_end feed left bytes rest end) in
+    record {
+      reads = end.reads;
+      first = subst (λ (ls : List (List ℕ)). AreFirstOf feed (bytes ++ rest) ls) (sym all) (all-first feed left (bytes ++ rest) end.reads end.to_end);
+      ended = (all, end.within, end.to_end, desk_is);
+    }
+
+-- fewer lines than the limit were booked where one more is read
+pub few-next : (feed left : Option (List ℕ)) (reader : ReaderState) (bytes line : List ℕ) → reader.limits ≡ feed_limits
+    → IsNextLine feed left reader bytes line → length (ended_lines bytes) < 1000000
+few-next feed left reader bytes line limits next =
+    omega (
+      arith,
+      next.given.read.lines_counted,
+      ap length next.lines_are,
+      length-append (ended_lines bytes) (line ∷ []),
+      ap (λ l. l.lines) limits,
+    )
+
+pub few-last : (feed left : Option (List ℕ)) (bytes rest : List ℕ) → IsAtEnd feed left feed_limits bytes rest → rest ≢ []
+    → length (ended_lines bytes) < 1000000
+few-last feed left bytes rest end some =
+    omega (
+      arith,
+      end.within.few_lines,
+      ap length (lines-at_end feed left bytes rest end),
+      length-append (ended_lines bytes) (last_line rest),
+      ap length (last-is rest some),
+    )
+
+-- a line that a reader shows
+pub line-shown : (reader : ReaderState) (whole line : List ℕ) → reader.limits ≡ feed_limits → IsShown reader whole → line ≡ reader.cutter.shown
+    → line ≡ take 200 whole
+line-shown reader whole line limits shown is = is ∙ shown.bytes ∙ ap (λ (l : Limits). take l.line whole) limits
+
+pub over-shown : (reader : ReaderState) (whole : List ℕ) (over : Bool) → reader.limits ≡ feed_limits → IsShown reader whole → over ≡ reader.cutter.over
+    → over ≡ is_over_long whole
+over-shown reader whole over limits shown is = is ∙ shown.over ∙ ap (λ (l : Limits). nat_lt l.line (length whole)) limits
+
+-- the last line was put, which changes no desk
+pub run-held : (feed left : Option (List ℕ)) (desk new : FeedDesk) (taken : List ℕ) (lines : List (List ℕ)) → HasRun feed left None desk taken lines
+    → new.desk ≡ desk.desk → HasRun feed left None new taken lines
+run-held feed left desk new taken lines run same =
+    let (are, within, end, desk_is) = run.ended in
+    record { reads = run.reads; first = run.first; ended = (are, within, end, same ∙ desk_is) }
+
+pub held-after : (feed left : Option (List ℕ)) (desk : FeedDesk) (taken : List ℕ) (lines : List (List ℕ)) → HasRun feed left None desk taken lines
+    → desk.desk ≡ desk_after most_bookings (calls_in lines)
+held-after feed left desk taken lines run = let (are, within, end, desk_is) = run.ended in desk_is
+
+-- nothing is left of a feed that was read to its end
+pub none-left : (feed left : Option (List ℕ)) (stop : Option Stop) (desk : FeedDesk) (taken : List ℕ) (lines : List (List ℕ))
+    → HasRun feed left stop desk taken lines → (desk.output.failed ≡ true → ⊥) → is_no_memory stop ≡ false → is_source_failed stop ≡ false → is_too_long stop ≡ false
+    → IfSome left (λ rest. rest ≡ [])
+none-left feed left None desk taken lines run stood memory source short = let (are, within, end, desk_is) = run.ended in end
+none-left feed left (Some NoMemory) desk taken lines run stood memory source short = absurd (cc memory)
+none-left feed left (Some SinkFailed) desk taken lines run stood memory source short = absurd (stood run.ended)
+none-left feed left (Some (OfFeed SourceFailed)) desk taken lines run stood memory source short = absurd (cc source)
+none-left feed left (Some (OfFeed TooLong)) desk taken lines run stood memory source short = absurd (cc short)
+
+-- what was written of a feed that was booked to its end, or was stopped
+module _ (feed left before after : Option (List ℕ)) (faults n : ℕ) (taken : List ℕ) (lines : List (List ℕ)) (first : AreFirstOf feed taken lines)
+    (desk ended : FeedDesk) (ran : Ran) (bare : ended.output.failed ≡ false → ended.output.page ≡ [])
+    (still : desk.output.failed ≡ true → ended.output.failed ≡ true) (sink : ran.sink_failed ≡ ended.output.failed) where
+  whole-text : (text : List ℕ) → HasPut before after faults n ended.output text → ran.sink_failed ≡ false → Writes before after text
+  whole-text text put stood = written-whole before after faults n ended.output text put (sym sink ∙ stood) bare
+
+  part-text : (text : List ℕ) → HasPut before after faults n ended.output text → ran.sink_failed ≡ true → WritesPrefix before after text
+  part-text text put fell = written-prefix before after faults n ended.output text put (sym sink ∙ fell)
+
+  pub is-booked : (stop : Option Stop) → IsEnded stop left taken desk lines → HasPut before after faults n ended.output (run_text stop lines)
+      → ran.no_memory ≡ is_no_memory stop → ran.source_failed ≡ is_source_failed stop → ran.too_long ≡ is_too_long stop
+      → IsBooked ran feed taken before after
+  is-booked None (are, within, end, desk_is) put memory source long = record {
+    whole = λ written read.
+        subst (λ (ls : List (List ℕ)). Writes before after (text_of_lines ls ++ last_line_after ls)) are (whole-text (run_text None lines) put written.0);
+    cut = λ written stopped. absurd (stopped (source, long));
+    no_memory = λ stood wanting. absurd (let no : true ≡ false = sym wanting ∙ memory in cc);
+    sink_failed = λ fell. (lines, first, part-text (run_text None lines) put fell);
+    within = λ written short. within;
+    too_long = λ is. absurd (let no : true ≡ false = sym is ∙ long in cc);
+  }
+  is-booked (Some NoMemory) none put memory source long = record {
+    whole = λ written read. absurd (let no : false ≡ true = sym written.1 ∙ memory in cc);
+    cut = λ written stopped. absurd (let no : false ≡ true = sym written.1 ∙ memory in cc);
+    no_memory = λ stood wanting. (lines, first, whole-text (text_of_lines lines) put stood);
+    sink_failed = λ fell. (lines, first, WritesPrefix-of_first (last_line_after lines) (part-text (text_of_lines lines) put fell));
+    within = λ written short. absurd (let no : false ≡ true = sym written.1 ∙ memory in cc);
+    too_long = λ is. absurd (let no : true ≡ false = sym is ∙ long in cc);
+  }
+  is-booked (Some SinkFailed) failed put memory source long =
+      let fell : ran.sink_failed ≡ true = sink ∙ still failed in
+      record {
+        whole = λ written read. absurd (let no : false ≡ true = sym written.0 ∙ fell in cc);
+        cut = λ written stopped. absurd (let no : false ≡ true = sym written.0 ∙ fell in cc);
+        no_memory = λ stood wanting. absurd (let no : false ≡ true = sym stood ∙ fell in cc);
+        sink_failed = λ _. (lines, first, WritesPrefix-of_first (last_line_after lines) (part-text (text_of_lines lines) put fell));
+        within = λ written short. absurd (let no : false ≡ true = sym written.0 ∙ fell in cc);
+        too_long = λ is. absurd (let no : true ≡ false = sym is ∙ long in cc);
+      }
+  is-booked (Some (OfFeed SourceFailed)) (are, why) put memory source long = record {
+    whole = λ written read. absurd (let no : false ≡ true = sym read.0 ∙ source in cc);
+    cut = λ written stopped. subst (λ (ls : List (List ℕ)). Writes before after (text_of_lines ls)) are (whole-text (text_of_lines lines) put written.0);
+    no_memory = λ stood wanting. absurd (let no : true ≡ false = sym wanting ∙ memory in cc);
+    sink_failed = λ fell. (lines, first, WritesPrefix-of_first (last_line_after lines) (part-text (text_of_lines lines) put fell));
+    within = λ written short. why;
+    too_long = λ is. absurd (let no : true ≡ false = sym is ∙ long in cc);
+  }
+  is-booked (Some (OfFeed TooLong)) (are, why) put memory source long = record {
+    whole = λ written read. absurd (let no : false ≡ true = sym read.1 ∙ long in cc);
+    cut = λ written stopped. subst (λ (ls : List (List ℕ)). Writes before after (text_of_lines ls)) are (whole-text (text_of_lines lines) put written.0);
+    no_memory = λ stood wanting. absurd (let no : true ≡ false = sym wanting ∙ memory in cc);
+    sink_failed = λ fell. (lines, first, WritesPrefix-of_first (last_line_after lines) (part-text (text_of_lines lines) put fell));
+    within = λ written short. absurd (let no : false ≡ true = sym short ∙ long in cc);
+    too_long = λ is. why;
+  }
+
+-- a feed of which nothing was taken for want of memory
+pub booked-none : (feed before : Option (List ℕ)) (ran : Ran) → ran.sink_failed ≡ false → ran.no_memory ≡ true → ran.too_long ≡ false
+    → IsBooked ran feed [] before before
+booked-none feed before ran stood wanting short = record {
+  whole = λ written read. absurd (let no : false ≡ true = sym written.1 ∙ wanting in cc);
+  cut = λ written stopped. absurd (let no : false ≡ true = sym written.1 ∙ wanting in cc);
+  no_memory = λ _ _. ([], nothing-first, subst (λ t. Writes before before t) (sym text-nothing) (Writes-none before));
+  sink_failed = λ fell. absurd (let no : false ≡ true = sym stood ∙ fell in cc);
+  within = λ written _. absurd (let no : false ≡ true = sym written.1 ∙ wanting in cc);
+  too_long = λ is. absurd (let no : true ≡ false = sym is ∙ short in cc);
+}
+  where
+    each : (o : Option (List ℕ)) → IfSome o (λ all. IsPrefix [] (lines_of all))
+    each None = tt
+    each (Some all) = (lines_of all, refl)
+
+    nothing-first : AreFirstOf feed [] []
+    nothing-first = record { of_taken = (lines_of [], refl); of_feed = each feed }
+
+-- a feed within the limits is not too long
+pub short-enough : (feed left before after : Option (List ℕ)) (taken : List ℕ) (ran : Ran) → Reads feed left taken
+    → IsBooked ran feed taken before after → IfSome feed (λ bytes. IsWithinLimits feed_limits bytes → ran.too_long ≡ false)
+short-enough feed left before after taken ran reads booked = each feed reads
+  where
+    either : (b : Bool) → (b ≡ true → ⊥) → b ≡ false
+    either true not_true = absurd (not_true refl)
+    either false not_true = refl
+
+    each : (o : Option (List ℕ)) → Reads o left taken → IfSome o (λ bytes. IsWithinLimits feed_limits bytes → ran.too_long ≡ false)
+    each None r = tt
+    each (Some bytes) r =
+        let (rest, _, is) = Reads-told bytes r refl in
+        λ within. either ran.too_long (λ long.
+        first-within feed_limits taken rest (subst (λ (l : List ℕ). IsWithinLimits feed_limits l) is within) (booked.too_long long))

@@ -1,0 +1,71 @@
+use Rattle.std.proofs.Common.{◌≡◌, ◌++◌, ◌∷◌, [], ℕ, List, Option, Some, None, refl, sym, subst, ◌∙◌, append-nil}
+use Rattle.std.specs.Prelude.{IfSome}
+use Rattle.ride_model.specs.declared.command.Command.{Command}
+use Rattle.ride_model.specs.Text.{IsSpelledCommand}
+use Rattle.booking_desk.specs.BookText.{request_line, released_text}
+use Rattle.booking_desk.specs.Desk.{Booking, IsRequest, due_of, is_due}
+use Rattle.booking_desk.specs.FeedDesk.{AreSpelled, IsSpelledBooking}
+use Rattle.booking_desk.specs.Output.{HasPut}
+use Rattle.booking_desk.proofs.BookedLines.{due-step}
+use Rattle.booking_desk.proofs.Due.{booking-of, found-holds_so, none-of, release-done, release-step}
+use Rattle.booking_desk.proofs.feed_desk.release_due.Goals as goal
+
+none-from-not_some : {X : Type 0} (o : Option X) → ((x : X) → o ≡ Some x → ⊥) → o ≡ None
+none-from-not_some None h = refl
+none-from-not_some (Some x) h = absurd (h x refl)
+
+pub loop-request-init : goal.loop-request-init
+loop-request-init g c = record {
+  spelled = c.requires.spelled;
+  released = λ calls due is late. record {
+    gone = [];
+    left = due;
+    parts = refl;
+    desk_is = is;
+    late = late;
+    gives = λ before faults text has.
+        subst (λ (t : List ℕ). HasPut before (g.K.Sink.written c.args.out.now) faults (g.K.Sink.faults c.args.out.now) c.args.output.now t)
+        (sym (append-nil text)) has;
+  };
+}
+
+pub put_request-requires-clause-request : goal.put_request-requires-clause-request
+put_request-requires-clause-request g c κs longer =
+    let (b, due, is) = booking-of (due_of c.loop-request.desk) c.in-Some.request (sym c.due.ensures ∙ c.in-Some.is) in
+    subst IsRequest is
+    (found-holds_so IsSpelledBooking (is_due c.loop-request.desk.clock) c.loop-request.desk.held b c.loop-request.invariant.spelled due).request
+
+pub put_request-requires-clause-spelled : goal.put_request-requires-clause-spelled
+put_request-requires-clause-spelled g c κs longer =
+    let (b, due, is) = booking-of (due_of c.loop-request.desk) c.in-Some.request (sym c.due.ensures ∙ c.in-Some.is) in
+    subst (λ (r : Command). IsSpelledCommand 2 r) is
+    (found-holds_so IsSpelledBooking (is_due c.loop-request.desk.clock) c.loop-request.desk.held b c.loop-request.invariant.spelled due).spelled
+
+pub loop-request-preserved : goal.loop-request-preserved
+loop-request-preserved g c =
+    let (b, due, is) = booking-of (due_of c.loop-request.desk) c.in-Some.request (sym c.due.ensures ∙ c.in-Some.is) in
+    let stood : c.loop-request.desk.held ≡ b ∷ c.take_due.new.self.held
+    = subst (λ (o : Option Booking). IfSome o (λ (x : Booking). c.loop-request.desk.held ≡ x ∷ c.take_due.new.self.held)) due
+    c.take_due.ensures.stood_first in
+    record {
+      spelled = (subst (λ (bs : List Booking). AreSpelled bs) stood c.loop-request.invariant.spelled).1;
+      released = λ calls all first late.
+          release-step calls all c.loop-request.desk _ (c.loop-request.invariant.released calls all first late) c.take_due.new.self c.in-Some.request _
+          (sym c.due.ensures ∙ c.in-Some.is) c.take_due.ensures.taken c.take_due.ensures.stood_first
+          (λ gone x same gives before faults text has.
+          subst (λ (t : List ℕ). HasPut before (g.K.Sink.written c.put_request.new.out) faults (g.K.Sink.faults c.put_request.new.out) c.put_request.new.self t)
+          (due-step text gone x)
+          (subst (λ (r : Command). HasPut before (g.K.Sink.written c.put_request.new.out) faults (g.K.Sink.faults c.put_request.new.out) c.put_request.new.self
+          (text ++ released_text gone ++ request_line r)) (sym same)
+          (c.put_request.ensures before faults (text ++ released_text gone) (gives before faults text has))));
+    }
+
+pub returns-clause-desk : goal.returns-clause-desk
+returns-clause-desk g c calls due is late =
+    let none = none-of (due_of c.loop-request.desk) (sym c.due.ensures ∙ none-from-not_some c.due.result c.in_default.not-Some) in
+    (release-done calls due c.loop-request.desk _ (c.loop-request.invariant.released calls due is late) none).0
+
+pub returns-clause-put : goal.returns-clause-put
+returns-clause-put g c calls due before faults text is late has =
+    let none = none-of (due_of c.loop-request.desk) (sym c.due.ensures ∙ none-from-not_some c.due.result c.in_default.not-Some) in
+    (release-done calls due c.loop-request.desk _ (c.loop-request.invariant.released calls due is late) none).1 before faults text has

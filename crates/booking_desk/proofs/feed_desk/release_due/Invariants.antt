@@ -1,0 +1,21 @@
+use Rattle.std.proofs.Common.{◌≡◌, ℕ, ◌++◌, List, Option, length}
+use Rattle.booking_desk.specs.BookText.{released_text}
+use Rattle.booking_desk.specs.Desk.{Booking}
+use Rattle.booking_desk.specs.FeedDesk.{AreDue, AreSpelled, with_due}
+use Rattle.booking_desk.specs.Output.{HasPut}
+use Rattle.booking_desk.specs.Released.{DeskCall, clock_of}
+use Rattle.booking_desk.proofs.Due.{Releases}
+use Rattle.booking_desk.proofs.feed_desk.release_due.Given as goal
+
+-- the first of those that are due were put out and taken
+abbrev pub invariant-loop-request : goal.invariant-loop-request
+invariant-loop-request g l = record {
+  spelled : AreSpelled l.desk.held;
+  released : (calls : List DeskCall) (due : List Booking) → l.initial.desk ≡ with_due calls due → AreDue (clock_of calls) due
+      → Releases calls due l.desk (λ gone. (before : Option (List ℕ)) (faults : ℕ) (text : List ℕ)
+      → HasPut before (g.K.Sink.written l.initial.out) faults (g.K.Sink.faults l.initial.out) l.initial.output text
+      → HasPut before (g.K.Sink.written l.out) faults (g.K.Sink.faults l.out) l.output (text ++ released_text gone));
+}
+
+abbrev pub decreases-loop-request : goal.decreases-loop-request
+decreases-loop-request g l = length l.desk.held

@@ -1,0 +1,90 @@
+-- The plain feed that a feed with bookings gives, line by line.
+use Rattle.std.specs.Prelude.{ℕ, ◌+◌, ◌==◌, if◌then◌else◌, List, [], ◌∷◌, ◌++◌, length, Option, Some, None, codes, decimal}
+use Rattle.std.specs.List.{flat_map}
+use Rattle.line_reader.specs.declared.limits.Limits.{Limits}
+use Rattle.line_text.specs.Fields.{begins_with, is_over_long}
+use Rattle.line_text.specs.Lines.{lines_of}
+use Rattle.ride_model.specs.declared.command.Command.{Command}
+use Rattle.ride_model.specs.declared.command.Command.TheVariants.{Request}
+use Rattle.command_lines.specs.Commands.{spelling_of}
+use Rattle.booking_desk.specs.declared.replies.BookReply.{BookReply}
+use Rattle.booking_desk.specs.declared.replies.BookReply.TheVariants.{Held, Now, Refused}
+use Rattle.booking_desk.specs.BookLines.{call_of, calls_in}
+use Rattle.booking_desk.specs.Desk.{Booking, is_held, reply_to_book}
+use Rattle.booking_desk.specs.Released.{DeskCall, book, unbook, clock, desk_after, released_at}
+
+-- the most bookings of a feed
+abbrev pub most_bookings : ℕ
+most_bookings = 100000
+
+-- the limits of a feed
+abbrev pub feed_limits : Limits
+feed_limits = record { line = 200; bytes = 67108864; lines = 1000000 }
+
+-- bytes as a line
+abbrev pub with_lf : List ℕ → List ℕ
+with_lf bytes = bytes ++ 10 ∷ []
+
+-- the version of the log in whose canonical spelling a request stands: with six numbers where it has no chairs, else with seven
+abbrev pub spelled_for : Command → ℕ
+spelled_for (Request id from to seats latest longest chairs) = if chairs == 0 then 1 else 2
+spelled_for _ = 1
+
+abbrev pub request_line : Command → List ℕ
+request_line request = with_lf (spelling_of (spelled_for request) request)
+
+-- the line of a refusal of the line of a number
+abbrev pub refusal_line : ℕ → ℕ → List ℕ
+refusal_line code number = codes "# refused " ++ decimal code ++ codes " line " ++ decimal number ++ 10 ∷ []
+
+-- the line of how many bookings are held
+abbrev pub held_line : ℕ → List ℕ
+held_line count = codes "# held " ++ decimal count ++ 10 ∷ []
+
+-- what stands for an over-long line: a comment, or a bad line
+abbrev pub over_long_line : List ℕ → List ℕ
+over_long_line line = with_lf (if begins_with 35 line then codes "#" else codes "bad")
+
+-- what an answer to a booking on the line of a number gives
+abbrev pub reply_text : BookReply → ℕ → Command → List ℕ
+reply_text Held number request = []
+reply_text Now number request = request_line request
+reply_text (Refused code) number request = refusal_line code number
+
+-- the lines of requests that are released
+abbrev pub released_text : List Booking → List ℕ
+released_text bookings = flat_map (λ (booking : Booking). request_line booking.request) bookings
+
+-- what a call on the line of a number gives after other calls
+abbrev pub call_text : List DeskCall → ℕ → List ℕ → DeskCall → List ℕ
+call_text calls number line (book release request) =
+    reply_text (reply_to_book (desk_after most_bookings calls) release request) number request
+call_text calls number line (unbook id) =
+    if is_held id (desk_after most_bookings calls).held then [] else refusal_line 21 number
+call_text calls number line (clock time) = with_lf line ++ released_text (released_at most_bookings calls time)
+
+-- what a line gives by what it asks of a desk: a line that asks nothing stands as it is
+abbrev pub asked_text : List DeskCall → ℕ → List ℕ → Option DeskCall → List ℕ
+asked_text calls number line None = with_lf line
+asked_text calls number line (Some call) = call_text calls number line call
+
+-- what the line of a number gives after the calls of the lines before it
+abbrev pub part_of : List DeskCall → ℕ → List ℕ → List ℕ
+part_of calls number line = if is_over_long line then over_long_line line else asked_text calls number line (call_of line)
+
+-- what lines give that follow others
+unfoldable pub parts_after : List (List ℕ) → List (List ℕ) → List ℕ
+parts_after before [] = []
+parts_after before (line ∷ lines) = part_of (calls_in before) (length before + 1) line ++ parts_after (before ++ line ∷ []) lines
+
+-- what the lines of a feed give
+abbrev pub text_of_lines : List (List ℕ) → List ℕ
+text_of_lines lines = parts_after [] lines
+
+-- the last line after them
+abbrev pub last_line_after : List (List ℕ) → List ℕ
+last_line_after lines = held_line (length (desk_after most_bookings (calls_in lines)).held)
+
+-- the plain feed of a feed's bytes
+abbrev pub book_text : List ℕ → List ℕ
+book_text bytes = text_of_lines (lines_of bytes) ++ last_line_after (lines_of bytes)

@@ -1,0 +1,101 @@
+//! What a line asks of a desk.
+ghost use Rattle.std.specs.Prelude.{◌≡◌, ◌∷◌, ℕ, List, IfSome, option_and_then, option_map};
+ghost use Rattle.line_text.specs.Fields.{fields_of, numbers_of};
+ghost use Rattle.ride_model.specs.Text.{IsSpelled, IsSpelledCommand};
+ghost use Rattle.booking_desk.specs.Asked.{IsSpelledAsked, as_call};
+ghost use Rattle.booking_desk.specs.BookLines.{booking_of, call_of_fields, moment_of, unbooking_of};
+
+use line_text::Fields;
+use ride_model::Command;
+
+/// The latest time of a clock, in seconds.
+const LATEST_TIME: u64 = 1_000_000_000;
+
+/// What a line asks of a desk.
+#[derive(Clone, Copy, Debug)]
+pub(crate) enum Asked {
+    /// To book a request for a release.
+    Book { release: u64, request: Command },
+    /// To give up the booking of an id.
+    Unbook { id: u64 },
+    /// To set the clock.
+    Clock { time: u64 },
+}
+
+/// What a line of at most 200 bytes asks of a desk.
+pub(crate) fn asked_by(line: &[u8]) -> Option<Asked>
+    ensures call { option_map as_call result ≡ call_of_fields (fields_of line.now) }
+    ensures spelled { IfSome result IsSpelledAsked }
+{
+    let mut fields = Fields::of(line);
+    let word = fields.next_field()?;
+    if word == b"book".as_slice() {
+        return booking_of(&mut fields);
+    }
+    if word == b"unbook".as_slice() {
+        return unbooking_of(&mut fields);
+    }
+    if word == b"clock".as_slice() {
+        return moment_of(&mut fields);
+    }
+    None
+}
+
+/// The booking of a release and the numbers of a request.
+fn booking_of(fields: &mut Fields<'_>) -> Option<Asked>
+    ensures call { option_map as_call result ≡ option_and_then booking_of (numbers_of fields.old) }
+    ensures spelled { IfSome result IsSpelledAsked }
+{
+    let numbers = fields.numbers::<8>()?;
+    match numbers.as_slice() {
+        [release, id, from, to, seats, latest, longest] => Some(Asked::Book {
+            release: *release,
+            request: Command::Request {
+                id: *id,
+                from: *from,
+                to: *to,
+                seats: *seats,
+                latest: *latest,
+                longest: *longest,
+                chairs: 0,
+            },
+        }),
+        [release, id, from, to, seats, latest, longest, chairs] => Some(Asked::Book {
+            release: *release,
+            request: Command::Request {
+                id: *id,
+                from: *from,
+                to: *to,
+                seats: *seats,
+                latest: *latest,
+                longest: *longest,
+                chairs: *chairs,
+            },
+        }),
+        _ => None,
+    }
+}
+
+/// The unbooking of an id.
+fn unbooking_of(fields: &mut Fields<'_>) -> Option<Asked>
+    ensures call { option_map as_call result ≡ option_and_then unbooking_of (numbers_of fields.old) }
+    ensures spelled { IfSome result IsSpelledAsked }
+{
+    let numbers = fields.numbers::<1>()?;
+    match numbers.as_slice() {
+        [id] => Some(Asked::Unbook { id: *id }),
+        _ => None,
+    }
+}
+
+/// The moment of a time that is in its range.
+fn moment_of(fields: &mut Fields<'_>) -> Option<Asked>
+    ensures call { option_map as_call result ≡ option_and_then moment_of (numbers_of fields.old) }
+    ensures spelled { IfSome result IsSpelledAsked }
+{
+    let numbers = fields.numbers::<1>()?;
+    match numbers.as_slice() {
+        [time] if *time <= LATEST_TIME => Some(Asked::Clock { time: *time }),
+        _ => None,
+    }
+}
