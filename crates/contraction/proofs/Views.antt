@@ -1,6 +1,6 @@
 -- The hierarchy that a contract sees is that of the graph.
-use Rattle.std.proofs.Common.{◌≡◌, ℕ, ◌<◌, inl, inr, List, length, get_or, sym, ◌∙◌, subst, arith}
-use Rattle.std.specs.Prelude.{Contains}
+use Rattle.std.proofs.Common.{◌≡◌, ℕ, ◌<◌, inl, inr, Bool, false, List, length, get_or, sym, ◌∙◌, subst, arith}
+use Rattle.std.specs.Prelude.{Contains, All}
 use Rattle.std.proofs.lemmas.List.{get_or-map, length-map}
 use Rattle.std.proofs.lemmas.List.Elements.{All-from_get_or}
 use Rattle.ride_model.specs.declared.network.RoadArc.{RoadArc}
@@ -29,38 +29,42 @@ linked_from_contains links arc (place, below, is) =
     (place, low, sym (arc-at links place arc low) ∙ is)
 
 -- the two ways to say that a graph is a hierarchy
-pub graph_from_contraction : (roads : RoadMap) (graph : Graph) → IsContractionOf roads (contracted_of graph) → IsHierarchyGraph roads graph
+pub graph_from_contraction : (roads : RoadMap) (graph : Graph) → IsContractionOf roads (contracted_of false graph) → IsHierarchyGraph roads graph
 graph_from_contraction roads graph h =
     hierarchy-grown (Contains roads.arcs) (Contains (arcs_of graph.links.items)) (IsLinked graph.links.items) (level_in graph.levels.items) (length graph.order.items) h
     (linked_from_contains graph.links.items) (λ arc there. inl (contains_from_linked graph.links.items arc there))
 
-pub contraction_from_graph : (roads : RoadMap) (graph : Graph) → IsHierarchyGraph roads graph → IsContractionOf roads (contracted_of graph)
+pub contraction_from_graph : (roads : RoadMap) (graph : Graph) → IsHierarchyGraph roads graph → IsContractionOf roads (contracted_of false graph)
 contraction_from_graph roads graph h =
     hierarchy-grown (Contains roads.arcs) (IsLinked graph.links.items) (Contains (arcs_of graph.links.items)) (level_in graph.levels.items) (length graph.order.items) h
     (contains_from_linked graph.links.items) (λ arc there. inl (linked_from_contains graph.links.items arc there))
 
 -- what keeps a hierarchy of a graph keeps what a contract sees
 pub kept-seen : (roads : RoadMap) (old new : Graph) → (IsHierarchyGraph roads old → IsHierarchyGraph roads new)
-    → IsContractionOf roads (contracted_of old) → IsContractionOf roads (contracted_of new)
+    → IsContractionOf roads (contracted_of false old) → IsContractionOf roads (contracted_of false new)
 kept-seen roads old new keeps h = contraction_from_graph roads new (keeps (graph_from_contraction roads old h))
+
+-- while no node is contracted, each has the level of the core
+begun-level : (graph : Graph) → IsGraph graph → length graph.order.items ≡ 0 → (x : ℕ) → level_in graph.levels.items x ≡ 4294967295
+begun-level graph is none x = elim (is.ordered.cored x) [
+  | inl low ↦ absurd (omega (arith, none))
+  | inr live ↦ live
+]
+
+pub begun-levels : (graph : Graph) → IsGraph graph → length graph.order.items ≡ 0 → All (λ level. level ≡ 4294967295) graph.levels.items
+begun-levels graph is none = All-from_get_or (λ level. level ≡ 4294967295) graph.levels.items 4294967295 (λ x low. begun-level graph is none x)
 
 -- the graph of a map is a hierarchy of it
 pub begun-contraction : (roads : RoadMap) (graph : Graph) → IsGraph graph → arcs_of graph.links.items ≡ roads.arcs → length graph.order.items ≡ 0
-    → IsContractionOf roads (contracted_of graph)
+    → IsContractionOf roads (contracted_of false graph)
 begun-contraction roads graph is arcs none =
     subst (λ links. IsHierarchy (Contains roads.arcs) (Contains links) (level_in graph.levels.items) (length graph.order.items)) (sym arcs)
     (subst (IsHierarchy (Contains roads.arcs) (Contains roads.arcs) (level_in graph.levels.items)) (sym none)
-    (hierarchy-none (Contains roads.arcs) (level_in graph.levels.items) (λ x y. high x ∙ sym (high y))))
-  where
-    high : (x : ℕ) → level_in graph.levels.items x ≡ 4294967295
-    high x = elim (is.ordered.cored x) [
-      | inl low ↦ absurd (omega (arith, none))
-      | inr live ↦ live
-    ]
+    (hierarchy-none (Contains roads.arcs) (level_in graph.levels.items) (λ x y. begun-level graph is none x ∙ sym (begun-level graph is none y))))
 
 -- what a contract may know of the arcs and levels
-pub fit-seen : (graph : Graph) → IsGraph graph → IsFitContraction (contracted_of graph)
-fit-seen graph is = record {
+pub fit-seen : (is_spent : Bool) (graph : Graph) → IsGraph graph → IsFitContraction (contracted_of is_spent graph)
+fit-seen is_spent graph is = record {
   arcs_fit = All-from_get_or (IsArc (record { nodes = graph.nodes; arcs = arcs_of graph.links.items })) (arcs_of graph.links.items) (no_link).arc
       (λ place below.
       let low : place < length graph.links.items = omega (arith, length-map graph.links.items (λ (link : Link). link.arc), below) in

@@ -1,16 +1,18 @@
 -- What a contract sees of a map that is being contracted.
-use Rattle.std.specs.Prelude.{◌≡◌, ℕ, ◌+◌, List, length, All}
+use Rattle.std.specs.Prelude.{◌≡◌, ℕ, ◌+◌, Bool, List, length, All}
 use Rattle.ride_model.specs.declared.network.RoadArc.{RoadArc}
 use Rattle.ride_model.specs.Road.{RoadMap, IsArc}
 use Rattle.hierarchy_laws.specs.Hierarchy.{IsHierarchyOf}
 use Rattle.contraction.specs.Levels.{level_in, IsOrdered}
 
--- the number of nodes, the arcs and shortcuts, the level of each node, and the contracted nodes in the order of their levels
+-- the number of nodes, the arcs and shortcuts, the level of each node, the contracted nodes in the order of their levels, and
+-- whether no more are contracted: none is left, or a budget is spent
 pub record Contracted : Type 0 where
   pub nodes : ℕ
   pub arcs : List RoadArc
   pub levels : List ℕ
   pub order : List ℕ
+  pub is_spent : Bool
 
 -- it is a hierarchy of a map
 abbrev pub IsContractionOf : RoadMap → Contracted → Type 0

@@ -5,7 +5,7 @@
 //! searches and its budget stand in no contract.
 #![tactic(auto)]
 
-ghost use Rattle.std.specs.Prelude.{◌≡◌, ℕ, ◌+◌, ◌<◌, ◌≤◌, length, Some, IfOk, IfSome, slice_get, slice_index_or};
+ghost use Rattle.std.specs.Prelude.{◌≡◌, ℕ, ◌+◌, ◌<◌, ◌≤◌, [], length, All, Some, IfOk, IfSome, IsTrue, IsFalse, ◌↔◌, Ok, false, slice_get, slice_index_or};
 ghost use Rattle.ride_model.specs.Road.{RoadMap};
 ghost use Rattle.radix_queue.specs.Queue.{Queue};
 ghost use Rattle.contraction.specs.Contracted.{IsContractionOf, IsFitContraction};
@@ -49,6 +49,7 @@ pub struct Contraction {
     outs: Vec<Neighbor>,
     most_links: usize,
     work_left: u64,
+    is_spent: bool,
 }
 
 impl Model for Contraction {
@@ -61,7 +62,7 @@ impl Model for Contraction {
     ghost use Rattle.contraction.specs.Graph.{IsGraph};
     ghost use Rattle.contraction.specs.Witness.{IsRoomy};
 
-    ghost view = { λ c. contracted_of c.graph };
+    ghost view = { λ c. contracted_of c.is_spent c.graph };
 
     ghost invariant = { λ c. IsGraph c.graph × IsRoomy c.graph.nodes c.witness × (length c.queue.keys ≡ c.graph.nodes + 1) };
 }
@@ -88,6 +89,10 @@ impl Contraction {
     pub fn new(alloc: Global, map: &Network) -> Result<Contraction, NoMemory>
         ensures hierarchy { IfOk result (IsContractionOf map.now) }
         ensures nodes { IfOk result (λ contraction. contraction.nodes ≡ map.now.nodes) }
+        ensures arcs { IfOk result (λ contraction. contraction.arcs ≡ map.now.arcs) }
+        ensures order { IfOk result (λ contraction. contraction.order ≡ []) }
+        ensures unspent { IfOk result (λ contraction. IsFalse contraction.is_spent) }
+        ensures core { IfOk result (λ contraction. All (λ level. level ≡ 4294967295) contraction.levels) }
     {
         let arcs = map.arcs().len();
         let most_links = arcs + arcs / 2 + arcs;
@@ -104,6 +109,7 @@ impl Contraction {
             outs: Vec::new(alloc),
             most_links,
             work_left: MOST_WORK * (u64::from(map.nodes()) + arcs as u64),
+            is_spent: false,
         })
     }
 
@@ -112,6 +118,7 @@ impl Contraction {
     fn step(&mut self) -> Result<Option<u64>, NoMemory>
         ensures hierarchy { (roads : RoadMap) → IsContractionOf roads self.old → IsContractionOf roads self.new }
         ensures nodes { self.new.nodes ≡ self.old.nodes }
+        ensures spent { self.new.is_spent ≡ self.old.is_spent }
     {
         if self.work_left == 0 {
             return Ok(None);
@@ -166,19 +173,32 @@ impl Contraction {
     }
 
     /// Contracts nodes until so many links were looked at. Answers whether more is left to contract: false where no node is
-    /// left, or where the budget of shortcuts or of work is spent; then the rest stays as the core.
+    /// left, or where the budget of shortcuts or of work is spent; then the rest stays as the core, for good.
     pub fn contract_some(&mut self, fuel: u64) -> Result<bool, NoMemory>
         ensures hierarchy { (roads : RoadMap) → IsContractionOf roads self.old → IsContractionOf roads self.new }
         ensures nodes { self.new.nodes ≡ self.old.nodes }
+        ensures spent { IfOk result (λ more. IsFalse more ↔ IsTrue self.new.is_spent) }
+        ensures over { IsTrue self.old.is_spent → (self.new ≡ self.old) × (result ≡ Ok false) }
     {
+        if self.is_spent {
+            return Ok(false);
+        }
         let mut left = fuel;
         while left > 0 {
             let Some(work) = self.step()? else {
+                self.is_spent = true;
                 return Ok(false);
             };
             left = left.saturating_sub(work.max(1));
         }
         Ok(true)
+    }
+
+    /// Whether no more nodes are contracted: none is left, or a budget is spent.
+    pub fn is_spent(&self) -> bool
+        ensures { result ≡ self.now.is_spent }
+    {
+        self.is_spent
     }
 
     /// The number of nodes.

@@ -69,7 +69,9 @@ fn expect_contracted(
 ) -> Result<(), Fail> {
     let map = network(rt, alloc, nodes, arcs)?;
     let mut contraction = Contraction::new(alloc, &map)?;
+    assert!(rt; contraction.order().is_empty() && !contraction.is_spent());
     assert!(rt; contract_by_steps(&mut contraction)?);
+    assert!(rt; contraction.is_spent());
     assert_eq!(rt; contraction.order().len(), nodes as usize);
     assert_eq!(rt; contraction.nodes(), nodes);
     assert_eq!(rt; contraction.levels().len(), nodes as usize + 1);

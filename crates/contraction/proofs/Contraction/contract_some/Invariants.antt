@@ -1,4 +1,5 @@
 use Rattle.std.proofs.Common.{◌≡◌}
+use Rattle.std.specs.Prelude.{IsFalse}
 use Rattle.ride_model.specs.Road.{RoadMap}
 use Rattle.contraction.specs.Contracted.{IsContractionOf}
 use Rattle.contraction.proofs.Contraction.contract_some.Given as goal
@@ -7,6 +8,7 @@ abbrev pub invariant-loop-left : goal.invariant-loop-left
 invariant-loop-left l = record {
   hierarchy : (roads : RoadMap) → IsContractionOf roads l.initial.self → IsContractionOf roads l.self;
   nodes : l.self.nodes ≡ l.initial.self.nodes;
+  unspent : IsFalse l.self.is_spent;
 }
 
 abbrev pub decreases-loop-left : goal.decreases-loop-left

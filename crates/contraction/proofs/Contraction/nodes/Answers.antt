@@ -4,4 +4,4 @@ use Rattle.contraction.proofs.Views.{fit-seen}
 use Rattle.contraction.proofs.Contraction.nodes.Goals as goal
 
 pub returns-clause-fits : goal.returns-clause-fits
-returns-clause-fits c = subst IsFitContraction c.self.view_is (fit-seen c.self.inside.graph c.self.invariant.0)
+returns-clause-fits c = subst IsFitContraction c.self.view_is (fit-seen c.self.inside.is_spent c.self.inside.graph c.self.invariant.0)

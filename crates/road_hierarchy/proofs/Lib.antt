@@ -1,0 +1,9 @@
+pub mod Parts
+pub mod Turning
+pub mod Grouping
+pub mod Marking
+pub mod Selecting
+pub mod Packing
+pub mod Sweeping
+pub mod Labels
+pub mod Choosing

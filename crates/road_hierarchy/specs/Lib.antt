@@ -1,0 +1,9 @@
+pub mod Links
+pub mod Parts
+pub mod Descents
+pub mod Marks
+pub mod Packed
+pub mod Selection
+pub mod Sweep
+pub mod Rows
+pub mod Served
