@@ -1,0 +1,12 @@
+pub mod Filled
+pub mod Orders
+pub mod OverGrids
+pub mod Raising
+pub mod Keeping
+pub mod Steps
+pub mod Commits
+pub mod Following
+pub mod Watching
+pub mod FewVehicles
+pub mod BegunWatches
+pub mod SheetTexts

@@ -1,0 +1,52 @@
+-- The texts of sheets.
+use Rattle.std.proofs.Common.{◌≡◌, ℕ, List, [], ◌∷◌, ◌++◌, map, ap, sym, ◌∙◌, append_assoc, append-nil}
+use Rattle.std.specs.Prelude.{codes, decimal}
+use Rattle.ride_model.specs.Text.{amount_field, line_of}
+use Rattle.trip_log.specs.Prints.{fields_then, listed}
+use Rattle.trip_log.proofs.PrintsLemmas.{fields_then-append, fields_then-map, fields_then-more, line-fields}
+use Rattle.idle_moves.specs.declared.moves.Move.{Move}
+use Rattle.idle_moves.specs.declared.moves.MoveSheet.{MoveSheet}
+use Rattle.idle_moves.specs.AheadText.{order_field, sheet_line}
+
+-- the start of a line
+pub start_text : (batch cost : List ℕ)
+    → (codes "moves " ++ batch) ++ (codes " cost " ++ cost) ≡ codes "moves" ++ fields_then (batch ∷ codes "cost" ∷ cost ∷ []) []
+start_text batch cost =
+    append_assoc (codes "moves ") batch (codes " cost " ++ cost)
+    ∙ ap (λ more. codes "moves " ++ (batch ++ (codes " cost " ++ more))) (sym (append-nil cost))
+
+-- the head
+pub head_text : (reach : List ℕ) → (codes "ahead 1 reach " ++ reach) ++ 10 ∷ [] ≡ line_of (codes "ahead" ∷ codes "1" ∷ codes "reach" ∷ reach ∷ [])
+head_text reach = append_assoc (codes "ahead 1 reach ") reach (10 ∷ [])
+
+-- the lists of a line
+module _ (moves : List Move) (prices pays : List (ℕ × ℕ)) where
+  abbrev fields : List (List ℕ)
+  fields = map order_field moves ++ (codes "prices" ∷ map amount_field prices) ++ (codes "pays" ∷ map amount_field pays)
+
+  abbrev last : List ℕ
+  last = codes " pays" ++ (listed amount_field pays ++ 10 ∷ [])
+
+  lists_text : fields_then fields (10 ∷ [])
+      ≡ listed order_field moves ++ (codes " prices" ++ (listed amount_field prices ++ last))
+  lists_text =
+      fields_then-append (map order_field moves ++ (codes "prices" ∷ map amount_field prices)) (codes "pays" ∷ map amount_field pays) (10 ∷ [])
+      ∙ ap (λ more. fields_then (map order_field moves ++ (codes "prices" ∷ map amount_field prices)) (codes " pays" ++ more))
+      (fields_then-map amount_field pays (10 ∷ []))
+      ∙ fields_then-append (map order_field moves) (codes "prices" ∷ map amount_field prices) last
+      ∙ ap (λ more. fields_then (map order_field moves) (codes " prices" ++ more)) (fields_then-map amount_field prices last)
+      ∙ fields_then-map order_field moves (codes " prices" ++ (listed amount_field prices ++ last))
+
+-- the text of a line
+pub sheet_text : (sheet : MoveSheet) (moves : List Move) (prices pays : List (ℕ × ℕ)) → moves ≡ sheet.moves → prices ≡ sheet.prices
+    → pays ≡ sheet.pays
+    → (codes "moves" ++ fields_then (decimal sheet.batch ∷ codes "cost" ∷ decimal sheet.cost ∷ []) [])
+    ++ (codes " goes" ++ (listed order_field moves ++ (codes " prices" ++ (listed amount_field prices
+    ++ (codes " pays" ++ (listed amount_field pays ++ 10 ∷ [])))))) ≡ sheet_line sheet
+sheet_text sheet moves prices pays moves_are prices_are pays_are =
+    let start : List (List ℕ) = decimal sheet.batch ∷ codes "cost" ∷ decimal sheet.cost ∷ [] in
+    append_assoc (codes "moves") (fields_then start []) _
+    ∙ ap (λ more. codes "moves" ++ more) (fields_then-more start _)
+    ∙ ap (λ more. codes "moves" ++ fields_then start (codes " goes" ++ more)) (sym (lists_text moves prices pays))
+    ∙ line-fields (codes "moves") (decimal sheet.batch ∷ codes "cost" ∷ decimal sheet.cost ∷ codes "goes" ∷ fields moves prices pays)
+    ∙ (λ i. sheet_line (record sheet { moves = moves_are i; prices = prices_are i; pays = pays_are i }))

@@ -1,0 +1,41 @@
+use Rattle.std.proofs.Common.{◌≡◌, ◌+◌, ℕ, List, length, map, take, drop, sym, ap, subst, ◌∙◌, arith}
+use Rattle.ride_model.specs.declared.entry.Entry.{Entry}
+use Rattle.turn_lock.specs.Passes.{knowledge}
+use Rattle.fleet_board.specs.Passes.{Known}
+use Rattle.idle_moves.specs.Raises.{HasRoomFor, after_entries}
+use Rattle.idle_moves.specs.Watch.{Watched, Watches, watched_ids}
+use Rattle.idle_moves.proofs.Raising.{ids-entries}
+use Rattle.idle_moves.proofs.Watching.{room-for, watches-more, watches-on}
+use Rattle.idle_moves.proofs.watch.VersionWatch.catch_up.Goals as goal
+
+-- what the watch knew is so of what the pass has now seen
+known : (k : Known) (watch inside : Watched) → inside ≡ watch → Watches k watch → Watches k inside
+known k watch inside is w = subst (Watches k) (sym is) w
+
+pub take_entries-requires : goal.take_entries-requires
+take_entries-requires g c =
+    let old : Known = knowledge c.args.pass.now in
+    let new : Known = knowledge c.tail.new.pass in
+    let inside : Watched = record { place = c.self.inside.place; versions = c.self.inside.versions.entries } in
+    let watches = watches-on old new inside c.in_ok-tail.ensures.none (known old c.args.self.now inside c.self.view_is c.requires.watches) in
+    subst (λ (entries : List Entry). HasRoomFor entries inside.versions) (sym (c.as_slice.ensures.value ∙ c.in_ok-tail.ensures.entries))
+    (room-for new inside c.args.most c.in_ok-tail.ensures.point watches (omega (arith, c.seen.ensures, c.if-seen-gt-MOST_ENTRIES.false)))
+
+pub returns-clause-watches : goal.returns-clause-watches
+returns-clause-watches g c =
+    let old : Known = knowledge c.args.pass.now in
+    let new : Known = knowledge c.tail.new.pass in
+    let inside : Watched = record { place = c.self.inside.place; versions = c.self.inside.versions.entries } in
+    let after : Watched = record { place = c.self.inside.place + c.len.result; versions = c.take_entries.new.versions.entries } in
+    let watches = watches-on old new inside c.in_ok-tail.ensures.none (known old c.args.self.now inside c.self.view_is c.requires.watches) in
+    let next : List Entry = take c.args.most (drop inside.place new.seen) in
+    let entries : c.as_slice.result.now ≡ next = c.as_slice.ensures.value ∙ c.in_ok-tail.ensures.entries in
+    let count : c.len.result ≡ length next = c.len.ensures ∙ sym c.as_slice.ensures.len ∙ ap length entries in
+    watches-more new inside c.args.most c.in_ok-tail.ensures.point watches after (ap (λ n. inside.place + n) count)
+    (c.take_entries.ensures ∙ ap (λ (es : List Entry). after_entries es inside.versions) entries)
+
+pub returns-clause-vehicles : goal.returns-clause-vehicles
+returns-clause-vehicles g c =
+    ap (map (λ (item : ℕ × ℕ). item.0)) c.take_entries.ensures
+    ∙ ids-entries c.as_slice.result.now c.self.inside.versions.entries
+    ∙ ap watched_ids c.self.view_is

@@ -1,0 +1,117 @@
+//! The grid of travel times from vehicles to requests.
+ghost use Rattle.std.specs.Prelude.{◌≡◌, ◌≢◌, ℕ, ◌+◌, ◌*◌, ◌^◌, ◌<◌, ◌≤◌, ◌++◌, [], List, Option, length, map, All, IfOk, IfSome};
+ghost use Rattle.std.specs.List.{flat_map};
+ghost use Rattle.ride_model.specs.declared.vehicle.Ride.{Ride};
+ghost use Rattle.ride_model.specs.Road.{IsNode};
+ghost use Rattle.idle_moves.specs.Sheet.{within};
+ghost use Rattle.idle_moves.specs.Standby.{cells_of};
+ghost use Rattle.idle_moves.specs.Filling.{BeginsWith, with_cell};
+
+use dual_check::Grid;
+use ride_model::{NoMemory, Ride};
+use road_times::{Roads, Scratch, Side};
+use std::alloc::Global;
+
+// A travel time that is within reach.
+fn within(reach: u64, time: Option<u64>) -> Option<u64>
+    ensures time { result ≡ within reach time }
+    ensures limit { IfSome result (λ seconds. seconds ≤ reach) }
+{
+    match time {
+        Some(seconds) if seconds <= reach => Some(seconds),
+        _ => None,
+    }
+}
+
+// Writes an amount into a cell, if there is one.
+fn write_cell(grid: &mut Grid, row: u32, column: u32, amount: Option<u64>)
+    requires row_in { row < grid.old.rows }
+    requires column_in { column < grid.old.columns }
+    requires small { IfSome amount (λ a. a < 2 ^ 42) }
+    ensures { grid.new ≡ with_cell grid.old (row * grid.old.columns + column) amount }
+{
+    if let Some(amount) = amount {
+        grid.set(row, column, amount);
+    }
+}
+
+// Writes the times within reach into a row of a grid that has no amounts there.
+fn fill_row(grid: &mut Grid, row: u32, reach: u64, times: &[Option<u64>])
+    requires row_in { row < grid.old.rows }
+    requires columns { length times.now ≡ grid.old.columns }
+    requires reach_limit { reach ≤ 1000000 }
+    ensures rows_stay { grid.new.rows ≡ grid.old.rows }
+    ensures columns_stay { grid.new.columns ≡ grid.old.columns }
+    ensures filled { (before : List (Option ℕ)) → length before ≡ row * grid.old.columns → BeginsWith before grid.old
+        → BeginsWith (before ++ map (within reach) times.now) grid.new }
+{
+    for column in 0..grid.columns() {
+        write_cell(grid, row, column, within(reach, times[column as usize]));
+    }
+}
+
+// Writes the times within reach of each request into its row.
+fn fill_rows(
+    grid: &mut Grid,
+    requests: &[Ride],
+    nodes: &[u32],
+    reach: u64,
+    roads: &Roads,
+    scratch: &mut Scratch,
+    times: &mut [Option<u64>],
+)
+    requires few { length requests.now ≤ 128 }
+    requires rows { length requests.now ≡ grid.old.rows }
+    requires columns { length nodes.now ≡ grid.old.columns }
+    requires places { length nodes.now ≡ length times.old }
+    requires reach_limit { reach ≤ 1000000 }
+    requires pickups { All (λ (ride : Ride). IsNode roads.now ride.from) requests.now }
+    requires stands { All (IsNode roads.now) nodes.now }
+    requires scratch { scratch.old.nodes ≡ roads.now.nodes }
+    requires empty { BeginsWith [] grid.old }
+    ensures rows_stay { grid.new.rows ≡ grid.old.rows }
+    ensures columns_stay { grid.new.columns ≡ grid.old.columns }
+    ensures filled { grid.new.cells ≡ cells_of roads.now reach requests.now nodes.now }
+    ensures scratch { scratch.new ≡ scratch.old }
+{
+    for (row, ride) in requests.iter().enumerate() {
+        roads.rows(scratch, ride.from, Side::Back, nodes, times);
+        fill_row(grid, row as u32, reach, times);
+    }
+}
+
+/// The grid of the times within reach, with a row for each request and a column for each of the nodes where vehicles stand.
+pub(crate) fn times_grid(
+    alloc: Global,
+    requests: &[Ride],
+    nodes: &[u32],
+    reach: u64,
+    roads: &Roads,
+    scratch: &mut Scratch,
+) -> Result<Grid, NoMemory>
+    requires few_rows { length requests.now ≤ 128 }
+    requires few_columns { length nodes.now ≤ 1000 }
+    requires reach_limit { reach ≤ 1000000 }
+    requires pickups { All (λ (ride : Ride). IsNode roads.now ride.from) requests.now }
+    requires stands { All (IsNode roads.now) nodes.now }
+    requires scratch { scratch.old.nodes ≡ roads.now.nodes }
+    ensures grid { IfOk result (λ grid. grid ≡ record {
+      rows = length requests.now;
+      columns = length nodes.now;
+      cells = cells_of roads.now reach requests.now nodes.now;
+    }) }
+    ensures scratch { scratch.new ≡ scratch.old }
+{
+    let mut grid = Grid::new(alloc, requests.len() as u32, nodes.len() as u32)?;
+    let mut times = vec![in alloc; None; nodes.len()]?;
+    fill_rows(
+        &mut grid,
+        requests,
+        nodes,
+        reach,
+        roads,
+        scratch,
+        times.as_mut_slice(),
+    );
+    Ok(grid)
+}
