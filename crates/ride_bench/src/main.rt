@@ -1,10 +1,11 @@
 //! Times the parts of the dispatcher whose speed matters, each by a word: `new_york` for rows of travel times, `read_map FILE`
 //! for the reading of a map, `grids` for least pairings, `places` for the cheapest places in a plan, `shared` for calls of a board
-//! that threads share. With no word it prints the answers of small ones, with no times.
+//! that threads share, `bookings` for a day of bookings. With no word it prints the answers of small ones, with no times.
 #![tactic(auto)]
 
 mod assignment;
 mod boards;
+mod bookings;
 mod grid;
 mod places;
 mod reading;
@@ -30,15 +31,17 @@ where
         rows::small(rt, alloc)?;
         assignment::product(rt, alloc)?;
         places::small(rt)?;
-        return shared::small(rt, alloc);
+        shared::small(rt, alloc)?;
+        return bookings::small(rt, alloc);
     };
     match (word.as_str(), words.next()) {
+        ("bookings", None) => bookings::bookings(rt, alloc),
         ("grids", None) => assignment::grids(rt, alloc),
         ("places", None) => places::places(rt),
         ("shared", None) => shared::shared(rt, alloc),
         ("new_york", None) => rows::new_york(rt, alloc),
         ("read_map", Some(name)) => reading::time_map(rt, alloc, name),
-        _ => bail!("grids, new_york, places, shared, or read_map and a file's name"),
+        _ => bail!("bookings, grids, new_york, places, shared, or read_map and a file's name"),
     }
 }
 

@@ -14,3 +14,4 @@ pub mod Ends
 pub mod Services
 pub mod Completing
 pub mod Drills
+pub mod Bookings

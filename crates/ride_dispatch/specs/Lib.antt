@@ -7,3 +7,4 @@ pub mod Sessions
 pub mod Audits
 pub mod Asks
 pub mod Drills
+pub mod Bookings

@@ -1,5 +1,5 @@
 -- What the words of the program ask for.
-use Rattle.std.specs.Prelude.{◌≡◌, ◌⊎◌, ℕ, ◌≤◌, ◌&&◌, nat_le, if◌then◌else◌, true, Bool, List, [], ◌∷◌, length, take, slice_index_or, codes, bytes_eq, string_bytes, Option, Some, None, option_and_then, option_map, ⊤, Result, Ok, Err, MatchResult}
+use Rattle.std.specs.Prelude.{◌≡◌, ◌⊎◌, ℕ, ◌≤◌, ◌&&◌, nat_le, String, if◌then◌else◌, true, Bool, List, [], ◌∷◌, length, take, slice_index_or, codes, bytes_eq, string_bytes, Option, Some, None, option_and_then, option_map, ⊤, Result, Ok, Err, MatchResult}
 use Rattle.line_text.specs.Numbers.{number_of}
 use Rattle.ride_model.specs.Text.{IsOneOrTwo}
 use Rattle.clap.specs.Walk.{Rule, first_of}
@@ -9,7 +9,7 @@ use Rattle.clap.specs.Kinds.{Kinds}
 use Rattle.clap.specs.declared.builder.action.ArgAction.TheVariants.{Set}
 use Rattle.city_maker.specs.declared.plan.CityPlan.{CityPlan}
 use Rattle.ride_dispatch.specs.declared.words.Ask.{Ask}
-use Rattle.ride_dispatch.specs.declared.words.Ask.TheVariants.{ForDrill, OverFiles}
+use Rattle.ride_dispatch.specs.declared.words.Ask.TheVariants.{ForDrill, OfBookings, OverFiles}
 use Rattle.ride_dispatch.specs.declared.words.Wish.{Wish}
 use Rattle.ride_dispatch.specs.declared.words.Wish.TheVariants.{Replay, Audit, Serve}
 use Rattle.ride_dispatch.specs.declared.words.WordsError.{WordsError}
@@ -51,6 +51,9 @@ abbrev pub drill_command : App
 drill_command =
     with_option (with_option (with_option (with_option (bare_command (codes "drill")) (codes "side")) (codes "vehicles")) (codes "requests"))
     (codes "seed")
+
+abbrev pub book_command : App
+book_command = with_option (bare_command (codes "book")) (codes "feed")
 
 -- what was found, where no fault was
 abbrev pub unless : Kinds → Option (List ℕ) → Option (List ℕ)
@@ -119,6 +122,14 @@ drill_wish words =
 unfoldable pub drill_of : List (List ℕ) → Option CityPlan
 drill_of words = if bytes_eq (first_word words) (codes "drill") then drill_wish words else None
 
+-- the name of the feed of bookings that the words ask for, where the first of them does
+unfoldable pub book_of : List (List ℕ) → Option (List ℕ)
+book_of words = if bytes_eq (first_word words) (codes "book") then value_of book_command words (codes "feed") else None
+
+-- the words are not in order: they ask for nothing
+abbrev pub AskForNothing : List (List ℕ) → Type 0
+AskForNothing words = (wish_of words ≡ None) × (drill_of words ≡ None) × (book_of words ≡ None)
+
 -- what a wish that was read asks for
 abbrev pub wanted_by : Wish → Wanted
 wanted_by (Replay map fleet feed) = a_replay (string_bytes map) (string_bytes fleet) (string_bytes feed)
@@ -140,11 +151,16 @@ IsWishOf wanted outcome =
 abbrev pub IsPlanOf : Option CityPlan → Result CityPlan WordsError → Type 0
 IsPlanOf plan outcome = MatchResult outcome (λ found. plan ≡ Some found) (λ error. error ≡ Refused → plan ≡ None)
 
--- words were read: they ask for a run over files, or for a drill; or they were refused, or memory was wanting
+-- words that ask for this text were read: it was found, or they were refused; or memory was wanting
+abbrev pub IsTextOf : {A : Type 0} → Option (List ℕ) → Result (String A) WordsError → Type 0
+IsTextOf text outcome = MatchResult outcome (λ found. text ≡ Some (string_bytes found)) (λ error. error ≡ Refused → text ≡ None)
+
+-- words were read: they ask for a run over files, for a drill or for bookings; or they were refused, or memory was wanting
 abbrev pub IsAskOf : List (List ℕ) → Result Ask WordsError → Type 0
-IsAskOf words (Ok (OverFiles wish)) = (wish_of words ≡ Some (wanted_by wish)) × (drill_of words ≡ None)
-IsAskOf words (Ok (ForDrill plan)) = (wish_of words ≡ None) × (drill_of words ≡ Some plan)
-IsAskOf words (Err error) = error ≡ Refused → (wish_of words ≡ None) × (drill_of words ≡ None)
+IsAskOf words (Ok (OverFiles wish)) = (wish_of words ≡ Some (wanted_by wish)) × (drill_of words ≡ None) × (book_of words ≡ None)
+IsAskOf words (Ok (ForDrill plan)) = (wish_of words ≡ None) × (drill_of words ≡ Some plan) × (book_of words ≡ None)
+IsAskOf words (Ok (OfBookings feed)) = (wish_of words ≡ None) × (drill_of words ≡ None) × (book_of words ≡ Some (string_bytes feed))
+IsAskOf words (Err error) = error ≡ Refused → AskForNothing words
 
 -- the names of a wish, in the order of the options: those of the map and the fleet file, and the others
 abbrev pub map_name : Wanted → List ℕ

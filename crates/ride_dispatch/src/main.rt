@@ -3,8 +3,10 @@
 
 mod answering;
 mod auditing;
+mod booking;
 mod drilling;
 mod files;
+mod messages;
 mod refusals;
 mod replaying;
 mod serving;
@@ -14,6 +16,7 @@ mod tests;
 mod top;
 mod words;
 
+use messages::Report;
 use ride_ports::{FileShelf, OpenGate, Sink, StdoutSink, write_all};
 use std::env::{self, Env};
 use std::io;
@@ -34,6 +37,14 @@ fn main(rt: HostRuntime) -> ExitCode {
         &mut out,
         &OpenGate,
     );
+    let report = Report {
+        status,
+        words: words.as_slice(),
+        asked: shelf.asked(),
+        file_fault: shelf.last_fault(),
+        output_fault: out.last_fault(),
+    };
+    report.tell(&rt);
     ExitCode::from(status)
 }
 

@@ -4,6 +4,7 @@ ghost use Rattle.ride_ports.specs.Calls.{ArePieces};
 ghost use Rattle.ride_ports.specs.MemFile.{HaveDistinctNames, HavePieces};
 
 mod audits;
+mod bookings;
 mod drawn;
 mod drills;
 mod edges;

@@ -1,22 +1,23 @@
 //! The words after the program's name.
-ghost use Rattle.std.specs.Prelude.{◌≡◌, ◌<◌, bytes_eq, length, map, None, string_bytes, IfOk, MatchBool};
+ghost use Rattle.std.specs.Prelude.{◌≡◌, ◌<◌, bytes_eq, codes, length, map, None, string_bytes, IfOk, MatchBool};
 ghost use Rattle.city_maker.specs.Plan.{IsPlan};
-ghost use Rattle.ride_dispatch.specs.Words.{audit_wish, drill_of, drill_wish, first_word, replay_wish, serve_wish, wish_of, IsAskOf, IsInRange, IsPlanOf, IsWishOf};
+ghost use Rattle.ride_dispatch.specs.Words.{audit_wish, book_command, book_of, drill_of, drill_wish, first_word, replay_wish, serve_wish, value_of, wish_of, IsAskOf, IsInRange, IsPlanOf, IsTextOf, IsWishOf};
 ghost use Rattle.ride_dispatch.specs.Asks.{IsAskInRange};
 
 mod commands;
 mod values;
 
 use city_maker::CityPlan;
-use commands::{audit_command, drill_command, replay_command, serve_command};
+use commands::{audit_command, book_command, drill_command, replay_command, serve_command};
 use std::alloc::Global;
 use values::{number, read_by, text};
 
-/// What the words ask for: a run over files, or a drill.
+/// What the words ask for: a run over a map, a fleet file and others, a drill, or a run over the feed of bookings of a name.
 #[derive(Drop)]
 pub enum Ask {
     OverFiles(Wish),
     ForDrill(CityPlan),
+    OfBookings(String),
 }
 
 /// A run over files, with a variant for each first word.
@@ -61,22 +62,50 @@ pub fn read_ask(alloc: Global, words: &[String]) -> Result<Ask, WordsError>
             Err(error) => return Err(error),
         }
     }
+    if asks_for_bookings(words) {
+        match book_words(alloc, words) {
+            Ok(feed) => return Ok(Ask::OfBookings(feed)),
+            Err(error) => return Err(error),
+        }
+    }
     match read_words(alloc, words) {
         Ok(wish) => Ok(Ask::OverFiles(wish)),
         Err(error) => Err(error),
     }
 }
 
-// Whether the words ask for a drill, and so for no run over files.
+// Whether the words ask for a drill, and so for nothing else.
 fn asks_for_drill(words: &[String]) -> bool
     ensures { MatchBool result
-        ((wish_of (map string_bytes words.now) ≡ None) × (drill_of (map string_bytes words.now) ≡ drill_wish (map string_bytes words.now)))
+        ((wish_of (map string_bytes words.now) ≡ None) × (drill_of (map string_bytes words.now) ≡ drill_wish (map string_bytes words.now))
+        × (book_of (map string_bytes words.now) ≡ None))
         (drill_of (map string_bytes words.now) ≡ None) }
 {
     if words.is_empty() {
         return false;
     }
     begins(words, "drill")
+}
+
+// Whether the words ask for bookings, and so for nothing else.
+fn asks_for_bookings(words: &[String]) -> bool
+    ensures { MatchBool result
+        ((wish_of (map string_bytes words.now) ≡ None) × (drill_of (map string_bytes words.now) ≡ None)
+        × (book_of (map string_bytes words.now) ≡ value_of book_command (map string_bytes words.now) (codes "feed")))
+        (book_of (map string_bytes words.now) ≡ None) }
+{
+    if words.is_empty() {
+        return false;
+    }
+    begins(words, "book")
+}
+
+// The option of bookings.
+fn book_words(alloc: Global, words: &[String]) -> Result<String, WordsError>
+    ensures { IsTextOf (value_of book_command (map string_bytes words.now) (codes "feed")) result }
+{
+    let given = read_by(book_command(alloc)?, words)?;
+    text(alloc, &given, "feed")
 }
 
 // The options of a drill.

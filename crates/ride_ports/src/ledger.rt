@@ -1,5 +1,5 @@
 //! What a shelf keeps of its calls.
-ghost use Rattle.std.specs.Prelude.{◌≡◌, ◌<◌, ◌≤◌, ◌+◌, length, string_bytes};
+ghost use Rattle.std.specs.Prelude.{◌≡◌, ◌<◌, ◌≤◌, ◌+◌, length, map, string_bytes};
 ghost use Rattle.std.specs.Option.{option_copied};
 ghost use Rattle.ride_ports.specs.Contents.{given_back};
 ghost use Rattle.ride_ports.specs.Count.{most_count, raised};
@@ -69,6 +69,13 @@ impl<'a> Ledger<'a> {
         ensures { result ≡ self.now.faults }
     {
         self.faults
+    }
+
+    /// The names that were asked for, in order.
+    pub(crate) fn asked(&self) -> &[String]
+        ensures { map string_bytes result.now ≡ self.now.asked }
+    {
+        self.asked.as_slice()
     }
 
     /// Keeps the name, and answers the number of the call from 1.

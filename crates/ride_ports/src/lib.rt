@@ -16,7 +16,7 @@ mod sinks;
 mod sources;
 mod sure;
 
-pub use files::{FileShelf, FileSource, StdoutSink};
+pub use files::{FileFault, FileShelf, FileSource, StdoutSink};
 pub use gates::{Gate, OpenGate};
 pub use mem_shelf::{MemFile, MemShelf};
 pub use mem_sink::MemSink;

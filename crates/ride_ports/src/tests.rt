@@ -179,6 +179,7 @@ fn a_file_shelf_opens_files_and_counts_its_faults(rt: HostRuntime) -> Result<(),
             .is_err()
     );
     assert_eq!(rt; shelf.faults(), 1);
+    assert_eq!(rt; failed_last(&shelf), Some(2));
 
     // A folder is opened, and its reads fail.
     let mut folder = shelf
@@ -191,8 +192,15 @@ fn a_file_shelf_opens_files_and_counts_its_faults(rt: HostRuntime) -> Result<(),
     assert_eq!(rt; shelf.faults(), 1);
     shelf.give_back(folder);
     assert_eq!(rt; shelf.faults(), 2);
+    assert_eq!(rt; failed_last(&shelf), Some(3));
     fs::remove_file(&rt, "a_file_of_the_test")?;
     Ok(())
+}
+
+// The number of the file that failed last.
+fn failed_last<R>(shelf: &FileShelf<'_, R>) -> Option<usize> {
+    let fault = shelf.last_fault()?;
+    Some(fault.number)
 }
 
 #[test]

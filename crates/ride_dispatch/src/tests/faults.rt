@@ -1,4 +1,5 @@
 //! Words that are not in order, files that are missing, reads and writes that fail, and files beyond their limits.
+use super::serving::serve_words;
 use super::texts::{Part, text_of};
 use super::{AUDIT, FEED, File, LINE, LOG, ONE_BY_ONE, PIECES, REPLAY, ROOM, Setup, answer_to};
 use std::process::Abort;
@@ -413,6 +414,7 @@ enum Failing {
     Map,
     Fleet,
     Feed,
+    Drivers,
     Log,
 }
 
@@ -431,6 +433,10 @@ fn one_failing<'a>(files: Setup<'a>, which: Failing, read: &'a [u64]) -> Setup<'
             feed: File::new(files.feed.bytes, &[7], read),
             ..files
         },
+        Failing::Drivers => Setup {
+            drivers: File::new(files.drivers.bytes, &[7], read),
+            ..files
+        },
         Failing::Log => Setup {
             log: File::new(files.log.bytes, &[7], read),
             ..files
@@ -447,15 +453,21 @@ fn each_read_fails_in_turn(rt: HostRuntime) -> Result<(), Fail> {
         fleet.as_bytes(),
         FEED.as_bytes(),
         LOG.as_bytes(),
-    );
+    )
+    .with_drivers(File::whole(b"clock 0\n"));
+    let serve = serve_words("1", "1");
     // A file of n bytes is read n / 7 times, and once more at its end.
     for (words, which, reads) in [
-        (&REPLAY, Failing::Map, 10),
-        (&REPLAY, Failing::Fleet, 5),
-        (&REPLAY, Failing::Feed, 6),
-        (&AUDIT, Failing::Map, 10),
-        (&AUDIT, Failing::Fleet, 5),
-        (&AUDIT, Failing::Log, 30),
+        (REPLAY.as_slice(), Failing::Map, 10),
+        (REPLAY.as_slice(), Failing::Fleet, 5),
+        (REPLAY.as_slice(), Failing::Feed, 6),
+        (AUDIT.as_slice(), Failing::Map, 10),
+        (AUDIT.as_slice(), Failing::Fleet, 5),
+        (AUDIT.as_slice(), Failing::Log, 30),
+        (serve.as_slice(), Failing::Map, 10),
+        (serve.as_slice(), Failing::Fleet, 5),
+        (serve.as_slice(), Failing::Feed, 6),
+        (serve.as_slice(), Failing::Drivers, 3),
     ] {
         for read in 1..=reads {
             let answer = answer_to(&rt, words, one_failing(files, which, &[read]))?;
@@ -507,5 +519,22 @@ fn a_replay_in_pieces_of_any_length(rt: HostRuntime) -> Result<(), Fail> {
         assert_eq!(rt; answer.text(), LOG);
         assert_eq!(rt; answer.status, 0);
     }
+    Ok(())
+}
+
+// The lines of a session have no one order, but one length together.
+#[test]
+fn a_sink_of_a_session_that_fails_is_full(rt: HostRuntime) -> Result<(), Fail> {
+    let map = text_of(rt.alloc(), LINE)?;
+    let fleet = text_of(rt.alloc(), ONE_BY_ONE)?;
+    let files = Setup::whole(map.as_bytes(), fleet.as_bytes(), FEED.as_bytes(), b"");
+    let words = serve_words("1", "1");
+    let all = LOG.len() + "f2 end\n".len();
+    for room in 0..all {
+        let answer = answer_to(&rt, &words, files.with_room(room))?;
+        assert_eq!(rt; (answer.status, answer.written.len()), (6, room));
+    }
+    let answer = answer_to(&rt, &words, files.with_room(all))?;
+    assert_eq!(rt; (answer.status, answer.written.len()), (0, all));
     Ok(())
 }

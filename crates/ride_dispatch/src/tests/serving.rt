@@ -149,7 +149,7 @@ d1 end\n",
     },
 ];
 
-fn serve_words<'a>(workers: &'a str, desks: &'a str) -> [&'a str; 13] {
+pub(super) fn serve_words<'a>(workers: &'a str, desks: &'a str) -> [&'a str; 13] {
     [
         "serve",
         "--map",

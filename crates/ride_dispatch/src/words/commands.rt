@@ -2,7 +2,7 @@
 ghost use Rattle.std.specs.Prelude.{◌≡◌, false, Err, IfOk, OnErr};
 ghost use Rattle.clap.specs.Simple.{app_of};
 ghost use Rattle.clap.specs.Walk.{rule_of};
-ghost use Rattle.ride_dispatch.specs.Words.{audit_command, bare_command, drill_command, option_rule, over_map_and_fleet, replay_command, serve_command, with_option};
+ghost use Rattle.ride_dispatch.specs.Words.{audit_command, bare_command, book_command, drill_command, option_rule, over_map_and_fleet, replay_command, serve_command, with_option};
 
 use super::WordsError;
 use clap::{Arg, ArgAction, Command};
@@ -47,6 +47,14 @@ pub fn drill_command<'a>(alloc: Global) -> Result<Command<'a>, WordsError>
     let command = with_option(command, alloc, "vehicles")?;
     let command = with_option(command, alloc, "requests")?;
     with_option(command, alloc, "seed")
+}
+
+/// The command of bookings.
+pub fn book_command<'a>(alloc: Global) -> Result<Command<'a>, WordsError>
+    ensures command { IfOk result (λ command. app_of command ≡ book_command) }
+    ensures stopped { OnErr result (result ≡ Err WordsError.NoMemory) }
+{
+    with_option(bare_command(alloc, "book"), alloc, "feed")
 }
 
 // A command of this name over a map and a fleet file.

@@ -1,6 +1,7 @@
 use Rattle.std.proofs.Common.{refl, map}
 use Rattle.std.specs.Prelude.{string_bytes}
-use Rattle.ride_dispatch.specs.Words.{drill_of}
+use Rattle.ride_dispatch.specs.Words.{book_of, drill_of}
+use Rattle.ride_dispatch.proofs.Bookings.{unread-bookings}
 use Rattle.ride_dispatch.proofs.Drills.{unread-words}
 use Rattle.ride_dispatch.proofs.Runs.{of-some}
 use Rattle.ride_dispatch.proofs.top.run_words.Goals as goal
@@ -12,3 +13,7 @@ returns-in-Ok-OverFiles-clause-complete g c =
 pub returns-in-Err-NoMemory-clause-drilled : goal.returns-in-Err-NoMemory-clause-drilled
 returns-in-Err-NoMemory-clause-drilled g c =
     unread-words (drill_of (map string_bytes c.args.words.now)) _ c.requires.none_asked c.requires.none_brought c.requires.none_back refl refl
+
+pub returns-in-Err-NoMemory-clause-booked : goal.returns-in-Err-NoMemory-clause-booked
+returns-in-Err-NoMemory-clause-booked g c =
+    unread-bookings (book_of (map string_bytes c.args.words.now)) _ c.requires.none_asked c.requires.none_brought c.requires.none_back refl
