@@ -6,7 +6,7 @@ failed=0
 
 # The status and the text that these words should give: status 2 and `words refused`.
 refused() {
-    said="$("$program" "$@")"
+    said="$("$program" "$@" 2> /dev/null)"
     status=$?
     if [ "$status" != 2 ] || [ "$said" != "words refused" ]; then
         printf 'words %q: status %s, %s\n' "$*" "$status" "$said"
@@ -18,4 +18,5 @@ refused
 refused plan
 refused $'\xff'
 refused replay --map $'map\xff' --fleet f --feed r
+refused book --feed r --map m
 exit "$failed"
