@@ -1,8 +1,6 @@
 -- What an audit's answer tells of its status, and of the bytes of its log's name.
 use Rattle.std.proofs.Common.{◌≡◌, ◌≢◌, ◌⊎◌, inl, inr, ℕ, ◌≤◌, List, Option, Some, None, Result, Ok, Err, IfSome, refl, subst, arith}
-use Rattle.std.specs.Prelude.{IsSome}
-use Rattle.ride_ports.specs.Bytes.{Reads}
-use Rattle.ride_ports.specs.Contents.{Contents, GivenBack, IsContentOf, bytes_at}
+use Rattle.ride_ports.specs.Contents.{Contents, GivenBack, IsContentOf}
 use Rattle.ride_model.specs.State.{State, start_state}
 use Rattle.log_audit.specs.Audit.{IsAnswer}
 use Rattle.log_audit.specs.Audited.{FailsAfter}
@@ -11,10 +9,9 @@ use Rattle.log_audit.specs.declared.verdict.AuditFault.TheVariants.{ReadFault, T
 use Rattle.board_core.specs.declared.totals.Totals.{Totals}
 use Rattle.log_audit.specs.declared.verdict.Verdict.{Verdict}
 use Rattle.log_audit.specs.declared.verdict.Verdict.TheVariants.{Yes, No}
-use Rattle.log_audit.specs.Limits.{IsTooLong}
 use Rattle.ride_dispatch.specs.Answers.{told_bytes}
 use Rattle.ride_dispatch.specs.Audits.{EndsAudit, EndsBy, IsAudited}
-use Rattle.ride_dispatch.specs.Files.{IsLeftOf, IsLogWithin, IsSpent}
+use Rattle.ride_dispatch.specs.Files.{IsLogWithin, IsSpent}
 use Rattle.ride_dispatch.proofs.Bringing.{left-of, left-of-content}
 
 module _ (before after : Option (List ℕ)) (faults_before faults_after : ℕ) where

@@ -1,5 +1,5 @@
 -- Runs over a feed of bookings: one whose feed was not brought, one whose feed ran, and one that memory was wanting for.
-use Rattle.std.proofs.Common.{◌≡◌, ◌⊎◌, inl, inr, ℕ, ◌≤◌, List, [], ◌∷◌, length, Option, Some, None, IfSome, refl, ap, sym, subst, ◌∙◌, arith}
+use Rattle.std.proofs.Common.{◌≡◌, ◌⊎◌, inl, inr, ℕ, List, [], ◌∷◌, length, Option, Some, None, IfSome, refl, ap, sym, subst, ◌∙◌, arith}
 use Rattle.std.specs.Prelude.{All}
 use Rattle.ride_ports.specs.Bytes.{Reads}
 use Rattle.ride_ports.specs.Contents.{GivenBack}
@@ -8,7 +8,7 @@ use Rattle.ride_ports.specs.Status.{status_of}
 use Rattle.ride_ports.specs.declared.outcome.Ran.{Ran}
 use Rattle.ride_dispatch.specs.Answers.{told_bytes}
 use Rattle.ride_dispatch.specs.Bookings.{EndsBooking, HasBooked}
-use Rattle.ride_dispatch.specs.Files.{AreGivenBack, IsFeedWithin, IsLeftOf, IsSpent}
+use Rattle.ride_dispatch.specs.Files.{AreGivenBack, IsLeftOf, IsSpent}
 use Rattle.ride_dispatch.specs.Runs.{Seen, Untouched, files_of}
 use Rattle.ride_dispatch.proofs.Statuses.{long-status, ran-status, told-not-long}
 use Rattle.ride_dispatch.proofs.Works.{spent-alone}

@@ -1,5 +1,5 @@
 -- A drill for which memory was wanting before it began.
-use Rattle.std.proofs.Common.{◌≡◌, ◌⊎◌, inl, inr, ℕ, true, false, List, [], Option, Some, None, IfSome, refl, arith, true≢false}
+use Rattle.std.proofs.Common.{◌≡◌, inl, inr, true, false, [], Option, Some, None, IfSome, refl, arith, true≢false}
 use Rattle.city_maker.specs.declared.plan.CityPlan.{CityPlan}
 use Rattle.ride_dispatch.specs.Drills.{EndsDrill}
 use Rattle.ride_dispatch.specs.Runs.{Seen, Untouched}

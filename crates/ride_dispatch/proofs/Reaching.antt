@@ -1,5 +1,5 @@
 -- How far a map and a fleet file came, and what that tells of a run that stopped there.
-use Rattle.std.proofs.Common.{◌≡◌, ℕ, ◌≤◌, List, [], ◌∷◌, length, Option, Result, Ok, Err, IfSome, refl, ap, sym, subst, ◌∙◌, arith}
+use Rattle.std.proofs.Common.{◌≡◌, ℕ, ◌≤◌, List, [], ◌∷◌, length, Option, Result, Ok, Err, IfSome, refl, sym, subst, arith}
 use Rattle.ride_ports.specs.Contents.{GivenBack}
 use Rattle.line_text.specs.Texts.{Format}
 use Rattle.ride_model.specs.Road.{RoadMap}

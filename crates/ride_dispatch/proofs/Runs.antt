@@ -1,5 +1,5 @@
 -- What the status of a run tells, where it stopped over its map or its fleet file, and where it went on.
-use Rattle.std.proofs.Common.{◌≡◌, ◌≢◌, ◌⊎◌, inl, inr, ℕ, ◌+◌, ◌<◌, ◌≤◌, List, [], ◌∷◌, ◌++◌, length, map, take, Option, Some, None, Result, Ok, Err, IfSome, refl, ap, sym, subst, ◌∙◌, arith, length-append}
+use Rattle.std.proofs.Common.{◌≡◌, inl, inr, ℕ, ◌+◌, ◌<◌, ◌≤◌, List, [], ◌∷◌, ◌++◌, length, Option, Some, None, Ok, Err, IfSome, refl, ap, sym, subst, ◌∙◌, arith}
 use Rattle.std.specs.Prelude.{All}
 use Rattle.std.proofs.lemmas.List.Elements.{All-cons}
 use Rattle.ride_ports.specs.Contents.{Contents, GivenBack}
@@ -8,7 +8,7 @@ use Rattle.ride_model.specs.Road.{RoadMap}
 use Rattle.ride_model.specs.declared.settings.Settings.{Settings}
 use Rattle.ride_model.specs.declared.vehicle.Vehicle.{Vehicle}
 use Rattle.ride_dispatch.specs.Answers.{AreTextsOf, PassesLimit, StopsTexts, told_bytes}
-use Rattle.ride_dispatch.specs.Files.{AreGivenBack, BringsTexts, IsLeftOf, IsSpent}
+use Rattle.ride_dispatch.specs.Files.{AreGivenBack, BringsTexts, IsSpent}
 use Rattle.ride_dispatch.specs.Runs.{IsRun, IsWork, Seen, Untouched, files_of}
 use Rattle.ride_dispatch.specs.Words.{Begins, Wanted, fleet_name, map_name, names_of, other_names}
 use Rattle.ride_dispatch.specs.declared.files.Texts.{Texts}

@@ -1,6 +1,6 @@
 -- What a service of two feeds tells of what was taken of them, and of its status.
-use Rattle.std.proofs.Common.{◌≡◌, ◌≢◌, ◌⊎◌, inl, inr, ℕ, ◌≤◌, ◌&&◌, Bool, true, false, List, [], Option, Some, None, IfSome, refl, sym, ap, subst, ◌∙◌, arith}
-use Rattle.std.specs.Prelude.{IsSome, IsTrue}
+use Rattle.std.proofs.Common.{◌≡◌, ◌⊎◌, inl, inr, ℕ, ◌≤◌, ◌&&◌, Bool, true, false, List, [], Option, Some, None, IfSome, refl, sym, subst, ◌∙◌, arith}
+use Rattle.std.specs.Prelude.{IsTrue}
 use Rattle.std.specs.List.{list_all, range_with_len}
 use Rattle.ride_ports.specs.Bytes.{Reads}
 use Rattle.ride_ports.specs.Contents.{Contents, GivenBack, IsContentOf, bytes_at}
@@ -11,15 +11,15 @@ use Rattle.ride_ports.proofs.ByteLemmas.{Reads-none}
 use Rattle.ride_model.specs.History.{ended_whole}
 use Rattle.ride_model.specs.Legal.{replay}
 use Rattle.ride_model.specs.Road.{RoadMap}
-use Rattle.ride_model.specs.State.{State, start_state}
+use Rattle.ride_model.specs.State.{start_state}
 use Rattle.ride_model.specs.declared.command.Actor.TheVariants.{Feed}
 use Rattle.ride_model.specs.declared.settings.Settings.{Settings}
 use Rattle.ride_model.specs.declared.vehicle.Vehicle.{Vehicle}
 use Rattle.command_lines.specs.Limits.{IsTooLong}
-use Rattle.session_run.specs.Serving.{FeedRun, HasNotServed, HasServed, IsFeedOf, feed_run}
+use Rattle.session_run.specs.Serving.{FeedRun, feed_run}
 use Rattle.ride_dispatch.specs.Answers.{told_bytes}
-use Rattle.ride_dispatch.specs.Files.{IsFeedWithin, IsLeftOf, IsSpent}
-use Rattle.ride_dispatch.specs.Sessions.{AreBytesOf, EndsService, IsServed, IsService, feed_of}
+use Rattle.ride_dispatch.specs.Files.{IsFeedWithin}
+use Rattle.ride_dispatch.specs.Sessions.{AreBytesOf, EndsService, IsServed, feed_of}
 use Rattle.ride_dispatch.proofs.Ends.{ending-whole}
 use Rattle.ride_dispatch.proofs.Statuses.{NoneWanting, below-or-at, long-status, told-not-long}
 

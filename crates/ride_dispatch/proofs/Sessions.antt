@@ -1,5 +1,5 @@
 -- What was given back last, where all names were brought.
-use Rattle.std.proofs.Common.{◌≡◌, ◌∷◌, ◌++◌, [], ℕ, List, Option, subst}
+use Rattle.std.proofs.Common.{◌≡◌, ℕ, List, Option, subst}
 use Rattle.ride_ports.specs.Contents.{Contents, GivenBack}
 use Rattle.ride_model.specs.Road.{RoadMap}
 use Rattle.ride_model.specs.declared.settings.Settings.{Settings}

@@ -1,5 +1,5 @@
 -- How the files of a run are brought, read and given back.
-use Rattle.std.specs.Prelude.{◌≡◌, ◌≢◌, ◌⊎◌, ℕ, ◌≤◌, ⊤, List, [], ◌∷◌, length, Option, Some, Result, Ok, Err, IfSome, IsOk, OnOk, false}
+use Rattle.std.specs.Prelude.{◌≡◌, ℕ, ◌≤◌, ⊤, List, [], ◌∷◌, length, Option, Some, Result, Ok, Err, IfSome, IsOk, OnOk}
 use Rattle.line_text.specs.Texts.{Format, after_ended}
 use Rattle.ride_ports.specs.Bytes.{Reads}
 use Rattle.ride_ports.specs.Contents.{Contents, GivenBack}
@@ -14,7 +14,7 @@ use Rattle.ride_dispatch.specs.Answers.{told_bytes, AreTextsOf}
 use Rattle.ride_dispatch.specs.Words.{Wanted, a_replay, a_service, an_audit}
 use Rattle.ride_dispatch.specs.declared.files.Texts.{Texts}
 use Rattle.ride_dispatch.specs.declared.stop.Stop.{Stop}
-use Rattle.ride_dispatch.specs.declared.stop.Stop.TheVariants.{NoMemory, ShelfFault}
+use Rattle.ride_dispatch.specs.declared.stop.Stop.TheVariants.{ShelfFault}
 
 -- some bytes of a file were taken, and the others were left in the source that was given back
 pub record IsLeftOf (file : Option (List ℕ)) (source : GivenBack) (taken : List ℕ) : Type 0 where

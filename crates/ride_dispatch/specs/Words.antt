@@ -1,5 +1,5 @@
 -- What the words of the program ask for.
-use Rattle.std.specs.Prelude.{◌≡◌, ◌⊎◌, ℕ, ◌≤◌, ◌&&◌, nat_le, String, if◌then◌else◌, true, Bool, List, [], ◌∷◌, length, take, slice_index_or, codes, bytes_eq, string_bytes, Option, Some, None, option_and_then, option_map, ⊤, Result, Ok, Err, MatchResult}
+use Rattle.std.specs.Prelude.{◌≡◌, ◌⊎◌, ℕ, ◌≤◌, ◌&&◌, nat_le, String, if◌then◌else◌, true, List, [], ◌∷◌, length, take, slice_index_or, codes, bytes_eq, string_bytes, Option, Some, None, option_and_then, option_map, ⊤, Result, Ok, Err, MatchResult}
 use Rattle.line_text.specs.Numbers.{number_of}
 use Rattle.ride_model.specs.Text.{IsOneOrTwo}
 use Rattle.clap.specs.Walk.{Rule, first_of}
