@@ -6,6 +6,7 @@ ghost use Rattle.ride_model.specs.Text.{HasLine, IsOneOrTwo};
 ghost use Rattle.ride_model.specs.Vehicle.{IsLawful};
 
 mod batches;
+mod bookings;
 mod cities;
 mod days;
 mod drills;
