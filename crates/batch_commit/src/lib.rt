@@ -11,6 +11,3 @@ pub use answers::Answer;
 pub use batches::Batch;
 pub use solved::{Solved, decide};
 pub use tables::PriceTable;
-
-#[cfg(test)]
-mod tests;

@@ -1,6 +1,7 @@
 //! Boards of one vehicle over four nodes in a line.
-ghost use Rattle.std.specs.Prelude.{◌≡◌, [], ◌^◌, ◌≤◌, All, IfOk};
+ghost use Rattle.std.specs.Prelude.{◌≡◌, [], ◌∷◌, ◌^◌, ◌≤◌, All, IfOk};
 ghost use Rattle.ride_model.specs.declared.vehicle.Vehicle.{Vehicle};
+ghost use Rattle.ride_model.specs.Seating.{vehicle_ids};
 ghost use Rattle.ride_model.specs.Settings.{IsSettings};
 ghost use Rattle.ride_model.specs.Text.{HasLine, IsOneOrTwo};
 ghost use Rattle.ride_model.specs.Vehicle.{IsLawful};
@@ -13,6 +14,7 @@ mod drills;
 mod readers;
 mod searches;
 mod shared;
+mod watches;
 
 use arrayvec::ArrayVec;
 use ride_model::{Command, Entry, Fleet, Network, NoMemory, RoadArc, Settings, Vehicle};
@@ -74,6 +76,7 @@ fn fleet(alloc: Global, roads: &Roads) -> Result<Fleet, NoMemory>
     ensures lawful { IfOk result (All (IsLawful roads.now)) }
     ensures idle { IfOk result (λ fleet. All (λ (v : Vehicle). v.stops.items ≡ []) fleet) }
     ensures first_versions { IfOk result (λ fleet. All (λ (v : Vehicle). v.version ≡ 0) fleet) }
+    ensures one { IfOk result (λ fleet. vehicle_ids fleet ≡ 1 ∷ []) }
 {
     let mut vehicles = Vec::with_capacity(alloc, 1)?;
     vehicles.push(Vehicle {

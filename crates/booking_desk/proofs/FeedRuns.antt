@@ -8,18 +8,19 @@ use Rattle.line_reader.specs.declared.answers.ReadStop.{ReadStop}
 use Rattle.line_reader.specs.declared.answers.ReadStop.TheVariants.{SourceFailed, TooLong}
 use Rattle.line_reader.specs.declared.limits.Limits.{Limits}
 use Rattle.line_reader.specs.Limits.{IsWithinLimits}
-use Rattle.line_reader.specs.Reader.{ReaderState, HasGiven, IsAtEnd, IsNextLine, IsShown, IsStopped}
+use Rattle.line_reader.specs.Reader.{ReaderState, IsAtEnd, IsNextLine, IsShown, IsStopped}
 use Rattle.line_reader.proofs.LineParts.{ended-after_whole, first-within}
 use Rattle.ride_ports.specs.Bytes.{Reads, Writes, WritesPrefix}
 use Rattle.ride_ports.specs.declared.outcome.Ran.{Ran}
-use Rattle.ride_ports.proofs.ByteLemmas.{Reads-to_end, Reads-told, Writes-none, WritesPrefix-of_first}
+use Rattle.ride_ports.proofs.ByteLemmas.{Reads-then, Reads-to_end, Reads-told, Writes-none, WritesPrefix-of_first}
+use Rattle.command_lines.specs.Limits.{feed_limits}
 use Rattle.booking_desk.specs.declared.feed_desk.FeedDesk.{FeedDesk}
 use Rattle.booking_desk.specs.declared.stops.Stop.{Stop}
 use Rattle.booking_desk.specs.declared.stops.Stop.TheVariants.{NoMemory, SinkFailed, OfFeed}
 use Rattle.booking_desk.specs.BookLines.{calls_in}
-use Rattle.booking_desk.specs.BookText.{feed_limits, last_line_after, most_bookings, text_of_lines}
+use Rattle.booking_desk.specs.BookText.{last_line_after, most_bookings, text_of_lines}
 use Rattle.booking_desk.specs.Booked.{AreFirstOf, IsBooked}
-use Rattle.booking_desk.specs.FeedDesk.{HasRun, IsEnded, is_no_memory, is_source_failed, is_too_long, run_text}
+use Rattle.booking_desk.specs.FeedDesk.{HasBooked, HasRun, IsEnded, is_no_memory, is_source_failed, is_too_long, run_text}
 use Rattle.booking_desk.specs.Output.{HasPut}
 use Rattle.booking_desk.specs.Released.{desk_after}
 use Rattle.booking_desk.proofs.BookedLines.{text-nothing}
@@ -60,70 +61,58 @@ all-first feed left taken reads end = record {
     each (Some all) h = subst (λ (l : List ℕ). IsPrefix (lines_of taken) (lines_of l)) h ([], append-nil (lines_of taken))
 
 -- a feed that was stopped in its midst
-pub run-cut : (feed left : Option (List ℕ)) (stop : Stop) (desk : FeedDesk) (reader : ReaderState) (bytes : List ℕ) → HasGiven feed left reader bytes
-    → IsEnded (Some stop) left (bytes ++ reader.pending) desk (ended_lines bytes) → HasRun feed left (Some stop) desk (bytes ++ reader.pending) (ended_lines bytes)
-run-cut feed left stop desk reader bytes given ended = record {
-  reads = given.read.reads;
-  first = whole-first feed left bytes reader.pending given.whole given.read.reads;
+pub run-cut : (feed left : Option (List ℕ)) (stop : Stop) (desk : FeedDesk) (bytes more : List ℕ) → rest_of bytes ≡ [] → Reads feed left (bytes ++ more)
+    → IsEnded (Some stop) left (bytes ++ more) desk (ended_lines bytes) → HasRun feed left (Some stop) desk (bytes ++ more) (ended_lines bytes)
+run-cut feed left stop desk bytes more whole reads ended = record {
+  reads = reads;
+  first = whole-first feed left bytes more whole reads;
   ended = ended;
 }
 
--- a line was read that was not booked
-pub run-short : (feed left : Option (List ℕ)) (desk : FeedDesk) (reader : ReaderState) (bytes line : List ℕ) → rest_of bytes ≡ []
-    → IsNextLine feed left reader bytes line → HasRun feed left (Some NoMemory) desk (bytes ++ (line ++ (10 ∷ [] ++ reader.pending))) (ended_lines bytes)
-run-short feed left desk reader bytes line whole next =
-    let is : (bytes ++ line ++ 10 ∷ []) ++ reader.pending ≡ bytes ++ (line ++ (10 ∷ [] ++ reader.pending))
-    = append_assoc (bytes ++ line) (10 ∷ []) reader.pending ∙ append_assoc bytes line (10 ∷ [] ++ reader.pending) in
-    let reads : Reads feed left (bytes ++ (line ++ (10 ∷ [] ++ reader.pending))) = subst (λ (l : List ℕ). Reads feed left l) is next.given.read.reads in
-    record {
-      reads = reads;
-      first = whole-first feed left bytes (line ++ (10 ∷ [] ++ reader.pending)) whole reads;
-      ended = tt;
-    }
+-- what was read, with what came
+pub reads-on : (feed left later : Option (List ℕ)) (bytes pending more : List ℕ) → Reads feed left (bytes ++ pending) → Reads left later more
+    → Reads feed later (bytes ++ (pending ++ more))
+reads-on feed left later bytes pending more reads then = subst (λ (l : List ℕ). Reads feed later l) (append_assoc bytes pending more) (Reads-then reads then)
 
--- a last line was read that was not booked
-pub run-short_last : (feed left : Option (List ℕ)) (desk : FeedDesk) (bytes rest : List ℕ) → rest_of bytes ≡ []
-    → IsAtEnd feed left feed_limits bytes rest → HasRun feed left (Some NoMemory) desk (bytes ++ rest) (ended_lines bytes)
-run-short_last feed left desk bytes rest whole next = record {
-  reads = next.reads;
-  first = whole-first feed left bytes rest whole next.reads;
-  ended = tt;
-}
+-- with the next line
+pub reads-line : (feed left : Option (List ℕ)) (reader : ReaderState) (bytes came line : List ℕ) → Reads feed left (bytes ++ came)
+    → IsNextLine reader bytes came line → Reads feed left ((bytes ++ line ++ 10 ∷ []) ++ reader.pending)
+reads-line feed left reader bytes came line reads next =
+    subst (λ (l : List ℕ). Reads feed left l)
+    (ap (λ l. bytes ++ l) next.parts ∙ sym (append_assoc bytes (line ++ 10 ∷ []) reader.pending)
+    ∙ ap (λ l. l ++ reader.pending) (sym (append_assoc bytes line (10 ∷ [])))) reads
 
 -- a feed that gave no more lines
-pub run-stopped : (feed left : Option (List ℕ)) (stop : ReadStop) (desk : FeedDesk) (bytes : List ℕ) → rest_of bytes ≡ []
-    → (stopped : IsStopped feed left feed_limits bytes stop) → HasRun feed left (Some (OfFeed stop)) desk (bytes ++ stopped.rest) (ended_lines bytes)
-run-stopped feed left stop desk bytes whole stopped = record {
-  reads = stopped.reads;
-  first = whole-first feed left bytes stopped.rest whole stopped.reads;
-  ended = (sym stopped.lines_are, stopped.why);
-}
+pub run-stopped : (feed left : Option (List ℕ)) (stop : ReadStop) (desk : FeedDesk) (bytes came : List ℕ) → rest_of bytes ≡ []
+    → Reads feed left (bytes ++ came) → IsStopped feed_limits bytes came stop → HasRun feed left (Some (OfFeed stop)) desk (bytes ++ came) (ended_lines bytes)
+run-stopped feed left stop desk bytes came whole reads stopped =
+    run-cut feed left (OfFeed stop) desk bytes came whole reads (sym stopped.lines_are, stopped.why)
 
 -- the lines of whole lines and a rest
-pub lines-at_end : (feed left : Option (List ℕ)) (bytes rest : List ℕ) → IsAtEnd feed left feed_limits bytes rest
+pub lines-at_end : (left : Option (List ℕ)) (bytes rest : List ℕ) → IsAtEnd left feed_limits bytes rest
     → lines_of (bytes ++ rest) ≡ ended_lines bytes ++ last_line rest
-lines-at_end feed left bytes rest end = (λ i. end.ended_are i ++ last_line (end.rest_is i))
+lines-at_end left bytes rest end = (λ i. end.ended_are i ++ last_line (end.rest_is i))
 
 pub last-is : (rest : List ℕ) → rest ≢ [] → last_line rest ≡ rest ∷ []
 last-is [] some = absurd (some refl)
 last-is (b ∷ rest) some = refl
 
 -- a feed that was booked to its end
-pub run-whole : (feed left : Option (List ℕ)) (desk : FeedDesk) (bytes rest : List ℕ) (lines : List (List ℕ))
-    → IsAtEnd feed left feed_limits bytes rest → lines ≡ ended_lines bytes ++ last_line rest → desk.desk ≡ desk_after most_bookings (calls_in lines)
+pub run-whole : (feed left : Option (List ℕ)) (desk : FeedDesk) (bytes rest : List ℕ) (lines : List (List ℕ)) → Reads feed left (bytes ++ rest)
+    → IsAtEnd left feed_limits bytes rest → lines ≡ ended_lines bytes ++ last_line rest → desk.desk ≡ desk_after most_bookings (calls_in lines)
     → HasRun feed left None desk (bytes ++ rest) lines
-run-whole feed left desk bytes rest lines end are desk_is =
-    let all : lines ≡ lines_of (bytes ++ rest) = are ∙ sym (lines-at_end feed left bytes rest end) in
+run-whole feed left desk bytes rest lines reads end are desk_is =
+    let all : lines ≡ lines_of (bytes ++ rest) = are ∙ sym (lines-at_end left bytes rest end) in
     record {
-      reads = end.reads;
-      first = subst (λ (ls : List (List ℕ)). AreFirstOf feed (bytes ++ rest) ls) (sym all) (all-first feed left (bytes ++ rest) end.reads end.to_end);
+      reads = reads;
+      first = subst (λ (ls : List (List ℕ)). AreFirstOf feed (bytes ++ rest) ls) (sym all) (all-first feed left (bytes ++ rest) reads end.to_end);
       ended = (all, end.within, end.to_end, desk_is);
     }
 
 -- fewer lines than the limit were booked where one more is read
-pub few-next : (feed left : Option (List ℕ)) (reader : ReaderState) (bytes line : List ℕ) → reader.limits ≡ feed_limits
-    → IsNextLine feed left reader bytes line → length (ended_lines bytes) < 1000000
-few-next feed left reader bytes line limits next =
+pub few-next : (reader : ReaderState) (bytes came line : List ℕ) → reader.limits ≡ feed_limits
+    → IsNextLine reader bytes came line → length (ended_lines bytes) < 1000000
+few-next reader bytes came line limits next =
     omega (
       arith,
       next.given.read.lines_counted,
@@ -132,25 +121,35 @@ few-next feed left reader bytes line limits next =
       ap (λ l. l.lines) limits,
     )
 
-pub few-last : (feed left : Option (List ℕ)) (bytes rest : List ℕ) → IsAtEnd feed left feed_limits bytes rest → rest ≢ []
+pub few-last : (left : Option (List ℕ)) (bytes rest : List ℕ) → IsAtEnd left feed_limits bytes rest → rest ≢ []
     → length (ended_lines bytes) < 1000000
-few-last feed left bytes rest end some =
+few-last left bytes rest end some =
     omega (
       arith,
       end.within.few_lines,
-      ap length (lines-at_end feed left bytes rest end),
+      ap length (lines-at_end left bytes rest end),
       length-append (ended_lines bytes) (last_line rest),
       ap length (last-is rest some),
     )
 
 -- a line that a reader shows
-pub line-shown : (reader : ReaderState) (whole line : List ℕ) → reader.limits ≡ feed_limits → IsShown reader whole → line ≡ reader.cutter.shown
-    → line ≡ take 200 whole
-line-shown reader whole line limits shown is = is ∙ shown.bytes ∙ ap (λ (l : Limits). take l.line whole) limits
+pub line-shown : (reader : ReaderState) (number : ℕ) (whole line : List ℕ) → reader.limits ≡ feed_limits → IsShown reader number whole
+    → line ≡ reader.cutter.shown → line ≡ take 200 whole
+line-shown reader number whole line limits shown is = is ∙ shown.bytes ∙ ap (λ (l : Limits). take l.line whole) limits
 
-pub over-shown : (reader : ReaderState) (whole : List ℕ) (over : Bool) → reader.limits ≡ feed_limits → IsShown reader whole → over ≡ reader.cutter.over
-    → over ≡ is_over_long whole
-over-shown reader whole over limits shown is = is ∙ shown.over ∙ ap (λ (l : Limits). nat_lt l.line (length whole)) limits
+pub over-shown : (reader : ReaderState) (number : ℕ) (whole : List ℕ) (over : Bool) → reader.limits ≡ feed_limits → IsShown reader number whole
+    → over ≡ reader.cutter.over → over ≡ is_over_long whole
+over-shown reader number whole over limits shown is = is ∙ shown.over ∙ ap (λ (l : Limits). nat_lt l.line (length whole)) limits
+
+-- writing what was put changes no lines
+pub booked-written : {before now later : Option (List ℕ)} {faults n m : ℕ} (desk new : FeedDesk) (lines : List (List ℕ)) → new.desk ≡ desk.desk
+    → new.lines ≡ desk.lines → HasPut before later faults m new.output (text_of_lines lines) → HasBooked before now faults n desk lines
+    → HasBooked before later faults m new lines
+booked-written desk new lines desk_same lines_same put booked = record {
+  counted = lines_same ∙ booked.counted;
+  desk_is = desk_same ∙ booked.desk_is;
+  put = put;
+}
 
 -- the last line was put, which changes no desk
 pub run-held : (feed left : Option (List ℕ)) (desk new : FeedDesk) (taken : List ℕ) (lines : List (List ℕ)) → HasRun feed left None desk taken lines

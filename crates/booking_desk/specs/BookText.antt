@@ -1,7 +1,6 @@
 -- The plain feed that a feed with bookings gives, line by line.
 use Rattle.std.specs.Prelude.{ℕ, ◌+◌, ◌==◌, if◌then◌else◌, List, [], ◌∷◌, ◌++◌, length, Option, Some, None, codes, decimal}
 use Rattle.std.specs.List.{flat_map}
-use Rattle.line_reader.specs.declared.limits.Limits.{Limits}
 use Rattle.line_text.specs.Fields.{begins_with, is_over_long}
 use Rattle.line_text.specs.Lines.{lines_of}
 use Rattle.ride_model.specs.declared.command.Command.{Command}
@@ -16,10 +15,6 @@ use Rattle.booking_desk.specs.Released.{DeskCall, book, unbook, clock, desk_afte
 -- the most bookings of a feed
 abbrev pub most_bookings : ℕ
 most_bookings = 100000
-
--- the limits of a feed
-abbrev pub feed_limits : Limits
-feed_limits = record { line = 200; bytes = 67108864; lines = 1000000 }
 
 -- bytes as a line
 abbrev pub with_lf : List ℕ → List ℕ

@@ -5,7 +5,8 @@ use Rattle.line_text.specs.Lines.{lines_of}
 use Rattle.line_reader.specs.Limits.{IsTooLong, IsWithinLimits, lines_within}
 use Rattle.ride_ports.specs.Bytes.{Writes, WritesPrefix}
 use Rattle.ride_ports.specs.declared.outcome.Ran.{Ran}
-use Rattle.booking_desk.specs.BookText.{book_text, feed_limits, last_line_after, text_of_lines}
+use Rattle.command_lines.specs.Limits.{feed_limits}
+use Rattle.booking_desk.specs.BookText.{book_text, last_line_after, text_of_lines}
 
 -- these are the first lines of a feed: of the bytes that were taken, and of all its bytes, where they are told
 pub record AreFirstOf (feed : Option (List ℕ)) (taken : List ℕ) (lines : List (List ℕ)) : Type 0 where

@@ -7,11 +7,12 @@ use Rattle.line_reader.specs.Limits.{IsWithinLimits, lines_within}
 use Rattle.line_reader.specs.Reader.{StopsAt}
 use Rattle.ride_model.specs.Text.{IsSpelledCommand}
 use Rattle.ride_ports.specs.Bytes.{Reads}
+use Rattle.command_lines.specs.Limits.{feed_limits}
 use Rattle.booking_desk.specs.declared.feed_desk.FeedDesk.{FeedDesk}
 use Rattle.booking_desk.specs.declared.stops.Stop.{Stop}
 use Rattle.booking_desk.specs.declared.stops.Stop.TheVariants.{NoMemory, SinkFailed, OfFeed}
 use Rattle.booking_desk.specs.BookLines.{calls_in}
-use Rattle.booking_desk.specs.BookText.{feed_limits, last_line_after, most_bookings, text_of_lines}
+use Rattle.booking_desk.specs.BookText.{last_line_after, most_bookings, text_of_lines}
 use Rattle.booking_desk.specs.Booked.{AreFirstOf}
 use Rattle.booking_desk.specs.Desk.{Booking, DeskState, IsRequest, is_due, new_desk}
 use Rattle.booking_desk.specs.Output.{HasPut}

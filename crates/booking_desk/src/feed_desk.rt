@@ -180,6 +180,8 @@ impl FeedDesk {
 
     /// Writes what is not written yet.
     pub(crate) fn end<K: Sink>(&mut self, out: &mut K)
+        ensures desk { self.new.desk ≡ self.old.desk }
+        ensures lines { self.new.lines ≡ self.old.lines }
         ensures put { (before : Option (List ℕ)) (faults : ℕ) (text : List ℕ)
             → HasPut before (K.written out.old) faults (K.faults out.old) self.old.output text
             → HasPut before (K.written out.new) faults (K.faults out.new) self.new.output text }

@@ -4,7 +4,8 @@ ghost use Rattle.ride_ports.specs.Bytes.{Reads};
 ghost use Rattle.ride_ports.specs.Count.{Rose};
 ghost use Rattle.line_reader.specs.Limits.{IsWithinLimits};
 ghost use Rattle.line_reader.specs.Reader.{HasGiven};
-ghost use Rattle.booking_desk.specs.BookText.{feed_limits, text_of_lines};
+ghost use Rattle.command_lines.specs.Limits.{feed_limits};
+ghost use Rattle.booking_desk.specs.BookText.{text_of_lines};
 ghost use Rattle.booking_desk.specs.Booked.{IsBooked, IsReadWhole, IsUnhindered};
 ghost use Rattle.booking_desk.specs.FeedDesk.{HasRun, IsNew, is_source_failed, run_text};
 ghost use Rattle.booking_desk.specs.Output.{HasPut};
@@ -62,7 +63,8 @@ pub fn book_feed<S: Source, K: Sink>(alloc: Global, feed: &mut S, out: &mut K) -
 /// A reader of a feed and a desk, at their start.
 fn begun(alloc: Global) -> Result<(LineReader, FeedDesk), NoMemory>
     ensures limits { IfOk result (λ made. made.0.limits ≡ feed_limits) }
-    ensures nothing_given { IfOk result (λ made. (left : Option (List ℕ)) → HasGiven left left made.0 []) }
+    ensures nothing_given { IfOk result (λ made. HasGiven made.0 []) }
+    ensures nothing_pending { IfOk result (λ made. made.0.pending ≡ []) }
     ensures nothing_done { IfOk result (λ made. IsNew made.1) }
 {
     let limits = Limits {
@@ -83,7 +85,8 @@ fn run_feed<S: Source, K: Sink>(
     out: &mut K,
 ) -> Option<Stop>
     requires limits { reader.old.limits ≡ feed_limits }
-    requires nothing_given { HasGiven (S.left feed.old) (S.left feed.old) reader.old [] }
+    requires nothing_given { HasGiven reader.old [] }
+    requires nothing_pending { reader.old.pending ≡ [] }
     requires nothing_done { IsNew desk.old }
     ensures ran { (taken : List ℕ) × (lines : List (List ℕ)) × HasRun (S.left feed.old) (S.left feed.new) result desk.new taken lines
         × HasPut (K.written out.old) (K.written out.new) (K.faults out.old) (K.faults out.new) desk.new.output (run_text result lines) }
@@ -108,7 +111,8 @@ fn take_lines<S: Source, K: Sink>(
     out: &mut K,
 ) -> Option<Stop>
     requires limits { reader.old.limits ≡ feed_limits }
-    requires nothing_given { HasGiven (S.left feed.old) (S.left feed.old) reader.old [] }
+    requires nothing_given { HasGiven reader.old [] }
+    requires nothing_pending { reader.old.pending ≡ [] }
     requires nothing_done { IsNew desk.old }
     ensures ran { (taken : List ℕ) × (lines : List (List ℕ)) × HasRun (S.left feed.old) (S.left feed.new) result desk.new taken lines
         × HasPut (K.written out.old) (K.written out.new) (K.faults out.old) (K.faults out.new) desk.new.output (text_of_lines lines) }
@@ -131,8 +135,23 @@ fn take_lines<S: Source, K: Sink>(
             Ok(NextLine::End) => return None,
             Err(stop) => return Some(Stop::OfFeed(stop)),
         }
+        write_before_wait(reader, desk, out);
         if desk.failed() {
             return Some(Stop::SinkFailed);
         }
+    }
+}
+
+/// Writes all that is not written yet, where the feed's next line is waited for.
+fn write_before_wait<K: Sink>(reader: &LineReader, desk: &mut FeedDesk, out: &mut K)
+    ensures written { reader.now.pending ≡ [] → desk.new.output.failed ≡ false → desk.new.output.page ≡ [] }
+    ensures desk { desk.new.desk ≡ desk.old.desk }
+    ensures lines { desk.new.lines ≡ desk.old.lines }
+    ensures put { (before : Option (List ℕ)) (faults : ℕ) (text : List ℕ)
+        → HasPut before (K.written out.old) faults (K.faults out.old) desk.old.output text
+        → HasPut before (K.written out.new) faults (K.faults out.new) desk.new.output text }
+{
+    if reader.is_drained() {
+        desk.end(out);
     }
 }

@@ -14,6 +14,3 @@ mod roads;
 pub use city::{City, CommandList, make_city};
 pub use drivers::next_report;
 pub use plan::CityPlan;
-
-#[cfg(test)]
-mod tests;

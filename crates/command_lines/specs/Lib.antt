@@ -1,4 +1,3 @@
 pub mod Commands
 pub mod Limits
-pub mod Pieces
 pub mod Feeds

@@ -1,8 +1,13 @@
 -- The limits of a feed, and the commands that count of one that passes them.
 use Rattle.std.specs.Prelude.{◌≡◌, ℕ, ◌<◌, ◌≤◌, ◌⊎◌, List, ◌++◌, length, take}
 use Rattle.ride_model.specs.declared.command.Command.{Command}
+use Rattle.line_reader.specs.declared.limits.Limits.{Limits}
 use Rattle.line_text.specs.Lines.{ended_lines, lines_of}
 use Rattle.command_lines.specs.Commands.{commands_from}
+
+-- the limits of a feed
+abbrev pub feed_limits : Limits
+feed_limits = record { line = 200; bytes = 67108864; lines = 1000000 }
 
 -- at most 2^26 bytes and at most 1,000,000 lines
 pub record IsWithinLimits (bytes : List ℕ) : Type 0 where

@@ -1,25 +1,35 @@
 //! The commands of a feed, one after the other.
-ghost use Rattle.std.specs.Prelude.{◌≡◌, ◌≢◌, ℕ, ◌≤◌, ◌++◌, ◌∷◌, [], List, Option, Err, IfOk, IfSome, MatchOption, MatchResult};
+ghost use Rattle.std.specs.Prelude.{◌≡◌, ◌≢◌, ℕ, ◌<◌, ◌≤◌, ◌++◌, ◌∷◌, [], false, List, Option, Err, IfOk, IfSome, MatchBool, MatchOption, MatchResult};
 ghost use Rattle.ride_model.specs.declared.command.Command.{Command};
 ghost use Rattle.ride_model.specs.Text.{IsOneOrTwo, IsSpelledCommand};
 ghost use Rattle.ride_ports.specs.Bytes.{Reads};
 ghost use Rattle.ride_ports.specs.Count.{Rose};
+ghost use Rattle.line_reader.specs.Reader.{IsShown};
 ghost use Rattle.command_lines.specs.declared.pieces.FeedStop.TheVariants.{SourceFailed};
-ghost use Rattle.command_lines.specs.Feeds.{HasGiven, IsStopped, IsWhole};
+ghost use Rattle.command_lines.specs.Commands.{before, said_by};
+ghost use Rattle.command_lines.specs.Feeds.{HasCut, HasGiven, IsStopped, IsWhole, lines_ahead};
 
-use crate::lines::FeedLines;
-use crate::pieces::{FeedStop, Pieces};
+use crate::pieces::FeedStop;
+use crate::reading::read_feed_line;
+use line_reader::{Limits, LineReader, NextLine, ReadStop};
+use line_text::MOST_LINE;
 use ride_model::{Command, NoMemory};
 use ride_ports::Source;
 use std::alloc::Global;
 use std::marker::Model;
 
+/// The most bytes of a feed.
+const MOST_BYTES: usize = 1 << 26;
+/// The most lines of a feed.
+const MOST_LINES: u32 = 1_000_000;
+
 /// Reads the commands of a feed, each as soon as its line has come. A feed has at most 2^26 bytes and 1,000,000 lines.
 #[derive(Drop)]
 pub struct FeedReader {
     log: u8,
-    lines: FeedLines,
-    pieces: Pieces,
+    lines: LineReader,
+    /// Whether the feed was read to its end.
+    ended: bool,
 }
 
 impl Model for FeedReader {
@@ -27,7 +37,7 @@ impl Model for FeedReader {
 
     ghost Value = { FeedState };
 
-    ghost view = { λ r. record { log = r.log; lines = r.lines; pieces = r.pieces } };
+    ghost view = { λ r. record { log = r.log; lines = r.lines; ended = r.ended } };
 }
 
 impl FeedReader {
@@ -37,11 +47,24 @@ impl FeedReader {
         ensures log { IfOk result (λ reader. reader.log ≡ log) }
         ensures nothing_given { IfOk result (λ reader. (left : Option (List ℕ)) → HasGiven reader left [] []) }
     {
+        let limits = Limits {
+            line: MOST_LINE,
+            bytes: MOST_BYTES,
+            lines: MOST_LINES,
+        };
+        let lines = LineReader::new(alloc, limits)?;
         Ok(FeedReader {
             log,
-            lines: FeedLines::new(alloc)?,
-            pieces: Pieces::new(alloc)?,
+            lines,
+            ended: false,
         })
+    }
+
+    /// Whether all that was read is cut into lines, so that the next one is waited for.
+    pub fn is_drained(&self) -> bool
+        ensures { MatchBool result (self.now.lines.pending ≡ []) (self.now.lines.pending ≢ []) }
+    {
+        self.lines.is_drained()
     }
 
     /// The next command, or None after the last. A bad line is a command too. After an error no more is read.
@@ -62,20 +85,59 @@ impl FeedReader {
         ensures other_counts_none { result ≢ Err SourceFailed → S.faults source.new ≡ S.faults source.old }
         ensures count_never_falls { S.faults source.old ≤ S.faults source.new }
     {
-        if self.pieces.ended() {
-            return Ok(None);
-        }
-        'pieces: loop {
-            let Some(said) = self.lines.next_in(self.pieces.pending(), self.log) else {
-                return Err(FeedStop::TooLong);
-            };
-            self.pieces.use_up(said.used);
-            if said.command.is_some() {
-                return Ok(said.command);
-            }
-            if !self.pieces.refill(source)? {
-                return Ok(self.lines.last(self.log));
+        while !self.ended {
+            if let Some(command) = self.next_line(source)? {
+                return Ok(Some(command));
             }
         }
+        Ok(None)
+    }
+
+    /// Reads the next line, and answers what it says, if anything.
+    fn next_line<S: Source>(&mut self, source: &mut S) -> Result<Option<Command>, FeedStop>
+        requires log { IsOneOrTwo self.old.log }
+        requires going { self.old.ended ≡ false }
+        requires given { (commands : List Command) × (bytes : List ℕ) × HasCut self.old commands bytes }
+        ensures given { (more : List ℕ) × Reads (S.left source.old) (S.left source.new) more
+            × ((commands : List Command) (bytes : List ℕ) → HasCut self.old commands bytes → MatchResult result
+            (λ said. HasGiven self.new (S.left source.new) (commands ++ before said []) (bytes ++ more))
+            (λ stop. IsStopped self.old.log stop commands (bytes ++ more))) }
+        ensures log { self.new.log ≡ self.old.log }
+        ensures spelled { IfOk result (λ said. IfSome said (IsSpelledCommand self.old.log)) }
+        ensures fewer { IfOk result (λ _. lines_ahead self.new < lines_ahead self.old) }
+        ensures fault { result ≡ Err SourceFailed → Rose (S.faults source.old) (S.faults source.new) }
+        ensures other_counts_none { result ≢ Err SourceFailed → S.faults source.new ≡ S.faults source.old }
+        ensures count_never_falls { S.faults source.old ≤ S.faults source.new }
+    {
+        match self.lines.next(source) {
+            Ok(NextLine::Line) => Ok(self.said()),
+            Ok(NextLine::Unfinished) => {
+                self.ended = true;
+                Ok(self.said())
+            }
+            Ok(NextLine::End) => {
+                self.ended = true;
+                Ok(None)
+            }
+            Err(ReadStop::SourceFailed) => Err(FeedStop::SourceFailed),
+            Err(ReadStop::TooLong) => Err(FeedStop::TooLong),
+        }
+    }
+
+    /// What the line says that was read last.
+    fn said(&self) -> Option<Command>
+        requires log { IsOneOrTwo self.now.log }
+        requires line { (number : ℕ) × (line : List ℕ) × (number ≤ 1000000) × IsShown self.now.lines number line }
+        requires limit { self.now.lines.limits.line ≡ 200 }
+        ensures said { (number : ℕ) (line : List ℕ) → number ≤ 1000000 → IsShown self.now.lines number line
+            → result ≡ said_by self.now.log number line }
+        ensures spelled { IfSome result (IsSpelledCommand self.now.log) }
+    {
+        read_feed_line(
+            self.lines.line(),
+            self.lines.over(),
+            self.lines.number(),
+            self.log,
+        )
     }
 }

@@ -4,7 +4,6 @@
 
 mod feeds;
 pub mod laws;
-mod lines;
 mod pieces;
 mod printing;
 mod reading;
@@ -13,7 +12,4 @@ mod verbs;
 pub use feeds::FeedReader;
 pub use pieces::FeedStop;
 pub use printing::print_command;
-pub use reading::{read_command, read_feed_line};
-
-#[cfg(test)]
-mod tests;
+pub use reading::{read_command, read_feed_line, read_fields};

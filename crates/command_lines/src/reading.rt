@@ -39,6 +39,16 @@ pub fn read_feed_line(line: &[u8], over: bool, number: u64, log: u8) -> Option<C
     Some(command.unwrap_or(Command::Bad { line: number }))
 }
 
+/// The command that a first field and those after it spell, for a version of the log.
+pub fn read_fields(word: &[u8], fields: &mut Fields<'_>, log: u8) -> Option<Command>
+    requires { IsOneOrTwo log }
+    ensures command { result ≡ command_of_fields log (word.now ∷ fields.old) }
+    ensures never_bad { (number : ℕ) → IfSome result (λ command. command ≢ Bad number) }
+    ensures spelled { IfSome result (λ command. IsSpelledCommand log command) }
+{
+    command_of_fields(word, fields, log)
+}
+
 // The command of a first field and those after it.
 fn command_of_fields(word: &[u8], fields: &mut Fields<'_>, log: u8) -> Option<Command>
     ensures { result ≡ command_of_fields log (word.now ∷ fields.old) }

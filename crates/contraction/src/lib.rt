@@ -238,6 +238,3 @@ impl Contraction {
         self.graph.links[place].arc
     }
 }
-
-#[cfg(test)]
-mod tests;

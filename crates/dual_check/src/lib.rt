@@ -19,8 +19,3 @@ pub use cells::Cell;
 pub use grid_check::certifies_grid;
 pub use grids::Grid;
 pub use paired::{ColumnList, NumberList, Paired};
-
-#[cfg(test)]
-mod batch_tests;
-#[cfg(test)]
-mod grid_tests;

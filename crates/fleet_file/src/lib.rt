@@ -11,6 +11,3 @@ mod vehicles;
 pub use errors::FleetError;
 pub use laws::a_text_has_one_answer;
 pub use reading::read_fleet;
-
-#[cfg(test)]
-mod tests;

@@ -9,6 +9,3 @@ mod reading;
 pub use errors::MapError;
 pub use laws::a_text_has_one_answer;
 pub use reading::read_map;
-
-#[cfg(test)]
-mod tests;

@@ -18,8 +18,3 @@ mod solving;
 
 pub use batch::solve;
 pub use solving::solve_grid;
-
-#[cfg(test)]
-mod batch_tests;
-#[cfg(test)]
-mod tests;

@@ -1,7 +1,9 @@
 -- The text of sheets: a head, a line for each sheet, and an end.
 use Rattle.std.specs.Prelude.{ℕ, List, [], ◌∷◌, ◌++◌, map, codes, decimal}
 use Rattle.std.specs.List.{flat_map}
+use Rattle.ride_model.specs.declared.entry.Ending.{Ending}
 use Rattle.ride_model.specs.Text.{amount_field, joined, line_of, plan_field}
+use Rattle.trip_log.specs.Prints.{ending_word}
 use Rattle.idle_moves.specs.declared.moves.Move.{Move}
 use Rattle.idle_moves.specs.declared.moves.MoveSheet.{MoveSheet}
 
@@ -23,6 +25,14 @@ sheet_line sheet = line_of (sheet_fields sheet)
 abbrev pub head_line : ℕ → List ℕ
 head_line reach = line_of (codes "ahead" ∷ codes "1" ∷ codes "reach" ∷ decimal reach ∷ [])
 
--- the text of sheets
-abbrev pub ahead_text : ℕ → List MoveSheet → List ℕ
-ahead_text reach sheets = head_line reach ++ flat_map sheet_line sheets ++ line_of (codes "end" ∷ [])
+-- the lines of sheets
+abbrev pub sheet_lines : List MoveSheet → List ℕ
+sheet_lines sheets = flat_map sheet_line sheets
+
+-- the last line: whether the feed was read whole
+abbrev pub last_line : Ending → List ℕ
+last_line ending = line_of (ending_word ending ∷ [])
+
+-- the text of sheets over a feed that was read whole, or was cut
+abbrev pub ahead_text : ℕ → Ending → List MoveSheet → List ℕ
+ahead_text reach ending sheets = head_line reach ++ sheet_lines sheets ++ last_line ending

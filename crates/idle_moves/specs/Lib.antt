@@ -4,3 +4,4 @@ pub mod Filling
 pub mod Raises
 pub mod Watch
 pub mod AheadText
+pub mod HistorySheets

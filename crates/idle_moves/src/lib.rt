@@ -12,7 +12,7 @@ mod watch;
 
 pub use moves::{Move, MoveList, MoveSheet};
 pub use sheets::plan_moves;
-pub use texts::{print_head, print_sheet};
+pub use texts::{print_end, print_head, print_sheet};
 pub use watch::VersionWatch;
 
 #[cfg(test)]

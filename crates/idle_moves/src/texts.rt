@@ -2,11 +2,12 @@
 ghost use Rattle.std.specs.Prelude.{◌≡◌, ◌≤◌, ◌+◌, ◌++◌, ◌∷◌, [], ℕ, List, codes, decimal, length};
 ghost use Rattle.ride_model.specs.Text.{amount_field};
 ghost use Rattle.trip_log.specs.Prints.{Prints, fields_then, listed};
-ghost use Rattle.idle_moves.specs.AheadText.{head_line, order_field, sheet_line};
+ghost use Rattle.idle_moves.specs.AheadText.{head_line, last_line, order_field, sheet_line};
 
 use crate::{Move, MoveSheet};
 use arrayvec::ArrayVec;
 use line_text::put_number;
+use ride_model::Ending;
 use ride_ports::{Failed, Sink, write_all};
 
 /// The most bytes that are put together before they are written: five numbers of 20 digits and what stands between them.
@@ -72,6 +73,23 @@ pub fn print_sheet<K: Sink>(sheet: &MoveSheet, sink: &mut K) -> Result<(), Faile
     print_list::<AmountText, (u64, u64), K>(b" prices", sheet.prices.items(), sink)?;
     print_list::<AmountText, (u64, u64), K>(b" pays", sheet.pays.items(), sink)?;
     put(b"\n", sink)
+}
+
+/// Prints the last line of a text of sheets: whether the feed was read whole, or was cut.
+pub fn print_end<K: Sink>(ending: Ending, sink: &mut K) -> Result<(), Failed>
+    ensures { Prints result (K.written sink.old) (K.written sink.new) (K.faults sink.old) (K.faults sink.new) (last_line ending) }
+{
+    put(end_line(ending), sink)
+}
+
+// The last line of a text of sheets.
+fn end_line(ending: Ending) -> &'static [u8]
+    ensures { result.now ≡ last_line ending }
+{
+    match ending {
+        Ending::Whole => b"end\n",
+        Ending::Cut => b"cut\n",
+    }
 }
 
 // Prints the start of a sheet's line.

@@ -6,5 +6,3 @@ pub mod LeastOffers
 pub mod PlanTimes
 pub mod LongerDrives
 pub mod NoOffers
-pub mod Examples
-pub mod Trials

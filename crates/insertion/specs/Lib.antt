@@ -3,5 +3,3 @@ pub mod Joined
 pub mod Arrivals
 pub mod Drawn
 pub mod Least
-pub mod Examples
-pub mod Trials

@@ -13,8 +13,3 @@ pub mod prices;
 pub use best::best_place;
 pub use near::{Near, NearStop};
 pub use offer::offer_at;
-
-#[cfg(test)]
-mod rows;
-#[cfg(test)]
-mod tests;

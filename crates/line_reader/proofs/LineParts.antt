@@ -1,34 +1,30 @@
 -- The lines of a text that comes in parts.
-use Rattle.std.proofs.Common.{◌≡◌, ◌≢◌, ℕ, zero, suc, ◌+◌, ◌-◌, ◌<◌, ◌≤◌, inl, inr, true, false, cond, ◌==◌, List, [], ◌∷◌, ◌++◌, length, take, drop, Option, refl, ap, sym, subst, ◌∙◌, arith, append_assoc, append-nil, length-append, nat_lt, take_all}
+use Rattle.std.proofs.Common.{◌≡◌, ◌≢◌, ℕ, zero, suc, ◌+◌, ◌-◌, ◌^◌, ◌<◌, ◌≤◌, min, inl, inr, Bool, true, false, cond, ◌==◌, List, [], ◌∷◌, ◌++◌, length, take, drop, Option, refl, ap, sym, subst, ◌∙◌, arith, append_assoc, append-nil, length-append, nat_lt, take_all}
 use Rattle.std.specs.Prelude.{IfSome}
 use Rattle.std.specs.List.{AllByRecursion, flat_map}
 use Rattle.std.proofs.Math.Seq.{take-append_seam}
 use Rattle.std.proofs.lemmas.Bool.{eqb-true, eqb-false}
 use Rattle.std.proofs.lemmas.Grind.{flat_map-append}
-use Rattle.std.proofs.lemmas.List.{take-append-drop}
-use Rattle.ride_ports.specs.Bytes.{Reads}
-use Rattle.ride_ports.proofs.ByteLemmas.{Reads-none, Reads-then}
+use Rattle.std.proofs.lemmas.List.{append_cancel_left, take-append-drop}
 use Rattle.line_text.specs.Cutter.{CutterState, HasTaken, EndsLine, Continues, ShowsRest}
 use Rattle.line_text.specs.Lines.{ended_after, rest_after, ended_lines, rest_of, last_line, lines_of}
-use Rattle.line_text.proofs.LineLemmas.{ended_lines-append, rest_after-append}
+use Rattle.line_text.proofs.LineLemmas.{ended_lines-append, lines-grow, rest_after-append, some-line}
 use Rattle.line_reader.specs.declared.answers.NextLine.{NextLine}
 use Rattle.line_reader.specs.declared.answers.NextLine.TheVariants.{Line, Unfinished, End}
 use Rattle.line_reader.specs.declared.answers.ReadStop.{ReadStop}
 use Rattle.line_reader.specs.declared.answers.ReadStop.TheVariants.{SourceFailed, TooLong}
 use Rattle.line_reader.specs.declared.limits.Limits.{Limits}
 use Rattle.line_reader.specs.Limits.{IsTooLong, IsWithinLimits, lines_within}
-use Rattle.line_reader.specs.Reader.{ReaderState, HasNoLf, HasRead, HasGiven, IsAtEnd, IsNextLine, IsNext, IsShown, IsStopped, IsLast, IsCutOff, TakesSome}
+use Rattle.line_reader.specs.Reader.{ReaderState, HasNoLf, HasRead, HasGiven, IsAtEnd, IsNextLine, IsNext, IsShown, IsStopped, IsLast, IsFilled, IsCutOff}
 
 -- nothing is read at first
-pub read-nothing : (left : Option (List ℕ)) (reader : ReaderState) → HasTaken reader.cutter [] → reader.cutter.most ≡ reader.limits.line
-    → reader.pending ≡ [] → reader.bytes_left ≡ reader.limits.bytes → reader.lines_left ≡ reader.limits.lines
-    → HasGiven left left reader []
+pub read-nothing : (reader : ReaderState) → HasTaken reader.cutter [] → reader.cutter.most ≡ reader.limits.line
+    → reader.pending ≡ [] → reader.bytes_left ≡ reader.limits.bytes → reader.lines_left ≡ reader.limits.lines → HasGiven reader []
 unfolding ended_after rest_after
-read-nothing left reader taken most none bytes_left lines_left = record {
+read-nothing reader taken most none bytes_left lines_left = record {
   read = record {
     taken = taken;
     most = most;
-    reads = subst (λ p. Reads left left p) (sym none) (Reads-none left);
     bytes_counted = omega (arith, ap length none, bytes_left);
     lines_counted = omega (arith, lines_left);
     fresh = λ _. refl;
@@ -36,47 +32,51 @@ read-nothing left reader taken most none bytes_left lines_left = record {
   whole = refl;
 }
 
--- more bytes are read
-pub read-more : (before left later : Option (List ℕ)) (old new : ReaderState) (bytes : List ℕ) → HasRead before left old bytes
-    → old.pending ≡ [] → Reads left later new.pending → new.limits ≡ old.limits → new.cutter ≡ old.cutter → new.lines_left ≡ old.lines_left
-    → new.bytes_left + length new.pending ≡ old.bytes_left → HasRead before later new bytes
-read-more before left later old new bytes read none reads limits cutter lines_left counted = record {
-  taken = subst (λ (c : CutterState). HasTaken c bytes) (sym cutter) read.taken;
-  most = ap (λ (c : CutterState). c.most) cutter ∙ read.most ∙ ap (λ (l : Limits). l.line) (sym limits);
-  reads = Reads-then (subst (λ p. Reads before left p) (ap (λ p. bytes ++ p) none ∙ append-nil bytes) read.reads) reads;
-  bytes_counted = omega (arith, read.bytes_counted, ap length none, counted, ap (λ (l : Limits). l.bytes) limits);
-  lines_counted = omega (arith, read.lines_counted, lines_left, ap (λ (l : Limits). l.lines) limits);
-  fresh = λ full. read.fresh (sym lines_left ∙ full);
+-- more bytes are pending
+pub read-filled : (left : Option (List ℕ)) (old new : ReaderState) (bytes more : List ℕ) (some : Bool) → HasRead old bytes
+    → IsFilled left old new more some → HasRead new bytes
+read-filled left old new bytes more some read fills = record {
+  taken = subst (λ (c : CutterState). HasTaken c bytes) (sym fills.cutter) read.taken;
+  most = ap (λ (c : CutterState). c.most) fills.cutter ∙ read.most ∙ ap (λ (l : Limits). l.line) (sym fills.limits);
+  bytes_counted = omega (
+    arith,
+    read.bytes_counted,
+    ap length fills.pending,
+    length-append old.pending more,
+    fills.bytes_left,
+    ap (λ (l : Limits). l.bytes) fills.limits,
+  );
+  lines_counted = omega (arith, read.lines_counted, fills.lines_left, ap (λ (l : Limits). l.lines) fills.limits);
+  fresh = λ full. read.fresh (sym fills.lines_left ∙ full);
 }
 
+-- what was pending is the part and what is pending now
+pub pending-parts : (pending rest : List ℕ) (used : ℕ) → rest ≡ drop used pending → pending ≡ take used pending ++ rest
+pending-parts pending rest used is = sym (take-append-drop used pending) ∙ ap (λ l. take used pending ++ l) (sym is)
+
 -- a part of what was pending is cut
-pub read-part : (before left : Option (List ℕ)) (old new : ReaderState) (bytes : List ℕ) (used : ℕ) → HasRead before left old bytes
+pub read-part : (old new : ReaderState) (bytes : List ℕ) (used : ℕ) → HasRead old bytes
     → used ≤ length old.pending → new.pending ≡ drop used old.pending → new.limits ≡ old.limits
     → new.bytes_left ≡ old.bytes_left → new.cutter.most ≡ old.cutter.most
     → HasTaken new.cutter (bytes ++ take used old.pending)
     → length (ended_lines (bytes ++ take used old.pending)) + new.lines_left ≡ old.limits.lines
     → (new.lines_left ≡ 0 → rest_of (bytes ++ take used old.pending) ≡ [])
-    → HasRead before left new (bytes ++ take used old.pending)
-read-part before left old new bytes used read within rest limits bytes_left most taken counted fresh =
-    let parts : bytes ++ old.pending ≡ (bytes ++ take used old.pending) ++ new.pending
-    = ap (λ l. bytes ++ l) (sym (take-append-drop used old.pending) ∙ ap (λ l. take used old.pending ++ l) (sym rest))
-    ∙ sym (append_assoc bytes (take used old.pending) new.pending) in
-    record {
-      taken = taken;
-      most = most ∙ read.most ∙ ap (λ (l : Limits). l.line) (sym limits);
-      reads = subst (λ p. Reads before left p) parts read.reads;
-      bytes_counted = omega (
-        arith,
-        read.bytes_counted,
-        ap length parts,
-        length-append bytes old.pending,
-        length-append (bytes ++ take used old.pending) new.pending,
-        bytes_left,
-        ap (λ (l : Limits). l.bytes) limits,
-      );
-      lines_counted = omega (arith, counted, ap (λ (l : Limits). l.lines) limits);
-      fresh = fresh;
-    }
+    → HasRead new (bytes ++ take used old.pending)
+read-part old new bytes used read within rest limits bytes_left most taken counted fresh = record {
+  taken = taken;
+  most = most ∙ read.most ∙ ap (λ (l : Limits). l.line) (sym limits);
+  bytes_counted = omega (
+    arith,
+    read.bytes_counted,
+    ap length (pending-parts old.pending new.pending used rest),
+    length-append (take used old.pending) new.pending,
+    length-append bytes (take used old.pending),
+    bytes_left,
+    ap (λ (l : Limits). l.bytes) limits,
+  );
+  lines_counted = omega (arith, counted, ap (λ (l : Limits). l.lines) limits);
+  fresh = fresh;
+}
 
 -- bytes without LF, and one more
 no_lf-push : (bytes : List ℕ) (b : ℕ) → HasNoLf bytes → b ≢ 10 → HasNoLf (bytes ++ b ∷ [])
@@ -147,18 +147,6 @@ pub line-no_lf : (bytes more line : List ℕ) → ended_lines more ≡ ended_lin
 line-no_lf bytes more line ends =
     last-of HasNoLf (ended_lines bytes) line (subst (AllByRecursion HasNoLf) ends (no_lf-ended [] more tt))
 
--- bytes are of at least one line
-some-line : (line bytes : List ℕ) → 0 < length line + length bytes → 1 ≤ length (ended_after line bytes) + length (last_line (rest_after line bytes))
-unfolding ended_after rest_after
-some-line [] [] some = absurd (omega arith)
-some-line (a ∷ line) [] some = omega arith
-some-line line (b ∷ bytes) some =
-    elim (b == 10) as (λ v. 1 ≤ length (cond v (line ∷ ended_after [] bytes) (ended_after (line ++ b ∷ []) bytes))
-    + length (last_line (cond v (rest_after [] bytes) (rest_after (line ++ b ∷ []) bytes)))) [
-      | true ↦ omega arith
-      | false ↦ some-line (line ++ b ∷ []) bytes (omega (arith, length-append line (b ∷ [])))
-    ]
-
 -- the lines of whole lines and more bytes
 pub ended-after_whole : (bytes more : List ℕ) → rest_of bytes ≡ [] → ended_lines (bytes ++ more) ≡ ended_lines bytes ++ ended_lines more
 ended-after_whole bytes more whole = ended_lines-append bytes more ∙ ap (λ l. ended_lines bytes ++ ended_after l more) whole
@@ -176,27 +164,10 @@ one-more-line bytes more whole some =
       some-line [] more (omega (arith, some)),
     )
 
--- more bytes are no fewer lines
-pub more-lines : (bytes more : List ℕ) → length (lines_of bytes) ≤ length (lines_of (bytes ++ more))
-more-lines bytes more =
-    omega (
-      arith,
-      length-append (ended_lines bytes) (last_line (rest_of bytes)),
-      length-append (ended_lines (bytes ++ more)) (last_line (rest_of (bytes ++ more))),
-      ap length (ended_lines-append bytes more),
-      length-append (ended_lines bytes) (ended_after (rest_of bytes) more),
-      ap (λ l. length (last_line l)) (rest_after-append [] bytes more),
-      begun-line (rest_of bytes),
-    )
-  where
-    begun-line : (line : List ℕ) → length (last_line line) ≤ length (ended_after line more) + length (last_line (rest_after line more))
-    begun-line [] = omega arith
-    begun-line (b ∷ line) = some-line (b ∷ line) more (omega arith)
-
 -- the first bytes of a text within the limits do not pass them
 pub first-within : (limits : Limits) (bytes more : List ℕ) → IsWithinLimits limits (bytes ++ more) → IsTooLong limits bytes → ⊥
 first-within limits bytes more within (inl long) = omega (arith, long, within.few_bytes, length-append bytes more)
-first-within limits bytes more within (inr many) = omega (arith, many, within.few_lines, more-lines bytes more)
+first-within limits bytes more within (inr many) = omega (arith, many, within.few_lines, lines-grow bytes more)
 
 -- where as many lines end within the first bytes as count, those are the lines that count
 full-lines : (limits : Limits) (bytes more : List ℕ) → rest_of bytes ≡ [] → length bytes ≤ limits.bytes → length (ended_lines bytes) ≡ limits.lines
@@ -243,9 +214,8 @@ short-last (b ∷ rest) zero fresh = absurd (cc (fresh refl))
 short-last (b ∷ rest) (suc lines_left) fresh = omega arith
 
 -- what was cut is within the limits
-pub within-limits : (before left : Option (List ℕ)) (reader : ReaderState) (bytes : List ℕ) → HasRead before left reader bytes
-    → IsWithinLimits reader.limits bytes
-within-limits before left reader bytes read = record {
+pub within-limits : (reader : ReaderState) (bytes : List ℕ) → HasRead reader bytes → IsWithinLimits reader.limits bytes
+within-limits reader bytes read = record {
   few_bytes = omega (arith, read.bytes_counted);
   few_lines = omega (
     arith,
@@ -255,38 +225,37 @@ within-limits before left reader bytes read = record {
   );
 }
 
--- nothing is pending
-none-pending : (before left : Option (List ℕ)) (reader : ReaderState) (bytes : List ℕ) → HasRead before left reader bytes → reader.pending ≡ []
-    → Reads before left bytes
-none-pending before left reader bytes read none =
-    subst (λ p. Reads before left p) (ap (λ l. bytes ++ l) none ∙ append-nil bytes) read.reads
-
 -- nothing comes after a part of a line
-pub at-end : (before left : Option (List ℕ)) (reader after : ReaderState) (bytes part : List ℕ) (next : NextLine)
-    → HasRead before left reader (bytes ++ part) → Begins bytes part → reader.pending ≡ [] → IfSome left (λ more. more ≡ [])
-    → after ≡ reader → IsLast reader (rest_of (bytes ++ part)) next → IsNext before left after bytes next
-at-end before left reader after bytes part next read begins none end same last =
-    subst (λ (r : ReaderState). IsNext before left r bytes next) (sym same) (by_next next (subst (λ r. IsLast reader r next) begins.is_rest last))
+pub at-end : (left : Option (List ℕ)) (reader after : ReaderState) (bytes part : List ℕ) (next : NextLine)
+    → HasRead reader (bytes ++ part) → Begins bytes part → IfSome left (λ more. more ≡ [])
+    → after ≡ reader → IsLast reader (bytes ++ part) next → IsNext left after bytes part next
+at-end left reader after bytes part next read begins end same last =
+    subst (λ (r : ReaderState). IsNext left r bytes part next) (sym same) (by_next next last)
   where
-    is_end : IsAtEnd before left reader.limits bytes part
+    is_end : IsAtEnd left reader.limits bytes part
     is_end = record {
       no_lf = subst HasNoLf begins.is_rest (no_lf-rest (bytes ++ part));
-      reads = none-pending before left reader (bytes ++ part) read none;
       to_end = end;
-      within = within-limits before left reader (bytes ++ part) read;
+      within = within-limits reader (bytes ++ part) read;
       ended_are = begins.ends_none;
       rest_is = begins.is_rest;
     }
 
-    by_next : (n : NextLine) → IsLast reader part n → IsNext before left reader bytes n
+    by_next : (n : NextLine) → IsLast reader (bytes ++ part) n → IsNext left reader bytes part n
     by_next Line h = absurd h
-    by_next Unfinished (some, shown) = (part, is_end, some, shown)
-    by_next End h = subst (IsAtEnd before left reader.limits bytes) h is_end
+    by_next Unfinished (some, shown) = (
+      is_end,
+      (λ none. some (begins.is_rest ∙ none)),
+      subst (λ (l : List ℕ). IsShown reader (length (ended_lines bytes) + 1) l) begins.is_rest
+          (subst (λ (ls : List (List ℕ)). IsShown reader (length ls + 1) (rest_of (bytes ++ part))) begins.ends_none shown),
+    )
+    by_next End h = (is_end, sym begins.is_rest ∙ h)
 
 -- the last line is shown
-pub last-shown : (before left : Option (List ℕ)) (reader : ReaderState) (bytes : List ℕ) → HasRead before left reader bytes
-    → ShowsRest reader.cutter bytes → IsShown reader (rest_of bytes)
-last-shown before left reader bytes read shows = record {
+pub last-shown : (reader : ReaderState) (bytes : List ℕ) → HasRead reader bytes → ShowsRest reader.cutter bytes
+    → IsShown reader (length (ended_lines bytes) + 1) (rest_of bytes)
+last-shown reader bytes read shows = record {
+  numbered = shows.numbered;
   bytes = shows.kept ∙ ap (λ n. take n (rest_of bytes)) read.most;
   over = shows.more ∙ ap (λ n. nat_lt n (length (rest_of bytes))) read.most;
 }
@@ -296,68 +265,74 @@ some-bytes [] none = absurd (none refl)
 some-bytes (b ∷ bytes) none = omega arith
 
 -- no more lines may begin
-pub stops-lines : (before left : Option (List ℕ)) (reader : ReaderState) (bytes part : List ℕ) → HasRead before left reader (bytes ++ part)
-    → Begins bytes part → reader.pending ≢ [] → reader.lines_left ≡ 0 → IsStopped before left reader.limits bytes TooLong
-stops-lines before left reader bytes part read begins some full =
+pub stops-lines : (reader : ReaderState) (bytes part : List ℕ) → HasRead reader (bytes ++ part)
+    → Begins bytes part → reader.pending ≢ [] → reader.lines_left ≡ 0 → IsStopped reader.limits bytes (part ++ reader.pending) TooLong
+stops-lines reader bytes part read begins some full =
     let nothing : part ≡ [] = sym begins.is_rest ∙ read.fresh full in
     let here : bytes ++ part ≡ bytes = ap (λ l. bytes ++ l) nothing ∙ append-nil bytes in
     let whole : rest_of bytes ≡ [] = ap rest_of (sym here) ∙ begins.is_rest ∙ nothing in
     let many : length (ended_lines bytes) ≡ reader.limits.lines = omega (arith, read.lines_counted, ap length begins.ends_none, full) in
-    record {
-      rest = reader.pending;
-      reads = subst (λ p. Reads before left p) (ap (λ l. l ++ reader.pending) here) read.reads;
+    let came : part ++ reader.pending ≡ reader.pending = ap (λ l. l ++ reader.pending) nothing in
+    subst (λ (l : List ℕ). IsStopped reader.limits bytes l TooLong) (sym came) (record {
       lines_are = full-lines reader.limits bytes reader.pending whole (omega (arith, read.bytes_counted, ap length here)) many;
       why = inr (omega (arith, one-more-line bytes reader.pending whole (some-bytes reader.pending some), many));
-    }
-
--- nothing was taken of a source
-pub takes-none : (known : Option (List ℕ)) → TakesSome known known
-takes-none known = ([], Reads-none known)
-
--- some bytes were taken, and then some more
-pub takes-then : {a b c : Option (List ℕ)} → TakesSome a b → TakesSome b c → TakesSome a c
-takes-then {a} {b} {c} (xs, first) (ys, second) = (xs ++ ys, Reads-then first second)
+    })
 
 -- no more bytes come
-pub stops-bytes : (before left : Option (List ℕ)) (limits : Limits) (bytes part : List ℕ) (stop : ReadStop) → Begins bytes part
-    → IsCutOff before left limits (bytes ++ part) stop → IsStopped before left limits bytes stop
-stops-bytes before left limits bytes part SourceFailed begins (reads, within) = record {
-  rest = part;
-  reads = reads;
-  lines_are = lines-within limits (bytes ++ part) within ∙ begins.ends_none;
-  why = within;
-}
-stops-bytes before left limits bytes part TooLong begins (full, few, (byte, reads)) =
+pub stops-bytes : (reader : ReaderState) (bytes part more : List ℕ) (stop : ReadStop) → HasRead reader (bytes ++ part) → Begins bytes part
+    → IsCutOff reader more stop → IsStopped reader.limits bytes (part ++ (reader.pending ++ more)) stop
+stops-bytes reader bytes part more SourceFailed read begins (none, nothing) =
+    let came : part ++ (reader.pending ++ more) ≡ part = (λ i. part ++ (none i ++ nothing i)) ∙ append-nil part in
+    let within : IsWithinLimits reader.limits (bytes ++ part) = within-limits reader (bytes ++ part) read in
+    subst (λ (l : List ℕ). IsStopped reader.limits bytes l SourceFailed) (sym came) (record {
+      lines_are = lines-within reader.limits (bytes ++ part) within ∙ begins.ends_none;
+      why = within;
+    })
+stops-bytes reader bytes part more TooLong read begins (none, none_left, (byte, is_byte)) =
+    let came : part ++ (reader.pending ++ more) ≡ part ++ byte ∷ [] = (λ i. part ++ (none i ++ is_byte i)) in
+    let full : length (bytes ++ part) ≡ reader.limits.bytes = omega (arith, read.bytes_counted, ap length none, none_left) in
     let is : (bytes ++ part) ++ byte ∷ [] ≡ bytes ++ (part ++ byte ∷ []) = append_assoc bytes part (byte ∷ []) in
-    record {
-      rest = part ++ byte ∷ [];
-      reads = subst (λ p. Reads before left p) is reads;
-      lines_are = ap (lines_within limits) (sym is)
-          ∙ few-lines limits bytes part (byte ∷ []) full (omega (arith, few, ap length begins.ends_none)) begins.ends_none;
+    subst (λ (l : List ℕ). IsStopped reader.limits bytes l TooLong) (sym came) (record {
+      lines_are = ap (lines_within reader.limits) (sym is)
+          ∙ few-lines reader.limits bytes part (byte ∷ []) full (omega (arith, read.lines_counted, ap length begins.ends_none)) begins.ends_none;
       why = inl (omega (arith, ap length is, length-append (bytes ++ part) (byte ∷ []), full));
-    }
+    })
 
 -- the next line
-pub next-line : (before left : Option (List ℕ)) (reader : ReaderState) (bytes part piece : List ℕ) → rest_of bytes ≡ [] → Begins bytes part
-    → HasRead before left reader ((bytes ++ part) ++ piece) → (ends : EndsLine reader.cutter (bytes ++ part) piece)
-    → IsNextLine before left reader bytes ends.line
-next-line before left reader bytes part piece whole begins read ends =
+pub next-line : (reader : ReaderState) (bytes part piece : List ℕ) → rest_of bytes ≡ [] → Begins bytes part
+    → HasRead reader ((bytes ++ part) ++ piece) → (ends : EndsLine reader.cutter (bytes ++ part) piece)
+    → IsNextLine reader bytes ((part ++ piece) ++ reader.pending) ends.line
+next-line reader bytes part piece whole begins read ends =
     let lines_are : ended_lines ((bytes ++ part) ++ piece) ≡ ended_lines bytes ++ ends.line ∷ []
     = ends.ends ∙ ap (λ ls. ls ++ ends.line ∷ []) begins.ends_none in
     let is : (bytes ++ part) ++ piece ≡ bytes ++ ends.line ++ 10 ∷ []
     = line-joined bytes ((bytes ++ part) ++ piece) ends.line whole ends.begins lines_are in
+    let line_is : part ++ piece ≡ ends.line ++ 10 ∷ [] = append_cancel_left bytes (part ++ piece) (ends.line ++ 10 ∷ []) (sym (append_assoc bytes part piece) ∙ is ∙ append_assoc bytes ends.line (10 ∷ [])) in
     record {
       no_lf = line-no_lf bytes ((bytes ++ part) ++ piece) ends.line lines_are;
+      parts = ap (λ l. l ++ reader.pending) line_is;
       given = record {
-        read = subst (HasRead before left reader) is read;
+        read = subst (HasRead reader) is read;
         whole = ap rest_of (sym is) ∙ ends.begins;
       };
       lines_are = ap ended_lines (sym is) ∙ lines_are;
       shown = record {
+        numbered = ends.shows.numbered ∙ ap (λ (ls : List (List ℕ)). min (length ls + 1) (2 ^ 64 - 1)) begins.ends_none;
         bytes = ends.shows.kept ∙ ap (λ n. take n ends.line) read.most;
         over = ends.shows.more ∙ ap (λ n. nat_lt n (length ends.line)) read.most;
       };
     }
+
+-- what came with one more piece
+pub came-more : (first more piece part rest : List ℕ) → first ++ more ≡ part ++ rest → first ++ (more ++ piece) ≡ part ++ (rest ++ piece)
+came-more first more piece part rest came =
+    sym (append_assoc first more piece) ∙ ap (λ l. l ++ piece) came ∙ append_assoc part rest piece
+
+-- of which a part was cut
+pub came-cut : (first more piece part pending filled cut rest : List ℕ) → first ++ more ≡ part ++ pending → filled ≡ pending ++ piece → filled ≡ cut ++ rest
+    → first ++ (more ++ piece) ≡ (part ++ cut) ++ rest
+came-cut first more piece part pending filled cut rest came fills parts =
+    came-more first more piece part pending came ∙ ap (λ l. part ++ l) (sym fills ∙ parts) ∙ sym (append_assoc part cut rest)
 
 -- one more part of the line
 pub begins-more : (bytes part piece : List ℕ) → Begins bytes part → Continues (bytes ++ part) piece → Begins bytes (part ++ piece)

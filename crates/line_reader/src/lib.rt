@@ -12,6 +12,3 @@ pub use reader::LineReader;
 
 /// Want of memory.
 pub type NoMemory = std::alloc::AllocError;
-
-#[cfg(test)]
-mod tests;

@@ -1,12 +1,11 @@
 //! The reader of lines.
-ghost use Rattle.std.specs.Prelude.{◌≡◌, ◌≢◌, ℕ, ◌+◌, ◌<◌, ◌++◌, ◌∷◌, ◌≤◌, [], List, Option, Ok, Err, false, length, IfErr, IfOk, IfSome, MatchBool, MatchResult, OnErr};
+ghost use Rattle.std.specs.Prelude.{◌≡◌, ◌≢◌, ℕ, ◌+◌, ◌<◌, ◌++◌, ◌∷◌, ◌≤◌, [], List, Ok, Err, false, length, IfOk, IfSome, MatchBool, MatchResult};
 ghost use Rattle.ride_ports.specs.Bytes.{Reads};
 ghost use Rattle.ride_ports.specs.Count.{Rose};
 ghost use Rattle.line_text.specs.Cutter.{Continues, EndsLine};
-ghost use Rattle.line_text.specs.Lines.{rest_of};
 ghost use Rattle.line_reader.specs.declared.answers.NextLine.TheVariants.{Line};
 ghost use Rattle.line_reader.specs.declared.answers.ReadStop.TheVariants.{SourceFailed, TooLong};
-ghost use Rattle.line_reader.specs.Reader.{HasGiven, HasRead, IsCutOff, IsLast, IsNext, IsStopped, TakesSome};
+ghost use Rattle.line_reader.specs.Reader.{HasGiven, HasRead, IsCutOff, IsFilled, IsLast, IsNext, IsStopped};
 
 use crate::piece::Piece;
 use crate::{Limits, NextLine, NoMemory, ReadStop};
@@ -40,7 +39,8 @@ impl LineReader {
     /// A reader of a text within these limits.
     pub fn new(alloc: Global, limits: Limits) -> Result<LineReader, NoMemory>
         ensures limits { IfOk result (λ reader. reader.limits ≡ limits) }
-        ensures nothing_given { IfOk result (λ reader. (left : Option (List ℕ)) → HasGiven left left reader []) }
+        ensures nothing_given { IfOk result (λ reader. HasGiven reader []) }
+        ensures nothing_pending { IfOk result (λ reader. reader.pending ≡ []) }
     {
         let cutter = LineCutter::new(alloc, limits.line)?;
         let piece = Piece::new(alloc)?;
@@ -67,18 +67,31 @@ impl LineReader {
         self.cutter.over()
     }
 
+    /// The number of that line, from 1.
+    pub fn number(&self) -> u64
+        ensures { result ≡ self.now.cutter.number }
+    {
+        self.cutter.number()
+    }
+
+    /// Whether all that was read is cut into lines, so that the next one is waited for.
+    pub fn is_drained(&self) -> bool
+        ensures { MatchBool result (self.now.pending ≡ []) (self.now.pending ≢ []) }
+    {
+        self.piece.bytes().is_empty()
+    }
+
     /// Reads the next line. After the last line, the end or an error no more is read.
     pub fn next<S: Source>(&mut self, source: &mut S) -> Result<NextLine, ReadStop>
-        requires given { (before : Option (List ℕ)) × (bytes : List ℕ) × HasGiven before (S.left source.old) self.old bytes }
+        requires given { (bytes : List ℕ) × HasGiven self.old bytes }
 
         // The lines are those of the source's bytes, each once and in order.
-        ensures next { (before : Option (List ℕ)) (bytes : List ℕ) → HasGiven before (S.left source.old) self.old bytes
-            → MatchResult result
-            (IsNext before (S.left source.new) self.new bytes)
-            (IsStopped before (S.left source.new) self.old.limits bytes) }
+        ensures next { (more : List ℕ) × Reads (S.left source.old) (S.left source.new) more
+            × ((bytes : List ℕ) → HasGiven self.old bytes → MatchResult result
+            (IsNext (S.left source.new) self.new bytes (self.old.pending ++ more))
+            (IsStopped self.old.limits bytes (self.old.pending ++ more))) }
         ensures limits { self.new.limits ≡ self.old.limits }
         ensures fewer { result ≡ Ok Line → self.new.lines_left < self.old.lines_left }
-        ensures taken { TakesSome (S.left source.old) (S.left source.new) }
         ensures fault { result ≡ Err SourceFailed → Rose (S.faults source.old) (S.faults source.new) }
         ensures other_counts_none { result ≢ Err SourceFailed → S.faults source.new ≡ S.faults source.old }
         ensures count_never_falls { S.faults source.old ≤ S.faults source.new }
@@ -105,8 +118,7 @@ impl LineReader {
 
     /// What is left at the end of the source.
     fn last(&mut self) -> NextLine
-        ensures last { (before left : Option (List ℕ)) (bytes : List ℕ) → HasRead before left self.old bytes
-            → IsLast self.old (rest_of bytes) result }
+        ensures last { (bytes : List ℕ) → HasRead self.old bytes → IsLast self.old bytes result }
         ensures no_line { result ≢ Line }
         ensures unchanged { self.new ≡ self.old }
     {
@@ -119,23 +131,15 @@ impl LineReader {
 
     /// Whether bytes are pending; where none are, the next piece is read.
     fn has_pending<S: Source>(&mut self, source: &mut S) -> Result<bool, ReadStop>
-        requires { (before : Option (List ℕ)) × (bytes : List ℕ) × HasRead before (S.left source.old) self.old bytes }
-        ensures read { (before : Option (List ℕ)) (bytes : List ℕ) → HasRead before (S.left source.old) self.old bytes
-            → IfOk result (λ _. HasRead before (S.left source.new) self.new bytes) }
-        ensures more { IfOk result (λ more. MatchBool more (self.new.pending ≢ [])
-            ((self.new.pending ≡ []) × IfSome (S.left source.new) (λ bytes. bytes ≡ []))) }
-        ensures work { IfOk result (λ _. self.new.bytes_left + length self.new.pending
-            ≡ self.old.bytes_left + length self.old.pending) }
-        ensures limits { self.new.limits ≡ self.old.limits }
-        ensures lines_left { self.new.lines_left ≡ self.old.lines_left }
-        ensures stop { (before : Option (List ℕ)) (bytes : List ℕ) → HasRead before (S.left source.old) self.old bytes
-            → IfErr result (IsCutOff before (S.left source.new) self.old.limits bytes) }
-        ensures taken { TakesSome (S.left source.old) (S.left source.new) }
+        ensures read { (more : List ℕ) × Reads (S.left source.old) (S.left source.new) more × MatchResult result
+            (IsFilled (S.left source.new) self.old self.new more)
+            (IsCutOff self.old more) }
         ensures fault { result ≡ Err SourceFailed → Rose (S.faults source.old) (S.faults source.new) }
         ensures other_counts_none { result ≢ Err SourceFailed → S.faults source.new ≡ S.faults source.old }
         ensures count_never_falls { S.faults source.old ≤ S.faults source.new }
+        ensures limits { self.new.limits ≡ self.old.limits }
     {
-        if !self.piece.bytes().is_empty() {
+        if !self.is_drained() {
             return Ok(true);
         }
         self.refill(source)
@@ -143,21 +147,14 @@ impl LineReader {
 
     /// Reads the next piece, where none is pending; answers whether there is one.
     fn refill<S: Source>(&mut self, source: &mut S) -> Result<bool, ReadStop>
-        requires read { (before : Option (List ℕ)) × (bytes : List ℕ) × HasRead before (S.left source.old) self.old bytes }
         requires none_pending { self.old.pending ≡ [] }
-        ensures read { (before : Option (List ℕ)) (bytes : List ℕ) → HasRead before (S.left source.old) self.old bytes
-            → IfOk result (λ _. HasRead before (S.left source.new) self.new bytes) }
-        ensures more { IfOk result (λ more. MatchBool more (self.new.pending ≢ [])
-            ((self.new.pending ≡ []) × IfSome (S.left source.new) (λ bytes. bytes ≡ []))) }
-        ensures work { IfOk result (λ _. self.new.bytes_left + length self.new.pending ≡ self.old.bytes_left) }
-        ensures limits { self.new.limits ≡ self.old.limits }
-        ensures lines_left { self.new.lines_left ≡ self.old.lines_left }
-        ensures stop { (before : Option (List ℕ)) (bytes : List ℕ) → HasRead before (S.left source.old) self.old bytes
-            → IfErr result (IsCutOff before (S.left source.new) self.old.limits bytes) }
-        ensures taken { TakesSome (S.left source.old) (S.left source.new) }
+        ensures read { (more : List ℕ) × Reads (S.left source.old) (S.left source.new) more × MatchResult result
+            (IsFilled (S.left source.new) self.old self.new more)
+            (IsCutOff self.old more) }
         ensures fault { result ≡ Err SourceFailed → Rose (S.faults source.old) (S.faults source.new) }
         ensures other_counts_none { result ≢ Err SourceFailed → S.faults source.new ≡ S.faults source.old }
         ensures count_never_falls { S.faults source.old ≤ S.faults source.new }
+        ensures limits { self.new.limits ≡ self.old.limits }
     {
         if self.bytes_left == 0 {
             return ends(source);
@@ -169,12 +166,11 @@ impl LineReader {
 
     /// Cuts what is pending up to and with its first LF, or all of it; answers whether it ends a line.
     fn take_part(&mut self) -> bool
-        requires read { (before left : Option (List ℕ)) × (bytes : List ℕ) × HasRead before left self.old bytes }
+        requires read { (bytes : List ℕ) × HasRead self.old bytes }
         requires some { self.old.pending ≢ [] }
         requires line { self.old.lines_left ≢ 0 }
-        ensures read { (before left : Option (List ℕ)) (bytes : List ℕ) → HasRead before left self.old bytes
-            → (part : List ℕ) × HasRead before left self.new (bytes ++ part)
-            × MatchBool result (EndsLine self.new.cutter bytes part) (Continues bytes part) }
+        ensures read { (bytes : List ℕ) → HasRead self.old bytes → (part : List ℕ) × (self.old.pending ≡ part ++ self.new.pending)
+            × HasRead self.new (bytes ++ part) × MatchBool result (EndsLine self.new.cutter bytes part) (Continues bytes part) }
         ensures work { length self.new.pending < length self.old.pending }
         ensures limits { self.new.limits ≡ self.old.limits }
         ensures bytes_left { self.new.bytes_left ≡ self.old.bytes_left }
@@ -195,7 +191,6 @@ fn ends<S: Source>(source: &mut S) -> Result<bool, ReadStop>
     ensures same { IfOk result (λ _. S.left source.new ≡ S.left source.old) }
     ensures too_long { result ≡ Err TooLong → (byte : ℕ) × Reads (S.left source.old) (S.left source.new) (byte ∷ []) }
     ensures failed_stays { result ≡ Err SourceFailed → S.left source.new ≡ S.left source.old }
-    ensures taken { TakesSome (S.left source.old) (S.left source.new) }
     ensures fault { result ≡ Err SourceFailed → Rose (S.faults source.old) (S.faults source.new) }
     ensures other_counts_none { result ≢ Err SourceFailed → S.faults source.new ≡ S.faults source.old }
     ensures count_never_falls { S.faults source.old ≤ S.faults source.new }

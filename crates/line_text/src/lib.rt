@@ -17,6 +17,3 @@ pub const MOST_LINE: usize = 200;
 
 /// Want of memory.
 pub type NoMemory = std::alloc::AllocError;
-
-#[cfg(test)]
-mod tests;

@@ -154,6 +154,3 @@ impl Links {
         }
     }
 }
-
-#[cfg(test)]
-mod tests;

@@ -15,9 +15,9 @@ use Rattle.log_audit.specs.declared.auditor.Auditor.{Auditor}
 use Rattle.trip_log.specs.declared.reading.Head.{Head}
 use Rattle.trip_log.proofs.ReadLemmas.{for_one_or_two}
 use Rattle.trip_log.proofs.TextLemmas.{texts-same}
-use Rattle.log_audit.specs.declared.lines.LogLines.{LogLines}
-use Rattle.log_audit.specs.declared.lines.Next.{Next}
-use Rattle.log_audit.specs.declared.lines.Next.TheVariants.{Line, Unfinished, End}
+use Rattle.line_reader.specs.declared.answers.NextLine.{NextLine}
+use Rattle.line_reader.specs.declared.answers.NextLine.TheVariants.{Line, Unfinished, End}
+use Rattle.line_reader.specs.Reader.{HasNoLf, ReaderState}
 use Rattle.log_audit.specs.declared.verdict.AuditFault.{AuditFault}
 use Rattle.log_audit.specs.declared.verdict.AuditFault.TheVariants.{ReadFault, TooLong, NoMemory}
 use Rattle.log_audit.specs.declared.verdict.Verdict.{Verdict}
@@ -28,10 +28,10 @@ use Rattle.log_audit.specs.Audit.{HasNoHead, IsAnswer, IsLogOf, IsWrongLine}
 use Rattle.log_audit.specs.Audited.{FailsAfter, HasReadHead, HasReadNoHead, IsWrongLineAfter, text_so_far}
 use Rattle.log_audit.specs.Auditing.{IsAuditing, IsJudged, IsLineOf}
 use Rattle.log_audit.specs.Limits.{Counts, IsTooLong, lines_within, most_line, most_lines}
-use Rattle.log_audit.specs.LogLines.{HasNoLf, HasRead, IsAtEnd, IsNext, IsNextLine, IsStop, pending}
+use Rattle.log_audit.specs.LogLines.{HasRead, IsAtEnd, IsNext, IsNextLine, IsStop}
 use Rattle.log_audit.specs.Words.{IsFault}
-use Rattle.log_audit.proofs.Ends.{all-read, count-text, counts-front, ended-rest, ends-fault, ends-too_long, not-too-long, one-line-more, wrong-next}
-use Rattle.log_audit.proofs.LineParts.{told-by}
+use Rattle.log_audit.proofs.Ends.{all-read, count-text, counts-front, ends-fault, ends-too_long, one-line-more, wrong-next}
+use Rattle.log_audit.proofs.LogParts.{few-bytes, lines-counted, told-by}
 use Rattle.log_audit.proofs.OneAnswer.{one-answer}
 use Rattle.log_audit.proofs.WholeLines.{entry-first, head-first, no-head-first, text-nothing, text-push}
 
@@ -131,10 +131,10 @@ stops-fault before left start feeds desks entries text ReadFault begins good sto
 stops-fault before left start feeds desks entries text NoMemory begins good stop is = absurd (cc is)
 
 -- how many entries there are
-pub few-entries : (before left : Option (List ℕ)) (lines : LogLines) (start : State) (feeds desks : ℕ) (entries : List Entry) (text : List ℕ)
+pub few-entries : (before left : Option (List ℕ)) (lines : ReaderState) (start : State) (feeds desks : ℕ) (entries : List Entry) (text : List ℕ)
     → IsLogOf start feeds desks entries text → HasRead before left lines text → length entries + 1 + lines.lines_left ≡ most_lines
 few-entries before left lines start feeds desks entries text good read =
-    omega (arith, read.lines_counted, count-text start feeds desks entries text good)
+    omega (arith, lines-counted read, count-text start feeds desks entries text good)
 
 -- a line that spells no entry
 pub unread-wrong : (old : Auditor) (line shown read : List ℕ) (o : Option Entry) → IsAuditing old → HasNoLf line → shown ≡ take most_line line
@@ -199,22 +199,22 @@ head-short log feeds desks l f d =
     by_digits (u ∷ []) (v ∷ []) (w ∷ []) x y z = omega arith
 
 -- the first line is no head
-no-head-told : (before left : Option (List ℕ)) (lines : LogLines) (version : ℕ) (line : List ℕ) → IsNextLine before left lines [] line
+no-head-told : (before left : Option (List ℕ)) (lines : ReaderState) (version : ℕ) (line : List ℕ) → IsNextLine before left lines [] line
     → ((feeds desks : ℕ) → IsOneOrTwo feeds → IsOneOrTwo desks → head_line version feeds desks ≢ line ++ 10 ∷ [])
     → IsOneOrTwo version → HasReadNoHead before version
 no-head-told before left lines version line next never fits =
     let front : List ℕ = line ++ 10 ∷ [] in
     let ended : length (ended_lines front) ≡ length (ended_lines []) + 1 = one-line-more [] line rest-nothing next.no_lf in
-    told-by before left (front ++ pending lines) (λ all. HasNoHead version all × Counts all 1) next.read.reads
+    told-by before left (front ++ lines.pending) (λ all. HasNoHead version all × Counts all 1) next.read.reads
     (λ later. (
       λ feeds desks f d begins. never feeds desks f d
-          (head-first version feeds desks line (pending lines ++ later) begins.0 fits f d next.no_lf (sym (append_assoc front (pending lines) later) ∙ begins.1)),
-      subst (λ all. Counts all 1) (sym (append_assoc front (pending lines) later))
-          (counts-front front (pending lines ++ later) 1 (omega (arith, next.read.bytes_counted)) (omega (arith, next.read.lines_counted))
+          (head-first version feeds desks line (lines.pending ++ later) begins.0 fits f d next.no_lf (sym (append_assoc front (lines.pending) later) ∙ begins.1)),
+      subst (λ all. Counts all 1) (sym (append_assoc front (lines.pending) later))
+          (counts-front front (lines.pending ++ later) 1 (few-bytes next.read) (omega (arith, lines-counted next.read))
           (omega (arith, ended))),
     ))
 
-pub head-over : (before left : Option (List ℕ)) (lines : LogLines) (version : ℕ) (n : Next) → IsOneOrTwo version → n ≡ Line
+pub head-over : (before left : Option (List ℕ)) (lines : ReaderState) (version : ℕ) (n : NextLine) → IsOneOrTwo version → n ≡ Line
     → IsNext before left lines [] n → lines.cutter.over ≡ true → HasReadNoHead before version
 head-over before left lines version n fits is next over =
     let (line, it) = subst (IsNext before left lines []) is next in
@@ -227,7 +227,7 @@ head-over before left lines version n fits is next over =
       ltb-true most_line (length line) (sym it.over ∙ over),
     )) fits
 
-pub head-found : (before left : Option (List ℕ)) (lines : LogLines) (version : ℕ) (n : Next) (shown : List ℕ) (o : Option Head) → IsOneOrTwo version
+pub head-found : (before left : Option (List ℕ)) (lines : ReaderState) (version : ℕ) (n : NextLine) (shown : List ℕ) (o : Option Head) → IsOneOrTwo version
     → n ≡ Line → IsNext before left lines [] n → lines.cutter.over ≡ false → shown ≡ lines.cutter.shown
     → IfSome o (λ head. (head.log ≡ version) × IsOneOrTwo head.feeds × IsOneOrTwo head.desks
     × (head_line version head.feeds head.desks ≡ shown ++ 10 ∷ []))
@@ -261,10 +261,10 @@ at-end : (before left : Option (List ℕ)) (version : ℕ) (rest : List ℕ) →
 at-end before left version rest end =
     all-read before left rest (λ all. HasNoHead version all × Counts all 1) end.reads end.to_end (
       λ feeds desks f d begins. no-head-first version feeds desks begins.0 rest end.no_lf begins.1,
-      λ long. absurd (not-too-long before left [] rest rest-nothing end long),
+      λ long. absurd (end.within long),
     )
 
-pub head-missing : (before left : Option (List ℕ)) (lines : LogLines) (version : ℕ) (n : Next) → (n ≡ Line → ⊥)
+pub head-missing : (before left : Option (List ℕ)) (lines : ReaderState) (version : ℕ) (n : NextLine) → (n ≡ Line → ⊥)
     → IsNext before left lines [] n → HasReadNoHead before version
 head-missing before left lines version Line other next = absurd (other refl)
 head-missing before left lines version Unfinished other (rest, end, _) = at-end before left version rest end
@@ -338,7 +338,7 @@ fault-head before left start e stop r is same stopped fault = by_stop stop stopp
       reads = reads;
       within = within;
       none_wrong = λ line why wrong low.
-          omega (arith, number-some start rest line why wrong, low, ended-nothing, ap length (ended-rest [] rest rest-nothing none).0);
+          omega (arith, number-some start rest line why wrong, low, ended-nothing, ap length none);
     }
 
 -- the answer where there is no head

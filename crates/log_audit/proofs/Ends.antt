@@ -1,12 +1,12 @@
 -- How an audit ends.
-use Rattle.std.proofs.Common.{◌≡◌, ◌≢◌, ℕ, ◌+◌, ◌-◌, ◌<◌, ◌≤◌, inl, inr, List, [], ◌∷◌, ◌++◌, length, take, Option, None, Some, refl, sym, ◌∙◌, ap, subst, arith, append_assoc, append-nil, length-append}
+use Rattle.std.proofs.Common.{◌≡◌, ◌≢◌, ℕ, ◌+◌, ◌-◌, ◌≤◌, inr, List, [], ◌∷◌, ◌++◌, length, take, Option, None, Some, refl, sym, ◌∙◌, ap, subst, arith, append_assoc, append-nil, length-append}
 use Rattle.std.specs.Prelude.{IfSome, Ok, Err}
 use Rattle.std.proofs.Math.Seq.{take-append-add}
 use Rattle.std.proofs.lemmas.Bool.{ne_eqb}
 use Rattle.std.proofs.lemmas.List.{length-map}
 use Rattle.ride_ports.specs.Bytes.{Reads}
 use Rattle.ride_ports.proofs.ByteLemmas.{Reads-to_end}
-use Rattle.line_text.specs.Lines.{ended_after, rest_after, ended_lines, rest_of, last_line, lines_of}
+use Rattle.line_text.specs.Lines.{ended_after, rest_after, ended_lines, rest_of}
 use Rattle.line_text.proofs.LineLemmas.{ended_lines-append, ended_after-no_end, rest_after-append, rest_after-no_end, HasNoEnd}
 use Rattle.ride_model.specs.declared.entry.Entry.{Entry}
 use Rattle.ride_model.specs.State.{State}
@@ -15,7 +15,7 @@ use Rattle.ride_model.specs.Text.{entry_line}
 use Rattle.history_laws.specs.Start.{IsStart}
 use Rattle.trip_log.specs.Cuts.{front_of}
 use Rattle.trip_log.proofs.TextLemmas.{cut-text, rest-text}
-use Rattle.log_audit.specs.declared.lines.LogLines.{LogLines}
+use Rattle.line_reader.specs.Reader.{HasNoLf, ReaderState}
 use Rattle.log_audit.specs.declared.verdict.AuditFault.TheVariants.{ReadFault, TooLong}
 use Rattle.board_core.specs.declared.totals.Totals.{Totals}
 use Rattle.log_audit.specs.declared.verdict.Verdict.TheVariants.{Yes, No}
@@ -24,10 +24,10 @@ use Rattle.log_audit.specs.declared.verdict.Why.TheVariants.{Spelling, Actor as 
 use Rattle.log_audit.specs.Audit.{Tells, IsLogOf, IsWrongNext, IsAnswer}
 use Rattle.log_audit.specs.Audited.{FailsAfter}
 use Rattle.log_audit.specs.Limits.{most_bytes, most_lines, IsTooLong, lines_within, Counts}
-use Rattle.log_audit.specs.LogLines.{HasNoLf, IsAtEnd, IsNextLine, IsStop, pending}
+use Rattle.log_audit.specs.LogLines.{IsAtEnd, IsNextLine, IsStop}
 use Rattle.board_core.specs.Totals.{AreTotalsOf}
 use Rattle.log_audit.specs.Words.{IsFault}
-use Rattle.log_audit.proofs.LineParts.{told-by}
+use Rattle.log_audit.proofs.LogParts.{few-bytes, lines-counted, told-by}
 use Rattle.log_audit.proofs.OneAnswer.{wrong-later}
 use Rattle.log_audit.proofs.WholeLines.{no-entry-first}
 
@@ -58,22 +58,6 @@ ended-rest bytes rest whole none = (
       ∙ ap (rest_after []) (sym (append-nil rest)) ∙ rest_after-no_end [] rest [] (no_end rest none),
 )
 
--- what was read to its end is within the limits
-pub not-too-long : (before left : Option (List ℕ)) (bytes rest : List ℕ) → rest_of bytes ≡ [] → IsAtEnd before left bytes rest → IsTooLong (bytes ++ rest) → ⊥
-not-too-long before left bytes rest whole end (inl long) = omega (arith, long, end.few_bytes)
-not-too-long before left bytes rest whole end (inr long) =
-    let (ended, last) = ended-rest bytes rest whole end.no_lf in
-    by_rest rest (length (lines_of (bytes ++ rest))) long end.one_more
-    (length-append (ended_lines (bytes ++ rest)) (last_line (rest_of (bytes ++ rest)))
-    ∙ (λ i. length (ended i) + length (last_line (last i))))
-  where
-    by_rest : (r : List ℕ) (many : ℕ) → most_lines < many → (r ≢ [] → length (ended_lines bytes) < most_lines)
-        → many ≡ length (ended_lines bytes) + length (last_line r) → ⊥
-    by_rest [] many long more is = omega (arith, long, is, end.few_lines)
-    by_rest (b ∷ r) many long more is =
-        let some : b ∷ r ≢ [] = λ none. cc none in
-        omega (arith, long, is, more some)
-
 -- all the bytes that were told were read
 pub all-read : (before left : Option (List ℕ)) (read : List ℕ) (P : List ℕ → Type 0) → Reads before left read → IfSome left (λ more. more ≡ [])
     → P read → IfSome before P
@@ -95,7 +79,7 @@ ends-yes before left start feeds desks entries text totals good are end =
       entries,
       good,
       are,
-      λ long. not-too-long before left text [] (whole-text start feeds desks entries text good) end (subst IsTooLong (sym (append-nil text)) long),
+      λ long. end.within (subst IsTooLong (sym (append-nil text)) long),
     ))
 
 -- its last line has no LF
@@ -115,7 +99,7 @@ ends-unfinished before left start feeds desks entries text rest line good end so
         wrong = (some, λ entry tells. no-entry-first start.settings.log entry tells.first.0 rest end.no_lf tells.first.1);
         line_is = line_is;
       }),
-      λ long. absurd (not-too-long before left text rest (whole-text start feeds desks entries text good) end long),
+      λ long. absurd (end.within long),
     )
 
 -- a line that an LF ends within the limits counts
@@ -148,7 +132,7 @@ one-line-more text line whole none =
     omega (arith, ap length lines, length-append (ended_lines text) (line ∷ []))
 
 -- a line is wrong
-pub ends-wrong : (before left : Option (List ℕ)) (start : State) (feeds desks : ℕ) (entries : List Entry) (text line : List ℕ) (lines : LogLines) (number : ℕ) (why : Why)
+pub ends-wrong : (before left : Option (List ℕ)) (start : State) (feeds desks : ℕ) (entries : List Entry) (text line : List ℕ) (lines : ReaderState) (number : ℕ) (why : Why)
     → IsLogOf start feeds desks entries text → IsNextLine before left lines text line
     → ((more : List ℕ) → IsWrongNext start feeds desks entries ((line ++ 10 ∷ []) ++ more) why) → number ≡ length entries + 2
     → IfSome before (λ all. IsAnswer start all (Ok (No number why)))
@@ -156,22 +140,22 @@ ends-wrong before left start feeds desks entries text line lines number why good
     let front : List ℕ = text ++ line ++ 10 ∷ [] in
     let ended : length (ended_lines front) ≡ length (ended_lines text) + 1
     = one-line-more text line (whole-text start feeds desks entries text good) next.no_lf in
-    told-by before left (front ++ pending lines) (λ all. IsAnswer start all (Ok (No number why))) next.read.reads
+    told-by before left (front ++ lines.pending) (λ all. IsAnswer start all (Ok (No number why))) next.read.reads
     (λ later. (
       inr (record {
         feeds = feeds;
         desks = desks;
         entries = entries;
         front = text;
-        rest = (line ++ 10 ∷ []) ++ (pending lines ++ later);
-        bytes_are = append_assoc front (pending lines) later ∙ ap (λ l. l ++ (pending lines ++ later)) (append_assoc text line (10 ∷ []))
-            ∙ append_assoc text (line ++ 10 ∷ []) (pending lines ++ later);
+        rest = (line ++ 10 ∷ []) ++ (lines.pending ++ later);
+        bytes_are = append_assoc front (lines.pending) later ∙ ap (λ l. l ++ (lines.pending ++ later)) (append_assoc text line (10 ∷ []))
+            ∙ append_assoc text (line ++ 10 ∷ []) (lines.pending ++ later);
         log = good;
-        wrong = wrong (pending lines ++ later);
+        wrong = wrong (lines.pending ++ later);
         line_is = number_is;
       }),
-      subst (λ all. Counts all number) (sym (append_assoc front (pending lines) later))
-          (counts-front front (pending lines ++ later) number (omega (arith, next.read.bytes_counted)) (omega (arith, next.read.lines_counted))
+      subst (λ all. Counts all number) (sym (append_assoc front (lines.pending) later))
+          (counts-front front (lines.pending ++ later) number (few-bytes next.read) (omega (arith, lines-counted next.read))
           (omega (arith, number_is, ended, count-text start feeds desks entries text good))),
     ))
 
@@ -205,7 +189,7 @@ ends-fault before left start feeds desks entries text begins good (rest, none, r
         late,
         low,
         count-text start feeds desks entries text good,
-        ap length (ended-rest text rest (whole-text start feeds desks entries text good) none).0,
+        ap length none,
       );
 }
 

@@ -1,4 +1,4 @@
-pub mod LineParts
+pub mod LogParts
 pub mod Legality
 pub mod OpenOnes
 pub mod DearSeats

@@ -6,7 +6,7 @@ use Rattle.ride_model.specs.Text.{IsOneOrTwo, head_line, text_of}
 use Rattle.board_core.specs.Recorded.{Recorded}
 use Rattle.ride_ports.specs.Bytes.{Reads}
 use Rattle.trip_log.specs.declared.reading.Head.{Head}
-use Rattle.log_audit.specs.declared.lines.LogLines.{LogLines}
+use Rattle.line_reader.specs.Reader.{ReaderState}
 use Rattle.log_audit.specs.declared.verdict.Why.{Why}
 use Rattle.log_audit.specs.Audit.{HasNoHead, IsWrongLine, IsWrongNext}
 use Rattle.log_audit.specs.Limits.{Counts, IsTooLong}
@@ -24,7 +24,7 @@ pub record FailsAfter (start : State) (before left : Option (List ℕ)) : Type 0
   pub none_wrong : NoneWrong start bytes
 
 -- a source's first line is the head
-pub record HasReadHead (before left : Option (List ℕ)) (lines : LogLines) (log : ℕ) (head : Head) : Type 0 where
+pub record HasReadHead (before left : Option (List ℕ)) (lines : ReaderState) (log : ℕ) (head : Head) : Type 0 where
   pub log_is : head.log ≡ log
   pub feeds_fit : IsOneOrTwo head.feeds
   pub desks_fit : IsOneOrTwo head.desks

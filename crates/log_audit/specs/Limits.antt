@@ -1,5 +1,6 @@
 -- The limits of a log.
 use Rattle.std.specs.Prelude.{ℕ, ◌<◌, ◌≤◌, ◌⊎◌, min, List, length, take}
+use Rattle.line_reader.specs.declared.limits.Limits.{Limits}
 use Rattle.line_text.specs.Lines.{ended_lines, lines_of}
 
 -- the most bytes of a line without its LF, the most bytes of a log, and its most lines
@@ -11,6 +12,9 @@ most_bytes = 1073741824
 
 abbrev pub most_lines : ℕ
 most_lines = 2100000
+
+abbrev pub log_limits : Limits
+log_limits = record { line = most_line; bytes = most_bytes; lines = most_lines }
 
 -- more bytes or more lines than a log may have
 abbrev pub IsTooLong : List ℕ → Type 0

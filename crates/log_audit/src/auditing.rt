@@ -15,11 +15,13 @@ ghost use Rattle.log_audit.specs.Audit.{IsAnswer};
 ghost use Rattle.log_audit.specs.Audited.{FailsAfter, HasReadHead, HasReadNoHead, IsWrongLineAfter, text_so_far};
 ghost use Rattle.log_audit.specs.Auditing.{GoesOn, IsAuditing};
 ghost use Rattle.log_audit.specs.Limits.{most_line};
-ghost use Rattle.log_audit.specs.LogLines.{HasNoLf, HasRead, IsStop, TakesSome};
+ghost use Rattle.line_reader.specs.Reader.{HasNoLf};
+ghost use Rattle.log_audit.specs.LogLines.{HasRead, IsStop, TakesSome};
 
 use crate::auditor::Auditor;
-use crate::lines::{LogLines, Next};
+use crate::lines::{log_reader, next_line};
 use crate::{AuditFault, Verdict, Why};
+use line_reader::{LineReader, NextLine};
 use ride_model::{Fleet, NoMemory, Settings};
 use ride_ports::Source;
 use road_times::Roads;
@@ -59,7 +61,7 @@ pub fn audit<R: Threads + Sync, S: Source>(
     // These calls tell that the map and the fleet are within their limits.
     let _nodes = roads.nodes();
     let _vehicles = fleet.vehicles();
-    let mut lines = LogLines::new(alloc)?;
+    let mut lines = log_reader(alloc)?;
     let Some(head) = first_line(&mut lines, log, settings.log)? else {
         return Ok(Verdict::No {
             line: 1,
@@ -80,7 +82,7 @@ impl From<NoMemory> for AuditFault {
 
 // The head of a log of this version, if its first line is one.
 fn first_line<S: Source>(
-    lines: &mut LogLines,
+    lines: &mut LineReader,
     log: &mut S,
     version: u8,
 ) -> Result<Option<Head>, AuditFault>
@@ -94,15 +96,15 @@ fn first_line<S: Source>(
     ensures other_counts_none { result ≢ Err ReadFault → S.faults log.new ≡ S.faults log.old }
     ensures count_never_falls { S.faults log.old ≤ S.faults log.new }
 {
-    match lines.next(log)? {
-        Next::Line => {
+    match next_line(lines, log)? {
+        NextLine::Line => {
             if lines.over() {
                 return Ok(None);
             }
             Ok(head_of(lines.line(), version))
         }
-        Next::Unfinished => Ok(None),
-        Next::End => Ok(None),
+        NextLine::Unfinished => Ok(None),
+        NextLine::End => Ok(None),
     }
 }
 
@@ -124,7 +126,7 @@ fn head_of(line: &[u8], version: u8) -> Option<Head>
 // Judges the lines after the head.
 fn further_lines<R: Threads + Sync, S: Source>(
     auditor: &mut Auditor<'_>,
-    lines: &mut LogLines,
+    lines: &mut LineReader,
     rt: &R,
     alloc: Global,
     log: &mut S,
@@ -144,17 +146,17 @@ fn further_lines<R: Threads + Sync, S: Source>(
     'lines: loop {
         // This call also tells that the history is legal and has a text.
         let line = auditor.board.entries().len() as u64 + 2;
-        match lines.next(log)? {
-            Next::Line => {
+        match next_line(lines, log)? {
+            NextLine::Line => {
                 if let Some(why) = judge_line(auditor, rt, alloc, lines)? {
                     return Ok(Verdict::No { line, why });
                 }
             }
-            Next::Unfinished => {
+            NextLine::Unfinished => {
                 let why = Why::Spelling;
                 return Ok(Verdict::No { line, why });
             }
-            Next::End => return Ok(Verdict::Yes(auditor.board.totals())),
+            NextLine::End => return Ok(Verdict::Yes(auditor.board.totals())),
         }
     }
 }
@@ -164,7 +166,7 @@ fn judge_line<R: Threads + Sync>(
     auditor: &mut Auditor<'_>,
     rt: &R,
     alloc: Global,
-    lines: &LogLines,
+    lines: &LineReader,
 ) -> Result<Option<Why>, NoMemory>
     requires auditing { IsAuditing auditor.old }
     requires few { length auditor.old.board.history < 2100000 }

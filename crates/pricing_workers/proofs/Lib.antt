@@ -3,6 +3,5 @@ pub mod Wanting
 pub mod Filling
 pub mod Nodes
 pub mod PairFacts
-pub mod Trials
 pub mod SeatOffers
 pub mod SmallCosts

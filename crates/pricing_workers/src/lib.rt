@@ -13,6 +13,3 @@ pub use batches::{price_batch, price_batch_by};
 pub use pairs::Search;
 pub use seats::{SeatPlaces, offer_of_seat};
 pub use workers::{scratches_of, workers_at_hand};
-
-#[cfg(test)]
-mod tests;

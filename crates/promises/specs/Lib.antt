@@ -1,3 +1,1 @@
 pub mod Arrivals
-pub mod Examples
-pub mod Trials

@@ -8,6 +8,3 @@ mod room;
 
 pub use kept::keeps;
 pub use late::broken;
-
-#[cfg(test)]
-mod tests;

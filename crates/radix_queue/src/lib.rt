@@ -112,6 +112,3 @@ impl RadixQueue {
         self.floor = 0;
     }
 }
-
-#[cfg(test)]
-mod tests;

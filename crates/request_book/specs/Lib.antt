@@ -1,4 +1,3 @@
 pub mod Book
 pub mod Kept
 pub mod Marked
-pub mod Rows

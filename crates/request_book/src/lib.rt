@@ -144,6 +144,3 @@ fn is_waiting(state: RequestState) -> bool
 {
     matches!(state, RequestState::Waiting)
 }
-
-#[cfg(test)]
-mod tests;

@@ -1,8 +1,8 @@
 //! The cheapest places for one more ride in a plan of 14 stops, on a road of four nodes in a line, a minute between neighbours.
 ghost use Rattle.std.specs.Prelude.{◌≡◌, ◌≤◌, length, map, false, IsTrue};
 ghost use Rattle.ride_model.specs.Offers.{is_idle};
-ghost use Rattle.promises.specs.Trials.{seconds_between, vehicle_with};
-ghost use Rattle.insertion.specs.Trials.{near_in_line, near_stop_in_line, may_be_asked};
+ghost use Rattle.plan_trials.specs.LineRoad.{seconds_between, vehicle_with};
+ghost use Rattle.plan_trials.specs.NearInLine.{near_in_line, near_stop_in_line, may_be_asked};
 ghost use Rattle.ride_bench.specs.Places.{settings};
 ghost use Rattle.slack_tables.specs.SlackOf.{slack_of};
 

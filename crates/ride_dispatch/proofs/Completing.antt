@@ -1,12 +1,12 @@
 -- Which statuses are left to a run of whole files without faults.
-use Rattle.std.proofs.Common.{◌≡◌, ◌≢◌, ◌⊎◌, inl, inr, ℕ, List, [], ◌∷◌}
+use Rattle.std.proofs.Common.{◌≡◌, ◌≢◌, ◌⊎◌, inl, inr, ℕ, List, [], ◌∷◌, None, Some}
 use Rattle.ride_ports.specs.Count.{Rose}
 use Rattle.ride_dispatch.specs.Answers.{told_bytes}
 use Rattle.ride_dispatch.specs.Audits.{EndsAudit}
 use Rattle.ride_dispatch.specs.Files.{AreWhole}
 use Rattle.ride_dispatch.specs.Runs.{IsRun, Seen}
 use Rattle.ride_dispatch.specs.Sessions.{EndsReplay, EndsService}
-use Rattle.ride_dispatch.specs.Words.{Ends, a_replay, a_service, an_audit}
+use Rattle.ride_dispatch.specs.Words.{Ends, a_replay, a_service, an_ahead, an_audit}
 use Rattle.ride_dispatch.proofs.Audits.{audit-not-long}
 use Rattle.ride_dispatch.proofs.Services.{service-not-long}
 use Rattle.ride_dispatch.proofs.Statuses.{complete-run, replay-not-long}
@@ -17,12 +17,22 @@ without-seven status not (inr (inl one)) = inr one
 without-seven status not (inr (inr seven)) = absurd (not seven)
 
 pub replay-completes : (m f r : List ℕ) (s : Seen) (status : ℕ) → IsRun m f (r ∷ []) s status
-    → (s.brought ≡ 3 → EndsReplay (told_bytes s.told m) (told_bytes s.told f) (told_bytes s.told r) s.back status s.written_before s.written_after)
+    → (s.brought ≡ 3 → EndsReplay None (told_bytes s.told m) (told_bytes s.told f) (told_bytes s.told r) s.back status s.written_before s.written_after)
     → status ≢ 7 → AreWhole s.told (a_replay m f r) → (Rose s.shelf_before s.shelf_after → ⊥) → (Rose s.sink_before s.sink_after → ⊥)
     → Ends (a_replay m f r) status
 replay-completes m f r s status run session not_seven (texts, feed) no_fault no_sink =
     without-seven status not_seven (complete-run m f (r ∷ []) s status run texts no_fault no_sink
-    (λ eight all. replay-not-long (told_bytes s.told m) (told_bytes s.told f) (told_bytes s.told r) s.back status s.written_before s.written_after feed (session all) eight))
+    (λ eight all. replay-not-long None (told_bytes s.told m) (told_bytes s.told f) (told_bytes s.told r) s.back status s.written_before s.written_after feed (session all) eight))
+
+pub ahead-completes : (m f r : List ℕ) (reach : ℕ) (s : Seen) (status : ℕ) → IsRun m f (r ∷ []) s status
+    → (s.brought ≡ 3 → EndsReplay (Some reach) (told_bytes s.told m) (told_bytes s.told f) (told_bytes s.told r) s.back status s.written_before
+    s.written_after)
+    → status ≢ 7 → AreWhole s.told (an_ahead m f r reach) → (Rose s.shelf_before s.shelf_after → ⊥) → (Rose s.sink_before s.sink_after → ⊥)
+    → Ends (an_ahead m f r reach) status
+ahead-completes m f r reach s status run session not_seven (texts, feed) no_fault no_sink =
+    without-seven status not_seven (complete-run m f (r ∷ []) s status run texts no_fault no_sink
+    (λ eight all. replay-not-long (Some reach) (told_bytes s.told m) (told_bytes s.told f) (told_bytes s.told r) s.back status s.written_before
+    s.written_after feed (session all) eight))
 
 pub audit-completes : (m f l : List ℕ) (s : Seen) (status : ℕ) → IsRun m f (l ∷ []) s status
     → (s.brought ≡ 3 → EndsAudit (told_bytes s.told m) (told_bytes s.told f) (told_bytes s.told l) s.back status s.written_before s.written_after

@@ -11,11 +11,11 @@ use Rattle.ride_dispatch.specs.Sessions.{EndsReplay, EndsReplayOver, EndsService
 -- over the texts that came before
 module _ (told middle : Option Contents) (m f : List ℕ) (network : RoadMap) (settings : Settings) (vehicles : List Vehicle) (first back : List GivenBack)
     (status : ℕ) (before after : Option (List ℕ)) (same : middle ≡ told) (texts : AreTextsOf network settings vehicles (told_bytes told m) (told_bytes told f)) where
-  pub replay-of : (r : List ℕ) → EndsReplayOver network settings vehicles (told_bytes middle r) first back status before after
-      → EndsReplay (told_bytes told m) (told_bytes told f) (told_bytes told r) back status before after
-  replay-of r ends =
+  pub replay-of : (reach : Option ℕ) (r : List ℕ) → EndsReplayOver network settings vehicles reach (told_bytes middle r) first back status before after
+      → EndsReplay reach (told_bytes told m) (told_bytes told f) (told_bytes told r) back status before after
+  replay-of reach r ends =
       let (ran, source, status_is, back_is, replayed) =
-      subst (λ (t : Option Contents). EndsReplayOver network settings vehicles (told_bytes t r) first back status before after) same ends in (
+      subst (λ (t : Option Contents). EndsReplayOver network settings vehicles reach (told_bytes t r) first back status before after) same ends in (
         ran,
         first,
         source,

@@ -116,9 +116,9 @@ told-not-long feed left taken (bytes, is, within) reads long =
     within-not-long bytes taken left within (subst (λ (o : Option (List ℕ)). IfSome o (λ b. Reads (Some b) left taken)) is reads) long
 
 -- a replay's feed within the limits is not too long
-pub replay-not-long : (map fleet feed : Option (List ℕ)) (back : List GivenBack) (status : ℕ) (before after : Option (List ℕ)) → IsFeedWithin feed
-    → EndsReplay map fleet feed back status before after → status ≡ 8 → ⊥
-replay-not-long map fleet feed back status before after within (ran, first, source, status_is, back_is, session) eight =
+pub replay-not-long : (reach : Option ℕ) (map fleet feed : Option (List ℕ)) (back : List GivenBack) (status : ℕ) (before after : Option (List ℕ)) → IsFeedWithin feed
+    → EndsReplay reach map fleet feed back status before after → status ≡ 8 → ⊥
+replay-not-long reach map fleet feed back status before after within (ran, first, source, status_is, back_is, session) eight =
     told-not-long feed source.left session.session.taken within session.session.feed_is
     (session.session.replayed.too_long (long-status ran (sym status_is ∙ eight)).1)
 

@@ -12,7 +12,7 @@ use Rattle.clap.specs.declared.error.Error.{Error}
 use Rattle.clap.specs.declared.error.kind.ErrorKind.TheVariants.{OutOfMemory}
 use Rattle.clap.specs.declared.parser.matches.ArgMatches.{ArgMatches}
 use Rattle.clap.proofs.WalkLemmas.{first_value-rows, both}
-use Rattle.ride_dispatch.specs.Words.{audit_wish, book_command, book_of, drill_of, drill_wish, first_word, replay_wish, serve_wish, unless, value_of, wish_of}
+use Rattle.ride_dispatch.specs.Words.{ahead_wish, audit_wish, book_command, book_of, drill_of, drill_wish, first_word, replay_wish, serve_wish, unless, value_of, wish_of}
 
 -- by the first word
 pub asks-replay : (words : List (List ℕ)) → bytes_eq (first_word words) (codes "replay") ≡ true → wish_of words ≡ replay_wish words
@@ -29,10 +29,15 @@ pub asks-serve : (words : List (List ℕ)) → bytes_eq (first_word words) (code
 unfolding wish_of
 asks-serve words first second is = rw (first, second, is) refl
 
-pub asks-nothing : (words : List (List ℕ)) → bytes_eq (first_word words) (codes "replay") ≡ false → bytes_eq (first_word words) (codes "audit") ≡ false
-    → bytes_eq (first_word words) (codes "serve") ≡ false → wish_of words ≡ None
+pub asks-ahead : (words : List (List ℕ)) → bytes_eq (first_word words) (codes "replay") ≡ false → bytes_eq (first_word words) (codes "audit") ≡ false
+    → bytes_eq (first_word words) (codes "serve") ≡ false → bytes_eq (first_word words) (codes "ahead") ≡ true → wish_of words ≡ ahead_wish words
 unfolding wish_of
-asks-nothing words first second third = rw (first, second, third) refl
+asks-ahead words first second third is = rw (first, second, third, is) refl
+
+pub asks-nothing : (words : List (List ℕ)) → bytes_eq (first_word words) (codes "replay") ≡ false → bytes_eq (first_word words) (codes "audit") ≡ false
+    → bytes_eq (first_word words) (codes "serve") ≡ false → bytes_eq (first_word words) (codes "ahead") ≡ false → wish_of words ≡ None
+unfolding wish_of
+asks-nothing words first second third fourth = rw (first, second, third, fourth) refl
 
 -- words for a drill ask for no run over files
 pub asks-drill : (words : List (List ℕ)) → bytes_eq (first_word words) (codes "drill") ≡ true → drill_of words ≡ drill_wish words

@@ -11,7 +11,7 @@ use Rattle.fleet_file.specs.FleetText.{fleet_format}
 use Rattle.command_lines.specs.Limits.{IsWithinLimits}
 use Rattle.log_audit.specs.Limits.{IsTooLong}
 use Rattle.ride_dispatch.specs.Answers.{told_bytes, AreTextsOf}
-use Rattle.ride_dispatch.specs.Words.{Wanted, a_replay, a_service, an_audit}
+use Rattle.ride_dispatch.specs.Words.{Wanted, a_replay, a_service, an_ahead, an_audit}
 use Rattle.ride_dispatch.specs.declared.files.Texts.{Texts}
 use Rattle.ride_dispatch.specs.declared.stop.Stop.{Stop}
 use Rattle.ride_dispatch.specs.declared.stop.Stop.TheVariants.{ShelfFault}
@@ -84,3 +84,4 @@ AreWhole told (a_replay map fleet feed) = AreTexts (told_bytes told map) (told_b
 AreWhole told (an_audit map fleet log) = AreTexts (told_bytes told map) (told_bytes told fleet) × IsLogWithin (told_bytes told log)
 AreWhole told (a_service map fleet riders drivers workers desks) = AreTexts (told_bytes told map) (told_bytes told fleet)
     × IsFeedWithin (told_bytes told riders) × IsFeedWithin (told_bytes told drivers)
+AreWhole told (an_ahead map fleet feed reach) = AreTexts (told_bytes told map) (told_bytes told fleet) × IsFeedWithin (told_bytes told feed)

@@ -11,37 +11,39 @@ use Rattle.ride_model.specs.Road.{RoadMap}
 use Rattle.ride_model.specs.State.{start_state}
 use Rattle.ride_model.specs.Text.{text_of}
 use Rattle.session_run.specs.Replay.{IsReadWhole, IsReplay}
-use Rattle.session_run.specs.Logged.{IsLogged}
+use Rattle.session_run.specs.Ahead.{IsWrittenBy}
 use Rattle.session_run.specs.Serving.{FeedRun, HasNotServed, HasServed, IsFeedOf, IsWrittenOut, feed_run}
 use Rattle.command_lines.specs.Limits.{IsTooLong}
 use Rattle.ride_dispatch.specs.Answers.{AreTextsOf}
 
 -- over a network, settings, vehicles and the bytes of a feed: some of the feed's bytes were taken, so that these are left, and
--- what was written is the log of their replay
-pub record IsReplayed (network : RoadMap) (settings : Settings) (vehicles : List Vehicle) (feed left : Option (List ℕ)) (ran : Ran) (before after : Option (List ℕ)) : Type 0 where
+-- what was written is the log of their replay, or where a reach is given the sheets of idle vehicles sent ahead after its commits
+pub record IsReplayed (network : RoadMap) (settings : Settings) (vehicles : List Vehicle) (reach : Option ℕ) (feed left : Option (List ℕ)) (ran : Ran)
+    (before after : Option (List ℕ)) : Type 0 where
   pub taken : List ℕ
   pub feed_is : IfSome feed (λ bytes. Reads (Some bytes) left taken)
   pub to_end : ran.no_memory ≡ false → IsReadWhole ran → IfSome left (λ rest. rest ≡ [])
   pub entries : List Entry
   pub replayed : IsReplay (start_state network settings vehicles) ran feed taken entries
-  pub logged : IsLogged ran before after (text_of settings.log 1 1 entries)
+  pub written : IsWrittenBy reach (start_state network settings vehicles) ran entries before after
 
 -- the same over the bytes of a map and a fleet file
-pub record IsSession (map fleet feed left : Option (List ℕ)) (ran : Ran) (before after : Option (List ℕ)) : Type 0 where
+pub record IsSession (reach : Option ℕ) (map fleet feed left : Option (List ℕ)) (ran : Ran) (before after : Option (List ℕ)) : Type 0 where
   pub network : RoadMap
   pub settings : Settings
   pub vehicles : List Vehicle
   pub texts : AreTextsOf network settings vehicles map fleet
-  pub session : IsReplayed network settings vehicles feed left ran before after
+  pub session : IsReplayed network settings vehicles reach feed left ran before after
 
 -- a session ran, whose status this is, and its feed was given back last
-abbrev pub EndsReplayOver : RoadMap → Settings → List Vehicle → Option (List ℕ) → List GivenBack → List GivenBack → ℕ → Option (List ℕ) → Option (List ℕ) → Type 0
-EndsReplayOver network settings vehicles feed first back status before after = (ran : Ran) × (source : GivenBack)
-    × (status ≡ status_of ran) × (back ≡ first ++ source ∷ []) × IsReplayed network settings vehicles feed source.left ran before after
+abbrev pub EndsReplayOver : RoadMap → Settings → List Vehicle → Option ℕ → Option (List ℕ) → List GivenBack → List GivenBack → ℕ
+    → Option (List ℕ) → Option (List ℕ) → Type 0
+EndsReplayOver network settings vehicles reach feed first back status before after = (ran : Ran) × (source : GivenBack)
+    × (status ≡ status_of ran) × (back ≡ first ++ source ∷ []) × IsReplayed network settings vehicles reach feed source.left ran before after
 
-abbrev pub EndsReplay : Option (List ℕ) → Option (List ℕ) → Option (List ℕ) → List GivenBack → ℕ → Option (List ℕ) → Option (List ℕ) → Type 0
-EndsReplay map fleet feed back status before after = (ran : Ran) × (first : List GivenBack) × (source : GivenBack)
-    × (status ≡ status_of ran) × (back ≡ first ++ source ∷ []) × IsSession map fleet feed source.left ran before after
+abbrev pub EndsReplay : Option ℕ → Option (List ℕ) → Option (List ℕ) → Option (List ℕ) → List GivenBack → ℕ → Option (List ℕ) → Option (List ℕ) → Type 0
+EndsReplay reach map fleet feed back status before after = (ran : Ran) × (first : List GivenBack) × (source : GivenBack)
+    × (status ≡ status_of ran) × (back ≡ first ++ source ∷ []) × IsSession reach map fleet feed source.left ran before after
 
 -- the bytes of a source that was brought are those of its name, where the shelf tells them
 abbrev pub AreBytesOf : Option (List ℕ) → Option (List ℕ) → Type 0

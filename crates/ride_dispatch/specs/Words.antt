@@ -11,16 +11,18 @@ use Rattle.city_maker.specs.declared.plan.CityPlan.{CityPlan}
 use Rattle.ride_dispatch.specs.declared.words.Ask.{Ask}
 use Rattle.ride_dispatch.specs.declared.words.Ask.TheVariants.{ForDrill, OfBookings, OverFiles}
 use Rattle.ride_dispatch.specs.declared.words.Wish.{Wish}
-use Rattle.ride_dispatch.specs.declared.words.Wish.TheVariants.{Replay, Audit, Serve}
+use Rattle.ride_dispatch.specs.declared.words.Wish.TheVariants.{Replay, Audit, Serve, Ahead}
 use Rattle.ride_dispatch.specs.declared.words.WordsError.{WordsError}
 use Rattle.ride_dispatch.specs.declared.words.WordsError.TheVariants.{Refused}
 
 -- what is wanted of a run over files, by their names: the replay of a map, a fleet file and a feed, the audit of a map, a fleet
--- file and a log, or the service of a map, a fleet file, riders and drivers, by so many workers and desks
+-- file and a log, the service of a map, a fleet file, riders and drivers, by so many workers and desks, or the sheets of idle
+-- vehicles sent ahead over a map, a fleet file and a feed, within a reach of so many seconds
 pub data Wanted : Type 0 where
   a_replay : List ℕ → List ℕ → List ℕ → Wanted
   an_audit : List ℕ → List ℕ → List ℕ → Wanted
   a_service : List ℕ → List ℕ → List ℕ → List ℕ → ℕ → ℕ → Wanted
+  an_ahead : List ℕ → List ℕ → List ℕ → ℕ → Wanted
 
 -- an option that has to be given, with one value, and a command of this name that has neither help nor version
 abbrev pub option_rule : List ℕ → Rule
@@ -46,6 +48,9 @@ abbrev pub serve_command : App
 serve_command =
     with_option (with_option (with_option (with_option (over_map_and_fleet (codes "serve")) (codes "riders")) (codes "drivers"))
     (codes "workers")) (codes "desks")
+
+abbrev pub ahead_command : App
+ahead_command = with_option (with_option (over_map_and_fleet (codes "ahead")) (codes "feed")) (codes "reach")
 
 abbrev pub drill_command : App
 drill_command =
@@ -95,6 +100,13 @@ serve_wish words =
     (option_and_then (number_within 1 16) (value (codes "workers"))))
     (value (codes "drivers"))) (value (codes "riders"))) (value (codes "fleet"))) (value (codes "map"))
 
+abbrev pub ahead_wish : List (List ℕ) → Option Wanted
+ahead_wish words =
+    let value = value_of ahead_command words in
+    option_and_then (λ map. option_and_then (λ fleet. option_and_then (λ feed. option_map (λ reach. an_ahead map fleet feed reach)
+    (option_and_then (number_within 1 1000000) (value (codes "reach"))))
+    (value (codes "feed"))) (value (codes "fleet"))) (value (codes "map"))
+
 -- what the words ask for, by the first of them; nothing where they are not in order
 abbrev pub first_word : List (List ℕ) → List ℕ
 first_word words = slice_index_or words 0 []
@@ -103,7 +115,8 @@ unfoldable pub wish_of : List (List ℕ) → Option Wanted
 wish_of words =
     if bytes_eq (first_word words) (codes "replay") then replay_wish words
     else (if bytes_eq (first_word words) (codes "audit") then audit_wish words
-    else (if bytes_eq (first_word words) (codes "serve") then serve_wish words else None))
+    else (if bytes_eq (first_word words) (codes "serve") then serve_wish words
+    else (if bytes_eq (first_word words) (codes "ahead") then ahead_wish words else None)))
 
 -- the plan of a drill that the words ask for, by the ranges of plans
 abbrev pub plan_of : ℕ → ℕ → ℕ → ℕ → CityPlan
@@ -136,10 +149,12 @@ wanted_by (Replay map fleet feed) = a_replay (string_bytes map) (string_bytes fl
 wanted_by (Audit map fleet log) = an_audit (string_bytes map) (string_bytes fleet) (string_bytes log)
 wanted_by (Serve map fleet riders drivers workers desks) =
     a_service (string_bytes map) (string_bytes fleet) (string_bytes riders) (string_bytes drivers) workers desks
+wanted_by (Ahead map fleet feed reach) = an_ahead (string_bytes map) (string_bytes fleet) (string_bytes feed) reach
 
 -- the numbers of a wish are within their ranges
 abbrev pub IsInRange : Wish → Type 0
 IsInRange (Serve map fleet riders drivers workers desks) = (1 ≤ workers) × (workers ≤ 16) × IsOneOrTwo desks
+IsInRange (Ahead map fleet feed reach) = (1 ≤ reach) × (reach ≤ 1000000)
 IsInRange _ = ⊤
 
 -- words that ask for this were read: the wish was found, or they were refused; or memory was wanting
@@ -167,21 +182,24 @@ abbrev pub map_name : Wanted → List ℕ
 map_name (a_replay map fleet feed) = map
 map_name (an_audit map fleet log) = map
 map_name (a_service map fleet riders drivers workers desks) = map
+map_name (an_ahead map fleet feed reach) = map
 
 abbrev pub fleet_name : Wanted → List ℕ
 fleet_name (a_replay map fleet feed) = fleet
 fleet_name (an_audit map fleet log) = fleet
 fleet_name (a_service map fleet riders drivers workers desks) = fleet
+fleet_name (an_ahead map fleet feed reach) = fleet
 
 abbrev pub other_names : Wanted → List (List ℕ)
 other_names (a_replay map fleet feed) = feed ∷ []
 other_names (an_audit map fleet log) = log ∷ []
 other_names (a_service map fleet riders drivers workers desks) = riders ∷ drivers ∷ []
+other_names (an_ahead map fleet feed reach) = feed ∷ []
 
 abbrev pub names_of : Wanted → List (List ℕ)
 names_of wanted = map_name wanted ∷ fleet_name wanted ∷ other_names wanted
 
--- what is said of a replay alone, of an audit alone and of a service alone
+-- what is said of a replay alone, of an audit alone, of a service alone and of sheets alone
 abbrev pub OfReplay : (List ℕ → List ℕ → List ℕ → Type 0) → Wanted → Type 0
 OfReplay say (a_replay map fleet feed) = say map fleet feed
 OfReplay say _ = ⊤
@@ -193,6 +211,10 @@ OfAudit say _ = ⊤
 abbrev pub OfService : (List ℕ → List ℕ → List ℕ → List ℕ → ℕ → ℕ → Type 0) → Wanted → Type 0
 OfService say (a_service map fleet riders drivers workers desks) = say map fleet riders drivers workers desks
 OfService say _ = ⊤
+
+abbrev pub OfAhead : (List ℕ → List ℕ → List ℕ → ℕ → Type 0) → Wanted → Type 0
+OfAhead say (an_ahead map fleet feed reach) = say map fleet feed reach
+OfAhead say _ = ⊤
 
 -- an audit is wanted
 abbrev pub IsAudit : Wanted → Type 0

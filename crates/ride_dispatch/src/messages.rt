@@ -112,9 +112,10 @@ fn usage(word: &str) -> &'static str {
         "audit" => "audit --map MAP --fleet FLEET --log LOG",
         "serve" =>
             "serve --map MAP --fleet FLEET --riders RIDERS --drivers DRIVERS --workers 1..16 --desks 1..2",
+        "ahead" => "ahead --map MAP --fleet FLEET --feed FEED --reach 1..1000000",
         "book" => "book --feed FEED",
         "drill" =>
             "drill --side 2..100 --vehicles 0..1000 --requests 0..16000 --seed 0..2147483647",
-        _ => "replay, audit, serve, drill or book, with its options",
+        _ => "replay, audit, serve, ahead, drill or book, with its options",
     }
 }

@@ -15,6 +15,7 @@ mod refusals;
 mod replays;
 mod seatings;
 mod serving;
+mod sheets;
 mod stops;
 mod texts;
 

@@ -1,5 +1,5 @@
 //! The top call.
-ghost use Rattle.std.specs.Prelude.{◌≡◌, ◌≢◌, ◌≤◌, ◌<◌, ◌⊎◌, ◌++◌, ◌∷◌, [], List, All, codes, length, map, None, string_bytes, IfSome, Ok};
+ghost use Rattle.std.specs.Prelude.{◌≡◌, ◌≢◌, ◌≤◌, ◌<◌, ◌⊎◌, ◌++◌, ◌∷◌, [], List, All, codes, length, map, None, Some, string_bytes, IfSome, Ok};
 ghost use Rattle.ride_ports.specs.Contents.{GivenBack};
 ghost use Rattle.ride_ports.specs.Count.{Rose};
 ghost use Rattle.ride_model.specs.declared.settings.Settings.{Settings};
@@ -17,7 +17,7 @@ ghost use Rattle.ride_dispatch.specs.Files.{AreGivenBack, AreWhole, FailsIn, IsS
 ghost use Rattle.ride_dispatch.specs.Refusals.{fleet_refusal, map_refusal, Says};
 ghost use Rattle.ride_dispatch.specs.Runs.{files_of, seen, IsRun};
 ghost use Rattle.ride_dispatch.specs.Sessions.{EndsReplay, EndsService};
-ghost use Rattle.ride_dispatch.specs.Words.{book_of, drill_of, fleet_name, map_name, names_of, other_names, wanted_by, wish_of, AskForNothing, Begins, Ends, IsAudit, IsInRange, OfAudit, OfReplay, OfService};
+ghost use Rattle.ride_dispatch.specs.Words.{book_of, drill_of, fleet_name, map_name, names_of, other_names, wanted_by, wish_of, AskForNothing, Begins, Ends, IsAudit, IsInRange, OfAhead, OfAudit, OfReplay, OfService};
 
 use crate::auditing::audit;
 use crate::booking::book;
@@ -98,9 +98,13 @@ pub fn run<R: Threads + Wait + Sync, H: Shelf, K: Sink, G: Gate>(
         × FailsIn (fleet_format network.nodes) (told_bytes (H.contents shelf.old) (fleet_name wanted)) source) }
     ensures sink_fault { result ≡ 6 → Rose (K.faults out.old) (K.faults out.new) }
 
-    // Where all names were brought, a session ran or a log was audited.
+    // Where all names were brought, a session ran, whose log or whose sheets of idle vehicles sent ahead were written, or a log was
+    // audited.
     ensures replayed { IfSome (wish_of (map string_bytes words.now)) (OfReplay (λ map fleet feed. H.brought shelf.new ≡ 3
-        → EndsReplay (told_bytes (H.contents shelf.old) map) (told_bytes (H.contents shelf.old) fleet)
+        → EndsReplay None (told_bytes (H.contents shelf.old) map) (told_bytes (H.contents shelf.old) fleet)
+        (told_bytes (H.contents shelf.old) feed) (H.back shelf.new) result (K.written out.old) (K.written out.new))) }
+    ensures ahead { IfSome (wish_of (map string_bytes words.now)) (OfAhead (λ map fleet feed reach. H.brought shelf.new ≡ 3
+        → EndsReplay (Some reach) (told_bytes (H.contents shelf.old) map) (told_bytes (H.contents shelf.old) fleet)
         (told_bytes (H.contents shelf.old) feed) (H.back shelf.new) result (K.written out.old) (K.written out.new))) }
     ensures audited { IfSome (wish_of (map string_bytes words.now)) (OfAudit (λ map fleet log. H.brought shelf.new ≡ 3
         → EndsAudit (told_bytes (H.contents shelf.old) map) (told_bytes (H.contents shelf.old) fleet)
@@ -150,7 +154,10 @@ fn run_words<R: Threads + Wait + Sync, H: Shelf, K: Sink, G: Gate>(
         (seen (H.contents shelf.old) (H.asked shelf.new) (H.brought shelf.new) (H.back shelf.new) (H.faults shelf.old) (H.faults shelf.new)
         (K.written out.old) (K.written out.new) (K.faults out.old) (K.faults out.new)) result) }
     ensures replayed { IfSome (wish_of (map string_bytes words.now)) (OfReplay (λ map fleet feed. H.brought shelf.new ≡ 3
-        → EndsReplay (told_bytes (H.contents shelf.old) map) (told_bytes (H.contents shelf.old) fleet)
+        → EndsReplay None (told_bytes (H.contents shelf.old) map) (told_bytes (H.contents shelf.old) fleet)
+        (told_bytes (H.contents shelf.old) feed) (H.back shelf.new) result (K.written out.old) (K.written out.new))) }
+    ensures ahead { IfSome (wish_of (map string_bytes words.now)) (OfAhead (λ map fleet feed reach. H.brought shelf.new ≡ 3
+        → EndsReplay (Some reach) (told_bytes (H.contents shelf.old) map) (told_bytes (H.contents shelf.old) fleet)
         (told_bytes (H.contents shelf.old) feed) (H.back shelf.new) result (K.written out.old) (K.written out.new))) }
     ensures audited { IfSome (wish_of (map string_bytes words.now)) (OfAudit (λ map fleet log. H.brought shelf.new ≡ 3
         → EndsAudit (told_bytes (H.contents shelf.old) map) (told_bytes (H.contents shelf.old) fleet)
@@ -199,7 +206,10 @@ fn grant<R: Threads + Wait + Sync, H: Shelf, K: Sink, G: Gate>(
         (seen (H.contents shelf.old) (H.asked shelf.new) (H.brought shelf.new) (H.back shelf.new) (H.faults shelf.old) (H.faults shelf.new)
         (K.written out.old) (K.written out.new) (K.faults out.old) (K.faults out.new)) result }
     ensures replayed { OfReplay (λ map fleet feed. H.brought shelf.new ≡ 3
-        → EndsReplay (told_bytes (H.contents shelf.old) map) (told_bytes (H.contents shelf.old) fleet)
+        → EndsReplay None (told_bytes (H.contents shelf.old) map) (told_bytes (H.contents shelf.old) fleet)
+        (told_bytes (H.contents shelf.old) feed) (H.back shelf.new) result (K.written out.old) (K.written out.new)) (wanted_by wish) }
+    ensures ahead { OfAhead (λ map fleet feed reach. H.brought shelf.new ≡ 3
+        → EndsReplay (Some reach) (told_bytes (H.contents shelf.old) map) (told_bytes (H.contents shelf.old) fleet)
         (told_bytes (H.contents shelf.old) feed) (H.back shelf.new) result (K.written out.old) (K.written out.new)) (wanted_by wish) }
     ensures audited { OfAudit (λ map fleet log. H.brought shelf.new ≡ 3
         → EndsAudit (told_bytes (H.contents shelf.old) map) (told_bytes (H.contents shelf.old) fleet)
@@ -215,7 +225,15 @@ fn grant<R: Threads + Wait + Sync, H: Shelf, K: Sink, G: Gate>(
         → Ends (wanted_by wish) result }
 {
     match wish {
-        Wish::Replay { map, fleet, feed } => replay(rt, alloc, map, fleet, feed, shelf, out),
+        Wish::Replay { map, fleet, feed } => {
+            replay(rt, alloc, map, fleet, feed, None, shelf, out)
+        }
+        Wish::Ahead {
+            map,
+            fleet,
+            feed,
+            reach,
+        } => replay(rt, alloc, map, fleet, feed, Some(reach), shelf, out),
         Wish::Audit { map, fleet, log } => audit(rt, alloc, map, fleet, log, shelf, out),
         Wish::Serve {
             map,

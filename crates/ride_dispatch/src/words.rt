@@ -1,14 +1,16 @@
 //! The words after the program's name.
 ghost use Rattle.std.specs.Prelude.{◌≡◌, ◌<◌, bytes_eq, codes, length, map, None, string_bytes, IfOk, MatchBool};
 ghost use Rattle.city_maker.specs.Plan.{IsPlan};
-ghost use Rattle.ride_dispatch.specs.Words.{audit_wish, book_command, book_of, drill_of, drill_wish, first_word, replay_wish, serve_wish, value_of, wish_of, IsAskOf, IsInRange, IsPlanOf, IsTextOf, IsWishOf};
+ghost use Rattle.ride_dispatch.specs.Words.{ahead_wish, audit_wish, book_command, book_of, drill_of, drill_wish, first_word, replay_wish, serve_wish, value_of, wish_of, IsAskOf, IsInRange, IsPlanOf, IsTextOf, IsWishOf};
 ghost use Rattle.ride_dispatch.specs.Asks.{IsAskInRange};
 
 mod commands;
 mod values;
 
 use city_maker::CityPlan;
-use commands::{audit_command, book_command, drill_command, replay_command, serve_command};
+use commands::{
+    ahead_command, audit_command, book_command, drill_command, replay_command, serve_command,
+};
 use std::alloc::Global;
 use values::{number, read_by, text};
 
@@ -40,6 +42,13 @@ pub enum Wish {
         drivers: String,
         workers: u32,
         desks: u8,
+    },
+    Ahead {
+        map: String,
+        fleet: String,
+        feed: String,
+        /// In seconds.
+        reach: u64,
     },
 }
 
@@ -143,6 +152,9 @@ fn read_words(alloc: Global, words: &[String]) -> Result<Wish, WordsError>
     if begins(words, "serve") {
         return serve_words(alloc, words);
     }
+    if begins(words, "ahead") {
+        return ahead_words(alloc, words);
+    }
     Err(WordsError::Refused)
 }
 
@@ -176,6 +188,24 @@ fn audit_words(alloc: Global, words: &[String]) -> Result<Wish, WordsError>
     let fleet = text(alloc, &given, "fleet")?;
     let log = text(alloc, &given, "log")?;
     Ok(Wish::Audit { map, fleet, log })
+}
+
+// The options of idle vehicles sent ahead.
+fn ahead_words(alloc: Global, words: &[String]) -> Result<Wish, WordsError>
+    ensures wish { IsWishOf (ahead_wish (map string_bytes words.now)) result }
+    ensures in_range { IfOk result IsInRange }
+{
+    let given = read_by(ahead_command(alloc)?, words)?;
+    let map = text(alloc, &given, "map")?;
+    let fleet = text(alloc, &given, "fleet")?;
+    let feed = text(alloc, &given, "feed")?;
+    let reach = number(&given, "reach", 1, 1_000_000)?;
+    Ok(Wish::Ahead {
+        map,
+        fleet,
+        feed,
+        reach,
+    })
 }
 
 // The options of a service.

@@ -28,8 +28,5 @@ pub use reply::{Reply, RequestState};
 pub use settings::Settings;
 pub use vehicle::{Kind, Load, Ride, Stop, Vehicle};
 
-#[cfg(test)]
-mod tests;
-
 /// Want of memory, the one failure that no contract ties to a cause.
 pub type NoMemory = std::alloc::AllocError;

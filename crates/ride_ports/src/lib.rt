@@ -29,6 +29,3 @@ pub use sure::{SureFile, SureShelf, SureSink, SureSource};
 
 /// Want of memory.
 pub type NoMemory = std::alloc::AllocError;
-
-#[cfg(test)]
-mod tests;

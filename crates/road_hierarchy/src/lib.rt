@@ -253,6 +253,3 @@ impl Scratch {
         })
     }
 }
-
-#[cfg(test)]
-mod tests;

@@ -145,6 +145,3 @@ impl Scratch {
         Ok(Scratch { search })
     }
 }
-
-#[cfg(test)]
-mod tests;

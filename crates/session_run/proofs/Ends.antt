@@ -1,18 +1,34 @@
 -- A board whose feed and desk end.
-use Rattle.std.proofs.Common.{◌≡◌, ◌≤◌, List, [], ◌∷◌, ◌++◌, sym, ap, ◌∙◌, arith}
-use Rattle.std.specs.Prelude.{is_some, IsFalse, find, ◌==◌}
+use Rattle.std.proofs.Common.{◌≡◌, ◌≤◌, List, [], ◌∷◌, ◌++◌, refl, sym, ap, ◌∙◌, append_assoc, arith}
+use Rattle.std.specs.Prelude.{is_some, IsFalse, find, option_and_then, ◌==◌}
 use Rattle.std.specs.List.{list_any, list_all, range_with_len}
 use Rattle.ride_model.specs.declared.command.Actor.{Actor}
 use Rattle.ride_model.specs.declared.command.Actor.TheVariants.{Feed, Desk}
 use Rattle.ride_model.specs.declared.entry.Ending.{Ending}
 use Rattle.ride_model.specs.declared.entry.Ending.TheVariants.{Whole}
 use Rattle.ride_model.specs.declared.entry.Entry.{Entry}
+use Rattle.ride_model.specs.History.{awaited_after}
 use Rattle.ride_model.specs.Legal.{MayEnd}
 use Rattle.ride_model.specs.Seating.{BatchCopy}
 use Rattle.ride_model.specs.State.{State, has_ended, is_actor}
 use Rattle.board_core.specs.Recorded.{Recorded, state_of, end_entry}
-use Rattle.session_run.specs.Running.{GoesOn, IsSession}
-use Rattle.session_run.proofs.Going.{state-push}
+use Rattle.session_run.specs.Running.{GoesOn, IsPrompt, IsSession}
+use Rattle.session_run.proofs.Going.{state-push, awaited-push, gave_up-push}
+
+-- the ends of the feed and the desk leave a history prompt
+pub ends-prompt : (old new : List Entry) (ending desk_ending : Ending)
+    → new ≡ old ++ end_entry (Feed 1) ending ∷ end_entry (Desk 1) desk_ending ∷ [] → IsPrompt old → IsPrompt new
+ends-prompt old new ending desk_ending history prompt =
+    let first : Entry = end_entry (Feed 1) ending in
+    let last : Entry = end_entry (Desk 1) desk_ending in
+    let middle : List Entry = old ++ first ∷ [] in
+    let grows : new ≡ middle ++ last ∷ [] = history ∙ sym (append_assoc old (first ∷ []) (last ∷ [])) in
+    record {
+      direct = awaited-push middle new last grows
+          ∙ ap (λ o. option_and_then (λ a. awaited_after a last.actor last.event) o)
+          (awaited-push old middle first refl ∙ ap (λ o. option_and_then (λ a. awaited_after a first.actor first.event) o) prompt.direct);
+      none_given_up = gave_up-push middle new last grows refl (gave_up-push old middle first refl refl prompt.none_given_up);
+    }
 
 -- a board goes on by entries
 pub goes-by : (old new : Recorded) (more : List Entry) → new.start ≡ old.start → new.feeds ≡ old.feeds → new.history ≡ old.history ++ more → GoesOn old new

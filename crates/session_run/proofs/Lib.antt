@@ -5,12 +5,15 @@ pub mod Opening
 pub mod Answering
 pub mod FeedRuns
 pub mod Ends
+pub mod CommitSheets
+pub mod ToldSheets
 pub mod DriverReports
 pub mod DrillFleet
 pub mod DrillSteps
 pub mod DrillEnds
 pub mod DrillCity
 pub mod Replays
+pub mod WrittenSessions
 pub mod Begun
 pub mod NothingLeft
 pub mod MadeEntries

@@ -160,6 +160,18 @@ commits old new solved opened start feeds desks history legal =
       none_given_up = λ _ none. gave_up-push old.history new.history entry history refl none;
     }
 
+-- a committed batch was closed, whatever else was wanting
+pub closes-any : (whole : Bool) (old new : Recorded) → Closes true old new → Closes whole old new
+closes-any whole old new closed = record {
+  goes_on = closed.goes_on;
+  session = closed.session;
+  all_opened = closed.all_opened;
+  commands = closed.commands;
+  entry = λ _. closed.entry refl;
+  direct = λ _. closed.direct refl;
+  none_given_up = λ _. closed.none_given_up refl;
+}
+
 -- a board after a batch was given up
 pub gives-up : (old new : Recorded) (batch : BatchCopy) → IsOpened batch old → new.start ≡ old.start → new.feeds ≡ old.feeds
     → new.desks ≡ old.desks → new.history ≡ old.history ++ abandoned_entry batch ∷ [] → Closes false old new

@@ -1,6 +1,6 @@
 -- What a session's history gives at its end.
 use Rattle.std.proofs.Common.{◌≡◌, ℕ, Bool, true, false, cond, List, [], ◌∷◌, ◌++◌, Option, Some, None, eqb, eq-eqb, refl, sym, ap, subst, ◌∙◌, append_assoc, append-nil, inl}
-use Rattle.std.specs.Prelude.{IfSome, option_and_then, filter_map, All, ◌&&◌}
+use Rattle.std.specs.Prelude.{IfSome, filter_map, All, ◌&&◌}
 use Rattle.std.specs.List.{list_any, list_all, range_with_len}
 use Rattle.ride_model.specs.declared.command.Actor.{Actor}
 use Rattle.ride_model.specs.declared.command.Actor.TheVariants.{Feed, Desk}
@@ -11,7 +11,7 @@ use Rattle.ride_model.specs.declared.entry.Entry.{Entry}
 use Rattle.ride_model.specs.declared.settings.Settings.{Settings}
 use Rattle.ride_model.specs.declared.vehicle.Vehicle.{Vehicle}
 use Rattle.ride_model.specs.Fleet.{IsFleet}
-use Rattle.ride_model.specs.History.{fed_commands, awaited_after, is_whole, entries_of, command_of, IsDirect}
+use Rattle.ride_model.specs.History.{fed_commands, is_whole, entries_of, command_of}
 use Rattle.ride_model.specs.Legal.{IsLegal, replay}
 use Rattle.ride_model.specs.Road.{RoadMap, IsRoadMap}
 use Rattle.ride_model.specs.Settings.{IsSettings}
@@ -32,9 +32,10 @@ use Rattle.session_run.specs.Logged.{IsLogged}
 use Rattle.session_run.specs.Page.{LogState, HasLogged}
 use Rattle.session_run.specs.Reading.{AreFirstOf, HasEnded, ending_of, is_source_failed, is_too_long}
 use Rattle.session_run.specs.Replay.{IsReadWhole, IsReplay}
-use Rattle.session_run.specs.Running.{IsSession, IsRunning, gave_up}
+use Rattle.session_run.specs.Running.{IsPrompt, IsSession, IsRunning}
 use Rattle.session_run.specs.Settled.{IsSettled}
-use Rattle.session_run.proofs.Going.{state-push, settled-push, awaited-push, gave_up-push, fed-append}
+use Rattle.session_run.proofs.Ends.{ends-prompt}
+use Rattle.session_run.proofs.Going.{state-push, settled-push, fed-append}
 
 -- where a session starts
 pub is-start : (roads : RoadMap) (settings : Settings) (fleet : List Vehicle) → IsRoadMap roads → IsSettings settings → IsFleet fleet
@@ -58,8 +59,7 @@ record EndsSo (old new : Recorded) (ending desk_ending : Ending) : Type 0 where
   asked : (state_of new).asked ≡ (state_of old).asked
   settled : IsSettled new.history
   commands : fed_commands 1 new.history ≡ fed_commands 1 old.history
-  direct : IsDirect old.history → IsDirect new.history
-  none_given_up : gave_up old.history ≡ false → gave_up new.history ≡ false
+  prompt : IsPrompt old.history → IsPrompt new.history
 
 -- an end is no command
 fed-end : (entries : List Entry) (actor : Actor) (ending : Ending) → fed_commands 1 (entries ++ end_entry actor ending ∷ []) ≡ fed_commands 1 entries
@@ -90,10 +90,7 @@ ends-so old new ending desk_ending session start history =
       asked = ap (λ (t : State). t.asked) to_new ∙ ap (λ (t : State). t.asked) to_middle;
       settled = settled-push middle.history new.history last grows (settled-push old.history middle.history first refl session.settled refl) refl;
       commands = ap (fed_commands 1) grows ∙ fed-end middle.history (Desk 1) desk_ending ∙ fed-end old.history (Feed 1) ending;
-      direct = λ direct. awaited-push middle.history new.history last grows
-          ∙ ap (λ o. option_and_then (λ a. awaited_after a last.actor last.event) o)
-          (awaited-push old.history middle.history first refl ∙ ap (λ o. option_and_then (λ a. awaited_after a first.actor first.event) o) direct);
-      none_given_up = λ none. gave_up-push middle.history new.history last grows refl (gave_up-push old.history middle.history first refl refl none);
+      prompt = ends-prompt old.history new.history ending desk_ending history;
     }
 
 -- the desk ends whole where all was opened
@@ -142,8 +139,8 @@ module _ (start : State) (begins : IsStart start) (ran : Ran) (feed : Option (Li
         whole = λ _ whole. absurd (not_whole whole);
         cut = λ memory _. record {
           commands = commands;
-          direct = ends.direct (running.prompt (sym wanting ∙ memory)).direct;
-          none_given_up = ends.none_given_up (running.prompt (sym wanting ∙ memory)).none_given_up;
+          direct = (ends.prompt (running.prompt (sym wanting ∙ memory))).direct;
+          none_given_up = (ends.prompt (running.prompt (sym wanting ∙ memory))).none_given_up;
           ended = ap (λ (s : State). (replay s new.history).ended) (sym (new_start ∙ old_start)) ∙ ends.ended
               ∙ ap (λ e. (Feed 1, e) ∷ (Desk 1, cond (eqb (state_of old).opened (state_of old).asked) Whole Cut) ∷ []) is_cut
               ∙ ap (λ e. (Feed 1, Cut) ∷ (Desk 1, e) ∷ []) (whole-desk (state_of old).opened (state_of old).asked running.all_opened);
@@ -182,9 +179,9 @@ module _ (start : State) (begins : IsStart start) (ran : Ran) (feed : Option (Li
             desks_whole = (λ i. list_all (λ desk. list_any (λ (end : Actor × Ending). is_actor end.0 (Desk desk) && is_whole end.1) (ended i)) (range_with_len 1 1));
             all_opened = ap (λ (s : State). s.opened) at ∙ ends.opened ∙ running.all_opened ∙ sym (ap (λ (s : State). s.asked) at ∙ ends.asked);
             none_open = ap (λ (s : State). s.batches) at ∙ ends.batches;
-            none_given_up = ends.none_given_up (running.prompt (sym wanting ∙ memory)).none_given_up;
+            none_given_up = (ends.prompt (running.prompt (sym wanting ∙ memory))).none_given_up;
           };
-          direct = ends.direct (running.prompt (sym wanting ∙ memory)).direct;
+          direct = (ends.prompt (running.prompt (sym wanting ∙ memory))).direct;
         };
         cut = λ _ not_whole. absurd (not_whole read);
         within = λ _ _. within;

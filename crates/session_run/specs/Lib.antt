@@ -3,7 +3,10 @@ pub mod Replay
 pub mod Logged
 pub mod Page
 pub mod Running
+pub mod Planning
+pub mod Ahead
 pub mod Reading
+pub mod Telling
 pub mod Loops
 pub mod Serving
 pub mod Drills

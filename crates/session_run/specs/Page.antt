@@ -22,8 +22,10 @@ pub record HasLogged (before now : Option (List ℕ)) (faults_before faults_now 
   pub faults : MatchBool log.failed (Rose faults_before faults_now) (faults_now ≡ faults_before)
   pub never_falls : faults_before ≤ faults_now
 
--- a session: its board, its log, and whether memory was wanting
+-- a session: its board, what it writes, the reach of its sheets where it writes these in place of its log, and whether memory was
+-- wanting
 pub record SessionState : Type 0 where
   pub board : Recorded
   pub log : LogState
+  pub reach : Option ℕ
   pub no_memory : Bool

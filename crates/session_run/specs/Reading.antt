@@ -1,8 +1,10 @@
 -- What a session has answered of its feed.
-use Rattle.std.specs.Prelude.{◌≡◌, ℕ, Bool, true, false, List, Option, Some, None, IfSome, MatchOption}
+use Rattle.std.specs.Prelude.{◌≡◌, ℕ, ◌++◌, Bool, true, false, List, Option, Some, None, IfSome, MatchOption}
+use mathlib.Core.List.{IsPrefix}
 use Rattle.ride_model.specs.declared.command.Command.{Command}
 use Rattle.ride_model.specs.declared.entry.Ending.{Ending}
 use Rattle.ride_model.specs.declared.entry.Ending.TheVariants.{Whole, Cut}
+use Rattle.ride_model.specs.declared.entry.Entry.{Entry}
 use Rattle.ride_model.specs.History.{fed_commands}
 use Rattle.ride_model.specs.Text.{text_of}
 use Rattle.ride_ports.specs.Bytes.{Reads}
@@ -11,10 +13,14 @@ use Rattle.command_lines.specs.Commands.{commands_of}
 use Rattle.command_lines.specs.Feeds.{IsStopped, IsWhole}
 use Rattle.command_lines.specs.Limits.{AreFirst}
 use Rattle.board_core.specs.Recorded.{Recorded}
+use Rattle.idle_moves.specs.declared.moves.MoveSheet.{MoveSheet}
+use Rattle.idle_moves.specs.AheadText.{head_line, sheet_lines}
+use Rattle.idle_moves.specs.HistorySheets.{AreSheetsOf}
 use Rattle.session_run.specs.declared.stops.Stop.{Stop}
 use Rattle.session_run.specs.declared.stops.Stop.TheVariants.{NoMemory, OfFeed}
-use Rattle.session_run.specs.Page.{LogState, HasLogged}
-use Rattle.session_run.specs.Running.{IsSession, IsRunning}
+use Rattle.session_run.specs.Ahead.{sheets_text}
+use Rattle.session_run.specs.Page.{LogState, HasLogged, SessionState}
+use Rattle.session_run.specs.Running.{IsPrompt, IsSession, IsRunning}
 
 -- these commands are the first that a feed gives of the bytes that were taken, and of all its bytes, where they are told
 pub record AreFirstOf (log : ℕ) (feed : Option (List ℕ)) (taken : List ℕ) (commands : List Command) : Type 0 where
@@ -43,6 +49,36 @@ pub record HasRun (log : ℕ) (feed left : Option (List ℕ)) (stop : Option Sto
 abbrev pub IsTold : Option (List ℕ) → Option (List ℕ) → ℕ → ℕ → LogState → Recorded → Type 0
 IsTold earlier now faults_before faults_now log board =
     HasLogged earlier now faults_before faults_now log (text_of board.start.settings.log 1 1 board.history)
+
+-- of the sheets within a reach of a session's history this text was written: of all its commits where memory was not wanting, and
+-- else of those before it was
+pub record TellsSheets (reach : ℕ) (text : List MoveSheet → List ℕ) (earlier now : Option (List ℕ)) (faults_before faults_now : ℕ) (s : SessionState)
+    : Type 0 where
+  pub first : List Entry
+  pub sheets : List MoveSheet
+  pub begins : IsPrefix first s.board.history
+  pub prompt : IsPrompt first
+  pub sheets_are : AreSheetsOf s.board.start reach first sheets
+  pub all : s.no_memory ≡ false → first ≡ s.board.history
+  pub logged : HasLogged earlier now faults_before faults_now s.log (text sheets)
+
+-- what was written of a session so far: its log, or sheets
+abbrev pub HasToldBy : Option ℕ → Option (List ℕ) → Option (List ℕ) → ℕ → ℕ → SessionState → Type 0
+HasToldBy None earlier now faults_before faults_now s = IsTold earlier now faults_before faults_now s.log s.board
+HasToldBy (Some reach) earlier now faults_before faults_now s =
+    TellsSheets reach (λ sheets. head_line reach ++ sheet_lines sheets) earlier now faults_before faults_now s
+
+abbrev pub HasTold : Option (List ℕ) → Option (List ℕ) → ℕ → ℕ → SessionState → Type 0
+HasTold earlier now faults_before faults_now s = HasToldBy s.reach earlier now faults_before faults_now s
+
+-- what was written of a session at its end: its log, or sheets with their last line where memory was not wanting
+abbrev pub HasToldAllBy : Option ℕ → Ending → Option (List ℕ) → Option (List ℕ) → ℕ → ℕ → SessionState → Type 0
+HasToldAllBy None ending earlier now faults_before faults_now s = IsTold earlier now faults_before faults_now s.log s.board
+HasToldAllBy (Some reach) ending earlier now faults_before faults_now s =
+    TellsSheets reach (sheets_text reach s.no_memory ending) earlier now faults_before faults_now s
+
+abbrev pub HasToldAll : Ending → Option (List ℕ) → Option (List ℕ) → ℕ → ℕ → SessionState → Type 0
+HasToldAll ending earlier now faults_before faults_now s = HasToldAllBy s.reach ending earlier now faults_before faults_now s
 
 -- whether a feed was stopped for want of memory, by its source, or by its length
 abbrev pub is_no_memory : Option Stop → Bool

@@ -1,55 +1,118 @@
 //! The batch after an accepted ask.
-ghost use Rattle.std.specs.Prelude.{◌≡◌, true, IfOk, OnErr};
+ghost use Rattle.std.specs.Prelude.{◌≡◌, ◌≤◌, ◌++◌, ◌∷◌, [], ℕ, true, Some, All, IfOk, MatchOption, OnErr};
+ghost use Rattle.std.specs.Option.{ForSome};
+ghost use Rattle.ride_model.specs.Seating.{IsBatchOver};
+ghost use Rattle.ride_model.specs.Vehicle.{IsLawful};
 ghost use Rattle.batch_commit.specs.Table.{IsTableOf};
+ghost use Rattle.board_core.specs.Recorded.{committed_entry, state_of};
+ghost use Rattle.session_run.specs.Planning.{AddsSheets, CommitsPlanned, IsPlanned, is_whole, sheets_in};
 ghost use Rattle.session_run.specs.Running.{Closes, IsAsked, IsOpened, RunsBatch};
 
 use crate::tools::DeskTools;
 use batch_commit::{Batch, Solved};
 use board_core::{Board, Opening};
+use idle_moves::MoveSheet;
 use ride_model::NoMemory;
 use std::thread::Threads;
 
-/// Opens the next batch and commits it at once, or gives it up where memory is wanting; answers whether it was committed.
+/// What became of a command, and of the batch after an accepted ask.
+#[derive(Drop)]
+pub(crate) enum Answered {
+    /// Each batch was committed. Its sheet, where one was and sheets are planned.
+    Whole(Option<MoveSheet>),
+    /// Memory was wanting for a batch, which was given up, or for the sheet of one.
+    Wanting,
+}
+
+impl Answered {
+    /// Whether memory was not wanting.
+    pub(crate) fn is_whole(&self) -> bool
+        ensures { result ≡ is_whole self.now }
+    {
+        match self {
+            Answered::Whole(_) => true,
+            Answered::Wanting => false,
+        }
+    }
+
+    /// The sheet that was planned.
+    pub(crate) fn sheet(&self) -> Option<&MoveSheet>
+        ensures { MatchOption result (sheets_in self.now ≡ []) (λ sheet. sheets_in self.now ≡ sheet.now ∷ []) }
+    {
+        match self {
+            Answered::Whole(sheet) => sheet.as_ref(),
+            Answered::Wanting => None,
+        }
+    }
+}
+
+/// Opens the next batch and commits it at once, or gives it up where memory is wanting. Where a reach is given, moves of idle
+/// vehicles are planned before the commit.
 pub(crate) fn run_batch<R: Threads + Sync>(
     board: &mut Board<'_>,
     tools: &mut DeskTools<'_>,
     rt: &R,
-) -> Result<bool, NoMemory>
+    reach: Option<u64>,
+) -> Result<Answered, NoMemory>
     requires asked { IsAsked board.old }
     requires roads { tools.old ≡ board.old.start.roads }
-    ensures ran { IfOk result (λ committed. RunsBatch committed board.old board.new) }
+    requires reach_limit { ForSome reach (λ r. r ≤ 1000000) }
+    ensures ran { IfOk result (λ answered. RunsBatch (is_whole answered) board.old board.new) }
+    ensures sheets { IfOk result (λ answered. is_whole answered ≡ true
+        → (r : ℕ) → reach ≡ Some r → AddsSheets r (sheets_in answered) board.old board.new) }
     ensures no_memory { OnErr result (board.new ≡ board.old) }
     ensures tools { tools.new ≡ tools.old }
 {
     let Opening::Batch(batch) = board.open_batch(1)? else {
-        return Ok(true);
+        return Ok(Answered::Whole(None));
     };
-    Ok(close_batch(board, tools, rt, batch))
+    Ok(close_batch(board, tools, rt, batch, reach))
 }
 
-/// Commits an open batch, or gives it up where memory is wanting; answers whether it was committed.
+/// Commits an open batch, or gives it up where memory is wanting.
 fn close_batch<R: Threads + Sync>(
     board: &mut Board<'_>,
     tools: &mut DeskTools<'_>,
     rt: &R,
     batch: Batch,
-) -> bool
+    reach: Option<u64>,
+) -> Answered
     requires opened { IsOpened batch board.old }
     requires roads { tools.old ≡ board.old.start.roads }
-    ensures closed { Closes result board.old board.new }
+    requires reach_limit { ForSome reach (λ r. r ≤ 1000000) }
+    ensures closed { Closes (is_whole result) board.old board.new }
+    ensures planned { is_whole result ≡ true → CommitsPlanned reach batch result board.old board.new }
     ensures tools { tools.new ≡ tools.old }
 {
     // This call tells that the history is legal.
     let _history = board.entries();
     match tools.solved(rt, batch) {
         Ok(solved) => {
+            let answered = plan(tools, &solved, reach);
             commit(board, solved);
-            true
+            answered
         }
         Err(batch) => {
             board.abandon(batch);
-            false
+            Answered::Wanting
         }
+    }
+}
+
+/// Plans the moves of a solved batch, where a reach is given.
+fn plan(tools: &mut DeskTools<'_>, solved: &Solved, reach: Option<u64>) -> Answered
+    requires reach_limit { ForSome reach (λ r. r ≤ 1000000) }
+    requires over_map { IsBatchOver tools.old solved.now.batch }
+    requires lawful { All (IsLawful tools.old) solved.now.batch.vehicles }
+    ensures planned { IsPlanned tools.old reach solved.now result }
+    ensures tools { tools.new ≡ tools.old }
+{
+    let Some(reach) = reach else {
+        return Answered::Whole(None);
+    };
+    match tools.moves(solved, reach) {
+        Ok(sheet) => Answered::Whole(Some(sheet)),
+        Err(_) => Answered::Wanting,
     }
 }
 
@@ -57,7 +120,8 @@ fn close_batch<R: Threads + Sync>(
 fn commit(board: &mut Board<'_>, solved: Solved)
     requires opened { IsOpened solved.batch board.old }
     requires table { IsTableOf board.old.start.roads solved.batch solved.table }
-    ensures { Closes true board.old board.new }
+    ensures closed { Closes true board.old board.new }
+    ensures entry { board.new.history ≡ board.old.history ++ committed_entry (state_of board.old) solved ∷ [] }
 {
     board.commit(solved);
     // This call tells that the history is legal.

@@ -1,6 +1,6 @@
 //! Sessions, whose trip log is written as it comes. In a replay of one feed a batch is opened, priced, seated and committed at
-//! once after each accepted ask; in a session of two feeds riders and drivers are answered while desks price; a drill is the
-//! session of a generated city.
+//! once after each accepted ask; the same session writes sheets of orders to idle vehicles; in a session of two feeds riders and
+//! drivers are answered while desks price; a drill is the session of a generated city.
 #![tactic(auto)]
 
 mod answers;
@@ -8,8 +8,10 @@ mod batches;
 mod drills;
 mod live;
 mod logging;
+mod one_feed;
 mod page;
 mod replaying;
+mod sending;
 mod session;
 mod stops;
 mod tools;
@@ -17,4 +19,5 @@ mod tools;
 pub use drills::drill;
 pub use live::{Scribed, desk_loop, feed_loop, scribe_loop, serve};
 pub use replaying::replay;
+pub use sending::ahead;
 pub use tools::DeskTools;

@@ -1,10 +1,12 @@
-//! The log of a session.
+//! What is written of a session: its log, or the sheets of its batches.
 ghost use Rattle.std.specs.Prelude.{◌≡◌, ℕ, ◌≤◌, ◌++◌, [], false, true, All, IfOk, List, Option};
 ghost use Rattle.ride_model.specs.Text.{HasLine, IsOneOrTwo, entry_line, entry_lines, head_line};
+ghost use Rattle.idle_moves.specs.AheadText.{head_line as head_of_sheets, last_line, sheet_line};
 ghost use Rattle.session_run.specs.Page.{HasLogged};
 
 use crate::page::Page;
-use ride_model::{Entry, NoMemory};
+use idle_moves::{MoveSheet, print_end, print_head as print_reach, print_sheet};
+use ride_model::{Ending, Entry, NoMemory};
 use ride_ports::Sink;
 use std::alloc::Global;
 use std::marker::Model;
@@ -75,8 +77,40 @@ impl Logger {
         }
     }
 
+    /// Writes the first line of the sheets within a reach.
+    pub(crate) fn put_reach<K: Sink>(&mut self, out: &mut K, reach: u64)
+        requires { self.old ≡ record { page = []; failed = false } }
+        ensures { HasLogged (K.written out.old) (K.written out.new) (K.faults out.old) (K.faults out.new) self.new (head_of_sheets reach) }
+    {
+        self.failed = print_reach(reach, out).is_err();
+    }
+
+    /// Writes the line of a sheet.
+    pub(crate) fn put_sheet<K: Sink>(&mut self, out: &mut K, sheet: &MoveSheet)
+        ensures { (before : Option (List ℕ)) (faults : ℕ) (text : List ℕ)
+            → HasLogged before (K.written out.old) faults (K.faults out.old) self.old text
+            → HasLogged before (K.written out.new) faults (K.faults out.new) self.new (text ++ sheet_line sheet.now) }
+    {
+        self.flush(out);
+        if !self.failed {
+            self.failed = print_sheet(sheet, out).is_err();
+        }
+    }
+
+    /// Writes the last line of the sheets.
+    pub(crate) fn put_end<K: Sink>(&mut self, out: &mut K, ending: Ending)
+        ensures { (before : Option (List ℕ)) (faults : ℕ) (text : List ℕ)
+            → HasLogged before (K.written out.old) faults (K.faults out.old) self.old text
+            → HasLogged before (K.written out.new) faults (K.faults out.new) self.new (text ++ last_line ending) }
+    {
+        self.flush(out);
+        if !self.failed {
+            self.failed = print_end(ending, out).is_err();
+        }
+    }
+
     /// Writes what is left on the page.
-    pub(crate) fn end<K: Sink>(&mut self, out: &mut K)
+    pub(crate) fn flush<K: Sink>(&mut self, out: &mut K)
         ensures logged { (before : Option (List ℕ)) (faults : ℕ) (text : List ℕ)
             → HasLogged before (K.written out.old) faults (K.faults out.old) self.old text
             → HasLogged before (K.written out.new) faults (K.faults out.new) self.new text }

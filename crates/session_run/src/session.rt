@@ -1,5 +1,6 @@
-//! A board with its log.
-ghost use Rattle.std.specs.Prelude.{◌≡◌, ℕ, ◌<◌, ◌≤◌, ◌++◌, ◌∷◌, [], length, take, false, true, if◌then◌else◌, nat_eq, All, IfOk, OnErr, OnOk, List, Option};
+//! A board, and what is written of it.
+ghost use Rattle.std.specs.Prelude.{◌≡◌, ℕ, ◌<◌, ◌≤◌, ◌++◌, ◌∷◌, ◌||◌, [], length, take, not, false, true, if◌then◌else◌, nat_eq, All, IfOk, OnErr, OnOk, List, None, Option, Some};
+ghost use Rattle.std.specs.Option.{ForSome};
 ghost use Rattle.ride_model.specs.declared.command.Actor.TheVariants.{Desk, Feed};
 ghost use Rattle.ride_model.specs.declared.entry.Ending.TheVariants.{Cut, Whole};
 ghost use Rattle.ride_model.specs.declared.vehicle.Vehicle.{Vehicle};
@@ -9,12 +10,16 @@ ghost use Rattle.ride_model.specs.Settings.{IsSettings};
 ghost use Rattle.ride_model.specs.State.{start_state};
 ghost use Rattle.ride_model.specs.Text.{HasText, IsOneOrTwo, IsSpelledCommand, head_line, text_of};
 ghost use Rattle.ride_model.specs.Vehicle.{IsLawful};
-ghost use Rattle.board_core.specs.Recorded.{end_entry, state_of};
+ghost use Rattle.board_core.specs.Recorded.{Recorded, end_entry, state_of};
+ghost use Rattle.idle_moves.specs.AheadText.{last_line, sheet_lines};
 ghost use Rattle.session_run.specs.Page.{HasLogged};
-ghost use Rattle.session_run.specs.Reading.{IsTold};
+ghost use Rattle.session_run.specs.Planning.{is_whole, sheets_in};
+ghost use Rattle.session_run.specs.Reading.{HasTold, HasToldAll, IsTold};
+ghost use Rattle.session_run.specs.Telling.{GoesOnTo, GoesOnWith};
 ghost use Rattle.session_run.specs.Running.{IsRunning, IsSession, Stops};
 
 use crate::answers::answer;
+use crate::batches::Answered;
 use crate::logging::Logger;
 use crate::tools::DeskTools;
 use board_core::Board;
@@ -25,7 +30,7 @@ use std::alloc::Global;
 use std::marker::Model;
 use std::thread::Threads;
 
-/// A board of one feed and one desk, what its desk works with, and the log so far.
+/// A board of one feed and one desk, what its desk works with, and what is written of it: its log, or the sheets of its batches.
 #[derive(Drop)]
 pub(crate) struct Session<'r> {
     board: Board<'r>,
@@ -33,18 +38,21 @@ pub(crate) struct Session<'r> {
     log: Logger,
     /// The version of the log.
     version: u8,
+    /// The reach of the sheets, where these are written in place of the log.
+    reach: Option<u64>,
     no_memory: bool,
 }
 
 impl<'r> Model for Session<'r> {
-    ghost use Rattle.std.specs.Prelude.{◌≡◌};
+    ghost use Rattle.std.specs.Prelude.{◌≡◌, ◌≤◌};
+    ghost use Rattle.std.specs.Option.{ForSome};
     ghost use Rattle.session_run.specs.Page.{SessionState};
 
     ghost Value = { SessionState };
 
-    ghost view = { λ s. record { board = s.board; log = s.log; no_memory = s.no_memory } };
+    ghost view = { λ s. record { board = s.board; log = s.log; reach = s.reach; no_memory = s.no_memory } };
 
-    ghost invariant = { λ s. (s.tools ≡ s.board.start.roads) × (s.version ≡ s.board.start.settings.log) };
+    ghost invariant = { λ s. (s.tools ≡ s.board.start.roads) × (s.version ≡ s.board.start.settings.log) × ForSome s.reach (λ r. r ≤ 1000000) };
 }
 
 impl<'r> Session<'r> {
@@ -55,8 +63,10 @@ impl<'r> Session<'r> {
         settings: Settings,
         fleet: Fleet,
         workers: usize,
+        reach: Option<u64>,
     ) -> Result<Session<'r>, NoMemory>
         requires workers { 1 ≤ workers }
+        requires reach_limit { ForSome reach (λ r. r ≤ 1000000) }
         requires settings { IsSettings settings }
         requires lawful { All (IsLawful roads.now) fleet }
         requires idle { All (λ (v : Vehicle). v.stops.items ≡ []) fleet }
@@ -65,6 +75,7 @@ impl<'r> Session<'r> {
         ensures history { IfOk result (λ session. session.board.history ≡ []) }
         ensures running { IfOk result (λ session. IsRunning session.board session.no_memory) }
         ensures log { IfOk result (λ session. session.log ≡ record { page = []; failed = false }) }
+        ensures reach { IfOk result (λ session. session.reach ≡ reach) }
         ensures memory { IfOk result (λ session. session.no_memory ≡ false) }
     {
         let tools = DeskTools::new(alloc, roads, workers)?;
@@ -76,6 +87,7 @@ impl<'r> Session<'r> {
             tools,
             log,
             version,
+            reach,
             no_memory: false,
         })
     }
@@ -85,16 +97,6 @@ impl<'r> Session<'r> {
         ensures { result ≡ self.now.no_memory }
     {
         self.no_memory
-    }
-
-    /// The version of the log.
-    pub(crate) fn version(&self) -> u8
-        ensures version { result ≡ self.now.board.start.settings.log }
-        ensures fits { IsOneOrTwo self.now.board.start.settings.log }
-    {
-        // This call tells that the version is 1 or 2.
-        let _history = self.board.entries();
-        self.version
     }
 
     /// The history: legal, and with a text.
@@ -113,20 +115,22 @@ impl<'r> Session<'r> {
         self.log.failed()
     }
 
-    /// Writes the head of the log.
+    /// Writes the first line.
     pub(crate) fn begin<K: Sink>(&mut self, out: &mut K)
         requires fresh { self.old.log ≡ record { page = []; failed = false } }
         requires bare { self.old.board.history ≡ [] }
-        ensures told { IsTold (K.written out.old) (K.written out.new) (K.faults out.old) (K.faults out.new) self.new.log
-            self.new.board }
+        ensures told { HasTold (K.written out.old) (K.written out.new) (K.faults out.old) (K.faults out.new) self.new }
         ensures others { self.new ≡ record self.old { log = self.new.log } }
     {
         // This call tells that the version is 1 or 2.
         let _history = self.board.entries();
-        self.log.put_head(out, self.version, 1, 1);
+        match self.reach {
+            Some(reach) => self.log.put_reach(out, reach),
+            None => self.log.put_head(out, self.version, 1, 1),
+        }
     }
 
-    /// Answers a command and runs the batch after an accepted ask, and logs what became of it.
+    /// Answers a command and runs the batch after an accepted ask, and writes what became of it.
     pub(crate) fn take_command<R: Threads + Sync, K: Sink>(
         &mut self,
         rt: &R,
@@ -142,21 +146,25 @@ impl<'r> Session<'r> {
         ensures stopped { OnErr result (Stops command.now self.old.board self.new.board) }
         ensures no_memory { OnErr result (self.new.no_memory ≡ true) }
         ensures start { self.new.board.start ≡ self.old.board.start }
+        ensures reach { self.new.reach ≡ self.old.reach }
         ensures told { (earlier : Option (List ℕ)) (faults : ℕ)
-            → IsTold earlier (K.written out.old) faults (K.faults out.old) self.old.log self.old.board
-            → IsTold earlier (K.written out.new) faults (K.faults out.new) self.new.log self.new.board }
+            → HasTold earlier (K.written out.old) faults (K.faults out.old) self.old
+            → HasTold earlier (K.written out.new) faults (K.faults out.new) self.new }
     {
         let told = self.board.entries().len();
-        let answered = answer(&mut self.board, &mut self.tools, rt, command);
-        self.no_memory |= !matches!(answered, Ok(true));
-        self.tell(out, told);
-        match answered {
-            Ok(_) => Ok(()),
-            Err(error) => Err(error),
+        match answer(&mut self.board, &mut self.tools, rt, command, self.reach) {
+            Ok(answered) => {
+                self.tell(out, told, &answered);
+                Ok(())
+            }
+            Err(error) => {
+                self.tell(out, told, &Answered::Wanting);
+                Err(error)
+            }
         }
     }
 
-    /// Ends the feed and the desk, and the log with them. The desk ends whole where all batches were opened.
+    /// Ends the feed and the desk, and what is written with them. The desk ends whole where all batches were opened.
     pub(crate) fn end<K: Sink>(&mut self, out: &mut K, ending: Ending)
         requires session { IsSession self.old.board }
         requires one_feed { self.old.board.feeds ≡ 1 }
@@ -165,16 +173,17 @@ impl<'r> Session<'r> {
         ensures start { self.new.board.start ≡ self.old.board.start }
         ensures feeds { self.new.board.feeds ≡ self.old.board.feeds }
         ensures desks { self.new.board.desks ≡ self.old.board.desks }
+        ensures reach { self.new.reach ≡ self.old.reach }
         ensures no_memory { self.new.no_memory ≡ self.old.no_memory }
         ensures told { (earlier : Option (List ℕ)) (faults : ℕ)
-            → IsTold earlier (K.written out.old) faults (K.faults out.old) self.old.log self.old.board
-            → IsTold earlier (K.written out.new) faults (K.faults out.new) self.new.log self.new.board }
+            → HasTold earlier (K.written out.old) faults (K.faults out.old) self.old
+            → HasToldAll ending earlier (K.written out.new) faults (K.faults out.new) self.new }
         ensures nothing_left { self.new.log.failed ≡ false → self.new.log.page ≡ [] }
     {
         let told = self.board.entries().len();
         self.end_actors(ending);
-        self.tell(out, told);
-        self.log.end(out);
+        self.tell_end(out, told, ending);
+        self.log.flush(out);
     }
 
     // Ends the feed, and then the desk.
@@ -194,8 +203,66 @@ impl<'r> Session<'r> {
         self.board.end(Actor::Desk(1), desk_ending);
     }
 
+    // Writes what became of a command: the entries from a place on, or the sheet of the batch after it.
+    fn tell<K: Sink>(&mut self, out: &mut K, told: usize, answered: &Answered)
+        requires { told ≤ length self.old.board.history }
+        ensures told { (earlier : Option (List ℕ)) (faults : ℕ) (board : Recorded) → GoesOnWith self.old.reach told answered.now board self.old.board
+            → HasTold earlier (K.written out.old) faults (K.faults out.old) (record self.old { board = board })
+            → HasTold earlier (K.written out.new) faults (K.faults out.new) self.new }
+        ensures others { self.new ≡ record self.old { log = self.new.log; no_memory = self.old.no_memory || not (is_whole answered.now) } }
+    {
+        self.no_memory |= !answered.is_whole();
+        match self.reach {
+            None => self.log_rest(out, told),
+            Some(_) => self.tell_sheet(out, answered),
+        }
+    }
+
+    // Writes the sheet of the batch after a command, if there is one and memory was not wanting.
+    fn tell_sheet<K: Sink>(&mut self, out: &mut K, answered: &Answered)
+        ensures told { (earlier : Option (List ℕ)) (faults : ℕ) (text : List ℕ)
+            → HasLogged earlier (K.written out.old) faults (K.faults out.old) self.old.log text
+            → HasLogged earlier (K.written out.new) faults (K.faults out.new) self.new.log
+            (text ++ (if self.old.no_memory then [] else sheet_lines (sheets_in answered.now))) }
+        ensures others { self.new ≡ record self.old { log = self.new.log } }
+    {
+        if self.no_memory {
+            return;
+        }
+        if let Some(sheet) = answered.sheet() {
+            self.log.put_sheet(out, sheet);
+        }
+    }
+
+    // Writes how the session ended: the entries from a place on, or the last line of the sheets.
+    fn tell_end<K: Sink>(&mut self, out: &mut K, told: usize, ending: Ending)
+        requires { told ≤ length self.old.board.history }
+        ensures told { (earlier : Option (List ℕ)) (faults : ℕ) (board : Recorded) → GoesOnTo ending told board self.old.board
+            → HasTold earlier (K.written out.old) faults (K.faults out.old) (record self.old { board = board })
+            → HasToldAll ending earlier (K.written out.new) faults (K.faults out.new) self.new }
+        ensures others { self.new ≡ record self.old { log = self.new.log } }
+    {
+        match self.reach {
+            None => self.log_rest(out, told),
+            Some(_) => self.tell_last(out, ending),
+        }
+    }
+
+    // Writes the last line of the sheets, unless memory was wanting.
+    fn tell_last<K: Sink>(&mut self, out: &mut K, ending: Ending)
+        ensures told { (earlier : Option (List ℕ)) (faults : ℕ) (text : List ℕ)
+            → HasLogged earlier (K.written out.old) faults (K.faults out.old) self.old.log text
+            → HasLogged earlier (K.written out.new) faults (K.faults out.new) self.new.log
+            (text ++ (if self.old.no_memory then [] else last_line ending)) }
+        ensures others { self.new ≡ record self.old { log = self.new.log } }
+    {
+        if !self.no_memory {
+            self.log.put_end(out, ending);
+        }
+    }
+
     // Logs the entries from a place on.
-    fn tell<K: Sink>(&mut self, out: &mut K, told: usize)
+    fn log_rest<K: Sink>(&mut self, out: &mut K, told: usize)
         requires { told ≤ length self.old.board.history }
         ensures told { (earlier : Option (List ℕ)) (faults : ℕ)
             → HasLogged earlier (K.written out.old) faults (K.faults out.old) self.old.log

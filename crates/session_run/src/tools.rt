@@ -4,9 +4,11 @@ ghost use Rattle.ride_model.specs.Seating.{IsBatchOver};
 ghost use Rattle.ride_model.specs.Vehicle.{IsLawful};
 ghost use Rattle.batch_commit.specs.Table.{HasSmallCosts, IsTableOf};
 ghost use Rattle.batch_commit.specs.Answer.{CertifiesOverCells, undecided};
+ghost use Rattle.idle_moves.specs.Sheet.{IsSheet};
 
 use batch_commit::{Answer, Batch, PriceTable, Solved};
 use hungarian::solve;
+use idle_moves::{MoveSheet, plan_moves};
 use pricing_workers::{price_batch, scratches_of};
 use ride_model::NoMemory;
 use ride_ports::{Gate, OpenGate};
@@ -60,6 +62,24 @@ impl<'a> DeskTools<'a> {
     {
         let scratches = self.scratches.as_mut_slice();
         solved(rt, self.alloc, batch, self.roads, scratches, &OpenGate)
+    }
+
+    /// The orders that send idle vehicles ahead after a solved batch, each within a reach of seconds.
+    pub(crate) fn moves(&mut self, solved: &Solved, reach: u64) -> Result<MoveSheet, NoMemory>
+        requires reach_limit { reach ≤ 1000000 }
+        requires over_map { IsBatchOver self.old solved.now.batch }
+        requires lawful { All (IsLawful self.old) solved.now.batch.vehicles }
+        ensures sheet { IfOk result (IsSheet self.old solved.now.batch solved.now.answer.seating reach) }
+        ensures kept { self.new ≡ self.old }
+    {
+        plan_moves(
+            self.alloc,
+            solved.batch(),
+            solved.answer(),
+            reach,
+            self.roads,
+            &mut self.scratches[0],
+        )
     }
 }
 

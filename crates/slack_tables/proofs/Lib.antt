@@ -15,4 +15,3 @@ pub mod Placed
 pub mod FastCosts
 pub mod Searching
 pub mod BestFast
-pub mod DrawnPlans

@@ -16,8 +16,3 @@ mod trips;
 
 pub use best::best_place_fast;
 pub use slack::Slack;
-
-#[cfg(test)]
-mod drawn;
-#[cfg(test)]
-mod tests;

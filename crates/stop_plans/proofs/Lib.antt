@@ -3,4 +3,3 @@ pub mod AboardLists
 pub mod InsertedLegs
 pub mod RemovedLegs
 pub mod Marked
-pub mod Examples

@@ -2,4 +2,3 @@ pub mod Change
 pub mod Aboard
 pub mod Legged
 pub mod First
-pub mod Examples

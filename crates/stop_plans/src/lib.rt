@@ -15,6 +15,3 @@ pub use remove::remove_ride;
 pub use serve::serve_first;
 pub use stop_loads::{load_at_start, loads};
 pub use stop_times::times;
-
-#[cfg(test)]
-mod tests;

@@ -158,7 +158,33 @@ committed_text first log batch cost seats prices pays outcomes =
         ∙ ap (fields_then (map seat_field seats)) (second _)
         ∙ fields_then-map seat_field seats _
 
--- the texts of a command and its reply
+-- the text of a command and its reply
+pub answer_text : (log : ℕ) (command : Command) (reply : Reply) → ((number : ℕ) → command ≢ Bad number)
+    → spelling_of log command ++ fields_end (codes "=" ∷ reply_fields reply) ≡ line_of (fed_fields log command reply)
+answer_text log command reply not_bad = by_command command not_bad
+  where
+    both : (field : List ℕ) (fields : List (List ℕ))
+        → join_with_byte 32 (field ∷ fields) ++ fields_end (codes "=" ∷ reply_fields reply)
+        ≡ line_of (field ∷ fields ++ codes "=" ∷ reply_fields reply)
+    both field fields =
+        joined-then field fields (fields_end (codes "=" ∷ reply_fields reply))
+        ∙ ap (λ more. field ++ more) (sym (fields_then-append fields (codes "=" ∷ reply_fields reply) (10 ∷ [])))
+        ∙ line-fields field (fields ++ codes "=" ∷ reply_fields reply)
+
+    by_command : (c : Command) → ((number : ℕ) → c ≢ Bad number)
+        → spelling_of log c ++ fields_end (codes "=" ∷ reply_fields reply) ≡ line_of (fed_fields log c reply)
+    by_command (Request id from to seats latest longest chairs) other =
+        both (codes "request") ((decimal id ∷ decimal from ∷ decimal to ∷ decimal seats ∷ decimal latest ∷ decimal longest ∷ []) ++ chairs_fields log chairs)
+    by_command (Cancel id) other = both (codes "cancel") (decimal id ∷ [])
+    by_command (At vehicle node time) other = both (codes "at") (decimal vehicle ∷ decimal node ∷ decimal time ∷ [])
+    by_command (Done vehicle) other = both (codes "done") (decimal vehicle ∷ [])
+    by_command (On vehicle) other = both (codes "on") (decimal vehicle ∷ [])
+    by_command (Off vehicle) other = both (codes "off") (decimal vehicle ∷ [])
+    by_command (Clock time) other = both (codes "clock") (decimal time ∷ [])
+    by_command Ask other = both (codes "batch") []
+    by_command (Bad line) other = absurd (other line refl)
+
+-- the texts of a first field, a command and its reply
 pub answered_text : (first : List ℕ) (log : ℕ) (command : Command) (reply : Reply) → ((number : ℕ) → command ≢ Bad number)
     → (first ++ 32 ∷ []) ++ (spelling_of log command ++ fields_end (codes "=" ∷ reply_fields reply)) ≡ line_of (first ∷ fed_fields log command reply)
 answered_text first log command reply not_bad = by_command command not_bad

@@ -75,6 +75,41 @@ fn print_fed<K: Sink>(
     }
 }
 
+/// Prints a command and its reply as a line, with no actor before them. A bad line has no reply.
+pub fn print_answer<K: Sink>(
+    command: &Command,
+    reply: &Reply,
+    log: u8,
+    sink: &mut K,
+) -> Result<(), Failed>
+    requires log { IsOneOrTwo log }
+    requires spelled { IsSpelledCommand log command.now }
+    ensures { Prints result (K.written sink.old) (K.written sink.new) (K.faults sink.old) (K.faults sink.new)
+        (line_of (fed_fields log command.now reply.now)) }
+{
+    match command {
+        Command::Bad { line } => print_number(b"bad ", *line, sink),
+        _ => print_with_reply(command, reply, log, sink),
+    }
+}
+
+// Prints a command that is no bad line, with its reply.
+fn print_with_reply<K: Sink>(
+    command: &Command,
+    reply: &Reply,
+    log: u8,
+    sink: &mut K,
+) -> Result<(), Failed>
+    requires log { IsOneOrTwo log }
+    requires not_bad { (number : ℕ) → command.now ≢ Bad number }
+    requires spelled { IsSpelledCommand log command.now }
+    ensures { Prints result (K.written sink.old) (K.written sink.new) (K.faults sink.old) (K.faults sink.new)
+        (line_of (fed_fields log command.now reply.now)) }
+{
+    print_spelling(command, log, sink)?;
+    print_reply(reply, sink)
+}
+
 // Prints the line of a bad line.
 fn print_bad<K: Sink>(actor: Actor, line: u64, sink: &mut K) -> Result<(), Failed>
     ensures { Prints result (K.written sink.old) (K.written sink.new) (K.faults sink.old) (K.faults sink.new)

@@ -8,16 +8,12 @@ mod events;
 mod items;
 mod kinds;
 pub mod laws;
-mod lists;
-mod pieces;
+pub mod lists;
+pub mod pieces;
 mod printing;
 mod reading;
 mod replies;
 
+pub use events::print_answer;
 pub use printing::{print_entry, print_head};
 pub use reading::{Head, read_entry, read_head, spells};
-
-#[cfg(test)]
-mod reading_tests;
-#[cfg(test)]
-mod tests;

@@ -9,7 +9,7 @@ use ride_model::{Outcome, Seat};
 use ride_ports::{Failed, Sink};
 
 /// How the items of a list are spelled.
-pub(crate) trait Spelling<T> {
+pub trait Spelling<T> {
     // An item's field.
     ghost field: { T → List ℕ };
 
@@ -19,19 +19,19 @@ pub(crate) trait Spelling<T> {
 }
 
 /// Ids.
-pub(crate) struct IdText;
+pub struct IdText;
 
 /// Vehicles' ids with their versions.
-pub(crate) struct PlanText;
+pub struct PlanText;
 
 /// Seats.
-pub(crate) struct SeatText;
+pub struct SeatText;
 
 /// Ids with their amounts.
-pub(crate) struct AmountText;
+pub struct AmountText;
 
 /// Requests' ids with their outcomes.
-pub(crate) struct OutcomeText;
+pub struct OutcomeText;
 
 impl Spelling<u64> for IdText {
     ghost field = { λ id. decimal id };
@@ -115,7 +115,7 @@ impl Spelling<(u64, Outcome)> for OutcomeText {
 }
 
 /// Prints a blank and a word, and after them the items.
-pub(crate) fn print_list<S: Spelling<T>, T, K: Sink>(
+pub fn print_list<S: Spelling<T>, T, K: Sink>(
     word: &[u8],
     items: &[T],
     sink: &mut K,

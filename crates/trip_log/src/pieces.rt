@@ -9,19 +9,19 @@ use ride_model::Actor;
 use ride_ports::{Failed, Sink, write_all};
 
 /// The most bytes that are put together.
-pub(crate) const MOST_TEXT: usize = 128;
+pub const MOST_TEXT: usize = 128;
 
 /// A piece of a line.
 #[derive(Clone, Copy, Debug)]
-pub(crate) enum Piece<'a> {
+pub enum Piece<'a> {
     Bytes(&'a [u8]),
     Number(u64),
     /// `f` or `d` and the actor's number.
     By(Actor),
 }
 
-/// Prints pieces one after another.
-pub(crate) fn print<K: Sink>(pieces: &[Piece<'_>], sink: &mut K) -> Result<(), Failed>
+/// Prints pieces one after another, put together first: at most 128 bytes, of which a number may take 20.
+pub fn print<K: Sink>(pieces: &[Piece<'_>], sink: &mut K) -> Result<(), Failed>
     requires { room_of pieces.now ≤ 128 }
     ensures { Prints result (K.written sink.old) (K.written sink.new) (K.faults sink.old) (K.faults sink.new) (bytes_of pieces.now) }
 {
@@ -29,14 +29,14 @@ pub(crate) fn print<K: Sink>(pieces: &[Piece<'_>], sink: &mut K) -> Result<(), F
 }
 
 /// Prints bytes.
-pub(crate) fn put<K: Sink>(bytes: &[u8], sink: &mut K) -> Result<(), Failed>
+pub fn put<K: Sink>(bytes: &[u8], sink: &mut K) -> Result<(), Failed>
     ensures { Prints result (K.written sink.old) (K.written sink.new) (K.faults sink.old) (K.faults sink.new) bytes.now }
 {
     write_all(sink, bytes)
 }
 
-/// The text of pieces.
-pub(crate) fn text_of(pieces: &[Piece<'_>]) -> ArrayVec<u8, MOST_TEXT>
+/// The text of pieces: at most 128 bytes, of which a number may take 20.
+pub fn text_of(pieces: &[Piece<'_>]) -> ArrayVec<u8, MOST_TEXT>
     requires { room_of pieces.now ≤ 128 }
     ensures { result.items ≡ bytes_of pieces.now }
 {

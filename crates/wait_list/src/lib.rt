@@ -121,6 +121,3 @@ impl WaitList {
         last
     }
 }
-
-#[cfg(test)]
-mod tests;

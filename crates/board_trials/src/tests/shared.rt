@@ -21,7 +21,7 @@ use std::test::Fail;
 use std::thread::Threads;
 
 // Submits a command of a feed that has given fewer than a thousand.
-fn tell<'r, R: Wait + Abort>(
+pub(super) fn tell<'r, R: Wait + Abort>(
     rt: &R,
     board: &SharedBoard<'r>,
     feed: &mut ActorPass<'r>,
@@ -41,7 +41,11 @@ fn tell<'r, R: Wait + Abort>(
 }
 
 // Opens a batch that was asked for.
-fn open<'r, R: Wait + Abort>(rt: &R, board: &SharedBoard<'r>, desk: &mut ActorPass<'r>) -> Batch
+pub(super) fn open<'r, R: Wait + Abort>(
+    rt: &R,
+    board: &SharedBoard<'r>,
+    desk: &mut ActorPass<'r>,
+) -> Batch
     requires { MayOpen board.now desk.old }
     ensures open_now { MayCommit board.now desk.new result }
     ensures priceable { IsPriceable (root_of (knowledge desk.new)).start.roads result }
@@ -56,7 +60,7 @@ fn open<'r, R: Wait + Abort>(rt: &R, board: &SharedBoard<'r>, desk: &mut ActorPa
 }
 
 // Commits an open batch.
-fn commit<'r, R: Threads + Wait + Sync + Abort>(
+pub(super) fn commit<'r, R: Threads + Wait + Sync + Abort>(
     rt: &R,
     board: &SharedBoard<'r>,
     desk: &mut ActorPass<'r>,

@@ -1,7 +1,7 @@
 //! The lines of sheets.
 
-use crate::{Move, MoveList, MoveSheet, print_head, print_sheet};
-use ride_model::{AmountList, NoMemory};
+use crate::{Move, MoveList, MoveSheet, print_end, print_head, print_sheet};
+use ride_model::{AmountList, Ending, NoMemory};
 use ride_ports::MemSink;
 use std::alloc::Global;
 use std::test::Fail;
@@ -74,5 +74,15 @@ fn the_head_names_the_reach(rt: HostRuntime) -> Result<(), Fail> {
     let mut sink = MemSink::new(rt.alloc(), 100, &[], &[])?;
     assert!(rt; print_head(600, &mut sink).is_ok());
     assert_eq!(rt; sink.written(), b"ahead 1 reach 600\n".as_slice());
+    Ok(())
+}
+
+#[test]
+fn the_last_line_says_whether_a_feed_was_cut(rt: HostRuntime) -> Result<(), Fail> {
+    for (ending, text) in [(Ending::Whole, "end\n"), (Ending::Cut, "cut\n")] {
+        let mut sink = MemSink::new(rt.alloc(), 100, &[], &[])?;
+        assert!(rt; print_end(ending, &mut sink).is_ok());
+        assert_eq!(rt; sink.written(), text.as_bytes());
+    }
     Ok(())
 }

@@ -256,7 +256,7 @@ d1 end\n",
 ];
 
 /// Words that are not in order.
-const REFUSED: [&[&str]; 17] = [
+const REFUSED: [&[&str]; 21] = [
     &[],
     &["plan"],
     &["--help"],
@@ -348,6 +348,16 @@ const REFUSED: [&[&str]; 17] = [
         "--desks",
         "1",
     ],
+    &[
+        "ahead", "--map", "m", "--fleet", "f", "--feed", "r", "--reach", "0",
+    ],
+    &[
+        "ahead", "--map", "m", "--fleet", "f", "--feed", "r", "--reach", "1000001",
+    ],
+    &[
+        "ahead", "--map", "m", "--fleet", "f", "--feed", "r", "--reach", "x",
+    ],
+    &["ahead", "--map", "m", "--fleet", "f", "--feed", "r"],
 ];
 
 /// Words that are in order, whatever the order of their options.

@@ -2,7 +2,7 @@
 ghost use Rattle.std.specs.Prelude.{◌≡◌, false, Err, IfOk, OnErr};
 ghost use Rattle.clap.specs.Simple.{app_of};
 ghost use Rattle.clap.specs.Walk.{rule_of};
-ghost use Rattle.ride_dispatch.specs.Words.{audit_command, bare_command, book_command, drill_command, option_rule, over_map_and_fleet, replay_command, serve_command, with_option};
+ghost use Rattle.ride_dispatch.specs.Words.{ahead_command, audit_command, bare_command, book_command, drill_command, option_rule, over_map_and_fleet, replay_command, serve_command, with_option};
 
 use super::WordsError;
 use clap::{Arg, ArgAction, Command};
@@ -36,6 +36,16 @@ pub fn serve_command<'a>(alloc: Global) -> Result<Command<'a>, WordsError>
     let command = with_option(command, alloc, "drivers")?;
     let command = with_option(command, alloc, "workers")?;
     with_option(command, alloc, "desks")
+}
+
+/// The command of idle vehicles sent ahead.
+pub fn ahead_command<'a>(alloc: Global) -> Result<Command<'a>, WordsError>
+    ensures command { IfOk result (λ command. app_of command ≡ ahead_command) }
+    ensures stopped { OnErr result (result ≡ Err WordsError.NoMemory) }
+{
+    let command = over_map_and_fleet(alloc, "ahead")?;
+    let command = with_option(command, alloc, "feed")?;
+    with_option(command, alloc, "reach")
 }
 
 /// The command of a drill.

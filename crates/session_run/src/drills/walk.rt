@@ -82,7 +82,7 @@ fn give<R: Threads + Sync>(
     ensures goes { OnOk result ((left : ℕ) → GoesBy (give command.now ∷ []) 1 left left board.old board.new) }
     ensures tools { tools.new ≡ tools.old }
 {
-    if answer(board, tools, rt, command)? {
+    if answer(board, tools, rt, command, None)?.is_whole() {
         Ok(())
     } else {
         Err(AllocError)

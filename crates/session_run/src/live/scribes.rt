@@ -118,7 +118,7 @@ fn put_tail<K: Sink>(logger: &mut Logger, out: &mut K, entries: &[Entry], log: u
     if entries.len() == MOST as usize {
         return;
     }
-    logger.end(out);
+    logger.flush(out);
 }
 
 // Writes the page out for want of memory.
@@ -130,7 +130,7 @@ fn written_out<K: Sink>(logger: &mut Logger, out: &mut K, entries: u64) -> Resul
     ensures failed { OnErr result (logger.new.failed ≡ true) }
     ensures scribed { IfOk result (λ scribed. scribed ≡ record { entries = entries; whole = false }) }
 {
-    logger.end(out);
+    logger.flush(out);
     if logger.failed() {
         return Err(Failed);
     }

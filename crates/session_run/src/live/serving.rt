@@ -164,7 +164,7 @@ fn put_rest<K: Sink>(
     match scribed {
         Ok(scribed) => {
             logger.put_all(out, &entries[scribed.entries as usize..], log);
-            logger.end(out);
+            logger.flush(out);
         }
         Err(_) => logger.fail(),
     }

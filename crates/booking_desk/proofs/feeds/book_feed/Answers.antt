@@ -13,9 +13,6 @@ returns-in_default-clause-text g c = (
   booked-none (g.S.Source.left c.args.feed.now) (g.K.Sink.written c.args.out.now) _ refl refl refl,
 )
 
-pub run_feed-stop-requires-clause-nothing_given : goal.run_feed-stop-requires-clause-nothing_given
-run_feed-stop-requires-clause-nothing_given g c κs longer = c.in-Ok.ensures.nothing_given (g.S.Source.left c.args.feed.now)
-
 pub returns-clause-text : goal.returns-clause-text
 returns-clause-text g c =
     let (taken, lines, run, put) = c.run_feed-stop.ensures.ran in

@@ -8,7 +8,7 @@ use Rattle.log_audit.specs.Audit.{IsAnswer}
 use Rattle.log_audit.specs.Audited.{FailsAfter, HasReadNoHead}
 use Rattle.log_audit.specs.LogLines.{HasRead}
 use Rattle.log_audit.proofs.AuditSteps.{board-nothing, fault-head, no-head-answer, only-answer, stop-head}
-use Rattle.log_audit.proofs.LineParts.{takes-then}
+use Rattle.log_audit.proofs.LogParts.{takes-then}
 use Rattle.log_audit.proofs.auditing.audit.Goals as goal
 
 pub returns-in_err-head-clause-answer : goal.returns-in_err-head-clause-answer
@@ -74,14 +74,14 @@ returns-in_default-clause-no_other g c = λ no_memory no_fault.
     (no-head-answer before start
     (no-head before before c.args.settings.log _ c.in_ok-head.field-0 c.in_default.is (c.in_ok-head.ensures.head before (c.in_ok-lines.ensures before))))
 
-pub new-requires-2-clause-feeds : goal.new-requires-2-clause-feeds
-new-requires-2-clause-feeds g c =
+pub new-requires-clause-feeds : goal.new-requires-clause-feeds
+new-requires-clause-feeds g c =
     let before = g.S.Source.left c.args.log.now in
     (a-head before c.args.settings.log _ c.in_ok-head.field-0 c.in-Some.head c.in-Some.is
     (c.in_ok-head.ensures.head before (c.in_ok-lines.ensures before))).feeds_fit
 
-pub new-requires-2-clause-desks : goal.new-requires-2-clause-desks
-new-requires-2-clause-desks g c =
+pub new-requires-clause-desks : goal.new-requires-clause-desks
+new-requires-clause-desks g c =
     let before = g.S.Source.left c.args.log.now in
     (a-head before c.args.settings.log _ c.in_ok-head.field-0 c.in-Some.head c.in-Some.is
     (c.in_ok-head.ensures.head before (c.in_ok-lines.ensures before))).desks_fit

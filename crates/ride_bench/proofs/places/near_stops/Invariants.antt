@@ -1,6 +1,6 @@
 use Rattle.std.proofs.Common.{◌≡◌, take}
 use Rattle.std.specs.Prelude.{map}
-use Rattle.insertion.specs.Trials.{near_stop_in_line}
+use Rattle.plan_trials.specs.NearInLine.{near_stop_in_line}
 use Rattle.ride_bench.proofs.places.near_stops.Given as goal
 
 -- the times near those so far

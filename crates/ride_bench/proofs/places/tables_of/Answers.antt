@@ -1,6 +1,6 @@
-use Rattle.stop_plans.specs.Examples.{four_nodes}
+use Rattle.plan_trials.specs.SmallPlans.{four_nodes}
 use Rattle.ride_bench.specs.Places.{settings}
-use Rattle.insertion.proofs.Trials.{asked}
+use Rattle.plan_trials.proofs.NearInLine.{asked}
 use Rattle.ride_bench.proofs.places.tables_of.Goals as goal
 
 pub of-requires-clause-lawful : goal.of-requires-clause-lawful

@@ -24,5 +24,5 @@ returns-in-Ok-clause-run g c =
 
 pub returns-in-Ok-clause-session : goal.returns-in-Ok-clause-session
 returns-in-Ok-clause-session g c three =
-    replay-of _ _ (string_bytes c.args.map) (string_bytes c.args.fleet) _ _ _ _ _ _ _ _ c.in-Ok.ensures.contents_stay c.in-Ok.ensures.texts (string_bytes c.args.feed)
+    replay-of _ _ (string_bytes c.args.map) (string_bytes c.args.fleet) _ _ _ _ _ _ _ _ c.in-Ok.ensures.contents_stay c.in-Ok.ensures.texts c.args.reach (string_bytes c.args.feed)
     (c.replay_feed.ensures.session (omega (arith, three, c.in-Ok.ensures.all_brought)))

@@ -25,10 +25,10 @@ returns-in_default-clause-work g c = not-brought _ _ _ _ _ (record {
 
 pub returns-clause-work : goal.returns-clause-work
 returns-clause-work g c =
-    let log = c.replay-ran.ensures.log in
-    let ran = c.replay-ran.result in
+    let log = c.answer_feed-ran.ensures.session in
+    let ran = c.answer_feed-ran.result in
     let possible = ran-possible ran in
-    let source = given_back (g.H.Src.Source.faults c.replay-ran.new.feed) (g.H.Src.Source.left c.replay-ran.new.feed) in
+    let source = given_back (g.H.Src.Source.faults c.answer_feed-ran.new.feed) (g.H.Src.Source.left c.answer_feed-ran.new.feed) in
     all-brought (string_bytes c.args.name ∷ []) _ _ _ _ c.status.result (omega arith) (record {
       sources = source ∷ [];
       asked_is = c.give_back.ensures.asked_stays ∙ c.in-Ok.ensures.asked;
@@ -46,36 +46,36 @@ returns-clause-work g c =
       all_read = λ zero.
           let whole = whole-status ran (sym c.status.ensures ∙ zero) in
           spent-alone source (record {
-            no_fault = c.replay-ran.ensures.source_counts_none whole.read.0 ∙ c.in-Ok.ensures.unharmed;
-            to_end = c.replay-ran.ensures.to_end whole.memory whole.read;
+            no_fault = c.answer_feed-ran.ensures.source_counts_none whole.read.0 ∙ c.in-Ok.ensures.unharmed;
+            to_end = c.answer_feed-ran.ensures.to_end whole.memory whole.read;
           });
       counts_none = λ zero.
           let whole = whole-status ran (sym c.status.ensures ∙ zero) in (
-            c.give_back.ensures.sound_counts_none (c.replay-ran.ensures.source_counts_none whole.read.0 ∙ c.in-Ok.ensures.unharmed) ∙ c.in-Ok.ensures.ok_counts_none,
-            c.replay-ran.ensures.sink_counts_none whole.sink,
+            c.give_back.ensures.sound_counts_none (c.answer_feed-ran.ensures.source_counts_none whole.read.0 ∙ c.in-Ok.ensures.unharmed) ∙ c.in-Ok.ensures.ok_counts_none,
+            c.answer_feed-ran.ensures.sink_counts_none whole.sink,
           );
       shelf_fault = λ five. subst (λ (k : ℕ). Rose k (g.H.Shelf.faults c.give_back.new.self)) c.in-Ok.ensures.ok_counts_none
           (c.give_back.ensures.fault_rises (rose-above _ _ c.in-Ok.ensures.unharmed
-          (c.replay-ran.ensures.source_fault (source-status ran (sym c.status.ensures ∙ five)))));
-      sink_fault = λ six. c.replay-ran.ensures.sink_fault (sink-status ran (sym c.status.ensures ∙ six));
+          (c.answer_feed-ran.ensures.source_fault (source-status ran (sym c.status.ensures ∙ five)))));
+      sink_fault = λ six. c.answer_feed-ran.ensures.sink_fault (sink-status ran (sym c.status.ensures ∙ six));
       statuses = rw c.status.ensures (possible.0, possible.2, possible.3, possible.4);
     })
 
 pub returns-clause-session : goal.returns-clause-session
 returns-clause-session g c all =
-    let log = c.replay-ran.ensures.log in
-    let source = given_back (g.H.Src.Source.faults c.replay-ran.new.feed) (g.H.Src.Source.left c.replay-ran.new.feed) in (
-      c.replay-ran.result,
+    let log = c.answer_feed-ran.ensures.session in
+    let source = given_back (g.H.Src.Source.faults c.answer_feed-ran.new.feed) (g.H.Src.Source.left c.answer_feed-ran.new.feed) in (
+      c.answer_feed-ran.result,
       source,
       c.status.ensures,
       c.give_back.ensures.kept ∙ ap (λ back. back ++ source ∷ []) c.in-Ok.ensures.back_stays,
       record {
         taken = log.0;
-        to_end = c.replay-ran.ensures.to_end;
+        to_end = c.answer_feed-ran.ensures.to_end;
         feed_is = told-taken (g.H.Shelf.contents c.args.shelf.now) (string_bytes c.args.name) log.0 _ _ c.in-Ok.ensures.bytes log.2;
         entries = log.1;
-        replayed = replay-of-content _ c.replay-ran.result (g.H.Shelf.contents c.args.shelf.now) (string_bytes c.args.name) log.0
+        replayed = replay-of-content _ c.answer_feed-ran.result (g.H.Shelf.contents c.args.shelf.now) (string_bytes c.args.name) log.0
             (g.H.Src.Source.left c.in-Ok.feed) log.1 c.in-Ok.ensures.bytes log.3;
-        logged = log.4;
+        written = log.4;
       },
     )

@@ -1,5 +1,5 @@
 use Rattle.std.specs.Prelude.{string_bytes}
-use Rattle.ride_dispatch.proofs.Completing.{audit-completes, replay-completes, service-completes}
+use Rattle.ride_dispatch.proofs.Completing.{ahead-completes, audit-completes, replay-completes, service-completes}
 use Rattle.ride_dispatch.proofs.top.grant.Goals as goal
 
 pub returns-in-Replay-clause-complete : goal.returns-in-Replay-clause-complete
@@ -7,6 +7,12 @@ returns-in-Replay-clause-complete g c =
     rw c.in-Replay.is
     (replay-completes (string_bytes c.in-Replay.map) (string_bytes c.in-Replay.fleet) (string_bytes c.in-Replay.feed) _ c.replay.result c.replay.ensures.run
     c.replay.ensures.session c.replay.ensures.never_seven)
+
+pub returns-in-Ahead-clause-complete : goal.returns-in-Ahead-clause-complete
+returns-in-Ahead-clause-complete g c =
+    rw c.in-Ahead.is
+    (ahead-completes (string_bytes c.in-Ahead.map) (string_bytes c.in-Ahead.fleet) (string_bytes c.in-Ahead.feed) c.in-Ahead.reach _
+    c.replay-in-Ahead.result c.replay-in-Ahead.ensures.run c.replay-in-Ahead.ensures.session c.replay-in-Ahead.ensures.never_seven)
 
 pub returns-in-Audit-clause-complete : goal.returns-in-Audit-clause-complete
 returns-in-Audit-clause-complete g c =

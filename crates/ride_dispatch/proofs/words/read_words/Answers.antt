@@ -1,7 +1,7 @@
 use Rattle.std.proofs.Common.{Option, rules, sym, subst, ◌∙◌, map}
 use Rattle.std.specs.Prelude.{string_bytes}
 use Rattle.ride_dispatch.specs.Words.{IsWishOf, Wanted}
-use Rattle.ride_dispatch.proofs.Wishes.{asks-audit, asks-nothing, asks-replay, asks-serve, no-words}
+use Rattle.ride_dispatch.proofs.Wishes.{asks-ahead, asks-audit, asks-nothing, asks-replay, asks-serve, no-words}
 use Rattle.ride_dispatch.proofs.words.read_words.Goals as goal
 
 pub returns-then-is_empty-clause-wish : goal.returns-then-is_empty-clause-wish
@@ -24,7 +24,13 @@ returns-then-begins-3-clause-wish c =
     (sym (asks-serve (map string_bytes c.args.words.now) (sym c.begins.ensures ∙ c.if-begins.false) (sym c.begins-2.ensures ∙ c.if-begins-2.false)
     (sym c.begins-3.ensures ∙ c.if-begins-3.true))) c.serve_words.ensures.wish
 
+pub returns-then-begins-4-clause-wish : goal.returns-then-begins-4-clause-wish
+returns-then-begins-4-clause-wish c =
+    subst (λ (o : Option Wanted). IsWishOf o c.ahead_words.result)
+    (sym (asks-ahead (map string_bytes c.args.words.now) (sym c.begins.ensures ∙ c.if-begins.false) (sym c.begins-2.ensures ∙ c.if-begins-2.false)
+    (sym c.begins-3.ensures ∙ c.if-begins-3.false) (sym c.begins-4.ensures ∙ c.if-begins-4.true))) c.ahead_words.ensures.wish
+
 pub returns-clause-wish : goal.returns-clause-wish
 returns-clause-wish c is =
     asks-nothing (map string_bytes c.args.words.now) (sym c.begins.ensures ∙ c.if-begins.false) (sym c.begins-2.ensures ∙ c.if-begins-2.false)
-    (sym c.begins-3.ensures ∙ c.if-begins-3.false)
+    (sym c.begins-3.ensures ∙ c.if-begins-3.false) (sym c.begins-4.ensures ∙ c.if-begins-4.false)

@@ -1,7 +1,9 @@
-use Rattle.std.proofs.Common.{◌≡◌, true, false, ap, sym, subst, ◌∙◌, arith}
+use Rattle.std.proofs.Common.{◌≡◌, ℕ, true, false, [], Some, refl, ap, sym, subst, ◌∙◌, arith}
 use Rattle.std.proofs.lemmas.Result.{IfOk-weaker, on_err_weaker}
-use Rattle.board_core.specs.Recorded.{Recorded}
+use Rattle.board_core.specs.Recorded.{Recorded, fed_entry, state_of}
+use Rattle.session_run.specs.Planning.{AddsSheets, is_whole, sheets_in}
 use Rattle.session_run.specs.Running.{RunsBatch, Answers, Stops}
+use Rattle.session_run.proofs.CommitSheets.{adds-none, adds-then}
 use Rattle.session_run.proofs.Answering.{answers-others, asks, asks-stops, answers-ask, not_asked}
 use Rattle.history_laws.proofs.Untouched.{is_asked}
 use Rattle.session_run.proofs.answers.answer.Goals as goal
@@ -29,11 +31,11 @@ pub returns-then-matches-clause-answered : goal.returns-then-matches-clause-answ
 returns-then-matches-clause-answered g c =
     let accepted : is_asked c.in_ok-reply.reply ≡ true =
     elim c.match-matches.branch [ in-Asked w ↦ ap is_asked w.in-Asked.is | in_default w ↦ absurd (cc (sym w.matches-is ∙ c.if-matches.true)) ] in
-    IfOk-weaker c.run_batch.result (λ committed. RunsBatch committed c.apply.new.self c.run_batch.new.board)
-    (λ whole. Answers whole c.args.command.now c.args.board.now c.run_batch.new.board)
-    (λ committed ran. answers-ask c.args.board.now c.apply.new.self c.args.command.now c.requires.session
+    IfOk-weaker c.run_batch.result (λ answered. RunsBatch (is_whole answered) c.apply.new.self c.run_batch.new.board)
+    (λ answered. Answers (is_whole answered) c.args.command.now c.args.board.now c.run_batch.new.board)
+    (λ answered ran. answers-ask c.args.board.now c.apply.new.self c.args.command.now c.requires.session
     (ap (λ (b : Recorded). b.start) c.apply.ensures.others) (ap (λ (b : Recorded). b.feeds) c.apply.ensures.others)
-    (ap (λ (b : Recorded). b.desks) c.apply.ensures.others) c.in_ok-reply.ensures.entry committed c.run_batch.new.board
+    (ap (λ (b : Recorded). b.desks) c.apply.ensures.others) c.in_ok-reply.ensures.entry (is_whole answered) c.run_batch.new.board
     (ap is_asked (sym c.in_ok-reply.ensures.reply) ∙ accepted) ran)
     c.run_batch.ensures.ran
 
@@ -48,3 +50,22 @@ returns-then-matches-clause-stopped g c =
 
 pub apply-requires-clause-feed : goal.apply-requires-clause-feed
 apply-requires-clause-feed g c = (omega arith, c.entries-entries.ensures.text.feeds_number.0)
+
+-- the sheets of a history that goes on by an answer, and then by a batch
+pub returns-clause-sheets : goal.returns-clause-sheets
+returns-clause-sheets g c whole r given =
+    adds-none r c.args.board.now c.apply.new.self (fed_entry (state_of c.args.board.now) 1 c.args.command.now)
+    (ap (λ (b : Recorded). b.start) c.apply.ensures.others) c.in_ok-reply.ensures.entry (λ before. refl)
+
+pub returns-then-matches-clause-sheets : goal.returns-then-matches-clause-sheets
+returns-then-matches-clause-sheets g c =
+    IfOk-weaker c.run_batch.result (λ answered. is_whole answered ≡ true
+    → (r : ℕ) → c.args.reach ≡ Some r → AddsSheets r (sheets_in answered) c.apply.new.self c.run_batch.new.board)
+    (λ answered. is_whole answered ≡ true
+    → (r : ℕ) → c.args.reach ≡ Some r → AddsSheets r (sheets_in answered) c.args.board.now c.run_batch.new.board)
+    (λ answered more whole r given.
+    adds-then r [] (sheets_in answered) c.args.board.now c.apply.new.self c.run_batch.new.board
+    (adds-none r c.args.board.now c.apply.new.self (fed_entry (state_of c.args.board.now) 1 c.args.command.now)
+    (ap (λ (b : Recorded). b.start) c.apply.ensures.others) c.in_ok-reply.ensures.entry (λ before. refl))
+    (more whole r given))
+    c.run_batch.ensures.sheets

@@ -4,7 +4,9 @@ use Rattle.ride_model.specs.Seating.{BatchCopy}
 use Rattle.history_laws.specs.Consistent.{IsOpenBatch}
 use Rattle.board_core.specs.declared.opening.Opening.{Opening}
 use Rattle.board_core.specs.Recorded.{Recorded, state_of, opened_entry}
+use Rattle.session_run.specs.Planning.{is_whole}
 use Rattle.session_run.specs.Running.{IsOpened}
+use Rattle.session_run.proofs.CommitSheets.{adds-planned}
 use Rattle.session_run.proofs.Opening.{next-opened, opens, runs}
 use Rattle.session_run.proofs.batches.run_batch.Goals as goal
 
@@ -28,7 +30,17 @@ returns-clause-ran g c =
     let new : Recorded = c.open_batch.new.self in
     let is : c.in-Batch.batch ≡ next_batch (state_of old) 1 =
     next-opened (state_of old) old.feeds c.in-Batch.batch c.in_ok-batch.field-0 c.in_ok-batch.ensures.opening c.in-Batch.is c.requires.asked.one_more in
-    runs c.close_batch.result old new c.close_batch.new.board c.requires.asked (ap (λ (b : Recorded). b.start) c.open_batch.ensures.others)
+    runs (is_whole c.close_batch.result) old new c.close_batch.new.board c.requires.asked (ap (λ (b : Recorded). b.start) c.open_batch.ensures.others)
     (ap (λ (b : Recorded). b.feeds) c.open_batch.ensures.others)
     (subst (λ (b : BatchCopy). new.history ≡ old.history ++ opened_entry b ∷ []) is
     (c.in_ok-batch.ensures.entry c.in-Batch.batch (ap (λ (o : Opening). Ok o) c.in-Batch.is))) c.close_batch.ensures.closed
+
+pub returns-clause-sheets : goal.returns-clause-sheets
+returns-clause-sheets g c whole r given =
+    let old : Recorded = c.args.board.now in
+    let new : Recorded = c.open_batch.new.self in
+    let is : c.in-Batch.batch ≡ next_batch (state_of old) 1 =
+    next-opened (state_of old) old.feeds c.in-Batch.batch c.in_ok-batch.field-0 c.in_ok-batch.ensures.opening c.in-Batch.is c.requires.asked.one_more in
+    adds-planned r c.args.reach c.close_batch.result c.in-Batch.batch old new c.close_batch.new.board given whole
+    (ap (λ (b : Recorded). b.start) c.open_batch.ensures.others) c.close_batch.ensures.closed.goes_on.start is
+    (c.in_ok-batch.ensures.entry c.in-Batch.batch (ap (λ (o : Opening). Ok o) c.in-Batch.is)) (c.close_batch.ensures.planned whole)

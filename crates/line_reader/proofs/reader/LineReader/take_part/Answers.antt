@@ -3,11 +3,11 @@ use Rattle.std.proofs.lemmas.List.{length_push}
 use Rattle.line_text.specs.Cutter.{EndsLine, Continues, HasTaken}
 use Rattle.line_text.specs.Lines.{ended_lines}
 use Rattle.line_reader.specs.Reader.{HasRead, ReaderState}
-use Rattle.line_reader.proofs.LineParts.{read-part}
+use Rattle.line_reader.proofs.LineParts.{pending-parts, read-part}
 use Rattle.line_reader.proofs.reader.LineReader.take_part.Goals as goal
 
 pub returns-then-cut-clause-read : goal.returns-then-cut-clause-read
-returns-then-cut-clause-read c before left bytes known =
+returns-then-cut-clause-read c bytes known =
     let cut = c.take-cut in
     let old : ReaderState = record {
       limits = c.self.inside.limits;
@@ -16,7 +16,7 @@ returns-then-cut-clause-read c before left bytes known =
       bytes_left = c.self.inside.bytes_left;
       lines_left = c.self.inside.lines_left;
     } in
-    let read : HasRead before left old bytes = subst (λ (r : ReaderState). HasRead before left r bytes) (sym c.self.view_is) known in
+    let read : HasRead old bytes = subst (λ (r : ReaderState). HasRead r bytes) (sym c.self.view_is) known in
     let same = c.bytes.ensures in
     let part : List ℕ = take cut.result.used c.self.inside.piece in
     let lines : MatchBool cut.result.whole (EndsLine cut.new.self bytes part) (Continues bytes part)
@@ -29,13 +29,14 @@ returns-then-cut-clause-read c before left bytes known =
     let count : length (ended_lines (bytes ++ part)) ≡ length (ended_lines bytes) + 1 = ap length ends.ends ∙ length_push (ended_lines bytes) ends.line in
     let some : c.self.inside.lines_left ≡ c.args.self.now.lines_left = ap (λ (r : ReaderState). r.lines_left) c.self.view_is in (
       part,
-      read-part before left old _ bytes cut.result.used read within c.use_up.ensures refl refl cut.ensures.most
+      sym (ap (λ (r : ReaderState). r.pending) c.self.view_is) ∙ pending-parts old.pending _ cut.result.used c.use_up.ensures,
+      read-part old _ bytes cut.result.used read within c.use_up.ensures refl refl cut.ensures.most
           taken (omega (arith, count, read.lines_counted, c.requires.line, some)) (λ _. ends.begins),
       lines,
     )
 
 pub returns-else-cut-clause-read : goal.returns-else-cut-clause-read
-returns-else-cut-clause-read c before left bytes known =
+returns-else-cut-clause-read c bytes known =
     let cut = c.take-cut in
     let old : ReaderState = record {
       limits = c.self.inside.limits;
@@ -44,7 +45,7 @@ returns-else-cut-clause-read c before left bytes known =
       bytes_left = c.self.inside.bytes_left;
       lines_left = c.self.inside.lines_left;
     } in
-    let read : HasRead before left old bytes = subst (λ (r : ReaderState). HasRead before left r bytes) (sym c.self.view_is) known in
+    let read : HasRead old bytes = subst (λ (r : ReaderState). HasRead r bytes) (sym c.self.view_is) known in
     let same = c.bytes.ensures in
     let part : List ℕ = take cut.result.used c.self.inside.piece in
     let lines : MatchBool cut.result.whole (EndsLine cut.new.self bytes part) (Continues bytes part)
@@ -56,7 +57,8 @@ returns-else-cut-clause-read c before left bytes known =
     subst (λ (v : Bool). MatchBool v (EndsLine cut.new.self bytes part) (Continues bytes part)) c.if-cut.false lines in
     let some : c.self.inside.lines_left ≡ c.args.self.now.lines_left = ap (λ (r : ReaderState). r.lines_left) c.self.view_is in (
       part,
-      read-part before left old _ bytes cut.result.used read within c.use_up.ensures refl refl cut.ensures.most
+      sym (ap (λ (r : ReaderState). r.pending) c.self.view_is) ∙ pending-parts old.pending _ cut.result.used c.use_up.ensures,
+      read-part old _ bytes cut.result.used read within c.use_up.ensures refl refl cut.ensures.most
           taken (omega (arith, ap length continues.ends, read.lines_counted)) (λ full. absurd (c.requires.line (sym some ∙ full))),
       lines,
     )

@@ -22,6 +22,6 @@ returns-in-Ok-clause-logged g c before faults count text answered has =
     c.in-Ok.is has in
     let put = c.put_all.ensures before faults text
     (subst (λ (l : LogState). HasLogged before (g.K.Sink.written c.args.out.now) faults (g.K.Sink.faults c.args.out.now) l text) (sym empty) sound) in
-    subst (λ (rest : List Entry). HasLogged before (g.K.Sink.written c.end.new.out) faults (g.K.Sink.faults c.end.new.out) c.end.new.self
+    subst (λ (rest : List Entry). HasLogged before (g.K.Sink.written c.flush.new.out) faults (g.K.Sink.faults c.flush.new.out) c.flush.new.self
     (text ++ entry_lines log rest)) (take_rest es from ∙ ap (λ n. drop n es) at)
-    (c.end.ensures.logged before faults (text ++ entry_lines log (take (length es - from) (drop from es))) put)
+    (c.flush.ensures.logged before faults (text ++ entry_lines log (take (length es - from) (drop from es))) put)

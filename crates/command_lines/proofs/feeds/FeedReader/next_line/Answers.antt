@@ -1,0 +1,104 @@
+use Rattle.std.proofs.Common.{ℕ, ◌+◌, ◌++◌, [], List, Option, true, length, refl, ap, sym, subst, ◌∙◌}
+use Rattle.std.specs.Prelude.{IfSome}
+use Rattle.ride_model.specs.declared.command.Command.{Command}
+use Rattle.ride_model.specs.Text.{IsOneOrTwo, IsSpelledCommand}
+use Rattle.line_text.specs.Lines.{ended_lines}
+use Rattle.line_reader.specs.declared.answers.NextLine.{NextLine}
+use Rattle.line_reader.specs.declared.limits.Limits.{Limits}
+use Rattle.line_reader.specs.declared.answers.ReadStop.{ReadStop}
+use Rattle.line_reader.specs.Reader.{IsAtEnd, IsNext, IsStopped as IsStoppedText}
+use Rattle.command_lines.specs.declared.pieces.FeedStop.TheVariants.{SourceFailed, TooLong}
+use Rattle.command_lines.specs.Commands.{before}
+use Rattle.command_lines.specs.Feeds.{FeedState, HasCut, HasGiven, IsStopped}
+use Rattle.command_lines.proofs.ReaderLemmas.{given-end, given-last, given-line, number-last, number-next, stopped-failed, stopped-long}
+use Rattle.command_lines.proofs.feeds.FeedReader.next_line.Goals as goal
+
+pub returns-in-Ok-Line-clause-given : goal.returns-in-Ok-Line-clause-given
+returns-in-Ok-Line-clause-given g c =
+    let left : Option (List ℕ) = g.S.Source.left c.next.new.source in
+    let old : FeedState = record { log = c.self.inside.log; lines = c.self.inside.lines; ended = c.self.inside.ended } in
+    let new : FeedState = record { log = c.self.inside.log; lines = c.next.new.self; ended = c.self.inside.ended } in
+    let (more, reads, step) = c.in-Ok-Line.ensures.next in (
+      more,
+      reads,
+      λ commands bytes given.
+          let has : HasCut old commands bytes = subst (λ (r : FeedState). HasCut r commands bytes) (sym c.self.view_is) given in
+          let (line, next) = subst (λ (n : NextLine). IsNext left c.next.new.self has.cut (old.lines.pending ++ more) n) c.in-Ok-Line.field-0-is
+          (step has.cut has.given) in
+          let said = c.said.ensures.said (length (ended_lines has.cut) + 1) line
+          (number-next c.next.new.self has.cut (old.lines.pending ++ more) line (c.next.ensures.limits ∙ has.limits) next) next.shown in
+          subst (λ (o : Option Command). HasGiven new left (commands ++ before o []) (bytes ++ more)) (sym said)
+          (given-line old new left commands bytes more has (subst (λ (r : FeedState). IsOneOrTwo r.log) (sym c.self.view_is) c.requires.log) refl line
+          (ap (λ (r : FeedState). r.ended) c.self.view_is ∙ c.requires.going) c.next.ensures.limits next),
+    )
+
+pub returns-in-Ok-Unfinished-clause-given : goal.returns-in-Ok-Unfinished-clause-given
+returns-in-Ok-Unfinished-clause-given g c =
+    let left : Option (List ℕ) = g.S.Source.left c.next.new.source in
+    let old : FeedState = record { log = c.self.inside.log; lines = c.self.inside.lines; ended = c.self.inside.ended } in
+    let new : FeedState = record { log = c.self.inside.log; lines = c.next.new.self; ended = true } in
+    let (more, reads, step) = c.in-Ok-Unfinished.ensures.next in (
+      more,
+      reads,
+      λ commands bytes given.
+          let has : HasCut old commands bytes = subst (λ (r : FeedState). HasCut r commands bytes) (sym c.self.view_is) given in
+          let (at_end, some, shown) = subst (λ (n : NextLine). IsNext left c.next.new.self has.cut (old.lines.pending ++ more) n) c.in-Ok-Unfinished.field-0-is
+          (step has.cut has.given) in
+          let end : IsAtEnd left old.lines.limits has.cut (old.lines.pending ++ more)
+          = subst (λ (l : Limits). IsAtEnd left l has.cut (old.lines.pending ++ more)) c.next.ensures.limits at_end in
+          let said = c.said-in-Ok-Unfinished.ensures.said (length (ended_lines has.cut) + 1) (old.lines.pending ++ more)
+          (number-last left old.lines.limits has.cut (old.lines.pending ++ more) has.limits end some) shown in
+          subst (λ (o : Option Command). HasGiven new left (commands ++ before o []) (bytes ++ more)) (sym said)
+          (given-last old new left commands bytes more has (subst (λ (r : FeedState). IsOneOrTwo r.log) (sym c.self.view_is) c.requires.log) refl
+          refl end some),
+    )
+
+pub returns-in-Ok-Unfinished-clause-spelled : goal.returns-in-Ok-Unfinished-clause-spelled
+returns-in-Ok-Unfinished-clause-spelled g c =
+    subst (λ (r : FeedState). IfSome c.said-in-Ok-Unfinished.result (IsSpelledCommand r.log)) c.self.view_is c.said-in-Ok-Unfinished.ensures.spelled
+
+pub returns-in-Ok-End-clause-given : goal.returns-in-Ok-End-clause-given
+returns-in-Ok-End-clause-given g c =
+    let left : Option (List ℕ) = g.S.Source.left c.next.new.source in
+    let old : FeedState = record { log = c.self.inside.log; lines = c.self.inside.lines; ended = c.self.inside.ended } in
+    let new : FeedState = record { log = c.self.inside.log; lines = c.next.new.self; ended = true } in
+    let (more, reads, step) = c.in-Ok-End.ensures.next in (
+      more,
+      reads,
+      λ commands bytes given.
+          let has : HasCut old commands bytes = subst (λ (r : FeedState). HasCut r commands bytes) (sym c.self.view_is) given in
+          let (at_end, none) = subst (λ (n : NextLine). IsNext left c.next.new.self has.cut (old.lines.pending ++ more) n) c.in-Ok-End.field-0-is
+          (step has.cut has.given) in
+          given-end old new left commands bytes more has (subst (λ (r : FeedState). IsOneOrTwo r.log) (sym c.self.view_is) c.requires.log) refl refl
+          (subst (λ (l : Limits). IsAtEnd left l has.cut (old.lines.pending ++ more)) c.next.ensures.limits at_end) none,
+    )
+
+pub returns-in-Err-SourceFailed-clause-given : goal.returns-in-Err-SourceFailed-clause-given
+returns-in-Err-SourceFailed-clause-given g c =
+    let old : FeedState = record { log = c.self.inside.log; lines = c.self.inside.lines; ended = c.self.inside.ended } in
+    let (more, reads, step) = c.in-Err-SourceFailed.ensures.next in (
+      more,
+      reads,
+      λ commands bytes given.
+          let has : HasCut old commands bytes = subst (λ (r : FeedState). HasCut r commands bytes) (sym c.self.view_is) given in
+          subst (λ (r : FeedState). IsStopped r.log SourceFailed commands (bytes ++ more)) c.self.view_is
+          (stopped-failed old old (g.S.Source.left c.next.new.source) commands bytes more has
+          (subst (λ (r : FeedState). IsOneOrTwo r.log) (sym c.self.view_is) c.requires.log) refl
+          (subst (λ (e : ReadStop). IsStoppedText old.lines.limits has.cut (old.lines.pending ++ more) e) c.in-Err-SourceFailed.field-0-is
+          (step has.cut has.given))),
+    )
+
+pub returns-in-Err-TooLong-clause-given : goal.returns-in-Err-TooLong-clause-given
+returns-in-Err-TooLong-clause-given g c =
+    let old : FeedState = record { log = c.self.inside.log; lines = c.self.inside.lines; ended = c.self.inside.ended } in
+    let (more, reads, step) = c.in-Err-TooLong.ensures.next in (
+      more,
+      reads,
+      λ commands bytes given.
+          let has : HasCut old commands bytes = subst (λ (r : FeedState). HasCut r commands bytes) (sym c.self.view_is) given in
+          subst (λ (r : FeedState). IsStopped r.log TooLong commands (bytes ++ more)) c.self.view_is
+          (stopped-long old old (g.S.Source.left c.next.new.source) commands bytes more has
+          (subst (λ (r : FeedState). IsOneOrTwo r.log) (sym c.self.view_is) c.requires.log) refl
+          (subst (λ (e : ReadStop). IsStoppedText old.lines.limits has.cut (old.lines.pending ++ more) e) c.in-Err-TooLong.field-0-is
+          (step has.cut has.given))),
+    )

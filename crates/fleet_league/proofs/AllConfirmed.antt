@@ -1,0 +1,135 @@
+-- A batch that is committed directly after its opening, and of which each request has a seat: each is confirmed.
+use Rattle.std.proofs.Common.{◌≡◌, ℕ, ◌+◌, ◌≤◌, inl, inr, Bool, true, false, not, cond, List, [], ◌∷◌, length, Option, Some, None, eqb, ltb, leb-true, refl, sym, ap, ◌∙◌, arith}
+use Rattle.std.specs.Prelude.{map, max, nat_le, nat_eq, ◌||◌, ◌==◌, All, IsSome}
+use Rattle.std.specs.List.{IsDistinct}
+use Rattle.std.proofs.lemmas.Bool.{eq-eqb}
+use Rattle.std.proofs.lemmas.List.{length-map}
+use Rattle.ride_model.specs.declared.entry.Outcome.{Outcome}
+use Rattle.ride_model.specs.declared.entry.Outcome.TheVariants.{Confirmed}
+use Rattle.ride_model.specs.declared.offer.Seat.{Seat}
+use Rattle.ride_model.specs.declared.reply.RequestState.TheVariants.{Confirmed as IsConfirmed}
+use Rattle.ride_model.specs.declared.vehicle.Ride.{Ride}
+use Rattle.ride_model.specs.declared.vehicle.Vehicle.{Vehicle}
+use Rattle.ride_model.specs.Batch.{version_of, priced_start, was_cancelled, seat_of, outcome_by, outcome_of, confirm, after_outcome, after_outcomes}
+use Rattle.ride_model.specs.Offers.{is_idle, is_open, start_of}
+use Rattle.ride_model.specs.Seating.{BatchCopy, find_vehicle, vehicle_ids, seat_offer}
+use Rattle.ride_model.specs.State.{State, placed_vehicle}
+use Rattle.ride_model.specs.Vehicle.{ride_ids}
+use Rattle.model_laws.proofs.AboardLoads.{and-true}
+use Rattle.model_laws.proofs.Among.{Among}
+use Rattle.model_laws.proofs.Certificates.{found_among, seat_facts}
+use Rattle.model_laws.proofs.Costs.{offer_plan}
+use Rattle.model_laws.proofs.RequestStates.{marked}
+use Rattle.history_laws.proofs.Confirming.{priced_start-found}
+use Rattle.history_laws.proofs.Lookups.{of_all, found_by}
+use Rattle.fleet_league.specs.declared.briefs.Win.{Win}
+use Rattle.fleet_league.specs.Awards.{won_rides, AreSeatsOf}
+use Rattle.fleet_league.proofs.Reports.{NoneWaits, none-marked}
+
+-- the seat of one of the wins
+pub seat-of-win : (wins : List Win) (seats : List Seat) (win : Win) → AreSeatsOf wins seats → Among win wins
+    → (seat : Seat) × (seat_of seats win.ride.id ≡ Some seat)
+seat-of-win [] seats win are there = absurd there
+seat-of-win (first ∷ wins) [] win are there = absurd (cc are)
+seat-of-win (first ∷ wins) (seat ∷ seats) win are there =
+    let head : seat.request ≡ first.ride.id = ap (λ (p : ℕ × ℕ). p.0) (first_of are) in
+    by_test (eqb seat.request win.ride.id) refl head (λ later. seat-of-win wins seats win (rest_of are) later) there
+  where
+    first_of : AreSeatsOf (first ∷ wins) (seat ∷ seats) → let a : ℕ × ℕ = (seat.request, seat.vehicle) in let b : ℕ × ℕ = (first.ride.id, first.vehicle) in a ≡ b
+    first_of e = cc e
+
+    rest_of : AreSeatsOf (first ∷ wins) (seat ∷ seats) → AreSeatsOf wins seats
+    rest_of e = cc e
+
+    by_test : (b : Bool) → eqb seat.request win.ride.id ≡ b → seat.request ≡ first.ride.id
+        → (Among win wins → (s : Seat) × (seat_of seats win.ride.id ≡ Some s)) → Among win (first ∷ wins)
+        → (s : Seat) × (seat_of (seat ∷ seats) win.ride.id ≡ Some s)
+    by_test true is head later _ = (seat, ap (λ b. cond b (Some seat) (seat_of seats win.ride.id)) is)
+    by_test false is head later (inl same) =
+        absurd (cc (is, eq-eqb seat.request win.ride.id (head ∙ ap (λ (w : Win). w.ride.id) same)))
+    by_test false is head later (inr there) =
+        let (s, found) = later there in
+        (s, ap (λ b. cond b (Some seat) (seat_of seats win.ride.id)) is ∙ found)
+
+-- an open vehicle does not start before the time
+start-not_before : (v : Vehicle) (lead time : ℕ) → is_open v time ≡ true → time ≤ start_of v lead time
+start-not_before v lead time open_then = by_test (is_idle v) (and-true v.duty (is_idle v || nat_le time v.ready) open_then).1
+  where
+    by_test : (b : Bool) → (b || nat_le time v.ready) ≡ true → time ≤ cond b (max v.ready (time + lead)) v.ready
+    by_test true h = omega arith
+    by_test false h = leb-true time v.ready h
+
+-- a pair that stands is confirmed
+stands : (a b : Bool) (x y : Outcome) → a ≡ false → b ≡ false → cond a x (cond b y Confirmed) ≡ Confirmed
+stands true b x y h k = absurd (cc h)
+stands false true x y h k = absurd (cc k)
+stands false false x y h k = refl
+
+module _ (s : State) (batch : BatchCopy) (seats : List Seat) (vehicles_stand : batch.vehicles ≡ s.vehicles) (time_is : batch.time ≡ s.clock)
+    (differ : IsDistinct nat_eq (vehicle_ids batch.vehicles)) (offered : All (λ seat. IsSome (seat_offer s.roads batch seat)) seats) where
+  -- a request with a seat is confirmed, unless it was cancelled
+  pub outcome-confirmed : (id : ℕ) (seat : Seat) → was_cancelled s id ≡ false → seat_of seats id ≡ Some seat
+      → outcome_of batch seats s id ≡ Confirmed
+  outcome-confirmed id seat not_cancelled seated =
+      let there : Among seat seats = (found_among (λ (x : Seat). x.request == id) seats seat seated).0 in
+      let facts = seat_facts s.roads batch seat (of_all (λ (x : Seat). IsSome (seat_offer s.roads batch x)) seats seat offered there) in
+      let plan = offer_plan s.roads batch.settings facts.vehicle facts.ride batch.time seat.i seat.j facts.offer facts.offered in
+      let found : find_vehicle batch.vehicles seat.vehicle ≡ Some facts.vehicle
+      = ap (find_vehicle batch.vehicles) (sym facts.vehicle_id)
+      ∙ found_by (λ (v : Vehicle). v.id) batch.vehicles facts.vehicle differ facts.vehicle_there in
+      let later : batch.time ≤ start_of facts.vehicle batch.settings.lead batch.time
+      = start-not_before facts.vehicle batch.settings.lead batch.time plan.is_open_then in
+      let same : eqb (version_of batch.vehicles seat.vehicle) (version_of s.vehicles seat.vehicle) ≡ true
+      = eq-eqb (version_of batch.vehicles seat.vehicle) (version_of s.vehicles seat.vehicle) (ap (λ vs. version_of vs seat.vehicle) vehicles_stand) in
+      let start : priced_start batch seat.vehicle ≡ start_of facts.vehicle batch.settings.lead batch.time
+      = priced_start-found batch seat.vehicle facts.vehicle found in
+      let not_behind : ltb (priced_start batch seat.vehicle) s.clock ≡ false
+      = ap (λ n. ltb n s.clock) start ∙ ap (λ n. ltb (start_of facts.vehicle batch.settings.lead batch.time) n) (sym time_is)
+      ∙ le_not_ltb batch.time (start_of facts.vehicle batch.settings.lead batch.time) later in
+      ap (λ b. outcome_by batch s b (seat_of seats id)) not_cancelled ∙ ap (outcome_by batch s false) seated
+      ∙ stands (not (eqb (version_of batch.vehicles seat.vehicle) (version_of s.vehicles seat.vehicle)))
+      (ltb (priced_start batch seat.vehicle) s.clock) _ _ (ap not same) not_behind
+    where
+      le_not_ltb : (a b : ℕ) → a ≤ b → ltb b a ≡ false
+      le_not_ltb a b h = grind arith
+
+-- the outcomes of requests
+abbrev pub outcomes_by : BatchCopy → List Seat → State → List ℕ → List (ℕ × Outcome)
+outcomes_by batch seats s ids = map (λ id. (id, outcome_of batch seats s id)) ids
+
+-- those of wins that are all confirmed
+pub outcomes-are : (batch : BatchCopy) (seats : List Seat) (s : State) (wins : List Win)
+    → ((win : Win) → Among win wins → outcome_of batch seats s win.ride.id ≡ Confirmed)
+    → outcomes_by batch seats s (ride_ids (won_rides wins)) ≡ map (λ (win : Win). (win.ride.id, Confirmed)) wins
+outcomes-are batch seats s [] each = refl
+outcomes-are batch seats s (win ∷ wins) each =
+    λ i. (win.ride.id, each win (inl refl) i) ∷ outcomes-are batch seats s wins (λ w there. each w (inr there)) i
+
+-- what confirming leaves of requests: none waits where none did, and there are as many
+pub record LeavesNone (s t : State) : Type 0 where
+  pub none_wait : NoneWaits s.requests → NoneWaits t.requests
+  pub as_many : length t.requests ≡ length s.requests
+
+one-confirmed : (batch : BatchCopy) (ride : Ride) (seat : Option Seat) (s : State) → LeavesNone s (after_outcome batch ride seat Confirmed s)
+one-confirmed batch ride None s = record { none_wait = λ none. none; as_many = refl }
+one-confirmed batch ride (Some seat) s = by_place (placed_vehicle s seat.vehicle)
+  where
+    by_place : (placed : Option (ℕ × Vehicle)) → LeavesNone s (confirm batch ride seat placed s)
+    by_place None = record { none_wait = λ none. none; as_many = refl }
+    by_place (Some p) = record {
+      none_wait = none-marked (λ q. q == ride.id) (IsConfirmed seat.vehicle) s.requests refl;
+      as_many = length-map s.requests (marked (λ q. q == ride.id) (IsConfirmed seat.vehicle));
+    }
+
+pub all-confirmed : (batch : BatchCopy) (seats : List Seat) (moment : State) (rides : List Ride) (s : State)
+    → ((ride : Ride) → Among ride rides → outcome_of batch seats moment ride.id ≡ Confirmed)
+    → LeavesNone s (after_outcomes batch seats moment rides s)
+all-confirmed batch seats moment [] s each = record { none_wait = λ none. none; as_many = refl }
+all-confirmed batch seats moment (ride ∷ rides) s each =
+    let after : State = after_outcome batch ride (seat_of seats ride.id) (outcome_of batch seats moment ride.id) s in
+    let first : LeavesNone s after = by_outcome (outcome_of batch seats moment ride.id) (each ride (inl refl)) in
+    let rest = all-confirmed batch seats moment rides after (λ r there. each r (inr there)) in
+    record { none_wait = λ none. rest.none_wait (first.none_wait none); as_many = rest.as_many ∙ first.as_many }
+  where
+    by_outcome : (o : Outcome) → o ≡ Confirmed → LeavesNone s (after_outcome batch ride (seat_of seats ride.id) o s)
+    by_outcome o is = rw is (one-confirmed batch ride (seat_of seats ride.id) s)

@@ -1,0 +1,16 @@
+pub mod Legality
+pub mod Reports
+pub mod PricedRows
+pub mod Batched
+pub mod Requested
+pub mod BatchOpened
+pub mod AllConfirmed
+pub mod WinsAsked
+pub mod Outcomes
+pub mod CertifiedWins
+pub mod Awarded
+pub mod QuotedState
+pub mod MayAward
+pub mod ChosenSums
+pub mod Restricted
+pub mod UnionFilling

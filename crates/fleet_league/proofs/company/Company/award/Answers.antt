@@ -1,0 +1,49 @@
+use Rattle.std.proofs.Common.{◌≡◌, ◌+◌, ◌<◌, ◌≤◌, length, sym, ap, subst, ◌∙◌}
+use Rattle.std.specs.Prelude.{All, IsTrue}
+use Rattle.ride_model.specs.declared.vehicle.Ride.{Ride}
+use Rattle.board_core.specs.Recorded.{Recorded, state_of}
+use Rattle.fleet_league.specs.declared.briefs.Settled.TheVariants.{Confirmed}
+use Rattle.fleet_league.specs.Companies.{CompanyState}
+use Rattle.fleet_league.specs.Prices.{IsNewRide}
+use Rattle.fleet_league.specs.Awards.{won_rides, AreOfOneState, settled_at}
+use Rattle.fleet_league.proofs.Legality.{IsLegalBoard}
+use Rattle.fleet_league.proofs.MayAward.{MayAward, may-confirm}
+use Rattle.fleet_league.proofs.QuotedState.{as-many-plans, stands-confirmed}
+use Rattle.fleet_league.proofs.company.Company.award.Goals as goal
+use Rattle.fleet_league.proofs.company.Company.award.Goals.{in-Confirmed, in_default}
+
+pub settled_at-settled-requires : goal.settled_at-settled-requires
+settled_at-settled-requires g c =
+    let board : Recorded = c.self.inside.board in
+    let legal : IsLegalBoard board = record { begins = c.entries-history.ensures.start; legal = c.entries-history.ensures.legal } in
+    as-many-plans board c.args.quote.now c.args.brief.now legal
+    (subst (λ (s : CompanyState). AreOfOneState s.board c.args.quote.now c.args.brief.now) (sym c.self.view_is) c.requires.of_one_state)
+    ∙ ap (λ vs. length vs) (sym c.vehicles.ensures)
+
+pub confirm-requires-clause-may : goal.confirm-requires-clause-may
+confirm-requires-clause-may g c κs within =
+    let board : Recorded = c.self.inside.board in
+    let brief = c.args.brief.now in
+    let back = sym c.self.view_is in
+    let may : MayAward board c.args.quote.now brief = record {
+      one_feed = c.self.invariant.one_feed;
+      one_desk = c.self.invariant.one_desk;
+      idle = c.self.invariant.idle (subst (λ (s : CompanyState). IsTrue s.is_open) back c.requires.is_open);
+      legal = record { begins = c.entries-history.ensures.start; legal = c.entries-history.ensures.legal };
+      of_one_state = subst (λ (s : CompanyState). AreOfOneState s.board c.args.quote.now brief) back c.requires.of_one_state;
+      rides = subst (λ (s : CompanyState). All (IsNewRide (state_of s.board)) (won_rides brief.wins)) back c.requires.rides;
+      ids_differ = c.requires.ids_differ;
+      ids_spelled = c.requires.ids_spelled;
+      chairs = subst (λ (s : CompanyState). s.board.start.settings.log ≡ 1 → All (λ (ride : Ride). ride.chairs ≡ 0) (won_rides brief.wins)) back
+          c.requires.chairs;
+      few = subst (λ (s : CompanyState). length brief.wins ≤ s.board.start.settings.batch) back c.requires.few;
+      room = subst (λ (s : CompanyState). length (state_of s.board).requests + length brief.wins ≤ 100000) back c.requires.room;
+      few_asked = subst (λ (s : CompanyState). (state_of s.board).asked < 2000) back c.requires.few_asked;
+    } in
+    let settled : c.settled_at-settled.result ≡ Confirmed = elim c.match-matches.branch [
+      | in-Confirmed w ↦ w.in-Confirmed.is
+      | in_default w ↦ absurd (cc (w.matches-is, c.if-not-matches.false))
+    ] in
+    let at : settled_at (state_of board).clock (state_of board).vehicles c.args.quote.now ≡ Confirmed
+    = (λ i. settled_at (sym c.now.ensures i) (sym c.vehicles.ensures i) c.args.quote.now) ∙ sym c.settled_at-settled.ensures ∙ settled in
+    may-confirm board c.args.quote.now brief may (stands-confirmed (state_of board).clock (state_of board).vehicles c.args.quote.now at)

@@ -1,0 +1,59 @@
+use Rattle.std.proofs.Common.{◌≡◌, ◌≤◌, sym, ap, subst, ◌∙◌}
+use Rattle.std.specs.Prelude.{All}
+use Rattle.ride_model.specs.Road.{RoadMap}
+use Rattle.ride_model.specs.Seating.{BatchCopy, IsBatchOver}
+use Rattle.ride_model.specs.Vehicle.{IsLawful}
+use Rattle.board_core.specs.Recorded.{Recorded, state_of}
+use Rattle.fleet_league.specs.Companies.{CompanyState}
+use Rattle.fleet_league.specs.Prices.{prices_by, prices_of, IsNewRide}
+use Rattle.fleet_league.specs.Quoting.{quoting_batch}
+use Rattle.fleet_league.proofs.Batched.{MayPrice, may-price}
+use Rattle.fleet_league.proofs.Legality.{IsLegalBoard, board-roads}
+use Rattle.fleet_league.proofs.company.Company.quote.Goals as goal
+
+pub price_batch-requires-clause-time : goal.price_batch-requires-clause-time
+price_batch-requires-clause-time g c κs within =
+    let board : Recorded = c.self.inside.board in
+    let legal : IsLegalBoard board = record { begins = c.entries-history.ensures.start; legal = c.entries-history.ensures.legal } in
+    let may : MayPrice board.start.roads (state_of board) c.args.rides.now
+    = may-price board c.args.rides.now legal c.requires.few
+    (subst (λ (s : CompanyState). All (IsNewRide (state_of s.board)) c.args.rides.now) (sym c.self.view_is) c.requires.rides) in
+    let batch : c.in_ok-batch.batch ≡ quoting_batch (state_of board) c.args.rides.now
+    = c.in_ok-batch.ensures ∙ ap (λ (s : CompanyState). quoting_batch (state_of s.board) c.args.rides.now) (sym c.self.view_is) in
+    subst (λ (b : BatchCopy). b.time ≤ 1000000000) (sym batch) may.in_time
+
+pub price_batch-requires-clause-over_map : goal.price_batch-requires-clause-over_map
+price_batch-requires-clause-over_map g c κs within =
+    let board : Recorded = c.self.inside.board in
+    let legal : IsLegalBoard board = record { begins = c.entries-history.ensures.start; legal = c.entries-history.ensures.legal } in
+    let may : MayPrice board.start.roads (state_of board) c.args.rides.now
+    = may-price board c.args.rides.now legal c.requires.few
+    (subst (λ (s : CompanyState). All (IsNewRide (state_of s.board)) c.args.rides.now) (sym c.self.view_is) c.requires.rides) in
+    let batch : c.in_ok-batch.batch ≡ quoting_batch (state_of board) c.args.rides.now
+    = c.in_ok-batch.ensures ∙ ap (λ (s : CompanyState). quoting_batch (state_of s.board) c.args.rides.now) (sym c.self.view_is) in
+    subst (λ (b : BatchCopy). IsBatchOver c.self.inside.roads.now b) (sym batch)
+    (subst (λ (m : RoadMap). IsBatchOver m (quoting_batch (state_of board) c.args.rides.now)) c.self.invariant.roads_are may.over_map)
+
+pub price_batch-requires-clause-lawful : goal.price_batch-requires-clause-lawful
+price_batch-requires-clause-lawful g c κs within =
+    let board : Recorded = c.self.inside.board in
+    let legal : IsLegalBoard board = record { begins = c.entries-history.ensures.start; legal = c.entries-history.ensures.legal } in
+    let may : MayPrice board.start.roads (state_of board) c.args.rides.now
+    = may-price board c.args.rides.now legal c.requires.few
+    (subst (λ (s : CompanyState). All (IsNewRide (state_of s.board)) c.args.rides.now) (sym c.self.view_is) c.requires.rides) in
+    let batch : c.in_ok-batch.batch ≡ quoting_batch (state_of board) c.args.rides.now
+    = c.in_ok-batch.ensures ∙ ap (λ (s : CompanyState). quoting_batch (state_of s.board) c.args.rides.now) (sym c.self.view_is) in
+    subst (λ (b : BatchCopy). All (IsLawful c.self.inside.roads.now) b.vehicles) (sym batch)
+    (subst (λ (m : RoadMap). All (IsLawful m) (state_of board).vehicles) c.self.invariant.roads_are may.lawful)
+
+pub returns-clause-prices : goal.returns-clause-prices
+returns-clause-prices g c =
+    let board : Recorded = c.self.inside.board in
+    let legal : IsLegalBoard board = record { begins = c.entries-history.ensures.start; legal = c.entries-history.ensures.legal } in
+    let roads : c.self.inside.roads.now ≡ (state_of board).roads = sym (board-roads board legal ∙ c.self.invariant.roads_are) in
+    let batch : c.in_ok-batch.batch ≡ quoting_batch (state_of board) c.args.rides.now
+    = c.in_ok-batch.ensures ∙ ap (λ (s : CompanyState). quoting_batch (state_of s.board) c.args.rides.now) (sym c.self.view_is) in
+    c.in_ok-prices.ensures c.self.inside.roads.now c.in_ok-table.ensures.table
+    ∙ ap (λ (b : BatchCopy). prices_by c.self.inside.roads.now b.settings b.time b.vehicles b.requests) batch
+    ∙ ap (λ (m : RoadMap). prices_by m (state_of board).settings (state_of board).clock (state_of board).vehicles c.args.rides.now) roads
+    ∙ ap (λ (s : CompanyState). prices_of (state_of s.board) c.args.rides.now) c.self.view_is

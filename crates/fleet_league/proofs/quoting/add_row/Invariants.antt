@@ -1,0 +1,7 @@
+use Rattle.std.proofs.Common.{◌≡◌, ◌++◌}
+use Rattle.fleet_league.specs.Quoting.{cost_row}
+use Rattle.fleet_league.proofs.quoting.add_row.Given as goal
+
+-- the costs of the vehicles so far are added
+abbrev pub invariant-loop-vehicle : goal.invariant-loop-vehicle
+invariant-loop-vehicle l = l.cells.items ≡ l.initial.cells.items ++ cost_row l.table l.ride l.vehicle

@@ -1,0 +1,8 @@
+use Rattle.std.proofs.Common.{◌≡◌, ◌*◌, ◌≤◌, take, sum_by}
+use Rattle.fleet_league.specs.declared.quotes.Quote.{Quote}
+use Rattle.fleet_league.proofs.unions.vehicles_of.Given as goal
+
+-- the vehicles of the companies so far
+abbrev pub invariant-loop-quote : goal.invariant-loop-quote
+invariant-loop-quote l =
+    (l.vehicles ≡ sum_by (λ (quote : Quote). quote.prices.columns) (take l.quote-index l.quotes)) × (l.vehicles ≤ 1000 * l.quote-index)

@@ -1,0 +1,75 @@
+//! A company's part of a round is certified by its part of the prices.
+ghost use Rattle.std.specs.Prelude.{◌≡◌, IfOk};
+ghost use Rattle.league_trials.specs.TwoCompanies.{union, round, part, own};
+
+use dual_check::{ColumnList, Grid, NumberList, Paired, certifies_grid};
+use fleet_league::NoMemory;
+use fleet_league::laws::restriction;
+use std::alloc::Global;
+use std::test::Fail;
+
+// What leaving a ride out costs.
+const PENALTY: u64 = 3600;
+
+// The prices of both companies.
+fn union(alloc: Global) -> Result<Grid, NoMemory>
+    ensures { IfOk result (λ grid. grid ≡ union) }
+{
+    let mut grid = Grid::new(alloc, 2, 2)?;
+    grid.set(0, 0, 120);
+    grid.set(0, 1, 120);
+    grid.set(1, 0, 60);
+    grid.set(1, 1, 180);
+    Ok(grid)
+}
+
+// Each ride in the vehicle of another company.
+fn round(alloc: Global) -> Result<Paired, NoMemory>
+    ensures { IfOk result (λ paired. paired ≡ round) }
+{
+    Ok(Paired {
+        columns: ColumnList::of([Some(1), Some(0)].to_vec(alloc)?),
+        prices: NumberList::of([120, 60].to_vec(alloc)?),
+        pays: NumberList::of([0, 0].to_vec(alloc)?),
+    })
+}
+
+// The first company's price for the ride that it takes.
+fn part(alloc: Global) -> Result<Grid, NoMemory>
+    ensures { IfOk result (λ grid. grid ≡ part) }
+{
+    let mut grid = Grid::new(alloc, 1, 1)?;
+    grid.set(0, 0, 60);
+    Ok(grid)
+}
+
+// That ride in its vehicle.
+fn own(alloc: Global) -> Result<Paired, NoMemory>
+    ensures { IfOk result (λ paired. paired ≡ own) }
+{
+    Ok(Paired {
+        columns: ColumnList::of([Some(0)].to_vec(alloc)?),
+        prices: NumberList::of([60].to_vec(alloc)?),
+        pays: NumberList::of([0].to_vec(alloc)?),
+    })
+}
+
+#[test]
+fn a_company_s_part_of_a_round_is_certified(rt: HostRuntime) -> Result<(), Fail> {
+    let grid = union(rt.alloc())?;
+    let paired = round(rt.alloc())?;
+    let part = part(rt.alloc())?;
+    let own = own(rt.alloc())?;
+    assert!(rt; certifies_grid(&grid, PENALTY, &paired));
+    restriction(
+        &grid,
+        PENALTY,
+        &paired,
+        &[true, false],
+        &part,
+        PENALTY,
+        &own,
+    );
+    assert!(rt; certifies_grid(&part, PENALTY, &own));
+    Ok(())
+}

@@ -1,0 +1,206 @@
+//! The smallest city of seed 1, groups, and reports.
+ghost use Rattle.std.specs.Prelude.{◌≡◌, [], ◌∷◌, None};
+ghost use Rattle.ride_model.specs.Vehicle.{IsRoutedSomewhere};
+ghost use Rattle.plan_trials.specs.SmallPlans.{ride_of, pickup_at, dropoff_at, vehicle_of};
+
+use arrayvec::ArrayVec;
+use city_maker::laws::{
+    commands_are_given, reports_are_accepted, requests_are_given_in_order,
+    seed_1_draws_known_numbers,
+};
+use city_maker::*;
+use ride_model::{Command, Kind, Ride, RoadArc, Stop, Vehicle};
+use std::process::Abort;
+use std::test::Fail;
+
+const fn arc(tail: u32, head: u32, seconds: u32) -> RoadArc {
+    RoadArc {
+        tail,
+        head,
+        seconds,
+    }
+}
+
+#[test]
+fn seed_1_gives_this_city_of_four_nodes(rt: HostRuntime) -> Result<(), Fail> {
+    seed_1_draws_known_numbers();
+    requests_are_given_in_order();
+    commands_are_given();
+    reports_are_accepted();
+    let plan = CityPlan {
+        side: 2,
+        vehicles: 1,
+        requests: 1,
+        seed: 1,
+    };
+    let city = make_city(rt.alloc(), &plan)?;
+    let arcs = [
+        arc(1, 2, 33),
+        arc(2, 1, 33),
+        arc(1, 3, 55),
+        arc(3, 1, 55),
+        arc(2, 4, 42),
+        arc(4, 2, 42),
+        arc(3, 4, 73),
+        arc(4, 3, 73),
+    ];
+    assert_eq!(rt; city.network.nodes(), 4);
+    assert_eq!(rt; city.network.arcs(), arcs.as_slice());
+    let vehicles = city.fleet.vehicles();
+    assert_eq!(rt; vehicles.len(), 1);
+    assert!(rt; vehicles[0].id == 1 && vehicles[0].at == 4 && vehicles[0].seats == 4);
+    assert_eq!(rt; next_report(&vehicles[0], 1_000_000_000), None);
+    let commands = [
+        Command::Clock { time: 0 },
+        Command::Request {
+            id: 1,
+            from: 4,
+            to: 3,
+            seats: 2,
+            latest: 900,
+            longest: 3_600,
+            chairs: 0,
+        },
+        Command::Ask,
+        Command::Clock {
+            time: 1_000_000_000,
+        },
+    ];
+    assert_eq!(rt; city.commands.items(), commands.as_slice());
+    Ok(())
+}
+
+// How many rows and columns a grid has, and how many arcs.
+static GRIDS: [(u32, usize); 4] = [(2, 8), (3, 24), (40, 6_240), (100, 39_600)];
+
+#[test]
+fn neighbours_are_joined_in_both_directions(rt: HostRuntime) -> Result<(), Fail> {
+    for (side, arcs) in GRIDS {
+        assert!(rt; 2 <= side && side <= 100);
+        let plan = CityPlan {
+            side,
+            vehicles: 0,
+            requests: 0,
+            seed: 2_147_483_647,
+        };
+        let city = make_city(rt.alloc(), &plan)?;
+        assert_eq!(rt; city.network.arcs().len(), arcs);
+    }
+    Ok(())
+}
+
+// How many requests there are, how many commands, and the last clock but one.
+static GROUPS: [(u32, usize, u64); 5] = [
+    (0, 1, 0),
+    (1, 4, 0),
+    (8, 11, 0),
+    (9, 14, 30),
+    (17, 24, 60),
+];
+
+fn clocks(commands: &[Command]) -> u64 {
+    let mut last = 0;
+    for command in commands {
+        if let Command::Clock { time } = command {
+            if *time < 1_000_000_000 {
+                last = *time;
+            }
+        }
+    }
+    last
+}
+
+#[test]
+fn requests_are_taken_in_groups_of_eight(rt: HostRuntime) -> Result<(), Fail> {
+    for (requests, commands, clock) in GROUPS {
+        assert!(rt; requests <= 17);
+        let plan = CityPlan {
+            side: 3,
+            vehicles: 2,
+            requests,
+            seed: 7,
+        };
+        let city = make_city(rt.alloc(), &plan)?;
+        assert_eq!(rt; city.commands.items().len(), commands);
+        assert_eq!(rt; clocks(city.commands.items()), clock);
+    }
+    Ok(())
+}
+
+// A vehicle on a road of four nodes, a minute between neighbours, that has promised a ride from node 2 to node 4.
+fn driving(at: u32, ready: u64, leg: u64) -> Vehicle
+    ensures { result ≡ vehicle_of at ready (ride_of 7 2 4 None ∷ []) (pickup_at 7 2 leg ∷ dropoff_at 7 4 120 ∷ []) }
+{
+    let mut rides = ArrayVec::new();
+    rides.push(Ride {
+        id: 7,
+        from: 2,
+        to: 4,
+        seats: 1,
+        chairs: 0,
+        latest: 600,
+        longest: 300,
+        picked: None,
+    });
+    let mut stops = ArrayVec::new();
+    stops.push(Stop {
+        ride: 7,
+        kind: Kind::Pickup,
+        node: 2,
+        leg,
+    });
+    stops.push(Stop {
+        ride: 7,
+        kind: Kind::Dropoff,
+        node: 4,
+        leg: 120,
+    });
+    Vehicle {
+        id: 1,
+        seats: 2,
+        chairs: 0,
+        at,
+        ready,
+        duty: true,
+        version: 1,
+        rides,
+        stops,
+    }
+}
+
+fn reports<R: Abort>(rt: &R, vehicle: &Vehicle, cases: &[(u64, Option<Command>)])
+    requires { IsRoutedSomewhere vehicle.now }
+{
+    for (clock, report) in cases {
+        let found = next_report(vehicle, *clock);
+        assert!(rt; found == *report, "at {clock}: {found:?}");
+    }
+}
+
+#[test]
+fn drivers_report_where_they_are_by_the_clock(rt: HostRuntime) {
+    let on_way = driving(1, 0, 60);
+    let at_node = Some(Command::At {
+        vehicle: 1,
+        node: 2,
+        time: 60,
+    });
+    reports(
+        &rt,
+        &on_way,
+        &[
+            (0, None),
+            (1, at_node),
+            (59, at_node),
+            (60, at_node),
+            (90, at_node),
+        ],
+    );
+    let there = driving(2, 60, 0);
+    let done = Some(Command::Done { vehicle: 1 });
+    reports(
+        &rt,
+        &there,
+        &[(0, None), (59, None), (60, done), (61, done)],
+    );
+}

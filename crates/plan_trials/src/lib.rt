@@ -1,0 +1,20 @@
+//! Trials of the crates of plans, offers and cities: worked cases, and the small roads, rides and vehicles that tests share. Its library
+//! is these fixtures alone, so that the crates that it tests are proved once.
+#![tactic(auto)]
+
+#[cfg(test)]
+mod cities;
+#[cfg(test)]
+mod drawn_plans;
+#[cfg(test)]
+mod limits;
+#[cfg(test)]
+mod offer_rows;
+#[cfg(test)]
+mod offers;
+#[cfg(test)]
+mod slack;
+#[cfg(test)]
+mod stops;
+#[cfg(test)]
+mod values;

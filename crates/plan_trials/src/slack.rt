@@ -1,0 +1,732 @@
+// Trials on a road of four nodes in a line, a minute between neighbours.
+ghost use Rattle.std.specs.Prelude.{◌≡◌, ◌≤◌, length, map, IfSome, IsTrue, Some};
+ghost use Rattle.ride_model.specs.declared.offer.Offer.{Offer};
+ghost use Rattle.ride_model.specs.Offers.{offer_of};
+ghost use Rattle.plan_trials.specs.SmallPlans.{four_nodes};
+ghost use Rattle.insertion.specs.Asked.{IsAsked};
+ghost use Rattle.plan_trials.specs.LineRoad.{is_lawful, seconds_between, vehicle_with};
+ghost use Rattle.plan_trials.specs.NearInLine.{near_in_line, near_stop_in_line, may_be_asked};
+
+use arrayvec::ArrayVec;
+use insertion::prices::{number_of_stops, start_of};
+use insertion::{Near, NearStop, best_place, offer_at};
+use promises::broken;
+use ride_model::{Ids, Kind, Offer, Ride, Settings, Stop, Vehicle};
+use slack_tables::*;
+
+/// Where a vehicle is, and what it takes.
+#[derive(Clone, Copy)]
+struct Car {
+    at: u32,
+    ready: u64,
+    seats: u32,
+    chairs: u32,
+}
+
+fn vehicle(car: Car, rides: &[Ride], stops: &[Stop]) -> Vehicle
+    requires few_rides { length rides.now ≤ 16 }
+    requires few_stops { length stops.now ≤ 16 }
+    ensures { result ≡ vehicle_with car.at car.ready car.seats car.chairs rides.now stops.now }
+{
+    Vehicle {
+        id: 1,
+        seats: car.seats,
+        chairs: car.chairs,
+        at: car.at,
+        ready: car.ready,
+        duty: true,
+        version: 0,
+        rides: copy_of_rides(rides),
+        stops: copy_of_stops(stops),
+    }
+}
+
+fn copy_of_rides(rides: &[Ride]) -> ArrayVec<Ride, 16>
+    requires { length rides.now ≤ 16 }
+    ensures { result.items ≡ rides.now }
+{
+    let mut copy = ArrayVec::new();
+    for ride in rides {
+        copy.push(*ride);
+    }
+    copy
+}
+
+fn copy_of_stops(stops: &[Stop]) -> ArrayVec<Stop, 16>
+    requires { length stops.now ≤ 16 }
+    ensures { result.items ≡ stops.now }
+{
+    let mut copy = ArrayVec::new();
+    for stop in stops {
+        copy.push(*stop);
+    }
+    copy
+}
+
+fn seconds_between(x: u32, y: u32) -> u64
+    ensures { result ≡ seconds_between x y }
+{
+    60 * u64::from(x.saturating_sub(y) + y.saturating_sub(x))
+}
+
+fn near(vehicle: &Vehicle, ride: &Ride) -> Near
+    ensures { result ≡ near_in_line vehicle.now ride.now }
+{
+    Near {
+        at_from: Some(seconds_between(vehicle.at, ride.from)),
+        at_to: Some(seconds_between(vehicle.at, ride.to)),
+        direct: Some(seconds_between(ride.from, ride.to)),
+        stops: near_stops(vehicle.stops.as_slice(), ride),
+    }
+}
+
+fn near_stops(stops: &[Stop], ride: &Ride) -> ArrayVec<NearStop, 16>
+    requires { length stops.now ≤ 16 }
+    ensures { result.items ≡ map (near_stop_in_line ride.now) stops.now }
+{
+    let mut near = ArrayVec::new();
+    for stop in stops {
+        near.push(near_stop(stop, ride));
+    }
+    near
+}
+
+fn near_stop(stop: &Stop, ride: &Ride) -> NearStop
+    ensures { result ≡ near_stop_in_line ride.now stop.now }
+{
+    NearStop {
+        to_from: Some(seconds_between(stop.node, ride.from)),
+        from_here: Some(seconds_between(ride.from, stop.node)),
+        to_to: Some(seconds_between(stop.node, ride.to)),
+        to_here: Some(seconds_between(ride.to, stop.node)),
+    }
+}
+
+// The answer of the search by slack.
+pub(crate) fn fast(vehicle: &Vehicle, ride: &Ride, settings: &Settings) -> Option<Offer>
+    requires { IsAsked four_nodes vehicle.now ride.now 0 settings.now (near_in_line vehicle.now ride.now) }
+    ensures { IfSome result (λ (offer : Offer). offer_of four_nodes settings.now vehicle.now ride.now 0 offer.i offer.j ≡ Some offer) }
+{
+    let near = near(vehicle, ride);
+    let start = start_of(vehicle, settings.lead, 0);
+    let slack = Slack::of(vehicle, start, settings.dwell);
+    best_place_fast(vehicle, &slack, ride, 0, settings, &near)
+}
+
+// The least cost, where the plain search says the same, and the offer is that of its places.
+fn cost(car: Car, rides: &[Ride], stops: &[Stop], ride: Ride, settings: Settings) -> Option<u64>
+    requires few_rides { length rides.now ≤ 16 }
+    requires few_stops { length stops.now ≤ 16 }
+    requires asked { IsTrue (may_be_asked (vehicle_with car.at car.ready car.seats car.chairs rides.now stops.now) ride settings) }
+{
+    let vehicle = vehicle(car, rides, stops);
+    let fast = fast(&vehicle, &ride, &settings);
+    if agrees(fast, &vehicle, &ride, &settings) {
+        fast.map(|offer| offer.cost)
+    } else {
+        Some(u64::MAX)
+    }
+}
+
+// Whether an answer costs what the plain search's does, no pair of places is cheaper, and the offer is that of its places.
+pub(crate) fn agrees(
+    fast: Option<Offer>,
+    vehicle: &Vehicle,
+    ride: &Ride,
+    settings: &Settings,
+) -> bool
+    requires { IsAsked four_nodes vehicle.now ride.now 0 settings.now (near_in_line vehicle.now ride.now) }
+{
+    let near = near(vehicle, ride);
+    let slow = best_place(vehicle, ride, 0, settings, &near);
+    match (fast, slow) {
+        (Some(fast), Some(slow)) => {
+            let there = offer_at(vehicle, ride, fast.i, fast.j, 0, settings, &near);
+            fast.cost == slow.cost
+                && there == Some(fast)
+                && none_below(fast.cost, vehicle, ride, settings)
+        }
+        (None, None) => none_below(u64::MAX, vehicle, ride, settings),
+        _ => false,
+    }
+}
+
+// Whether no pair of places has an offer below a cost.
+fn none_below(cost: u64, vehicle: &Vehicle, ride: &Ride, settings: &Settings) -> bool
+    requires { IsAsked four_nodes vehicle.now ride.now 0 settings.now (near_in_line vehicle.now ride.now) }
+{
+    for i in 0..number_of_stops(vehicle) as u32 + 1 {
+        if !none_below_with_pickup_at(i, cost, vehicle, ride, settings) {
+            return false;
+        }
+    }
+    true
+}
+
+fn none_below_with_pickup_at(
+    i: u32,
+    cost: u64,
+    vehicle: &Vehicle,
+    ride: &Ride,
+    settings: &Settings,
+) -> bool
+    requires { IsAsked four_nodes vehicle.now ride.now 0 settings.now (near_in_line vehicle.now ride.now) }
+{
+    let near = near(vehicle, ride);
+    for j in i..number_of_stops(vehicle) as u32 + 1 {
+        if let Some(offer) = offer_at(vehicle, ride, i, j, 0, settings, &near) {
+            if offer.cost < cost {
+                return false;
+            }
+        }
+    }
+    true
+}
+
+macro_rules! trip {
+    ($id:expr, $from:expr, $to:expr, $seats:expr, $chairs:expr, $latest:expr, $longest:expr, $picked:expr) => {
+        Ride {
+            id: $id,
+            from: $from,
+            to: $to,
+            seats: $seats,
+            chairs: $chairs,
+            latest: $latest,
+            longest: $longest,
+            picked: $picked,
+        }
+    };
+}
+
+macro_rules! ride {
+    ($id:expr, $from:expr, $to:expr) => {
+        trip!($id, $from, $to, 1, 0, 600, 300, None)
+    };
+}
+
+macro_rules! pickup {
+    ($ride:expr, $node:expr, $leg:expr) => {
+        Stop {
+            ride: $ride,
+            kind: Kind::Pickup,
+            node: $node,
+            leg: $leg,
+        }
+    };
+}
+
+macro_rules! dropoff {
+    ($ride:expr, $node:expr, $leg:expr) => {
+        Stop {
+            ride: $ride,
+            kind: Kind::Dropoff,
+            node: $node,
+            leg: $leg,
+        }
+    };
+}
+
+macro_rules! car {
+    ($at:expr, $ready:expr, $seats:expr, $chairs:expr) => {
+        Car {
+            at: $at,
+            ready: $ready,
+            seats: $seats,
+            chairs: $chairs,
+        }
+    };
+}
+
+macro_rules! costs {
+    ($drive:expr, $wait:expr, $lead:expr, $dwell:expr) => {
+        Settings {
+            drive: $drive,
+            wait: $wait,
+            lead: $lead,
+            dwell: $dwell,
+            ..SETTINGS
+        }
+    };
+}
+
+const CAR: Car = Car {
+    at: 1,
+    ready: 0,
+    seats: 2,
+    chairs: 0,
+};
+
+const SETTINGS: Settings = Settings {
+    batch: 32,
+    penalty: 3600,
+    drive: 1,
+    wait: 0,
+    lead: 0,
+    dwell: 0,
+    log: 1,
+};
+
+// Eight rides from node 2 to node 4.
+const MANY_RIDES: [Ride; 8] = [
+    ride!(1, 2, 4),
+    ride!(2, 2, 4),
+    ride!(3, 2, 4),
+    ride!(4, 2, 4),
+    ride!(5, 2, 4),
+    ride!(6, 2, 4),
+    ride!(7, 2, 4),
+    ride!(8, 2, 4),
+];
+
+const MANY_STOPS: [Stop; 16] = [
+    pickup!(1, 2, 60),
+    pickup!(2, 2, 0),
+    pickup!(3, 2, 0),
+    pickup!(4, 2, 0),
+    pickup!(5, 2, 0),
+    pickup!(6, 2, 0),
+    pickup!(7, 2, 0),
+    pickup!(8, 2, 0),
+    dropoff!(1, 4, 120),
+    dropoff!(2, 4, 0),
+    dropoff!(3, 4, 0),
+    dropoff!(4, 4, 0),
+    dropoff!(5, 4, 0),
+    dropoff!(6, 4, 0),
+    dropoff!(7, 4, 0),
+    dropoff!(8, 4, 0),
+];
+
+// Ride 7 from node 2 to node 4 is promised.
+const SEVEN: [Ride; 1] = [ride!(7, 2, 4)];
+
+const SEVEN_STOPS: [Stop; 2] = [pickup!(7, 2, 60), dropoff!(7, 4, 120)];
+
+#[test]
+fn an_idle_vehicle_drives_to_the_rider_and_on(rt: HostRuntime) {
+    let ride = ride!(7, 2, 4);
+    let dear = Settings {
+        dwell: 30,
+        wait: 2,
+        ..SETTINGS
+    };
+    assert_eq!(rt; cost(CAR, &[], &[], ride, SETTINGS), Some(180));
+    assert_eq!(rt; cost(CAR, &[], &[], ride, dear), Some(330));
+    assert_eq!(rt;
+        cost(
+            CAR,
+            &[],
+            &[],
+            Ride {
+                longest: 119,
+                ..ride
+            },
+            SETTINGS
+        ),
+        None
+    );
+    assert_eq!(rt;
+        cost(CAR, &[], &[], Ride { latest: 59, ..ride }, SETTINGS),
+        None
+    );
+}
+
+#[test]
+fn pooled_at_no_added_cost_but_for_dwell(rt: HostRuntime) {
+    let ride = ride!(9, 3, 4);
+    let dwell = Settings {
+        dwell: 30,
+        ..SETTINGS
+    };
+    assert_eq!(rt; cost(CAR, &SEVEN, &SEVEN_STOPS, ride, SETTINGS), Some(0));
+    assert_eq!(rt; cost(CAR, &SEVEN, &SEVEN_STOPS, ride, dwell), Some(60));
+}
+
+#[test]
+fn each_stop_takes_its_dwell(rt: HostRuntime) {
+    let ride = ride!(7, 2, 4);
+    let dwell = Settings {
+        dwell: 30,
+        ..SETTINGS
+    };
+    let short = Ride {
+        longest: 149,
+        ..ride
+    };
+    let long = Ride {
+        longest: 150,
+        ..ride
+    };
+    assert_eq!(rt; cost(CAR, &[], &[], ride, dwell), Some(210));
+    assert_eq!(rt; cost(CAR, &[], &[], short, dwell), None);
+    assert_eq!(rt; cost(CAR, &[], &[], long, dwell), Some(210));
+}
+
+// Rides 7 and 8 from node 2 to node 4, with an hour at each stop.
+const PATIENT: [Ride; 2] = [
+    trip!(7, 2, 4, 1, 0, 100, 100_000, None),
+    trip!(8, 2, 4, 1, 0, 9_000, 100_000, None),
+];
+
+#[test]
+fn an_hour_at_each_stop_is_driven_too(rt: HostRuntime) {
+    let hour = Settings {
+        dwell: 3600,
+        ..SETTINGS
+    };
+    let car = Car { at: 2, ..CAR };
+    let stops = [pickup!(7, 2, 0), dropoff!(7, 4, 120)];
+    assert_eq!(rt; cost(car, &[], &[], PATIENT[0], hour), Some(3720));
+    assert_eq!(rt;
+        cost(car, &PATIENT[..1], &stops, PATIENT[1], hour),
+        Some(7200)
+    );
+}
+
+// The rides that a vehicle's times break.
+fn broken_rides(car: Car, rides: &[Ride], stops: &[Stop], dwell: u64) -> Ids
+    requires few_rides { length rides.now ≤ 16 }
+    requires few_stops { length stops.now ≤ 16 }
+    requires lawful { IsTrue (is_lawful (vehicle_with car.at car.ready car.seats car.chairs rides.now stops.now)) }
+    requires dwell_limit { dwell ≤ 3600 }
+{
+    let vehicle = vehicle(car, rides, stops);
+    broken(&vehicle, dwell)
+}
+
+#[test]
+fn a_day_late_breaks_both(rt: HostRuntime) {
+    let car = Car {
+        at: 2,
+        ready: 1_000_000_000,
+        ..CAR
+    };
+    let stops = [
+        pickup!(7, 2, 0),
+        pickup!(8, 2, 0),
+        dropoff!(7, 4, 120),
+        dropoff!(8, 4, 0),
+    ];
+    let named = broken_rides(car, &PATIENT, &stops, 3600);
+    assert_eq!(rt; named.items(), [7, 8].as_slice());
+}
+
+#[test]
+fn two_do_not_sit_in_one_seat(rt: HostRuntime) {
+    let car = Car { seats: 1, ..CAR };
+    assert_eq!(rt;
+        cost(car, &SEVEN, &SEVEN_STOPS, ride!(9, 3, 4), SETTINGS),
+        Some(120)
+    );
+    assert_eq!(rt;
+        cost(car, &SEVEN, &SEVEN_STOPS, ride!(10, 1, 3), SETTINGS),
+        Some(120)
+    );
+}
+
+#[test]
+fn the_limits_of_a_promised_ride_are_kept(rt: HostRuntime) {
+    let seven = Ride {
+        latest: 60,
+        longest: 120,
+        ..ride!(7, 2, 4)
+    };
+    let ride = Ride {
+        longest: 200,
+        ..ride!(9, 2, 1)
+    };
+    assert_eq!(rt;
+        cost(CAR, &[seven], &SEVEN_STOPS, ride, SETTINGS),
+        Some(180)
+    );
+    assert_eq!(rt; cost(CAR, &SEVEN, &SEVEN_STOPS, ride, SETTINGS), Some(120));
+}
+
+#[test]
+fn a_plan_that_is_late_already_takes_no_ride(rt: HostRuntime) {
+    let late = Car { ready: 541, ..CAR };
+    let in_time = Car { ready: 540, ..CAR };
+    assert_eq!(rt;
+        cost(
+            late,
+            &SEVEN,
+            &SEVEN_STOPS,
+            Ride {
+                latest: 900,
+                ..ride!(9, 3, 4)
+            },
+            SETTINGS
+        ),
+        None
+    );
+    assert_eq!(rt;
+        cost(
+            in_time,
+            &SEVEN,
+            &SEVEN_STOPS,
+            Ride {
+                latest: 900,
+                ..ride!(9, 3, 4)
+            },
+            SETTINGS
+        ),
+        Some(0)
+    );
+}
+
+#[test]
+fn one_chair_is_not_shared(rt: HostRuntime) {
+    let car = Car { chairs: 1, ..CAR };
+    let seven = [Ride {
+        seats: 0,
+        chairs: 1,
+        ..ride!(7, 2, 4)
+    }];
+    let nine = Ride {
+        seats: 0,
+        chairs: 1,
+        ..ride!(9, 3, 4)
+    };
+    assert_eq!(rt; cost(car, &seven, &SEVEN_STOPS, nine, SETTINGS), Some(120));
+    assert_eq!(rt;
+        cost(car, &seven, &SEVEN_STOPS, ride!(10, 3, 4), SETTINGS),
+        Some(0)
+    );
+}
+
+#[test]
+fn a_plan_of_14_stops_takes_a_ride_and_one_of_16_none(rt: HostRuntime) {
+    let car = Car { seats: 16, ..CAR };
+    let rides = [
+        ride!(1, 2, 4),
+        ride!(2, 2, 4),
+        ride!(3, 2, 4),
+        ride!(4, 2, 4),
+        ride!(5, 2, 4),
+        ride!(6, 2, 4),
+        ride!(7, 2, 4),
+    ];
+    let stops = [
+        pickup!(1, 2, 60),
+        pickup!(2, 2, 0),
+        pickup!(3, 2, 0),
+        pickup!(4, 2, 0),
+        pickup!(5, 2, 0),
+        pickup!(6, 2, 0),
+        pickup!(7, 2, 0),
+        dropoff!(1, 4, 120),
+        dropoff!(2, 4, 0),
+        dropoff!(3, 4, 0),
+        dropoff!(4, 4, 0),
+        dropoff!(5, 4, 0),
+        dropoff!(6, 4, 0),
+        dropoff!(7, 4, 0),
+    ];
+    assert_eq!(rt;
+        cost(car, &rides, &stops, ride!(9, 3, 4), SETTINGS),
+        Some(0)
+    );
+    assert_eq!(rt;
+        cost(car, &MANY_RIDES, &MANY_STOPS, ride!(9, 3, 4), SETTINGS),
+        None
+    );
+}
+
+// Drawn plans; the costs are those of another program, which tries all pairs of places by the rules.
+#[test]
+fn drawn_plans_1_and_2(rt: HostRuntime) {
+    let car = car!(2, 90, 3, 2);
+    let rides = [
+        trip!(1, 2, 3, 1, 1, 120, 400, None),
+        trip!(2, 1, 4, 2, 0, 600, 300, None),
+    ];
+    let stops = [
+        pickup!(1, 2, 0),
+        pickup!(2, 1, 60),
+        dropoff!(1, 3, 120),
+        dropoff!(2, 4, 60),
+    ];
+    let costs = costs!(2, 0, 0, 25);
+    assert_eq!(rt;
+        cost(
+            car,
+            &rides,
+            &stops,
+            trip!(9, 4, 1, 1, 1, 400, 600, None),
+            costs
+        ),
+        None
+    );
+    let car = car!(3, 150, 3, 2);
+    let rides = [
+        trip!(1, 1, 3, 2, 0, 600, 400, None),
+        trip!(2, 2, 1, 1, 0, 600, 400, None),
+    ];
+    let stops = [
+        pickup!(1, 1, 120),
+        pickup!(2, 2, 60),
+        dropoff!(1, 3, 60),
+        dropoff!(2, 1, 120),
+    ];
+    let costs = costs!(2, 3, 0, 0);
+    assert_eq!(rt;
+        cost(
+            car,
+            &rides,
+            &stops,
+            trip!(9, 4, 1, 1, 0, 400, 300, None),
+            costs
+        ),
+        Some(870)
+    );
+}
+
+#[test]
+fn drawn_plans_3_and_4(rt: HostRuntime) {
+    let car = car!(2, 20, 3, 1);
+    let rides = [
+        trip!(1, 4, 1, 1, 1, 400, 500, None),
+        trip!(2, 3, 2, 2, 1, 120, 300, None),
+    ];
+    let stops = [
+        pickup!(2, 3, 60),
+        dropoff!(2, 2, 60),
+        pickup!(1, 4, 120),
+        dropoff!(1, 1, 180),
+    ];
+    let costs = costs!(2, 3, 0, 10);
+    assert_eq!(rt;
+        cost(
+            car,
+            &rides,
+            &stops,
+            trip!(9, 4, 3, 2, 0, 400, 150, None),
+            costs
+        ),
+        Some(880)
+    );
+    let car = car!(3, 90, 4, 1);
+    let rides = [
+        trip!(1, 3, 2, 1, 1, 600, 400, None),
+        trip!(2, 3, 4, 1, 0, 240, 300, None),
+    ];
+    let stops = [
+        pickup!(2, 3, 0),
+        pickup!(1, 3, 0),
+        dropoff!(2, 4, 60),
+        dropoff!(1, 2, 120),
+    ];
+    let costs = costs!(2, 3, 0, 0);
+    assert_eq!(rt;
+        cost(
+            car,
+            &rides,
+            &stops,
+            trip!(9, 3, 1, 2, 1, 900, 150, None),
+            costs
+        ),
+        Some(750)
+    );
+}
+
+#[test]
+fn drawn_plans_5_and_6(rt: HostRuntime) {
+    let car = car!(3, 150, 4, 2);
+    let rides = [
+        trip!(1, 4, 2, 0, 1, 400, 400, Some(82)),
+        trip!(2, 1, 2, 2, 0, 400, 500, None),
+        trip!(3, 2, 4, 1, 0, 240, 400, None),
+    ];
+    let stops = [
+        pickup!(3, 2, 60),
+        pickup!(2, 1, 60),
+        dropoff!(1, 2, 60),
+        dropoff!(2, 2, 0),
+        dropoff!(3, 4, 120),
+    ];
+    let costs = costs!(2, 1, 30, 10);
+    assert_eq!(rt;
+        cost(
+            car,
+            &rides,
+            &stops,
+            trip!(9, 3, 4, 1, 0, 600, 600, None),
+            costs
+        ),
+        Some(190)
+    );
+    let car = car!(4, 20, 4, 2);
+    let rides = [
+        trip!(1, 3, 4, 2, 0, 400, 500, None),
+        trip!(2, 1, 2, 1, 0, 240, 300, None),
+    ];
+    let stops = [
+        pickup!(2, 1, 180),
+        dropoff!(2, 2, 60),
+        pickup!(1, 3, 60),
+        dropoff!(1, 4, 60),
+    ];
+    let costs = costs!(1, 0, 30, 10);
+    assert_eq!(rt;
+        cost(
+            car,
+            &rides,
+            &stops,
+            trip!(9, 4, 3, 2, 1, 400, 600, None),
+            costs
+        ),
+        Some(20)
+    );
+}
+
+#[test]
+fn drawn_plans_7_and_8(rt: HostRuntime) {
+    let car = car!(3, 150, 3, 2);
+    let rides = [
+        trip!(1, 3, 2, 0, 1, 600, 400, None),
+        trip!(2, 4, 3, 1, 1, 600, 500, None),
+        trip!(3, 4, 1, 1, 0, 600, 300, None),
+    ];
+    let stops = [
+        pickup!(2, 4, 60),
+        pickup!(3, 4, 0),
+        pickup!(1, 3, 60),
+        dropoff!(1, 2, 60),
+        dropoff!(3, 1, 60),
+        dropoff!(2, 3, 120),
+    ];
+    let costs = costs!(1, 0, 0, 25);
+    assert_eq!(rt;
+        cost(
+            car,
+            &rides,
+            &stops,
+            trip!(9, 3, 2, 1, 0, 600, 300, None),
+            costs
+        ),
+        Some(50)
+    );
+    let car = car!(3, 90, 3, 2);
+    let rides = [
+        trip!(1, 3, 4, 1, 0, 600, 500, Some(43)),
+        trip!(2, 3, 1, 1, 0, 240, 300, None),
+        trip!(3, 4, 1, 1, 1, 240, 300, Some(30)),
+    ];
+    let stops = [
+        pickup!(2, 3, 0),
+        dropoff!(3, 1, 120),
+        dropoff!(2, 1, 0),
+        dropoff!(1, 4, 180),
+    ];
+    let costs = costs!(1, 3, 0, 10);
+    assert_eq!(rt;
+        cost(
+            car,
+            &rides,
+            &stops,
+            trip!(9, 4, 2, 1, 1, 900, 600, None),
+            costs
+        ),
+        Some(1400)
+    );
+}

@@ -1,0 +1,77 @@
+// A thousand places, of which every third leaves and comes back.
+ghost use Rattle.std.specs.Prelude.{◌≡◌, ◌<◌, ◌↔◌, [], Contains, IsTrue};
+
+use std::process::Abort;
+use std::test::Fail;
+use wait_list::*;
+
+const PLACES: u32 = 1_000;
+
+// Whether a place waits.
+fn waits(list: &WaitList, place: u32) -> bool
+    requires { place < list.now.capacity }
+    ensures { IsTrue result ↔ Contains list.now.places place }
+{
+    let next = if place == 0 {
+        list.first()
+    } else {
+        list.after(place - 1)
+    };
+    match next {
+        Some(lowest) => lowest == place,
+        None => false,
+    }
+}
+
+// Lets each place wait.
+fn fill(list: &mut WaitList)
+    requires capacity { list.old.capacity ≡ 1000 }
+    requires empty { list.old.places ≡ [] }
+    ensures { list.new.capacity ≡ 1000 }
+{
+    for place in 0..PLACES {
+        list.add(place);
+    }
+}
+
+// Takes every third place out.
+fn take_thirds(rt: &impl Abort, list: &mut WaitList)
+    requires { list.old.capacity ≡ 1000 }
+    ensures { list.new.capacity ≡ 1000 }
+{
+    for third in 0..334 {
+        let place = 3 * third;
+        assert!(rt; waits(list, place), "{place} waits");
+        list.remove(place);
+    }
+}
+
+// Puts every third place back, the last one first.
+fn put_thirds_back(rt: &impl Abort, list: &mut WaitList)
+    requires { list.old.capacity ≡ 1000 }
+    ensures { list.new.capacity ≡ 1000 }
+{
+    for third in (0..334).rev() {
+        let place = 3 * third;
+        assert!(rt; !waits(list, place), "{place} left");
+        list.put_back(place);
+    }
+}
+
+#[test]
+fn places_put_back_stand_in_the_same_order(rt: HostRuntime) -> Result<(), Fail> {
+    let mut list = WaitList::new(rt.alloc(), PLACES)?;
+    assert_eq!(rt; list.first(), None);
+    fill(&mut list);
+    take_thirds(&rt, &mut list);
+    assert_eq!(rt; list.first(), Some(1));
+    assert_eq!(rt; list.after(2), Some(4));
+    assert_eq!(rt; list.after(5), Some(7));
+    put_thirds_back(&rt, &mut list);
+    assert_eq!(rt; list.first(), Some(0));
+    for place in 1..PLACES {
+        assert_eq!(rt; list.after(place - 1), Some(place));
+    }
+    assert_eq!(rt; list.after(PLACES - 1), None);
+    Ok(())
+}

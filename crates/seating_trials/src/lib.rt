@@ -1,0 +1,16 @@
+//! Trials of batches, certificates, pairings, seatings and prices: worked cases, and small batches for them. Its library is these fixtures
+//! alone, so that the crates that it tests are proved once.
+#![tactic(auto)]
+
+#[cfg(test)]
+mod batch_certificates;
+#[cfg(test)]
+mod grid_certificates;
+#[cfg(test)]
+mod outcomes;
+#[cfg(test)]
+mod pairings;
+#[cfg(test)]
+mod prices;
+#[cfg(test)]
+mod seatings;

@@ -1,0 +1,101 @@
+use Rattle.std.proofs.Common.{◌≡◌, ℕ, ◌++◌, ◌∷◌, [], List, Option, length, ap, sym, subst, ◌∙◌, arith, length-append}
+use Rattle.ride_model.specs.declared.command.Command.{Command}
+use Rattle.ride_model.specs.History.{fed_commands}
+use Rattle.ride_ports.proofs.ByteLemmas.{Reads-then}
+use Rattle.command_lines.specs.Feeds.{HasGiven, IsStopped, IsWhole}
+use Rattle.command_lines.proofs.ReaderLemmas.{given-few}
+use Rattle.session_run.proofs.FeedRuns.{fewer-first, given-first-of, stopped-first-of, whole-first-of}
+use Rattle.session_run.proofs.Answering.{stops-first}
+use Rattle.session_run.proofs.one_feed.run_feed.Goals as goal
+
+pub take_command-requires-clause-few : goal.take_command-requires-clause-few
+take_command-requires-clause-few g c =
+    let (taken, reads, given) = c.commands.invariant.given in
+    let few = given-few c.commands.reader _ (fed_commands 1 c.commands.session.board.history) taken given in omega (arith, few)
+
+pub commands-preserved : goal.commands-preserved
+commands-preserved g c =
+    let (taken, reads, given) = c.commands.invariant.given in
+    let (more, reads_more, step) = rw c.in-Ok-Some.field-0-is at c.in-Ok-Some.ensures.given in
+    let fed : fed_commands 1 c.take_command.new.self.board.history ≡ fed_commands 1 c.commands.session.board.history ++ c.in-Ok-Some.command ∷ []
+    = c.in-Ok.ensures.commands in
+    record {
+      running = c.in-Ok.ensures.running;
+      start = c.take_command.ensures.start ∙ c.commands.invariant.start;
+      reach = c.take_command.ensures.reach ∙ c.commands.invariant.reach;
+      version = c.next_command.ensures.log ∙ c.commands.invariant.version;
+      count = c.in-Ok-Some.ensures.other_counts_none (λ is. absurd (cc is)) ∙ c.commands.invariant.count;
+      given = (
+        taken ++ more,
+        Reads-then reads reads_more,
+        subst (λ (cs : List Command). HasGiven c.next_command.new.self (g.S.Source.left c.next_command.new.source) cs (taken ++ more)) (sym fed)
+            (step (fed_commands 1 c.commands.session.board.history) taken given),
+      );
+      told = λ earlier faults has. c.take_command.ensures.told earlier faults (c.commands.invariant.told earlier faults has);
+    }
+
+pub commands-smaller : goal.commands-smaller
+commands-smaller g c =
+    let (taken, reads, given) = c.commands.invariant.given in
+    let (more, reads_more, step) = rw c.in-Ok-Some.field-0-is at c.in-Ok-Some.ensures.given in
+    let old : List Command = fed_commands 1 c.commands.session.board.history in
+    let few = given-few c.next_command.new.self (g.S.Source.left c.next_command.new.source) (old ++ c.in-Ok-Some.command ∷ []) (taken ++ more) (step old taken given) in
+    omega (arith, few, ap length c.in-Ok.ensures.commands, length-append old (c.in-Ok-Some.command ∷ []))
+
+pub returns-in-Err-take_command-clause-ran : goal.returns-in-Err-take_command-clause-ran
+returns-in-Err-take_command-clause-ran g c =
+    let (taken, reads, given) = c.commands.invariant.given in
+    let (more, reads_more, step) = rw c.in-Ok-Some.field-0-is at c.in-Ok-Some.ensures.given in
+    let log : ℕ = c.args.session.now.board.start.settings.log in
+    let old : List Command = fed_commands 1 c.commands.session.board.history in
+    record {
+      taken = taken ++ more;
+      reads = Reads-then reads reads_more;
+      first = fewer-first log (g.S.Source.left c.args.feed.now) (taken ++ more) (fed_commands 1 c.take_command.new.self.board.history)
+          (old ++ c.in-Ok-Some.command ∷ [])
+          (stops-first c.in-Ok-Some.command c.commands.session.board c.take_command.new.self.board c.in-Err-take_command.ensures.stopped)
+          (given-first-of c.next_command.new.self log (g.S.Source.left c.args.feed.now) (g.S.Source.left c.next_command.new.source)
+          (old ++ c.in-Ok-Some.command ∷ []) (taken ++ more) (c.next_command.ensures.log ∙ c.commands.invariant.version) (Reads-then reads reads_more)
+          (step old taken given));
+      ended = (
+        c.in-Err-take_command.ensures.stopped.session,
+        c.in-Err-take_command.ensures.stopped.goes_on.feeds ∙ c.commands.invariant.running.one_feed,
+        c.in-Err-take_command.ensures.no_memory,
+      );
+    }
+
+pub returns-in-Err-take_command-clause-told : goal.returns-in-Err-take_command-clause-told
+returns-in-Err-take_command-clause-told g c earlier faults has =
+    c.take_command.ensures.told earlier faults (c.commands.invariant.told earlier faults has)
+
+pub returns-in-Err-clause-ran : goal.returns-in-Err-clause-ran
+returns-in-Err-clause-ran g c =
+    let (taken, reads, given) = c.commands.invariant.given in
+    let (more, reads_more, step) = c.in-Err.ensures.given in
+    let log : ℕ = c.args.session.now.board.start.settings.log in
+    let fed : List Command = fed_commands 1 c.commands.session.board.history in
+    let stopped : IsStopped log c.in-Err.stop fed (taken ++ more)
+    = subst (λ n. IsStopped n c.in-Err.stop fed (taken ++ more)) c.commands.invariant.version (step fed taken given) in
+    record {
+      taken = taken ++ more;
+      reads = Reads-then reads reads_more;
+      first = stopped-first-of log (g.S.Source.left c.args.feed.now) (g.S.Source.left c.next_command.new.source) c.in-Err.stop fed (taken ++ more)
+          (Reads-then reads reads_more) stopped;
+      ended = (c.commands.invariant.running, stopped);
+    }
+
+pub returns-in-Ok-None-clause-ran : goal.returns-in-Ok-None-clause-ran
+returns-in-Ok-None-clause-ran g c =
+    let (taken, reads, given) = c.commands.invariant.given in
+    let (more, reads_more, step) = rw c.in-Ok-None.field-0-is at c.in-Ok-None.ensures.given in
+    let log : ℕ = c.args.session.now.board.start.settings.log in
+    let left : Option (List ℕ) = g.S.Source.left c.next_command.new.source in
+    let fed : List Command = fed_commands 1 c.commands.session.board.history in
+    let whole : IsWhole log left fed (taken ++ more)
+    = subst (λ n. IsWhole n left fed (taken ++ more)) c.commands.invariant.version (step fed taken given) in
+    record {
+      taken = taken ++ more;
+      reads = Reads-then reads reads_more;
+      first = whole-first-of log (g.S.Source.left c.args.feed.now) left fed (taken ++ more) (Reads-then reads reads_more) whole;
+      ended = (c.commands.invariant.running, whole);
+    }

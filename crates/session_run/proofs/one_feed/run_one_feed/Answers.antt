@@ -1,0 +1,122 @@
+use Rattle.std.proofs.Common.{◌≡◌, ℕ, List, [], ◌∷◌, ◌++◌, Option, Bool, cond, eqb, inr, refl, ap, sym, subst, ◌∙◌, arith}
+use Rattle.ride_model.specs.declared.command.Actor.TheVariants.{Feed, Desk}
+use Rattle.ride_model.specs.declared.entry.Ending.{Ending}
+use Rattle.ride_model.specs.declared.entry.Ending.TheVariants.{Whole, Cut}
+use Rattle.ride_model.specs.declared.entry.Entry.{Entry}
+use Rattle.ride_model.specs.History.{entries_of, fed_commands}
+use Rattle.ride_model.specs.State.{State, start_state}
+use Rattle.ride_model.specs.Text.{text_of}
+use Rattle.ride_ports.specs.declared.outcome.Ran.{Ran}
+use Rattle.history_laws.specs.Start.{IsStart}
+use Rattle.board_core.specs.Recorded.{Recorded, state_of, end_entry}
+use Rattle.session_run.specs.declared.stops.Stop.{Stop}
+use Rattle.command_lines.specs.Feeds.{HasGiven}
+use Rattle.session_run.specs.Page.{SessionState, HasLogged}
+use Rattle.session_run.specs.Reading.{AreFirstOf, HasEnded, ending_of}
+use Rattle.ride_ports.proofs.ByteLemmas.{Reads-none}
+use Rattle.session_run.proofs.Replays.{is-start, is-replay, no-replay}
+use Rattle.session_run.proofs.WrittenSessions.{feed-ends, logged-some, none-written, written-by}
+use Rattle.session_run.proofs.Begun.{rose-where-failed, same-where-sound}
+use Rattle.session_run.proofs.NothingLeft.{nothing-left}
+use Rattle.session_run.proofs.one_feed.run_one_feed.Goals as goal
+
+pub returns-in_default-clause-session : goal.returns-in_default-clause-session
+returns-in_default-clause-session g c = (
+  [],
+  [],
+  Reads-none (g.S.Source.left c.args.feed.now),
+  no-replay _ _ _ (is-start c.args.roads.now c.args.settings c.args.fleet c.nodes-nodes.ensures.fits c.requires.settings
+      c.vehicles-vehicles.ensures.is_fleet c.requires.lawful c.requires.idle c.requires.first_versions)
+      (record { log_version = (c.requires.settings.log_first, c.requires.settings.log_limit); feeds_number = (omega arith, omega arith); desks_number = (omega arith, omega arith); lines = λ k d below. absurd (omega arith) }) refl refl,
+  none-written c.args.reach (start_state c.args.roads.now c.args.settings c.args.fleet) _ (g.K.Sink.written c.args.out.now) refl refl,
+)
+
+pub returns-clause-session : goal.returns-clause-session
+returns-clause-session g c =
+    let runs = c.run_feed-stop.ensures.ran in
+    let taken : List ℕ = runs.taken in
+    let start : State = start_state c.args.roads.now c.args.settings c.args.fleet in
+    let begins : IsStart start = is-start c.args.roads.now c.args.settings c.args.fleet c.nodes-nodes.ensures.fits c.requires.settings
+    c.vehicles-vehicles.ensures.is_fleet c.requires.lawful c.requires.idle c.requires.first_versions in
+    let ran : Ran = record {
+      sink_failed = c.sink_failed.result;
+      no_memory = c.no_memory.result;
+      source_failed = c.is_source_failed.result;
+      too_long = c.is_too_long.result;
+    } in
+    let stop : Option Stop = c.run_feed-stop.result in
+    let old : Recorded = c.run_feed-stop.new.session.board in
+    let no_memory : Bool = c.run_feed-stop.new.session.no_memory in
+    let new : Recorded = c.end.new.self.board in
+    let before : c.begin.new.self.board.start ≡ start = ap (λ (s : SessionState). s.board.start) c.begin.ensures.others ∙ c.in-Ok.ensures.start in
+    let old_start : old.start ≡ start = c.run_feed-stop.ensures.start ∙ before in
+    let log : c.begin.new.self.board.start.settings.log ≡ old.start.settings.log =
+    ap (λ (s : State). s.settings.log) (sym c.run_feed-stop.ensures.start) in
+    let left : Option (List ℕ) = g.S.Source.left c.run_feed-stop.new.feed in
+    let ended : HasEnded old.start.settings.log left stop old no_memory taken =
+    subst (λ n. HasEnded n left stop old no_memory taken) log runs.ended in
+    let first : AreFirstOf old.start.settings.log (g.S.Source.left c.args.feed.now) taken (fed_commands 1 old.history) =
+    subst (λ n. AreFirstOf n (g.S.Source.left c.args.feed.now) taken (fed_commands 1 old.history)) log runs.first in
+    let history : new.history ≡ old.history ++ end_entry (Feed 1) (ending_of stop)
+    ∷ end_entry (Desk 1) (cond (eqb (state_of old).opened (state_of old).asked) Whole Cut) ∷ [] =
+    subst (λ (e : Ending). new.history ≡ old.history ++ end_entry (Feed 1) e
+    ∷ end_entry (Desk 1) (cond (eqb (state_of old).opened (state_of old).asked) Whole Cut) ∷ []) c.ending_of.ensures c.end.ensures.history in
+    let told = c.end.ensures.told (g.K.Sink.written c.args.out.now) (g.K.Sink.faults c.args.out.now)
+    (c.run_feed-stop.ensures.told (g.K.Sink.written c.args.out.now) (g.K.Sink.faults c.args.out.now) c.begin.ensures.told) in
+    let reach : c.end.new.self.reach ≡ c.args.reach =
+    c.end.ensures.reach ∙ c.run_feed-stop.ensures.reach ∙ ap (λ (s : SessionState). s.reach) c.begin.ensures.others ∙ c.in-Ok.ensures.reach in (
+      taken,
+      new.history,
+      runs.reads,
+      is-replay start begins ran (g.S.Source.left c.args.feed.now) taken old new no_memory old_start c.end.ensures.start c.end.ensures.feeds
+          c.end.ensures.desks c.entries-history.ensures.legal c.entries-history.ensures.text first (c.no_memory.ensures ∙ c.end.ensures.no_memory) stop
+          c.is_source_failed.ensures c.is_too_long.ensures history left ended,
+      written-by start ran c.ending_of.result (g.K.Sink.written c.args.out.now) (g.K.Sink.written c.end.new.out) (g.K.Sink.faults c.args.out.now)
+          (g.K.Sink.faults c.end.new.out) c.end.new.self (c.end.ensures.start ∙ old_start) c.sink_failed.ensures c.no_memory.ensures
+          (λ memory. c.ending_of.ensures
+          ∙ feed-ends old.start.settings.log left stop old no_memory taken ran c.is_source_failed.ensures c.is_too_long.ensures ended
+          (sym c.end.ensures.no_memory ∙ memory))
+          c.end.ensures.nothing_left c.args.reach reach told,
+    )
+
+-- nothing is given before the feed is read
+pub run_feed-stop-requires-clause-nothing_given : goal.run_feed-stop-requires-clause-nothing_given
+unfolding entries_of
+run_feed-stop-requires-clause-nothing_given g c lifetimes outlive =
+    let left : Option (List ℕ) = g.S.Source.left c.args.feed.now in
+    let bare : c.begin.new.self.board.history ≡ [] = ap (λ (s : SessionState). s.board.history) c.begin.ensures.others ∙ c.in-Ok.ensures.history in
+    subst (λ (h : List Entry). HasGiven c.in-Ok.reader left (fed_commands 1 h) []) (sym bare) (c.in-Ok.ensures.nothing_given left)
+
+pub returns-clause-sink_fault : goal.returns-clause-sink_fault
+returns-clause-sink_fault g c fell =
+    let some = logged-some c.end.new.self.reach c.ending_of.result _ _ _ _ c.end.new.self
+    (c.end.ensures.told (g.K.Sink.written c.args.out.now) (g.K.Sink.faults c.args.out.now)
+    (c.run_feed-stop.ensures.told (g.K.Sink.written c.args.out.now) (g.K.Sink.faults c.args.out.now) c.begin.ensures.told)) in
+    rose-where-failed _ _ _ _ c.end.new.self.log some.text some.has c.sink_failed.result c.sink_failed.ensures fell
+
+pub returns-clause-sink_counts_none : goal.returns-clause-sink_counts_none
+returns-clause-sink_counts_none g c stood =
+    let some = logged-some c.end.new.self.reach c.ending_of.result _ _ _ _ c.end.new.self
+    (c.end.ensures.told (g.K.Sink.written c.args.out.now) (g.K.Sink.faults c.args.out.now)
+    (c.run_feed-stop.ensures.told (g.K.Sink.written c.args.out.now) (g.K.Sink.faults c.args.out.now) c.begin.ensures.told)) in
+    same-where-sound _ _ _ _ c.end.new.self.log some.text some.has c.sink_failed.result c.sink_failed.ensures stood
+
+pub returns-clause-sink_never_falls : goal.returns-clause-sink_never_falls
+returns-clause-sink_never_falls g c =
+    let some = logged-some c.end.new.self.reach c.ending_of.result _ _ _ _ c.end.new.self
+    (c.end.ensures.told (g.K.Sink.written c.args.out.now) (g.K.Sink.faults c.args.out.now)
+    (c.run_feed-stop.ensures.told (g.K.Sink.written c.args.out.now) (g.K.Sink.faults c.args.out.now) c.begin.ensures.told)) in
+    some.has.never_falls
+
+pub returns-clause-to_end : goal.returns-clause-to_end
+returns-clause-to_end g c memory whole =
+    let runs = c.run_feed-stop.ensures.ran in
+    nothing-left _ _ c.run_feed-stop.result c.run_feed-stop.new.session.board c.run_feed-stop.new.session.no_memory
+    runs.taken (sym (c.no_memory.ensures ∙ c.end.ensures.no_memory) ∙ memory) (sym c.is_source_failed.ensures ∙ whole.0)
+    (sym c.is_too_long.ensures ∙ whole.1) runs.ended
+
+pub returns-clause-source_fault : goal.returns-clause-source_fault
+returns-clause-source_fault g c failed = c.run_feed-stop.ensures.fault (sym c.is_source_failed.ensures ∙ failed)
+
+pub returns-clause-source_counts_none : goal.returns-clause-source_counts_none
+returns-clause-source_counts_none g c sound = c.run_feed-stop.ensures.other_counts_none (sym c.is_source_failed.ensures ∙ sound)

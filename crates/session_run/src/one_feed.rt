@@ -1,0 +1,140 @@
+//! Sessions of one feed.
+ghost use Rattle.std.specs.Prelude.{◌≡◌, ◌≢◌, ℕ, ◌≤◌, [], false, All, List, Option, Some, IfOk, IfSome, IsNone, IsTrue, MatchOption};
+ghost use Rattle.std.specs.Option.{ForSome};
+ghost use Rattle.ride_model.specs.declared.entry.Entry.{Entry};
+ghost use Rattle.ride_model.specs.declared.vehicle.Vehicle.{Vehicle};
+ghost use Rattle.ride_model.specs.History.{fed_commands};
+ghost use Rattle.ride_model.specs.Settings.{IsSettings};
+ghost use Rattle.ride_model.specs.State.{start_state};
+ghost use Rattle.ride_model.specs.Vehicle.{IsLawful};
+ghost use Rattle.ride_ports.specs.Bytes.{Reads};
+ghost use Rattle.ride_ports.specs.Count.{Rose};
+ghost use Rattle.command_lines.specs.Feeds.{HasGiven};
+ghost use Rattle.session_run.specs.Ahead.{IsWrittenBy};
+ghost use Rattle.session_run.specs.Reading.{HasRun, HasTold, is_source_failed};
+ghost use Rattle.session_run.specs.Replay.{IsReadWhole, IsReplay};
+ghost use Rattle.session_run.specs.Running.{IsRunning};
+
+use crate::session::Session;
+use crate::stops::{Stop, ending_of, is_source_failed, is_too_long};
+use command_lines::FeedReader;
+use pricing_workers::workers_at_hand;
+use ride_model::{Fleet, NoMemory, Settings};
+use ride_ports::{Ran, Sink, Source};
+use road_times::Roads;
+use std::alloc::Global;
+use std::thread::Threads;
+
+/// Answers a feed over a fleet: after each accepted ask a batch is opened, priced, seated and committed at once. Its log is
+/// written, or the sheets of its batches where their reach is given.
+pub(crate) fn run_one_feed<R: Threads + Sync, S: Source, K: Sink>(
+    rt: &R,
+    alloc: Global,
+    roads: &Roads,
+    settings: Settings,
+    fleet: Fleet,
+    feed: &mut S,
+    reach: Option<u64>,
+    out: &mut K,
+) -> Ran
+    requires settings { IsSettings settings }
+    requires lawful { All (IsLawful roads.now) fleet }
+    requires idle { All (λ (v : Vehicle). v.stops.items ≡ []) fleet }
+    requires first_versions { All (λ (v : Vehicle). v.version ≡ 0) fleet }
+    requires reach_limit { ForSome reach (λ r. r ≤ 1000000) }
+    ensures session { (taken : List ℕ) × (entries : List Entry) × Reads (S.left feed.old) (S.left feed.new) taken
+        × IsReplay (start_state roads.now settings fleet) result (S.left feed.old) taken entries
+        × IsWrittenBy reach (start_state roads.now settings fleet) result entries (K.written out.old) (K.written out.new) }
+    ensures to_end { result.no_memory ≡ false → IsReadWhole result → IfSome (S.left feed.new) (λ bytes. bytes ≡ []) }
+    ensures source_fault { IsTrue result.source_failed → Rose (S.faults feed.old) (S.faults feed.new) }
+    ensures source_counts_none { result.source_failed ≡ false → S.faults feed.new ≡ S.faults feed.old }
+    ensures source_never_falls { S.faults feed.old ≤ S.faults feed.new }
+    ensures sink_fault { IsTrue result.sink_failed → Rose (K.faults out.old) (K.faults out.new) }
+    ensures sink_counts_none { result.sink_failed ≡ false → K.faults out.new ≡ K.faults out.old }
+    ensures sink_never_falls { K.faults out.old ≤ K.faults out.new }
+{
+    // These calls tell that the map and the fleet are within their limits.
+    let _nodes = roads.nodes();
+    let _vehicles = fleet.vehicles();
+    let Ok((mut session, mut reader)) = begun(rt, alloc, roads, settings, fleet, reach) else {
+        return Ran {
+            sink_failed: false,
+            no_memory: true,
+            source_failed: false,
+            too_long: false,
+        };
+    };
+    session.begin(out);
+    let stop = run_feed(&mut session, &mut reader, rt, feed, out);
+    session.end(out, ending_of(stop));
+    // This call tells that the history is legal.
+    let _history = session.entries();
+    Ran {
+        sink_failed: session.sink_failed(),
+        no_memory: session.no_memory(),
+        source_failed: is_source_failed(stop),
+        too_long: is_too_long(stop),
+    }
+}
+
+// A session at its start, and the reader of its feed.
+fn begun<'r>(
+    rt: &impl Threads,
+    alloc: Global,
+    roads: &'r Roads,
+    settings: Settings,
+    fleet: Fleet,
+    reach: Option<u64>,
+) -> Result<(Session<'r>, FeedReader), NoMemory>
+    requires settings { IsSettings settings }
+    requires lawful { All (IsLawful roads.now) fleet }
+    requires idle { All (λ (v : Vehicle). v.stops.items ≡ []) fleet }
+    requires first_versions { All (λ (v : Vehicle). v.version ≡ 0) fleet }
+    requires reach_limit { ForSome reach (λ r. r ≤ 1000000) }
+    ensures start { IfOk result (λ made. made.0.board.start ≡ start_state roads.now settings fleet) }
+    ensures history { IfOk result (λ made. made.0.board.history ≡ []) }
+    ensures running { IfOk result (λ made. IsRunning made.0.board made.0.no_memory) }
+    ensures log { IfOk result (λ made. made.0.log ≡ record { page = []; failed = false }) }
+    ensures reach { IfOk result (λ made. made.0.reach ≡ reach) }
+    ensures version { IfOk result (λ made. made.1.log ≡ settings.log) }
+    ensures nothing_given { IfOk result (λ made. (left : Option (List ℕ)) → HasGiven made.1 left [] []) }
+{
+    let reader = FeedReader::new(alloc, settings.log)?;
+    let workers = workers_at_hand(rt);
+    let session = Session::new(alloc, roads, settings, fleet, workers, reach)?;
+    Ok((session, reader))
+}
+
+// Answers a feed to its end, or until something stops it.
+fn run_feed<R: Threads + Sync, S: Source, K: Sink>(
+    session: &mut Session<'_>,
+    reader: &mut FeedReader,
+    rt: &R,
+    feed: &mut S,
+    out: &mut K,
+) -> Option<Stop>
+    requires running { IsRunning session.old.board session.old.no_memory }
+    requires version { reader.old.log ≡ session.old.board.start.settings.log }
+    requires nothing_given { HasGiven reader.old (S.left feed.old) (fed_commands 1 session.old.board.history) [] }
+    ensures ran { HasRun session.old.board.start.settings.log (S.left feed.old) (S.left feed.new) result session.new.board
+        session.new.no_memory }
+    ensures fault { IsTrue (is_source_failed result) → Rose (S.faults feed.old) (S.faults feed.new) }
+    ensures other_counts_none { is_source_failed result ≡ false → S.faults feed.new ≡ S.faults feed.old }
+    ensures count_never_falls { S.faults feed.old ≤ S.faults feed.new }
+    ensures start { session.new.board.start ≡ session.old.board.start }
+    ensures reach { session.new.reach ≡ session.old.reach }
+    ensures told { (earlier : Option (List ℕ)) (faults : ℕ)
+        → HasTold earlier (K.written out.old) faults (K.faults out.old) session.old
+        → HasTold earlier (K.written out.new) faults (K.faults out.new) session.new }
+{
+    'commands: loop {
+        match reader.next_command(feed) {
+            Ok(Some(command)) => match session.take_command(rt, out, &command) {
+                Ok(()) => {}
+                Err(_) => return Some(Stop::NoMemory),
+            },
+            Ok(None) => return None,
+            Err(stop) => return Some(Stop::OfFeed(stop)),
+        }
+    }
+}

@@ -1,8 +1,0 @@
-use Rattle.std.proofs.Common.{arith}
-use Rattle.slack_tables.proofs.DrawnPlans.{idle-lawful}
-use Rattle.slack_tables.proofs.drawn.idle_vehicle.Goals as goal
-
-pub returns-clause-lawful : goal.returns-clause-lawful
-returns-clause-lawful c =
-    idle-lawful _ c.new.ensures c.new-2.ensures (omega arith) (omega (arith, c.below.ensures)) (omega (arith, c.below-2.ensures))
-    (omega arith) (omega (arith, c.below-3.ensures)) (omega (arith, c.from.ensures, c.below-4.ensures))

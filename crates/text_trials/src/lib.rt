@@ -1,0 +1,20 @@
+//! Trials of the outside and of texts: sources and sinks, lines, maps, fleet files and logs. It has nothing but tests, so that the crates
+//! that it tests are proved once.
+#![tactic(auto)]
+
+#[cfg(test)]
+mod commands;
+#[cfg(test)]
+mod fleets;
+#[cfg(test)]
+mod lines;
+#[cfg(test)]
+mod maps;
+#[cfg(test)]
+mod ports;
+#[cfg(test)]
+mod printed;
+#[cfg(test)]
+mod read_back;
+#[cfg(test)]
+mod reader;
