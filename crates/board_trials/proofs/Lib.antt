@@ -1,1 +1,2 @@
-pub mod OneVehicle
+pub mod ThreeVehicles
+pub mod BegunWatches

@@ -19,8 +19,3 @@ pub use replies::BookReply;
 
 /// Want of memory.
 pub type NoMemory = std::alloc::AllocError;
-
-#[cfg(test)]
-mod feed_tests;
-#[cfg(test)]
-mod tests;

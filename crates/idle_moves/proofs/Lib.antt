@@ -7,6 +7,4 @@ pub mod Steps
 pub mod Commits
 pub mod Following
 pub mod Watching
-pub mod FewVehicles
-pub mod BegunWatches
 pub mod SheetTexts

@@ -14,6 +14,3 @@ pub use moves::{Move, MoveList, MoveSheet};
 pub use sheets::plan_moves;
 pub use texts::{print_end, print_head, print_sheet};
 pub use watch::VersionWatch;
-
-#[cfg(test)]
-mod tests;

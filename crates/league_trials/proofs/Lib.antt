@@ -1,1 +1,2 @@
 pub mod TwoCompanies
+pub mod OneRide

@@ -1,3 +1,2 @@
-pub mod Streets
 pub mod Places
 pub mod Shared

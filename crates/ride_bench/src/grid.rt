@@ -1,6 +1,6 @@
 // A generated map: crossings on a grid, of whose streets 7 in 10 are there.
 ghost use Rattle.std.specs.Prelude.{◌≡◌, ◌≤◌, ◌<◌, length, All, IfOk};
-ghost use Rattle.ride_bench.specs.Streets.{IsPlace, AreStreets};
+ghost use Rattle.trial_town.specs.Streets.{IsPlace, AreStreets};
 
 use anyhow::{Result, ensure};
 use ride_model::{Network, RoadArc};

@@ -1,6 +1,6 @@
 //! Full rows of travel times on a generated map.
 ghost use Rattle.std.specs.Prelude.{◌≡◌, ◌≤◌, ◌<◌, length, All, IfOk};
-ghost use Rattle.ride_bench.specs.Streets.{IsPlace};
+ghost use Rattle.trial_town.specs.Streets.{IsPlace};
 
 use crate::grid::{Grid, generate};
 use anyhow::Result;

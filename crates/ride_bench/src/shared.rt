@@ -6,7 +6,7 @@ ghost use Rattle.fleet_board.specs.Passes.{commands_in};
 ghost use Rattle.fleet_board.specs.Roles.{MayFeed};
 ghost use Rattle.ride_bench.specs.Shared.{MayBegin, MayLook};
 
-use crate::boards::{board, line};
+use crate::boards::board;
 use anyhow::Result;
 use board_core::Board;
 use fleet_board::{ActorPass, PassSet, SharedBoard};
@@ -357,7 +357,7 @@ fn time_all<R: Clock + Threads + Wait + Sync>(rt: &R, alloc: Global, roads: &Roa
 
 /// Prints how many entries two passes of 1,000 submits and an end each leave.
 pub fn small<R: Print + Threads + Wait + Sync>(rt: &R, alloc: Global) -> Result<()> {
-    let roads = line(alloc)?;
+    let roads = trial_town::roads(alloc)?;
     let (board, passes) = share(alloc, &roads)?;
     let entries = all_seen(rt, alloc, &board, passes, 1000)?;
     println!(rt; "shared {entries} entries")?;
@@ -366,7 +366,7 @@ pub fn small<R: Print + Threads + Wait + Sync>(rt: &R, alloc: Global) -> Result<
 
 /// Times the board's own calls, and those of one pass, of two, and of two beside the scribe.
 pub fn shared<R: Clock + Print + Threads + Wait + Sync>(rt: &R, alloc: Global) -> Result<()> {
-    let roads = line(alloc)?;
+    let roads = trial_town::roads(alloc)?;
     print_rate(rt, "no lock", time_own(rt, alloc, &roads)?)?;
     print_rate(rt, "one pass", time_one(rt, alloc, &roads)?)?;
     print_rate(rt, "two passes", time_two(rt, alloc, &roads)?)?;

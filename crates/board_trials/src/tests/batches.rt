@@ -1,6 +1,5 @@
 //! Days of a board: batches, stale pairs, a batch that is given up, and what a board takes after it has made room.
 use super::days::{Day, Step};
-use super::line;
 use ride_model::{Actor, Command, Ending};
 use std::process::Abort;
 use std::test::Fail;
@@ -332,17 +331,20 @@ fn days_have_their_lines(rt: HostRuntime) -> Result<(), Fail> {
 
 fn expect<R: Abort + Threads + Sync + AllocGlobal>(rt: &R, case: &Case) -> Result<(), Fail> {
     let alloc = rt.alloc();
-    let roads = line(rt, alloc)?;
+    let roads = trial_town::roads(alloc)?;
     assert!(rt; 1 <= case.desks && case.desks <= 2);
     let mut day = Day::new(alloc, &roads, 1, case.desks)?;
-    day.take_all(rt, case.steps);
-    day.reserve(8)?;
-    day.take_all(rt, case.in_room);
-    assert_eq!(rt;
-        day.lines(rt, alloc)?.as_str(),
-        case.lines,
-        "{}",
-        case.shows
-    );
+    expect_lines(rt, &mut day, case);
     Ok(())
+}
+
+// The steps of a case, and its lines.
+fn expect_lines<R: Abort + Threads + Sync + AllocGlobal>(rt: &R, day: &mut Day<'_>, case: &Case) {
+    day.take_all(rt, case.steps);
+    assert!(rt; day.reserve(8).is_ok());
+    day.take_all(rt, case.in_room);
+    let Ok(lines) = day.lines(rt, rt.alloc()) else {
+        panic!(rt; "there is memory");
+    };
+    assert_eq!(rt; lines.as_str(), case.lines, "{}", case.shows);
 }

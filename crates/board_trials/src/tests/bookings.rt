@@ -7,7 +7,6 @@ ghost use Rattle.fleet_board.specs.Roles.{MayFeed};
 ghost use Rattle.booking_desk.specs.Desk.{Booking};
 
 use super::days::is_spelled;
-use super::{fleet, line, settings};
 use board_core::Board;
 use booking_desk::BookingDesk;
 use fleet_board::{ActorPass, PassSet, SharedBoard};
@@ -17,6 +16,7 @@ use std::alloc::Global;
 use std::process::Abort;
 use std::sync::Wait;
 use std::test::Fail;
+use trial_town::{fleet, settings};
 
 // A desk whose one booking is due.
 fn desk_with_one(rt: &impl Abort, alloc: Global) -> Result<BookingDesk, NoMemory>
@@ -75,7 +75,7 @@ fn run<R: Wait + Abort + AllocGlobal>(rt: &R, roads: &Roads) -> Result<(), NoMem
 
 #[test]
 fn a_due_booking_is_submitted_once(rt: HostRuntime) -> Result<(), Fail> {
-    let roads = line(&rt, rt.alloc())?;
+    let roads = trial_town::roads(rt.alloc())?;
     run(&rt, &roads)?;
     Ok(())
 }

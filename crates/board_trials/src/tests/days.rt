@@ -9,7 +9,7 @@ ghost use Rattle.ride_model.specs.Text.{IsOneOrTwo, IsSpelledCommand};
 ghost use Rattle.board_core.specs.declared.opening.Opening.{Opening};
 ghost use Rattle.board_core.specs.Recorded.{state_of};
 
-use super::{fleet, lines_of, settings};
+use super::lines_of;
 use batch_commit::Batch;
 use board_core::{Board, Opening};
 use ride_model::{Actor, Command, Ending, NoMemory, Reply};
@@ -19,6 +19,7 @@ use std::alloc::Global;
 use std::marker::Model;
 use std::process::Abort;
 use std::thread::Threads;
+use trial_town::{fleet, settings};
 
 /// The numbers of a command are below this.
 const LIMIT: u64 = 1_000_000_000_000_000_000;
@@ -84,11 +85,11 @@ impl<'r> Day<'r> {
         requires feeds { IsOneOrTwo feeds }
         requires desks { IsOneOrTwo desks }
     {
-        let tools = DeskTools::new(alloc, roads, 2)?;
         let settings = settings(1);
         let log = settings.log;
         let fleet = fleet(alloc, roads)?;
         let board = Board::new(alloc, roads, settings, fleet, feeds, desks)?;
+        let tools = DeskTools::new(alloc, roads, 2)?;
         Ok(Day {
             board,
             tools,

@@ -1,6 +1,6 @@
 //! What a board shows of its state, and how it ends.
 use super::days::{Day, Got, Step};
-use super::{line, request};
+use super::request;
 use board_core::Board;
 use ride_model::{Actor, Command, Ending, RequestState};
 use std::process::Abort;
@@ -19,7 +19,7 @@ fn is_new(board: &Board<'_>) -> bool {
 
 #[test]
 fn a_new_board_is_empty(rt: HostRuntime) -> Result<(), Fail> {
-    let roads = line(&rt, rt.alloc())?;
+    let roads = trial_town::roads(rt.alloc())?;
     let day = Day::new(rt.alloc(), &roads, 1, 2)?;
     let board = day.board();
     assert!(rt; is_new(board));
@@ -31,7 +31,7 @@ fn a_new_board_is_empty(rt: HostRuntime) -> Result<(), Fail> {
 
 #[test]
 fn a_request_waits_is_in_a_batch_and_waits_again(rt: HostRuntime) -> Result<(), Fail> {
-    let roads = line(&rt, rt.alloc())?;
+    let roads = trial_town::roads(rt.alloc())?;
     let mut day = Day::new(rt.alloc(), &roads, 1, 1)?;
     for (steps, open, state) in [
         (
@@ -56,7 +56,7 @@ fn a_request_waits_is_in_a_batch_and_waits_again(rt: HostRuntime) -> Result<(), 
 
 #[test]
 fn a_board_is_finished_once_all_have_ended_whole(rt: HostRuntime) -> Result<(), Fail> {
-    let roads = line(&rt, rt.alloc())?;
+    let roads = trial_town::roads(rt.alloc())?;
     let mut day = Day::new(rt.alloc(), &roads, 2, 2)?;
     day.take_all(
         &rt,

@@ -8,7 +8,7 @@ ghost use Rattle.fleet_board.specs.Roles.{MayFeed, MayOpen, MayCommit};
 ghost use Rattle.fleet_board.specs.Sharing.{MayUse};
 
 use super::days::is_spelled;
-use super::{fleet, line, request, settings};
+use super::request;
 use batch_commit::Batch;
 use board_core::{Board, Opening};
 use fleet_board::{ActorPass, PassSet, SharedBoard};
@@ -19,6 +19,7 @@ use std::process::Abort;
 use std::sync::Wait;
 use std::test::Fail;
 use std::thread::Threads;
+use trial_town::{fleet, settings};
 
 // Submits a command of a feed that has given fewer than a thousand.
 pub(super) fn tell<'r, R: Wait + Abort>(
@@ -195,12 +196,13 @@ enum Play {
 fn run<R: Threads + Wait + Sync + Abort + AllocGlobal>(
     rt: &R,
     roads: &Roads,
+    tools: &mut DeskTools<'_>,
     play: Play,
 ) -> Result<(), NoMemory>
-    requires { roads.now.nodes ≡ 4 }
+    requires nodes { roads.now.nodes ≡ 4 }
+    requires tools { tools.old ≡ roads.now }
 {
     let alloc = rt.alloc();
-    let mut tools = DeskTools::new(alloc, roads, 2)?;
     let board = Board::new(alloc, roads, settings(1), fleet(alloc, roads)?, 1, 2)?;
     let (board, passes) = SharedBoard::start(alloc, board)?;
     let PassSet {
@@ -222,7 +224,7 @@ fn run<R: Threads + Wait + Sync + Abort + AllocGlobal>(
     match play {
         Play::TwoDesks => {
             ask_for_two(rt, &board, &mut feed);
-            open_and_commit(rt, &board, &mut first, &mut second, &mut tools);
+            open_and_commit(rt, &board, &mut first, &mut second, tools);
             expect_tails(rt, &board, &mut scribe, 8);
             let moved = Outcome::Moved {
                 named: 0,
@@ -231,17 +233,27 @@ fn run<R: Threads + Wait + Sync + Abort + AllocGlobal>(
             expect_outcome(rt, &board, &mut scribe, 8, 8, moved);
         }
         Play::CancelInAnOpenBatch => {
-            cancel_in_an_open_batch(rt, &board, &mut feed, &mut first, &mut tools);
+            cancel_in_an_open_batch(rt, &board, &mut feed, &mut first, tools);
             expect_outcome(rt, &board, &mut scribe, 5, 7, Outcome::Gone);
         }
     }
     Ok(())
 }
 
+// Runs a play by tools of its own.
+fn expect_play<R: Threads + Wait + Sync + Abort + AllocGlobal>(rt: &R, roads: &Roads, play: Play)
+    requires { roads.now.nodes ≡ 4 }
+{
+    let Ok(mut tools) = DeskTools::new(rt.alloc(), roads, 2) else {
+        panic!(rt; "there is memory");
+    };
+    assert!(rt; run(rt, roads, &mut tools, play).is_ok());
+}
+
 #[test]
 fn pairs_that_went_stale_on_a_shared_board_are_named(rt: HostRuntime) -> Result<(), Fail> {
-    let roads = line(&rt, rt.alloc())?;
-    run(&rt, &roads, Play::TwoDesks)?;
-    run(&rt, &roads, Play::CancelInAnOpenBatch)?;
+    let roads = trial_town::roads(rt.alloc())?;
+    expect_play(&rt, &roads, Play::TwoDesks);
+    expect_play(&rt, &roads, Play::CancelInAnOpenBatch);
     Ok(())
 }

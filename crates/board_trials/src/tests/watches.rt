@@ -7,8 +7,8 @@ ghost use Rattle.fleet_board.specs.Roles.{MayFeed, MayOpen};
 ghost use Rattle.fleet_board.specs.Sharing.{MayUse};
 ghost use Rattle.idle_moves.specs.Watch.{Watches, watched_ids};
 
+use super::request;
 use super::shared::{commit, open, tell};
-use super::{fleet, line, request, settings};
 use board_core::Board;
 use fleet_board::{ActorPass, PassSet, SharedBoard};
 use idle_moves::{Move, VersionWatch};
@@ -20,10 +20,12 @@ use std::process::Abort;
 use std::sync::Wait;
 use std::test::Fail;
 use std::thread::Threads;
+use trial_town::{fleet, settings};
 
 /// An order to vehicle 1 that names a version.
-fn order(version: u64) -> Move
+pub(super) fn order(version: u64) -> Move
     ensures vehicle { result.vehicle ≡ 1 }
+    ensures version { result.version ≡ version }
 {
     Move {
         request: 9,
@@ -35,7 +37,10 @@ fn order(version: u64) -> Move
 }
 
 // A board of one vehicle on which nothing happened yet, and a watch over it.
-fn begun<'r>(alloc: Global, roads: &'r Roads) -> Result<(VersionWatch, Board<'r>), NoMemory>
+pub(super) fn begun<'r>(
+    alloc: Global,
+    roads: &'r Roads,
+) -> Result<(VersionWatch, Board<'r>), NoMemory>
     requires { roads.now.nodes ≡ 4 }
     ensures place { IfOk result (λ made. made.0.place ≡ 0) }
     ensures versions { IfOk result (λ made. made.0.versions ≡ versions_of made.1.start.vehicles) }
@@ -94,11 +99,12 @@ fn expect_stale<'r, R: Wait + Abort + AllocGlobal>(
 fn run<R: Threads + Wait + Sync + Abort + AllocGlobal>(
     rt: &R,
     roads: &Roads,
+    tools: &mut DeskTools<'_>,
 ) -> Result<(), NoMemory>
-    requires { roads.now.nodes ≡ 4 }
+    requires nodes { roads.now.nodes ≡ 4 }
+    requires tools { tools.old ≡ roads.now }
 {
     let alloc = rt.alloc();
-    let mut tools = DeskTools::new(alloc, roads, 1)?;
     let (mut watch, board) = begun(alloc, roads)?;
     let (board, passes) = SharedBoard::start(alloc, board)?;
     let PassSet {
@@ -113,14 +119,24 @@ fn run<R: Threads + Wait + Sync + Abort + AllocGlobal>(
     let Some(mut desk) = desk_1 else {
         panic!(rt; "a board has a desk");
     };
-    confirm(rt, &board, &mut feed, &mut desk, &mut tools);
+    confirm(rt, &board, &mut feed, &mut desk, tools);
     expect_stale(rt, &board, &mut scribe, &mut watch);
     Ok(())
 }
 
+// The same by tools of its own.
+fn expect_run<R: Threads + Wait + Sync + Abort + AllocGlobal>(rt: &R, roads: &Roads)
+    requires { roads.now.nodes ≡ 4 }
+{
+    let Ok(mut tools) = DeskTools::new(rt.alloc(), roads, 1) else {
+        panic!(rt; "there is memory");
+    };
+    assert!(rt; run(rt, roads, &mut tools).is_ok());
+}
+
 #[test]
 fn an_order_goes_stale_where_a_ride_is_confirmed(rt: HostRuntime) -> Result<(), Fail> {
-    let roads = line(&rt, rt.alloc())?;
-    run(&rt, &roads)?;
+    let roads = trial_town::roads(rt.alloc())?;
+    expect_run(&rt, &roads);
     Ok(())
 }

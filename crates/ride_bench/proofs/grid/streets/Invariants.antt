@@ -1,4 +1,4 @@
-use Rattle.ride_bench.specs.Streets.{AreStreets}
+use Rattle.trial_town.specs.Streets.{AreStreets}
 use Rattle.ride_bench.proofs.grid.streets.Given as goal
 
 abbrev pub invariant-loop-place : goal.invariant-loop-place

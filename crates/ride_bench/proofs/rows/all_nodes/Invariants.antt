@@ -1,6 +1,6 @@
 use Rattle.std.proofs.Common.{◌≡◌, length}
 use Rattle.std.specs.Prelude.{All}
-use Rattle.ride_bench.specs.Streets.{IsPlace}
+use Rattle.trial_town.specs.Streets.{IsPlace}
 use Rattle.ride_bench.proofs.rows.all_nodes.Given as goal
 
 abbrev pub invariant-loop-node : goal.invariant-loop-node

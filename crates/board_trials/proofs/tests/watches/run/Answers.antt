@@ -1,5 +1,5 @@
 use Rattle.turn_lock.specs.Passes.{knowledge}
-use Rattle.idle_moves.proofs.BegunWatches.{watches-start}
+use Rattle.board_trials.proofs.BegunWatches.{watches-start}
 use Rattle.board_trials.proofs.tests.watches.run.Goals as goal
 
 pub expect_stale-requires-clause-watches : goal.expect_stale-requires-clause-watches

@@ -1,0 +1,245 @@
+//! Batches of two requests and three vehicles. Costs and orders were found by hand, over all pairings.
+ghost use Rattle.std.specs.Prelude.{◌≡◌, ◌≤◌, All, IfOk};
+ghost use Rattle.ride_model.specs.declared.vehicle.Ride.{Ride};
+ghost use Rattle.ride_model.specs.declared.vehicle.Vehicle.{Vehicle};
+
+use arrayvec::ArrayVec;
+use batch_commit::{Answer, Batch};
+use idle_moves::{Move, MoveSheet, plan_moves};
+use ride_model::{AmountList, Fleet, NoMemory, Ride, Seat, SeatList, Stop, Vehicle};
+use road_times::{Roads, Scratch};
+use std::alloc::Global;
+use std::process::Abort;
+use std::test::Fail;
+
+/// What a vehicle does.
+#[derive(Clone, Copy, Debug, PartialEq, Eq)]
+enum Doing {
+    Waits,
+    IsOffDuty,
+    Drives,
+}
+
+use Doing::{Drives, IsOffDuty, Waits};
+use trial_town::settings;
+
+/// A batch in which requests 7 and 8 are to be picked up at nodes and vehicles 1 to 3 stand at nodes, each with its version, a
+/// seating of it, and what is sent ahead.
+struct Case {
+    pickups: [u32; 2],
+    vehicles: [(Doing, u32, u64); 3],
+    /// The requests with seats, and their vehicles.
+    seats: &'static [(u64, u64)],
+    reach: u64,
+    cost: u64,
+    moves: &'static [Move],
+    /// The requests without seats.
+    left: &'static [u64],
+}
+
+/// Vehicle 1 of version 0 is sent two minutes ahead to request 7 at node 3.
+const FIRST: Move = Move {
+    request: 7,
+    vehicle: 1,
+    version: 0,
+    node: 3,
+    seconds: 120,
+};
+
+static CASES: [Case; 6] = [
+    // A request and a vehicle that has no seat, within reach and out of it.
+    Case {
+        pickups: [3, 2],
+        vehicles: [(Waits, 1, 0), (Waits, 3, 0), (IsOffDuty, 3, 1)],
+        seats: &[(8, 2)],
+        reach: 600,
+        cost: 120,
+        moves: &[FIRST],
+        left: &[7],
+    },
+    Case {
+        pickups: [3, 2],
+        vehicles: [(Waits, 1, 0), (Waits, 3, 0), (IsOffDuty, 3, 1)],
+        seats: &[(8, 2)],
+        reach: 119,
+        cost: 119,
+        moves: &[],
+        left: &[7],
+    },
+    // Fewer vehicles than requests.
+    Case {
+        pickups: [3, 4],
+        vehicles: [(Waits, 1, 0), (Drives, 3, 2), (IsOffDuty, 4, 1)],
+        seats: &[],
+        reach: 600,
+        cost: 720,
+        moves: &[FIRST],
+        left: &[7, 8],
+    },
+    // More vehicles than requests.
+    Case {
+        pickups: [3, 2],
+        vehicles: [(Waits, 1, 0), (Waits, 3, 0), (Waits, 4, 5)],
+        seats: &[(8, 2)],
+        reach: 600,
+        cost: 60,
+        moves: &[Move {
+            request: 7,
+            vehicle: 3,
+            version: 5,
+            node: 3,
+            seconds: 60,
+        }],
+        left: &[7],
+    },
+    // The nearest vehicle of the first request is needed for the second one.
+    Case {
+        pickups: [2, 1],
+        vehicles: [(Waits, 1, 3), (Waits, 4, 2), (Drives, 2, 1)],
+        seats: &[],
+        reach: 600,
+        cost: 120,
+        moves: &[
+            Move {
+                request: 7,
+                vehicle: 2,
+                version: 2,
+                node: 2,
+                seconds: 120,
+            },
+            Move {
+                request: 8,
+                vehicle: 1,
+                version: 3,
+                node: 1,
+                seconds: 0,
+            },
+        ],
+        left: &[7, 8],
+    },
+    // No vehicle is free.
+    Case {
+        pickups: [3, 2],
+        vehicles: [(Drives, 3, 1), (Waits, 3, 0), (IsOffDuty, 3, 1)],
+        seats: &[(8, 2)],
+        reach: 600,
+        cost: 600,
+        moves: &[],
+        left: &[7],
+    },
+];
+
+/// A request of one rider.
+fn request(rt: &impl Abort, id: u64, from: u32) -> Ride
+    ensures id { result.id ≡ id }
+    ensures first { 1 ≤ result.from }
+    ensures last { result.from ≤ 4 }
+{
+    assert!(rt; 1 <= from && from <= 4);
+    Ride {
+        id,
+        from,
+        seats: 1,
+        ..Ride::default()
+    }
+}
+
+/// A vehicle that stands or drives.
+fn vehicle(rt: &impl Abort, id: u64, doing: Doing, at: u32, version: u64) -> Vehicle
+    ensures id { result.id ≡ id }
+    ensures first { 1 ≤ result.at }
+    ensures last { result.at ≤ 4 }
+{
+    assert!(rt; 1 <= at && at <= 4);
+    let mut stops = ArrayVec::new();
+    if doing == Drives {
+        stops.push(Stop::default());
+    }
+    Vehicle {
+        id,
+        seats: 2,
+        chairs: 0,
+        at,
+        ready: 0,
+        duty: doing != IsOffDuty,
+        version,
+        rides: ArrayVec::new(),
+        stops,
+    }
+}
+
+fn fleet(rt: &impl Abort, alloc: Global, case: &Case) -> Result<Fleet, NoMemory>
+    ensures { IfOk result (All (λ (v : Vehicle). (1 ≤ v.at) × (v.at ≤ 4))) }
+{
+    let [first, second, third] = case.vehicles;
+    let mut vehicles = Vec::new(alloc);
+    vehicles.push(vehicle(rt, 1, first.0, first.1, first.2))?;
+    vehicles.push(vehicle(rt, 2, second.0, second.1, second.2))?;
+    vehicles.push(vehicle(rt, 3, third.0, third.1, third.2))?;
+    Ok(Fleet::new(vehicles))
+}
+
+fn batch(rt: &impl Abort, alloc: Global, case: &Case) -> Result<Batch, NoMemory>
+    ensures stands { IfOk result (λ batch. All (λ (v : Vehicle). (1 ≤ v.at) × (v.at ≤ 4)) batch.vehicles) }
+    ensures pickups { IfOk result (λ batch. All (λ (ride : Ride). (1 ≤ ride.from) × (ride.from ≤ 4)) batch.requests) }
+{
+    let fleet = fleet(rt, alloc, case)?;
+    let mut requests = Vec::new(alloc);
+    requests.push(request(rt, 7, case.pickups[0]))?;
+    requests.push(request(rt, 8, case.pickups[1]))?;
+    Ok(Batch::of(1, 0, 1, settings(32), requests, fleet))
+}
+
+fn answer(alloc: Global, case: &Case) -> Result<Answer, NoMemory> {
+    let mut seats = Vec::new(alloc);
+    for (request, vehicle) in case.seats {
+        seats.push(Seat {
+            request: *request,
+            vehicle: *vehicle,
+            i: 0,
+            j: 0,
+        })?;
+    }
+    let prices = AmountList::of(Vec::new(alloc));
+    let pays = AmountList::of(Vec::new(alloc));
+    Answer::of(alloc, SeatList::of(seats), prices, pays)
+}
+
+fn sheet(rt: &impl Abort, alloc: Global, roads: &Roads, case: &Case) -> Result<MoveSheet, NoMemory>
+    requires { roads.now.nodes ≡ 4 }
+{
+    assert!(rt; case.reach <= 1_000_000);
+    let batch = batch(rt, alloc, case)?;
+    let answer = answer(alloc, case)?;
+    let mut scratch = Scratch::new(alloc, roads)?;
+    plan_moves(alloc, &batch, &answer, case.reach, roads, &mut scratch)
+}
+
+/// The prices of the requests that are left out, less the payments, which are above 0, are the cost.
+fn expect_amounts(rt: &impl Abort, sheet: &MoveSheet, case: &Case) {
+    assert_eq!(rt; sheet.prices.items().len(), case.left.len());
+    let mut balance = 0u64;
+    for ((request, price), left) in sheet.prices.items().iter().zip(case.left) {
+        assert_eq!(rt; request, left);
+        assert!(rt; *price <= case.reach);
+        balance = balance.wrapping_add(*price);
+    }
+    for (_, pay) in sheet.pays.items() {
+        assert!(rt; *pay > 0);
+        balance = balance.wrapping_sub(*pay);
+    }
+    assert_eq!(rt; balance, case.cost);
+}
+
+#[test]
+fn idle_vehicles_are_sent_ahead(rt: HostRuntime) -> Result<(), Fail> {
+    let roads = trial_town::roads(rt.alloc())?;
+    for case in CASES.iter() {
+        let sheet = sheet(&rt, rt.alloc(), &roads, case)?;
+        assert_eq!(rt; sheet.batch, 1);
+        assert_eq!(rt; sheet.cost, case.cost);
+        assert_eq!(rt; sheet.moves.items(), case.moves);
+        expect_amounts(&rt, &sheet, case);
+    }
+    Ok(())
+}
