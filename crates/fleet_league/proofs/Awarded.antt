@@ -119,7 +119,7 @@ pub open-found : (batch : BatchCopy) (t : State) → t.batches ≡ batch ∷ [] 
 open-found batch t one =
     ap (find (is_batch batch.desk batch.number)) one ∙ ap (λ b. cond b (Some batch) None) (is_batch-own batch)
 
-none-left : (batch : BatchCopy) (batches : List BatchCopy) → batches ≡ batch ∷ []
+pub none-left : (batch : BatchCopy) (batches : List BatchCopy) → batches ≡ batch ∷ []
     → filter (λ other. not (is_batch batch.desk batch.number other)) batches ≡ []
 none-left batch batches one =
     ap (filter (λ other. not (is_batch batch.desk batch.number other))) one ∙ ap (λ b. cond (not b) (batch ∷ []) []) (is_batch-own batch)
@@ -130,7 +130,7 @@ committed-state : (t : State) (batch : BatchCopy) (cost : ℕ) (seats : List Sea
     → after_event t (Desk batch.desk) (Committed batch.number cost seats prices pays outcomes) ≡ after_commit batch seats t
 committed-state t batch cost seats prices pays outcomes found = rw found refl
 
-abandoned-state : (t : State) (batch : BatchCopy) → open_batch_numbered t batch.desk batch.number ≡ Some batch
+pub abandoned-state : (t : State) (batch : BatchCopy) → open_batch_numbered t batch.desk batch.number ≡ Some batch
     → after_event t (Desk batch.desk) (Abandoned batch.number) ≡ after_abandon batch t
 abandoned-state t batch found = rw found refl
 

@@ -37,7 +37,7 @@ use Rattle.fleet_league.specs.Awarding.{IsWonBatch}
 use Rattle.fleet_league.proofs.PricedRows.{cost-is}
 
 -- pieces of one length
-flat-length : {X A : Type 0} (f : X → List A) (m : ℕ) → ((x : X) → length (f x) ≡ m) → (xs : List X)
+pub flat-length : {X A : Type 0} (f : X → List A) (m : ℕ) → ((x : X) → length (f x) ≡ m) → (xs : List X)
     → length (flat_map f xs) ≡ length xs * m
 flat-length f m each [] = omega arith
 flat-length f m each (x ∷ xs) =

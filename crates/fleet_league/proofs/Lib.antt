@@ -14,3 +14,15 @@ pub mod MayAward
 pub mod ChosenSums
 pub mod Restricted
 pub mod UnionFilling
+pub mod Windows
+pub mod BriefCertified
+pub mod RoundTexts
+pub mod PricedQuotes
+pub mod RoundCosts
+pub mod LeagueMembers
+pub mod AwardedMembers
+pub mod Playing
+pub mod Cancelling
+pub mod Desks
+pub mod OpenedRounds
+pub mod LeagueCost

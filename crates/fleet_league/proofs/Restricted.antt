@@ -1,7 +1,7 @@
 -- A certified pairing, kept to some of its columns.
 use Rattle.std.proofs.Common.{◌≡◌, ℕ, ◌+◌, ◌<◌, ◌≤◌, Bool, true, false, cond, not, List, length, get_or, eqb, refl, sym, ◌∙◌, ap, subst, arith}
 use Rattle.std.specs.Prelude.{map, sum, All, Option, Some, None, IsSome, IfSome}
-use Rattle.std.specs.List.{filter, sum_by, range_with_len, IsDistinct}
+use Rattle.std.specs.List.{sum_by, range_with_len, IsDistinct}
 use Rattle.std.proofs.lemmas.Bool.{false≢true}
 use Rattle.std.proofs.lemmas.List.{get_or-map, length-map}
 use Rattle.std.proofs.lemmas.List.Filters.{sum_by-filter_both}
@@ -161,7 +161,7 @@ restricted-pairing grid pairing rows columns part own paired of kept distinct = 
     at row column = stands-at pairing rows columns own row column kept
 
 -- the part's pairing costs what its rows cost in the whole
-restricted-cost : (grid part : GridCells) (penalty own_penalty : ℕ) (pairing own : List (Option ℕ)) (rows columns : List ℕ)
+pub restricted-cost : (grid part : GridCells) (penalty own_penalty : ℕ) (pairing own : List (Option ℕ)) (rows columns : List ℕ)
     → IsPart grid rows columns part → KeepsColumns pairing rows columns own
     → pairing_cost part own_penalty own ≡ sum_by (λ row. row_cost grid penalty row (column_of pairing row)) rows
 restricted-cost grid part penalty own_penalty pairing own rows columns of kept =

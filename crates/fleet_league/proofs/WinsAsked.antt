@@ -140,7 +140,7 @@ requested-board old new wins start history new_rides =
     ∙ requested (state_of old) wins new_rides
 
 -- an accepted ask
-asked-now : (s : State) → s.asked + 1 ≤ 2000 → step s Ask ≡ record { state = record s { asked = s.asked + 1 }; reply = Asked (s.asked + 1) }
+pub asked-now : (s : State) → s.asked + 1 ≤ 2000 → step s Ask ≡ record { state = record s { asked = s.asked + 1 }; reply = Asked (s.asked + 1) }
 unfolding ask_step
 asked-now s few = ap (λ b. cond b (record { state = s; reply = Refused 16 }) (record { state = record s { asked = s.asked + 1 }; reply = Asked (s.asked + 1) }))
     (few_test s.asked few)

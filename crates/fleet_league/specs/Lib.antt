@@ -6,3 +6,8 @@ pub mod Awarding
 pub mod Filling
 pub mod Restriction
 pub mod Round
+pub mod Feed
+pub mod LeagueTexts
+pub mod RoundParts
+pub mod League
+pub mod LeagueBoards

@@ -8,6 +8,7 @@ mod briefs;
 mod company;
 mod confirming;
 pub mod laws;
+mod league;
 mod quotes;
 mod quoting;
 mod rounds;

@@ -8,6 +8,7 @@ ghost use Rattle.batch_commit.specs.Table.{cell_at, FitsBatch, IsTableOf};
 ghost use Rattle.board_core.specs.Recorded.{state_of};
 ghost use Rattle.fleet_league.specs.Prices.{prices_by, prices_of, IsNewRide};
 ghost use Rattle.fleet_league.specs.Quoting.{quoting_batch, cost_in, cost_row};
+ghost use Rattle.fleet_league.specs.Round.{IsPriced};
 
 use crate::{Company, PriceRows, Quote};
 use batch_commit::{Batch, PriceTable};
@@ -35,6 +36,7 @@ impl<'r> Company<'r> {
         ensures time { IfOk result (λ quote. quote.time ≡ (state_of self.now.board).clock) }
         ensures plans { IfOk result (λ quote. quote.plans ≡ versions_of (state_of self.now.board).vehicles) }
         ensures prices { IfOk result (λ quote. quote.prices ≡ prices_of (state_of self.now.board) rides.now) }
+        ensures priced { IfOk result (λ quote. IsPriced quote.prices) }
         ensures scratch { scratch.new ≡ scratch.old }
     {
         // This call tells that the history is legal.

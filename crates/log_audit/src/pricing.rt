@@ -8,8 +8,9 @@ ghost use Rattle.ride_model.specs.Seating.{IsBatchOver};
 ghost use Rattle.ride_model.specs.Vehicle.{IsLawful};
 ghost use Rattle.batch_commit.specs.Table.{IsTableOf};
 
+use adaptive_roads::AdaptiveRoads;
 use batch_commit::{Batch, PriceTable};
-use pricing_workers::{Search, SeatPlaces, offer_of_seat, price_batch_by, scratches_of};
+use pricing_workers::{Search, SeatPlaces, offer_of_seat, price_batch_adapting, scratches_of};
 use ride_model::{NoMemory, Offer};
 use ride_ports::OpenGate;
 use road_times::{Roads, Scratch};
@@ -17,11 +18,11 @@ use std::alloc::Global;
 use std::marker::Model;
 use std::thread::Threads;
 
-/// The roads, and what their searches need.
+/// The roads, which adapt to how much is asked of them, and what their searches need.
 #[derive(Drop)]
 pub(crate) struct Pricing<'a> {
     alloc: Global,
-    roads: &'a Roads,
+    roads: AdaptiveRoads<'a>,
     scratches: Vec<Scratch>,
 }
 
@@ -31,9 +32,9 @@ impl<'a> Model for Pricing<'a> {
 
     ghost Value = { RoadMap };
 
-    ghost view = { λ p. p.roads.now };
+    ghost view = { λ p. p.roads };
 
-    ghost invariant = { λ p. (1 ≤ length p.scratches.items) × All (λ scratch. scratch.nodes ≡ p.roads.now.nodes) p.scratches.items };
+    ghost invariant = { λ p. (1 ≤ length p.scratches.items) × All (λ scratch. scratch.nodes ≡ p.roads.nodes) p.scratches.items };
 }
 
 impl<'a> Pricing<'a> {
@@ -49,7 +50,7 @@ impl<'a> Pricing<'a> {
         let scratches = scratches_of(alloc, roads, workers)?;
         Ok(Pricing {
             alloc,
-            roads,
+            roads: AdaptiveRoads::new(roads),
             scratches,
         })
     }
@@ -73,13 +74,13 @@ impl<'a> Pricing<'a> {
         ensures kept { self.new ≡ self.old }
     {
         // This call tells that the map is within its limits.
-        let _nodes = self.roads.nodes();
-        price_batch_by(
+        let _nodes = self.roads.roads().nodes();
+        price_batch_adapting(
             rt,
             self.alloc,
             Search::ByWholePlans,
             batch,
-            self.roads,
+            &mut self.roads,
             self.scratches.as_mut_slice(),
             &OpenGate,
         )
@@ -101,6 +102,7 @@ impl<'a> Pricing<'a> {
             seat.i seat.j) }
         ensures kept { self.new ≡ self.old }
     {
-        offer_of_seat(self.alloc, batch, self.roads, &mut self.scratches[0], seat)
+        let roads = self.roads.roads();
+        offer_of_seat(self.alloc, batch, roads, &mut self.scratches[0], seat)
     }
 }

@@ -3,12 +3,11 @@ use Rattle.std.proofs.Common.{◌≡◌, ℕ, ◌+◌, ◌-◌, ◌*◌, ◌<◌
 use Rattle.std.specs.Prelude.{Option, None}
 use Rattle.std.proofs.lemmas.Bool.{cases_lt}
 use Rattle.std.proofs.lemmas.Nat.{mul-add-lt, mul-le}
-use Rattle.std.proofs.lemmas.List.{get_or_append_left, get_or-append-add, take_more}
+use Rattle.std.proofs.lemmas.List.{get_or_append_left, get_or-append-add, take_more, take-append-drop}
 use Rattle.std.proofs.lemmas.Slice.{take-put_mid}
 use borrow.Rule.Slice.PartMut.{put_mid}
 use Rattle.ride_model.specs.declared.offer.Offer.{Offer}
 use Rattle.ride_model.specs.declared.vehicle.Ride.{Ride}
-use Rattle.ride_model.specs.declared.vehicle.Vehicle.{Vehicle}
 use Rattle.ride_model.specs.Road.{RoadMap}
 use Rattle.ride_model.specs.Seating.{BatchCopy}
 use Rattle.pricing_workers.specs.Cells.{IsCellOf, IsRowOf, AreRowsOf}
@@ -97,6 +96,11 @@ length-put cells row start k w rows row_is k_is fits whole =
 -- a row before the last ends within all
 pub mul-add-le : (i w rows : ℕ) → i < rows → i * w + w ≤ rows * w
 mul-add-le i w rows low = omega (arith, mul-le (i + 1) w rows w (omega (arith, low)) (omega arith))
+
+-- the parts of a split list
+pub parts-whole : (front back requests : List Ride) (n : ℕ) → front ≡ take n requests → back ≡ drop n requests → front ++ back ≡ requests
+parts-whole front back requests n front_is back_is =
+    ap (λ xs. xs ++ back) front_is ∙ ap (λ ys. take n requests ++ ys) back_is ∙ take-append-drop n requests
 
 -- the rows of both halves
 pub rows-halves : (roads : RoadMap) (batch : BatchCopy) (front back requests : List Ride) → front ++ back ≡ requests

@@ -1,7 +1,6 @@
 -- The times in a request's rows at a vehicle's nodes.
-use Rattle.std.proofs.Common.{◌≡◌, ℕ, zero, suc, ◌+◌, ◌<◌, ◌≤◌, List, ◌∷◌, length, get_or, refl, sym, ap, ◌∙◌, arith}
-use Rattle.std.specs.Prelude.{Option, None, map, flat_map, take}
-use Rattle.std.specs.List.{range_with_len}
+use Rattle.std.proofs.Common.{◌≡◌, ℕ, suc, ◌+◌, ◌<◌, ◌≤◌, List, length, get_or, refl, sym, ap, ◌∙◌, arith}
+use Rattle.std.specs.Prelude.{Option, None, map, take}
 use Rattle.std.proofs.lemmas.List.{get_or-map, length-map}
 use Rattle.std.proofs.lemmas.List.Concat.{get_or-flat_map}
 use Rattle.std.proofs.lemmas.List.Folds.{length-flat_map-take}
@@ -11,7 +10,6 @@ use Rattle.ride_model.specs.declared.vehicle.Ride.{Ride}
 use Rattle.ride_model.specs.declared.vehicle.Stop.{Stop}
 use Rattle.ride_model.specs.declared.vehicle.Vehicle.{Vehicle}
 use Rattle.ride_model.specs.Road.{RoadMap, travel}
-use Rattle.insertion.specs.declared.near.NearStop.{NearStop}
 use Rattle.insertion.specs.Asked.{near_stop}
 use Rattle.pricing_workers.specs.declared.times.Times.{Times}
 use Rattle.pricing_workers.specs.Rows.{HasRoom, HoldsRows, HoldsAt, IsWide, near_at, near_node}
@@ -56,13 +54,14 @@ rows-wide roads ride nodes times most h fit = record {
 }
 
 -- rows that are filled have just the room that they had
-pub rows-room : (roads : RoadMap) (ride : Ride) (nodes : List ℕ) (times : Times) → HoldsRows roads ride nodes times
-    → HasRoom (length nodes) times
-rows-room roads ride nodes times h = record {
+pub rows-room : (roads : RoadMap) (ride : Ride) (nodes : List ℕ) (times : Times) (places : ℕ) → HoldsRows roads ride nodes times
+    → places ≤ times.room.places → HasRoom (length nodes) places times
+rows-room roads ride nodes times places h fit = record {
   to_from = ap length h.to_from ∙ length-map nodes (λ node. travel roads node ride.from);
   from_here = ap length h.from_here ∙ length-map nodes (λ node. travel roads ride.from node);
   to_to = ap length h.to_to ∙ length-map nodes (λ node. travel roads node ride.to);
   to_here = ap length h.to_here ∙ length-map nodes (λ node. travel roads ride.to node);
+  places_fit = fit;
 }
 
 -- the node of a vehicle of this number

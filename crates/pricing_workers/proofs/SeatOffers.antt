@@ -1,7 +1,6 @@
 -- What is asked of the offer of a seat's vehicle, whose times alone are found.
 use Rattle.std.proofs.Common.{◌≡◌, ◌+◌, ◌≤◌, ◌<◌, ℕ, List, [], ◌∷◌, length, get_or, sym, ◌∙◌, subst, append-nil, arith}
 use Rattle.std.specs.Prelude.{All, None}
-use Rattle.std.specs.List.{AllByRecursion}
 use Rattle.std.proofs.lemmas.List.Concat.{flat_map-cons}
 use Rattle.std.proofs.lemmas.List.Elements.{All-get_or, All-from_recursion}
 use Rattle.ride_model.specs.declared.vehicle.Ride.{Ride}

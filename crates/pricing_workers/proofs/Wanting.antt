@@ -1,5 +1,5 @@
 -- One more vehicle among those whose nodes are wanted.
-use Rattle.std.proofs.Common.{◌≡◌, ℕ, ◌+◌, ◌<◌, List, [], ◌∷◌, ◌++◌, length, get_or, take, refl, sym, ap, ◌∙◌, subst, arith, length-append, inl, inr}
+use Rattle.std.proofs.Common.{◌≡◌, ℕ, ◌+◌, ◌<◌, List, [], ◌∷◌, ◌++◌, length, get_or, take, sym, ap, ◌∙◌, subst, arith, length-append, inl, inr}
 use Rattle.std.proofs.lemmas.Bool.{cases_eq}
 use Rattle.std.proofs.lemmas.Grind.{flat_map-append}
 use Rattle.std.proofs.lemmas.List.{append-nil, get_or_append_left, take-append-le, take_more}
@@ -8,7 +8,6 @@ use Rattle.ride_model.specs.declared.settings.Settings.{Settings}
 use Rattle.ride_model.specs.declared.vehicle.Vehicle.{Vehicle}
 use Rattle.ride_model.specs.Offers.{start_of}
 use Rattle.slack_tables.specs.SlackOf.{slack_of}
-use Rattle.pricing_workers.specs.declared.wanted.Plan.{Plan}
 use Rattle.pricing_workers.specs.declared.wanted.Wanted.{Wanted}
 use Rattle.pricing_workers.specs.Wanted.{IsWanted, all_nodes, nodes_of, plan_at}
 

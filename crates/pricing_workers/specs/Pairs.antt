@@ -1,5 +1,5 @@
 -- What a pair can be priced by.
-use Rattle.std.specs.Prelude.{◌≡◌, ℕ, ◌≤◌, List, All, Contains, None}
+use Rattle.std.specs.Prelude.{◌≡◌, ◌≤◌, All, None}
 use Rattle.ride_model.specs.declared.vehicle.Ride.{Ride}
 use Rattle.ride_model.specs.declared.vehicle.Vehicle.{Vehicle}
 use Rattle.ride_model.specs.Road.{RoadMap, IsRoadMap}

@@ -1,5 +1,5 @@
 -- A request's rows of times.
-use Rattle.std.specs.Prelude.{◌≡◌, ℕ, ◌+◌, ◌<◌, ◌≤◌, List, length, map, slice_index_or, None}
+use Rattle.std.specs.Prelude.{◌≡◌, ℕ, ◌+◌, ◌≤◌, List, length, map, slice_index_or, None}
 use Rattle.std.specs.List.{range_with_len}
 use Rattle.ride_model.specs.declared.vehicle.Ride.{Ride}
 use Rattle.ride_model.specs.declared.vehicle.Vehicle.{Vehicle}
@@ -8,12 +8,13 @@ use Rattle.insertion.specs.declared.near.NearStop.{NearStop}
 use Rattle.insertion.specs.Asked.{near_stop}
 use Rattle.pricing_workers.specs.declared.times.Times.{Times}
 
--- each row has room for just so many nodes
-pub record HasRoom (nodes : ℕ) (times : Times) : Type 0 where
+-- each row has room for just so many nodes, and there is room for sweeps of so many places
+pub record HasRoom (nodes places : ℕ) (times : Times) : Type 0 where
   pub to_from : length times.to_from.items ≡ nodes
   pub from_here : length times.from_here.items ≡ nodes
   pub to_to : length times.to_to.items ≡ nodes
   pub to_here : length times.to_here.items ≡ nodes
+  pub places_fit : places ≤ times.room.places
 
 -- each row has at least so many nodes
 pub record IsWide (nodes : ℕ) (times : Times) : Type 0 where

@@ -1,7 +1,8 @@
 //! The table of a batch.
-ghost use Rattle.std.specs.Prelude.{◌≡◌, ◌*◌, ◌≤◌, length, All, IfOk};
+ghost use Rattle.std.specs.Prelude.{◌≡◌, ◌*◌, ◌≤◌, length, map, All, IfOk};
 ghost use Rattle.std.specs.Result.{OnOk};
-ghost use Rattle.ride_model.specs.Road.{IsRoadMap};
+ghost use Rattle.ride_model.specs.declared.vehicle.Ride.{Ride};
+ghost use Rattle.ride_model.specs.Road.{IsNode};
 ghost use Rattle.ride_model.specs.Seating.{IsBatchOver};
 ghost use Rattle.ride_model.specs.Vehicle.{IsLawful};
 ghost use Rattle.batch_commit.specs.Table.{IsTableOf};
@@ -13,6 +14,7 @@ use crate::pairs::Search;
 use crate::pieces::{Job, fill_rows};
 use crate::times::Times;
 use crate::wanted::Wanted;
+use adaptive_roads::{AdaptiveRoads, BatchRoads};
 use batch_commit::{Batch, PriceTable};
 use ride_model::{Offer, Ride};
 use ride_ports::{Gate, NoMemory};
@@ -63,17 +65,80 @@ pub fn price_batch_by<R: Threads + Sync, G: Gate>(
     ensures scratches { scratches.new ≡ scratches.old }
 {
     let wanted = wanted_of(alloc, batch, roads)?;
+    let roads = BatchRoads::by_searches(roads, wanted.nodes.as_slice());
     let job = Job {
         search,
-        roads,
+        roads: &roads,
         batch,
         wanted: &wanted,
     };
-    let rows = batch.requests().len();
-    let columns = batch.vehicles().vehicles().len();
-    let mut cells = vec![in alloc; None; rows * columns]?;
-    fill_cells(rt, alloc, &job, scratches, gate, cells.as_mut_slice())?;
-    Ok(PriceTable::of(rows as u32, columns as u32, cells))
+    let (table, _settled) = table_of(rt, alloc, &job, scratches, gate)?;
+    Ok(table)
+}
+
+/// The same over roads that adapt: rows come by sweeps once that pays. What was searched is noted.
+pub fn price_batch_adapting<R: Threads + Sync, G: Gate>(
+    rt: &R,
+    alloc: Global,
+    search: Search,
+    batch: &Batch,
+    roads: &mut AdaptiveRoads,
+    scratches: &mut [Scratch],
+    gate: &G,
+) -> Result<PriceTable, NoMemory>
+    requires some_scratch { 1 ≤ length scratches.old }
+    requires scratches { All (λ scratch. scratch.nodes ≡ roads.old.nodes) scratches.old }
+    requires time { batch.now.time ≤ 1000000000 }
+    requires over_map { IsBatchOver roads.old batch.now }
+    requires lawful { All (IsLawful roads.old) batch.now.vehicles }
+    ensures table { IfOk result (λ table. IsTableOf roads.old batch.now table) }
+    ensures roads { roads.new ≡ roads.old }
+    ensures scratches { scratches.new ≡ scratches.old }
+{
+    roads.prepare(alloc);
+    let (table, settled) = table_either_way(rt, alloc, search, batch, roads, scratches, gate)?;
+    roads.note(settled);
+    Ok(table)
+}
+
+// The table of a batch over roads as far as they have adapted, and how many nodes its searches settled.
+fn table_either_way<R: Threads + Sync, G: Gate>(
+    rt: &R,
+    alloc: Global,
+    search: Search,
+    batch: &Batch,
+    adaptive: &AdaptiveRoads,
+    scratches: &mut [Scratch],
+    gate: &G,
+) -> Result<(PriceTable, u64), NoMemory>
+    requires some_scratch { 1 ≤ length scratches.old }
+    requires scratches { All (λ scratch. scratch.nodes ≡ adaptive.now.nodes) scratches.old }
+    requires time { batch.now.time ≤ 1000000000 }
+    requires over_map { IsBatchOver adaptive.now batch.now }
+    requires lawful { All (IsLawful adaptive.now) batch.now.vehicles }
+    ensures table { IfOk result (λ pair. IsTableOf adaptive.now batch.now pair.0) }
+    ensures scratches { scratches.new ≡ scratches.old }
+{
+    let roads = adaptive.roads();
+    let wanted = wanted_of(alloc, batch, roads)?;
+    let nodes = wanted.nodes.as_slice();
+    let ends = ends_of(alloc, batch)?;
+    let selections = adaptive.select(alloc, nodes, ends.as_slice());
+    let roads = BatchRoads::over(roads, nodes, ends.as_slice(), selections.as_ref());
+    let job = Job {
+        search,
+        roads: &roads,
+        batch,
+        wanted: &wanted,
+    };
+    table_of(rt, alloc, &job, scratches, gate)
+}
+
+// Where the trips of a batch's requests end.
+fn ends_of(alloc: Global, batch: &Batch) -> Result<Vec<u32>, NoMemory>
+    ensures { IfOk result (λ ends. ends.items ≡ map (λ (ride : Ride). ride.to) batch.now.requests) }
+{
+    batch.requests().iter().map(|ride| ride.to).collect(alloc)
 }
 
 // What is wanted of a map that is within its limits, as all roads are.
@@ -81,14 +146,40 @@ fn wanted_of(alloc: Global, batch: &Batch, roads: &Roads) -> Result<Wanted, NoMe
     requires time { batch.now.time ≤ 1000000000 }
     requires over_map { IsBatchOver roads.now batch.now }
     requires lawful { All (IsLawful roads.now) batch.now.vehicles }
-    ensures { IfOk result (MayFill roads.now batch.now) }
+    ensures ready { IfOk result (MayFill roads.now batch.now) }
+    ensures inside { IfOk result (λ wanted. All (IsNode roads.now) wanted.nodes.items) }
 {
     // The number of nodes is asked for the proof alone: with it comes that the map is within its limits.
     let _ = roads.nodes();
-    Wanted::of(alloc, batch)
+    let wanted = Wanted::of(alloc, batch)?;
+    Ok(wanted)
 }
 
-// Fills the cells of all requests.
+// The table of a batch, and how many nodes its searches settled.
+fn table_of<R: Threads + Sync, G: Gate>(
+    rt: &R,
+    alloc: Global,
+    job: &Job,
+    scratches: &mut [Scratch],
+    gate: &G,
+) -> Result<(PriceTable, u64), NoMemory>
+    requires ready { MayFill job.now.roads.now.roads job.now.batch.now job.now.wanted.now }
+    requires over_map { IsBatchOver job.now.roads.now.roads job.now.batch.now }
+    requires wanted { job.now.roads.now.wanted ≡ job.now.wanted.now.nodes.items }
+    requires some_scratch { 1 ≤ length scratches.old }
+    requires scratches { All (λ scratch. scratch.nodes ≡ job.now.roads.now.roads.nodes) scratches.old }
+    ensures table { IfOk result (λ pair. IsTableOf job.now.roads.now.roads job.now.batch.now pair.0) }
+    ensures scratches { scratches.new ≡ scratches.old }
+{
+    let rows = job.batch.requests().len();
+    let columns = job.batch.vehicles().vehicles().len();
+    let mut cells = vec![in alloc; None; rows * columns]?;
+    let settled = fill_cells(rt, alloc, job, scratches, gate, cells.as_mut_slice())?;
+    let table = PriceTable::of(rows as u32, columns as u32, cells);
+    Ok((table, settled))
+}
+
+// Fills the cells of all requests. Answers how many nodes searches settled.
 fn fill_cells<R: Threads + Sync, G: Gate>(
     rt: &R,
     alloc: Global,
@@ -96,19 +187,21 @@ fn fill_cells<R: Threads + Sync, G: Gate>(
     scratches: &mut [Scratch],
     gate: &G,
     cells: &mut [Option<Offer>],
-) -> Result<(), NoMemory>
-    requires ready { MayFill job.now.roads.now job.now.batch.now job.now.wanted.now }
+) -> Result<u64, NoMemory>
+    requires ready { MayFill job.now.roads.now.roads job.now.batch.now job.now.wanted.now }
     requires few { length job.now.batch.now.requests ≤ 128 }
-    requires requests { All (IsRequest job.now.roads.now job.now.batch.now) job.now.batch.now.requests }
+    requires requests { All (IsRequest job.now.roads.now.roads job.now.batch.now) job.now.batch.now.requests }
+    requires wanted { job.now.roads.now.wanted ≡ job.now.wanted.now.nodes.items }
     requires some_scratch { 1 ≤ length scratches.old }
-    requires scratches { All (λ scratch. scratch.nodes ≡ job.now.roads.now.nodes) scratches.old }
+    requires scratches { All (λ scratch. scratch.nodes ≡ job.now.roads.now.roads.nodes) scratches.old }
     requires cells { length cells.old ≡ length job.now.batch.now.requests * length job.now.batch.now.vehicles }
-    ensures cells { OnOk result (AreRowsOf job.now.roads.now job.now.batch.now job.now.batch.now.requests cells.new) }
+    ensures cells { OnOk result (AreRowsOf job.now.roads.now.roads job.now.batch.now job.now.batch.now.requests cells.new) }
     ensures scratches { scratches.new ≡ scratches.old }
 {
     let requests = job.batch.requests();
     let workers = requests.len().min(scratches.len()).max(1);
-    let mut times = times_of(alloc, workers, job.wanted.nodes.len())?;
+    let places = job.roads.places();
+    let mut times = times_of(alloc, workers, job.wanted.nodes.len(), places)?;
     fill_pieces(
         rt,
         job,
@@ -118,17 +211,31 @@ fn fill_cells<R: Threads + Sync, G: Gate>(
         gate,
         cells,
     );
-    Ok(())
+    Ok(settled_of(times.as_slice()))
 }
 
-// Times for so many workers, each with room for so many nodes.
-fn times_of(alloc: Global, workers: usize, nodes: usize) -> Result<Vec<Times>, NoMemory>
+// How many nodes searches settled, all workers together.
+fn settled_of(times: &[Times]) -> u64 {
+    let mut settled = 0u64;
+    for worker in times {
+        settled = settled.saturating_add(worker.room.settled());
+    }
+    settled
+}
+
+// Times for so many workers, each with room for so many nodes, and for sweeps of so many places.
+fn times_of(
+    alloc: Global,
+    workers: usize,
+    nodes: usize,
+    places: usize,
+) -> Result<Vec<Times>, NoMemory>
     ensures count { IfOk result (λ times. length times.items ≡ workers) }
-    ensures room { IfOk result (λ times. All (HasRoom nodes) times.items) }
+    ensures room { IfOk result (λ times. All (HasRoom nodes places) times.items) }
 {
     let mut times = Vec::with_capacity(alloc, workers)?;
     for _ in 0..workers {
-        times.push(Times::new(alloc, nodes)?)?;
+        times.push(Times::new(alloc, nodes, places)?)?;
     }
     Ok(times)
 }
@@ -144,15 +251,16 @@ fn fill_pieces<R: Threads + Sync, G: Gate>(
     gate: &G,
     cells: &mut [Option<Offer>],
 )
-    requires ready { MayFill job.now.roads.now job.now.batch.now job.now.wanted.now }
+    requires ready { MayFill job.now.roads.now.roads job.now.batch.now job.now.wanted.now }
     requires few { length requests.now ≤ 128 }
-    requires requests { All (IsRequest job.now.roads.now job.now.batch.now) requests.now }
+    requires requests { All (IsRequest job.now.roads.now.roads job.now.batch.now) requests.now }
     requires workers { (1 ≤ length times.old) × (length times.old ≤ 128) }
     requires own_scratches { length times.old ≤ length scratches.old }
-    requires scratches { All (λ scratch. scratch.nodes ≡ job.now.roads.now.nodes) scratches.old }
-    requires room { All (HasRoom (length job.now.wanted.now.nodes.items)) times.old }
+    requires scratches { All (λ scratch. scratch.nodes ≡ job.now.roads.now.roads.nodes) scratches.old }
+    requires wanted { job.now.roads.now.wanted ≡ job.now.wanted.now.nodes.items }
+    requires room { All (HasRoom (length job.now.wanted.now.nodes.items) job.now.roads.now.places) times.old }
     requires cells { length cells.old ≡ length requests.now * length job.now.batch.now.vehicles }
-    ensures cells { AreRowsOf job.now.roads.now job.now.batch.now requests.now cells.new }
+    ensures cells { AreRowsOf job.now.roads.now.roads job.now.batch.now requests.now cells.new }
     ensures scratches { scratches.new ≡ scratches.old }
 {
     let workers = times.len();
@@ -177,15 +285,16 @@ fn fill_pieces<R: Threads + Sync, G: Gate>(
     join_mut(
         rt,
         &mut ||
-            requires { MayFill job.now.roads.now job.now.batch.now job.now.wanted.now
+            requires { MayFill job.now.roads.now.roads job.now.batch.now job.now.wanted.now
                 × (length front.now ≤ 128)
-                × All (IsRequest job.now.roads.now job.now.batch.now) front.now
+                × All (IsRequest job.now.roads.now.roads job.now.batch.now) front.now
                 × ((1 ≤ length front_times.now) × (length front_times.now ≤ 128))
                 × (length front_times.now ≤ length front_scratches.now)
-                × All (λ scratch. scratch.nodes ≡ job.now.roads.now.nodes) front_scratches.now
-                × All (HasRoom (length job.now.wanted.now.nodes.items)) front_times.now
+                × All (λ scratch. scratch.nodes ≡ job.now.roads.now.roads.nodes) front_scratches.now
+                × (job.now.roads.now.wanted ≡ job.now.wanted.now.nodes.items)
+                × All (HasRoom (length job.now.wanted.now.nodes.items) job.now.roads.now.places) front_times.now
                 × (length front_cells.now ≡ length front.now * length job.now.batch.now.vehicles) }
-            ensures { AreRowsOf job.entry.now.roads.now job.entry.now.batch.now front.entry.now front_cells.exit.now
+            ensures { AreRowsOf job.entry.now.roads.now.roads job.entry.now.batch.now front.entry.now front_cells.exit.now
                 × (front_scratches.exit.now ≡ front_scratches.entry.now) }
         {
             fill_pieces(
@@ -199,15 +308,16 @@ fn fill_pieces<R: Threads + Sync, G: Gate>(
             )
         },
         &mut ||
-            requires { MayFill job.now.roads.now job.now.batch.now job.now.wanted.now
+            requires { MayFill job.now.roads.now.roads job.now.batch.now job.now.wanted.now
                 × (length back.now ≤ 128)
-                × All (IsRequest job.now.roads.now job.now.batch.now) back.now
+                × All (IsRequest job.now.roads.now.roads job.now.batch.now) back.now
                 × ((1 ≤ length back_times.now) × (length back_times.now ≤ 128))
                 × (length back_times.now ≤ length back_scratches.now)
-                × All (λ scratch. scratch.nodes ≡ job.now.roads.now.nodes) back_scratches.now
-                × All (HasRoom (length job.now.wanted.now.nodes.items)) back_times.now
+                × All (λ scratch. scratch.nodes ≡ job.now.roads.now.roads.nodes) back_scratches.now
+                × (job.now.roads.now.wanted ≡ job.now.wanted.now.nodes.items)
+                × All (HasRoom (length job.now.wanted.now.nodes.items) job.now.roads.now.places) back_times.now
                 × (length back_cells.now ≡ length back.now * length job.now.batch.now.vehicles) }
-            ensures { AreRowsOf job.entry.now.roads.now job.entry.now.batch.now back.entry.now back_cells.exit.now
+            ensures { AreRowsOf job.entry.now.roads.now.roads job.entry.now.batch.now back.entry.now back_cells.exit.now
                 × (back_scratches.exit.now ≡ back_scratches.entry.now) }
         { fill_pieces(rt, job, back, back_scratches, back_times, gate, back_cells) },
     );

@@ -9,7 +9,7 @@ mod times;
 mod wanted;
 mod workers;
 
-pub use batches::{price_batch, price_batch_by};
+pub use batches::{price_batch, price_batch_adapting, price_batch_by};
 pub use pairs::Search;
 pub use seats::{SeatPlaces, offer_of_seat};
 pub use workers::{scratches_of, workers_at_hand};

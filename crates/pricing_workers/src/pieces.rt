@@ -9,11 +9,12 @@ ghost use Rattle.pricing_workers.specs.Rows.{HasRoom};
 use crate::pairs::{Search, price_pair};
 use crate::times::Times;
 use crate::wanted::Wanted;
+use adaptive_roads::BatchRoads;
 use batch_commit::Batch;
 use rayon::prelude::*;
 use ride_model::{Offer, Ride};
 use ride_ports::Gate;
-use road_times::{Roads, Scratch};
+use road_times::Scratch;
 use std::thread::Threads;
 
 /// The place at the gate of a worker that is about to search the rows of a request.
@@ -23,7 +24,7 @@ const BEFORE_ROWS: u32 = 7;
 #[derive(Clone, Copy)]
 pub(crate) struct Job<'a> {
     pub(crate) search: Search,
-    pub(crate) roads: &'a Roads,
+    pub(crate) roads: &'a BatchRoads<'a>,
     pub(crate) batch: &'a Batch,
     pub(crate) wanted: &'a Wanted,
 }
@@ -39,19 +40,20 @@ pub(crate) fn fill_rows<R: Threads + Sync, G: Gate>(
     gate: &G,
     cells: &mut [Option<Offer>],
 )
-    requires ready { MayFill job.now.roads.now job.now.batch.now job.now.wanted.now }
-    requires requests { All (IsRequest job.now.roads.now job.now.batch.now) requests.now }
-    requires scratch { scratch.old.nodes ≡ job.now.roads.now.nodes }
-    requires room { HasRoom (length job.now.wanted.now.nodes.items) times.old }
+    requires ready { MayFill job.now.roads.now.roads job.now.batch.now job.now.wanted.now }
+    requires requests { All (IsRequest job.now.roads.now.roads job.now.batch.now) requests.now }
+    requires scratch { scratch.old.nodes ≡ job.now.roads.now.roads.nodes }
+    requires wanted { job.now.roads.now.wanted ≡ job.now.wanted.now.nodes.items }
+    requires room { HasRoom (length job.now.wanted.now.nodes.items) job.now.roads.now.places times.old }
     requires cells { length cells.old ≡ length requests.now * length job.now.batch.now.vehicles }
-    ensures cells { AreRowsOf job.now.roads.now job.now.batch.now requests.now cells.new }
+    ensures cells { AreRowsOf job.now.roads.now.roads job.now.batch.now requests.now cells.new }
     ensures scratch { scratch.new ≡ scratch.old }
 {
     let columns = job.batch.vehicles().vehicles().len();
     for (row, ride) in requests.iter().enumerate() {
         let begin = row * columns;
         gate.pass(BEFORE_ROWS);
-        times.fill(job.roads, scratch, job.wanted.nodes.as_slice(), ride);
+        times.fill(job.roads, scratch, ride);
         fill_row(rt, job, ride, times, &mut cells[begin..begin + columns]);
     }
 }
@@ -64,9 +66,9 @@ fn fill_row<R: Threads + Sync>(
     times: &Times,
     cells: &mut [Option<Offer>],
 )
-    requires ready { MayPrice job.now.roads.now job.now.batch.now job.now.wanted.now times.now ride.now }
+    requires ready { MayPrice job.now.roads.now.roads job.now.batch.now job.now.wanted.now times.now ride.now }
     requires cells { length cells.old ≡ length job.now.batch.now.vehicles }
-    ensures { IsRowOf job.now.roads.now job.now.batch.now ride.now cells.new }
+    ensures { IsRowOf job.now.roads.now.roads job.now.batch.now ride.now cells.new }
 {
     let (search, batch, wanted) = (job.search, job.batch, job.wanted);
     par_for_each_mut(

@@ -9,6 +9,7 @@ ghost use Rattle.pricing_workers.specs.Wanted.{nodes_of};
 
 use crate::pairs::near;
 use crate::times::Times;
+use adaptive_roads::BatchRoads;
 use batch_commit::Batch;
 use insertion::offer_at;
 use ride_model::{Offer, Vehicle};
@@ -46,8 +47,9 @@ pub fn offer_of_seat(
     let ride = &batch.requests()[seat.request as usize];
     let vehicle = &batch.vehicles().vehicles()[seat.vehicle as usize];
     let nodes = nodes_of(alloc, vehicle)?;
-    let mut times = Times::new(alloc, nodes.len())?;
-    times.fill(roads, scratch, nodes.as_slice(), ride);
+    let rows = BatchRoads::by_searches(roads, nodes.as_slice());
+    let mut times = Times::new(alloc, nodes.len(), 0)?;
+    times.fill(&rows, scratch, ride);
     let near = near(&times, 0, vehicle);
     let (time, settings) = (batch.time(), batch.settings());
     Ok(offer_at(vehicle, ride, seat.i, seat.j, time, settings, &near))

@@ -1,12 +1,13 @@
 //! A request's rows of times.
-ghost use Rattle.std.specs.Prelude.{◌≡◌, ◌≤◌, ◌<◌, length, map, All, IfOk};
+ghost use Rattle.std.specs.Prelude.{◌≡◌, ◌<◌, length, map, IfOk};
 ghost use Rattle.ride_model.specs.Road.{IsRoadMap, IsNode};
 ghost use Rattle.pricing_workers.specs.Rows.{HasRoom, HoldsRows, near_at};
 
+use adaptive_roads::{BatchRoads, RowRoom};
 use insertion::NearStop;
 use ride_model::Ride;
 use ride_ports::NoMemory;
-use road_times::{Roads, Scratch, Side};
+use road_times::{Scratch, Side};
 use std::alloc::Global;
 
 /// The times between a request's two nodes and each wanted node, and from its pickup to its drop-off, absent where there is no
@@ -22,12 +23,13 @@ pub(crate) struct Times {
     /// From the drop-off to each node.
     pub(crate) to_here: Vec<Option<u64>>,
     pub(crate) direct: Option<u64>,
+    pub(crate) room: RowRoom,
 }
 
 impl Times {
-    /// Rows with room for so many nodes.
-    pub(crate) fn new(alloc: Global, nodes: usize) -> Result<Times, NoMemory>
-        ensures { IfOk result (HasRoom nodes) }
+    /// Rows with room for so many nodes, and for sweeps of so many places.
+    pub(crate) fn new(alloc: Global, nodes: usize, places: usize) -> Result<Times, NoMemory>
+        ensures { IfOk result (HasRoom nodes places) }
     {
         Ok(Times {
             to_from: vec![in alloc; None; nodes]?,
@@ -35,38 +37,34 @@ impl Times {
             to_to: vec![in alloc; None; nodes]?,
             to_here: vec![in alloc; None; nodes]?,
             direct: None,
+            room: RowRoom::new(alloc, places)?,
         })
     }
 
-    /// Fills the rows for a request: four searches from its nodes, and a short one between them.
-    pub(crate) fn fill(&mut self, roads: &Roads, scratch: &mut Scratch, wanted: &[u32], ride: &Ride)
-        requires room { HasRoom (length wanted.now) self.old }
-        requires scratch { scratch.old.nodes ≡ roads.now.nodes }
-        requires wanted { All (IsNode roads.now) wanted.now }
-        requires from { IsNode roads.now ride.now.from }
-        requires to { IsNode roads.now ride.now.to }
-        ensures rows { HoldsRows roads.now ride.now wanted.now self.new }
+    /// Fills the rows for a request: four from its nodes, and the time between them.
+    pub(crate) fn fill(&mut self, roads: &BatchRoads, scratch: &mut Scratch, ride: &Ride)
+        requires room { HasRoom (length roads.now.wanted) roads.now.places self.old }
+        requires scratch { scratch.old.nodes ≡ roads.now.roads.nodes }
+        requires from { IsNode roads.now.roads ride.now.from }
+        requires to { IsNode roads.now.roads ride.now.to }
+        ensures rows { HoldsRows roads.now.roads ride.now roads.now.wanted self.new }
+        ensures room { self.new.room ≡ self.old.room }
         ensures scratch { scratch.new ≡ scratch.old }
-        ensures fits { IsRoadMap roads.now }
+        ensures fits { IsRoadMap roads.now.roads }
     {
         let (from, to) = (ride.from, ride.to);
+        let room = &mut self.room;
+        roads.rows(scratch, room, from, Side::Back, self.to_from.as_mut_slice());
         roads.rows(
             scratch,
-            from,
-            Side::Back,
-            wanted,
-            self.to_from.as_mut_slice(),
-        );
-        roads.rows(
-            scratch,
+            room,
             from,
             Side::Out,
-            wanted,
             self.from_here.as_mut_slice(),
         );
-        roads.rows(scratch, to, Side::Back, wanted, self.to_to.as_mut_slice());
-        roads.rows(scratch, to, Side::Out, wanted, self.to_here.as_mut_slice());
-        self.direct = roads.time(scratch, from, to);
+        roads.rows(scratch, room, to, Side::Back, self.to_to.as_mut_slice());
+        roads.rows(scratch, room, to, Side::Out, self.to_here.as_mut_slice());
+        self.direct = roads.time(scratch, room, from, to);
     }
 
     /// The times at the wanted node of this number.

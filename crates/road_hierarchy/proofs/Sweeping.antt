@@ -241,6 +241,17 @@ read-is_travel side roads x nodes times places fits labels inside =
     ∙ sym (ap (travel_by side roads x) (get_or-map (node_at nodes) places k 0 0 low))
     ∙ sym (get_or-map (travel_by side roads x) (map (node_at nodes) places) k 0 d (omega (arith, length-map places (node_at nodes)))))
 
+-- and that of one of them
+pub time-is_travel : (side : Side) (roads : RoadMap) (x : ℕ) (nodes labels places : List ℕ) (k place : ℕ) → IsRoadMap roads
+    → ((p : ℕ) → p < length nodes → node_at labels p ≡ label_for (travel_by side roads x (node_at nodes p)))
+    → All (λ p. p < length nodes) places → k < length places → place ≡ get_or places k 0
+    → time_of never (node_at labels place) ≡ travel_by side roads x (get_or (map (node_at nodes) places) k 0)
+time-is_travel side roads x nodes labels places k place fits are inside low is =
+    ap (λ p. time_of never (node_at labels p)) is
+    ∙ ap (time_of never) (are (get_or places k 0) (inside k 0 low))
+    ∙ time-of_label (travel_by side roads x (node_at nodes (get_or places k 0))) (travel_by-le side roads x (node_at nodes (get_or places k 0)) fits)
+    ∙ sym (ap (travel_by side roads x) (get_or-map (node_at nodes) places k 0 0 low))
+
 -- the labels of climbs, from their times
 pub climb-at_node : (side : Side) (up : RoadMap) (x : ℕ) (nodes : List ℕ) (climbs : List (Option ℕ)) → climbs ≡ map (travel_by side up x) nodes
     → (place : ℕ) → place < length nodes → climb_at climbs place ≡ label_for (travel_by side up x (node_at nodes place))
@@ -269,21 +280,18 @@ swept-same starts more steps others climbs times labels place same_starts same_s
     (subst (λ ts. IsSwept starts ts climbs labels place) same_steps
     (subst (λ ls. IsSwept starts steps climbs ls place) same_times s))
 
--- a row, from the search upward to the reading of the labels
-pub row-is_travel : (side : Side) (roads : RoadMap) (hierarchy : Contracted) (up : RoadMap) (x : ℕ) (nodes starts : List ℕ) (steps : List Step)
-    (climbs : List (Option ℕ)) (times places : List ℕ) → IsRoadMap roads → IsContractionOf roads hierarchy → IsRoadMap up
+-- labels, from the search upward to the end of the sweep
+pub labels-are_travel : (side : Side) (roads : RoadMap) (hierarchy : Contracted) (up : RoadMap) (x : ℕ) (nodes starts : List ℕ) (steps : List Step)
+    (climbs : List (Option ℕ)) (labels : List ℕ) → IsRoadMap roads → IsContractionOf roads hierarchy → IsRoadMap up
     → ((a b : ℕ) → IsLabel never (Reaches (IsRising (IsLinkBy side hierarchy.arcs) (level_in hierarchy.levels)) a b) (label_for (travel_by side up a b)))
     → climbs ≡ map (travel_by side up x) nodes
     → AreStepsOf (IsLinkBy side hierarchy.arcs) (level_in hierarchy.levels) nodes starts steps → ComeEarlier (length nodes) starts steps
-    → ((place : ℕ) → place < length climbs → IsSwept starts steps climbs times place)
-    → All (λ place. place < length nodes) places
-    → map (λ place. time_of never (node_at times place)) places ≡ map (travel_by side roads x) (map (node_at nodes) places)
-row-is_travel side roads hierarchy up x nodes starts steps climbs times places fits is up_fits climb_labels climbs_are are earlier swept inside =
-    read-is_travel side roads x nodes times places fits
-    (swept-is_travel side roads hierarchy x nodes starts steps climbs times fits is are earlier
+    → ((place : ℕ) → place < length climbs → IsSwept starts steps climbs labels place)
+    → (place : ℕ) → place < length nodes → node_at labels place ≡ label_for (travel_by side roads x (node_at nodes place))
+labels-are_travel side roads hierarchy up x nodes starts steps climbs labels fits is up_fits climb_labels climbs_are are earlier swept =
+    swept-is_travel side roads hierarchy x nodes starts steps climbs labels fits is are earlier
     (λ place low.
     subst (IsLabel never (Reaches (IsRising (IsLinkBy side hierarchy.arcs) (level_in hierarchy.levels)) x (node_at nodes place)))
     (sym (climb-at_node side up x nodes climbs climbs_are place low)) (climb_labels x (node_at nodes place)))
     (climbs-low side up x nodes climbs up_fits climbs_are)
-    (λ place low. swept place (omega (arith, ap (λ (cs : List (Option ℕ)). length cs) climbs_are, length-map nodes (travel_by side up x)))))
-    inside
+    (λ place low. swept place (omega (arith, ap (λ (cs : List (Option ℕ)). length cs) climbs_are, length-map nodes (travel_by side up x))))

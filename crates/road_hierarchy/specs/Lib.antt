@@ -5,5 +5,4 @@ pub mod Marks
 pub mod Packed
 pub mod Selection
 pub mod Sweep
-pub mod Rows
-pub mod Served
+pub mod Rooms

@@ -4,11 +4,11 @@
 //! lead down to a wanted node are selected once a batch, in descending order, so that the sweep of each row is one pass over
 //! flat arrays. The nodes that were not contracted, the core, are part of the search upward.
 //!
-//! A hierarchy is packed from a contraction, the wanted nodes of a batch are selected once for either side, and `RoadRows` then
+//! A hierarchy is packed from a contraction, and the wanted nodes of a batch are selected once for either side. `adaptive_roads` then
 //! gives the rows, the same whether they come from sweeps or from searches of the roads.
 #![tactic(auto)]
 
-ghost use Rattle.std.specs.Prelude.{◌≡◌, ℕ, ◌+◌, ◌<◌, ◌≤◌, length, map, filter, IfOk, IfSome, IfNone};
+ghost use Rattle.std.specs.Prelude.{◌≡◌, ℕ, ◌+◌, ◌<◌, ◌≤◌, length, map, filter, slice_index, IfOk, IfSome, IfNone};
 ghost use Rattle.ride_model.specs.declared.network.RoadArc.{RoadArc};
 ghost use Rattle.ride_model.specs.Road.{RoadMap, IsRoadMap};
 ghost use Rattle.road_times.specs.declared.side.Side.TheVariants.{Out, Back};
@@ -21,6 +21,7 @@ ghost use Rattle.contraction.specs.Levels.{level_in};
 ghost use Rattle.road_hierarchy.specs.Links.{IsLinkBy, is_rising};
 ghost use Rattle.road_hierarchy.specs.Sweep.{never, label_for};
 ghost use Rattle.road_hierarchy.specs.Descents.{AreDescents};
+ghost use Rattle.road_hierarchy.specs.Marks.{node_at};
 ghost use Rattle.road_hierarchy.specs.Packed.{IsPackingOf, ExceedsRoads};
 ghost use Rattle.road_hierarchy.specs.Selection.{IsSelectionOf};
 
@@ -33,21 +34,19 @@ use std::marker::Model;
 mod descents;
 mod links;
 mod marks;
-mod rows;
 mod selected;
 mod sweep;
 
 use descents::Descents;
 use links::rising_links;
-pub use rows::RoadRows;
 pub use selected::Selected;
-use sweep::{climb, read, sweep};
+use sweep::{climb, read, sweep, time_at};
 
 /// Want of memory.
 pub type NoMemory = AllocError;
 
 // Memory: an arc or shortcut takes 28 bytes (20 in the roads that a search goes over, 8 among the descents), and a node 40. A
-// scratch takes 68 bytes a node.
+// scratch takes 68 bytes a node, and room for sweeps 24 a selected node.
 
 /// A contraction packed for searches upward and sweeps downward. To contracts it means the same as the contraction.
 ///
@@ -75,23 +74,40 @@ impl Model for Hierarchy {
     ghost invariant = { λ h. IsPacked h.rising h.falling h.levels.items h.order.items h.descents h.ascents };
 }
 
+/// What a sweep writes, so that rows take no memory: the times of the climbs to the places of a selection, and their labels.
+#[derive(Drop)]
+pub struct SweepRoom {
+    climbs: Vec<Option<u64>>,
+    labels: Vec<u64>,
+}
+
+impl Model for SweepRoom {
+    ghost use Rattle.std.specs.Prelude.{◌≡◌, length};
+    ghost use Rattle.road_hierarchy.specs.Rooms.{Places};
+
+    ghost Value = { Places };
+
+    ghost view = { λ room. record { places = length room.climbs.items } };
+
+    ghost invariant = { λ room. length room.labels.items ≡ length room.climbs.items };
+}
+
 /// What rows need besides the roads and their hierarchy, so that they take no memory.
 #[derive(Drop)]
 pub struct Scratch {
     pub(crate) search: road_times::Scratch,
-    climbs: Vec<Option<u64>>,
-    times: Vec<u64>,
+    room: SweepRoom,
 }
 
 impl Model for Scratch {
-    ghost use Rattle.std.specs.Prelude.{◌≡◌, length};
+    ghost use Rattle.std.specs.Prelude.{◌≡◌};
     ghost use Rattle.road_times.specs.Room.{Room};
 
     ghost Value = { Room };
 
     ghost view = { λ scratch. scratch.search };
 
-    ghost invariant = { λ scratch. (length scratch.climbs.items ≡ scratch.search.nodes) × (length scratch.times.items ≡ scratch.search.nodes) };
+    ghost invariant = { λ scratch. scratch.room.places ≡ scratch.search.nodes };
 }
 
 /// The same numbers.
@@ -210,8 +226,87 @@ impl Hierarchy {
         }
     }
 
+    /// Labels the places of a selection with the travel times from x to its nodes, or from them to x: a climb, and then a sweep.
+    fn label(
+        &self,
+        selected: &Selected,
+        search: &mut road_times::Scratch,
+        x: u32,
+        climbs: &mut [Option<u64>],
+        labels: &mut [u64],
+    )
+        requires selected { IsSelectionOf self.now selected.now }
+        requires search { search.old.nodes ≡ self.now.nodes }
+        requires some_node { 1 ≤ x }
+        requires node { x ≤ self.now.nodes }
+        requires climbs { length selected.now.nodes ≤ length climbs.old }
+        requires labels { length selected.now.nodes ≤ length labels.old }
+        ensures labels { (roads : RoadMap) (place : ℕ) → IsRoadMap roads → IsContractionOf roads self.now → place < length selected.now.nodes
+            → node_at labels.new place ≡ label_for (travel_by selected.now.side roads x (node_at selected.now.nodes place)) }
+        ensures search { search.new ≡ search.old }
+    {
+        let count = selected.nodes.len();
+        climb(
+            self.upward(selected.side),
+            search,
+            x,
+            selected.side,
+            &selected.nodes,
+            climbs,
+        );
+        sweep(&selected.starts, &selected.steps, &climbs[..count], labels);
+    }
+
     /// Fills a row with the travel times from x to each of the wanted nodes of a selection, or from each of them to x. Takes no
     /// memory, and time of the nodes that the search upward settles and of the arcs that were selected.
+    pub fn row_in(
+        &self,
+        selected: &Selected,
+        search: &mut road_times::Scratch,
+        room: &mut SweepRoom,
+        x: u32,
+        into: &mut [Option<u64>],
+    )
+        requires selected { IsSelectionOf self.now selected.now }
+        requires search { search.old.nodes ≡ self.now.nodes }
+        requires room { length selected.now.nodes ≤ room.old.places }
+        requires some_node { 1 ≤ x }
+        requires node { x ≤ self.now.nodes }
+        requires places { length selected.now.wanted ≡ length into.old }
+        ensures row { (roads : RoadMap) → IsRoadMap roads → IsContractionOf roads self.now
+            → into.new ≡ map (travel_by selected.now.side roads x) selected.now.wanted }
+        ensures search { search.new ≡ search.old }
+        ensures room { room.new ≡ room.old }
+    {
+        self.label(selected, search, x, &mut room.climbs, &mut room.labels);
+        read(&selected.places, &room.labels, into);
+    }
+
+    /// The travel time from x to the wanted node of this number, or from that node to x. Takes no memory.
+    pub fn time_in(
+        &self,
+        selected: &Selected,
+        search: &mut road_times::Scratch,
+        room: &mut SweepRoom,
+        x: u32,
+        wanted: usize,
+    ) -> Option<u64>
+        requires selected { IsSelectionOf self.now selected.now }
+        requires search { search.old.nodes ≡ self.now.nodes }
+        requires room { length selected.now.nodes ≤ room.old.places }
+        requires some_node { 1 ≤ x }
+        requires node { x ≤ self.now.nodes }
+        requires wanted { wanted < length selected.now.wanted }
+        ensures time { (roads : RoadMap) → IsRoadMap roads → IsContractionOf roads self.now
+            → result ≡ travel_by selected.now.side roads x (slice_index selected.now.wanted wanted) }
+        ensures search { search.new ≡ search.old }
+        ensures room { room.new ≡ room.old }
+    {
+        self.label(selected, search, x, &mut room.climbs, &mut room.labels);
+        time_at(&room.labels, selected.places[wanted])
+    }
+
+    /// The same row with a scratch for the whole map.
     pub fn row(&self, selected: &Selected, scratch: &mut Scratch, x: u32, into: &mut [Option<u64>])
         requires selected { IsSelectionOf self.now selected.now }
         requires scratch { scratch.old.nodes ≡ self.now.nodes }
@@ -222,21 +317,19 @@ impl Hierarchy {
             → into.new ≡ map (travel_by selected.now.side roads x) selected.now.wanted }
         ensures scratch { scratch.new ≡ scratch.old }
     {
-        climb(
-            self.upward(selected.side),
-            &mut scratch.search,
-            x,
-            selected.side,
-            &selected.nodes,
-            &mut scratch.climbs,
-        );
-        sweep(
-            &selected.starts,
-            &selected.steps,
-            &scratch.climbs[..selected.nodes.len()],
-            &mut scratch.times,
-        );
-        read(&selected.places, &scratch.times, into);
+        self.row_in(selected, &mut scratch.search, &mut scratch.room, x, into);
+    }
+}
+
+impl SweepRoom {
+    /// Room for sweeps over selections of so many nodes.
+    pub fn new(alloc: Global, places: usize) -> Result<SweepRoom, NoMemory>
+        ensures { IfOk result (λ room. room.places ≡ places) }
+    {
+        Ok(SweepRoom {
+            climbs: vec![in alloc; None; places]?,
+            labels: vec![in alloc; 0; places]?,
+        })
     }
 }
 
@@ -248,8 +341,7 @@ impl Scratch {
         let nodes = roads.nodes() as usize;
         Ok(Scratch {
             search: road_times::Scratch::new(alloc, roads)?,
-            climbs: vec![in alloc; None; nodes]?,
-            times: vec![in alloc; 0; nodes]?,
+            room: SweepRoom::new(alloc, nodes)?,
         })
     }
 }

@@ -182,6 +182,13 @@ fn places_of(alloc: Global, wanted: &[u32], places: &[u32]) -> Result<Vec<u32>, 
 }
 
 impl Selected {
+    /// How many nodes were selected.
+    pub fn count(&self) -> usize
+        ensures { result ≡ length self.now.nodes }
+    {
+        self.nodes.len()
+    }
+
     /// Selects what rows to the wanted nodes need, or rows from them. A node may be wanted more than once.
     pub fn of(
         alloc: Global,

@@ -63,14 +63,23 @@ pub(crate) fn sweep(starts: &[usize], steps: &[Step], climbs: &[Option<u64>], ti
     }
 }
 
+/// The travel time that the label of a place stands for.
+#[inline]
+pub(crate) fn time_at(labels: &[u64], place: u32) -> Option<u64>
+    requires { place < length labels.now }
+    ensures { result ≡ time_of never (node_at labels.now place) }
+{
+    let label = labels[place as usize];
+    if label < NEVER { Some(label) } else { None }
+}
+
 /// Reads the travel times of the wanted nodes from the labels of their places.
-pub(crate) fn read(places: &[u32], times: &[u64], into: &mut [Option<u64>])
+pub(crate) fn read(places: &[u32], labels: &[u64], into: &mut [Option<u64>])
     requires sized { length places.now ≡ length into.old }
-    requires inside { All (λ place. place < length times.now) places.now }
-    ensures { into.new ≡ map (λ place. time_of never (node_at times.now place)) places.now }
+    requires inside { All (λ place. place < length labels.now) places.now }
+    ensures { into.new ≡ map (λ place. time_of never (node_at labels.now place)) places.now }
 {
     for (wanted, place) in places.iter().enumerate() {
-        let label = times[*place as usize];
-        into[wanted] = if label < NEVER { Some(label) } else { None };
+        into[wanted] = time_at(labels, *place);
     }
 }

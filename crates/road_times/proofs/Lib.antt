@@ -3,3 +3,4 @@ pub mod Lists
 pub mod Relaxing
 pub mod Places
 pub mod Turning
+pub mod Unpacking

@@ -1,7 +1,7 @@
 //! Least travel times over a road network.
 #![tactic(auto)]
 
-ghost use Rattle.std.specs.Prelude.{◌≡◌, ◌≤◌, length, map, All, IfOk};
+ghost use Rattle.std.specs.Prelude.{◌≡◌, ◌+◌, ◌≤◌, length, map, All, IfOk};
 ghost use Rattle.ride_model.specs.Road.{IsRoadMap, IsNode, travel};
 ghost use Rattle.road_times.specs.Turned.{travel_by};
 
@@ -94,6 +94,19 @@ impl Roads {
         self.nodes
     }
 
+    /// The network that the roads were made from, its arcs in their order.
+    pub fn network(&self, alloc: Global) -> Result<Network, NoMemory>
+        ensures { IfOk result (λ network. network ≡ self.now) }
+    {
+        let arcs = sorting::unpack(
+            alloc,
+            self.tails.as_slice(),
+            self.forward.starts.as_slice(),
+            self.forward.neighbors.as_slice(),
+        )?;
+        Ok(Network::new(self.nodes, arcs))
+    }
+
     /// The travel time from x to y in seconds, None where there is no walk. Takes no memory.
     pub fn time(&self, scratch: &mut Scratch, x: u32, y: u32) -> Option<u64>
         requires scratch { scratch.old.nodes ≡ self.now.nodes }
@@ -137,6 +150,13 @@ impl Roads {
 }
 
 impl Scratch {
+    /// How many nodes the last search settled: what it cost.
+    pub fn settled(&self) -> usize
+        ensures { result ≤ self.now.nodes + 1 }
+    {
+        self.search.count
+    }
+
     /// A scratch for searches over these roads.
     pub fn new(alloc: Global, roads: &Roads) -> Result<Scratch, NoMemory>
         ensures { IfOk result (λ scratch. scratch.nodes ≡ roads.now.nodes) }

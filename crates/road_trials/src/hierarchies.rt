@@ -196,49 +196,29 @@ fn drawn(alloc: Global, seed: u32) -> Result<Network, NoMemory>
     Ok(Network::new(15, list))
 }
 
-// Compares rows by searches with rows by sweeps.
+// Compares rows by searches with rows by sweeps, to four nodes of which one is wanted twice.
 fn expect_same(
     rt: &impl Abort,
     alloc: Global,
     roads: &Roads,
-    searches: &RoadRows,
-    sweeps: &RoadRows,
+    hierarchy: &Hierarchy,
     side: Side,
 ) -> Result<(), NoMemory>
-    requires searches { searches.now.roads ≡ roads.now }
-    requires sweeps { sweeps.now.roads ≡ roads.now }
-    requires some { length searches.now.wanted ≡ 4 }
-    requires same { length sweeps.now.wanted ≡ 4 }
-{
-    let mut scratch = Scratch::new(alloc, roads)?;
-    for place in 0..roads.nodes() {
-        let mut wanted = [None; 4];
-        searches.rows(&mut scratch, place + 1, side, &mut wanted);
-        let mut row = [None; 4];
-        sweeps.rows(&mut scratch, place + 1, side, &mut row);
-        assert_eq!(rt; row, wanted, "from place {place}");
-    }
-    Ok(())
-}
-
-// Compares the rows of four wanted nodes, one of which is wanted twice.
-fn expect_alike(
-    rt: &impl Abort,
-    alloc: Global,
-    roads: &Roads,
-    hierarchy: &Hierarchy,
-) -> Result<(), NoMemory>
-    requires hierarchy { IsContractionOf roads.now hierarchy.now }
     requires nodes { hierarchy.now.nodes ≡ roads.now.nodes }
     requires some { 15 ≤ roads.now.nodes }
 {
     let wanted = [3, 14, 3, 9];
-    let out = Selected::of(alloc, hierarchy, Side::Out, &wanted)?;
-    let back = Selected::of(alloc, hierarchy, Side::Back, &wanted)?;
-    let searches = RoadRows::by_searches(roads, &wanted);
-    let sweeps = RoadRows::by_sweeps(roads, &wanted, hierarchy, &out, &back);
-    expect_same(rt, alloc, roads, &searches, &sweeps, Side::Out)?;
-    expect_same(rt, alloc, roads, &searches, &sweeps, Side::Back)
+    let selected = Selected::of(alloc, hierarchy, side, &wanted)?;
+    let mut scratch = Scratch::new(alloc, roads)?;
+    let mut search = road_times::Scratch::new(alloc, roads)?;
+    for place in 0..roads.nodes() {
+        let mut times = [None; 4];
+        roads.rows(&mut search, place + 1, side, &wanted, &mut times);
+        let mut row = [None; 4];
+        hierarchy.row(&selected, &mut scratch, place + 1, &mut row);
+        assert_eq!(rt; row, times, "from place {place}");
+    }
+    Ok(())
 }
 
 fn expect_drawn(rt: &impl Abort, alloc: Global, seed: u32, fuel: u64) -> Result<(), NoMemory> {
@@ -247,7 +227,8 @@ fn expect_drawn(rt: &impl Abort, alloc: Global, seed: u32, fuel: u64) -> Result<
     let Some(hierarchy) = contracted(alloc, &map, &roads, fuel)? else {
         panic!(rt; "too many links");
     };
-    expect_alike(rt, alloc, &roads, &hierarchy)
+    expect_same(rt, alloc, &roads, &hierarchy, Side::Out)?;
+    expect_same(rt, alloc, &roads, &hierarchy, Side::Back)
 }
 
 #[test]

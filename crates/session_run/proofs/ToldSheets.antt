@@ -1,12 +1,12 @@
 -- What was told of a session that goes on.
-use Rattle.std.proofs.Common.{◌≡◌, ℕ, Bool, true, false, cond, List, [], ◌∷◌, ◌++◌, Option, Some, None, length, take, refl, sym, ap, subst, ◌∙◌, append_assoc, append-nil}
+use Rattle.std.proofs.Common.{◌≡◌, ℕ, Bool, true, false, cond, List, [], ◌∷◌, ◌++◌, Option, Some, None, refl, sym, ap, subst, ◌∙◌, append_assoc, append-nil}
 use Rattle.std.specs.Prelude.{◌||◌, not}
 use Rattle.std.proofs.lemmas.List.Concat.{flat_map-append}
 use Rattle.ride_model.specs.declared.entry.Ending.{Ending}
 use Rattle.ride_model.specs.declared.entry.Entry.{Entry}
 use Rattle.ride_model.specs.Text.{text_of}
 use Rattle.ride_model.specs.declared.command.Actor.TheVariants.{Feed, Desk}
-use Rattle.board_core.specs.Recorded.{Recorded, end_entry}
+use Rattle.board_core.specs.Recorded.{end_entry}
 use Rattle.idle_moves.specs.declared.moves.MoveSheet.{MoveSheet}
 use Rattle.idle_moves.specs.AheadText.{ahead_text, head_line, last_line, sheet_line, sheet_lines}
 use Rattle.idle_moves.specs.HistorySheets.{AreSheetsOf}
@@ -14,10 +14,9 @@ use Rattle.session_run.specs.declared.batches.Answered.{Answered}
 use Rattle.session_run.specs.Ahead.{sheets_text}
 use Rattle.session_run.specs.Page.{HasLogged, LogState, SessionState}
 use Rattle.session_run.specs.Planning.{is_whole, sheets_in}
-use Rattle.session_run.specs.Reading.{HasToldBy, HasToldAllBy, IsTold, TellsSheets}
+use Rattle.session_run.specs.Reading.{HasToldAllBy, TellsSheets}
 use Rattle.session_run.specs.Running.{GoesOn, IsPrompt}
 use Rattle.session_run.specs.Telling.{GoesOnTo, GoesOnWith}
-use Rattle.session_run.proofs.Answering.{told-before}
 use Rattle.session_run.proofs.CommitSheets.{adds-ends}
 use Rattle.session_run.proofs.Ends.{ends-prompt}
 

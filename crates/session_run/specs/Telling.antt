@@ -1,5 +1,5 @@
 -- What a session's board goes on to while nothing more of it is written.
-use Rattle.std.specs.Prelude.{◌≡◌, ℕ, ◌++◌, true, List, [], ◌∷◌, length, Option, Some}
+use Rattle.std.specs.Prelude.{◌≡◌, ℕ, ◌++◌, true, [], ◌∷◌, length, Option, Some}
 use Rattle.ride_model.specs.declared.command.Actor.TheVariants.{Desk, Feed}
 use Rattle.ride_model.specs.declared.entry.Ending.{Ending}
 use Rattle.board_core.specs.Recorded.{Recorded, end_entry}

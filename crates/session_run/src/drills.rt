@@ -69,24 +69,31 @@ fn line_of<R: Threads + Sync>(rt: &R, alloc: Global, plan: &CityPlan) -> Result<
         commands,
     } = make_city(alloc, plan)?;
     let roads = Roads::new(alloc, &network)?;
-    let mut tools = DeskTools::new(alloc, &roads, workers_at_hand(rt))?;
     let mut board = Board::new(alloc, &roads, settings, fleet, 2, 1)?;
-    run(rt, &mut board, &mut tools, commands.items(), plan.vehicles)?;
+    run(
+        rt,
+        alloc,
+        &roads,
+        &mut board,
+        commands.items(),
+        plan.vehicles,
+    )?;
     summary_of(alloc, plan, network.arcs().len() as u64, &board)
 }
 
 // Goes through all steps of a drill.
 fn run<R: Threads + Sync>(
     rt: &R,
+    alloc: Global,
+    roads: &Roads,
     board: &mut Board<'_>,
-    tools: &mut DeskTools<'_>,
     commands: &[Command],
     vehicles: u32,
 ) -> Result<(), NoMemory>
     requires fresh { board.old.history ≡ [] }
     requires feeds { board.old.feeds ≡ 2 }
     requires desks { board.old.desks ≡ 1 }
-    requires roads { tools.old ≡ board.old.start.roads }
+    requires roads { roads.now ≡ board.old.start.roads }
     requires vehicles { length board.old.start.vehicles ≡ vehicles }
     requires few { length commands.now < 1000000000 }
     requires spelled { All (IsSpelledCommand board.old.start.settings.log) commands.now }
@@ -95,7 +102,8 @@ fn run<R: Threads + Sync>(
 {
     // This call tells how boards start.
     let _history = board.entries();
-    run_commands(board, tools, rt, commands, vehicles)?;
+    let mut tools = DeskTools::new(alloc, roads, workers_at_hand(rt))?;
+    run_commands(board, &mut tools, rt, commands, vehicles)?;
     end_all(board);
     Ok(())
 }

@@ -6,10 +6,11 @@ ghost use Rattle.batch_commit.specs.Table.{HasSmallCosts, IsTableOf};
 ghost use Rattle.batch_commit.specs.Answer.{CertifiesOverCells, undecided};
 ghost use Rattle.idle_moves.specs.Sheet.{IsSheet};
 
+use adaptive_roads::AdaptiveRoads;
 use batch_commit::{Answer, Batch, PriceTable, Solved};
 use hungarian::solve;
 use idle_moves::{MoveSheet, plan_moves};
-use pricing_workers::{price_batch, scratches_of};
+use pricing_workers::{Search, price_batch_adapting, scratches_of};
 use ride_model::NoMemory;
 use ride_ports::{Gate, OpenGate};
 use road_times::{Roads, Scratch};
@@ -17,11 +18,12 @@ use std::alloc::Global;
 use std::marker::Model;
 use std::thread::Threads;
 
-/// What a desk prices and seats its batches with: the roads, and a scratch for each of its workers.
+/// What a desk prices and seats its batches with: the roads, which adapt to how much is asked of them, and a scratch for each of
+/// its workers.
 #[derive(Drop)]
 pub struct DeskTools<'a> {
     alloc: Global,
-    roads: &'a Roads,
+    roads: AdaptiveRoads<'a>,
     scratches: Vec<Scratch>,
 }
 
@@ -31,9 +33,9 @@ impl<'a> Model for DeskTools<'a> {
 
     ghost Value = { RoadMap };
 
-    ghost view = { λ t. t.roads.now };
+    ghost view = { λ t. t.roads };
 
-    ghost invariant = { λ t. (1 ≤ length t.scratches.items) × All (λ scratch. scratch.nodes ≡ t.roads.now.nodes) t.scratches.items };
+    ghost invariant = { λ t. (1 ≤ length t.scratches.items) × All (λ scratch. scratch.nodes ≡ t.roads.nodes) t.scratches.items };
 }
 
 impl<'a> DeskTools<'a> {
@@ -45,7 +47,7 @@ impl<'a> DeskTools<'a> {
         let scratches = scratches_of(alloc, roads, workers)?;
         Ok(DeskTools {
             alloc,
-            roads,
+            roads: AdaptiveRoads::new(roads),
             scratches,
         })
     }
@@ -61,7 +63,8 @@ impl<'a> DeskTools<'a> {
         ensures kept { self.new ≡ self.old }
     {
         let scratches = self.scratches.as_mut_slice();
-        solved(rt, self.alloc, batch, self.roads, scratches, &OpenGate)
+        let roads = &mut self.roads;
+        solved(rt, self.alloc, batch, roads, scratches, &OpenGate)
     }
 
     /// The orders that send idle vehicles ahead after a solved batch, each within a reach of seconds.
@@ -77,7 +80,7 @@ impl<'a> DeskTools<'a> {
             solved.batch(),
             solved.answer(),
             reach,
-            self.roads,
+            self.roads.roads(),
             &mut self.scratches[0],
         )
     }
@@ -88,18 +91,19 @@ pub(crate) fn solved<R: Threads + Sync, G: Gate>(
     rt: &R,
     alloc: Global,
     batch: Batch,
-    roads: &Roads,
+    roads: &mut AdaptiveRoads<'_>,
     scratches: &mut [Scratch],
     gate: &G,
 ) -> Result<Solved, Batch>
     requires some_scratch { 1 ≤ length scratches.old }
-    requires scratches { All (λ scratch. scratch.nodes ≡ roads.now.nodes) scratches.old }
+    requires scratches { All (λ scratch. scratch.nodes ≡ roads.old.nodes) scratches.old }
     requires time { batch.time ≤ 1000000000 }
-    requires over_map { IsBatchOver roads.now batch }
-    requires lawful { All (IsLawful roads.now) batch.vehicles }
+    requires over_map { IsBatchOver roads.old batch }
+    requires lawful { All (IsLawful roads.old) batch.vehicles }
     ensures batch { IfOk result (λ solved. solved.batch ≡ batch) }
-    ensures table { IfOk result (λ solved. IsTableOf roads.now batch solved.table) }
+    ensures table { IfOk result (λ solved. IsTableOf roads.old batch solved.table) }
     ensures same_batch { IfErr result (λ same. same ≡ batch) }
+    ensures roads { roads.new ≡ roads.old }
     ensures scratches { scratches.new ≡ scratches.old }
 {
     match seated(rt, alloc, &batch, roads, scratches, gate) {
@@ -113,18 +117,19 @@ fn seated<R: Threads + Sync, G: Gate>(
     rt: &R,
     alloc: Global,
     batch: &Batch,
-    roads: &Roads,
+    roads: &mut AdaptiveRoads<'_>,
     scratches: &mut [Scratch],
     gate: &G,
 ) -> Result<(PriceTable, Answer), NoMemory>
     requires some_scratch { 1 ≤ length scratches.old }
-    requires scratches { All (λ scratch. scratch.nodes ≡ roads.now.nodes) scratches.old }
+    requires scratches { All (λ scratch. scratch.nodes ≡ roads.old.nodes) scratches.old }
     requires time { batch.now.time ≤ 1000000000 }
-    requires over_map { IsBatchOver roads.now batch.now }
-    requires lawful { All (IsLawful roads.now) batch.now.vehicles }
-    ensures table { IfOk result (λ pair. IsTableOf roads.now batch.now pair.0) }
+    requires over_map { IsBatchOver roads.old batch.now }
+    requires lawful { All (IsLawful roads.old) batch.now.vehicles }
+    ensures table { IfOk result (λ pair. IsTableOf roads.old batch.now pair.0) }
     ensures certified { IfOk result (λ pair. CertifiesOverCells batch.now pair.0 pair.1.seating pair.1.prices pair.1.pays) }
     ensures undecided { IfOk result (λ pair. pair.1.outcomes ≡ undecided pair.1.prices) }
+    ensures roads { roads.new ≡ roads.old }
     ensures scratches { scratches.new ≡ scratches.old }
 {
     let table = priced(rt, alloc, batch, roads, scratches, gate)?;
@@ -137,20 +142,22 @@ fn priced<R: Threads + Sync, G: Gate>(
     rt: &R,
     alloc: Global,
     batch: &Batch,
-    roads: &Roads,
+    roads: &mut AdaptiveRoads<'_>,
     scratches: &mut [Scratch],
     gate: &G,
 ) -> Result<PriceTable, NoMemory>
     requires some_scratch { 1 ≤ length scratches.old }
-    requires scratches { All (λ scratch. scratch.nodes ≡ roads.now.nodes) scratches.old }
+    requires scratches { All (λ scratch. scratch.nodes ≡ roads.old.nodes) scratches.old }
     requires time { batch.now.time ≤ 1000000000 }
-    requires over_map { IsBatchOver roads.now batch.now }
-    requires lawful { All (IsLawful roads.now) batch.now.vehicles }
-    ensures table { IfOk result (λ table. IsTableOf roads.now batch.now table) }
+    requires over_map { IsBatchOver roads.old batch.now }
+    requires lawful { All (IsLawful roads.old) batch.now.vehicles }
+    ensures table { IfOk result (λ table. IsTableOf roads.old batch.now table) }
     ensures small { IfOk result HasSmallCosts }
+    ensures roads { roads.new ≡ roads.old }
     ensures scratches { scratches.new ≡ scratches.old }
 {
     // This call tells that the map is within its limits.
-    let _nodes = roads.nodes();
-    price_batch(rt, alloc, batch, roads, scratches, gate)
+    let _nodes = roads.roads().nodes();
+    let search = Search::BySlack;
+    price_batch_adapting(rt, alloc, search, batch, roads, scratches, gate)
 }

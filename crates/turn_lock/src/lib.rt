@@ -13,8 +13,6 @@ mod chronicle;
 mod lock;
 mod plays;
 mod rule;
-#[cfg(test)]
-mod tests;
 
 pub use chronicle::Chronicle;
 pub use lock::{NoMemory, Pass, TurnLock};

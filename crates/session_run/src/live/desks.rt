@@ -12,6 +12,7 @@ ghost use Rattle.session_run.specs.Loops.{RunsDesk};
 ghost use Rattle.session_run.specs.Making.{ClosesBatch, HasRunBatches};
 
 use crate::tools::solved;
+use adaptive_roads::AdaptiveRoads;
 use batch_commit::Batch;
 use board_core::Opening;
 use fleet_board::{ActorPass, SharedBoard};
@@ -46,7 +47,8 @@ pub fn desk_loop<'r, R: Threads + Wait + Sync, G: Gate>(
     ensures length { result.too_long ≡ false }
     ensures scratches { scratches.new ≡ scratches.old }
 {
-    let run = run_batches(rt, alloc, board, pass, roads, scratches, gate);
+    let mut roads = AdaptiveRoads::new(roads);
+    let run = run_batches(rt, alloc, board, pass, &mut roads, scratches, gate);
     board.end(rt, pass, run.ending);
     Ran {
         sink_failed: false,
@@ -69,14 +71,14 @@ fn run_batches<'r, R: Threads + Wait + Sync, G: Gate>(
     alloc: Global,
     board: &SharedBoard<'r>,
     pass: &mut ActorPass<'r>,
-    roads: &Roads,
+    roads: &mut AdaptiveRoads<'_>,
     scratches: &mut [Scratch],
     gate: &G,
 ) -> DeskRun
     requires desk { MayOpen board.now pass.old }
-    requires roads { (root_of (knowledge pass.old)).start.roads ≡ roads.now }
+    requires roads { (root_of (knowledge pass.old)).start.roads ≡ roads.old }
     requires some_scratch { 1 ≤ length scratches.old }
-    requires scratches { All (λ scratch. scratch.nodes ≡ roads.now.nodes) scratches.old }
+    requires scratches { All (λ scratch. scratch.nodes ≡ roads.old.nodes) scratches.old }
     ensures desk { MayOpen board.now pass.new }
     ensures may_end { IsLegalEvent (root_of (knowledge pass.new)).feeds (root_of (knowledge pass.new)).desks
         (seen_state (knowledge pass.new)) (actor_of (knowledge pass.new).number) (Finish result.ending) }
@@ -115,17 +117,18 @@ fn close_batch<'r, R: Threads + Wait + Sync, G: Gate>(
     board: &SharedBoard<'r>,
     pass: &mut ActorPass<'r>,
     batch: Batch,
-    roads: &Roads,
+    roads: &mut AdaptiveRoads<'_>,
     scratches: &mut [Scratch],
     gate: &G,
 ) -> bool
     requires open_now { MayCommit board.now pass.old batch }
-    requires priceable { IsPriceable roads.now batch }
-    requires roads { (root_of (knowledge pass.old)).start.roads ≡ roads.now }
+    requires priceable { IsPriceable roads.old batch }
+    requires roads { (root_of (knowledge pass.old)).start.roads ≡ roads.old }
     requires some_scratch { 1 ≤ length scratches.old }
-    requires scratches { All (λ scratch. scratch.nodes ≡ roads.now.nodes) scratches.old }
+    requires scratches { All (λ scratch. scratch.nodes ≡ roads.old.nodes) scratches.old }
     ensures desk { MayOpen board.now pass.new }
     ensures closed { ClosesBatch result batch (knowledge pass.old) (knowledge pass.new) }
+    ensures roads { roads.new ≡ roads.old }
     ensures scratches { scratches.new ≡ scratches.old }
 {
     gate.pass(1);

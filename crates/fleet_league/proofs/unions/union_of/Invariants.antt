@@ -1,4 +1,3 @@
-use Rattle.std.proofs.Common.{◌≡◌, ℕ, length}
 use Rattle.fleet_league.specs.Round.{company_prices}
 use Rattle.fleet_league.proofs.UnionFilling.{IsUnionSoFar}
 use Rattle.fleet_league.proofs.unions.union_of.Given as goal

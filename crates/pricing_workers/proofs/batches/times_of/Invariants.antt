@@ -5,4 +5,4 @@ use Rattle.pricing_workers.proofs.batches.times_of.Given as goal
 
 -- as many as were counted, each with room
 abbrev pub invariant-loop : goal.invariant-loop
-invariant-loop l = All (HasRoom l.nodes) l.times.items × (length l.times.items ≡ l.counter)
+invariant-loop l = All (HasRoom l.nodes l.places) l.times.items × (length l.times.items ≡ l.counter)

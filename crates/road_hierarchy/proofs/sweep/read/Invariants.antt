@@ -6,4 +6,4 @@ use Rattle.road_hierarchy.specs.Sweep.{never}
 use Rattle.road_hierarchy.proofs.sweep.read.Given as goal
 
 abbrev pub invariant-loop-wanted : goal.invariant-loop-wanted
-invariant-loop-wanted l = take l.wanted l.into ≡ map (λ place. time_of never (node_at l.times place)) (take l.wanted l.places)
+invariant-loop-wanted l = take l.wanted l.into ≡ map (λ place. time_of never (node_at l.labels place)) (take l.wanted l.places)

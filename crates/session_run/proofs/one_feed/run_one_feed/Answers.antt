@@ -1,17 +1,16 @@
-use Rattle.std.proofs.Common.{◌≡◌, ℕ, List, [], ◌∷◌, ◌++◌, Option, Bool, cond, eqb, inr, refl, ap, sym, subst, ◌∙◌, arith}
+use Rattle.std.proofs.Common.{◌≡◌, ℕ, List, [], ◌∷◌, ◌++◌, Option, Bool, cond, eqb, refl, ap, sym, subst, ◌∙◌, arith}
 use Rattle.ride_model.specs.declared.command.Actor.TheVariants.{Feed, Desk}
 use Rattle.ride_model.specs.declared.entry.Ending.{Ending}
 use Rattle.ride_model.specs.declared.entry.Ending.TheVariants.{Whole, Cut}
 use Rattle.ride_model.specs.declared.entry.Entry.{Entry}
 use Rattle.ride_model.specs.History.{entries_of, fed_commands}
 use Rattle.ride_model.specs.State.{State, start_state}
-use Rattle.ride_model.specs.Text.{text_of}
 use Rattle.ride_ports.specs.declared.outcome.Ran.{Ran}
 use Rattle.history_laws.specs.Start.{IsStart}
 use Rattle.board_core.specs.Recorded.{Recorded, state_of, end_entry}
 use Rattle.session_run.specs.declared.stops.Stop.{Stop}
 use Rattle.command_lines.specs.Feeds.{HasGiven}
-use Rattle.session_run.specs.Page.{SessionState, HasLogged}
+use Rattle.session_run.specs.Page.{SessionState}
 use Rattle.session_run.specs.Reading.{AreFirstOf, HasEnded, ending_of}
 use Rattle.ride_ports.proofs.ByteLemmas.{Reads-none}
 use Rattle.session_run.proofs.Replays.{is-start, is-replay, no-replay}

@@ -1,6 +1,6 @@
 use Rattle.std.proofs.Common.{◌≡◌, ◌≤◌, sym, ap, subst, ◌∙◌}
 use Rattle.std.specs.Prelude.{All}
-use Rattle.ride_model.specs.Road.{RoadMap}
+use Rattle.ride_model.specs.Road.{RoadMap, IsRoadMap}
 use Rattle.ride_model.specs.Seating.{BatchCopy, IsBatchOver}
 use Rattle.ride_model.specs.Vehicle.{IsLawful}
 use Rattle.board_core.specs.Recorded.{Recorded, state_of}
@@ -8,7 +8,11 @@ use Rattle.fleet_league.specs.Companies.{CompanyState}
 use Rattle.fleet_league.specs.Prices.{prices_by, prices_of, IsNewRide}
 use Rattle.fleet_league.specs.Quoting.{quoting_batch}
 use Rattle.fleet_league.proofs.Batched.{MayPrice, may-price}
-use Rattle.fleet_league.proofs.Legality.{IsLegalBoard, board-roads}
+use Rattle.batch_commit.specs.Table.{IsTableOf}
+use Rattle.dual_check.specs.Cells.{GridCells}
+use Rattle.fleet_league.specs.Round.{IsPriced}
+use Rattle.fleet_league.proofs.Legality.{IsLegalBoard, board-fleet, board-roads}
+use Rattle.fleet_league.proofs.PricedQuotes.{batch-priced}
 use Rattle.fleet_league.proofs.company.Company.quote.Goals as goal
 
 pub price_batch-requires-clause-time : goal.price_batch-requires-clause-time
@@ -57,3 +61,21 @@ returns-clause-prices g c =
     ∙ ap (λ (b : BatchCopy). prices_by c.self.inside.roads.now b.settings b.time b.vehicles b.requests) batch
     ∙ ap (λ (m : RoadMap). prices_by m (state_of board).settings (state_of board).clock (state_of board).vehicles c.args.rides.now) roads
     ∙ ap (λ (s : CompanyState). prices_of (state_of s.board) c.args.rides.now) c.self.view_is
+
+pub returns-clause-priced : goal.returns-clause-priced
+returns-clause-priced g c =
+    let board : Recorded = c.self.inside.board in
+    let legal : IsLegalBoard board = record { begins = c.entries-history.ensures.start; legal = c.entries-history.ensures.legal } in
+    let may : MayPrice board.start.roads (state_of board) c.args.rides.now
+    = may-price board c.args.rides.now legal c.requires.few
+    (subst (λ (s : CompanyState). All (IsNewRide (state_of s.board)) c.args.rides.now) (sym c.self.view_is) c.requires.rides) in
+    let batch : c.in_ok-batch.batch ≡ quoting_batch (state_of board) c.args.rides.now
+    = c.in_ok-batch.ensures ∙ ap (λ (s : CompanyState). quoting_batch (state_of s.board) c.args.rides.now) (sym c.self.view_is) in
+    let roads_are = c.self.invariant.roads_are in
+    let over = subst (λ (m : RoadMap). IsBatchOver m (quoting_batch (state_of board) c.args.rides.now)) roads_are may.over_map in
+    let table = subst (λ (b : BatchCopy). IsTableOf c.self.inside.roads.now b c.in_ok-table.table) batch c.in_ok-table.ensures.table in
+    let priced = batch-priced c.self.inside.roads.now (quoting_batch (state_of board) c.args.rides.now) c.in_ok-table.table
+    (subst IsRoadMap roads_are legal.begins.map_fits) over table (board-fleet board legal) in
+    subst (λ (prices : GridCells). IsPriced prices)
+    (sym (c.in_ok-prices.ensures c.self.inside.roads.now c.in_ok-table.ensures.table
+    ∙ ap (λ (b : BatchCopy). prices_by c.self.inside.roads.now b.settings b.time b.vehicles b.requests) batch)) priced

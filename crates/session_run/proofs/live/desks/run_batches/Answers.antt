@@ -1,14 +1,28 @@
-use Rattle.std.proofs.Common.{◌≡◌, ◌≤◌, List, length, ap, sym, subst, ◌∙◌}
+use Rattle.std.proofs.Common.{◌≡◌, ◌≤◌, List, length, ap, refl, sym, subst, ◌∙◌}
 use Rattle.std.specs.Prelude.{All}
+use Rattle.ride_model.specs.Road.{RoadMap}
 use Rattle.road_times.specs.Room.{Room}
 use Rattle.board_core.specs.Recorded.{Recorded}
 use Rattle.turn_lock.specs.Passes.{knowledge}
 use Rattle.fleet_board.specs.Openings.{OpensBatch}
 use Rattle.fleet_board.specs.Passes.{Known}
 use Rattle.fleet_board.proofs.MayEnd.{desk-may_end}
-use Rattle.session_run.proofs.BatchRuns.{batch-then, batches-same, batches-wanting}
+use Rattle.session_run.proofs.BatchRuns.{batches-none, batch-then, batches-same, batches-wanting}
 use Rattle.session_run.proofs.MadeEntries.{root-added}
 use Rattle.session_run.proofs.live.desks.run_batches.Goals as goal
+
+-- none was opened yet
+pub batches-init : goal.batches-init
+batches-init g c = record {
+  goes = tt;
+  finite = tt;
+  desk = c.requires.desk;
+  roads = c.requires.roads;
+  kept = refl;
+  some_scratch = c.requires.some_scratch;
+  scratches = c.requires.scratches;
+  ran = batches-none (knowledge c.args.pass.now);
+}
 
 -- one batch more was closed
 pub batches-preserved-in-Ok-Batch : goal.batches-preserved-in-Ok-Batch
@@ -23,11 +37,13 @@ batches-preserved-in-Ok-Batch g c =
       finite = tt;
       desk = c.close_batch.ensures.desk;
       roads = ap (λ (r : Recorded). r.start.roads) (root-added opened after closes.entry closes.adds ∙ root-added before opened _ opens.entry)
-          ∙ c.batches.invariant.roads;
+          ∙ c.batches.invariant.roads ∙ sym c.close_batch.ensures.roads;
       kept = c.close_batch.ensures.scratches ∙ c.batches.invariant.kept;
       some_scratch = subst (λ (s : List Room). 1 ≤ length s) (sym c.close_batch.ensures.scratches) c.batches.invariant.some_scratch;
-      scratches = subst (λ (s : List Room). All (λ (scratch : Room). scratch.nodes ≡ c.args.roads.now.nodes) s)
-          (sym c.close_batch.ensures.scratches) c.batches.invariant.scratches;
+      scratches = subst (λ (roads : RoadMap). All (λ (scratch : Room). scratch.nodes ≡ roads.nodes) c.close_batch.new.scratches)
+          (sym c.close_batch.ensures.roads)
+          (subst (λ (s : List Room). All (λ (scratch : Room). scratch.nodes ≡ c.batches.roads.nodes) s)
+          (sym c.close_batch.ensures.scratches) c.batches.invariant.scratches);
       ran = batch-then c.batches.no_memory c.close_batch.result (knowledge c.args.pass.now) before opened after c.in-Ok-Batch.batch
           c.batches.invariant.ran opens closes;
     }

@@ -1,4 +1,4 @@
-use Rattle.std.proofs.Common.{◌≡◌, true, false, [], sym, ap, ◌∙◌}
+use Rattle.std.proofs.Common.{◌≡◌, false, [], sym, ap, ◌∙◌}
 use Rattle.idle_moves.specs.AheadText.{sheet_line}
 use Rattle.session_run.specs.Page.{LogState}
 use Rattle.session_run.proofs.LogLemmas.{logged-failed, logged-printed}

@@ -1,9 +1,8 @@
-use Rattle.std.proofs.Common.{◌≡◌, ℕ, [], List, Option, Some, refl, ap, sym, subst, ◌∙◌, append-nil}
+use Rattle.std.proofs.Common.{◌≡◌, ℕ, [], List, Option, refl, ap, sym, subst, ◌∙◌, append-nil}
 use Rattle.ride_model.specs.Text.{head_line, text_of}
 use Rattle.idle_moves.specs.AheadText.{head_line as head_of_sheets}
 use Rattle.session_run.specs.Page.{SessionState, HasLogged}
 use Rattle.session_run.specs.Reading.{HasToldBy}
-use Rattle.session_run.specs.Running.{IsPrompt}
 use Rattle.session_run.proofs.LogLemmas.{text_of-none}
 use Rattle.session_run.proofs.session.Session.begin.Goals as goal
 

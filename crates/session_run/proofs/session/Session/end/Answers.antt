@@ -1,4 +1,4 @@
-use Rattle.std.proofs.Common.{◌≡◌, length, sym, ap, subst, ◌∙◌}
+use Rattle.std.proofs.Common.{length, sym, ap, subst, ◌∙◌}
 use Rattle.board_core.specs.Recorded.{Recorded}
 use Rattle.session_run.specs.Page.{SessionState}
 use Rattle.session_run.specs.Reading.{HasTold, HasToldAll}

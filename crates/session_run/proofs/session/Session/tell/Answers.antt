@@ -1,7 +1,7 @@
-use Rattle.std.proofs.Common.{◌≡◌, ℕ, Bool, List, Option, Some, cond, [], ◌++◌, sym, ap, subst, ◌∙◌}
+use Rattle.std.proofs.Common.{◌≡◌, ℕ, Option, Some, cond, [], ◌++◌, sym, ap, subst, ◌∙◌}
 use Rattle.std.specs.Prelude.{◌||◌, not}
 use Rattle.board_core.specs.Recorded.{Recorded}
-use Rattle.idle_moves.specs.AheadText.{head_line, sheet_lines}
+use Rattle.idle_moves.specs.AheadText.{sheet_lines}
 use Rattle.session_run.specs.Page.{HasLogged, SessionState}
 use Rattle.session_run.specs.Planning.{is_whole, sheets_in}
 use Rattle.session_run.specs.Reading.{HasToldBy}

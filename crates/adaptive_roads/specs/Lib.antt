@@ -1,0 +1,3 @@
+pub mod Stage
+pub mod Selections
+pub mod Batch

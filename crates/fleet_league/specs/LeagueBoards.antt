@@ -1,0 +1,82 @@
+-- The boards of a league in order: the desk of its requests, and what its companies are asked to play a round.
+use Rattle.std.specs.Prelude.{◌≡◌, ◌+◌, ◌<◌, ◌≤◌, Bool, true, false, List, [], length, All, Contains, Some, IsTrue, nat_eq}
+use Rattle.std.specs.List.{IsDistinct}
+use Rattle.ride_model.specs.declared.command.Command.{Command}
+use Rattle.ride_model.specs.declared.command.Command.TheVariants.{Request, Cancel}
+use Rattle.ride_model.specs.declared.reply.RequestState.TheVariants.{InBatch}
+use Rattle.ride_model.specs.declared.vehicle.Ride.{Ride}
+use Rattle.ride_model.specs.Batch.{after_opening}
+use Rattle.ride_model.specs.Seating.{BatchCopy, vehicle_ids}
+use Rattle.ride_model.specs.Settings.{IsSettings}
+use Rattle.ride_model.specs.State.{State, AcceptedRequest, request_state}
+use Rattle.ride_model.specs.Step.{step}
+use Rattle.ride_model.specs.Text.{IsSpelled, IsSpelledCommand}
+use Rattle.ride_model.specs.Vehicle.{ride_ids}
+use Rattle.board_core.specs.Recorded.{Recorded, state_of}
+use Rattle.fleet_league.specs.declared.briefs.Brief.{Brief}
+use Rattle.fleet_league.specs.Awards.{IsCertifiedOver, request_of, won_rides}
+use Rattle.fleet_league.specs.Companies.{CompanyState, report_count}
+use Rattle.fleet_league.specs.Prices.{IsNewRide}
+
+-- whether a command is a rider's: a request, or its cancellation
+abbrev pub is_riders : Command → Bool
+is_riders (Request id from to seats latest longest chairs) = true
+is_riders (Cancel id) = true
+is_riders _ = false
+
+-- a desk between two lines: of one feed and one desk, on which nobody has ended and no batch is open or is to be opened. Each
+-- request that it has accepted has a text
+pub record IsDesk (desk : Recorded) : Type 0 where
+  pub one_feed : desk.feeds ≡ 1
+  pub one_desk : desk.desks ≡ 1
+  pub none_ended : (state_of desk).ended ≡ []
+  pub none_open : (state_of desk).batches ≡ []
+  pub all_opened : (state_of desk).opened ≡ (state_of desk).asked
+  pub spelled : All (λ (request : AcceptedRequest). IsSpelledCommand desk.start.settings.log (request_of request.ride)) (state_of desk).requests
+
+-- a desk that has opened a round, after it stood in a state: this batch is open
+pub record HasOpened (before : State) (batch : BatchCopy) (desk : Recorded) : Type 0 where
+  pub one_feed : desk.feeds ≡ 1
+  pub one_desk : desk.desks ≡ 1
+  pub none_ended : before.ended ≡ []
+  pub none_open : before.batches ≡ []
+  pub all_opened : before.opened ≡ before.asked
+  pub number_is : batch.number ≡ before.opened + 1
+  pub desk_is : batch.desk ≡ 1
+  pub few : length batch.requests ≤ 128
+  pub differ : IsDistinct nat_eq (ride_ids batch.requests)
+  pub in_batch : All (λ (ride : Ride). request_state (state_of desk) ride.id ≡ Some (InBatch batch.number)) batch.requests
+  pub ids_spelled : All (λ (ride : Ride). IsSpelled ride.id) batch.requests
+  pub state_is : state_of desk ≡ after_opening (record before { asked = before.asked + 1 }) batch
+  pub spelled : All (λ (request : AcceptedRequest). IsSpelledCommand desk.start.settings.log (request_of request.ride)) before.requests
+
+-- what holds of every board: its settings are within their ranges and stay, and its vehicles differ
+pub record IsSound (board : Recorded) : Type 0 where
+  pub settings_fit : IsSettings board.start.settings
+  pub settings_stay : (state_of board).settings ≡ board.start.settings
+  pub differ : IsDistinct nat_eq (vehicle_ids (state_of board).vehicles)
+
+-- rides that a company may quote and be awarded
+pub record MayPlay (company : CompanyState) (rides : List Ride) : Type 0 where
+  pub is_open : IsTrue company.is_open
+  pub each : All (IsNewRide (state_of company.board)) rides
+  pub differ : IsDistinct nat_eq (ride_ids rides)
+  pub spelled : All (λ (ride : Ride). IsSpelledCommand company.board.start.settings.log (request_of ride)) rides
+  pub few : length rides ≤ company.board.start.settings.batch
+  pub room : length (state_of company.board).requests + length rides ≤ 100000
+  pub few_asked : (state_of company.board).asked < 2000
+
+-- a company after a report: its board has answered it
+pub record IsReported (command : Command) (old new : CompanyState) : Type 0 where
+  pub start : new.board.start ≡ old.board.start
+  pub is_open : new.is_open ≡ old.is_open
+  pub state_is : state_of new.board ≡ (step (state_of old.board) command).state
+  pub reports : report_count new.board.history ≡ report_count old.board.history + 1
+
+-- a part of a round over a company's board as it stands: its wins are some of the rides, and are certified over the board's prices
+pub record MayWin (company : CompanyState) (rides : List Ride) (brief : Brief) : Type 0 where
+  pub may : MayPlay company rides
+  pub of_them : All (Contains rides) (won_rides brief.wins)
+  pub differ : IsDistinct nat_eq (ride_ids (won_rides brief.wins))
+  pub few : length brief.wins ≤ length rides
+  pub certified : IsCertifiedOver (state_of company.board) brief

@@ -1,0 +1,11 @@
+//! A league of two companies whose requests, reports and rounds are the lines of one feed.
+mod desk;
+mod lines;
+mod members;
+mod parts;
+mod playing;
+mod printing;
+mod reading;
+mod rows;
+mod settling;
+mod sheets;

@@ -1,0 +1,100 @@
+//! A one-way ring of nine nodes, ten seconds from each to the next: it is searched, contracted and swept.
+ghost use Rattle.std.specs.Prelude.{◌≡◌, ◌≤◌, length, IfOk};
+ghost use Rattle.ride_model.specs.Road.{IsNode};
+
+use adaptive_roads::{AdaptiveRoads, BatchRoads, RowRoom};
+use ride_model::{Network, NoMemory, RoadArc};
+use road_times::{Roads, Scratch, Side};
+use std::alloc::Global;
+use std::process::Abort;
+use std::test::Fail;
+
+/// The number of nodes.
+const NODES: u32 = 9;
+
+/// One of the wanted nodes is wanted twice.
+const WANTED: [u32; 4] = [3, 8, 3, 5];
+
+const ENDS: [u32; 2] = [2, 7];
+
+fn ring(alloc: Global) -> Result<Network, NoMemory>
+    ensures { IfOk result (λ network. network.nodes ≡ 9) }
+{
+    let mut arcs = Vec::new(alloc);
+    for node in 0..NODES {
+        arcs.push(RoadArc {
+            tail: 1 + node,
+            head: 1 + (node + 1) % NODES,
+            seconds: 10,
+        })?;
+    }
+    Ok(Network::new(NODES, arcs))
+}
+
+/// The time around the ring.
+fn around(from: u32, to: u32) -> Option<u64> {
+    let steps = to.wrapping_add(NODES).wrapping_sub(from) % NODES;
+    Some(u64::from(steps).wrapping_mul(10))
+}
+
+/// Both rows of a node, and its times to two nodes, of which one is an end.
+fn expect_node(
+    rt: &impl Abort,
+    roads: &BatchRoads,
+    scratch: &mut Scratch,
+    room: &mut RowRoom,
+    node: u32,
+)
+    requires scratch { scratch.old.nodes ≡ roads.now.roads.nodes }
+    requires room { roads.now.places ≤ room.old.places }
+    requires node { IsNode roads.now.roads node }
+    requires wanted { length roads.now.wanted ≡ 4 }
+    requires nodes { roads.now.roads.nodes ≡ 9 }
+    ensures scratch { scratch.new ≡ scratch.old }
+    ensures room { room.new ≡ room.old }
+{
+    let mut row = [None; 4];
+    roads.rows(scratch, room, node, Side::Out, &mut row);
+    assert_eq!(rt; row, WANTED.map(|to| around(node, to)));
+    roads.rows(scratch, room, node, Side::Back, &mut row);
+    assert_eq!(rt; row, WANTED.map(|from| around(from, node)));
+    assert_eq!(rt; roads.time(scratch, room, node, 7), around(node, 7));
+    assert_eq!(rt; roads.time(scratch, room, node, 9), around(node, 9));
+}
+
+/// All rows and times of the ring, by sweeps or by searches.
+fn expect_times(
+    rt: &impl Abort,
+    alloc: Global,
+    adaptive: &AdaptiveRoads,
+    by_sweeps: bool,
+) -> Result<(), NoMemory>
+    requires { adaptive.now.nodes ≡ 9 }
+{
+    let selections = adaptive.select(alloc, &WANTED, &ENDS);
+    assert_eq!(rt; selections.is_some(), by_sweeps);
+    let roads = BatchRoads::over(adaptive.roads(), &WANTED, &ENDS, selections.as_ref());
+    let mut scratch = Scratch::new(alloc, adaptive.roads())?;
+    let mut room = RowRoom::new(alloc, roads.places())?;
+    for node in 0..NODES {
+        expect_node(rt, &roads, &mut scratch, &mut room, 1 + node);
+    }
+    assert!(rt; room.settled() > 0);
+    Ok(())
+}
+
+#[test]
+fn times_stay_the_same_once_a_map_is_contracted(rt: HostRuntime) -> Result<(), Fail> {
+    let alloc = rt.alloc();
+    let network = ring(alloc)?;
+    let roads = Roads::new(alloc, &network)?;
+    let mut adaptive = AdaptiveRoads::new(&roads);
+    expect_times(&rt, alloc, &adaptive, false)?;
+    adaptive.note(120 * 9 - 1);
+    adaptive.prepare(alloc);
+    expect_times(&rt, alloc, &adaptive, false)?;
+    adaptive.note(1);
+    adaptive.prepare(alloc);
+    expect_times(&rt, alloc, &adaptive, true)?;
+    Ok(())
+}

@@ -1,0 +1,230 @@
+//! A lock whose passes write numbers at the same time.
+ghost use Rattle.std.specs.Prelude.{◌≡◌, ◌<◌, ◌≤◌, ◌^◌, [], length, OnOk, OnErr};
+ghost use Rattle.std.specs.Thread.{IsSync};
+ghost use Rattle.turn_lock.specs.History.{GrowsByOne};
+ghost use Rattle.turn_lock.specs.Passes.{MayEnter, HasRoot, knowledge};
+
+use std::alloc::{AllocError, Global};
+use std::collections::LinkedList;
+use std::sync::Wait;
+use std::test::Fail;
+use std::thread::{Threads, join};
+use turn_lock::{Chronicle, Pass, TurnLock};
+
+#[derive(Clone, Copy, PartialEq, Eq, Debug)]
+struct Entry {
+    by: u32,
+    number: u32,
+}
+
+// Numbers, each with the pass that wrote it, beside limits that the value borrows.
+#[derive(Drop)]
+struct Numbers<'a> {
+    limits: &'a [u32],
+    entries: Vec<Entry>,
+}
+
+impl<'a> Chronicle for Numbers<'a> {
+    type Root = LinkedList<u32>;
+
+    type Item = Entry;
+
+    ghost root = { λ l. l.limits.now };
+
+    ghost history = { λ l. l.entries.items };
+
+    ghost maker = { λ e. e.by };
+}
+
+// A chronicle that numbers can be written into.
+trait Write: Chronicle {
+    fn write(&mut self, by: u32, number: u32) -> Result<(), AllocError>
+        ensures root { Self.root self.new ≡ Self.root self.old }
+        ensures wrote { OnOk result (GrowsByOne Self.maker by (Self.history self.old) (Self.history self.new)) }
+        ensures countable { OnOk result (length (Self.history self.new) < 2 ^ 64) }
+        ensures kept { OnErr result (Self.history self.new ≡ Self.history self.old) };
+
+    fn count(&self) -> usize;
+}
+
+impl<'a> Numbers<'a> {
+    fn new(alloc: Global, limits: &'a [u32]) -> Numbers<'a>
+        ensures { result.entries.items ≡ [] }
+    {
+        Numbers {
+            limits,
+            entries: Vec::new(alloc),
+        }
+    }
+}
+
+impl<'a> Write for Numbers<'a> {
+    fn write(&mut self, by: u32, number: u32) -> Result<(), AllocError> {
+        self.entries.push(Entry { by, number })?;
+        Ok(())
+    }
+
+    fn count(&self) -> usize {
+        self.entries.len()
+    }
+}
+
+// Writes the numbers below `count`, each at a turn of its own.
+fn write_all<T: Write + Send, R: Wait>(
+    rt: &R,
+    lock: &TurnLock<T>,
+    mut pass: Pass<T>,
+    count: u32,
+) -> Pass<T>
+    requires { MayEnter lock.now pass }
+    ensures pass { MayEnter lock.now result }
+    ensures number { (knowledge result).number ≡ (knowledge pass).number }
+    ensures room { (knowledge result).room ≡ (knowledge pass).room }
+    ensures out { (knowledge result).out ≡ (knowledge pass).out }
+{
+    for number in 0..count {
+        let mut value = lock.enter(rt, &mut pass);
+        match value.write(pass.number(), number) {
+            Ok(()) => lock.leave_with(&mut pass, value),
+            Err(AllocError) => lock.leave_same(&mut pass, value),
+        }
+    }
+    pass
+}
+
+// Two threads write, each with its own pass.
+fn write_both<T: Write + Send, R: Threads + Wait + Sync>(
+    rt: &R,
+    lock: &TurnLock<T>,
+    one: Pass<T>,
+    two: Pass<T>,
+    count: u32,
+) -> (Pass<T>, Pass<T>)
+    requires one { MayEnter lock.now one }
+    requires two { MayEnter lock.now two }
+    ensures one { MayEnter lock.now result.0 × ((knowledge result.0).number ≡ (knowledge one).number) }
+    ensures two { MayEnter lock.now result.1 × ((knowledge result.1).number ≡ (knowledge two).number) }
+{
+    join(
+        rt,
+        move || -> Pass<T>
+            requires { MayEnter lock.now one }
+            ensures { MayEnter lock.entry.now result × ((knowledge result).number ≡ (knowledge one).number) }
+        { write_all(rt, lock, one, count) },
+        move || -> Pass<T>
+            requires { MayEnter lock.now two }
+            ensures { MayEnter lock.entry.now result × ((knowledge result).number ≡ (knowledge two).number) }
+        { write_all(rt, lock, two, count) },
+    )
+}
+
+// Two passes write at the same time. They come back, and the lock is closed.
+fn share_by_two<T: Write + Send, R: Threads + Wait + Sync>(
+    rt: &R,
+    lock: TurnLock<T>,
+    mut first: Pass<T>,
+    count: u32,
+) -> T
+    requires pass { MayEnter lock first }
+    requires first { ((knowledge first).number ≡ 0) × (3 ≤ (knowledge first).room) × ((knowledge first).out ≡ 0) }
+    ensures root { HasRoot first (T.root result) }
+{
+    let one = lock.split(&mut first);
+    let two = lock.split(&mut first);
+    let (one, two) = write_both(rt, &lock, one, two, count);
+    lock.join(&mut first, one);
+    lock.join(&mut first, two);
+    match lock.close(first) {
+        Ok(value) => value,
+        Err(_) => unreachable!(),
+    }
+}
+
+fn are_in_order(entries: &[Entry], by: u32, count: u32) -> bool {
+    let own = entries.iter().filter(|e| e.by == by).count();
+    let in_order = entries
+        .iter()
+        .filter(|e| e.by == by)
+        .zip(0..count)
+        .all(|(e, number)| e.number == number);
+    own == count as usize && in_order
+}
+
+#[test]
+fn two_passes_write_a_thousand_numbers_each(rt: HostRuntime) -> Result<(), Fail> {
+    let limits = [3, 5];
+    let numbers = Numbers::new(rt.alloc(), &limits);
+    let (lock, first) = TurnLock::new(rt.alloc(), numbers, 3)?;
+    let value = share_by_two(&rt, lock, first, 1000);
+    let entries = value.entries.as_slice();
+    assert_eq!(rt; (entries.len(), value.limits), (2000, [3, 5].as_slice()));
+    assert!(rt; are_in_order(entries, 1, 1000) && are_in_order(entries, 2, 1000));
+    Ok(())
+}
+
+#[test]
+fn items_stay_after_their_passes_are_joined(rt: HostRuntime) -> Result<(), Fail> {
+    let (lock, mut first) = TurnLock::new(rt.alloc(), Numbers::new(rt.alloc(), &[]), 4)?;
+    let one = lock.split(&mut first);
+    let one = write_all(&rt, &lock, one, 2);
+    let two = lock.split(&mut first);
+    assert_eq!(rt; (first.number(), one.number(), two.number()), (0, 3, 2));
+    let two = write_all(&rt, &lock, two, 1);
+    lock.join(&mut first, one);
+    let mut first = write_all(&rt, &lock, first, 1);
+    let three = lock.split(&mut first);
+    let three = write_all(&rt, &lock, three, 1);
+    lock.join(&mut first, two);
+    lock.join(&mut first, three);
+    let Ok(value) = lock.close(first) else {
+        unreachable!()
+    };
+    let made = [(3, 0), (3, 1), (2, 0), (0, 0), (1, 0)].map(|(by, number)| Entry { by, number });
+    assert_eq!(rt; value.entries.as_slice(), made.as_slice());
+    Ok(())
+}
+
+// Waits for news, and then counts the items.
+fn count_news<T: Write + Send, R: Wait>(rt: &R, lock: &TurnLock<T>, mut pass: Pass<T>) -> usize
+    requires { MayEnter lock.now pass }
+{
+    lock.wait_for_news(rt, &pass);
+    let value = lock.enter(rt, &mut pass);
+    let count = value.count();
+    lock.leave_same(&mut pass, value);
+    count
+}
+
+// One thread waits for news while another writes a number.
+fn count_beside<T: Write + Send, R: Threads + Wait + Sync>(
+    rt: &R,
+    lock: &TurnLock<T>,
+    one: Pass<T>,
+    two: Pass<T>,
+) -> usize
+    requires one { MayEnter lock.now one }
+    requires two { MayEnter lock.now two }
+{
+    let (count, _two) = join(
+        rt,
+        move || -> usize
+            requires { MayEnter lock.now one }
+        { count_news(rt, lock, one) },
+        move || -> Pass<T>
+            requires { MayEnter lock.now two }
+        { write_all(rt, lock, two, 1) },
+    );
+    count
+}
+
+#[test]
+fn a_pass_that_waits_is_woken_by_an_item(rt: HostRuntime) -> Result<(), Fail> {
+    let (lock, mut first) = TurnLock::new(rt.alloc(), Numbers::new(rt.alloc(), &[]), 3)?;
+    let one = lock.split(&mut first);
+    let two = lock.split(&mut first);
+    assert_eq!(rt; first.seen(), 0);
+    assert_eq!(rt; count_beside(&rt, &lock, one, two), 1);
+    let first = write_all(&rt, &lock, first, 1);
+    assert_eq!(rt; first.seen(), 2);
+    Ok(())
+}
