@@ -178,7 +178,7 @@ none-reported (win ∷ wins) =
       none-reported wins,
     )
 
-reports-award : (s : State) (wins : List Win) (old new : List Entry) (last : Entry) → last.actor ≡ Desk 1
+pub reports-award : (s : State) (wins : List Win) (old new : List Entry) (last : Entry) → last.actor ≡ Desk 1
     → new ≡ old ++ asking_entries s wins ++ opening_entry s wins ∷ last ∷ [] → report_count new ≡ report_count old
 reports-award s wins old new last desk history =
     omega (

@@ -1,7 +1,9 @@
 -- The desk of a league's requests, from line to line.
 use Rattle.std.proofs.Common.{◌≡◌, ℕ, ◌+◌, inl, inr, Bool, true, false, cond, not, List, [], ◌∷◌, ◌++◌, length, Option, Some, None, Result, Ok, Err, refl, sym, ap, subst, ◌∙◌, arith, length-append}
-use Rattle.std.specs.Prelude.{◌==◌, ◌&&◌, ◌||◌, map, nat_le, nat_lt, is_some, All, OnOk}
+use Rattle.std.specs.Prelude.{◌==◌, ◌&&◌, ◌||◌, find, map, option_map, nat_le, nat_lt, is_some, All, OnOk}
 use Rattle.std.specs.List.{IsDistinct}
+use Rattle.std.specs.Option.{option_or}
+use Rattle.std.proofs.lemmas.List.Folds.{find-append}
 use Rattle.std.specs.declared.alloc.AllocError.{AllocError}
 use Rattle.ride_model.specs.declared.command.Command.{Command}
 use Rattle.ride_model.specs.declared.command.Command.TheVariants.{Request, Cancel, At, Done, On, Off, Clock, Ask, Bad}
@@ -20,7 +22,7 @@ use Rattle.ride_model.specs.State.{State, AcceptedRequest, accepted_request, pla
 use Rattle.ride_model.specs.Step.{Answered, cancel_by_state, cancel_found, cancel_step, freed, is_node, request_step, step, with_accepted}
 use Rattle.ride_model.specs.Text.{IsSpelledCommand}
 use Rattle.model_laws.proofs.Among.{among_map_back}
-use Rattle.model_laws.proofs.RequestStates.{marked}
+use Rattle.model_laws.proofs.RequestStates.{marked, request_state-marked, state_if_there, state_in}
 use Rattle.history_laws.proofs.Lookups.{all_of, of_all}
 use Rattle.history_laws.proofs.Untouched.{leaves-step}
 use Rattle.board_core.specs.Recorded.{Recorded, state_of, fed_entry}
@@ -68,29 +70,78 @@ spelled-marked log test state requests spelled =
     same_ride q true = refl
     same_ride q false = refl
 
--- an answer that asks for no batch, after which each request has a text still
-record Tame (log : ℕ) (s : State) (a : Answered) : Type 0 where
-  asked : a.state.asked ≡ s.asked
-  spelled : AreSpelled log s.requests → AreSpelled log a.state.requests
+-- a request that is cancelled
+abbrev pub IsCancelledIn : List AcceptedRequest → ℕ → Type 0
+IsCancelledIn requests id = state_in requests id ≡ Some Cancelled
+
+-- one that is there, marked
+pub found-marked : (state : RequestState) (requests : List AcceptedRequest) (id : ℕ) (was : RequestState) → state_in requests id ≡ Some was
+    → state_if_there state requests id ≡ Some state
+found-marked state requests id was there =
+    (elim (find (λ (r : AcceptedRequest). r.ride.id == id) requests)
+    as (λ o. option_map (λ (r : AcceptedRequest). r.state) o ≡ Some was → option_map (λ (r : AcceptedRequest). state) o ≡ Some state) [
+      | None ↦ λ e. absurd (cc e)
+      | Some r ↦ λ e. refl
+    ]) there
+
+-- it stays so where some are cancelled
+pub cancelled-marked : (test : ℕ → Bool) (requests : List AcceptedRequest) (id : ℕ) → IsCancelledIn requests id
+    → IsCancelledIn (map (marked test Cancelled) requests) id
+cancelled-marked test requests id is = request_state-marked test Cancelled id requests ∙ by_test (test id)
+  where
+    by_test : (b : Bool) → cond b (state_if_there Cancelled requests id) (state_in requests id) ≡ Some Cancelled
+    by_test true = found-marked Cancelled requests id Cancelled is
+    by_test false = is
+
+-- and where one more is accepted
+cancelled-push : (requests : List AcceptedRequest) (new : AcceptedRequest) (id : ℕ) → IsCancelledIn requests id
+    → IsCancelledIn (requests ++ new ∷ []) id
+cancelled-push requests new id is =
+    let p : AcceptedRequest → Bool = λ r. r.ride.id == id in
+    ap (option_map (λ (r : AcceptedRequest). r.state)) (find-append p requests (new ∷ []))
+    ∙ (elim (find p requests)
+    as (λ o. option_map (λ (r : AcceptedRequest). r.state) o ≡ Some Cancelled
+    → option_map (λ (r : AcceptedRequest). r.state) (option_or o (find p (new ∷ []))) ≡ Some Cancelled) [
+      | None ↦ λ e. absurd (cc e)
+      | Some r ↦ λ e. e
+    ]) is
+
+-- an answer that asks for no batch, after which each request has a text still, and is cancelled still where it was
+pub record Tame (log : ℕ) (s : State) (a : Answered) : Type 0 where
+  pub asked : a.state.asked ≡ s.asked
+  pub spelled : AreSpelled log s.requests → AreSpelled log a.state.requests
+  pub cancelled : (id : ℕ) → IsCancelledIn s.requests id → IsCancelledIn a.state.requests id
 
 either : (log : ℕ) (s : State) (b : Bool) (x y : Answered) → Tame log s x → Tame log s y → Tame log s (cond b x y)
 either log s true x y h k = h
 either log s false x y h k = k
 
 refuses : (log : ℕ) (s : State) (code : ℕ) → Tame log s (record { state = s; reply = Refused code })
-refuses log s code = record { asked = refl; spelled = λ all. all }
+refuses log s code = record { asked = refl; spelled = λ all. all; cancelled = λ q is. is }
 
 of_freed : (log : ℕ) (s : State) (id vehicle : ℕ) (placed : Option (ℕ × Vehicle)) → Tame log s (freed s id vehicle placed)
 of_freed log s id vehicle None = refuses log s 10
-of_freed log s id vehicle (Some p) = record { asked = refl; spelled = spelled-marked log (λ q. q == id) Cancelled s.requests }
+of_freed log s id vehicle (Some p) = record {
+  asked = refl;
+  spelled = spelled-marked log (λ q. q == id) Cancelled s.requests;
+  cancelled = cancelled-marked (λ q. q == id) s.requests;
+}
 
 of_state : (log : ℕ) (s : State) (id : ℕ) (state : RequestState) → Tame log s (cancel_by_state s id state)
 of_state log s id (Aboard v) = refuses log s 8
 of_state log s id IsDone = refuses log s 9
 of_state log s id (Away n) = refuses log s 9
 of_state log s id Cancelled = refuses log s 9
-of_state log s id Waiting = record { asked = refl; spelled = spelled-marked log (λ q. q == id) Cancelled s.requests }
-of_state log s id (InBatch n) = record { asked = refl; spelled = spelled-marked log (λ q. q == id) Cancelled s.requests }
+of_state log s id Waiting = record {
+  asked = refl;
+  spelled = spelled-marked log (λ q. q == id) Cancelled s.requests;
+  cancelled = cancelled-marked (λ q. q == id) s.requests;
+}
+of_state log s id (InBatch n) = record {
+  asked = refl;
+  spelled = spelled-marked log (λ q. q == id) Cancelled s.requests;
+  cancelled = cancelled-marked (λ q. q == id) s.requests;
+}
 of_state log s id (Confirmed vehicle) = of_freed log s id vehicle (placed_vehicle s vehicle)
 
 of_cancel : (log : ℕ) (s : State) (id : ℕ) (found : Option AcceptedRequest) → Tame log s (cancel_found s id found)
@@ -110,10 +161,11 @@ of_accepted log s ride reply here = record {
           | inr none ↦ absurd none
         ]
       ]);
+  cancelled = cancelled-push s.requests (record { ride = ride; state = Waiting });
 }
 
 -- each command of a rider
-tame-step : (log : ℕ) (s : State) (command : Command) → is_riders command ≡ true → IsSpelledCommand log command → Tame log s (step s command)
+pub tame-step : (log : ℕ) (s : State) (command : Command) → is_riders command ≡ true → IsSpelledCommand log command → Tame log s (step s command)
 unfolding request_step cancel_step
 tame-step log s (Request id from to seats latest longest chairs) is spelled =
     either log s (is_some (accepted_request s id)) _ _ (refuses log s 1)

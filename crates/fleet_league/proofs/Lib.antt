@@ -26,3 +26,9 @@ pub mod Cancelling
 pub mod Desks
 pub mod OpenedRounds
 pub mod LeagueCost
+pub mod WonOnly
+pub mod Beside
+pub mod LeagueKept
+pub mod RoundsMade
+pub mod OutputLemmas
+pub mod ToldLines

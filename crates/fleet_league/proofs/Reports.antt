@@ -1,6 +1,6 @@
 -- Reports leave a company's board idle.
 use Rattle.std.proofs.Common.{◌≡◌, ℕ, ◌+◌, ◌<◌, ◌≤◌, Bool, true, false, not, cond, List, [], ◌∷◌, ◌++◌, length, Option, Some, None, Result, Ok, Err, refl, sym, ap, subst, ◌∙◌, arith, length-append}
-use Rattle.std.specs.Prelude.{map, count_by, nat_lt, ◌==◌, OnOk, OnErr}
+use Rattle.std.specs.Prelude.{map, count_by, nat_lt, option_map, ◌==◌, OnOk, OnErr}
 use Rattle.std.specs.List.{filter}
 use Rattle.std.specs.declared.alloc.AllocError.{AllocError}
 use Rattle.std.proofs.lemmas.List.{length-map}
@@ -24,7 +24,10 @@ use Rattle.ride_model.specs.Road.{RoadMap, travel}
 use Rattle.ride_model.specs.State.{State, AcceptedRequest, accepted_request, placed_vehicle, start_state}
 use Rattle.ride_model.specs.Step.{Answered, is_node, cancel_by_state, cancel_found, cancel_step, freed, reported, report, report_driving, at_found, at_step, served_state, done_at_stop, done_found, done_step, duty_found, duty_step, clock_step, step}
 use Rattle.model_laws.proofs.RequestStates.{marked}
+use Rattle.history_laws.proofs.Changes.{find_request-map}
 use Rattle.history_laws.proofs.EveryState.{consistent}
+use Rattle.history_laws.proofs.Invariant.{find_request}
+use Rattle.history_laws.proofs.Marks.{marked-ride}
 use Rattle.history_laws.proofs.Others.{keeps_none}
 use Rattle.history_laws.proofs.Untouched.{leaves-step}
 use Rattle.board_core.specs.Recorded.{Recorded, state_of, fed_entry}
@@ -62,18 +65,25 @@ none-marked test state (r ∷ requests) fine none =
     by_test true fails rest = rw fine rest
     by_test false fails rest = rw fails rest
 
--- an answer after which no request waits where none did, and as many were accepted and asked for
+-- a request that was not accepted is not after some were marked
+pub none-found : (test : ℕ → Bool) (state : RequestState) (requests : List AcceptedRequest) (id : ℕ) → find_request requests id ≡ None
+    → find_request (map (marked test state) requests) id ≡ None
+none-found test state requests id none =
+    find_request-map (marked test state) (marked-ride test state) id requests ∙ ap (option_map (marked test state)) none
+
+-- an answer after which no request waits where none did, as many were accepted and asked for, and no other ones
 pub record Quiet (s : State) (a : Answered) : Type 0 where
   pub none_wait : NoneWaits s.requests → NoneWaits a.state.requests
   pub as_many : length a.state.requests ≡ length s.requests
   pub asked : a.state.asked ≡ s.asked
+  pub no_others : (id : ℕ) → accepted_request s id ≡ None → accepted_request a.state id ≡ None
 
 either : (s : State) (b : Bool) (x y : Answered) → Quiet s x → Quiet s y → Quiet s (cond b x y)
 either s true x y h k = h
 either s false x y h k = k
 
 refuses : (s : State) (code : ℕ) → Quiet s (record { state = s; reply = Refused code })
-refuses s code = record { none_wait = λ none. none; as_many = refl; asked = refl }
+refuses s code = record { none_wait = λ none. none; as_many = refl; asked = refl; no_others = λ id none. none }
 
 -- a cancellation
 of_freed : (s : State) (id vehicle : ℕ) (placed : Option (ℕ × Vehicle)) → Quiet s (freed s id vehicle placed)
@@ -82,6 +92,7 @@ of_freed s id vehicle (Some p) = record {
   none_wait = none-marked (λ q. q == id) Cancelled s.requests refl;
   as_many = length-map s.requests (marked (λ q. q == id) Cancelled);
   asked = refl;
+  no_others = none-found (λ q. q == id) Cancelled s.requests;
 }
 
 of_state : (s : State) (id : ℕ) (state : RequestState) → Quiet s (cancel_by_state s id state)
@@ -93,11 +104,13 @@ of_state s id Waiting = record {
   none_wait = none-marked (λ q. q == id) Cancelled s.requests refl;
   as_many = length-map s.requests (marked (λ q. q == id) Cancelled);
   asked = refl;
+  no_others = none-found (λ q. q == id) Cancelled s.requests;
 }
 of_state s id (InBatch n) = record {
   none_wait = none-marked (λ q. q == id) Cancelled s.requests refl;
   as_many = length-map s.requests (marked (λ q. q == id) Cancelled);
   asked = refl;
+  no_others = none-found (λ q. q == id) Cancelled s.requests;
 }
 of_state s id (Confirmed vehicle) = of_freed s id vehicle (placed_vehicle s vehicle)
 
@@ -108,10 +121,10 @@ of_cancel s id (Some request) = of_state s id request.state
 -- a report of a place
 of_driving : (s : State) (place : ℕ) (v after : Vehicle) (old : ℕ) (leg : Option ℕ) → Quiet s (report_driving s place v after old leg)
 of_driving s place v after old None = refuses s 13
-of_driving s place v after old (Some leg) = record { none_wait = λ none. none; as_many = refl; asked = refl }
+of_driving s place v after old (Some leg) = record { none_wait = λ none. none; as_many = refl; asked = refl; no_others = λ id none. none }
 
 of_report : (s : State) (place : ℕ) (v after : Vehicle) (stops : List Stop) → Quiet s (report s place v after stops)
-of_report s place v after [] = record { none_wait = λ none. none; as_many = refl; asked = refl }
+of_report s place v after [] = record { none_wait = λ none. none; as_many = refl; asked = refl; no_others = λ id none. none }
 of_report s place v after (first ∷ rest) = of_driving s place v after (v.ready + first.leg) (travel s.roads after.at first.node)
 
 of_at : (s : State) (node time : ℕ) (placed : Option (ℕ × Vehicle)) → Quiet s (at_found s node time placed)
@@ -131,6 +144,7 @@ of_served s place v (stop ∷ rest) =
       none_wait = none-marked (λ q. q == stop.ride) (served_state v stop.kind) s.requests (by_kind stop.kind);
       as_many = length-map s.requests (marked (λ q. q == stop.ride) (served_state v stop.kind));
       asked = refl;
+      no_others = none-found (λ q. q == stop.ride) (served_state v stop.kind) s.requests;
     }))
   where
     by_kind : (kind : Kind) → is_waiting (served_state v kind) ≡ false
@@ -144,7 +158,7 @@ of_done s (Some p) = of_served s p.0 p.1 p.1.stops.items
 -- duty
 of_duty : (s : State) (duty : Bool) (placed : Option (ℕ × Vehicle)) → Quiet s (duty_found s duty placed)
 of_duty s duty None = refuses s 10
-of_duty s duty (Some p) = record { none_wait = λ none. none; as_many = refl; asked = refl }
+of_duty s duty (Some p) = record { none_wait = λ none. none; as_many = refl; asked = refl; no_others = λ id none. none }
 
 -- each report
 pub quiet-step : (s : State) (command : Command) → is_report command ≡ true → Quiet s (step s command)
@@ -156,7 +170,7 @@ quiet-step s (Done vehicle) is = of_done s (placed_vehicle s vehicle)
 quiet-step s (On vehicle) is = of_duty s true (placed_vehicle s vehicle)
 quiet-step s (Off vehicle) is = of_duty s false (placed_vehicle s vehicle)
 quiet-step s (Clock time) is =
-    either s (nat_lt 1000000000 time) _ _ (refuses s 5) (record { none_wait = λ none. none; as_many = refl; asked = refl })
+    either s (nat_lt 1000000000 time) _ _ (refuses s 5) (record { none_wait = λ none. none; as_many = refl; asked = refl; no_others = λ id none. none })
 quiet-step s Ask is = absurd (cc is)
 quiet-step s (Bad line) is = absurd (cc is)
 

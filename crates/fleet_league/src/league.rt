@@ -2,6 +2,8 @@
 mod desk;
 mod lines;
 mod members;
+mod output;
+mod page;
 mod parts;
 mod playing;
 mod printing;
@@ -9,3 +11,4 @@ mod reading;
 mod rows;
 mod settling;
 mod sheets;
+mod state;

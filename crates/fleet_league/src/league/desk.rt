@@ -58,6 +58,13 @@ impl<'r> RequestDesk<'r> {
         Ok(RequestDesk { board })
     }
 
+    /// The board that judges requests.
+    pub(crate) fn board(&self) -> &Board<'r>
+        ensures { result.now ≡ self.now }
+    {
+        &self.board
+    }
+
     /// Answers a request, or a cancellation.
     pub(crate) fn answer(&mut self, command: &Command) -> Result<Reply, NoMemory>
         requires fits { IsDesk self.old }

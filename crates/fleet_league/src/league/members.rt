@@ -1,5 +1,5 @@
 //! The companies of a league.
-ghost use Rattle.std.specs.Prelude.{◌≡◌, ◌<◌, List, [], All, IfOk, OnOk, IsTrue};
+ghost use Rattle.std.specs.Prelude.{◌≡◌, ◌<◌, List, [], All, Contains, IfOk, OnOk, IsTrue};
 ghost use Rattle.ride_model.specs.declared.vehicle.Ride.{Ride};
 ghost use Rattle.ride_model.specs.declared.vehicle.Vehicle.{Vehicle};
 ghost use Rattle.ride_model.specs.Settings.{IsSettings};
@@ -8,13 +8,15 @@ ghost use Rattle.ride_model.specs.Step.{step};
 ghost use Rattle.ride_model.specs.Text.{IsSpelledCommand};
 ghost use Rattle.ride_model.specs.Vehicle.{IsLawful};
 ghost use Rattle.board_core.specs.Recorded.{state_of};
+ghost use Rattle.fleet_league.specs.Awards.{won_rides};
 ghost use Rattle.fleet_league.specs.Companies.{is_report, most_reports, report_count};
 ghost use Rattle.fleet_league.specs.League.{IsAwarded, is_with};
-ghost use Rattle.fleet_league.specs.LeagueBoards.{IsReported, IsSound, MayPlay, MayWin};
+ghost use Rattle.fleet_league.specs.LeagueBoards.{IsPlayed, IsReported, IsSound, MayPlay, MayWin};
 ghost use Rattle.fleet_league.specs.Prices.{quote_of};
 ghost use Rattle.fleet_league.specs.Round.{IsPriced};
 
 use crate::{Brief, Company, NoMemory, Quote};
+use board_core::Board;
 use ride_model::{Command, Fleet, Reply, Ride, Settings};
 use road_times::{Roads, Scratch};
 use std::alloc::Global;
@@ -59,6 +61,13 @@ impl<'r> Member<'r> {
         let scratch = Scratch::new(alloc, roads)?;
         let company = Company::new(alloc, roads, settings, fleet)?;
         Ok(Member { company, scratch })
+    }
+
+    /// The company's board.
+    pub(crate) fn board(&self) -> &Board<'r>
+        ensures { result.now ≡ self.now.board }
+    {
+        self.company.board()
     }
 
     /// Whether the company has a request.
@@ -107,7 +116,8 @@ impl<'r> Member<'r> {
         requires may { (rides : List Ride) × MayWin self.old rides brief.now
             × (quote.now ≡ quote_of (state_of self.old.board) rides) }
         ensures awarded { OnOk result (IsAwarded brief.now (state_of self.old.board) (state_of self.new.board)) }
-        ensures open { OnOk result (IsTrue self.new.is_open) }
+        ensures played { (rides : List Ride) → All (Contains rides) (won_rides brief.now.wins)
+            → OnOk result (IsPlayed rides self.old self.new) }
         ensures start { self.new.board.start ≡ self.old.board.start }
     {
         // This call tells that the history is legal.

@@ -1,10 +1,10 @@
 //! Rounds, played by two companies.
-ghost use Rattle.std.specs.Prelude.{◌≡◌, All, IfOk, IsTrue, OnOk};
+ghost use Rattle.std.specs.Prelude.{◌≡◌, All, IfOk, OnOk};
 ghost use Rattle.std.specs.Thread.{IsSync};
 ghost use Rattle.board_core.specs.Recorded.{state_of};
 ghost use Rattle.fleet_league.specs.declared.quotes.Quote.{Quote};
 ghost use Rattle.fleet_league.specs.League.{PlaysRound, quotes_of};
-ghost use Rattle.fleet_league.specs.LeagueBoards.{IsSound, MayPlay};
+ghost use Rattle.fleet_league.specs.LeagueBoards.{IsPlayed, IsSound, MayPlay};
 ghost use Rattle.fleet_league.specs.Prices.{quote_of};
 ghost use Rattle.fleet_league.specs.Round.{IsPriced};
 
@@ -31,8 +31,8 @@ pub(crate) fn play<R: Threads + Sync>(
     requires second_penalty { penalty ≡ second.old.board.start.settings.penalty }
     ensures played { IfOk result (PlaysRound penalty rides.now (state_of first.old.board) (state_of first.new.board)
         (state_of second.old.board) (state_of second.new.board)) }
-    ensures first_open { OnOk result (IsTrue first.new.is_open) }
-    ensures second_open { OnOk result (IsTrue second.new.is_open) }
+    ensures first_played { OnOk result (IsPlayed rides.now first.old first.new) }
+    ensures second_played { OnOk result (IsPlayed rides.now second.old second.new) }
     ensures first_start { first.new.board.start ≡ first.old.board.start }
     ensures second_start { second.new.board.start ≡ second.old.board.start }
 {

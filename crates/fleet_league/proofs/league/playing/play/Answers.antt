@@ -4,7 +4,7 @@ use Rattle.board_core.specs.Recorded.{state_of}
 use Rattle.fleet_league.specs.declared.quotes.Quote.{Quote}
 use Rattle.fleet_league.specs.Companies.{CompanyState}
 use Rattle.fleet_league.specs.League.{IsRoundOf, quotes_of}
-use Rattle.fleet_league.specs.LeagueBoards.{MayWin}
+use Rattle.fleet_league.specs.LeagueBoards.{IsPlayed, MayWin}
 use Rattle.fleet_league.specs.Prices.{quote_of}
 use Rattle.fleet_league.proofs.Playing.{AreMet, first-wins, second-wins}
 use Rattle.fleet_league.proofs.league.playing.play.Goals as goal
@@ -54,3 +54,41 @@ award-requires-2-clause-may g c κs within =
           (second-wins first second rides c.args.penalty parts.sheet parts.first parts.second met is c.requires.second),
       ap (λ (qs : List Quote). get_or qs 1 c.index-quotes-1.result) quotes ∙ ap (λ (s : CompanyState). quote_of (state_of s.board) rides) (sym sound.second),
     )
+
+pub returns-clause-first_played : goal.returns-clause-first_played
+returns-clause-first_played g c =
+    let first : CompanyState = c.args.first.now in
+    let second : CompanyState = c.args.second.now in
+    let rides : List Ride = c.args.rides.now in
+    let sound = c.quotes_of.ensures in
+    let quotes : c.in_ok-quotes.quotes ≡ quotes_of (state_of first.board) (state_of second.board) rides = c.in_ok-quotes.ensures.quotes in
+    let met : AreMet first second c.args.penalty = record {
+      first_sound = sound.first_sound;
+      second_sound = sound.second_sound;
+      first_penalty = c.requires.first_penalty;
+      second_penalty = c.requires.second_penalty;
+    } in
+    let parts = c.in_ok-parts.parts in
+    let is = subst (λ (qs : List Quote). IsRoundOf c.args.penalty qs rides parts.sheet parts.first parts.second) quotes c.in_ok-parts.ensures in
+    subst (λ (s : CompanyState). IsPlayed rides s c.award.new.self) sound.first
+    (c.in_ok-award.ensures.played rides
+    (first-wins first second rides c.args.penalty parts.sheet parts.first parts.second met is c.requires.first).of_them)
+
+pub returns-clause-second_played : goal.returns-clause-second_played
+returns-clause-second_played g c =
+    let first : CompanyState = c.args.first.now in
+    let second : CompanyState = c.args.second.now in
+    let rides : List Ride = c.args.rides.now in
+    let sound = c.quotes_of.ensures in
+    let quotes : c.in_ok-quotes.quotes ≡ quotes_of (state_of first.board) (state_of second.board) rides = c.in_ok-quotes.ensures.quotes in
+    let met : AreMet first second c.args.penalty = record {
+      first_sound = sound.first_sound;
+      second_sound = sound.second_sound;
+      first_penalty = c.requires.first_penalty;
+      second_penalty = c.requires.second_penalty;
+    } in
+    let parts = c.in_ok-parts.parts in
+    let is = subst (λ (qs : List Quote). IsRoundOf c.args.penalty qs rides parts.sheet parts.first parts.second) quotes c.in_ok-parts.ensures in
+    subst (λ (s : CompanyState). IsPlayed rides s c.award-2.new.self) sound.second
+    (c.in_ok-award-2.ensures.played rides
+    (second-wins first second rides c.args.penalty parts.sheet parts.first parts.second met is c.requires.second).of_them)

@@ -8,9 +8,9 @@ use Rattle.fleet_league.specs.declared.quotes.Quote.{Quote}
 use Rattle.fleet_league.specs.Awards.{request_of, settled_at, won_rides}
 use Rattle.fleet_league.specs.Companies.{CompanyState}
 use Rattle.fleet_league.specs.League.{IsAwarded}
-use Rattle.fleet_league.specs.LeagueBoards.{MayWin}
+use Rattle.fleet_league.specs.LeagueBoards.{IsPlayed, MayWin}
 use Rattle.fleet_league.specs.Prices.{IsNewRide, quote_of}
-use Rattle.fleet_league.proofs.AwardedMembers.{chairs-spelled, id-spelled, is-awarded, settled-now, won-each}
+use Rattle.fleet_league.proofs.AwardedMembers.{chairs-spelled, id-spelled, is-awarded, is-played, settled-now, won-each}
 use Rattle.fleet_league.proofs.league.members.Member.award.Goals as goal
 
 pub award-requires-clause-rides : goal.award-requires-clause-rides
@@ -51,3 +51,17 @@ returns-clause-awarded g c =
     subst (λ (s : CompanyState). IsAwarded c.args.brief.now (state_of s.board) (state_of c.award.new.self.board)) c.self.view_is
     (is-awarded inside c.award.new.self c.args.brief.now (ap (λ (s : CompanyState). s.board.start) ensures.others) ensures.no_wins
     (ensures.confirmed (ap Ok confirmed)))
+
+pub returns-clause-played : goal.returns-clause-played
+returns-clause-played g c rides of_them =
+    let (some_rides, may, quoted) = c.requires.may in
+    let inside : CompanyState = c.self.inside.company in
+    let back = sym c.self.view_is in
+    let ensures = c.in_ok-award.ensures in
+    let quote_is = quoted ∙ ap (λ (s : CompanyState). quote_of (state_of s.board) some_rides) back in
+    let confirmed : c.in_ok-award.field-0 ≡ Confirmed
+    = ensures.settled ∙ ap (λ (q : Quote). settled_at (state_of inside.board).clock (state_of inside.board).vehicles q) quote_is
+    ∙ settled-now (state_of inside.board) some_rides in
+    subst (λ (s : CompanyState). IsPlayed rides s c.award.new.self) c.self.view_is
+    (is-played inside c.award.new.self c.args.brief.now rides (ap (λ (s : CompanyState). s.board.start) ensures.others) ensures.stays_open
+    ensures.no_wins (ensures.confirmed (ap Ok confirmed)) of_them)

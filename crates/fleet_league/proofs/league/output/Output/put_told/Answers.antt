@@ -1,0 +1,28 @@
+use Rattle.std.proofs.Common.{◌≡◌, ℕ, false, List, [], sym, ap, subst, ◌∙◌}
+use Rattle.fleet_league.specs.LeagueTexts.{told_line}
+use Rattle.fleet_league.specs.Output.{HasPut, OutputState}
+use Rattle.fleet_league.proofs.OutputLemmas.{put-failed, put-printed}
+use Rattle.fleet_league.proofs.league.output.Output.put_told.Goals as goal
+
+pub returns-then-self-2 : goal.returns-then-self-2
+returns-then-self-2 g c before faults text has =
+    let same : record { page = c.add_told.new.self.text; failed = c.self.inside.failed } ≡ c.args.self.now
+    = ap (λ (t : List ℕ). record { page = t; failed = c.self.inside.failed }) c.if-add_told.ensures ∙ c.self.view_is in
+    let ended = c.end.ensures.put before faults text
+    (subst (λ (o : OutputState). HasPut before (g.K.Sink.written c.args.out.now) faults (g.K.Sink.faults c.args.out.now) o text) (sym same) has) in
+    put-failed before (g.K.Sink.written c.end.new.out) faults (g.K.Sink.faults c.end.new.out) c.end.new.self text (told_line c.args.log c.args.line.now c.args.told.now)
+    (ap (λ (o : OutputState). o.failed) (sym c.self-2.view_is) ∙ c.if-self-2.true) ended
+
+pub returns : goal.returns
+returns g c before faults text has =
+    let same : record { page = c.add_told.new.self.text; failed = c.self.inside.failed } ≡ c.args.self.now
+    = ap (λ (t : List ℕ). record { page = t; failed = c.self.inside.failed }) c.if-add_told.ensures ∙ c.self.view_is in
+    let ended = c.end.ensures.put before faults text
+    (subst (λ (o : OutputState). HasPut before (g.K.Sink.written c.args.out.now) faults (g.K.Sink.faults c.args.out.now) o text) (sym same) has) in
+    let stands : c.end.new.self.failed ≡ false = ap (λ (o : OutputState). o.failed) (sym c.self-2.view_is) ∙ c.if-self-2.false in
+    let bare : c.end.new.self.page ≡ [] = c.end.ensures.nothing_left stands in
+    put-printed c.print_told.result before (g.K.Sink.written c.end.new.out) (g.K.Sink.written c.print_told.new.sink) faults
+    (g.K.Sink.faults c.end.new.out) (g.K.Sink.faults c.print_told.new.sink) c.end.new.self
+    (record { page = c.self-2.inside.page.text; failed = c.is_err-self-inside.result }) text (told_line c.args.log c.args.line.now c.args.told.now)
+    stands bare c.is_err-self-inside.ensures.value (ap (λ (o : OutputState). o.page) c.self-2.view_is ∙ bare)
+    c.print_told.ensures.whole c.print_told.ensures.prefix c.print_told.ensures.failed_only_at_fault c.print_told.ensures.ok_counts_none c.print_told.ensures.count_never_falls ended

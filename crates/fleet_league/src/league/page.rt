@@ -1,0 +1,114 @@
+//! The page on which a league's text is put before it is written.
+ghost use Rattle.std.specs.Prelude.{◌≡◌, ◌≤◌, ◌++◌, [], MatchBool, OnOk, OnErr, IfOk};
+ghost use Rattle.ride_ports.specs.Bytes.{Writes, WritesPrefix};
+ghost use Rattle.ride_ports.specs.Count.{most_count, raised, Rose};
+ghost use Rattle.ride_model.specs.Text.{IsOneOrTwo};
+ghost use Rattle.fleet_league.specs.Feed.{IsSpelledLine};
+ghost use Rattle.fleet_league.specs.LeagueTexts.{told_line};
+
+use crate::NoMemory;
+use crate::league::lines::FeedLine;
+use crate::league::printing::print_told;
+use crate::league::sheets::Told;
+use ride_ports::{Failed, Sink, write_all};
+use std::alloc::Global;
+use std::marker::Model;
+
+/// The bytes of a page.
+const PAGE: usize = 1 << 16;
+
+/// Takes text up to its room, and fails where it is full.
+#[derive(Drop)]
+pub(crate) struct Page {
+    text: Vec<u8>,
+    faults: u64,
+}
+
+impl Model for Page {
+    ghost use Rattle.std.specs.Prelude.{◌≤◌, vec_capacity, length};
+    ghost use Rattle.ride_ports.specs.Count.{most_count};
+    ghost use Rattle.fleet_league.specs.Output.{PageState};
+
+    ghost Value = { PageState };
+
+    ghost view = { λ p. record { text = p.text.items; faults = p.faults } };
+
+    ghost invariant = { λ p. (length p.text.items ≤ 65536) × (65536 ≤ vec_capacity p.text) × (p.faults ≤ most_count) };
+}
+
+impl Page {
+    pub(crate) fn new(alloc: Global) -> Result<Page, NoMemory>
+        ensures { IfOk result (λ page. page.text ≡ []) }
+    {
+        Ok(Page {
+            text: Vec::with_capacity(alloc, PAGE)?,
+            faults: 0,
+        })
+    }
+
+    /// Puts bytes on the page, where there is room for them.
+    pub(crate) fn add(&mut self, bytes: &[u8]) -> bool
+        ensures { MatchBool result (self.new.text ≡ self.old.text ++ bytes.now) (self.new.text ≡ self.old.text) }
+    {
+        if bytes.len() > PAGE - self.text.len() {
+            return false;
+        }
+        self.text.extend_from_slice(bytes).unwrap();
+        true
+    }
+
+    /// Puts what becomes of a line of the feed on the page, where there is room for it.
+    pub(crate) fn add_told(&mut self, line: &FeedLine, told: &Told, log: u8) -> bool
+        requires log { IsOneOrTwo log }
+        requires spelled { IsSpelledLine log line.now }
+        ensures { MatchBool result (self.new.text ≡ self.old.text ++ told_line log line.now told.now) (self.new.text ≡ self.old.text) }
+    {
+        let length = self.text.len();
+        if print_told(line, told, log, self).is_ok() {
+            return true;
+        }
+        self.text.truncate(length);
+        false
+    }
+
+    /// Writes the page, which is empty then.
+    pub(crate) fn write_to<K: Sink>(&mut self, out: &mut K) -> Result<(), Failed>
+        ensures whole { OnOk result (Writes (K.written out.old) (K.written out.new) self.old.text) }
+        ensures emptied { OnOk result (self.new.text ≡ []) }
+        ensures prefix { OnErr result (WritesPrefix (K.written out.old) (K.written out.new) self.old.text) }
+        ensures failed_only_at_fault { OnErr result (Rose (K.faults out.old) (K.faults out.new)) }
+        ensures ok_counts_none { OnOk result (K.faults out.new ≡ K.faults out.old) }
+        ensures count_never_falls { K.faults out.old ≤ K.faults out.new }
+    {
+        write_all(out, self.text.as_slice())?;
+        self.text.clear();
+        Ok(())
+    }
+
+    /// Counts a fault.
+    fn fail(&mut self) -> Failed
+        ensures failed { self.new ≡ record self.old { faults = raised self.old.faults } }
+        ensures small { self.old.faults ≤ most_count }
+    {
+        self.faults = self.faults.saturating_add(1);
+        Failed
+    }
+}
+
+impl Sink for Page {
+    ghost use Rattle.std.specs.Prelude.{Some};
+
+    ghost written = { λ p. Some p.text };
+
+    ghost faults = { λ p. p.faults };
+
+    fn write(&mut self, piece: &[u8]) -> Result<usize, Failed> {
+        let room = PAGE - self.text.len();
+        if room == 0 {
+            return Err(self.fail());
+        }
+        let count = piece.len().min(room);
+        self.text.extend_from_slice(&piece[..count]).unwrap();
+        Ok(count)
+    }
+}
