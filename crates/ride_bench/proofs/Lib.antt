@@ -1,4 +1,3 @@
 mod AskedAt
-mod IdleVehicle
 mod ClockRuns
 mod Looks

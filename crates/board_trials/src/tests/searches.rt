@@ -1,7 +1,10 @@
 //! Both ways to search a pair's places, over the first batch of a generated city.
-ghost use Rattle.std.specs.Prelude.{◌≡◌, ◌≤◌, ◌<◌, Some, IfOk, length};
+ghost use Rattle.std.specs.Prelude.{◌≡◌, ◌≤◌, ◌<◌, [], Some, All, IfOk, length};
+ghost use Rattle.ride_model.specs.declared.vehicle.Vehicle.{Vehicle};
 ghost use Rattle.ride_model.specs.Seating.{BatchCopy};
+ghost use Rattle.ride_model.specs.Settings.{IsSettings};
 ghost use Rattle.ride_model.specs.State.{open_batch_numbered};
+ghost use Rattle.ride_model.specs.Vehicle.{IsLawful};
 ghost use Rattle.board_core.specs.Recorded.{state_of};
 
 use super::cities::PLAN;
@@ -10,7 +13,7 @@ use batch_commit::{Batch, PriceTable};
 use board_core::{Board, Opening};
 use city_maker::{City, make_city};
 use pricing_workers::{Search, price_batch_by, scratches_of};
-use ride_model::{Command, NoMemory};
+use ride_model::{Command, Fleet, NoMemory, Settings};
 use ride_ports::OpenGate;
 use road_times::Roads;
 use std::alloc::Global;
@@ -107,6 +110,44 @@ fn offers_of<R: Threads + Sync + Abort>(
     Ok(offers)
 }
 
+// The first batch of a board that takes these commands, the last of which asks for it, is of eight requests over twenty vehicles.
+fn expect_alike<R: Threads + Sync + Abort>(
+    rt: &R,
+    alloc: Global,
+    board: &mut Board<'_>,
+    roads: &Roads,
+    commands: &[Command],
+)
+    requires { roads.now ≡ board.old.start.roads }
+{
+    let Ok(batch) = first_batch(rt, board, commands) else {
+        panic!(rt; "there is memory");
+    };
+    assert_eq!(rt; batch.requests().len(), 8);
+    assert_eq!(rt; batch.vehicles().vehicles().len(), 20);
+    assert!(rt; offers_of(rt, alloc, board, &batch, roads).is_ok_and(|offers| offers > 0));
+}
+
+// The same on a new board.
+fn expect_first_batch<R: Threads + Sync + Abort>(
+    rt: &R,
+    alloc: Global,
+    roads: &Roads,
+    settings: Settings,
+    fleet: Fleet,
+    commands: &[Command],
+)
+    requires settings { IsSettings settings }
+    requires lawful { All (IsLawful roads.now) fleet }
+    requires idle { All (λ (v : Vehicle). v.stops.items ≡ []) fleet }
+    requires first_versions { All (λ (v : Vehicle). v.version ≡ 0) fleet }
+{
+    let Ok(mut board) = Board::new(alloc, roads, settings, fleet, 1, 1) else {
+        panic!(rt; "there is memory");
+    };
+    expect_alike(rt, alloc, &mut board, roads, commands);
+}
+
 #[test]
 fn both_searches_price_a_citys_first_batch_alike(rt: HostRuntime) -> Result<(), Fail> {
     let alloc = rt.alloc();
@@ -117,12 +158,8 @@ fn both_searches_price_a_citys_first_batch_alike(rt: HostRuntime) -> Result<(), 
         commands,
     } = make_city(alloc, &PLAN)?;
     let roads = Roads::new(alloc, &network)?;
-    let mut board = Board::new(alloc, &roads, settings, fleet, 1, 1)?;
     // A clock, the eight requests of a group, and what asks for their batch.
     assert!(&rt; commands.items().len() >= 10);
-    let batch = first_batch(&rt, &mut board, &commands.items()[..10])?;
-    assert_eq!(&rt; batch.requests().len(), 8);
-    assert_eq!(&rt; batch.vehicles().vehicles().len(), 20);
-    assert!(&rt; offers_of(&rt, alloc, &board, &batch, &roads)? > 0);
+    expect_first_batch(&rt, alloc, &roads, settings, fleet, &commands.items()[..10]);
     Ok(())
 }
