@@ -30,5 +30,4 @@ pub mod WonOnly
 pub mod Beside
 pub mod LeagueKept
 pub mod RoundsMade
-pub mod OutputLemmas
 pub mod ToldLines

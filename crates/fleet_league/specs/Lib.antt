@@ -11,5 +11,4 @@ pub mod LeagueTexts
 pub mod RoundParts
 pub mod League
 pub mod LeagueBoards
-pub mod Output
 pub mod Leagued

@@ -2,8 +2,6 @@
 mod desk;
 mod lines;
 mod members;
-mod output;
-mod page;
 mod parts;
 mod playing;
 mod printing;
