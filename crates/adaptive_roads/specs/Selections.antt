@@ -5,7 +5,8 @@ use Rattle.road_times.specs.declared.side.Side.TheVariants.{Out, Back}
 use Rattle.contraction.specs.Contracted.{Contracted, IsContractionOf}
 use Rattle.road_hierarchy.specs.Selection.{Selection, IsSelectionOf}
 
--- the hierarchy, the wanted nodes, the ends, and the most nodes that were selected for any of these
+-- the hierarchy, the wanted nodes, the ends, and how many labels a row needs: one for each node, and one for each that was
+-- selected for any of these
 pub record Selected : Type 0 where
   pub hierarchy : Contracted
   pub wanted : List ℕ

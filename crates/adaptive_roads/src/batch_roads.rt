@@ -94,7 +94,7 @@ impl<'a> BatchRoads<'a> {
         // This call tells that the roads are a map.
         let _nodes = self.roads.nodes();
         if let Some(selections) = self.selections {
-            selections.row(scratch, &mut room.sweep, x, side, into);
+            selections.row(&mut room.sweep, x, side, into);
             return;
         }
         self.roads.rows(scratch, x, side, self.wanted, into);
@@ -115,7 +115,7 @@ impl<'a> BatchRoads<'a> {
         let _nodes = self.roads.nodes();
         if let Some(selections) = self.selections {
             if let Some(end) = self.ends.iter().position(|end| *end == y) {
-                return selections.time_to_end(scratch, &mut room.sweep, x, end);
+                return selections.time_to_end(&mut room.sweep, x, end);
             }
         }
         let time = self.roads.time(scratch, x, y);

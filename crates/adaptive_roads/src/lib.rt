@@ -1,9 +1,9 @@
 //! The roads of a session: searched at first, and swept by a hierarchy once that pays.
 //!
 //! Making a hierarchy takes about as long as 120 searches of the whole map. So roads are searched until that much was searched, and
-//! then their map is contracted, a piece before each batch. What is counted is nodes and links, never time: the same input always
-//! does the same. Where memory is wanting, or too much of a map does not contract, rows come by searches for good. The rows are the
-//! same either way.
+//! then their map is contracted, a piece for each batch, about as long as one worker's searches of the last one. What is counted is
+//! nodes and links, never time: the same input always does the same. Where memory is wanting, or a map does not contract, rows come by
+//! searches for good. The rows are the same either way.
 #![tactic(auto)]
 
 ghost use Rattle.std.specs.Prelude.{◌≡◌, All, IfSome};
@@ -28,13 +28,24 @@ pub use selections::Selections;
 /// How many times as many nodes as the map has are settled by searches before its contraction pays.
 const MAPS_BEFORE: u64 = 120;
 
+/// How many links a contraction looks at in about the time in which a search settles a node.
+const LINKS_A_NODE: u64 = 4;
+
 // Memory: while the map is contracted, what a contraction takes; after that, what a hierarchy takes.
+
+/// How many nodes the searches of a batch settled: all workers together, and the worker that settled the most.
+#[derive(Clone, Copy, Debug, Default, PartialEq, Eq)]
+pub struct Searched {
+    pub together: u64,
+    pub most: u64,
+}
 
 /// Roads, and a hierarchy of them as far as it is made. To contracts they mean the map.
 #[derive(Drop)]
 pub struct AdaptiveRoads<'r> {
     roads: &'r Roads,
     settled: u64,
+    most: u64,
     stage: Stage,
 }
 
@@ -58,6 +69,7 @@ impl<'r> AdaptiveRoads<'r> {
         AdaptiveRoads {
             roads,
             settled: 0,
+            most: 0,
             stage: Stage::Searching,
         }
     }
@@ -69,23 +81,43 @@ impl<'r> AdaptiveRoads<'r> {
         self.roads
     }
 
-    /// Notes how many nodes searches settled.
+    /// Notes how many nodes searches settled, one after another.
     pub fn note(&mut self, settled: u64)
         ensures { self.new ≡ self.old }
     {
-        self.settled = self.settled.saturating_add(settled);
+        self.note_batch(Searched {
+            together: settled,
+            most: settled,
+        });
     }
 
-    /// Goes on with the hierarchy, once enough was searched. Where memory is wanting it is given up.
+    /// Notes how many nodes the searches of a batch settled.
+    pub fn note_batch(&mut self, searched: Searched)
+        ensures { self.new ≡ self.old }
+    {
+        self.settled = self.settled.saturating_add(searched.together);
+        self.most = self.most.max(searched.most);
+    }
+
+    /// Whether the hierarchy is to be made: enough was searched, and it is neither made nor given up. Until it is made, rows come by
+    /// searches.
+    pub fn is_making(&self) -> bool {
+        let enough = u64::from(self.roads.nodes()).saturating_mul(MAPS_BEFORE);
+        self.settled >= enough && self.stage.is_making()
+    }
+
+    /// Goes on with the hierarchy, about as long as the searches took that were noted since the last time. Where memory is wanting it
+    /// is given up.
     pub fn prepare(&mut self, alloc: Global)
         ensures { self.new ≡ self.old }
     {
-        let enough = u64::from(self.roads.nodes()).saturating_mul(MAPS_BEFORE);
-        if self.settled < enough {
+        if !self.is_making() {
             return;
         }
+        let fuel = self.most.saturating_mul(LINKS_A_NODE);
+        self.most = 0;
         let stage = mem::replace(&mut self.stage, Stage::SearchingOnly);
-        if let Ok(next) = stage.next(alloc, self.roads) {
+        if let Ok(next) = stage.next(alloc, self.roads, fuel) {
             self.stage = next;
         }
     }

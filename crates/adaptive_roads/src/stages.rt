@@ -9,15 +9,6 @@ use road_hierarchy::Hierarchy;
 use road_times::Roads;
 use std::alloc::Global;
 
-/// How many links are looked at in a piece of the contraction, for each node of the map: about as long as 30 searches of it take.
-const LINKS_A_NODE: u64 = 240;
-
-/// The greatest part of the links that may stay in the core: one in so many. A row searches the whole core.
-const CORE_PART: usize = 32;
-
-/// The level of a node of the core.
-const IN_CORE: u32 = u32::MAX;
-
 #[derive(Drop)]
 pub(crate) enum Stage {
     /// Too little was searched.
@@ -30,49 +21,33 @@ pub(crate) enum Stage {
     SearchingOnly,
 }
 
-/// Whether so few links are left among the nodes of the core that sweeps pay.
-fn is_thin(contraction: &Contraction) -> bool {
-    let levels = contraction.levels();
-    let links = contraction.links();
-    let mut left = 0usize;
-    for place in 0..links {
-        let arc = contraction.link(place);
-        let is_left = is_in_core(levels, arc.tail) && is_in_core(levels, arc.head);
-        left = left.saturating_add(usize::from(is_left));
-    }
-    left <= links / CORE_PART
-}
-
-fn is_in_core(levels: &[u32], node: u32) -> bool {
-    levels.get(node as usize).copied() == Some(IN_CORE)
-}
-
-/// The hierarchy of a contraction that is over, if sweeps of it pay.
-fn packed(alloc: Global, roads: &Roads, contraction: &Contraction) -> Result<Stage, NoMemory>
-    requires hierarchy { IsContractionOf roads.now contraction.now }
-    requires nodes { contraction.now.nodes ≡ roads.now.nodes }
+/// The hierarchy of a contraction that is over, if no node is left.
+fn packed(alloc: Global, roads: &Roads, contraction: Contraction) -> Result<Stage, NoMemory>
+    requires hierarchy { IsContractionOf roads.now contraction }
+    requires nodes { contraction.nodes ≡ roads.now.nodes }
     ensures { IfOk result (IsStage roads.now) }
 {
-    if !is_thin(contraction) {
-        return Ok(Stage::SearchingOnly);
-    }
-    match Hierarchy::new(alloc, roads, contraction)? {
+    match Hierarchy::new(alloc, contraction)? {
         Some(hierarchy) => Ok(Stage::Sweeping(hierarchy)),
         None => Ok(Stage::SearchingOnly),
     }
 }
 
-/// A contraction with a piece more, or the hierarchy once no more is to be contracted.
-fn contracted(alloc: Global, roads: &Roads, mut contraction: Contraction) -> Result<Stage, NoMemory>
+/// A contraction in which so many more links were looked at, or the hierarchy once no more is to be contracted.
+fn contracted(
+    alloc: Global,
+    roads: &Roads,
+    fuel: u64,
+    mut contraction: Contraction,
+) -> Result<Stage, NoMemory>
     requires hierarchy { IsContractionOf roads.now contraction }
     requires nodes { contraction.nodes ≡ roads.now.nodes }
     ensures { IfOk result (IsStage roads.now) }
 {
-    let fuel = u64::from(roads.nodes()).saturating_mul(LINKS_A_NODE);
     if contraction.contract_some(fuel)? {
         return Ok(Stage::Contracting(contraction));
     }
-    packed(alloc, roads, &contraction)
+    packed(alloc, roads, contraction)
 }
 
 /// A map of which nothing is contracted.
@@ -85,14 +60,19 @@ fn uncontracted(alloc: Global, roads: &Roads) -> Result<Contraction, NoMemory>
 }
 
 impl Stage {
-    /// The stage after a piece of work.
-    pub(crate) fn next(self, alloc: Global, roads: &Roads) -> Result<Stage, NoMemory>
+    /// Whether the hierarchy is neither made nor given up.
+    pub(crate) fn is_making(&self) -> bool {
+        matches!(self, Stage::Searching | Stage::Contracting(_))
+    }
+
+    /// The stage after a piece of work, in which so many links are looked at.
+    pub(crate) fn next(self, alloc: Global, roads: &Roads, fuel: u64) -> Result<Stage, NoMemory>
         requires { IsStage roads.now self }
         ensures { IfOk result (IsStage roads.now) }
     {
         match self {
-            Stage::Searching => contracted(alloc, roads, uncontracted(alloc, roads)?),
-            Stage::Contracting(contraction) => contracted(alloc, roads, contraction),
+            Stage::Searching => contracted(alloc, roads, fuel, uncontracted(alloc, roads)?),
+            Stage::Contracting(contraction) => contracted(alloc, roads, fuel, contraction),
             Stage::Sweeping(hierarchy) => Ok(Stage::Sweeping(hierarchy)),
             Stage::SearchingOnly => Ok(Stage::SearchingOnly),
         }

@@ -9,7 +9,9 @@ ghost use Rattle.std.specs.Prelude.{◌≡◌, ℕ, ◌+◌, ◌<◌, ◌≤◌,
 ghost use Rattle.ride_model.specs.Road.{RoadMap};
 ghost use Rattle.radix_queue.specs.Queue.{Queue};
 ghost use Rattle.contraction.specs.Contracted.{IsContractionOf, IsFitContraction};
+ghost use Rattle.contraction.specs.Graph.{IsGraph};
 ghost use Rattle.contraction.specs.Levels.{level_in};
+ghost use Rattle.contraction.specs.View.{arcs_of, contracted_of};
 
 use radix_queue::RadixQueue;
 use ride_model::{Network, RoadArc};
@@ -21,7 +23,7 @@ mod shortcuts;
 mod start;
 mod witness;
 
-use graph::{Graph, MOST_LINKS, Neighbor};
+use graph::{Graph, Link, MOST_LINKS, Neighbor};
 use shortcuts::{contract, judge};
 use start::{first_candidates, graph_of};
 use witness::Witness;
@@ -50,6 +52,16 @@ pub struct Contraction {
     most_links: usize,
     work_left: u64,
     is_spent: bool,
+}
+
+/// What a contraction leaves: the arcs and shortcuts, the level of each node, where that of a node of the core is u32::MAX, and the
+/// contracted nodes in the order of their levels.
+#[derive(Drop)]
+pub struct Levelled {
+    pub nodes: u32,
+    pub arcs: Vec<RoadArc>,
+    pub levels: Vec<u32>,
+    pub order: Vec<u32>,
 }
 
 impl Model for Contraction {
@@ -82,6 +94,13 @@ fn deepen(depths: &mut [u32], neighbors: &[Neighbor], depth: u32) {
             *had = (*had).max(depth);
         }
     }
+}
+
+/// The arcs of links, without their chains.
+fn arcs_of(alloc: Global, links: &[Link]) -> Result<Vec<RoadArc>, AllocError>
+    ensures { IfOk result (λ arcs. arcs.items ≡ arcs_of links.now) }
+{
+    links.iter().map(|link| link.arc).collect(alloc)
 }
 
 impl Contraction {
@@ -236,5 +255,32 @@ impl Contraction {
         ensures { slice_get self.now.arcs place ≡ Some result }
     {
         self.graph.links[place].arc
+    }
+
+    /// The graph alone: what only contracting needs is freed.
+    fn into_graph(self) -> Graph
+        ensures graph { IsGraph result }
+        ensures seen { contracted_of self.is_spent result ≡ self }
+    {
+        self.graph
+    }
+
+    /// What the contraction leaves, as far as it went. All else is freed before the arcs are copied.
+    pub fn finish(self, alloc: Global) -> Result<Levelled, NoMemory>
+        ensures nodes { IfOk result (λ made. made.nodes ≡ self.nodes) }
+        ensures arcs { IfOk result (λ made. made.arcs.items ≡ self.arcs) }
+        ensures levels { IfOk result (λ made. made.levels.items ≡ self.levels) }
+        ensures order { IfOk result (λ made. made.order.items ≡ self.order) }
+        ensures few { IfOk result (λ made. length made.arcs.items ≤ 5000000) }
+        ensures fits { IsFitContraction self }
+    {
+        let graph = self.into_graph();
+        let arcs = arcs_of(alloc, graph.links.as_slice())?;
+        Ok(Levelled {
+            nodes: graph.nodes,
+            arcs,
+            levels: graph.levels,
+            order: graph.order,
+        })
     }
 }

@@ -14,7 +14,7 @@ use crate::pairs::Search;
 use crate::pieces::{Job, fill_rows};
 use crate::times::Times;
 use crate::wanted::Wanted;
-use adaptive_roads::{AdaptiveRoads, BatchRoads};
+use adaptive_roads::{AdaptiveRoads, BatchRoads, Searched};
 use batch_commit::{Batch, PriceTable};
 use ride_model::{Offer, Ride};
 use ride_ports::{Gate, NoMemory};
@@ -72,11 +72,12 @@ pub fn price_batch_by<R: Threads + Sync, G: Gate>(
         batch,
         wanted: &wanted,
     };
-    let (table, _settled) = table_of(rt, alloc, &job, scratches, gate)?;
+    let (table, _searched) = table_of(rt, alloc, &job, scratches, gate)?;
     Ok(table)
 }
 
-/// The same over roads that adapt: rows come by sweeps once that pays. What was searched is noted.
+/// The same over roads that adapt: rows come by sweeps once that pays, and until then a piece of what sweeps need is made beside the
+/// searches. What was searched is noted.
 pub fn price_batch_adapting<R: Threads + Sync, G: Gate>(
     rt: &R,
     alloc: Global,
@@ -95,13 +96,83 @@ pub fn price_batch_adapting<R: Threads + Sync, G: Gate>(
     ensures roads { roads.new ≡ roads.old }
     ensures scratches { scratches.new ≡ scratches.old }
 {
-    roads.prepare(alloc);
-    let (table, settled) = table_either_way(rt, alloc, search, batch, roads, scratches, gate)?;
-    roads.note(settled);
+    let (table, searched) = if roads.is_making() {
+        table_beside(rt, alloc, search, batch, roads, scratches, gate)?
+    } else {
+        table_either_way(rt, alloc, search, batch, roads, scratches, gate)?
+    };
+    roads.note_batch(searched);
     Ok(table)
 }
 
-// The table of a batch over roads as far as they have adapted, and how many nodes its searches settled.
+// The table of a batch by searches, while a piece of what sweeps need is made.
+fn table_beside<R: Threads + Sync, G: Gate>(
+    rt: &R,
+    alloc: Global,
+    search: Search,
+    batch: &Batch,
+    adaptive: &mut AdaptiveRoads,
+    scratches: &mut [Scratch],
+    gate: &G,
+) -> Result<(PriceTable, Searched), NoMemory>
+    requires some_scratch { 1 ≤ length scratches.old }
+    requires scratches { All (λ scratch. scratch.nodes ≡ adaptive.old.nodes) scratches.old }
+    requires time { batch.now.time ≤ 1000000000 }
+    requires over_map { IsBatchOver adaptive.old batch.now }
+    requires lawful { All (IsLawful adaptive.old) batch.now.vehicles }
+    ensures table { IfOk result (λ pair. IsTableOf adaptive.old batch.now pair.0) }
+    ensures adaptive { adaptive.new ≡ adaptive.old }
+    ensures scratches { scratches.new ≡ scratches.old }
+{
+    let roads = adaptive.roads();
+    let wanted = wanted_of(alloc, batch, roads)?;
+    let roads = BatchRoads::by_searches(roads, wanted.nodes.as_slice());
+    let job = Job {
+        search,
+        roads: &roads,
+        batch,
+        wanted: &wanted,
+    };
+    make_beside(rt, alloc, &job, adaptive, scratches, gate)
+}
+
+// The table of a batch, while a piece of what sweeps need is made.
+fn make_beside<R: Threads + Sync, G: Gate>(
+    rt: &R,
+    alloc: Global,
+    job: &Job,
+    adaptive: &mut AdaptiveRoads,
+    scratches: &mut [Scratch],
+    gate: &G,
+) -> Result<(PriceTable, Searched), NoMemory>
+    requires ready { MayFill job.now.roads.now.roads job.now.batch.now job.now.wanted.now }
+    requires over_map { IsBatchOver job.now.roads.now.roads job.now.batch.now }
+    requires wanted { job.now.roads.now.wanted ≡ job.now.wanted.now.nodes.items }
+    requires some_scratch { 1 ≤ length scratches.old }
+    requires scratches { All (λ scratch. scratch.nodes ≡ job.now.roads.now.roads.nodes) scratches.old }
+    ensures table { IfOk result (λ pair. IsTableOf job.now.roads.now.roads job.now.batch.now pair.0) }
+    ensures adaptive { adaptive.new ≡ adaptive.old }
+    ensures scratches { scratches.new ≡ scratches.old }
+{
+    let (_, made) = join_mut(
+        rt,
+        &mut ||
+            ensures { adaptive.exit.now ≡ adaptive.entry.now }
+        { adaptive.prepare(alloc) },
+        &mut ||
+            requires { MayFill job.now.roads.now.roads job.now.batch.now job.now.wanted.now
+                × IsBatchOver job.now.roads.now.roads job.now.batch.now
+                × (job.now.roads.now.wanted ≡ job.now.wanted.now.nodes.items)
+                × (1 ≤ length scratches.now)
+                × All (λ scratch. scratch.nodes ≡ job.now.roads.now.roads.nodes) scratches.now }
+            ensures { IfOk result (λ pair. IsTableOf job.entry.now.roads.now.roads job.entry.now.batch.now pair.0)
+                × (scratches.exit.now ≡ scratches.entry.now) }
+        { table_of(rt, alloc, job, scratches, gate) },
+    );
+    made
+}
+
+// The table of a batch over roads as far as they have adapted, and what its searches settled.
 fn table_either_way<R: Threads + Sync, G: Gate>(
     rt: &R,
     alloc: Global,
@@ -110,7 +181,7 @@ fn table_either_way<R: Threads + Sync, G: Gate>(
     adaptive: &AdaptiveRoads,
     scratches: &mut [Scratch],
     gate: &G,
-) -> Result<(PriceTable, u64), NoMemory>
+) -> Result<(PriceTable, Searched), NoMemory>
     requires some_scratch { 1 ≤ length scratches.old }
     requires scratches { All (λ scratch. scratch.nodes ≡ adaptive.now.nodes) scratches.old }
     requires time { batch.now.time ≤ 1000000000 }
@@ -155,14 +226,14 @@ fn wanted_of(alloc: Global, batch: &Batch, roads: &Roads) -> Result<Wanted, NoMe
     Ok(wanted)
 }
 
-// The table of a batch, and how many nodes its searches settled.
+// The table of a batch, and what its searches settled.
 fn table_of<R: Threads + Sync, G: Gate>(
     rt: &R,
     alloc: Global,
     job: &Job,
     scratches: &mut [Scratch],
     gate: &G,
-) -> Result<(PriceTable, u64), NoMemory>
+) -> Result<(PriceTable, Searched), NoMemory>
     requires ready { MayFill job.now.roads.now.roads job.now.batch.now job.now.wanted.now }
     requires over_map { IsBatchOver job.now.roads.now.roads job.now.batch.now }
     requires wanted { job.now.roads.now.wanted ≡ job.now.wanted.now.nodes.items }
@@ -174,12 +245,12 @@ fn table_of<R: Threads + Sync, G: Gate>(
     let rows = job.batch.requests().len();
     let columns = job.batch.vehicles().vehicles().len();
     let mut cells = vec![in alloc; None; rows * columns]?;
-    let settled = fill_cells(rt, alloc, job, scratches, gate, cells.as_mut_slice())?;
+    let searched = fill_cells(rt, alloc, job, scratches, gate, cells.as_mut_slice())?;
     let table = PriceTable::of(rows as u32, columns as u32, cells);
-    Ok((table, settled))
+    Ok((table, searched))
 }
 
-// Fills the cells of all requests. Answers how many nodes searches settled.
+// Fills the cells of all requests. Answers what searches settled.
 fn fill_cells<R: Threads + Sync, G: Gate>(
     rt: &R,
     alloc: Global,
@@ -187,7 +258,7 @@ fn fill_cells<R: Threads + Sync, G: Gate>(
     scratches: &mut [Scratch],
     gate: &G,
     cells: &mut [Option<Offer>],
-) -> Result<u64, NoMemory>
+) -> Result<Searched, NoMemory>
     requires ready { MayFill job.now.roads.now.roads job.now.batch.now job.now.wanted.now }
     requires few { length job.now.batch.now.requests ≤ 128 }
     requires requests { All (IsRequest job.now.roads.now.roads job.now.batch.now) job.now.batch.now.requests }
@@ -211,16 +282,18 @@ fn fill_cells<R: Threads + Sync, G: Gate>(
         gate,
         cells,
     );
-    Ok(settled_of(times.as_slice()))
+    Ok(searched_by(times.as_slice()))
 }
 
-// How many nodes searches settled, all workers together.
-fn settled_of(times: &[Times]) -> u64 {
-    let mut settled = 0u64;
+// How many nodes the workers' searches settled.
+fn searched_by(times: &[Times]) -> Searched {
+    let mut searched = Searched::default();
     for worker in times {
-        settled = settled.saturating_add(worker.room.settled());
+        let settled = worker.room.settled();
+        searched.together = searched.together.saturating_add(settled);
+        searched.most = searched.most.max(settled);
     }
-    settled
+    searched
 }
 
 // Times for so many workers, each with room for so many nodes, and for sweeps of so many places.

@@ -1,4 +1,4 @@
-// A generated map: crossings on a grid, of whose streets 7 in 10 are there.
+// Generated maps: crossings on a grid, of whose streets a part is there, and arcs that are drawn.
 ghost use Rattle.std.specs.Prelude.{◌≡◌, ◌≤◌, ◌<◌, length, All, IfOk};
 ghost use Rattle.trial_town.specs.Streets.{IsPlace, AreStreets};
 
@@ -6,11 +6,12 @@ use anyhow::{Result, ensure};
 use ride_model::{Network, RoadArc};
 use std::alloc::{AllocError, Global};
 
-/// So many crossings, with so many in a line.
+/// So many crossings, with so many in a line, and so many of ten streets.
 #[derive(Clone, Copy)]
 pub(crate) struct Grid {
     pub(crate) nodes: u32,
     pub(crate) width: u32,
+    pub(crate) kept: u32,
 }
 
 /// A number that depends on both, as evenly spread as a draw.
@@ -22,14 +23,14 @@ pub(crate) fn mix(a: u32, b: u32) -> u32 {
 }
 
 /// Adds a street in both directions, with 2 to 60 seconds, unless the map leaves it out.
-fn add_street(arcs: &mut Vec<RoadArc>, nodes: u32, from: u32, to: u32) -> Result<(), AllocError>
-    requires from { IsPlace nodes from }
-    requires to { IsPlace nodes to }
-    requires streets { AreStreets nodes arcs.old.items }
-    ensures streets { AreStreets nodes arcs.new.items }
+fn add_street(arcs: &mut Vec<RoadArc>, grid: Grid, from: u32, to: u32) -> Result<(), AllocError>
+    requires from { IsPlace grid.nodes from }
+    requires to { IsPlace grid.nodes to }
+    requires streets { AreStreets grid.nodes arcs.old.items }
+    ensures streets { AreStreets grid.nodes arcs.new.items }
 {
     let drawn = mix(from, to);
-    if drawn % 10 >= 7 {
+    if drawn % 10 >= grid.kept {
         return Ok(());
     }
     let seconds = 2 + (drawn >> 8) % 59;
@@ -55,10 +56,10 @@ fn streets(alloc: Global, grid: Grid) -> Result<Vec<RoadArc>, AllocError>
     for place in 0..grid.nodes {
         let node = place + 1;
         if node % grid.width != 0 && node < grid.nodes {
-            add_street(&mut arcs, grid.nodes, node, node + 1)?;
+            add_street(&mut arcs, grid, node, node + 1)?;
         }
         if node + grid.width <= grid.nodes {
-            add_street(&mut arcs, grid.nodes, node, node + grid.width)?;
+            add_street(&mut arcs, grid, node, node + grid.width)?;
         }
     }
     Ok(arcs)
@@ -73,4 +74,33 @@ pub(crate) fn generate(alloc: Global, grid: Grid) -> Result<Network>
     let arcs = streets(alloc, grid)?;
     ensure!(arcs.len() <= 2_000_000, "{} arcs are too many", arcs.len());
     Ok(Network::new(grid.nodes, arcs))
+}
+
+/// Arcs between nodes that are drawn.
+fn drawn_arcs(alloc: Global, nodes: u32, count: u32) -> Result<Vec<RoadArc>, AllocError>
+    requires { (1 ≤ nodes) × (nodes ≤ 500000) }
+    ensures streets { IfOk result (λ arcs. AreStreets nodes arcs.items) }
+    ensures count { IfOk result (λ arcs. length arcs.items ≡ count) }
+{
+    let mut arcs = Vec::new(alloc);
+    for place in 0..count {
+        let tail = mix(place, 1);
+        let head = mix(place, 2);
+        arcs.push(RoadArc {
+            tail: 1 + tail % nodes,
+            head: 1 + head % nodes,
+            seconds: 2 + mix(place, 3) % 59,
+        })?;
+    }
+    Ok(arcs)
+}
+
+/// A map of arcs that are drawn.
+pub(crate) fn drawn(alloc: Global, nodes: u32, count: u32) -> Result<Network, AllocError>
+    requires nodes { (1 ≤ nodes) × (nodes ≤ 500000) }
+    requires count { count ≤ 2000000 }
+    ensures { IfOk result (λ map. map.nodes ≡ nodes) }
+{
+    let arcs = drawn_arcs(alloc, nodes, count)?;
+    Ok(Network::new(nodes, arcs))
 }

@@ -1,12 +1,14 @@
-//! Times the parts of the dispatcher whose speed matters, each by a word: `new_york` for rows of travel times, `read_map FILE`
-//! for the reading of a map, `grids` for least pairings, `places` for the cheapest places in a plan, `shared` for calls of a board
-//! that threads share, `bookings` for a day of bookings. With no word it prints the answers of small ones, with no times.
+//! Times the parts of the dispatcher whose speed matters, each by a word: `new_york` for rows of travel times, `hierarchy MAP` for rows
+//! by a hierarchy of `new_york`, of a `lattice` or of a `random` map, `read_map FILE` for the reading of a map, `grids` for least
+//! pairings, `places` for the cheapest places in a plan, `shared` for calls of a board that threads share, `bookings` for a day of
+//! bookings. With no word it prints the answers of small ones, with no times.
 #![tactic(auto)]
 
 mod assignment;
 mod boards;
 mod bookings;
 mod grid;
+mod hierarchies;
 mod places;
 mod reading;
 mod rows;
@@ -29,6 +31,7 @@ where
     let mut words = env::args(rt)?.skip(1);
     let Some(word) = words.next() else {
         rows::small(rt, alloc)?;
+        hierarchies::small(rt, alloc)?;
         assignment::product(rt, alloc)?;
         places::small(rt)?;
         shared::small(rt, alloc)?;
@@ -36,12 +39,15 @@ where
     };
     match (word.as_str(), words.next()) {
         ("bookings", None) => bookings::bookings(rt, alloc),
+        ("hierarchy", Some(map)) => hierarchies::hierarchy(rt, alloc, map.as_str()),
         ("grids", None) => assignment::grids(rt, alloc),
         ("places", None) => places::places(rt),
         ("shared", None) => shared::shared(rt, alloc),
         ("new_york", None) => rows::new_york(rt, alloc),
         ("read_map", Some(name)) => reading::time_map(rt, alloc, name),
-        _ => bail!("bookings, grids, new_york, places, shared, or read_map and a file's name"),
+        _ => bail!(
+            "bookings, grids, hierarchy and a map, new_york, places, shared, or read_map and a file's name"
+        ),
     }
 }
 

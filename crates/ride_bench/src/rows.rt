@@ -9,14 +9,18 @@ use std::alloc::{AllocError, Global};
 use std::rt::Clock;
 use std::time::Instant;
 
-const SMALL: Grid = Grid {
+/// A map of a few crossings.
+pub(crate) const SMALL: Grid = Grid {
     nodes: 40,
     width: 6,
+    kept: 7,
 };
 
-const NEW_YORK: Grid = Grid {
+/// A map of New York's size.
+pub(crate) const NEW_YORK: Grid = Grid {
     nodes: 264_346,
     width: 514,
+    kept: 7,
 };
 
 fn all_nodes(alloc: Global, nodes: u32) -> Result<Vec<u32>, AllocError>

@@ -1,5 +1,5 @@
--- Which nodes are selected: those of the core first, and then those that were contracted, from the highest down.
-use Rattle.std.proofs.Common.{◌≡◌, ℕ, ◌+◌, ◌-◌, ◌<◌, ◌≤◌, inl, inr, Bool, List, [], ◌∷◌, ◌++◌, length, set, sym, ◌∙◌, ap, subst, arith, length-append}
+-- Which nodes are selected, from the highest down.
+use Rattle.std.proofs.Common.{◌≡◌, ℕ, ◌+◌, ◌-◌, ◌<◌, ◌≤◌, inl, inr, Bool, List, [], ◌∷◌, ◌++◌, length, set, refl, sym, ◌∙◌, ap, subst, arith, length-append}
 use Rattle.std.specs.Prelude.{map, All, slice_range}
 use Rattle.std.proofs.lemmas.Bool.{cases_eq}
 use Rattle.std.proofs.lemmas.List.{get_or-append-add, get_or-map, length-map}
@@ -16,9 +16,10 @@ use Rattle.road_hierarchy.specs.Links.{IsLinkBy}
 use Rattle.road_hierarchy.specs.Parts.{start_at, IsIn}
 use Rattle.road_hierarchy.specs.Descents.{no_upper, upper_at, IsUpperOf, AreDescents}
 use Rattle.road_hierarchy.specs.Marks.{IsMarked, node_at, AreClosed}
-use Rattle.road_hierarchy.specs.Selection.{no_step, step_at, step_from, IsSelecting, IsSelectingOf, InCoreBelow, IsFrom, AreLaidOut, IsSelectionOf, selection_of}
-use Rattle.road_hierarchy.proofs.Parts.{slice-at, length-slice}
-use Rattle.road_hierarchy.proofs.Marking.{falls-low, node-of_level, link-inside, upper-higher}
+use Rattle.road_hierarchy.specs.Selection.{no_step, step_at, step_from, IsSelecting, IsSelectingOf, IsFrom, AreLaidOut, IsSelectionOf, selection_of}
+use Rattle.road_hierarchy.specs.Packed.{IsWhole}
+use Rattle.road_hierarchy.proofs.Parts.{slice-at, length-slice, parts-none}
+use Rattle.road_hierarchy.proofs.Marking.{node-of_level, link-inside, upper-higher}
 use Rattle.road_hierarchy.proofs.Selecting.{AreNewSteps, same-arc, selecting-added, steps-kept, selecting-few}
 
 -- the same lists
@@ -32,37 +33,31 @@ selecting-same Link level count marks IsDone nodes starts steps places more_node
     (subst (λ ss. IsSelecting Link level count marks IsDone nodes ss steps more_places) (sym same_starts)
     (subst (IsSelecting Link level count marks IsDone nodes starts steps) (sym same_places) s))
 
--- a node of the core is selected: no arc leads down to it
-pub core-added : (side : Side) (h : Contracted) (marks : List Bool) (node : ℕ) (s t : Selecting) → IsFitContraction h
-    → IsSelectingOf h side marks (InCoreBelow h.levels node) s → 1 ≤ node → node < h.nodes + 1 → level_in h.levels node ≡ 4294967295
-    → t.nodes.items ≡ s.nodes.items ++ node ∷ [] → t.starts.items ≡ s.starts.items ++ length s.steps.items ∷ []
-    → t.steps.items ≡ s.steps.items → t.places.items ≡ set s.places.items node (length s.nodes.items)
-    → IsSelectingOf h side marks (InCoreBelow h.levels (node + 1)) t
-core-added side h marks node s t fit is some low level nodes starts steps places =
-    selecting-same Link (level_in h.levels) (h.nodes + 1) marks (InCoreBelow h.levels (node + 1)) _ _ t.steps.items _ t.nodes.items t.starts.items t.places.items
-    nodes (starts ∙ ap (λ n. s.starts.items ++ n ∷ []) (sym count)) places
-    (selecting-added Link (level_in h.levels) (h.nodes + 1) marks (InCoreBelow h.levels node) (InCoreBelow h.levels (node + 1))
-    s.nodes.items s.starts.items s.steps.items t.steps.items s.places.items node is some low
-    (λ done. (let below = done.1 in omega arith))
-    (omega (arith, count)) (λ k k_low. ap (λ ts. step_at ts k) steps) none
-    (level, omega arith)
-    (λ x done. (done.0, omega (arith, done.1)))
-    (λ x free differs done. (done.0, (let below = done.1 in omega arith))))
+-- before any node is selected: none is above all levels
+pub selecting-none : (side : Side) (h : Contracted) (marks : List Bool) (s : Selecting) → IsWhole h
+    → s.nodes.items ≡ [] → s.starts.items ≡ 0 ∷ [] → s.steps.items ≡ [] → length s.places.items ≡ h.nodes + 1
+    → IsSelectingOf h side marks (IsFrom h.levels (length h.order)) s
+selecting-none side h marks s whole nodes starts steps places =
+    subst (λ ts. IsSelecting Link (level_in h.levels) (h.nodes + 1) marks (IsFrom h.levels (length h.order)) s.nodes.items s.starts.items ts s.places.items) (sym steps)
+    (selecting-same Link (level_in h.levels) (h.nodes + 1) marks (IsFrom h.levels (length h.order)) [] (0 ∷ []) [] s.places.items s.nodes.items s.starts.items s.places.items
+    nodes starts refl none)
   where
     Link : RoadArc → Type 0
     Link = IsLinkBy side h.arcs
 
-    count : length t.steps.items ≡ length s.steps.items
-    count = ap (λ (ts : List Step). length ts) steps
-
-    none : AreNewSteps Link (level_in h.levels) s.nodes.items node (length s.steps.items) t.steps.items
+    none : IsSelecting Link (level_in h.levels) (h.nodes + 1) marks (IsFrom h.levels (length h.order)) [] (0 ∷ []) [] s.places.items
     none = record {
-      earlier = λ k from to. absurd (omega (arith, count));
-      sound = λ k from to. absurd (omega (arith, count));
-      complete = λ arc falls head.
-          let below = falls-low Link h.nodes h.levels h.order fit.ordered arc falls in
-          let short = fit.ordered.short in
-          absurd (omega (arith, ap (level_in h.levels) head));
+      room = places;
+      parts = parts-none;
+      earlier = λ place k low at. absurd (omega arith);
+      steps_of = record {
+        sound = λ place k low at. absurd (omega arith);
+        complete = λ place arc low falls head. absurd (omega arith);
+      };
+      inside = λ place low. absurd (omega arith);
+      only = λ place low. absurd (omega arith);
+      placed = λ place low. absurd (omega arith);
+      done = λ node free from. (let below = free.1 in let low = whole node free.0 (omega arith) in absurd (omega arith));
     }
 
 -- the upper ends of one level, as a part of all
@@ -244,10 +239,11 @@ places-laid_out side h marks s wanted places is inside marked read = record {
 }
 
 -- what is selected in the end
-pub selection-made : (side : Side) (h : Contracted) (marks : List Bool) (s : Selecting) (places : List ℕ) → IsSelectingOf h side marks (IsFrom h.levels 0) s
-    → IsSelectionOf h (selection_of side s.nodes.items s.starts.items s.steps.items places)
-selection-made side h marks s places is = record {
+pub selection-made : (side : Side) (h : Contracted) (marks : List Bool) (s : Selecting) (ranks places : List ℕ) → IsSelectingOf h side marks (IsFrom h.levels 0) s
+    → ranks ≡ map (level_in h.levels) s.nodes.items → IsSelectionOf h (selection_of side s.nodes.items ranks s.starts.items s.steps.items places)
+selection-made side h marks s ranks places is ranked = record {
   few = (let few = selecting-few (IsLinkBy side h.arcs) (level_in h.levels) (h.nodes + 1) marks (IsFrom h.levels 0) s.nodes.items s.starts.items s.steps.items s.places.items is (omega arith) in omega arith);
   inside = All-from_get_or (λ node. (1 ≤ node) × (node ≤ h.nodes)) s.nodes.items 0 (λ k low. (let (one, high) = is.inside k low in (one, omega arith)));
+  ranked = ranked;
   steps = is.steps_of;
 }

@@ -7,3 +7,4 @@ pub mod Packing
 pub mod Sweeping
 pub mod Labels
 pub mod Choosing
+pub mod Climbing

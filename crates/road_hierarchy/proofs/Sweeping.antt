@@ -1,19 +1,17 @@
 -- The labels of a sweep are travel times.
-use Rattle.std.proofs.Common.{◌≡◌, ℕ, zero, suc, ◌+◌, ◌<◌, ◌≤◌, inl, inr, true, false, cond, ltb, List, ◌++◌, length, get_or, refl, sym, ◌∙◌, ap, subst, arith}
+use Rattle.std.proofs.Common.{◌≡◌, ℕ, zero, suc, ◌+◌, ◌<◌, ◌≤◌, inl, inr, true, false, cond, ltb, List, length, get_or, refl, sym, ◌∙◌, ap, subst, arith}
 use Rattle.std.specs.Prelude.{Option, Some, None, Contains, map, All}
-use Rattle.std.proofs.lemmas.List.{get_or-map, length-map, same_lists, get_or_past}
-use Rattle.std.proofs.lemmas.Bool.{cases_lt}
-use Rattle.std.proofs.lemmas.List.Elements.{Contains-append_left, Contains-append_right, Contains-append_cases}
+use Rattle.std.proofs.lemmas.List.{get_or-map, length-map, same_lists}
 use Rattle.ride_model.specs.declared.network.RoadArc.{RoadArc}
 use Rattle.ride_model.specs.Road.{RoadMap, IsRoadMap, IsTravel, travel}
 use Rattle.model_laws.proofs.TravelTimes.{travel_is_least, travel-le}
 use Rattle.road_times.specs.declared.side.Side.{Side}
 use Rattle.road_times.specs.declared.side.Side.TheVariants.{Out, Back}
-use Rattle.road_times.specs.Turned.{turned_arc, travel_by}
+use Rattle.road_times.specs.Turned.{travel_by}
 use Rattle.hierarchy_laws.specs.Ways.{Reaches}
 use Rattle.hierarchy_laws.specs.Hierarchy.{IsRising, IsHierarchy, IsUpDown}
 use Rattle.hierarchy_laws.specs.Labels.{IsLabel, IsGathered, time_of}
-use Rattle.hierarchy_laws.proofs.Ways.{reaches-carried, reaches-mapped, reaches-flipped, way-from_walk, walk-from_way}
+use Rattle.hierarchy_laws.proofs.Ways.{reaches-carried, reaches-flipped, way-from_walk, walk-from_way}
 use Rattle.hierarchy_laws.proofs.Climbing.{climbs, reaches-up_down}
 use Rattle.hierarchy_laws.proofs.Growing.{hierarchy-flipped}
 use Rattle.hierarchy_laws.proofs.Sweeping.{gathered}
@@ -23,9 +21,9 @@ use Rattle.road_hierarchy.specs.declared.selected.Step.{Step}
 use Rattle.road_hierarchy.specs.Links.{IsLinkBy}
 use Rattle.road_hierarchy.specs.Parts.{IsIn}
 use Rattle.road_hierarchy.specs.Marks.{node_at}
-use Rattle.road_hierarchy.specs.Packed.{AreSplit}
+use Rattle.road_hierarchy.specs.Climb.{AreClimbs}
 use Rattle.road_hierarchy.specs.Selection.{step_at, arc_of, AreStepsOf, ComeEarlier}
-use Rattle.road_hierarchy.specs.Sweep.{never, label_for, climb_at, through, IsSwept}
+use Rattle.road_hierarchy.specs.Sweep.{never, label_for, climb_to, through, IsSwept}
 
 -- a label of the same weights
 label-same : (limit label : ℕ) (Weighs Others : ℕ → Type 0) → ((weight : ℕ) → Weighs weight → Others weight) → ((weight : ℕ) → Others weight → Weighs weight)
@@ -132,50 +130,17 @@ label-up_down side roads hierarchy x y fits is =
     h : IsHierarchy (IsLinkBy side roads.arcs) (IsLinkBy side hierarchy.arcs) (level_in hierarchy.levels) (length hierarchy.order)
     h = hierarchy-by side roads hierarchy.arcs (level_in hierarchy.levels) (length hierarchy.order) is
 
--- the travel time over the arcs that do not lead down is the label of the climb
-pub label-of_climb : (rising falling : RoadMap) (level : ℕ → ℕ) (x y : ℕ) → IsRoadMap rising → AreSplit rising.arcs falling.arcs level
-    → IsLabel never (Reaches (IsRising (IsLinkBy Out (rising.arcs ++ falling.arcs)) level) x y) (label_for (travel_by Out rising x y))
-label-of_climb rising falling level x y fits split =
-    label-same never (label_for (travel rising x y)) (Reaches (Contains rising.arcs) x y) (Reaches (IsRising (Contains (rising.arcs ++ falling.arcs)) level) x y)
-    (λ weight. reaches-mapped (Contains rising.arcs) (IsRising (Contains (rising.arcs ++ falling.arcs)) level) x y weight
-    (λ arc there. (Contains-append_left rising.arcs falling.arcs arc there, split.rises arc there)))
-    (λ weight. reaches-mapped (IsRising (Contains (rising.arcs ++ falling.arcs)) level) (Contains rising.arcs) x y weight
-    (λ arc there. elim (Contains-append_cases rising.arcs falling.arcs arc there.0) [
-      | inl up ↦ up
-      | inr down ↦ split.risen arc down there.1
-    ]))
-    (label-of_travel rising x y fits)
-
--- and that over the arcs that do not lead up is the label of the climb backward
-pub label-of_climb_back : (rising falling : RoadMap) (level : ℕ → ℕ) (x y : ℕ) → IsRoadMap falling → AreSplit rising.arcs falling.arcs level
-    → IsLabel never (Reaches (IsRising (IsLinkBy Back (rising.arcs ++ falling.arcs)) level) x y) (label_for (travel_by Back falling x y))
-label-of_climb_back rising falling level x y fits split =
-    label-same never (label_for (travel falling y x)) (Reaches (Contains falling.arcs) y x) (Reaches (IsRising (IsLinkBy Back (rising.arcs ++ falling.arcs)) level) x y)
-    (λ weight. reaches-flipped (Contains falling.arcs) (IsRising (IsLinkBy Back (rising.arcs ++ falling.arcs)) level) y x weight
-    (λ arc there. (Contains-append_right rising.arcs falling.arcs arc there, split.falls arc there)))
-    (λ weight. reaches-flipped (IsRising (IsLinkBy Back (rising.arcs ++ falling.arcs)) level) (Contains falling.arcs) x y weight
-    (λ arc there. elim (Contains-append_cases rising.arcs falling.arcs (turned_arc Back arc) there.0) [
-      | inl up ↦ split.fallen (turned_arc Back arc) up there.1
-      | inr down ↦ down
-    ]))
-    (label-of_travel falling y x fits)
-
--- what a row begins with: the labels of the climbs to the selected nodes
-abbrev pub AreClimbs : Side → Contracted → ℕ → List ℕ → List (Option ℕ) → Type 0
-AreClimbs side hierarchy x nodes climbs = (place : ℕ) → place < length nodes
-    → IsLabel never (Reaches (IsRising (IsLinkBy side hierarchy.arcs) (level_in hierarchy.levels)) x (node_at nodes place)) (climb_at climbs place)
-
 -- one step of the sweep, where the labels of earlier places are travel times
-swept-step : (side : Side) (roads : RoadMap) (hierarchy : Contracted) (x : ℕ) (nodes starts : List ℕ) (steps : List Step) (climbs : List (Option ℕ))
+swept-step : (side : Side) (roads : RoadMap) (hierarchy : Contracted) (x : ℕ) (nodes starts : List ℕ) (steps : List Step) (climb : ℕ → ℕ)
     (times : List ℕ) (place : ℕ) → IsRoadMap roads → IsContractionOf roads hierarchy
     → AreStepsOf (IsLinkBy side hierarchy.arcs) (level_in hierarchy.levels) nodes starts steps → ComeEarlier (length nodes) starts steps
-    → IsLabel never (Reaches (IsRising (IsLinkBy side hierarchy.arcs) (level_in hierarchy.levels)) x (node_at nodes place)) (climb_at climbs place)
-    → climb_at climbs place ≤ never → IsSwept starts steps climbs times place → place < length nodes
+    → IsLabel never (Reaches (IsRising (IsLinkBy side hierarchy.arcs) (level_in hierarchy.levels)) x (node_at nodes place)) (climb place)
+    → climb place ≤ never → IsSwept starts steps climb times place → place < length nodes
     → ((earlier : ℕ) → earlier < place → node_at times earlier ≡ label_for (travel_by side roads x (node_at nodes earlier)))
     → node_at times place ≡ label_for (travel_by side roads x (node_at nodes place))
-swept-step side roads hierarchy x nodes starts steps climbs times place fits is are earlier climbed climb_low swept low had =
+swept-step side roads hierarchy x nodes starts steps climb times place fits is are earlier climbed climb_low swept low had =
     label-unique never (node_at times place) (labels (node_at nodes place)) (IsUpDown Link level x (node_at nodes place))
-    (gathered never Link level labels x (node_at nodes place) (climb_at climbs place) (node_at times place) climbed
+    (gathered never Link level labels x (node_at nodes place) (climb place) (node_at times place) climbed
     (λ arc falls head. label-up_down side roads hierarchy x arc.tail fits is) gather)
     (label-up_down side roads hierarchy x (node_at nodes place) fits is)
     (omega (arith, swept.climbed))
@@ -193,7 +158,7 @@ swept-step side roads hierarchy x nodes starts steps climbs times place fits is 
     step_label : (k : ℕ) → IsIn starts place k → through steps times k ≡ labels (node_at nodes (step_at steps k).place) + (step_at steps k).seconds
     step_label k at = ap (λ n. n + (step_at steps k).seconds) (had (step_at steps k).place (earlier place k low at))
 
-    gather : IsGathered never Link level labels (node_at nodes place) (climb_at climbs place) (node_at times place)
+    gather : IsGathered never Link level labels (node_at nodes place) (climb place) (node_at times place)
     gather = record {
       climbed = swept.climbed;
       stepped = λ arc falls head.
@@ -202,25 +167,26 @@ swept-step side roads hierarchy x nodes starts steps climbs times place fits is 
           = ap (λ (a : RoadArc). labels a.tail + a.seconds) made in
           omega (arith, swept.stepped k at, step_label k at, same);
       attained = λ below. elim swept.attained [
-        | inl climb ↦ inl climb
+        | inl is ↦ inl is
         | inr (k, at, made) ↦ inr (arc_of nodes steps place k, are.sound place k low at, refl, made ∙ step_label k at)
       ];
     }
 
 -- the sweep labels each selected node by its travel time
-pub swept-is_travel : (side : Side) (roads : RoadMap) (hierarchy : Contracted) (x : ℕ) (nodes starts : List ℕ) (steps : List Step) (climbs : List (Option ℕ))
+pub swept-is_travel : (side : Side) (roads : RoadMap) (hierarchy : Contracted) (x : ℕ) (nodes starts : List ℕ) (steps : List Step) (climb : ℕ → ℕ)
     (times : List ℕ) → IsRoadMap roads → IsContractionOf roads hierarchy
     → AreStepsOf (IsLinkBy side hierarchy.arcs) (level_in hierarchy.levels) nodes starts steps → ComeEarlier (length nodes) starts steps
-    → AreClimbs side hierarchy x nodes climbs → ((place : ℕ) → climb_at climbs place ≤ never)
-    → ((place : ℕ) → place < length nodes → IsSwept starts steps climbs times place)
+    → ((place : ℕ) → place < length nodes
+    → IsLabel never (Reaches (IsRising (IsLinkBy side hierarchy.arcs) (level_in hierarchy.levels)) x (node_at nodes place)) (climb place)) → ((place : ℕ) → climb place ≤ never)
+    → ((place : ℕ) → place < length nodes → IsSwept starts steps climb times place)
     → (place : ℕ) → place < length nodes → node_at times place ≡ label_for (travel_by side roads x (node_at nodes place))
-swept-is_travel side roads hierarchy x nodes starts steps climbs times fits is are earlier climbed climb_low swept place low =
+swept-is_travel side roads hierarchy x nodes starts steps climb times fits is are earlier climbed climb_low swept place low =
     up_to (suc place) place low (omega arith)
   where
     up_to : (bound place : ℕ) → place < length nodes → place < bound → node_at times place ≡ label_for (travel_by side roads x (node_at nodes place))
     up_to zero place low below = absurd (omega arith)
     up_to (suc bound) place low below =
-        swept-step side roads hierarchy x nodes starts steps climbs times place fits is are earlier (climbed place low) (climb_low place) (swept place low) low
+        swept-step side roads hierarchy x nodes starts steps climb times place fits is are earlier (climbed place low) (climb_low place) (swept place low) low
         (λ before less. up_to bound before (omega arith) (omega arith))
 
 -- the wanted nodes' labels are read as travel times
@@ -252,46 +218,29 @@ time-is_travel side roads x nodes labels places k place fits are inside low is =
     ∙ time-of_label (travel_by side roads x (node_at nodes (get_or places k 0))) (travel_by-le side roads x (node_at nodes (get_or places k 0)) fits)
     ∙ sym (ap (travel_by side roads x) (get_or-map (node_at nodes) places k 0 0 low))
 
--- the labels of climbs, from their times
-pub climb-at_node : (side : Side) (up : RoadMap) (x : ℕ) (nodes : List ℕ) (climbs : List (Option ℕ)) → climbs ≡ map (travel_by side up x) nodes
-    → (place : ℕ) → place < length nodes → climb_at climbs place ≡ label_for (travel_by side up x (node_at nodes place))
-climb-at_node side up x nodes climbs is place low =
-    ap (λ cs. climb_at cs place) is ∙ ap label_for (get_or-map (travel_by side up x) nodes place 0 None low)
-
-pub climbs-low : (side : Side) (up : RoadMap) (x : ℕ) (nodes : List ℕ) (climbs : List (Option ℕ)) → IsRoadMap up → climbs ≡ map (travel_by side up x) nodes
-    → (place : ℕ) → climb_at climbs place ≤ never
-climbs-low side up x nodes climbs fits is place = elim (cases_lt place (length nodes)) [
-  | inl low ↦ omega (
-    arith,
-    climb-at_node side up x nodes climbs is place low,
-    label_for-le (travel_by side up x (node_at nodes place)) (travel_by-le side up x (node_at nodes place) fits),
-  )
-  | inr past ↦
-      let nothing : climb_at climbs place ≡ never
-      = ap label_for (get_or_past climbs place None (omega (arith, ap (λ (cs : List (Option ℕ)). length cs) is, length-map nodes (travel_by side up x)))) in
-      omega arith
-]
-
 -- a place that was swept, by equal lists
-pub swept-same : (starts more : List ℕ) (steps others : List Step) (climbs : List (Option ℕ)) (times labels : List ℕ) (place : ℕ)
-    → starts ≡ more → steps ≡ others → times ≡ labels → IsSwept starts steps climbs times place → IsSwept more others climbs labels place
-swept-same starts more steps others climbs times labels place same_starts same_steps same_times s =
-    subst (λ ss. IsSwept ss others climbs labels place) same_starts
-    (subst (λ ts. IsSwept starts ts climbs labels place) same_steps
-    (subst (λ ls. IsSwept starts steps climbs ls place) same_times s))
+pub swept-same : (starts more : List ℕ) (steps others : List Step) (climb : ℕ → ℕ) (times labels : List ℕ) (place : ℕ)
+    → starts ≡ more → steps ≡ others → times ≡ labels → IsSwept starts steps climb times place → IsSwept more others climb labels place
+swept-same starts more steps others climb times labels place same_starts same_steps same_times s =
+    subst (λ ss. IsSwept ss others climb labels place) same_starts
+    (subst (λ ts. IsSwept starts ts climb labels place) same_steps
+    (subst (λ ls. IsSwept starts steps climb ls place) same_times s))
 
--- labels, from the search upward to the end of the sweep
-pub labels-are_travel : (side : Side) (roads : RoadMap) (hierarchy : Contracted) (up : RoadMap) (x : ℕ) (nodes starts : List ℕ) (steps : List Step)
-    (climbs : List (Option ℕ)) (labels : List ℕ) → IsRoadMap roads → IsContractionOf roads hierarchy → IsRoadMap up
-    → ((a b : ℕ) → IsLabel never (Reaches (IsRising (IsLinkBy side hierarchy.arcs) (level_in hierarchy.levels)) a b) (label_for (travel_by side up a b)))
-    → climbs ≡ map (travel_by side up x) nodes
+-- labels, from the climb to the end of the sweep
+pub labels-are_travel : (side : Side) (roads : RoadMap) (hierarchy : Contracted) (x : ℕ) (nodes ranks starts : List ℕ) (steps : List Step)
+    (climbs labels : List ℕ) → IsRoadMap roads → IsContractionOf roads hierarchy
+    → AreClimbs side hierarchy x climbs → ((level : ℕ) → node_at climbs level ≤ never)
+    → All (λ node. (1 ≤ node) × (node ≤ hierarchy.nodes)) nodes → ranks ≡ map (level_in hierarchy.levels) nodes
     → AreStepsOf (IsLinkBy side hierarchy.arcs) (level_in hierarchy.levels) nodes starts steps → ComeEarlier (length nodes) starts steps
-    → ((place : ℕ) → place < length climbs → IsSwept starts steps climbs labels place)
+    → ((place : ℕ) → place < length nodes → IsSwept starts steps (climb_to ranks climbs) labels place)
     → (place : ℕ) → place < length nodes → node_at labels place ≡ label_for (travel_by side roads x (node_at nodes place))
-labels-are_travel side roads hierarchy up x nodes starts steps climbs labels fits is up_fits climb_labels climbs_are are earlier swept =
-    swept-is_travel side roads hierarchy x nodes starts steps climbs labels fits is are earlier
-    (λ place low.
-    subst (IsLabel never (Reaches (IsRising (IsLinkBy side hierarchy.arcs) (level_in hierarchy.levels)) x (node_at nodes place)))
-    (sym (climb-at_node side up x nodes climbs climbs_are place low)) (climb_labels x (node_at nodes place)))
-    (climbs-low side up x nodes climbs up_fits climbs_are)
-    (λ place low. swept place (omega (arith, ap (λ (cs : List (Option ℕ)). length cs) climbs_are, length-map nodes (travel_by side up x))))
+labels-are_travel side roads hierarchy x nodes ranks starts steps climbs labels fits is climbed low inside ranked are earlier swept =
+    swept-is_travel side roads hierarchy x nodes starts steps (climb_to ranks climbs) labels fits is are earlier
+    (λ place below.
+    let (one, high) = inside place 0 below in
+    let rank : node_at ranks place ≡ level_in hierarchy.levels (node_at nodes place)
+    = ap (λ rs. node_at rs place) ranked ∙ get_or-map (level_in hierarchy.levels) nodes place 0 0 below in
+    subst (λ level. IsLabel never (Reaches (IsRising (IsLinkBy side hierarchy.arcs) (level_in hierarchy.levels)) x (node_at nodes place)) (node_at climbs level))
+    (sym rank) (climbed (node_at nodes place) one high))
+    (λ place. low (node_at ranks place))
+    swept

@@ -5,4 +5,5 @@ pub mod Marks
 pub mod Packed
 pub mod Selection
 pub mod Sweep
+pub mod Climb
 pub mod Rooms

@@ -1,45 +1,58 @@
--- A contraction packed for searches and sweeps.
-use Rattle.std.specs.Prelude.{true, ◌≡◌, ℕ, ◌<◌, ◌≤◌, ◌⊎◌, ◌↔◌, List, ◌++◌, length, filter, Contains}
+-- A contraction packed for climbs and sweeps.
+use Rattle.std.specs.Prelude.{true, ◌≡◌, ◌≢◌, ℕ, ◌+◌, ◌<◌, ◌≤◌, ◌↔◌, List, ◌++◌, length, map, flat_map, Contains, slice_range}
 use Rattle.ride_model.specs.declared.network.RoadArc.{RoadArc}
-use Rattle.ride_model.specs.Road.{RoadMap, IsRoadMap}
+use Rattle.road_times.specs.declared.side.Side.{Side}
 use Rattle.road_times.specs.declared.side.Side.TheVariants.{Out, Back}
+use Rattle.road_times.specs.Turned.{turned_arc}
 use Rattle.contraction.specs.Levels.{level_in}
+use Rattle.contraction.specs.declared.Levelled.{Levelled}
 use Rattle.contraction.specs.Contracted.{Contracted, IsFitContraction}
+use Rattle.road_hierarchy.specs.declared.descents.Upper.{Upper}
 use Rattle.road_hierarchy.specs.declared.descents.Descents.{Descents}
-use Rattle.road_hierarchy.specs.Links.{IsLinkBy, is_rising}
+use Rattle.road_hierarchy.specs.Links.{IsLinkBy}
+use Rattle.road_hierarchy.specs.Parts.{start_at}
 use Rattle.road_hierarchy.specs.Descents.{AreDescents}
 
--- the hierarchy whose links that do not lead down, and those that do not lead up, are the arcs of two maps; no more of its
--- nodes are contracted
-abbrev pub hierarchy_of : RoadMap → RoadMap → List ℕ → List ℕ → Contracted
-hierarchy_of rising falling levels order =
-    record { nodes = rising.nodes; arcs = rising.arcs ++ falling.arcs; levels = levels; order = order; is_spent = true }
+-- the arc between a node and an upper end, which leads down as a search on a side meets it
+abbrev pub arc_below : Side → ℕ → Upper → RoadArc
+arc_below side node upper = turned_arc side (record { tail = upper.node; head = node; seconds = upper.seconds })
 
--- the arcs of two maps, those that do not lead down and those that do not lead up; those of the core are in both
-pub record AreSplit (rising falling : List RoadArc) (level : ℕ → ℕ) : Type 0 where
-  pub rises : (arc : RoadArc) → Contains rising arc → level arc.tail ≤ level arc.head
-  pub falls : (arc : RoadArc) → Contains falling arc → level arc.head ≤ level arc.tail
-  pub risen : (arc : RoadArc) → Contains falling arc → level arc.tail ≤ level arc.head → Contains rising arc
-  pub fallen : (arc : RoadArc) → Contains rising arc → level arc.head ≤ level arc.tail → Contains falling arc
+-- the upper ends of a level
+abbrev pub uppers_at : List ℕ → List Upper → ℕ → List Upper
+uppers_at starts uppers level = slice_range uppers (start_at starts level) (start_at starts (level + 1))
 
-pub record IsPacked (rising falling : RoadMap) (levels order : List ℕ) (descents ascents : Descents) : Type 0 where
-  pub rising_fits : IsRoadMap rising
-  pub falling_fits : IsRoadMap falling
-  pub same_nodes : falling.nodes ≡ rising.nodes
-  pub fits : IsFitContraction (hierarchy_of rising falling levels order)
-  pub split : AreSplit rising.arcs falling.arcs (level_in levels)
-  pub down : AreDescents (IsLinkBy Out (rising.arcs ++ falling.arcs)) levels (length order) descents.starts.items descents.uppers.items
-  pub up : AreDescents (IsLinkBy Back (rising.arcs ++ falling.arcs)) levels (length order) ascents.starts.items ascents.uppers.items
+-- the arcs between contracted nodes and the upper ends of their levels
+abbrev pub arcs_below : Side → List ℕ → List ℕ → Descents → List RoadArc
+arcs_below side levels order descents =
+    flat_map (λ node. map (arc_below side node) (uppers_at descents.starts.items descents.uppers.items (level_in levels node))) order
 
--- the same nodes, levels and order, and the same arcs and shortcuts, in whatever order
+-- the hierarchy of all nodes with these arcs
+abbrev pub hierarchy_of : List ℕ → List ℕ → Descents → Descents → Contracted
+hierarchy_of levels order descents ascents = record {
+  nodes = length order;
+  arcs = arcs_below Out levels order descents ++ arcs_below Back levels order ascents;
+  levels = levels;
+  order = order;
+  is_spent = true;
+}
+
+-- what a contraction has left, as contracts see it
+abbrev pub levelled : Levelled → Contracted
+levelled made = record { nodes = made.nodes; arcs = made.arcs.items; levels = made.levels.items; order = made.order.items; is_spent = true }
+
+-- each node is contracted
+abbrev pub IsWhole : Contracted → Type 0
+IsWhole hierarchy = (node : ℕ) → 1 ≤ node → node ≤ hierarchy.nodes → level_in hierarchy.levels node < length hierarchy.order
+
+pub record IsPacked (levels order : List ℕ) (descents ascents : Descents) : Type 0 where
+  pub fits : IsFitContraction (hierarchy_of levels order descents ascents)
+  pub whole : IsWhole (hierarchy_of levels order descents ascents)
+  pub down : AreDescents (IsLinkBy Out (hierarchy_of levels order descents ascents).arcs) levels (length order) descents.starts.items descents.uppers.items
+  pub up : AreDescents (IsLinkBy Back (hierarchy_of levels order descents ascents).arcs) levels (length order) ascents.starts.items ascents.uppers.items
+
+-- the same nodes, levels and order, and the same arcs and shortcuts but for loops, in whatever order
 pub record IsPackingOf (contraction hierarchy : Contracted) : Type 0 where
   pub nodes : hierarchy.nodes ≡ contraction.nodes
   pub levels : hierarchy.levels ≡ contraction.levels
   pub order : hierarchy.order ≡ contraction.order
-  pub arcs : (arc : RoadArc) → Contains hierarchy.arcs arc ↔ Contains contraction.arcs arc
-
--- more links do not lead down, or more do not lead up, than roads may have arcs
-abbrev pub ExceedsRoads : Contracted → Type 0
-ExceedsRoads contraction =
-    (2000000 < length (filter (is_rising Out contraction.levels) contraction.arcs))
-    ⊎ (2000000 < length (filter (is_rising Back contraction.levels) contraction.arcs))
+  pub arcs : (arc : RoadArc) → Contains hierarchy.arcs arc ↔ (Contains contraction.arcs arc × (arc.tail ≢ arc.head))

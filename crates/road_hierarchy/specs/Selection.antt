@@ -18,11 +18,12 @@ no_step = record { place = 0; seconds = 0 }
 abbrev pub step_at : List Step → ℕ → Step
 step_at steps k = slice_index_or steps k no_step
 
--- the side of rows, the wanted nodes, the selected nodes, and the steps down to each, from nodes at earlier places
+-- the side of rows, the wanted nodes, the selected nodes and their levels, and the steps down to each, from nodes at earlier places
 pub record Selection : Type 0 where
   pub side : Side
   pub wanted : List ℕ
   pub nodes : List ℕ
+  pub ranks : List ℕ
   pub starts : List ℕ
   pub steps : List Step
 
@@ -41,6 +42,7 @@ pub record AreStepsOf (Link : RoadArc → Type 0) (level : ℕ → ℕ) (nodes s
 pub record IsSelectionOf (hierarchy : Contracted) (selection : Selection) : Type 0 where
   pub few : length selection.nodes ≤ hierarchy.nodes
   pub inside : All (λ node. (1 ≤ node) × (node ≤ hierarchy.nodes)) selection.nodes
+  pub ranked : selection.ranks ≡ map (level_in hierarchy.levels) selection.nodes
   pub steps : AreStepsOf (IsLinkBy selection.side hierarchy.arcs) (level_in hierarchy.levels) selection.nodes selection.starts selection.steps
 
 -- each step comes from an earlier place
@@ -53,9 +55,9 @@ pub record AreLaidOut (nodes starts : List ℕ) (steps : List Step) (places : Li
   pub earlier : ComeEarlier (length nodes) starts steps
   pub selected : All (λ place. place < length nodes) places
 
-abbrev pub selection_of : Side → List ℕ → List ℕ → List Step → List ℕ → Selection
-selection_of side nodes starts steps places =
-    record { side = side; wanted = map (node_at nodes) places; nodes = nodes; starts = starts; steps = steps }
+abbrev pub selection_of : Side → List ℕ → List ℕ → List ℕ → List Step → List ℕ → Selection
+selection_of side nodes ranks starts steps places =
+    record { side = side; wanted = map (node_at nodes) places; nodes = nodes; ranks = ranks; starts = starts; steps = steps }
 
 -- the step from an upper end
 abbrev pub step_from : List ℕ → Upper → Step
@@ -82,10 +84,6 @@ pub record IsSelecting (Link : RoadArc → Type 0) (level : ℕ → ℕ) (count 
 abbrev pub IsSelectingOf : Contracted → Side → List Bool → (ℕ → Type 0) → Selecting → Type 0
 IsSelectingOf hierarchy side marks IsDone s =
     IsSelecting (IsLinkBy side hierarchy.arcs) (level_in hierarchy.levels) (hierarchy.nodes + 1) marks IsDone s.nodes.items s.starts.items s.steps.items s.places.items
-
--- the nodes of the core below a number
-abbrev pub InCoreBelow : List ℕ → ℕ → ℕ → Type 0
-InCoreBelow levels bound node = (level_in levels node ≡ 4294967295) × (node < bound)
 
 -- the nodes from a level on
 abbrev pub IsFrom : List ℕ → ℕ → ℕ → Type 0

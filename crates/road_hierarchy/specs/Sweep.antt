@@ -1,5 +1,5 @@
 -- The sweep over flat arrays.
-use Rattle.std.specs.Prelude.{◌≡◌, ℕ, ◌+◌, ◌≤◌, ◌⊎◌, List, Option, Some, None, slice_index_or}
+use Rattle.std.specs.Prelude.{◌≡◌, ℕ, ◌+◌, ◌≤◌, ◌⊎◌, List, Option, Some, None}
 use Rattle.road_hierarchy.specs.declared.selected.Step.{Step}
 use Rattle.road_hierarchy.specs.Parts.{IsIn}
 use Rattle.road_hierarchy.specs.Marks.{node_at}
@@ -14,17 +14,17 @@ abbrev pub label_for : Option ℕ → ℕ
 label_for None = never
 label_for (Some time) = time
 
--- the label of the climb to a place
-abbrev pub climb_at : List (Option ℕ) → ℕ → ℕ
-climb_at climbs place = label_for (slice_index_or climbs place None)
+-- the label of the climb to the node at a place, by its level
+abbrev pub climb_to : List ℕ → List ℕ → ℕ → ℕ
+climb_to ranks climbs place = node_at climbs (node_at ranks place)
 
 -- the weight of a way that ends with a step
 abbrev pub through : List Step → List ℕ → ℕ → ℕ
 through steps times k = node_at times (step_at steps k).place + (step_at steps k).seconds
 
 -- the label of a place is the least of its climb and of the ways that end with a step to it
-pub record IsSwept (starts : List ℕ) (steps : List Step) (climbs : List (Option ℕ)) (times : List ℕ) (place : ℕ) : Type 0 where
-  pub climbed : node_at times place ≤ climb_at climbs place
+pub record IsSwept (starts : List ℕ) (steps : List Step) (climb : ℕ → ℕ) (times : List ℕ) (place : ℕ) : Type 0 where
+  pub climbed : node_at times place ≤ climb place
   pub stepped : (k : ℕ) → IsIn starts place k → node_at times place ≤ through steps times k
-  pub attained : (node_at times place ≡ climb_at climbs place)
+  pub attained : (node_at times place ≡ climb place)
       ⊎ ((k : ℕ) × IsIn starts place k × (node_at times place ≡ through steps times k))

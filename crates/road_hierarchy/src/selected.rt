@@ -4,7 +4,7 @@ ghost use Rattle.contraction.specs.Levels.{level_in};
 ghost use Rattle.road_hierarchy.specs.Links.{IsLinkBy};
 ghost use Rattle.road_hierarchy.specs.Descents.{upper_at};
 ghost use Rattle.road_hierarchy.specs.Marks.{AreClosed, node_at};
-ghost use Rattle.road_hierarchy.specs.Selection.{IsSelectionOf, IsSelectingOf, InCoreBelow, IsFrom, step_from};
+ghost use Rattle.road_hierarchy.specs.Selection.{IsSelectionOf, IsSelectingOf, IsFrom, step_from};
 
 use crate::Hierarchy;
 use crate::descents::Upper;
@@ -12,9 +12,6 @@ use crate::marks::marks_of;
 use road_times::Side;
 use std::alloc::{AllocError, Global};
 use std::marker::Model;
-
-/// The level of a node of the core.
-const IN_CORE: u32 = u32::MAX;
 
 /// An arc that leads down, from the node at a place.
 #[derive(Clone, Copy)]
@@ -26,11 +23,13 @@ pub(crate) struct Step {
 /// The nodes from which arcs lead down to wanted nodes, the highest first, with those arcs.
 ///
 /// The steps down to the node at a place stand from `starts[place]` up to `starts[place + 1]`, and each comes from an earlier
-/// place. `places` has the place of each wanted node.
+/// place. `ranks` has the level of the node at each place, so that a sweep looks nothing up by nodes, and `places` the place of each
+/// wanted node.
 #[derive(Drop)]
 pub struct Selected {
     pub(crate) side: Side,
     pub(crate) nodes: Vec<u32>,
+    pub(crate) ranks: Vec<u32>,
     pub(crate) starts: Vec<usize>,
     pub(crate) steps: Vec<Step>,
     pub(crate) places: Vec<u32>,
@@ -41,11 +40,13 @@ impl Model for Selected {
 
     ghost Value = { Selection };
 
+    ghost use Rattle.std.specs.Prelude.{◌≡◌, length};
     ghost use Rattle.road_hierarchy.specs.Selection.{selection_of, AreLaidOut};
 
-    ghost view = { λ s. selection_of s.side s.nodes.items s.starts.items s.steps.items s.places.items };
+    ghost view = { λ s. selection_of s.side s.nodes.items s.ranks.items s.starts.items s.steps.items s.places.items };
 
-    ghost invariant = { λ s. AreLaidOut s.nodes.items s.starts.items s.steps.items s.places.items };
+    ghost invariant = { λ s. AreLaidOut s.nodes.items s.starts.items s.steps.items s.places.items
+        × (length s.ranks.items ≡ length s.nodes.items) };
 }
 
 /// What is selected so far, with the place of each node.
@@ -104,30 +105,6 @@ impl Selecting {
         Ok(())
     }
 
-    /// Selects the marked nodes of the core.
-    fn add_core(
-        &mut self,
-        hierarchy: &Hierarchy,
-        side: Side,
-        marks: &[bool],
-    ) -> Result<(), AllocError>
-        requires sized { length marks.now ≡ hierarchy.now.nodes + 1 }
-        requires none { IsSelectingOf hierarchy.now side marks.now (InCoreBelow hierarchy.now.levels 1) self.old }
-        ensures { OnOk result (IsSelectingOf hierarchy.now side marks.now (IsFrom hierarchy.now.levels (length hierarchy.now.order)) self.new) }
-    {
-        let levels = hierarchy.levels();
-        for node in 1..levels.len() {
-            if !marks[node] {
-                continue;
-            }
-            if levels[node] != IN_CORE {
-                continue;
-            }
-            self.add(node as u32)?;
-        }
-        Ok(())
-    }
-
     /// Selects a contracted node, with the steps down to it.
     fn add_below(&mut self, node: u32, uppers: &[Upper]) -> Result<(), AllocError>
         requires node { node < length self.old.places.items }
@@ -151,7 +128,7 @@ impl Selecting {
     ) -> Result<(), AllocError>
         requires sized { length marks.now ≡ hierarchy.now.nodes + 1 }
         requires closed { AreClosed (IsLinkBy side hierarchy.now.arcs) (level_in hierarchy.now.levels) marks.now }
-        requires core { IsSelectingOf hierarchy.now side marks.now (IsFrom hierarchy.now.levels (length hierarchy.now.order)) self.old }
+        requires none { IsSelectingOf hierarchy.now side marks.now (IsFrom hierarchy.now.levels (length hierarchy.now.order)) self.old }
         ensures { OnOk result (IsSelectingOf hierarchy.now side marks.now (IsFrom hierarchy.now.levels 0) self.new) }
     {
         let order = hierarchy.order();
@@ -181,6 +158,18 @@ fn places_of(alloc: Global, wanted: &[u32], places: &[u32]) -> Result<Vec<u32>, 
     Ok(list)
 }
 
+/// The levels of nodes.
+fn ranks_of(alloc: Global, nodes: &[u32], levels: &[u32]) -> Result<Vec<u32>, AllocError>
+    requires { All (λ node. node < length levels.now) nodes.now }
+    ensures { IfOk result (λ list. list.items ≡ map (level_in levels.now) nodes.now) }
+{
+    let mut list = Vec::with_capacity(alloc, nodes.len())?;
+    for node in nodes {
+        list.push(levels[*node as usize])?;
+    }
+    Ok(list)
+}
+
 impl Selected {
     /// How many nodes were selected.
     pub fn count(&self) -> usize
@@ -203,12 +192,13 @@ impl Selected {
     {
         let marks = marks_of(alloc, hierarchy, side, wanted)?;
         let mut selecting = Selecting::new(alloc, hierarchy.nodes())?;
-        selecting.add_core(hierarchy, side, &marks)?;
         selecting.add_contracted(hierarchy, side, &marks)?;
         let places = places_of(alloc, wanted, &selecting.places)?;
+        let ranks = ranks_of(alloc, &selecting.nodes, hierarchy.levels())?;
         Ok(Selected {
             side,
             nodes: selecting.nodes,
+            ranks,
             starts: selecting.starts,
             steps: selecting.steps,
             places,

@@ -1,37 +1,15 @@
 //! The sweep: one pass over the steps of a selection, from the highest node down.
-ghost use Rattle.std.specs.Prelude.{◌≡◌, ℕ, ◌+◌, ◌<◌, ◌≤◌, ◌⊎◌, length, map, take, All};
-ghost use Rattle.ride_model.specs.Road.{IsNode};
-ghost use Rattle.road_times.specs.Turned.{travel_by};
+ghost use Rattle.std.specs.Prelude.{◌≡◌, ℕ, ◌+◌, ◌<◌, ◌≤◌, ◌⊎◌, length, map, All};
 ghost use Rattle.hierarchy_laws.specs.Labels.{time_of};
 ghost use Rattle.road_hierarchy.specs.Parts.{AreParts};
 ghost use Rattle.road_hierarchy.specs.Marks.{node_at};
 ghost use Rattle.road_hierarchy.specs.Selection.{step_at, ComeEarlier};
-ghost use Rattle.road_hierarchy.specs.Sweep.{never, climb_at, through, IsSwept};
+ghost use Rattle.road_hierarchy.specs.Sweep.{never, climb_to, through, IsSwept};
 
 use crate::selected::Step;
-use road_times::{Roads, Scratch, Side};
 
 /// A label above all travel times, which stands for no way: a million arcs of 10^9 seconds.
-const NEVER: u64 = 1_000_000_000_000_000;
-
-/// Searches upward from x, for the times of the climbs to these nodes.
-pub(crate) fn climb(
-    upward: &Roads,
-    search: &mut Scratch,
-    x: u32,
-    side: Side,
-    nodes: &[u32],
-    climbs: &mut [Option<u64>],
-)
-    requires scratch { search.old.nodes ≡ upward.now.nodes }
-    requires node { IsNode upward.now x }
-    requires nodes { All (IsNode upward.now) nodes.now }
-    requires room { length nodes.now ≤ length climbs.old }
-    ensures climbs { take (length nodes.now) climbs.new ≡ map (travel_by side upward.now x) nodes.now }
-    ensures scratch { search.new ≡ search.old }
-{
-    upward.rows(search, x, side, nodes, &mut climbs[..nodes.len()]);
-}
+pub(crate) const NEVER: u64 = 1_000_000_000_000_000;
 
 /// The least of the label of a climb and of the ways that end with a step.
 #[inline]
@@ -49,17 +27,25 @@ fn least(climb: u64, steps: &[Step], times: &[u64]) -> u64
     label
 }
 
-/// Sweeps: labels each place by the least of its climb and of the ways that end with a step to it.
-pub(crate) fn sweep(starts: &[usize], steps: &[Step], climbs: &[Option<u64>], times: &mut [u64])
-    requires room { length climbs.now ≤ length times.old }
-    requires parts { AreParts (length climbs.now) starts.now (length steps.now) }
-    requires earlier { ComeEarlier (length climbs.now) starts.now steps.now }
-    requires low { (place : ℕ) → climb_at climbs.now place ≤ never }
-    ensures { (place : ℕ) → place < length climbs.now → IsSwept starts.now steps.now climbs.now times.new place }
+/// Sweeps: labels each place by the least of the climb to its node and of the ways that end with a step to it.
+pub(crate) fn sweep(
+    ranks: &[u32],
+    climbs: &[u64],
+    starts: &[usize],
+    steps: &[Step],
+    labels: &mut [u64],
+)
+    requires room { length ranks.now ≤ length labels.old }
+    requires parts { AreParts (length ranks.now) starts.now (length steps.now) }
+    requires earlier { ComeEarlier (length ranks.now) starts.now steps.now }
+    requires inside { (place : ℕ) → place < length ranks.now → node_at ranks.now place < length climbs.now }
+    requires low { (level : ℕ) → node_at climbs.now level ≤ never }
+    ensures { (place : ℕ) → place < length ranks.now → IsSwept starts.now steps.now (climb_to ranks.now climbs.now) labels.new place }
 {
-    for (place, climb) in climbs.iter().enumerate() {
+    for (place, rank) in ranks.iter().enumerate() {
         let part = &steps[starts[place]..starts[place + 1]];
-        times[place] = least(climb.unwrap_or(NEVER), part, times);
+        let climb = climbs[*rank as usize];
+        labels[place] = least(climb, part, labels);
     }
 }
 

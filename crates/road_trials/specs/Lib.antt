@@ -1,1 +1,2 @@
 pub mod SmallRequests
+pub mod Hostile

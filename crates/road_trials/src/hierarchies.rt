@@ -1,21 +1,18 @@
-//! Small maps, whose travel times were computed outside by Floyd's and Warshall's method, with hierarchies that are contracted
-//! in part and to the last node.
-ghost use Rattle.std.specs.Prelude.{◌≡◌, ℕ, ◌≤◌, length, All, IfOk, IfSome};
+//! Small maps, whose travel times were computed outside by Floyd's and Warshall's method, contracted to the last node.
+ghost use Rattle.std.specs.Prelude.{◌≡◌, ℕ, ◌+◌, ◌≤◌, length, All, IfOk, IfSome};
 ghost use Rattle.contraction.specs.Contracted.{IsContractionOf};
+ghost use Rattle.road_hierarchy.specs.Selection.{IsSelectionOf};
 
 use contraction::Contraction;
 use ride_model::{Network, RoadArc};
 use road_hierarchy::*;
-use road_times::{Roads, Side};
+use road_times::Side;
 use std::alloc::Global;
 use std::process::Abort;
 use std::test::Fail;
 
 /// No walk.
 const NO: u64 = u64::MAX;
-
-/// How many links may be looked at: none, so that all nodes stay in the core, some, and as many as there are.
-const FUELS: [u64; 4] = [0, 9, 30, 1_000_000];
 
 const SMALL: [(u32, u32, u32); 14] = [
     (1, 5, 52),
@@ -98,20 +95,27 @@ fn all_nodes(alloc: Global, nodes: u32) -> Result<Vec<u32>, NoMemory>
     Ok(list)
 }
 
-// Contracts a map until so many links were looked at.
-fn contracted(
-    alloc: Global,
-    map: &Network,
-    roads: &Roads,
-    fuel: u64,
-) -> Result<Option<Hierarchy>, NoMemory>
-    requires { map.now ≡ roads.now }
-    ensures nodes { IfOk result (λ made. IfSome made (λ hierarchy. hierarchy.nodes ≡ roads.now.nodes)) }
-    ensures hierarchy { IfOk result (λ made. IfSome made (IsContractionOf roads.now)) }
+// Contracts a map, until so many links were looked at.
+fn contracted(alloc: Global, map: &Network, fuel: u64) -> Result<Option<Hierarchy>, NoMemory>
+    ensures nodes { IfOk result (λ made. IfSome made (λ hierarchy. hierarchy.nodes ≡ map.now.nodes)) }
+    ensures hierarchy { IfOk result (λ made. IfSome made (IsContractionOf map.now)) }
 {
     let mut contraction = Contraction::new(alloc, map)?;
     contraction.contract_some(fuel)?;
-    Hierarchy::new(alloc, roads, &contraction)
+    Hierarchy::new(alloc, contraction)
+}
+
+// Room for the rows of a selection.
+fn room_for(
+    alloc: Global,
+    hierarchy: &Hierarchy,
+    selected: &Selected,
+) -> Result<SweepRoom, NoMemory>
+    requires { IsSelectionOf hierarchy.now selected.now }
+    ensures { IfOk result (λ room. hierarchy.now.nodes + length selected.now.nodes ≤ room.places) }
+{
+    let places = hierarchy.nodes() as usize + selected.count();
+    SweepRoom::new(alloc, places)
 }
 
 // Compares one row with a line or a column of the table.
@@ -130,20 +134,17 @@ fn expect_row(rt: &impl Abort, row: &[Option<u64>], table: &[u64], first: usize,
 fn expect_side(
     rt: &impl Abort,
     alloc: Global,
-    roads: &Roads,
     hierarchy: &Hierarchy,
     side: Side,
     table: &[u64],
-) -> Result<(), NoMemory>
-    requires { hierarchy.now.nodes ≡ roads.now.nodes }
-{
+) -> Result<(), NoMemory> {
     let nodes = hierarchy.nodes();
     let wanted = all_nodes(alloc, nodes)?;
     let selected = Selected::of(alloc, hierarchy, side, &wanted)?;
-    let mut scratch = Scratch::new(alloc, roads)?;
+    let mut room = room_for(alloc, hierarchy, &selected)?;
     let mut row = vec![in alloc; None; wanted.len()]?;
     for place in 0..nodes {
-        hierarchy.row(&selected, &mut scratch, place + 1, &mut row);
+        hierarchy.row_in(&selected, &mut room, place + 1, &mut row);
         let (first, step) = match side {
             Side::Out => ((place as usize).wrapping_mul(wanted.len()), 1),
             Side::Back => (place as usize, wanted.len()),
@@ -161,74 +162,12 @@ fn expect_table(
     table: &[u64],
 ) -> Result<(), NoMemory> {
     let map = network(rt, alloc, nodes, arcs)?;
-    let roads = Roads::new(alloc, &map)?;
-    for fuel in FUELS {
-        let Some(hierarchy) = contracted(alloc, &map, &roads, fuel)? else {
-            panic!(rt; "too many links");
-        };
-        expect_side(rt, alloc, &roads, &hierarchy, Side::Out, table)?;
-        expect_side(rt, alloc, &roads, &hierarchy, Side::Back, table)?;
-    }
-    Ok(())
-}
-
-/// The next of some numbers that look drawn.
-fn next(state: u32) -> u32 {
-    state.wrapping_mul(1_664_525).wrapping_add(1_013_904_223)
-}
-
-/// A map with arcs that are drawn.
-fn drawn(alloc: Global, seed: u32) -> Result<Network, NoMemory>
-    ensures { IfOk result (λ network. network.nodes ≡ 15) }
-{
-    let mut list = Vec::new(alloc);
-    let mut state = seed;
-    for place in 0..40u32 {
-        let tail = next(state ^ place);
-        let head = next(tail);
-        state = next(head);
-        list.push(RoadArc {
-            tail: 1 + tail / 65_536 % 15,
-            head: 1 + head / 65_536 % 15,
-            seconds: state / 65_536 % 50,
-        })?;
-    }
-    Ok(Network::new(15, list))
-}
-
-// Compares rows by searches with rows by sweeps, to four nodes of which one is wanted twice.
-fn expect_same(
-    rt: &impl Abort,
-    alloc: Global,
-    roads: &Roads,
-    hierarchy: &Hierarchy,
-    side: Side,
-) -> Result<(), NoMemory>
-    requires nodes { hierarchy.now.nodes ≡ roads.now.nodes }
-    requires some { 15 ≤ roads.now.nodes }
-{
-    let wanted = [3, 14, 3, 9];
-    let selected = Selected::of(alloc, hierarchy, side, &wanted)?;
-    let mut scratch = Scratch::new(alloc, roads)?;
-    let mut search = road_times::Scratch::new(alloc, roads)?;
-    for place in 0..roads.nodes() {
-        let mut times = [None; 4];
-        roads.rows(&mut search, place + 1, side, &wanted, &mut times);
-        let mut row = [None; 4];
-        hierarchy.row(&selected, &mut scratch, place + 1, &mut row);
-        assert_eq!(rt; row, times, "from place {place}");
-    }
-    Ok(())
-}
-
-fn expect_drawn(rt: &impl Abort, alloc: Global, seed: u32, fuel: u64) -> Result<(), NoMemory> {
-    let map = drawn(alloc, seed)?;
-    let roads = Roads::new(alloc, &map)?;
-    let Some(hierarchy) = contracted(alloc, &map, &roads, fuel)? else {
-        panic!(rt; "too many links");
+    assert!(rt; contracted(alloc, &map, 0)?.is_none());
+    let Some(hierarchy) = contracted(alloc, &map, u64::MAX)? else {
+        panic!(rt; "nodes are left");
     };
-    expect_same(rt, alloc, &roads, &hierarchy, Side::Out)?;
-    expect_same(rt, alloc, &roads, &hierarchy, Side::Back)
+    expect_side(rt, alloc, &hierarchy, Side::Out, table)?;
+    expect_side(rt, alloc, &hierarchy, Side::Back, table)
 }
 
 #[test]
@@ -254,14 +193,5 @@ fn rows_are_the_least_times_over_parallel_arcs_and_loops(rt: HostRuntime) -> Res
 #[test]
 fn rows_are_the_least_times_with_no_arcs(rt: HostRuntime) -> Result<(), Fail> {
     expect_table(&rt, rt.alloc(), 2, &[], &[0, NO, NO, 0])?;
-    Ok(())
-}
-
-#[test]
-fn sweeps_and_searches_give_the_same_rows(rt: HostRuntime) -> Result<(), Fail> {
-    for seed in 0..4u32 {
-        expect_drawn(&rt, rt.alloc(), seed, 1_000_000)?;
-        expect_drawn(&rt, rt.alloc(), seed, 60)?;
-    }
     Ok(())
 }

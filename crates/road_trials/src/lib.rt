@@ -9,6 +9,8 @@ mod contractions;
 #[cfg(test)]
 mod hierarchies;
 #[cfg(test)]
+mod hostile;
+#[cfg(test)]
 mod links;
 #[cfg(test)]
 mod locks;

@@ -1,5 +1,14 @@
-use Rattle.road_hierarchy.proofs.Packing.{packing-keeps}
+use Rattle.road_hierarchy.specs.Packed.{levelled}
+use Rattle.road_hierarchy.proofs.Packing.{packing-same, packing-keeps}
 use Rattle.road_hierarchy.proofs.Hierarchy.new.Goals as goal
 
+pub returns-clause-packed : goal.returns-clause-packed
+returns-clause-packed c =
+    let same = c.in_ok-made.ensures in
+    packing-same (levelled c.in_ok-made.made) c.args.contraction c.in_ok-hierarchy.hierarchy same.nodes same.arcs same.levels same.order c.in_ok-hierarchy.ensures
+
 pub returns-clause-hierarchy : goal.returns-clause-hierarchy
-returns-clause-hierarchy c = λ map h. packing-keeps map c.args.contraction.now c.in_ok-hierarchy.hierarchy c.in_ok-hierarchy.ensures h
+returns-clause-hierarchy c = λ map h.
+    let same = c.in_ok-made.ensures in
+    packing-keeps map c.args.contraction c.in_ok-hierarchy.hierarchy
+    (packing-same (levelled c.in_ok-made.made) c.args.contraction c.in_ok-hierarchy.hierarchy same.nodes same.arcs same.levels same.order c.in_ok-hierarchy.ensures) h

@@ -3,6 +3,6 @@ use Rattle.road_trials.proofs.hierarchies.expect_side.Given as goal
 
 abbrev pub invariant-loop-place : goal.invariant-loop-place
 invariant-loop-place g l = record {
-  scratch : l.scratch ≡ l.initial.scratch;
+  room : l.room ≡ l.initial.room;
   places : length l.row.items ≡ length l.initial.row.items;
 }

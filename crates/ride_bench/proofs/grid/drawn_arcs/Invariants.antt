@@ -1,0 +1,9 @@
+use Rattle.std.proofs.Common.{◌≡◌, length}
+use Rattle.trial_town.specs.Streets.{AreStreets}
+use Rattle.ride_bench.proofs.grid.drawn_arcs.Given as goal
+
+abbrev pub invariant-loop-place : goal.invariant-loop-place
+invariant-loop-place l = record {
+  fit : AreStreets l.nodes l.arcs.items;
+  count : length l.arcs.items ≡ l.place;
+}

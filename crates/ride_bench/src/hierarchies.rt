@@ -1,0 +1,379 @@
+//! Rows of travel times by sweeps of a hierarchy, and by searches: the same sums, and how long they take.
+ghost use Rattle.std.specs.Prelude.{◌≡◌, ◌≤◌, ◌<◌, ◌*◌, length, All, IfOk, IfSome};
+ghost use Rattle.road_hierarchy.specs.Selection.{IsSelectionOf};
+ghost use Rattle.ride_bench.specs.Sources.{AreSources};
+ghost use Rattle.trial_town.specs.Streets.{IsPlace};
+
+use crate::grid::{Grid, drawn, generate};
+use crate::rows::{NEW_YORK, SMALL};
+use anyhow::{Result, bail, ensure};
+use contraction::Contraction;
+use ride_model::{Network, NoMemory};
+use road_hierarchy::{Hierarchy, Selected, SweepRoom};
+use road_times::{Roads, Scratch, Side};
+use std::alloc::Global;
+use std::rt::Clock;
+use std::time::Instant;
+
+/// The largest map, of which each street is there.
+const LATTICE: Grid = Grid {
+    nodes: 499_849,
+    width: 707,
+    kept: 10,
+};
+
+/// A map of drawn arcs, most of which stays uncontracted.
+const RANDOM_NODES: u32 = 100_000;
+
+const RANDOM_ARCS: u32 = 400_000;
+
+/// The rows of a batch of 128 requests.
+const ROWS: u32 = 512;
+
+/// The rows of these that are searched too.
+const SEARCHED: u32 = 8;
+
+/// So many nodes, spread over the map.
+fn spread(alloc: Global, nodes: u32, many: u32) -> Result<Vec<u32>, NoMemory>
+    requires many { (1 ≤ many) × (many ≤ nodes) }
+    requires nodes { nodes ≤ 500000 }
+    ensures nodes { IfOk result (λ list. All (IsPlace nodes) list.items) }
+    ensures count { IfOk result (λ list. length list.items ≡ many) }
+{
+    let mut list = Vec::new(alloc);
+    let step = nodes / many;
+    for place in 0..many {
+        list.push(1 + place * step)?;
+    }
+    Ok(list)
+}
+
+fn sum_of(row: &[Option<u64>]) -> u64 {
+    let mut sum = 0u64;
+    for time in row.iter().flatten() {
+        sum = sum.wrapping_add(*time);
+    }
+    sum
+}
+
+/// A map of which no node is contracted.
+fn uncontracted(alloc: Global, roads: &Roads) -> Result<Contraction, NoMemory>
+    ensures { IfOk result (λ contraction. contraction.nodes ≡ roads.now.nodes) }
+{
+    let network = roads.network(alloc)?;
+    Contraction::new(alloc, &network)
+}
+
+/// Contracts a map as far as the budgets let.
+fn contracted(alloc: Global, roads: &Roads) -> Result<Contraction, NoMemory>
+    ensures { IfOk result (λ contraction. contraction.nodes ≡ roads.now.nodes) }
+{
+    let mut contraction = uncontracted(alloc, roads)?;
+    contraction.contract_some(u64::MAX)?;
+    Ok(contraction)
+}
+
+/// Says how far a map was contracted since then. Answers the time that it is now.
+fn tell_contracted(
+    rt: &(impl Clock + Print),
+    contraction: &Contraction,
+    start: Instant,
+) -> Result<Instant> {
+    let millis = start.elapsed(rt)?.as_millis();
+    let links = contraction.links();
+    let done = contraction.order().len();
+    println!(rt; "links {links}, nodes contracted {done}, in {millis} ms")?;
+    Ok(Instant::now(rt)?)
+}
+
+/// Says how long the packing took.
+fn tell_packed(rt: &(impl Clock + Print), start: Instant) -> Result<()> {
+    let millis = start.elapsed(rt)?.as_millis();
+    println!(rt; "packed in {millis} ms")?;
+    Ok(())
+}
+
+/// The hierarchy of a map, and how long it took to make. None where nodes are left that do not contract.
+fn make(rt: &(impl Clock + Print), alloc: Global, roads: &Roads) -> Result<Option<Hierarchy>>
+    ensures { IfOk result (λ made. IfSome made (λ hierarchy. hierarchy.nodes ≡ roads.now.nodes)) }
+{
+    let start = Instant::now(rt)?;
+    let contraction = contracted(alloc, roads)?;
+    let start = tell_contracted(rt, &contraction, start)?;
+    let made = Hierarchy::new(alloc, contraction)?;
+    tell_packed(rt, start)?;
+    Ok(made)
+}
+
+/// Rows from so many nodes, so far apart.
+#[derive(Clone, Copy)]
+struct Sources {
+    count: u32,
+    step: u32,
+}
+
+/// So many rows from nodes that are spread over the map.
+fn spread_sources(nodes: u32, count: u32) -> Sources
+    requires { (1 ≤ count) × (count ≤ nodes) }
+    ensures { AreSources nodes result }
+{
+    Sources {
+        count,
+        step: nodes / count,
+    }
+}
+
+/// The sum of the rows of these nodes by sweeps.
+fn sweep_rows(
+    alloc: Global,
+    hierarchy: &Hierarchy,
+    selected: &Selected,
+    many: u32,
+    sources: Sources,
+) -> Result<u64, NoMemory>
+    requires selected { IsSelectionOf hierarchy.now selected.now }
+    requires many { length selected.now.wanted ≡ many }
+    requires sources { AreSources hierarchy.now.nodes sources }
+{
+    let places = hierarchy.nodes() as usize + selected.count();
+    let mut room = SweepRoom::new(alloc, places)?;
+    let mut row = vec![in alloc; None; many as usize]?;
+    let mut sum = 0u64;
+    for turn in 0..sources.count {
+        let source = 1 + turn * sources.step;
+        hierarchy.row_in(selected, &mut room, source, &mut row);
+        sum = sum.wrapping_add(sum_of(&row));
+    }
+    Ok(sum)
+}
+
+/// The same by searches.
+fn search_rows(
+    alloc: Global,
+    roads: &Roads,
+    wanted: &[u32],
+    sources: Sources,
+) -> Result<u64, NoMemory>
+    requires wanted { All (IsPlace roads.now.nodes) wanted.now }
+    requires sources { AreSources roads.now.nodes sources }
+{
+    let mut scratch = Scratch::new(alloc, roads)?;
+    let mut row = vec![in alloc; None; wanted.len()]?;
+    let mut sum = 0u64;
+    for turn in 0..sources.count {
+        let source = 1 + turn * sources.step;
+        roads.rows(&mut scratch, source, Side::Out, wanted, &mut row);
+        sum = sum.wrapping_add(sum_of(&row));
+    }
+    Ok(sum)
+}
+
+/// The sum of rows by sweeps and by searches, which must be the same.
+fn compare_rows(
+    alloc: Global,
+    roads: &Roads,
+    hierarchy: &Hierarchy,
+    selected: &Selected,
+    wanted: &[u32],
+    sources: Sources,
+) -> Result<u64>
+    requires selected { IsSelectionOf hierarchy.now selected.now }
+    requires same { selected.now.wanted ≡ wanted.now }
+    requires few { length wanted.now ≤ 500000 }
+    requires wanted { All (IsPlace roads.now.nodes) wanted.now }
+    requires nodes { hierarchy.now.nodes ≡ roads.now.nodes }
+    requires sources { AreSources roads.now.nodes sources }
+{
+    let many = wanted.len() as u32;
+    let swept = sweep_rows(alloc, hierarchy, selected, many, sources)?;
+    let searched = search_rows(alloc, roads, wanted, sources)?;
+    ensure!(swept == searched, "sums {swept} and {searched}");
+    Ok(swept)
+}
+
+/// The sum of so many rows, both ways.
+fn compare(
+    alloc: Global,
+    roads: &Roads,
+    hierarchy: &Hierarchy,
+    wanted: &[u32],
+    count: u32,
+) -> Result<u64>
+    requires nodes { hierarchy.now.nodes ≡ roads.now.nodes }
+    requires wanted { All (IsPlace roads.now.nodes) wanted.now }
+    requires few { length wanted.now ≤ 500000 }
+    requires count { (1 ≤ count) × (count ≤ roads.now.nodes) }
+{
+    let sources = spread_sources(roads.nodes(), count);
+    let selected = Selected::of(alloc, hierarchy, Side::Out, wanted)?;
+    compare_rows(alloc, roads, hierarchy, &selected, wanted, sources)
+}
+
+/// Times the rows of a batch by sweeps of what was selected since then.
+fn time_selected(
+    rt: &(impl Clock + Print),
+    alloc: Global,
+    hierarchy: &Hierarchy,
+    selected: &Selected,
+    many: u32,
+    start: Instant,
+) -> Result<()>
+    requires selected { IsSelectionOf hierarchy.now selected.now }
+    requires many { length selected.now.wanted ≡ many }
+    requires nodes { 512 ≤ hierarchy.now.nodes }
+{
+    let selecting = start.elapsed(rt)?.as_micros();
+    let count = selected.count();
+    let sources = spread_sources(hierarchy.nodes(), ROWS);
+    let start = Instant::now(rt)?;
+    let sum = sweep_rows(alloc, hierarchy, selected, many, sources)?;
+    let micros = start.elapsed(rt)?.as_micros();
+    println!(rt;
+        "wanted {many} rows {ROWS} sum {sum}, selected {count} nodes in {selecting} us, rows in {micros} us"
+    )?;
+    Ok(())
+}
+
+/// Times the rows of a batch by sweeps.
+fn time_sweeps(
+    rt: &(impl Clock + Print),
+    alloc: Global,
+    hierarchy: &Hierarchy,
+    wanted: &[u32],
+) -> Result<()>
+    requires nodes { 512 ≤ hierarchy.now.nodes }
+    requires wanted { All (IsPlace hierarchy.now.nodes) wanted.now }
+    requires few { length wanted.now ≤ 500000 }
+{
+    let start = Instant::now(rt)?;
+    let selected = Selected::of(alloc, hierarchy, Side::Out, wanted)?;
+    let many = wanted.len() as u32;
+    time_selected(rt, alloc, hierarchy, &selected, many, start)
+}
+
+/// Times some rows of a batch by searches.
+fn time_searches(
+    rt: &(impl Clock + Print),
+    alloc: Global,
+    roads: &Roads,
+    wanted: &[u32],
+) -> Result<()>
+    requires nodes { 512 ≤ roads.now.nodes }
+    requires wanted { All (IsPlace roads.now.nodes) wanted.now }
+{
+    let many = wanted.len();
+    let sources = spread_sources(roads.nodes(), SEARCHED);
+    let start = Instant::now(rt)?;
+    let sum = search_rows(alloc, roads, wanted, sources)?;
+    let micros = start.elapsed(rt)?.as_micros();
+    println!(rt; "wanted {many} rows {SEARCHED} sum {sum} by searches in {micros} us")?;
+    Ok(())
+}
+
+/// Times rows to wanted nodes both ways, if there is a hierarchy, and compares some.
+fn time_wanted(
+    rt: &(impl Clock + Print),
+    alloc: Global,
+    roads: &Roads,
+    hierarchy: Option<&Hierarchy>,
+    wanted: &[u32],
+) -> Result<()>
+    requires nodes { 512 ≤ roads.now.nodes }
+    requires hierarchy { IfSome hierarchy (λ h. h.now.nodes ≡ roads.now.nodes) }
+    requires wanted { All (IsPlace roads.now.nodes) wanted.now }
+    requires few { length wanted.now ≤ 500000 }
+{
+    time_searches(rt, alloc, roads, wanted)?;
+    let Some(hierarchy) = hierarchy else {
+        return Ok(());
+    };
+    compare(alloc, roads, hierarchy, wanted, SEARCHED)?;
+    time_sweeps(rt, alloc, hierarchy, wanted)
+}
+
+/// Times rows to so many nodes.
+fn time_many(
+    rt: &(impl Clock + Print),
+    alloc: Global,
+    roads: &Roads,
+    hierarchy: Option<&Hierarchy>,
+    many: u32,
+) -> Result<()>
+    requires nodes { 512 ≤ roads.now.nodes }
+    requires hierarchy { IfSome hierarchy (λ h. h.now.nodes ≡ roads.now.nodes) }
+    requires many { (1 ≤ many) × (many ≤ roads.now.nodes) }
+{
+    let wanted = spread(alloc, roads.nodes(), many)?;
+    time_wanted(rt, alloc, roads, hierarchy, &wanted)
+}
+
+/// Times rows to some, to more and to many nodes.
+fn time_all(
+    rt: &(impl Clock + Print),
+    alloc: Global,
+    roads: &Roads,
+    hierarchy: Option<&Hierarchy>,
+) -> Result<()>
+    requires nodes { 17000 ≤ roads.now.nodes }
+    requires hierarchy { IfSome hierarchy (λ h. h.now.nodes ≡ roads.now.nodes) }
+{
+    time_many(rt, alloc, roads, hierarchy, 1_000)?;
+    time_many(rt, alloc, roads, hierarchy, 9_000)?;
+    time_many(rt, alloc, roads, hierarchy, 17_000)
+}
+
+/// Times the making of a hierarchy, and rows both ways.
+fn time_roads(rt: &(impl Clock + Print), alloc: Global, roads: &Roads) -> Result<()>
+    requires { 17000 ≤ roads.now.nodes }
+{
+    let made = make(rt, alloc, roads)?;
+    time_all(rt, alloc, roads, made.as_ref())
+}
+
+/// The sum of the rows of a map, both ways, if all of it contracts.
+fn sum_both_ways(alloc: Global, roads: &Roads) -> Result<u64>
+    requires { 10 ≤ roads.now.nodes }
+{
+    let wanted = spread(alloc, roads.nodes(), 10)?;
+    let contraction = contracted(alloc, roads)?;
+    let Some(hierarchy) = Hierarchy::new(alloc, contraction)? else {
+        bail!("nodes are left");
+    };
+    compare(alloc, roads, &hierarchy, &wanted, 4)
+}
+
+/// Prints the sum of the rows of a small map.
+pub fn small(rt: &impl Print, alloc: Global) -> Result<()> {
+    let map = generate(alloc, SMALL)?;
+    let roads = Roads::new(alloc, &map)?;
+    let sum = sum_both_ways(alloc, &roads)?;
+    println!(rt; "hierarchy wanted 10 rows 4 sum {sum}")?;
+    Ok(())
+}
+
+/// A map by its name.
+fn map_of(alloc: Global, name: &str) -> Result<Network>
+    ensures { IfOk result (λ map. 17000 ≤ map.nodes) }
+{
+    match name {
+        "new_york" => generate(alloc, NEW_YORK),
+        "lattice" => generate(alloc, LATTICE),
+        "random" => Ok(drawn(alloc, RANDOM_NODES, RANDOM_ARCS)?),
+        _ => bail!("new_york, lattice or random"),
+    }
+}
+
+/// The roads of a map, which is freed.
+fn roads_of(rt: &impl Print, alloc: Global, name: &str) -> Result<Roads>
+    ensures { IfOk result (λ roads. 17000 ≤ roads.nodes) }
+{
+    let map = map_of(alloc, name)?;
+    println!(rt; "nodes {} arcs {}", map.nodes(), map.arcs().len())?;
+    Ok(Roads::new(alloc, &map)?)
+}
+
+/// Times a map by its name.
+pub fn hierarchy(rt: &(impl Clock + Print), alloc: Global, name: &str) -> Result<()> {
+    let roads = roads_of(rt, alloc, name)?;
+    time_roads(rt, alloc, &roads)
+}
