@@ -3,6 +3,7 @@
 
   write_day.py commands FEED             100,000 commands without batches for the town of examples/
   write_day.py city MAP FLEET FEED       2,000 batches of 8 over a city of 10,000 crossings with 1,000 vehicles
+  write_day.py peak NODES BATCHES FLEET FEED   so many batches of 128 with 1,000 vehicles, over a map of so many nodes
 
 In the city each vehicle keeps about four rides: with each request the one of 4,000 requests ago is cancelled.
 """
@@ -65,5 +66,20 @@ def city(map_path, fleet_path, feed_path):
                 feed.write("batch\n")
 
 
+def peak(nodes, batches, fleet_path, feed_path):
+    draw = random.Random(1)
+    nodes, batches = int(nodes), int(batches)
+    with open(fleet_path, "w") as fleet:
+        fleet.write("set batch 128\nset wait 1\n")
+        for vehicle in range(1, VEHICLES + 1):
+            fleet.write(f"vehicle {vehicle} 6 {draw.randint(1, nodes)} 0\n")
+    with open(feed_path, "w") as feed:
+        for request in range(1, batches * 128 + 1):
+            ends = draw.sample(range(1, nodes + 1), 2)
+            feed.write(f"request {request} {ends[0]} {ends[1]} {draw.randint(1, 2)} 7200 7200\n")
+            if request % 128 == 0:
+                feed.write("batch\n")
+
+
 if __name__ == "__main__":
-    {"commands": commands, "city": city}[sys.argv[1]](*sys.argv[2:])
+    {"commands": commands, "city": city, "peak": peak}[sys.argv[1]](*sys.argv[2:])

@@ -6,7 +6,7 @@
 Each sample is run with its allocation number 1, 2, 3 .. refused, until a run needs no more; --most takes at most so many of
 each sample, spread evenly. A run must end by itself with its own status and text, or with status 1 and what is allowed then:
 of a replay nothing, or the log of a legal history; of a session nothing, or a log that begins a legal history's; of an audit
-and of a drill nothing, of bookings some first lines. Needs gcc; docs/reliability.md has the numbers.
+and of a drill nothing, of bookings and of a league some first lines. Needs gcc; docs/reliability.md has the numbers.
 """
 
 import argparse
@@ -75,7 +75,7 @@ def judge(runner, sample, whole, status, text):
         return None if runner.is_legal(sample, text) else "status 0 and a log that is wrong"
     if status != 1:
         return f"status {status}"
-    if sample.words[0] == "book":
+    if sample.words[0] in ("book", "league"):
         return None if whole.startswith(text) and text[-1:] in ("", "\n") else "status 1 and other lines"
     if sample.files[0] is None or sample.words[0] == "audit":
         return None if text == "" else "status 1 and a text"
@@ -120,6 +120,9 @@ def samples(folder):
         Sample("serve while a plan moves",
                ["serve", *over, "--riders", riders, "--drivers", drivers, "--workers", 2, "--desks", 1], threads=True, **plain),
         Sample("drill of a city", ["drill", "--side", 3, "--vehicles", 2, "--requests", 8, "--seed", 1]),
+        Sample("a morning of two companies",
+               ["league", "--map", examples / "map.gr", "--fleet", examples / "north_cars.txt", "--second", examples / "south_cabs.txt",
+                "--feed", examples / "shared.txt"]),
         Sample("bookings of an evening", ["book", "--feed", examples / "evening.txt"]),
         Sample("replay of the morning", ["replay", *town, "--feed", examples / "morning.txt"],
                map_file=examples / "map.gr", fleet=examples / "fleet.txt"),

@@ -27,18 +27,22 @@ says 0 '' replay --map "$map" --fleet "$fleet" --feed "$feed"
 says 2 'usage: ride_dispatch replay --map MAP --fleet FLEET --feed FEED' replay --map "$map"
 says 2 'usage: ride_dispatch audit --map MAP --fleet FLEET --log LOG' audit
 says 2 'usage: ride_dispatch book --feed FEED' book --map "$map"
-says 2 'usage: ride_dispatch replay, audit, serve, drill or book, with its options' plan
+says 2 'usage: ride_dispatch league --map MAP --fleet FLEET --second FLEET --feed FEED' league --map "$map"
+says 2 'usage: ride_dispatch replay, audit, serve, ahead, drill, book or league, with its options' plan
 printf 'p sp 0 0\n' > "$scratch/no_map"
 says 3 "ride_dispatch: $scratch/no_map is no road map; standard output says why" replay --map "$scratch/no_map" --fleet "$fleet" --feed "$feed"
 printf 'vehicle\n' > "$scratch/no_fleet"
 says 4 "ride_dispatch: $scratch/no_fleet is no fleet file; standard output says why" replay --map "$map" --fleet "$scratch/no_fleet" --feed "$feed"
+says 4 "ride_dispatch: $scratch/no_fleet is no fleet file; standard output says why" league --map "$map" --fleet "$fleet" --second "$scratch/no_fleet" --feed "$feed"
 says 5 "ride_dispatch: $scratch/missing could not be read: No such file or directory (os error 2)" replay --map "$scratch/missing" --fleet "$fleet" --feed "$feed"
 says 5 "ride_dispatch: $scratch could not be read: Is a directory (os error 21)" replay --map "$map" --fleet "$fleet" --feed "$scratch"
 says 5 "ride_dispatch: $scratch could not be read: Is a directory (os error 21)" book --feed "$scratch"
 says 7 "ride_dispatch: $feed is wrong at the line that standard output names" audit --map "$map" --fleet "$fleet" --log "$feed"
 head -c 1048577 /dev/zero | tr '\0' '#' > "$scratch/long"
 says 8 "ride_dispatch: $scratch/long has more than 1,048,576 bytes" replay --map "$map" --fleet "$scratch/long" --feed "$feed"
+says 8 "ride_dispatch: $scratch/long has more than 1,048,576 bytes" league --map "$map" --fleet "$fleet" --second "$scratch/long" --feed "$feed"
 yes '' | head -n 1000001 > "$scratch/long"
+says 8 "ride_dispatch: $scratch/long has more than 67,108,864 bytes or 1,000,000 lines" league --map "$map" --fleet "$fleet" --second "$fleet" --feed "$scratch/long"
 says 8 "ride_dispatch: $scratch/long has more than 67,108,864 bytes or 1,000,000 lines" book --feed "$scratch/long"
 if [ -w /dev/full ]; then
     output=/dev/full

@@ -28,8 +28,8 @@ use Rattle.dual_check.proofs.PairingParts.{row-of-column}
 use Rattle.hungarian.specs.Seats.{pay_at}
 use Rattle.hungarian.proofs.Gathering.{each-gathered, gathered-in_order}
 use Rattle.fleet_league.specs.declared.briefs.Win.{Win}
-use Rattle.fleet_league.specs.declared.league.rows.RoundColumn.{RoundColumn}
-use Rattle.fleet_league.specs.declared.league.rows.RoundRow.{RoundRow}
+use Rattle.fleet_league.specs.declared.broker.rows.RoundColumn.{RoundColumn}
+use Rattle.fleet_league.specs.declared.broker.rows.RoundRow.{RoundRow}
 use Rattle.fleet_league.specs.Awards.{won_rides, won_column, won_columns, IsCertifiedOver}
 use Rattle.fleet_league.specs.League.{commit_cost}
 use Rattle.fleet_league.specs.Prices.{prices_of}

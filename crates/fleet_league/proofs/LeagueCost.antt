@@ -13,7 +13,7 @@ use Rattle.dual_check.specs.Grid.{column_of, pairing_cost, row_cost}
 use Rattle.dual_check.proofs.CertifiedPairings.{each-range, sum_by-times}
 use Rattle.board_core.specs.Recorded.{state_of}
 use Rattle.fleet_league.specs.declared.briefs.Brief.{Brief}
-use Rattle.fleet_league.specs.declared.league.rows.RoundColumn.{RoundColumn}
+use Rattle.fleet_league.specs.declared.broker.rows.RoundColumn.{RoundColumn}
 use Rattle.fleet_league.specs.declared.quotes.Quote.{Quote}
 use Rattle.fleet_league.specs.Companies.{CompanyState}
 use Rattle.fleet_league.specs.League.{commit_cost, quotes_of, round_columns, round_rows}

@@ -31,3 +31,6 @@ pub mod Beside
 pub mod LeagueKept
 pub mod RoundsMade
 pub mod ToldLines
+pub mod FeedLines
+pub mod TextRuns
+pub mod LeagueEnds

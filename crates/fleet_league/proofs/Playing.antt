@@ -12,8 +12,8 @@ use Rattle.dual_check.specs.declared.paired.Paired.{Paired}
 use Rattle.dual_check.proofs.DifferentIds.{element}
 use Rattle.board_core.specs.Recorded.{state_of}
 use Rattle.fleet_league.specs.declared.briefs.Brief.{Brief}
-use Rattle.fleet_league.specs.declared.league.rows.RoundColumn.{RoundColumn}
-use Rattle.fleet_league.specs.declared.league.sheets.RoundSheet.{RoundSheet}
+use Rattle.fleet_league.specs.declared.broker.rows.RoundColumn.{RoundColumn}
+use Rattle.fleet_league.specs.declared.broker.sheets.RoundSheet.{RoundSheet}
 use Rattle.fleet_league.specs.declared.quotes.Quote.{Quote}
 use Rattle.fleet_league.specs.Companies.{CompanyState}
 use Rattle.fleet_league.specs.League.{IsRoundOf, quotes_of}

@@ -5,9 +5,9 @@ use Rattle.ride_model.specs.declared.entry.Outcome.{Outcome}
 use Rattle.ride_model.specs.Text.{amount_field, outcome_field}
 use Rattle.trip_log.specs.Prints.{fields_then, listed}
 use Rattle.trip_log.proofs.PrintsLemmas.{fields_then-append, fields_then-map, fields_then-more, line-fields}
-use Rattle.fleet_league.specs.declared.league.sheets.RoundAward.{RoundAward}
-use Rattle.fleet_league.specs.declared.league.sheets.RoundPay.{RoundPay}
-use Rattle.fleet_league.specs.declared.league.sheets.RoundSheet.{RoundSheet}
+use Rattle.fleet_league.specs.declared.broker.sheets.RoundAward.{RoundAward}
+use Rattle.fleet_league.specs.declared.broker.sheets.RoundPay.{RoundPay}
+use Rattle.fleet_league.specs.declared.broker.sheets.RoundSheet.{RoundSheet}
 use Rattle.fleet_league.specs.LeagueTexts.{award_field, pay_field, round_line}
 
 -- a word and items after fields

@@ -11,9 +11,9 @@ use Rattle.ride_model.specs.History.{fed_commands}
 use Rattle.ride_model.specs.State.{State}
 use Rattle.ride_model.specs.Vehicle.{ride_ids}
 use Rattle.board_core.specs.Recorded.{state_of}
-use Rattle.fleet_league.specs.declared.league.lines.FeedLine.TheVariants.{League}
-use Rattle.fleet_league.specs.declared.league.sheets.RoundSheet.{RoundSheet}
-use Rattle.fleet_league.specs.declared.league.sheets.Told.TheVariants.{Round}
+use Rattle.fleet_league.specs.declared.broker.lines.FeedLine.TheVariants.{League}
+use Rattle.fleet_league.specs.declared.broker.sheets.RoundSheet.{RoundSheet}
+use Rattle.fleet_league.specs.declared.broker.sheets.Told.TheVariants.{Round}
 use Rattle.fleet_league.specs.League.{PlaysRound, TakesLine, after_round}
 use Rattle.fleet_league.specs.LeagueBoards.{IsDesk, IsLeague, IsPlayed, LeagueBoards, MayPlay, league_of}
 use Rattle.fleet_league.proofs.Beside.{AreWaiting, first-waiting, may-play}

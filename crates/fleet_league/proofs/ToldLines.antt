@@ -1,7 +1,7 @@
 -- The text of a league, line by line.
 use Rattle.std.proofs.Common.{◌≡◌, ℕ, suc, ◌+◌, List, [], ◌∷◌, ◌++◌, length, Option, Some, None, refl, sym, ap, subst, ◌∙◌, arith, append_assoc, append-nil}
-use Rattle.fleet_league.specs.declared.league.lines.FeedLine.{FeedLine}
-use Rattle.fleet_league.specs.declared.league.sheets.Told.{Told}
+use Rattle.fleet_league.specs.declared.broker.lines.FeedLine.{FeedLine}
+use Rattle.fleet_league.specs.declared.broker.sheets.Told.{Told}
 use Rattle.fleet_league.specs.Feed.{before, said_by, said_from, said_in}
 use Rattle.fleet_league.specs.League.{LeagueState, TakesLine, TellsLines}
 use Rattle.fleet_league.specs.LeagueTexts.{told_line}

@@ -7,8 +7,8 @@ use Rattle.ride_model.specs.declared.command.Command.{Command}
 use Rattle.ride_model.specs.declared.command.Command.TheVariants.{Request, Cancel, At, Done, On, Off, Clock, Ask, Bad}
 use Rattle.ride_model.specs.Text.{IsSpelled, IsSpelledCommand}
 use Rattle.command_lines.specs.Commands.{command_of_fields}
-use Rattle.fleet_league.specs.declared.league.lines.FeedLine.{FeedLine}
-use Rattle.fleet_league.specs.declared.league.lines.FeedLine.TheVariants.{League, Company}
+use Rattle.fleet_league.specs.declared.broker.lines.FeedLine.{FeedLine}
+use Rattle.fleet_league.specs.declared.broker.lines.FeedLine.TheVariants.{League, Company}
 
 -- whether the league takes a command
 abbrev pub is_league_command : Command → Bool

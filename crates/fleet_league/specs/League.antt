@@ -17,13 +17,13 @@ use Rattle.ride_model.specs.Step.{step}
 use Rattle.dual_check.specs.declared.paired.Paired.{Paired}
 use Rattle.dual_check.specs.Grid.{pairing_cost}
 use Rattle.fleet_league.specs.declared.briefs.Brief.{Brief}
-use Rattle.fleet_league.specs.declared.league.lines.FeedLine.{FeedLine}
-use Rattle.fleet_league.specs.declared.league.lines.FeedLine.TheVariants.{League, Company}
-use Rattle.fleet_league.specs.declared.league.rows.RoundColumn.{RoundColumn}
-use Rattle.fleet_league.specs.declared.league.rows.RoundRow.{RoundRow}
-use Rattle.fleet_league.specs.declared.league.sheets.RoundSheet.{RoundSheet}
-use Rattle.fleet_league.specs.declared.league.sheets.Told.{Told}
-use Rattle.fleet_league.specs.declared.league.sheets.Told.TheVariants.{Answer, Round}
+use Rattle.fleet_league.specs.declared.broker.lines.FeedLine.{FeedLine}
+use Rattle.fleet_league.specs.declared.broker.lines.FeedLine.TheVariants.{League, Company}
+use Rattle.fleet_league.specs.declared.broker.rows.RoundColumn.{RoundColumn}
+use Rattle.fleet_league.specs.declared.broker.rows.RoundRow.{RoundRow}
+use Rattle.fleet_league.specs.declared.broker.sheets.RoundSheet.{RoundSheet}
+use Rattle.fleet_league.specs.declared.broker.sheets.Told.{Told}
+use Rattle.fleet_league.specs.declared.broker.sheets.Told.TheVariants.{Answer, Round}
 use Rattle.fleet_league.specs.declared.quotes.Quote.{Quote}
 use Rattle.fleet_league.specs.Awards.{AddsAward, won_columns, won_rides}
 use Rattle.board_core.specs.Recorded.{state_of}

@@ -4,13 +4,13 @@ use Rattle.ride_model.specs.declared.entry.Ending.{Ending}
 use Rattle.ride_model.specs.declared.reply.Reply.{Reply}
 use Rattle.ride_model.specs.Text.{amount_field, fed_fields, joined, line_of, outcome_field}
 use Rattle.trip_log.specs.Prints.{ending_word}
-use Rattle.fleet_league.specs.declared.league.lines.FeedLine.{FeedLine}
-use Rattle.fleet_league.specs.declared.league.lines.FeedLine.TheVariants.{League, Company}
-use Rattle.fleet_league.specs.declared.league.sheets.RoundAward.{RoundAward}
-use Rattle.fleet_league.specs.declared.league.sheets.RoundPay.{RoundPay}
-use Rattle.fleet_league.specs.declared.league.sheets.RoundSheet.{RoundSheet}
-use Rattle.fleet_league.specs.declared.league.sheets.Told.{Told}
-use Rattle.fleet_league.specs.declared.league.sheets.Told.TheVariants.{Answer, Round}
+use Rattle.fleet_league.specs.declared.broker.lines.FeedLine.{FeedLine}
+use Rattle.fleet_league.specs.declared.broker.lines.FeedLine.TheVariants.{League, Company}
+use Rattle.fleet_league.specs.declared.broker.sheets.RoundAward.{RoundAward}
+use Rattle.fleet_league.specs.declared.broker.sheets.RoundPay.{RoundPay}
+use Rattle.fleet_league.specs.declared.broker.sheets.RoundSheet.{RoundSheet}
+use Rattle.fleet_league.specs.declared.broker.sheets.Told.{Told}
+use Rattle.fleet_league.specs.declared.broker.sheets.Told.TheVariants.{Answer, Round}
 
 -- the first line: the version of the text, and how many companies there are
 abbrev pub head_line : List ℕ

@@ -1,5 +1,5 @@
 -- What a league's session writes of its feed.
-use Rattle.std.specs.Prelude.{◌≡◌, ℕ, ◌⊎◌, ◌++◌, true, false, List, Option, IfSome}
+use Rattle.std.specs.Prelude.{◌≡◌, ℕ, ◌⊎◌, ◌++◌, true, false, List, [], Option, IfSome}
 use mathlib.Core.List.{IsPrefix}
 use Rattle.ride_model.specs.declared.entry.Ending.{Ending}
 use Rattle.ride_model.specs.declared.entry.Ending.TheVariants.{Cut, Whole}
@@ -41,7 +41,8 @@ IsReadWhole ran = (ran.source_failed ≡ false) × (ran.too_long ≡ false)
 
 -- of the bytes of a feed these were taken, and so much of a legal league's text was written: that of all lines and `end`, where
 -- nothing stood in the way; that of the lines within the limits and `cut`, where only the source did; without a last line that of
--- some first lines, or nothing, where memory was wanting; and some first bytes of one, where the sink failed
+-- some first lines, where memory was wanting, or nothing, where it was wanting before anything was taken; and some first bytes of
+-- one, where the sink failed
 pub record IsLeagued (roads : RoadMap) (settings : Settings) (first second : List Vehicle) (ran : Ran) (feed : Option (List ℕ))
     (taken : List ℕ) (before after : Option (List ℕ)) : Type 0 where
   pub whole : IsUnhindered ran → IsReadWhole ran → (text : List ℕ) × IsTextOf roads settings first second (lines_of taken) text
@@ -49,7 +50,7 @@ pub record IsLeagued (roads : RoadMap) (settings : Settings) (first second : Lis
   pub cut : IsUnhindered ran → (IsReadWhole ran → ⊥)
       → (text : List ℕ) × IsTextOf roads settings first second (lines_within feed_limits taken) text
       × Writes before after (text ++ last_line Cut)
-  pub no_memory : ran.sink_failed ≡ false → ran.no_memory ≡ true → (after ≡ before) ⊎ ((lines : List (List ℕ)) × (text : List ℕ)
+  pub no_memory : ran.sink_failed ≡ false → ran.no_memory ≡ true → ((taken ≡ []) × (after ≡ before)) ⊎ ((lines : List (List ℕ)) × (text : List ℕ)
       × AreFirstLines feed taken lines × IsTextOf roads settings first second lines text × Writes before after text)
   pub sink_failed : ran.sink_failed ≡ true → (lines : List (List ℕ)) × (text : List ℕ) × (ending : Ending)
       × AreFirstLines feed taken lines × IsTextOf roads settings first second lines text

@@ -12,3 +12,4 @@ pub mod RoundParts
 pub mod League
 pub mod LeagueBoards
 pub mod Leagued
+pub mod LeagueRuns

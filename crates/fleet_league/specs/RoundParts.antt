@@ -8,11 +8,11 @@ use Rattle.dual_check.specs.declared.paired.Paired.{Paired}
 use Rattle.hungarian.specs.Seats.{pay_at}
 use Rattle.fleet_league.specs.declared.briefs.Brief.{Brief}
 use Rattle.fleet_league.specs.declared.briefs.Win.{Win}
-use Rattle.fleet_league.specs.declared.league.rows.RoundColumn.{RoundColumn}
-use Rattle.fleet_league.specs.declared.league.rows.RoundRow.{RoundRow}
-use Rattle.fleet_league.specs.declared.league.sheets.RoundAward.{RoundAward}
-use Rattle.fleet_league.specs.declared.league.sheets.RoundPay.{RoundPay}
-use Rattle.fleet_league.specs.declared.league.sheets.RoundSheet.{RoundSheet}
+use Rattle.fleet_league.specs.declared.broker.rows.RoundColumn.{RoundColumn}
+use Rattle.fleet_league.specs.declared.broker.rows.RoundRow.{RoundRow}
+use Rattle.fleet_league.specs.declared.broker.sheets.RoundAward.{RoundAward}
+use Rattle.fleet_league.specs.declared.broker.sheets.RoundPay.{RoundPay}
+use Rattle.fleet_league.specs.declared.broker.sheets.RoundSheet.{RoundSheet}
 use Rattle.fleet_league.specs.declared.quotes.Quote.{Quote}
 
 -- a vehicle of the company of a number, with its version

@@ -5,10 +5,10 @@
 mod asking;
 mod awards;
 mod briefs;
+mod broker;
 mod company;
 mod confirming;
 pub mod laws;
-mod league;
 mod quotes;
 mod quoting;
 mod rounds;
@@ -16,6 +16,7 @@ mod seating;
 mod unions;
 
 pub use briefs::{Brief, Settled, Win, WinList};
+pub use broker::league;
 pub use company::Company;
 pub use quotes::{PriceRows, Quote};
 pub use ride_model::NoMemory;

@@ -1,2 +1,5 @@
 pub mod TwoCompanies
-pub mod OneRide
+pub mod OneVehicle
+pub mod TownRides
+pub mod AfterAwards
+pub mod NoWins

@@ -1,9 +1,9 @@
 -- The first company's part of a round is what the round has of its vehicle.
-use Rattle.std.proofs.Common.{◌≡◌, ℕ, zero, suc, ◌<◌, List, [], ◌∷◌, length, Some, refl, arith}
+use Rattle.std.proofs.Common.{◌≡◌, ℕ, zero, suc, ◌<◌, [], ◌∷◌, Some, refl, arith}
 use Rattle.std.specs.Prelude.{slice_index}
 use Rattle.dual_check.specs.Cells.{cell_at}
 use Rattle.dual_check.specs.Grid.{column_of}
-use Rattle.fleet_league.specs.Restriction.{IsPart, IsRestrictedTo, KeepsColumns, chosen_columns, rows_into}
+use Rattle.fleet_league.specs.Restriction.{IsPart, IsRestrictedTo, chosen_columns, rows_into}
 use Rattle.league_trials.specs.TwoCompanies.{union, round, first_company, part, own}
 
 pub part-is : IsPart union (rows_into first_company round.columns) (chosen_columns first_company) part

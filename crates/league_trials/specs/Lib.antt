@@ -1,2 +1,2 @@
 pub mod TwoCompanies
-pub mod OneRide
+pub mod OneVehicle

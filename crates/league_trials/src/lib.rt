@@ -1,11 +1,21 @@
-//! Trials of companies that share one dispatcher: rounds of hand-made quotes, a part of a round, and a company that
-//! moved on after its quote. It has nothing but tests, so
-//! that the crates that it tests are proved once.
+//! Trials of companies that share one dispatcher: rounds of hand-made quotes, a part of a round, three companies that seat
+//! rides together, a company that two brokers share, and companies that have moved on, quote nothing or win nothing. It has
+//! nothing but tests, so that the crates that it tests are proved once.
 #![tactic(auto)]
 
 #[cfg(test)]
 mod companies;
 #[cfg(test)]
+mod no_wins;
+#[cfg(test)]
+mod off_duty;
+#[cfg(test)]
+mod one_vehicle;
+#[cfg(test)]
 mod restrictions;
 #[cfg(test)]
 mod rounds;
+#[cfg(test)]
+mod shared_company;
+#[cfg(test)]
+mod three_companies;

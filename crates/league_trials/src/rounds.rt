@@ -70,8 +70,8 @@ fn settled(alloc: Global, case: &Case) -> Result<Paired, NoMemory> {
     settle(alloc, PENALTY, &[first, second])
 }
 
-// Writes a company's prices into its column.
-fn write(grid: &mut Grid, column: u32, prices: &[Option<u32>; 2])
+/// Writes a company's prices into its column.
+pub(crate) fn write(grid: &mut Grid, column: u32, prices: &[Option<u32>; 2])
     requires rows { grid.old.rows ≡ 2 }
     requires column { column < grid.old.columns }
     ensures rows { grid.new.rows ≡ 2 }

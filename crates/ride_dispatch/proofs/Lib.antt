@@ -15,3 +15,5 @@ pub mod Services
 pub mod Completing
 pub mod Drills
 pub mod Bookings
+pub mod Leagues
+pub mod LeagueSteps

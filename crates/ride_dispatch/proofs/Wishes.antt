@@ -12,7 +12,7 @@ use Rattle.clap.specs.declared.error.Error.{Error}
 use Rattle.clap.specs.declared.error.kind.ErrorKind.TheVariants.{OutOfMemory}
 use Rattle.clap.specs.declared.parser.matches.ArgMatches.{ArgMatches}
 use Rattle.clap.proofs.WalkLemmas.{first_value-rows, both}
-use Rattle.ride_dispatch.specs.Words.{ahead_wish, audit_wish, book_command, book_of, drill_of, drill_wish, first_word, replay_wish, serve_wish, unless, value_of, wish_of}
+use Rattle.ride_dispatch.specs.Words.{ahead_wish, audit_wish, book_command, book_of, drill_of, drill_wish, first_word, league_of, league_wish, replay_wish, serve_wish, unless, value_of, wish_of}
 
 -- by the first word
 pub asks-replay : (words : List (List ℕ)) → bytes_eq (first_word words) (codes "replay") ≡ true → wish_of words ≡ replay_wish words
@@ -56,6 +56,12 @@ asks-drill_no_book words is =
     let word : first_word words ≡ codes "drill" = (bytes_eq-Decides (first_word words) (codes "drill")).0 is in
     rw word refl
 
+asks-drill_no_league : (words : List (List ℕ)) → bytes_eq (first_word words) (codes "drill") ≡ true → league_of words ≡ None
+unfolding league_of
+asks-drill_no_league words is =
+    let word : first_word words ≡ codes "drill" = (bytes_eq-Decides (first_word words) (codes "drill")).0 is in
+    rw word refl
+
 pub asks-no_drill : (words : List (List ℕ)) → bytes_eq (first_word words) (codes "drill") ≡ false → drill_of words ≡ None
 unfolding drill_of
 asks-no_drill words is = rw is refl
@@ -66,8 +72,10 @@ no-drill text [] is = refl
 no-drill text (word ∷ words) is = absurd (omega arith)
 
 pub drill-or-not : (words : List (List ℕ)) (b : Bool) → b ≡ bytes_eq (first_word words) (codes "drill")
-    → MatchBool b ((wish_of words ≡ None) × (drill_of words ≡ drill_wish words) × (book_of words ≡ None)) (drill_of words ≡ None)
-drill-or-not words true is = (asks-drill_alone words (sym is), asks-drill words (sym is), asks-drill_no_book words (sym is))
+    → MatchBool b ((wish_of words ≡ None) × (drill_of words ≡ drill_wish words) × (book_of words ≡ None) × (league_of words ≡ None))
+    (drill_of words ≡ None)
+drill-or-not words true is =
+    (asks-drill_alone words (sym is), asks-drill words (sym is), asks-drill_no_book words (sym is), asks-drill_no_league words (sym is))
 drill-or-not words false is = asks-no_drill words (sym is)
 
 -- words for bookings ask for nothing else
@@ -88,6 +96,12 @@ asks-book_no_drill words is =
     let word : first_word words ≡ codes "book" = (bytes_eq-Decides (first_word words) (codes "book")).0 is in
     rw word refl
 
+asks-book_no_league : (words : List (List ℕ)) → bytes_eq (first_word words) (codes "book") ≡ true → league_of words ≡ None
+unfolding league_of
+asks-book_no_league words is =
+    let word : first_word words ≡ codes "book" = (bytes_eq-Decides (first_word words) (codes "book")).0 is in
+    rw word refl
+
 asks-no_book : (words : List (List ℕ)) → bytes_eq (first_word words) (codes "book") ≡ false → book_of words ≡ None
 unfolding book_of
 asks-no_book words is = rw is refl
@@ -98,10 +112,51 @@ no-book text [] is = refl
 no-book text (word ∷ words) is = absurd (omega arith)
 
 pub book-or-not : (words : List (List ℕ)) (b : Bool) → b ≡ bytes_eq (first_word words) (codes "book")
-    → MatchBool b ((wish_of words ≡ None) × (drill_of words ≡ None) × (book_of words ≡ value_of book_command words (codes "feed")))
+    → MatchBool b ((wish_of words ≡ None) × (drill_of words ≡ None) × (book_of words ≡ value_of book_command words (codes "feed"))
+    × (league_of words ≡ None))
     (book_of words ≡ None)
-book-or-not words true is = (asks-book_no_file words (sym is), asks-book_no_drill words (sym is), asks-book words (sym is))
+book-or-not words true is =
+    (asks-book_no_file words (sym is), asks-book_no_drill words (sym is), asks-book words (sym is), asks-book_no_league words (sym is))
 book-or-not words false is = asks-no_book words (sym is)
+
+-- words for a league ask for nothing else
+asks-league : (words : List (List ℕ)) → bytes_eq (first_word words) (codes "league") ≡ true → league_of words ≡ league_wish words
+unfolding league_of
+asks-league words is = rw is refl
+
+asks-league_no_file : (words : List (List ℕ)) → bytes_eq (first_word words) (codes "league") ≡ true → wish_of words ≡ None
+unfolding wish_of
+asks-league_no_file words is =
+    let word : first_word words ≡ codes "league" = (bytes_eq-Decides (first_word words) (codes "league")).0 is in
+    rw word refl
+
+asks-league_no_drill : (words : List (List ℕ)) → bytes_eq (first_word words) (codes "league") ≡ true → drill_of words ≡ None
+unfolding drill_of
+asks-league_no_drill words is =
+    let word : first_word words ≡ codes "league" = (bytes_eq-Decides (first_word words) (codes "league")).0 is in
+    rw word refl
+
+asks-league_no_book : (words : List (List ℕ)) → bytes_eq (first_word words) (codes "league") ≡ true → book_of words ≡ None
+unfolding book_of
+asks-league_no_book words is =
+    let word : first_word words ≡ codes "league" = (bytes_eq-Decides (first_word words) (codes "league")).0 is in
+    rw word refl
+
+asks-no_league : (words : List (List ℕ)) → bytes_eq (first_word words) (codes "league") ≡ false → league_of words ≡ None
+unfolding league_of
+asks-no_league words is = rw is refl
+
+pub no-league : {S : Type 0} (text : S → List ℕ) (words : List S) → length words ≡ 0 → league_of (map text words) ≡ None
+unfolding league_of
+no-league text [] is = refl
+no-league text (word ∷ words) is = absurd (omega arith)
+
+pub league-or-not : (words : List (List ℕ)) (b : Bool) → b ≡ bytes_eq (first_word words) (codes "league")
+    → MatchBool b ((wish_of words ≡ None) × (drill_of words ≡ None) × (book_of words ≡ None) × (league_of words ≡ league_wish words))
+    (league_of words ≡ None)
+league-or-not words true is =
+    (asks-league_no_file words (sym is), asks-league_no_drill words (sym is), asks-league_no_book words (sym is), asks-league words (sym is))
+league-or-not words false is = asks-no_league words (sym is)
 
 -- no words ask for nothing
 pub no-words : {S : Type 0} (text : S → List ℕ) (words : List S) → length words ≡ 0 → wish_of (map text words) ≡ None

@@ -2,10 +2,11 @@
 use Rattle.std.specs.Prelude.{⊤}
 use Rattle.city_maker.specs.Plan.{IsPlan}
 use Rattle.ride_dispatch.specs.declared.words.Ask.{Ask}
-use Rattle.ride_dispatch.specs.declared.words.Ask.TheVariants.{ForDrill, OfBookings, OverFiles}
+use Rattle.ride_dispatch.specs.declared.words.Ask.TheVariants.{ForDrill, OfBookings, OfLeague, OverFiles}
 use Rattle.ride_dispatch.specs.Words.{IsInRange}
 
 abbrev pub IsAskInRange : Ask → Type 0
 IsAskInRange (OverFiles wish) = IsInRange wish
 IsAskInRange (ForDrill plan) = IsPlan plan
 IsAskInRange (OfBookings feed) = ⊤
+IsAskInRange (OfLeague names) = ⊤

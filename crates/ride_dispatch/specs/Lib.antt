@@ -8,3 +8,5 @@ pub mod Audits
 pub mod Asks
 pub mod Drills
 pub mod Bookings
+pub mod Leagues
+pub mod LeagueWork

@@ -9,7 +9,8 @@ use Rattle.clap.specs.Kinds.{Kinds}
 use Rattle.clap.specs.declared.builder.action.ArgAction.TheVariants.{Set}
 use Rattle.city_maker.specs.declared.plan.CityPlan.{CityPlan}
 use Rattle.ride_dispatch.specs.declared.words.Ask.{Ask}
-use Rattle.ride_dispatch.specs.declared.words.Ask.TheVariants.{ForDrill, OfBookings, OverFiles}
+use Rattle.ride_dispatch.specs.declared.words.Ask.TheVariants.{ForDrill, OfBookings, OfLeague, OverFiles}
+use Rattle.ride_dispatch.specs.declared.words.LeagueNames.{LeagueNames}
 use Rattle.ride_dispatch.specs.declared.words.Wish.{Wish}
 use Rattle.ride_dispatch.specs.declared.words.Wish.TheVariants.{Replay, Audit, Serve, Ahead}
 use Rattle.ride_dispatch.specs.declared.words.WordsError.{WordsError}
@@ -23,6 +24,13 @@ pub data Wanted : Type 0 where
   an_audit : List ℕ → List ℕ → List ℕ → Wanted
   a_service : List ℕ → List ℕ → List ℕ → List ℕ → ℕ → ℕ → Wanted
   an_ahead : List ℕ → List ℕ → List ℕ → ℕ → Wanted
+
+-- the names of a league's files: a map, the fleet files of both companies, and a feed
+pub record LeagueFiles : Type 0 where
+  pub map : List ℕ
+  pub first : List ℕ
+  pub second : List ℕ
+  pub feed : List ℕ
 
 -- an option that has to be given, with one value, and a command of this name that has neither help nor version
 abbrev pub option_rule : List ℕ → Rule
@@ -59,6 +67,9 @@ drill_command =
 
 abbrev pub book_command : App
 book_command = with_option (bare_command (codes "book")) (codes "feed")
+
+abbrev pub league_command : App
+league_command = with_option (with_option (over_map_and_fleet (codes "league")) (codes "second")) (codes "feed")
 
 -- what was found, where no fault was
 abbrev pub unless : Kinds → Option (List ℕ) → Option (List ℕ)
@@ -139,9 +150,26 @@ drill_of words = if bytes_eq (first_word words) (codes "drill") then drill_wish 
 unfoldable pub book_of : List (List ℕ) → Option (List ℕ)
 book_of words = if bytes_eq (first_word words) (codes "book") then value_of book_command words (codes "feed") else None
 
+-- the files of the league that the words ask for, where the first of them does
+abbrev pub league_files : List ℕ → List ℕ → List ℕ → List ℕ → LeagueFiles
+league_files map first second feed = record { map = map; first = first; second = second; feed = feed }
+
+abbrev pub league_wish : List (List ℕ) → Option LeagueFiles
+league_wish words =
+    let value = value_of league_command words in
+    option_and_then (λ map. option_and_then (λ first. option_and_then (λ second. option_map (λ feed. league_files map first second feed)
+    (value (codes "feed"))) (value (codes "second"))) (value (codes "fleet"))) (value (codes "map"))
+
+unfoldable pub league_of : List (List ℕ) → Option LeagueFiles
+league_of words = if bytes_eq (first_word words) (codes "league") then league_wish words else None
+
 -- the words are not in order: they ask for nothing
 abbrev pub AskForNothing : List (List ℕ) → Type 0
-AskForNothing words = (wish_of words ≡ None) × (drill_of words ≡ None) × (book_of words ≡ None)
+AskForNothing words = (wish_of words ≡ None) × (drill_of words ≡ None) × (book_of words ≡ None) × (league_of words ≡ None)
+
+-- the names that were read of a league's files
+abbrev pub files_by : LeagueNames → LeagueFiles
+files_by names = league_files (string_bytes names.map) (string_bytes names.first) (string_bytes names.second) (string_bytes names.feed)
 
 -- what a wish that was read asks for
 abbrev pub wanted_by : Wish → Wanted
@@ -170,11 +198,17 @@ IsPlanOf plan outcome = MatchResult outcome (λ found. plan ≡ Some found) (λ 
 abbrev pub IsTextOf : {A : Type 0} → Option (List ℕ) → Result (String A) WordsError → Type 0
 IsTextOf text outcome = MatchResult outcome (λ found. text ≡ Some (string_bytes found)) (λ error. error ≡ Refused → text ≡ None)
 
--- words were read: they ask for a run over files, for a drill or for bookings; or they were refused, or memory was wanting
+-- words that ask for a league were read: its names were found, or they were refused; or memory was wanting
+abbrev pub AreNamesOf : Option LeagueFiles → Result LeagueNames WordsError → Type 0
+AreNamesOf files outcome = MatchResult outcome (λ names. files ≡ Some (files_by names)) (λ error. error ≡ Refused → files ≡ None)
+
+-- words were read: they ask for a run over files, for a drill, for bookings or for a league; or they were refused, or memory was
+-- wanting
 abbrev pub IsAskOf : List (List ℕ) → Result Ask WordsError → Type 0
-IsAskOf words (Ok (OverFiles wish)) = (wish_of words ≡ Some (wanted_by wish)) × (drill_of words ≡ None) × (book_of words ≡ None)
-IsAskOf words (Ok (ForDrill plan)) = (wish_of words ≡ None) × (drill_of words ≡ Some plan) × (book_of words ≡ None)
-IsAskOf words (Ok (OfBookings feed)) = (wish_of words ≡ None) × (drill_of words ≡ None) × (book_of words ≡ Some (string_bytes feed))
+IsAskOf words (Ok (OverFiles wish)) = (wish_of words ≡ Some (wanted_by wish)) × (drill_of words ≡ None) × (book_of words ≡ None) × (league_of words ≡ None)
+IsAskOf words (Ok (ForDrill plan)) = (wish_of words ≡ None) × (drill_of words ≡ Some plan) × (book_of words ≡ None) × (league_of words ≡ None)
+IsAskOf words (Ok (OfBookings feed)) = (wish_of words ≡ None) × (drill_of words ≡ None) × (book_of words ≡ Some (string_bytes feed)) × (league_of words ≡ None)
+IsAskOf words (Ok (OfLeague names)) = (wish_of words ≡ None) × (drill_of words ≡ None) × (book_of words ≡ None) × (league_of words ≡ Some (files_by names))
 IsAskOf words (Err error) = error ≡ Refused → AskForNothing words
 
 -- the names of a wish, in the order of the options: those of the map and the fleet file, and the others

@@ -129,8 +129,8 @@ fn stop_of_map(error: MapError) -> Stop
     }
 }
 
-// Brings a fleet file, reads it over the map to its answer and gives it back.
-fn bring_fleet<H: Shelf>(
+/// Brings a fleet file, reads it over the map to its answer and gives it back.
+pub fn bring_fleet<H: Shelf>(
     alloc: Global,
     shelf: &mut H,
     name: String,

@@ -6,6 +6,7 @@ mod auditing;
 mod booking;
 mod drilling;
 mod files;
+mod leaguing;
 mod messages;
 mod refusals;
 mod replaying;

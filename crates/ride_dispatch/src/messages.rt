@@ -4,6 +4,8 @@ use std::io;
 
 const FEED_LIMIT: &str = "67,108,864 bytes or 1,000,000 lines";
 
+const FLEET_LIMIT: &str = "1,048,576 bytes";
+
 /// What there is to tell of a run.
 #[derive(Clone, Copy, Drop)]
 pub struct Report<'a> {
@@ -28,7 +30,7 @@ impl<'a> Report<'a> {
             ),
             4 => eprintln!(rt;
                 "ride_dispatch: {} is no fleet file; standard output says why",
-                self.name(2)
+                self.name(self.asked.len())
             ),
             5 => self.tell_file_fault(rt),
             6 => self.tell_output_fault(rt),
@@ -66,8 +68,9 @@ impl<'a> Report<'a> {
     // once.
     fn tell_limit<R: Eprint>(&self, rt: &R) -> io::Result<()> {
         let last = self.asked.len();
-        let limit = limit_of(first_word(self.words), last);
-        if last > 3 {
+        let word = first_word(self.words);
+        let limit = limit_of(word, last);
+        if word == "serve" && last > 3 {
             return eprintln!(rt;
                 "ride_dispatch: {} or {} has more than {limit}",
                 self.name(3),
@@ -99,7 +102,7 @@ fn limit_of(word: &str, files: usize) -> &'static str {
     match (word, files) {
         ("book", _) => FEED_LIMIT,
         (_, 1) => "134,217,728 bytes",
-        (_, 2) => "1,048,576 bytes",
+        (_, 2) | ("league", 3) => FLEET_LIMIT,
         ("audit", _) => "1,073,741,824 bytes or 2,100,000 lines",
         _ => FEED_LIMIT,
     }
@@ -114,8 +117,9 @@ fn usage(word: &str) -> &'static str {
             "serve --map MAP --fleet FLEET --riders RIDERS --drivers DRIVERS --workers 1..16 --desks 1..2",
         "ahead" => "ahead --map MAP --fleet FLEET --feed FEED --reach 1..1000000",
         "book" => "book --feed FEED",
+        "league" => "league --map MAP --fleet FLEET --second FLEET --feed FEED",
         "drill" =>
             "drill --side 2..100 --vehicles 0..1000 --requests 0..16000 --seed 0..2147483647",
-        _ => "replay, audit, serve, ahead, drill or book, with its options",
+        _ => "replay, audit, serve, ahead, drill, book or league, with its options",
     }
 }

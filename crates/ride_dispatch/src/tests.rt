@@ -10,6 +10,7 @@ mod drills;
 mod edges;
 mod faults;
 mod gates;
+mod leagues;
 mod limits;
 mod refusals;
 mod replays;

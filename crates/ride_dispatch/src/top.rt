@@ -14,14 +14,16 @@ ghost use Rattle.ride_dispatch.specs.Audits.{EndsAudit};
 ghost use Rattle.ride_dispatch.specs.Bookings.{EndsBooking};
 ghost use Rattle.ride_dispatch.specs.Drills.{EndsDrill};
 ghost use Rattle.ride_dispatch.specs.Files.{AreGivenBack, AreWhole, FailsIn, IsSpent};
+ghost use Rattle.ride_dispatch.specs.Leagues.{EndsLeague};
 ghost use Rattle.ride_dispatch.specs.Refusals.{fleet_refusal, map_refusal, Says};
 ghost use Rattle.ride_dispatch.specs.Runs.{files_of, seen, IsRun};
 ghost use Rattle.ride_dispatch.specs.Sessions.{EndsReplay, EndsService};
-ghost use Rattle.ride_dispatch.specs.Words.{book_of, drill_of, fleet_name, map_name, names_of, other_names, wanted_by, wish_of, AskForNothing, Begins, Ends, IsAudit, IsInRange, OfAhead, OfAudit, OfReplay, OfService};
+ghost use Rattle.ride_dispatch.specs.Words.{book_of, drill_of, fleet_name, league_of, map_name, names_of, other_names, wanted_by, wish_of, AskForNothing, Begins, Ends, IsAudit, IsInRange, OfAhead, OfAudit, OfReplay, OfService};
 
 use crate::auditing::audit;
 use crate::booking::book;
 use crate::drilling::drill;
+use crate::leaguing::league;
 use crate::replaying::replay;
 use crate::serving::serve;
 use crate::words::{Ask, Wish, WordsError, read_ask};
@@ -33,7 +35,7 @@ use std::thread::Threads;
 /// What is written where the words are not in order.
 pub const WORDS_REFUSED: &[u8] = b"words refused\n";
 
-/// Runs what the words ask for, a run over files, a drill or bookings, and answers the exit status: 0 for a whole run, 1 for want of memory, 2 for words that are
+/// Runs what the words ask for, a run over files, a drill, bookings or a league, and answers the exit status: 0 for a whole run, 1 for want of memory, 2 for words that are
 /// not in order, 3 and 4 for a map or a fleet file that is refused, 5 for a fault of the shelf or of a source, 6 for one of
 /// the sink, 7 for a log that an audit finds wrong, and 8 for a source that gives more than its limit.
 pub fn run<R: Threads + Wait + Sync, H: Shelf, K: Sink, G: Gate>(
@@ -52,7 +54,8 @@ pub fn run<R: Threads + Wait + Sync, H: Shelf, K: Sink, G: Gate>(
     ensures words { AskForNothing (map string_bytes words.now) → (result ≡ 2) ⊎ (result ≡ 1) }
     ensures words_refused { result ≡ 2 → AskForNothing (map string_bytes words.now) × Says (K.written out.old) (K.written out.new) (K.faults out.old) (K.faults out.new) (codes "words refused\n") }
     ensures words_unread { AskForNothing (map string_bytes words.now) → result ≡ 1 → K.written out.new ≡ K.written out.old }
-    ensures asked_none { wish_of (map string_bytes words.now) ≡ None → book_of (map string_bytes words.now) ≡ None → H.asked shelf.new ≡ [] }
+    ensures asked_none { wish_of (map string_bytes words.now) ≡ None → book_of (map string_bytes words.now) ≡ None
+        → league_of (map string_bytes words.now) ≡ None → H.asked shelf.new ≡ [] }
 
     // The map and the fleet file that the words name.
     ensures map_refused { IfSome (wish_of (map string_bytes words.now)) (λ wanted. result ≡ 3 → (e : MapError)
@@ -124,6 +127,12 @@ pub fn run<R: Threads + Wait + Sync, H: Shelf, K: Sink, G: Gate>(
     ensures booked { IfSome (book_of (map string_bytes words.now)) (λ feed. EndsBooking feed
         (seen (H.contents shelf.old) (H.asked shelf.new) (H.brought shelf.new) (H.back shelf.new) (H.faults shelf.old) (H.faults shelf.new)
         (K.written out.old) (K.written out.new) (K.faults out.old) (K.faults out.new)) result) }
+
+    // Where the words ask for a league, two fleet files over one map and a feed were read, and what was written is the text of a league
+    // of two companies.
+    ensures leagued { IfSome (league_of (map string_bytes words.now)) (λ files. EndsLeague files
+        (seen (H.contents shelf.old) (H.asked shelf.new) (H.brought shelf.new) (H.back shelf.new) (H.faults shelf.old) (H.faults shelf.new)
+        (K.written out.old) (K.written out.new) (K.faults out.old) (K.faults out.new)) result) }
     ensures statuses { result ≤ 8 }
     ensures seven_of_audits { IfSome (wish_of (map string_bytes words.now)) (λ wanted. result ≡ 7 → IsAudit wanted) }
 
@@ -149,7 +158,8 @@ fn run_words<R: Threads + Wait + Sync, H: Shelf, K: Sink, G: Gate>(
     ensures words { AskForNothing (map string_bytes words.now) → (result ≡ 2) ⊎ (result ≡ 1) }
     ensures words_refused { result ≡ 2 → AskForNothing (map string_bytes words.now) × Says (K.written out.old) (K.written out.new) (K.faults out.old) (K.faults out.new) (codes "words refused\n") }
     ensures words_unread { AskForNothing (map string_bytes words.now) → result ≡ 1 → K.written out.new ≡ K.written out.old }
-    ensures none { wish_of (map string_bytes words.now) ≡ None → book_of (map string_bytes words.now) ≡ None → (H.asked shelf.new ≡ []) × (H.brought shelf.new ≡ 0) × (H.back shelf.new ≡ []) }
+    ensures none { wish_of (map string_bytes words.now) ≡ None → book_of (map string_bytes words.now) ≡ None
+        → league_of (map string_bytes words.now) ≡ None → (H.asked shelf.new ≡ []) × (H.brought shelf.new ≡ 0) × (H.back shelf.new ≡ []) }
     ensures run { IfSome (wish_of (map string_bytes words.now)) (λ wanted. IsRun (map_name wanted) (fleet_name wanted) (other_names wanted)
         (seen (H.contents shelf.old) (H.asked shelf.new) (H.brought shelf.new) (H.back shelf.new) (H.faults shelf.old) (H.faults shelf.new)
         (K.written out.old) (K.written out.new) (K.faults out.old) (K.faults out.new)) result) }
@@ -173,6 +183,9 @@ fn run_words<R: Threads + Wait + Sync, H: Shelf, K: Sink, G: Gate>(
     ensures booked { IfSome (book_of (map string_bytes words.now)) (λ feed. EndsBooking feed
         (seen (H.contents shelf.old) (H.asked shelf.new) (H.brought shelf.new) (H.back shelf.new) (H.faults shelf.old) (H.faults shelf.new)
         (K.written out.old) (K.written out.new) (K.faults out.old) (K.faults out.new)) result) }
+    ensures leagued { IfSome (league_of (map string_bytes words.now)) (λ files. EndsLeague files
+        (seen (H.contents shelf.old) (H.asked shelf.new) (H.brought shelf.new) (H.back shelf.new) (H.faults shelf.old) (H.faults shelf.new)
+        (K.written out.old) (K.written out.new) (K.faults out.old) (K.faults out.new)) result) }
     ensures seven_of_audits { IfSome (wish_of (map string_bytes words.now)) (λ wanted. result ≡ 7 → IsAudit wanted) }
     ensures complete { IfSome (wish_of (map string_bytes words.now)) (λ wanted. AreWhole (H.contents shelf.old) wanted
         → (Rose (H.faults shelf.old) (H.faults shelf.new) → ⊥) → (Rose (K.faults out.old) (K.faults out.new) → ⊥) → Ends wanted result) }
@@ -181,6 +194,7 @@ fn run_words<R: Threads + Wait + Sync, H: Shelf, K: Sink, G: Gate>(
         Ok(Ask::OverFiles(wish)) => grant(rt, alloc, wish, shelf, out, gate),
         Ok(Ask::ForDrill(plan)) => drill(rt, alloc, &plan, shelf, out),
         Ok(Ask::OfBookings(feed)) => book(alloc, feed, shelf, out),
+        Ok(Ask::OfLeague(names)) => league(rt, alloc, names, shelf, out),
         Err(WordsError::Refused) => {
             let _ = write_all(out, WORDS_REFUSED);
             2

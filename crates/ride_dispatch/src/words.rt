@@ -1,7 +1,7 @@
 //! The words after the program's name.
 ghost use Rattle.std.specs.Prelude.{◌≡◌, ◌<◌, bytes_eq, codes, length, map, None, string_bytes, IfOk, MatchBool};
 ghost use Rattle.city_maker.specs.Plan.{IsPlan};
-ghost use Rattle.ride_dispatch.specs.Words.{ahead_wish, audit_wish, book_command, book_of, drill_of, drill_wish, first_word, replay_wish, serve_wish, value_of, wish_of, IsAskOf, IsInRange, IsPlanOf, IsTextOf, IsWishOf};
+ghost use Rattle.ride_dispatch.specs.Words.{ahead_wish, audit_wish, book_command, book_of, drill_of, drill_wish, first_word, league_of, league_wish, replay_wish, serve_wish, value_of, wish_of, AreNamesOf, IsAskOf, IsInRange, IsPlanOf, IsTextOf, IsWishOf};
 ghost use Rattle.ride_dispatch.specs.Asks.{IsAskInRange};
 
 mod commands;
@@ -9,17 +9,28 @@ mod values;
 
 use city_maker::CityPlan;
 use commands::{
-    ahead_command, audit_command, book_command, drill_command, replay_command, serve_command,
+    ahead_command, audit_command, book_command, drill_command, league_command, replay_command,
+    serve_command,
 };
 use std::alloc::Global;
 use values::{number, read_by, text};
 
-/// What the words ask for: a run over a map, a fleet file and others, a drill, or a run over the feed of bookings of a name.
+/// What the words ask for: a run over a map, a fleet file and others, a drill, a run over the feed of bookings of a name, or a league.
 #[derive(Drop)]
 pub enum Ask {
     OverFiles(Wish),
     ForDrill(CityPlan),
     OfBookings(String),
+    OfLeague(LeagueNames),
+}
+
+/// The names of a league's files: a map, the fleet files of both companies, and a feed.
+#[derive(Drop)]
+pub struct LeagueNames {
+    pub map: String,
+    pub first: String,
+    pub second: String,
+    pub feed: String,
 }
 
 /// A run over files, with a variant for each first word.
@@ -77,6 +88,12 @@ pub fn read_ask(alloc: Global, words: &[String]) -> Result<Ask, WordsError>
             Err(error) => return Err(error),
         }
     }
+    if asks_for_league(words) {
+        match league_words(alloc, words) {
+            Ok(names) => return Ok(Ask::OfLeague(names)),
+            Err(error) => return Err(error),
+        }
+    }
     match read_words(alloc, words) {
         Ok(wish) => Ok(Ask::OverFiles(wish)),
         Err(error) => Err(error),
@@ -87,7 +104,7 @@ pub fn read_ask(alloc: Global, words: &[String]) -> Result<Ask, WordsError>
 fn asks_for_drill(words: &[String]) -> bool
     ensures { MatchBool result
         ((wish_of (map string_bytes words.now) ≡ None) × (drill_of (map string_bytes words.now) ≡ drill_wish (map string_bytes words.now))
-        × (book_of (map string_bytes words.now) ≡ None))
+        × (book_of (map string_bytes words.now) ≡ None) × (league_of (map string_bytes words.now) ≡ None))
         (drill_of (map string_bytes words.now) ≡ None) }
 {
     if words.is_empty() {
@@ -100,7 +117,8 @@ fn asks_for_drill(words: &[String]) -> bool
 fn asks_for_bookings(words: &[String]) -> bool
     ensures { MatchBool result
         ((wish_of (map string_bytes words.now) ≡ None) × (drill_of (map string_bytes words.now) ≡ None)
-        × (book_of (map string_bytes words.now) ≡ value_of book_command (map string_bytes words.now) (codes "feed")))
+        × (book_of (map string_bytes words.now) ≡ value_of book_command (map string_bytes words.now) (codes "feed"))
+        × (league_of (map string_bytes words.now) ≡ None))
         (book_of (map string_bytes words.now) ≡ None) }
 {
     if words.is_empty() {
@@ -109,12 +127,42 @@ fn asks_for_bookings(words: &[String]) -> bool
     begins(words, "book")
 }
 
+// Whether the words ask for a league, and so for nothing else.
+fn asks_for_league(words: &[String]) -> bool
+    ensures { MatchBool result
+        ((wish_of (map string_bytes words.now) ≡ None) × (drill_of (map string_bytes words.now) ≡ None)
+        × (book_of (map string_bytes words.now) ≡ None) × (league_of (map string_bytes words.now) ≡ league_wish (map string_bytes words.now)))
+        (league_of (map string_bytes words.now) ≡ None) }
+{
+    if words.is_empty() {
+        return false;
+    }
+    begins(words, "league")
+}
+
 // The option of bookings.
 fn book_words(alloc: Global, words: &[String]) -> Result<String, WordsError>
     ensures { IsTextOf (value_of book_command (map string_bytes words.now) (codes "feed")) result }
 {
     let given = read_by(book_command(alloc)?, words)?;
     text(alloc, &given, "feed")
+}
+
+// The options of a league.
+fn league_words(alloc: Global, words: &[String]) -> Result<LeagueNames, WordsError>
+    ensures { AreNamesOf (league_wish (map string_bytes words.now)) result }
+{
+    let given = read_by(league_command(alloc)?, words)?;
+    let map = text(alloc, &given, "map")?;
+    let first = text(alloc, &given, "fleet")?;
+    let second = text(alloc, &given, "second")?;
+    let feed = text(alloc, &given, "feed")?;
+    Ok(LeagueNames {
+        map,
+        first,
+        second,
+        feed,
+    })
 }
 
 // The options of a drill.

@@ -2,7 +2,7 @@
 ghost use Rattle.std.specs.Prelude.{◌≡◌, false, Err, IfOk, OnErr};
 ghost use Rattle.clap.specs.Simple.{app_of};
 ghost use Rattle.clap.specs.Walk.{rule_of};
-ghost use Rattle.ride_dispatch.specs.Words.{ahead_command, audit_command, bare_command, book_command, drill_command, option_rule, over_map_and_fleet, replay_command, serve_command, with_option};
+ghost use Rattle.ride_dispatch.specs.Words.{ahead_command, audit_command, bare_command, book_command, drill_command, league_command, option_rule, over_map_and_fleet, replay_command, serve_command, with_option};
 
 use super::WordsError;
 use clap::{Arg, ArgAction, Command};
@@ -65,6 +65,16 @@ pub fn book_command<'a>(alloc: Global) -> Result<Command<'a>, WordsError>
     ensures stopped { OnErr result (result ≡ Err WordsError.NoMemory) }
 {
     with_option(bare_command(alloc, "book"), alloc, "feed")
+}
+
+/// The command of a league.
+pub fn league_command<'a>(alloc: Global) -> Result<Command<'a>, WordsError>
+    ensures command { IfOk result (λ command. app_of command ≡ league_command) }
+    ensures stopped { OnErr result (result ≡ Err WordsError.NoMemory) }
+{
+    let command = over_map_and_fleet(alloc, "league")?;
+    let command = with_option(command, alloc, "second")?;
+    with_option(command, alloc, "feed")
 }
 
 // A command of this name over a map and a fleet file.

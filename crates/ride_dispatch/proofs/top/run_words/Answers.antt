@@ -1,8 +1,9 @@
 use Rattle.std.proofs.Common.{refl, map}
 use Rattle.std.specs.Prelude.{string_bytes}
-use Rattle.ride_dispatch.specs.Words.{book_of, drill_of}
+use Rattle.ride_dispatch.specs.Words.{book_of, drill_of, league_of}
 use Rattle.ride_dispatch.proofs.Bookings.{unread-bookings}
 use Rattle.ride_dispatch.proofs.Drills.{unread-words}
+use Rattle.ride_dispatch.proofs.Leagues.{unread-leagues}
 use Rattle.ride_dispatch.proofs.Runs.{of-some}
 use Rattle.ride_dispatch.proofs.top.run_words.Goals as goal
 
@@ -17,3 +18,7 @@ returns-in-Err-NoMemory-clause-drilled g c =
 pub returns-in-Err-NoMemory-clause-booked : goal.returns-in-Err-NoMemory-clause-booked
 returns-in-Err-NoMemory-clause-booked g c =
     unread-bookings (book_of (map string_bytes c.args.words.now)) _ c.requires.none_asked c.requires.none_brought c.requires.none_back refl
+
+pub returns-in-Err-NoMemory-clause-leagued : goal.returns-in-Err-NoMemory-clause-leagued
+returns-in-Err-NoMemory-clause-leagued g c =
+    unread-leagues (league_of (map string_bytes c.args.words.now)) _ c.requires.none_asked c.requires.none_brought c.requires.none_back refl

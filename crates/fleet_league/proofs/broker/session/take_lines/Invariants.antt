@@ -1,0 +1,22 @@
+use Rattle.std.proofs.Common.{◌≡◌, ◌++◌, ℕ, List}
+use Rattle.ride_ports.specs.Bytes.{Reads}
+use Rattle.line_text.specs.Lines.{ended_lines}
+use Rattle.line_reader.specs.Reader.{HasGiven}
+use Rattle.command_lines.specs.Limits.{feed_limits}
+use Rattle.fleet_league.specs.LeagueBoards.{league_of}
+use Rattle.fleet_league.specs.LeagueRuns.{HasTold, IsScribe}
+use Rattle.fleet_league.proofs.broker.session.take_lines.Given as goal
+
+-- the lines so far were taken
+abbrev pub invariant-lines : goal.invariant-lines
+invariant-lines g l = record {
+  limits : l.reader.limits ≡ feed_limits;
+  fits : IsScribe l.scribe;
+  count : g.S.Source.faults l.feed ≡ g.S.Source.faults l.initial.feed;
+  so_far : (bytes : List ℕ) × HasGiven l.reader bytes × Reads (g.S.Source.left l.initial.feed) (g.S.Source.left l.feed) (bytes ++ l.reader.pending)
+      × HasTold (league_of l.initial.scribe.league) (g.K.Sink.written l.initial.out) (g.K.Sink.faults l.initial.out) l.initial.scribe.output
+      (g.K.Sink.written l.out) (g.K.Sink.faults l.out) l.scribe (ended_lines bytes);
+}
+
+abbrev pub decreases-lines : goal.decreases-lines
+decreases-lines g l = l.reader.lines_left

@@ -1,0 +1,79 @@
+//! Rounds, played by two companies.
+ghost use Rattle.std.specs.Prelude.{◌≡◌, All, IfOk, OnOk};
+ghost use Rattle.std.specs.Thread.{IsSync};
+ghost use Rattle.board_core.specs.Recorded.{state_of};
+ghost use Rattle.fleet_league.specs.declared.quotes.Quote.{Quote};
+ghost use Rattle.fleet_league.specs.League.{PlaysRound, quotes_of};
+ghost use Rattle.fleet_league.specs.LeagueBoards.{IsPlayed, IsSound, MayPlay};
+ghost use Rattle.fleet_league.specs.Prices.{quote_of};
+ghost use Rattle.fleet_league.specs.Round.{IsPriced};
+
+use crate::broker::members::Member;
+use crate::broker::settling::parts_of;
+use crate::broker::sheets::RoundSheet;
+use crate::{NoMemory, Quote};
+use ride_model::Ride;
+use std::alloc::Global;
+use std::thread::{Threads, join_mut};
+
+/// Plays a round of rides: both companies quote, their quotes are settled together, and each is awarded its part.
+pub(crate) fn play<R: Threads + Sync>(
+    rt: &R,
+    alloc: Global,
+    penalty: u64,
+    first: &mut Member<'_>,
+    second: &mut Member<'_>,
+    rides: &[Ride],
+) -> Result<RoundSheet, NoMemory>
+    requires first { MayPlay first.old rides.now }
+    requires second { MayPlay second.old rides.now }
+    requires first_penalty { penalty ≡ first.old.board.start.settings.penalty }
+    requires second_penalty { penalty ≡ second.old.board.start.settings.penalty }
+    ensures played { IfOk result (PlaysRound penalty rides.now (state_of first.old.board) (state_of first.new.board)
+        (state_of second.old.board) (state_of second.new.board)) }
+    ensures first_played { OnOk result (IsPlayed rides.now first.old first.new) }
+    ensures second_played { OnOk result (IsPlayed rides.now second.old second.new) }
+    ensures first_start { first.new.board.start ≡ first.old.board.start }
+    ensures second_start { second.new.board.start ≡ second.old.board.start }
+{
+    let quotes = quotes_of(rt, first, second, rides)?;
+    let parts = parts_of(alloc, penalty, &quotes, rides)?;
+    first.award(rt, &quotes[0], &parts.first)?;
+    second.award(rt, &quotes[1], &parts.second)?;
+    Ok(parts.sheet)
+}
+
+// What two companies quote for rides, at the same time.
+fn quotes_of<R: Threads + Sync>(
+    rt: &R,
+    first: &mut Member<'_>,
+    second: &mut Member<'_>,
+    rides: &[Ride],
+) -> Result<[Quote; 2], NoMemory>
+    requires first { MayPlay first.old rides.now }
+    requires second { MayPlay second.old rides.now }
+    ensures quotes { IfOk result (λ quotes. quotes
+        ≡ quotes_of (state_of first.old.board) (state_of second.old.board) rides.now) }
+    ensures priced { IfOk result (λ quotes. All (λ (quote : Quote). IsPriced quote.prices) quotes) }
+    ensures first { first.new ≡ first.old }
+    ensures second { second.new ≡ second.old }
+    ensures first_sound { IsSound first.old.board }
+    ensures second_sound { IsSound second.old.board }
+{
+    let (one, two) = join_mut(
+        rt,
+        &mut || -> Result<Quote, NoMemory>
+            requires { IsSync R.row × MayPlay first.now rides.now }
+            ensures { IfOk result (λ quote. quote ≡ quote_of (state_of first.entry.now.board) rides.entry.now)
+                × IfOk result (λ quote. IsPriced quote.prices)
+                × IsSound first.entry.now.board × (first.exit.now ≡ first.entry.now) }
+        { first.quote(rt, rides) },
+        &mut || -> Result<Quote, NoMemory>
+            requires { IsSync R.row × MayPlay second.now rides.now }
+            ensures { IfOk result (λ quote. quote ≡ quote_of (state_of second.entry.now.board) rides.entry.now)
+                × IfOk result (λ quote. IsPriced quote.prices)
+                × IsSound second.entry.now.board × (second.exit.now ≡ second.entry.now) }
+        { second.quote(rt, rides) },
+    );
+    Ok([one?, two?])
+}

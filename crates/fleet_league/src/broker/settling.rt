@@ -1,0 +1,64 @@
+//! Rounds, settled over the quotes of two companies.
+ghost use Rattle.std.specs.Prelude.{◌≡◌, ◌^◌, ◌<◌, ◌≤◌, ℕ, length, sum, All, IfOk};
+ghost use Rattle.dual_check.specs.Cells.{GridCells};
+ghost use Rattle.dual_check.specs.Grid.{CertifiesPairing, pairing_cost};
+ghost use Rattle.fleet_league.specs.declared.quotes.Quote.{Quote};
+ghost use Rattle.fleet_league.specs.League.{IsRoundOf};
+ghost use Rattle.fleet_league.specs.Round.{IsPriced};
+
+use crate::broker::parts::{brief_of, sheet_of};
+use crate::broker::rows::{columns_of, paid_columns, rows_of};
+use crate::broker::sheets::RoundSheet;
+use crate::{Brief, NoMemory, Quote, settle};
+use dual_check::Paired;
+use ride_model::Ride;
+use std::alloc::Global;
+
+/// What is told of a round, and each company's part of it.
+#[derive(Debug, Drop)]
+pub(crate) struct RoundParts {
+    pub(crate) sheet: RoundSheet,
+    pub(crate) first: Brief,
+    pub(crate) second: Brief,
+}
+
+/// Settles the quotes of two companies for rides.
+pub(crate) fn parts_of(
+    alloc: Global,
+    penalty: u64,
+    quotes: &[Quote; 2],
+    rides: &[Ride],
+) -> Result<RoundParts, NoMemory>
+    requires penalty_limit { penalty ≤ 1000000000000 }
+    requires priced { All (λ (quote : Quote). IsPriced quote.prices) quotes.now }
+    requires same_rides { All (λ (quote : Quote). quote.prices.rows ≡ length rides.now) quotes.now }
+    ensures { IfOk result (λ parts. IsRoundOf penalty quotes.now rides.now parts.sheet parts.first parts.second) }
+{
+    let round = settle(alloc, penalty, quotes)?;
+    let columns = columns_of(alloc, &quotes[0], &quotes[1])?;
+    let rows = rows_of(alloc, &columns, rides, &round)?;
+    let paid = paid_columns(alloc, &columns, &round)?;
+    Ok(RoundParts {
+        sheet: sheet_of(alloc, cost_of(&round), &rows, &paid)?,
+        first: brief_of(alloc, 1, &rows, &paid)?,
+        second: brief_of(alloc, 2, &rows, &paid)?,
+    })
+}
+
+// What a certified pairing costs: what the rows are priced at less what the columns pay.
+fn cost_of(round: &Paired) -> u64
+    requires { (grid : GridCells) × (penalty : ℕ) × (grid.rows ≤ 128) × (penalty ≤ 1000000000000)
+        × CertifiesPairing grid penalty round.now.columns round.now.prices round.now.pays }
+    ensures { (grid : GridCells) (penalty : ℕ) → CertifiesPairing grid penalty round.now.columns round.now.prices round.now.pays
+        → result ≡ pairing_cost grid penalty round.now.columns }
+{
+    total(round.prices.items()) - total(round.pays.items())
+}
+
+// The sum of amounts.
+fn total(amounts: &[u64]) -> u64
+    requires { sum amounts.now < 2 ^ 64 }
+    ensures { result ≡ sum amounts.now }
+{
+    amounts.iter().sum()
+}
