@@ -14,6 +14,8 @@ use Rattle.ride_ports.specs.Bytes.{Reads, Writes, WritesPrefix}
 use Rattle.ride_ports.specs.declared.outcome.Ran.{Ran}
 use Rattle.ride_ports.proofs.ByteLemmas.{Reads-then, Reads-to_end, Reads-told, Writes-none, WritesPrefix-of_first}
 use Rattle.command_lines.specs.Limits.{feed_limits}
+use Rattle.text_page.specs.Output.{HasPut}
+use Rattle.text_page.proofs.OutputLemmas.{written-prefix, written-whole}
 use Rattle.booking_desk.specs.declared.feed_desk.FeedDesk.{FeedDesk}
 use Rattle.booking_desk.specs.declared.stops.Stop.{Stop}
 use Rattle.booking_desk.specs.declared.stops.Stop.TheVariants.{NoMemory, SinkFailed, OfFeed}
@@ -21,10 +23,8 @@ use Rattle.booking_desk.specs.BookLines.{calls_in}
 use Rattle.booking_desk.specs.BookText.{last_line_after, most_bookings, text_of_lines}
 use Rattle.booking_desk.specs.Booked.{AreFirstOf, IsBooked}
 use Rattle.booking_desk.specs.FeedDesk.{HasBooked, HasRun, IsEnded, is_no_memory, is_source_failed, is_too_long, run_text}
-use Rattle.booking_desk.specs.Output.{HasPut}
 use Rattle.booking_desk.specs.Released.{desk_after}
 use Rattle.booking_desk.proofs.BookedLines.{text-nothing}
-use Rattle.booking_desk.proofs.OutputLemmas.{written-prefix, written-whole}
 
 -- whole lines are the first lines of them and more bytes
 first-of-more : (bytes more : List ℕ) → rest_of bytes ≡ [] → IsPrefix (ended_lines bytes) (lines_of (bytes ++ more))

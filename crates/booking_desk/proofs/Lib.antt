@@ -13,6 +13,5 @@ pub mod Moments
 pub mod Once
 pub mod Due
 pub mod Releasing
-pub mod OutputLemmas
 pub mod BookedLines
 pub mod FeedRuns

@@ -8,6 +8,7 @@ use Rattle.line_reader.specs.Reader.{StopsAt}
 use Rattle.ride_model.specs.Text.{IsSpelledCommand}
 use Rattle.ride_ports.specs.Bytes.{Reads}
 use Rattle.command_lines.specs.Limits.{feed_limits}
+use Rattle.text_page.specs.Output.{HasPut, IsFresh}
 use Rattle.booking_desk.specs.declared.feed_desk.FeedDesk.{FeedDesk}
 use Rattle.booking_desk.specs.declared.stops.Stop.{Stop}
 use Rattle.booking_desk.specs.declared.stops.Stop.TheVariants.{NoMemory, SinkFailed, OfFeed}
@@ -15,7 +16,6 @@ use Rattle.booking_desk.specs.BookLines.{calls_in}
 use Rattle.booking_desk.specs.BookText.{last_line_after, most_bookings, text_of_lines}
 use Rattle.booking_desk.specs.Booked.{AreFirstOf}
 use Rattle.booking_desk.specs.Desk.{Booking, DeskState, IsRequest, is_due, new_desk}
-use Rattle.booking_desk.specs.Output.{HasPut}
 use Rattle.booking_desk.specs.Released.{DeskCall, call_id, clock_of, desk_after, made_of}
 
 -- each booking is of a request that has a text
@@ -42,7 +42,7 @@ AreDue time bookings = AllByRecursion (λ (booking : Booking). is_due time booki
 pub record IsNew (desk : FeedDesk) : Type 0 where
   pub lines : desk.lines ≡ 0
   pub bare : desk.desk ≡ new_desk most_bookings
-  pub output : desk.output ≡ record { page = []; failed = false }
+  pub output : IsFresh desk.output
 
 -- these lines were booked, and what they give was put out
 pub record HasBooked (before now : Option (List ℕ)) (faults_before faults_now : ℕ) (desk : FeedDesk) (lines : List (List ℕ)) : Type 0 where

@@ -7,5 +7,4 @@ pub mod BookLines
 pub mod BookText
 pub mod Booked
 pub mod Asked
-pub mod Output
 pub mod FeedDesk

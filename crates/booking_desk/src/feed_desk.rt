@@ -2,19 +2,20 @@
 ghost use Rattle.std.specs.Prelude.{◌≡◌, ◌<◌, ◌∷◌, ◌++◌, ℕ, [], false, true, List, Option, IfOk, MatchResult, if◌then◌else◌, length, take};
 ghost use Rattle.line_text.specs.Fields.{begins_with, is_over_long};
 ghost use Rattle.ride_model.specs.Text.{IsSpelledCommand};
+ghost use Rattle.text_page.specs.Output.{HasPut};
 ghost use Rattle.booking_desk.specs.BookText.{held_line, most_bookings, over_long_line, refusal_line, released_text, reply_text, text_of_lines};
 ghost use Rattle.booking_desk.specs.Desk.{IsRequest, after_book, after_unbook, is_held, reply_to_book};
 ghost use Rattle.booking_desk.specs.FeedDesk.{AreDue, AreSpelled, HasBooked, IsNew, with_due};
-ghost use Rattle.booking_desk.specs.Output.{HasPut};
 ghost use Rattle.booking_desk.specs.Released.{DeskCall, clock, clock_of, desk_after, released_at};
 ghost use Rattle.booking_desk.specs.Desk.{Booking};
 
 use crate::asked::{Asked, asked_by};
-use crate::output::Output;
+use crate::plain_lines::{put_held, put_line, put_refusal, put_request};
 use crate::{BookReply, BookingDesk, NoMemory};
 use ride_model::Command;
 use ride_ports::Sink;
 use std::alloc::Global;
+use text_page::Output;
 
 /// The code of an unbooking of what is not held.
 const NOT_HELD: u8 = 21;
@@ -70,7 +71,7 @@ impl FeedDesk {
         }
         match asked_by(line) {
             None => {
-                self.output.put_line(out, line);
+                put_line(&mut self.output, out, line);
                 Ok(())
             }
             Some(Asked::Book { release, request }) => self.book(out, release, &request),
@@ -79,7 +80,7 @@ impl FeedDesk {
                 Ok(())
             }
             Some(Asked::Clock { time }) => {
-                self.output.put_line(out, line);
+                put_line(&mut self.output, out, line);
                 self.set_clock(out, time);
                 Ok(())
             }
@@ -95,10 +96,10 @@ impl FeedDesk {
             → HasPut before (K.written out.new) faults (K.faults out.new) self.new.output (text ++ over_long_line whole) }
     {
         if is_comment(line) {
-            self.output.put_line(out, b"#");
+            put_line(&mut self.output, out, b"#");
             return;
         }
-        self.output.put_line(out, b"bad");
+        put_line(&mut self.output, out, b"bad");
     }
 
     /// Books a request, and puts what that gives.
@@ -124,11 +125,11 @@ impl FeedDesk {
         match reply {
             BookReply::Held => Ok(()),
             BookReply::Now => {
-                self.output.put_request(out, request);
+                put_request(&mut self.output, out, request);
                 Ok(())
             }
             BookReply::Refused { code } => {
-                self.output.put_refusal(out, code, self.lines);
+                put_refusal(&mut self.output, out, code, self.lines);
                 Ok(())
             }
         }
@@ -148,7 +149,7 @@ impl FeedDesk {
         if self.desk.unbook(id) {
             return;
         }
-        self.output.put_refusal(out, NOT_HELD, self.lines);
+        put_refusal(&mut self.output, out, NOT_HELD, self.lines);
     }
 
     /// Sets the clock, and puts the requests that are released then.
@@ -175,7 +176,7 @@ impl FeedDesk {
             → HasPut before (K.written out.old) faults (K.faults out.old) self.old.output text
             → HasPut before (K.written out.new) faults (K.faults out.new) self.new.output (text ++ held_line (length self.old.desk.held)) }
     {
-        self.output.put_held(out, self.desk.held());
+        put_held(&mut self.output, out, self.desk.held());
     }
 
     /// Writes what is not written yet.
@@ -204,7 +205,7 @@ fn release_due<K: Sink>(desk: &mut BookingDesk, output: &mut Output, out: &mut K
         → HasPut before (K.written out.new) faults (K.faults out.new) output.new (text ++ released_text due) }
 {
     while let Some(request) = desk.due() {
-        output.put_request(out, &request);
+        put_request(output, out, &request);
         desk.take_due();
     }
 }

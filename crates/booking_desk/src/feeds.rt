@@ -5,10 +5,10 @@ ghost use Rattle.ride_ports.specs.Count.{Rose};
 ghost use Rattle.line_reader.specs.Limits.{IsWithinLimits};
 ghost use Rattle.line_reader.specs.Reader.{HasGiven};
 ghost use Rattle.command_lines.specs.Limits.{feed_limits};
+ghost use Rattle.text_page.specs.Output.{HasPut};
 ghost use Rattle.booking_desk.specs.BookText.{text_of_lines};
 ghost use Rattle.booking_desk.specs.Booked.{IsBooked, IsReadWhole, IsUnhindered};
 ghost use Rattle.booking_desk.specs.FeedDesk.{HasRun, IsNew, is_source_failed, run_text};
-ghost use Rattle.booking_desk.specs.Output.{HasPut};
 
 use crate::NoMemory;
 use crate::feed_desk::FeedDesk;

@@ -11,8 +11,9 @@ ghost use Rattle.fleet_league.specs.Quoting.{quoting_batch, cost_in, cost_row};
 ghost use Rattle.fleet_league.specs.Round.{IsPriced};
 
 use crate::{Company, PriceRows, Quote};
+use adaptive_roads::AdaptiveRoads;
 use batch_commit::{Batch, PriceTable};
-use pricing_workers::price_batch;
+use pricing_workers::{Search, price_batch_adapting};
 use ride_model::{Fleet, NoMemory, Ride, Vehicle, VersionList};
 use ride_ports::OpenGate;
 use road_times::Scratch;
@@ -39,11 +40,44 @@ impl<'r> Company<'r> {
         ensures priced { IfOk result (λ quote. IsPriced quote.prices) }
         ensures scratch { scratch.new ≡ scratch.old }
     {
+        let mut roads = AdaptiveRoads::new(self.roads);
+        self.quote_adapting(rt, &mut roads, scratch, rides)
+    }
+
+    /// The same over roads that adapt to how much is asked of them.
+    pub(crate) fn quote_adapting<R: Threads + Sync>(
+        &self,
+        rt: &R,
+        roads: &mut AdaptiveRoads<'_>,
+        scratch: &mut Scratch,
+        rides: &[Ride],
+    ) -> Result<Quote, NoMemory>
+        requires is_open { IsTrue self.now.is_open }
+        requires roads { roads.old ≡ self.now.board.start.roads }
+        requires scratch { scratch.old.nodes ≡ self.now.board.start.roads.nodes }
+        requires few { length rides.now ≤ 128 }
+        requires rides { All (IsNewRide (state_of self.now.board)) rides.now }
+        requires ids_differ { IsDistinct nat_eq (ride_ids rides.now) }
+        ensures time { IfOk result (λ quote. quote.time ≡ (state_of self.now.board).clock) }
+        ensures plans { IfOk result (λ quote. quote.plans ≡ versions_of (state_of self.now.board).vehicles) }
+        ensures prices { IfOk result (λ quote. quote.prices ≡ prices_of (state_of self.now.board) rides.now) }
+        ensures priced { IfOk result (λ quote. IsPriced quote.prices) }
+        ensures scratch { scratch.new ≡ scratch.old }
+        ensures roads { roads.new ≡ roads.old }
+    {
         // This call tells that the history is legal.
         let _history = self.board.entries();
         let batch = self.batch_of(rides)?;
         let scratches = from_mut(scratch);
-        let table = price_batch(rt, self.alloc, &batch, self.roads, scratches, &OpenGate)?;
+        let table = price_batch_adapting(
+            rt,
+            self.alloc,
+            Search::BySlack,
+            &batch,
+            roads,
+            scratches,
+            &OpenGate,
+        )?;
         let plans = versions_of(self.alloc, self.board.vehicles())?;
         let prices = prices_in(self.alloc, &batch, &table)?;
         Ok(Quote {

@@ -16,6 +16,7 @@ ghost use Rattle.fleet_league.specs.Prices.{quote_of};
 ghost use Rattle.fleet_league.specs.Round.{IsPriced};
 
 use crate::{Brief, Company, NoMemory, Quote};
+use adaptive_roads::AdaptiveRoads;
 use board_core::Board;
 use ride_model::{Command, Fleet, Reply, Ride, Settings};
 use road_times::{Roads, Scratch};
@@ -24,10 +25,11 @@ use std::marker::Model;
 use std::slice::from_mut;
 use std::thread::Threads;
 
-/// A company of a league, with what it prices its vehicles with.
+/// A company of a league, with what it prices its vehicles with: roads that adapt to how much is asked of them, and a scratch.
 #[derive(Drop)]
 pub(crate) struct Member<'r> {
     company: Company<'r>,
+    roads: Box<AdaptiveRoads<'r>>,
     scratch: Scratch,
 }
 
@@ -39,7 +41,7 @@ impl<'r> Model for Member<'r> {
 
     ghost view = { λ m. m.company };
 
-    ghost invariant = { λ m. m.scratch.nodes ≡ m.company.board.start.roads.nodes };
+    ghost invariant = { λ m. (m.roads.value ≡ m.company.board.start.roads) × (m.scratch.nodes ≡ m.company.board.start.roads.nodes) };
 }
 
 impl<'r> Member<'r> {
@@ -59,8 +61,13 @@ impl<'r> Member<'r> {
         ensures open { IfOk result (λ member. IsTrue member.is_open) }
     {
         let scratch = Scratch::new(alloc, roads)?;
+        let adapting = Box::new(alloc, AdaptiveRoads::new(roads))?;
         let company = Company::new(alloc, roads, settings, fleet)?;
-        Ok(Member { company, scratch })
+        Ok(Member {
+            company,
+            roads: adapting,
+            scratch,
+        })
     }
 
     /// The company's board.
@@ -103,7 +110,8 @@ impl<'r> Member<'r> {
     {
         // This call tells that the history is legal.
         let _history = self.company.board().entries();
-        self.company.quote(rt, &mut self.scratch, rides)
+        self.company
+            .quote_adapting(rt, &mut self.roads, &mut self.scratch, rides)
     }
 
     /// Awards the company its part of a round of rides, which it has quoted as it stands.

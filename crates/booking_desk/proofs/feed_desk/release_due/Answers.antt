@@ -2,10 +2,10 @@ use Rattle.std.proofs.Common.{◌≡◌, ◌++◌, ◌∷◌, [], ℕ, List, Opt
 use Rattle.std.specs.Prelude.{IfSome}
 use Rattle.ride_model.specs.declared.command.Command.{Command}
 use Rattle.ride_model.specs.Text.{IsSpelledCommand}
+use Rattle.text_page.specs.Output.{HasPut}
 use Rattle.booking_desk.specs.BookText.{request_line, released_text}
 use Rattle.booking_desk.specs.Desk.{Booking, IsRequest, due_of, is_due}
 use Rattle.booking_desk.specs.FeedDesk.{AreSpelled, IsSpelledBooking}
-use Rattle.booking_desk.specs.Output.{HasPut}
 use Rattle.booking_desk.proofs.BookedLines.{due-step}
 use Rattle.booking_desk.proofs.Due.{booking-of, found-holds_so, none-of, release-done, release-step}
 use Rattle.booking_desk.proofs.feed_desk.release_due.Goals as goal
@@ -53,9 +53,9 @@ loop-request-preserved g c =
           release-step calls all c.loop-request.desk _ (c.loop-request.invariant.released calls all first late) c.take_due.new.self c.in-Some.request _
           (sym c.due.ensures ∙ c.in-Some.is) c.take_due.ensures.taken c.take_due.ensures.stood_first
           (λ gone x same gives before faults text has.
-          subst (λ (t : List ℕ). HasPut before (g.K.Sink.written c.put_request.new.out) faults (g.K.Sink.faults c.put_request.new.out) c.put_request.new.self t)
+          subst (λ (t : List ℕ). HasPut before (g.K.Sink.written c.put_request.new.out) faults (g.K.Sink.faults c.put_request.new.out) c.put_request.new.output t)
           (due-step text gone x)
-          (subst (λ (r : Command). HasPut before (g.K.Sink.written c.put_request.new.out) faults (g.K.Sink.faults c.put_request.new.out) c.put_request.new.self
+          (subst (λ (r : Command). HasPut before (g.K.Sink.written c.put_request.new.out) faults (g.K.Sink.faults c.put_request.new.out) c.put_request.new.output
           (text ++ released_text gone ++ request_line r)) (sym same)
           (c.put_request.ensures before faults (text ++ released_text gone) (gives before faults text has))));
     }

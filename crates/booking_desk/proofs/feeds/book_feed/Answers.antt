@@ -1,9 +1,9 @@
 use Rattle.std.proofs.Common.{◌≡◌, true, false, [], refl, sym, ◌∙◌}
 use Rattle.ride_ports.specs.declared.outcome.Ran.{Ran}
 use Rattle.ride_ports.proofs.ByteLemmas.{Reads-none}
+use Rattle.text_page.proofs.OutputLemmas.{rose-where-failed, same-where-sound}
 use Rattle.booking_desk.specs.FeedDesk.{run_text}
 use Rattle.booking_desk.proofs.FeedRuns.{booked-none, is-booked, none-left, short-enough}
-use Rattle.booking_desk.proofs.OutputLemmas.{rose-where-failed, same-where-sound}
 use Rattle.booking_desk.proofs.feeds.book_feed.Goals as goal
 
 pub returns-in_default-clause-text : goal.returns-in_default-clause-text

@@ -1,7 +1,7 @@
 use Rattle.std.proofs.Common.{◌++◌, length, subst}
+use Rattle.text_page.specs.Output.{HasPut}
 use Rattle.booking_desk.specs.BookText.{held_line, text_of_lines}
 use Rattle.booking_desk.specs.Desk.{DeskState}
-use Rattle.booking_desk.specs.Output.{HasPut}
 use Rattle.booking_desk.proofs.FeedRuns.{held-after, run-held}
 use Rattle.booking_desk.proofs.feeds.run_feed.Goals as goal
 

@@ -1,9 +1,9 @@
 use Rattle.std.proofs.Common.{◌++◌, ◌∙◌, sym, subst}
+use Rattle.text_page.specs.Output.{HasPut}
 use Rattle.booking_desk.specs.declared.replies.BookReply.{BookReply}
 use Rattle.booking_desk.specs.BookText.{reply_text}
 use Rattle.booking_desk.specs.Desk.{DeskState}
 use Rattle.booking_desk.specs.FeedDesk.{AreSpelled}
-use Rattle.booking_desk.specs.Output.{HasPut}
 use Rattle.booking_desk.proofs.BookedLines.{spelled-book}
 use Rattle.booking_desk.proofs.feed_desk.FeedDesk.book.Goals as goal
 
@@ -14,10 +14,10 @@ returns-in-Held-clause-spelled g c =
 
 pub returns-in-Now-clause-put : goal.returns-in-Now-clause-put
 returns-in-Now-clause-put g c before faults text has =
-    subst (λ (r : BookReply). HasPut before (g.K.Sink.written c.put_request.new.out) faults (g.K.Sink.faults c.put_request.new.out) c.put_request.new.self
+    subst (λ (r : BookReply). HasPut before (g.K.Sink.written c.put_request.new.out) faults (g.K.Sink.faults c.put_request.new.out) c.put_request.new.output
     (text ++ reply_text r c.args.self.now.lines c.args.request.now)) (sym c.in-Now.is ∙ c.in_ok-reply.ensures.reply) (c.put_request.ensures before faults text has)
 
 pub returns-in-Refused-clause-put : goal.returns-in-Refused-clause-put
 returns-in-Refused-clause-put g c before faults text has =
-    subst (λ (r : BookReply). HasPut before (g.K.Sink.written c.put_refusal.new.out) faults (g.K.Sink.faults c.put_refusal.new.out) c.put_refusal.new.self
+    subst (λ (r : BookReply). HasPut before (g.K.Sink.written c.put_refusal.new.out) faults (g.K.Sink.faults c.put_refusal.new.out) c.put_refusal.new.output
     (text ++ reply_text r c.args.self.now.lines c.args.request.now)) (sym c.in-Refused.is ∙ c.in_ok-reply.ensures.reply) (c.put_refusal.ensures before faults text has)

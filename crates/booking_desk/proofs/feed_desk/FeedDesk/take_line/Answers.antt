@@ -1,10 +1,10 @@
 use Rattle.std.proofs.Common.{◌≡◌, ◌++◌, true, false, Option, Some, None, refl, sym, ap, subst, ◌∙◌, append-nil, List, ℕ}
 use Rattle.line_text.specs.Fields.{fields_of, is_over_long}
+use Rattle.text_page.specs.Output.{HasPut}
 use Rattle.booking_desk.specs.declared.asked.Asked.{Asked}
 use Rattle.booking_desk.specs.Asked.{as_call}
 use Rattle.booking_desk.specs.BookLines.{call_of_fields, calls_in}
 use Rattle.booking_desk.specs.BookText.{most_bookings, text_of_lines, with_lf}
-use Rattle.booking_desk.specs.Output.{HasPut}
 use Rattle.booking_desk.specs.Released.{DeskCall, book, clock, desk_after, unbook}
 use Rattle.booking_desk.proofs.BookedLines.{asked-next, book-next, clock-next, over-next, short-whole, unbook-next}
 use Rattle.booking_desk.proofs.feed_desk.FeedDesk.take_line.Goals as goal
@@ -22,7 +22,7 @@ returns-in-None-clause-booked g c before faults lines whole has line over =
     let asked : ◌≡◌ {A = Option DeskCall} None (call_of_fields (fields_of whole)) = c.in-None.ensures.call ∙ ap (λ l. call_of_fields (fields_of l)) is in
     asked-next before _ faults _ c.args.self.now _ lines whole has.counted has.desk_is refl short None asked
     (has.desk_is ∙ ap (desk_after most_bookings) (sym (append-nil (calls_in lines))))
-    (subst (λ (l : List ℕ). HasPut before (g.K.Sink.written c.put_line.new.out) faults (g.K.Sink.faults c.put_line.new.out) c.put_line.new.self
+    (subst (λ (l : List ℕ). HasPut before (g.K.Sink.written c.put_line.new.out) faults (g.K.Sink.faults c.put_line.new.out) c.put_line.new.output
     (text_of_lines lines ++ with_lf l)) is (c.put_line.ensures before faults (text_of_lines lines) has.put))
 
 pub returns-in-Some-Book-clause-booked : goal.returns-in-Some-Book-clause-booked
@@ -50,7 +50,7 @@ returns-in-Some-Clock-clause-booked g c before faults lines whole has line over 
     let asked : Some (clock c.in-Some-Clock.time) ≡ call_of_fields (fields_of whole)
     = ap (λ (a : Asked). Some (as_call a)) (sym c.in-Some-Clock.field-0-is) ∙ c.in-Some-Clock.ensures.call ∙ ap (λ l. call_of_fields (fields_of l)) is in
     let put = subst (λ (l : List ℕ). HasPut before (g.K.Sink.written c.put_line-in-Some-Clock.new.out) faults
-    (g.K.Sink.faults c.put_line-in-Some-Clock.new.out) c.put_line-in-Some-Clock.new.self
+    (g.K.Sink.faults c.put_line-in-Some-Clock.new.out) c.put_line-in-Some-Clock.new.output
     (text_of_lines lines ++ with_lf l)) is (c.put_line-in-Some-Clock.ensures before faults (text_of_lines lines) has.put) in
     clock-next before _ faults _ c.args.self.now c.set_clock.new.self lines whole has.counted has.desk_is c.set_clock.ensures.lines short
     c.in-Some-Clock.time asked (c.set_clock.ensures.desk (calls_in lines) has.desk_is)

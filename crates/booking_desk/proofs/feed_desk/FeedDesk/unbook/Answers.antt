@@ -1,8 +1,8 @@
 use Rattle.std.proofs.Common.{◌==◌, ◌++◌, Bool, cond, [], not, sym, subst}
+use Rattle.text_page.specs.Output.{HasPut}
 use Rattle.booking_desk.specs.BookText.{refusal_line}
 use Rattle.booking_desk.specs.Desk.{Booking, DeskState, id_of}
 use Rattle.booking_desk.specs.FeedDesk.{AreSpelled, IsSpelledBooking}
-use Rattle.booking_desk.specs.Output.{HasPut}
 use Rattle.booking_desk.proofs.Filtered.{all-filter}
 use Rattle.booking_desk.proofs.feed_desk.FeedDesk.unbook.Goals as goal
 
@@ -18,5 +18,5 @@ returns-clause-spelled g c =
 
 pub returns-clause-put : goal.returns-clause-put
 returns-clause-put g c before faults text has =
-    subst (λ (v : Bool). HasPut before (g.K.Sink.written c.put_refusal.new.out) faults (g.K.Sink.faults c.put_refusal.new.out) c.put_refusal.new.self
+    subst (λ (v : Bool). HasPut before (g.K.Sink.written c.put_refusal.new.out) faults (g.K.Sink.faults c.put_refusal.new.out) c.put_refusal.new.output
     (text ++ cond v [] (refusal_line 21 c.args.self.now.lines))) c.if-unbook.ensures.held (c.put_refusal.ensures before faults text has)

@@ -1,8 +1,8 @@
 use Rattle.std.proofs.Common.{◌≡◌, ◌++◌, ◌∷◌, [], List, ℕ, ap, subst, ◌∙◌}
 use Rattle.std.specs.Prelude.{codes, decimal}
-use Rattle.booking_desk.specs.Output.{HasPut}
-use Rattle.booking_desk.proofs.OutputLemmas.{put-three}
-use Rattle.booking_desk.proofs.output.Output.put_held.Goals as goal
+use Rattle.text_page.specs.Output.{HasPut}
+use Rattle.text_page.proofs.OutputLemmas.{put-three}
+use Rattle.booking_desk.proofs.plain_lines.put_held.Goals as goal
 
 pub returns : goal.returns
 returns g c before faults text has =
@@ -10,5 +10,5 @@ returns g c before faults text has =
     subst (λ (d : List ℕ). HasPut before (g.K.Sink.written c.put-3.new.out) faults (g.K.Sink.faults c.put-3.new.out) c.put-3.new.self
     (text ++ (codes "# held " ++ d ++ 10 ∷ []))) number
     (put-three before _ faults _ c.put-3.new.self text (codes "# held ") c.as_slice.result.now (10 ∷ [])
-    (c.put-3.ensures before faults ((text ++ codes "# held ") ++ c.as_slice.result.now)
-    (c.put-2.ensures before faults (text ++ codes "# held ") (c.put.ensures before faults text has))))
+    (c.put-3.ensures.put before faults ((text ++ codes "# held ") ++ c.as_slice.result.now)
+    (c.put-2.ensures.put before faults (text ++ codes "# held ") (c.put.ensures.put before faults text has))))

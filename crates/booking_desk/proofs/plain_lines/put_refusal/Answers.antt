@@ -1,8 +1,8 @@
 use Rattle.std.proofs.Common.{◌≡◌, ◌++◌, ◌∷◌, [], List, ℕ, ap, subst, ◌∙◌}
 use Rattle.std.specs.Prelude.{codes, decimal}
-use Rattle.booking_desk.specs.Output.{HasPut}
-use Rattle.booking_desk.proofs.OutputLemmas.{put-five}
-use Rattle.booking_desk.proofs.output.Output.put_refusal.Goals as goal
+use Rattle.text_page.specs.Output.{HasPut}
+use Rattle.text_page.proofs.OutputLemmas.{put-five}
+use Rattle.booking_desk.proofs.plain_lines.put_refusal.Goals as goal
 
 pub returns : goal.returns
 returns g c before faults text has =
@@ -13,10 +13,10 @@ returns g c before faults text has =
     let w : List ℕ = codes " line " in
     let d : List ℕ = c.as_slice-2.result.now in
     let all = put-five before _ faults _ c.put-5.new.self text a b w d (10 ∷ [])
-    (c.put-5.ensures before faults ((((text ++ a) ++ b) ++ w) ++ d)
-    (c.put-4.ensures before faults (((text ++ a) ++ b) ++ w)
-    (c.put-3.ensures before faults ((text ++ a) ++ b)
-    (c.put-2.ensures before faults (text ++ a) (c.put.ensures before faults text has))))) in
+    (c.put-5.ensures.put before faults ((((text ++ a) ++ b) ++ w) ++ d)
+    (c.put-4.ensures.put before faults (((text ++ a) ++ b) ++ w)
+    (c.put-3.ensures.put before faults ((text ++ a) ++ b)
+    (c.put-2.ensures.put before faults (text ++ a) (c.put.ensures.put before faults text has))))) in
     subst (λ (n : List ℕ). HasPut before (g.K.Sink.written c.put-5.new.out) faults (g.K.Sink.faults c.put-5.new.out) c.put-5.new.self
     (text ++ (a ++ decimal c.args.code ++ w ++ n ++ 10 ∷ []))) number
     (subst (λ (n : List ℕ). HasPut before (g.K.Sink.written c.put-5.new.out) faults (g.K.Sink.faults c.put-5.new.out) c.put-5.new.self

@@ -1,8 +1,0 @@
-use Rattle.std.proofs.Common.{◌++◌, ◌∷◌, []}
-use Rattle.booking_desk.proofs.OutputLemmas.{put-two}
-use Rattle.booking_desk.proofs.output.Output.put_line.Goals as goal
-
-pub returns : goal.returns
-returns g c before faults text has =
-    put-two before _ faults _ c.put-2.new.self text c.args.bytes.now (10 ∷ [])
-    (c.put-2.ensures before faults (text ++ c.args.bytes.now) (c.put.ensures before faults text has))
