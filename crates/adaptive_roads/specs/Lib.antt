@@ -1,3 +1,4 @@
+pub mod Shared
 pub mod Stage
 pub mod Selections
 pub mod Batch

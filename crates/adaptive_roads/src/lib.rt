@@ -4,6 +4,9 @@
 //! then their map is contracted, a piece for each batch, about as long as one worker's searches of the last one. What is counted is
 //! nodes and links, never time: the same input always does the same. Where memory is wanting, or a map does not contract, rows come by
 //! searches for good. The rows are the same either way.
+//!
+//! Owners of the same roads, each in a thread of its own, may share a hierarchy. What they search together counts then, and one of
+//! them makes it for all. Which of them that is, and when the others come to sweep, depends on how their threads run; no row does.
 #![tactic(auto)]
 
 ghost use Rattle.std.specs.Prelude.{◌≡◌, All, IfSome};
@@ -19,11 +22,13 @@ use std::mem;
 mod batch_roads;
 mod rooms;
 mod selections;
+mod shared;
 mod stages;
 
 pub use batch_roads::BatchRoads;
 pub use rooms::RowRoom;
 pub use selections::Selections;
+pub use shared::SharedHierarchy;
 
 /// How many times as many nodes as the map has are settled by searches before its contraction pays.
 const MAPS_BEFORE: u64 = 120;
@@ -31,7 +36,8 @@ const MAPS_BEFORE: u64 = 120;
 /// How many links a contraction looks at in about the time in which a search settles a node.
 const LINKS_A_NODE: u64 = 4;
 
-// Memory: while the map is contracted, what a contraction takes; after that, what a hierarchy takes.
+// Memory: while the map is contracted, what a contraction takes, and while that begins a network; after that, what a hierarchy takes,
+// once for all who share it. Who takes it from another makes two networks, to compare them, and frees them.
 
 /// How many nodes the searches of a batch settled: all workers together, and the worker that settled the most.
 #[derive(Clone, Copy, Debug, Default, PartialEq, Eq)]
@@ -46,7 +52,7 @@ pub struct AdaptiveRoads<'r> {
     roads: &'r Roads,
     settled: u64,
     most: u64,
-    stage: Stage,
+    stage: Stage<'r>,
 }
 
 impl<'r> Model for AdaptiveRoads<'r> {
@@ -99,11 +105,35 @@ impl<'r> AdaptiveRoads<'r> {
         self.most = self.most.max(searched.most);
     }
 
-    /// Whether the hierarchy is to be made: enough was searched, and it is neither made nor given up. Until it is made, rows come by
-    /// searches.
+    /// How many nodes are settled by searches before a hierarchy pays.
+    fn enough(&self) -> u64 {
+        u64::from(self.roads.nodes()).saturating_mul(MAPS_BEFORE)
+    }
+
+    /// Whether the hierarchy is to be made: enough was searched, and it is neither made nor given up, nor made by another with whom it is
+    /// shared. Until it is made, rows come by searches.
     pub fn is_making(&self) -> bool {
-        let enough = u64::from(self.roads.nodes()).saturating_mul(MAPS_BEFORE);
-        self.settled >= enough && self.stage.is_making()
+        match self.stage {
+            Stage::Searching => self.settled >= self.enough(),
+            Stage::Due | Stage::Contracting(_) => true,
+            _ => false,
+        }
+    }
+
+    /// Meets the others with whom the hierarchy is shared, between batches: notes what was searched, gives the hierarchy if this one has
+    /// made it, or takes it if another has. The first that meets them once enough was searched by all is to make it. From the first
+    /// meeting on, it is made for all or not at all. Waits for nobody.
+    pub fn share<'q>(&mut self, alloc: Global, shared: &'r SharedHierarchy<'q>)
+        requires { shared.now ≡ self.old }
+        ensures { self.new ≡ self.old }
+    {
+        let together = shared.note(self.settled);
+        self.settled = 0;
+        let is_due = together >= self.enough();
+        let stage = mem::replace(&mut self.stage, Stage::SearchingOnly);
+        if let Ok(next) = stage.met(alloc, self.roads, shared, is_due) {
+            self.stage = next;
+        }
     }
 
     /// Goes on with the hierarchy, about as long as the searches took that were noted since the last time. Where memory is wanting it
@@ -129,9 +159,7 @@ impl<'r> AdaptiveRoads<'r> {
         requires ends { All (IsNode self.now) ends.now }
         ensures { IfSome result (IsSelectedOf self.now wanted.now ends.now) }
     {
-        let Stage::Sweeping(hierarchy) = &self.stage else {
-            return None;
-        };
+        let hierarchy = self.stage.hierarchy()?;
         Selections::of(alloc, hierarchy, wanted, ends).ok()
     }
 }

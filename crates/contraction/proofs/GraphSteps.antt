@@ -1,78 +1,72 @@
 -- A graph while it grows.
 use Rattle.std.proofs.Common.{◌≡◌, ◌≢◌, ℕ, suc, ◌+◌, ◌<◌, ◌≤◌, inl, inr, List, [], ◌∷◌, ◌++◌, length, get_or, set, refl, sym, ◌∙◌, ap, subst, arith, length-append}
 use Rattle.std.proofs.lemmas.Bool.{cases_eq, cases_lt}
-use Rattle.std.proofs.lemmas.List.{get_or-set_same, get_or-set_other, length-set, get_or_push, get_or_append_left}
+use Rattle.std.proofs.lemmas.List.{get_or-set_same, get_or-set_other, length-set, length_push, get_or_push, get_or_append_left}
+use Rattle.ride_model.specs.declared.network.RoadArc.{RoadArc}
 use Rattle.road_times.specs.declared.side.Side.{Side}
 use Rattle.road_times.specs.declared.side.Side.TheVariants.{Out, Back}
 use Rattle.road_times.specs.Turned.{turned_arc}
-use Rattle.contraction.specs.declared.graph.Link.{Link}
+use Rattle.road_times.specs.Sorting.{no_arc}
+use Rattle.contraction.specs.declared.graph.Chain.{Chain}
 use Rattle.contraction.specs.Chains.{IsChained}
-use Rattle.contraction.specs.Graph.{no_link, link_at, arc_at, next_of, IsLive, AreChained, IsFit, IsGraphOf}
+use Rattle.contraction.specs.Graph.{no_chain, chain_at, arc_at, next_of, IsLive, AreChained, IsFit, IsGraphOf}
 use Rattle.contraction.specs.Levels.{level_in, IsOrdered}
 use Rattle.contraction.proofs.ChainSteps.{chained-added, chained-fewer}
 
--- a link that was there before another was added
-pub link-before : (links more : List Link) (link : Link) → more ≡ links ++ link ∷ [] → (place : ℕ) → place < length links
-    → link_at more place ≡ link_at links place
-link-before links more link is place low = ap (λ ls. link_at ls place) is ∙ get_or_append_left links (link ∷ []) no_link place low
-
-pub link-last : (links more : List Link) (link : Link) → more ≡ links ++ link ∷ [] → link_at more (length links) ≡ link
-link-last links more link is = ap (λ ls. link_at ls (length links)) is ∙ get_or_push links link no_link (length links) refl
-
-pub length-pushed : (links more : List Link) (link : Link) → more ≡ links ++ link ∷ [] → length more ≡ suc (length links)
-length-pushed links more link is = omega (arith, ap (λ ls. length ls) is, length-append links (link ∷ []))
-
--- the chains of one side after a link was added
-chained-pushed : (side : Side) (links : List Link) (firsts levels : List ℕ) (link : Link) → AreChained side links firsts levels
-    → next_of side link ≡ get_or firsts (turned_arc side link.arc).tail 0 → (turned_arc side link.arc).tail < length firsts
-    → AreChained side (links ++ link ∷ []) (set firsts (turned_arc side link.arc).tail (suc (length links))) levels
-chained-pushed side links firsts levels link chained next low =
-    let node = (turned_arc side link.arc).tail in
-    subst (λ count. IsChained count (λ place. (arc_at side (links ++ link ∷ []) place).tail) (λ x. get_or (set firsts node (suc (length links))) x 0)
-    (λ place. next_of side (link_at (links ++ link ∷ []) place)) (IsLive side (links ++ link ∷ []) levels)) (sym (length-pushed links (links ++ link ∷ []) link refl))
-    (chained-added (length links) node (λ place. (arc_at side links place).tail) (λ x. get_or firsts x 0)
-    (λ place. next_of side (link_at links place)) (IsLive side links levels)
-    (λ place. (arc_at side (links ++ link ∷ []) place).tail) (λ x. get_or (set firsts node (suc (length links))) x 0)
-    (λ place. next_of side (link_at (links ++ link ∷ []) place)) (IsLive side (links ++ link ∷ []) levels)
+-- the chains of one side after an arc was added
+chained-pushed : (side : Side) (arcs : List RoadArc) (chains : List Chain) (firsts levels : List ℕ) (arc : RoadArc) (chain : Chain)
+    → AreChained side arcs chains firsts levels → length chains ≡ length arcs
+    → next_of side chain ≡ get_or firsts (turned_arc side arc).tail 0 → (turned_arc side arc).tail < length firsts
+    → AreChained side (arcs ++ arc ∷ []) (chains ++ chain ∷ []) (set firsts (turned_arc side arc).tail (suc (length arcs))) levels
+chained-pushed side arcs chains firsts levels arc chain chained paired next low =
+    let node = (turned_arc side arc).tail in
+    subst (λ count. IsChained count (λ place. (arc_at side more place).tail) (λ x. get_or (set firsts node (suc (length arcs))) x 0)
+    (λ place. next_of side (chain_at longer place)) (IsLive side more levels)) (sym (omega (arith, length_push arcs arc)))
+    (chained-added (length arcs) node (λ place. (arc_at side arcs place).tail) (λ x. get_or firsts x 0)
+    (λ place. next_of side (chain_at chains place)) (IsLive side arcs levels)
+    (λ place. (arc_at side more place).tail) (λ x. get_or (set firsts node (suc (length arcs))) x 0)
+    (λ place. next_of side (chain_at longer place)) (IsLive side more levels)
     chained
-    (λ place low. ap (λ (l : Link). (turned_arc side l.arc).tail) (before place low))
-    (λ place low. ap (next_of side) (before place low))
-    (λ place low live. sym (ap (λ (l : Link). level_in levels (turned_arc side l.arc).head) (before place low)) ∙ live)
-    (ap (λ (l : Link). (turned_arc side l.arc).tail) last)
-    (ap (next_of side) last ∙ next)
-    (get_or-set_same firsts node (suc (length links)) 0 low)
-    (λ y differs. get_or-set_other firsts node y (suc (length links)) 0 differs))
+    (λ place low. ap (λ (a : RoadArc). (turned_arc side a).tail) (before place low))
+    (λ place low. ap (next_of side) (get_or_append_left chains (chain ∷ []) no_chain place (omega (arith, low, paired))))
+    (λ place low live. sym (ap (λ (a : RoadArc). level_in levels (turned_arc side a).head) (before place low)) ∙ live)
+    (ap (λ (a : RoadArc). (turned_arc side a).tail) (get_or_push arcs arc no_arc (length arcs) refl))
+    (ap (next_of side) (get_or_push chains chain no_chain (length arcs) paired) ∙ next)
+    (get_or-set_same firsts node (suc (length arcs)) 0 low)
+    (λ y differs. get_or-set_other firsts node y (suc (length arcs)) 0 differs))
   where
-    before : (place : ℕ) → place < length links → link_at (links ++ link ∷ []) place ≡ link_at links place
-    before = link-before links (links ++ link ∷ []) link refl
+    more : List RoadArc
+    more = arcs ++ arc ∷ []
 
-    last : link_at (links ++ link ∷ []) (length links) ≡ link
-    last = link-last links (links ++ link ∷ []) link refl
+    longer : List Chain
+    longer = chains ++ chain ∷ []
 
--- a graph with one link more
-pub graph-pushed : (nodes : ℕ) (links : List Link) (outs backs levels order : List ℕ) (link : Link) → IsGraphOf nodes links outs backs levels order
-    → IsFit nodes link.arc → length links < 5000000
-    → link.next_out ≡ get_or outs link.arc.tail 0 → link.next_back ≡ get_or backs link.arc.head 0
-    → IsGraphOf nodes (links ++ link ∷ []) (set outs link.arc.tail (suc (length links))) (set backs link.arc.head (suc (length links))) levels order
-graph-pushed nodes links outs backs levels order link graph fit room next_out next_back = record {
+    before : (place : ℕ) → place < length arcs → get_or more place no_arc ≡ get_or arcs place no_arc
+    before place low = get_or_append_left arcs (arc ∷ []) no_arc place low
+
+-- a graph with one arc more
+pub graph-pushed : (nodes : ℕ) (arcs : List RoadArc) (chains : List Chain) (outs backs levels order : List ℕ) (arc : RoadArc) (chain : Chain)
+    → IsGraphOf nodes arcs chains outs backs levels order
+    → IsFit nodes arc → length arcs < 5000000
+    → chain.next_out ≡ get_or outs arc.tail 0 → chain.next_back ≡ get_or backs arc.head 0
+    → IsGraphOf nodes (arcs ++ arc ∷ []) (chains ++ chain ∷ []) (set outs arc.tail (suc (length arcs))) (set backs arc.head (suc (length arcs))) levels order
+graph-pushed nodes arcs chains outs backs levels order arc chain graph fit room next_out next_back = record {
   small = graph.small;
-  outs = length-set outs link.arc.tail _ ∙ graph.outs;
-  backs = length-set backs link.arc.head _ ∙ graph.backs;
+  outs = length-set outs arc.tail _ ∙ graph.outs;
+  backs = length-set backs arc.head _ ∙ graph.backs;
   sized = graph.sized;
-  few = omega (arith, longer, room);
-  fit = λ place low. elim (cases_lt place (length links)) [
-    | inl earlier ↦ subst (λ (l : Link). IsFit nodes l.arc) (sym (link-before links (links ++ link ∷ []) link refl place earlier)) (graph.fit place earlier)
+  paired = omega (arith, length_push chains chain, length_push arcs arc, graph.paired);
+  few = omega (arith, length_push arcs arc, room);
+  fit = λ place low. elim (cases_lt place (length arcs)) [
+    | inl earlier ↦ subst (IsFit nodes) (sym (get_or_append_left arcs (arc ∷ []) no_arc place earlier)) (graph.fit place earlier)
     | inr last ↦
-        let at : place ≡ length links = omega (arith, longer) in
-        subst (λ (l : Link). IsFit nodes l.arc) (sym (ap (link_at (links ++ link ∷ [])) at ∙ link-last links (links ++ link ∷ []) link refl)) fit
+        let at : length arcs ≡ place = omega (arith, length_push arcs arc) in
+        subst (IsFit nodes) (sym (get_or_push arcs arc no_arc place at)) fit
   ];
-  chained_out = chained-pushed Out links outs levels link graph.chained_out next_out (omega (arith, graph.outs, fit.tail));
-  chained_back = chained-pushed Back links backs levels link graph.chained_back next_back (omega (arith, graph.backs, fit.head));
+  chained_out = chained-pushed Out arcs chains outs levels arc chain graph.chained_out graph.paired next_out (omega (arith, graph.outs, fit.tail));
+  chained_back = chained-pushed Back arcs chains backs levels arc chain graph.chained_back graph.paired next_back (omega (arith, graph.backs, fit.head));
   ordered = graph.ordered;
 }
-  where
-    longer : length (links ++ link ∷ []) ≡ suc (length links)
-    longer = length-pushed links (links ++ link ∷ []) link refl
 
 -- the levels after a node of the core was contracted
 ordered-taken : (nodes : ℕ) (levels order : List ℕ) (node : ℕ) → IsOrdered nodes levels order → length levels ≡ nodes + 1
@@ -128,25 +122,27 @@ ordered-taken nodes levels order node ordered sized some low in_core room = reco
     others x differs = get_or-set_other levels node x (length order) 4294967295 differs
 
 -- a graph after a node of the core was contracted
-pub graph-taken : (nodes : ℕ) (links : List Link) (outs backs levels order : List ℕ) (node : ℕ) → IsGraphOf nodes links outs backs levels order
+pub graph-taken : (nodes : ℕ) (arcs : List RoadArc) (chains : List Chain) (outs backs levels order : List ℕ) (node : ℕ)
+    → IsGraphOf nodes arcs chains outs backs levels order
     → 1 ≤ node → node ≤ nodes → level_in levels node ≡ 4294967295 → suc (length order) < 4294967295
-    → IsGraphOf nodes links outs backs (set levels node (length order)) (order ++ node ∷ [])
-graph-taken nodes links outs backs levels order node graph some low in_core room = record {
+    → IsGraphOf nodes arcs chains outs backs (set levels node (length order)) (order ++ node ∷ [])
+graph-taken nodes arcs chains outs backs levels order node graph some low in_core room = record {
   small = graph.small;
   outs = graph.outs;
   backs = graph.backs;
   sized = length-set levels node (length order) ∙ graph.sized;
+  paired = graph.paired;
   few = graph.few;
   fit = graph.fit;
-  chained_out = chained-fewer _ _ _ _ (IsLive Out links levels) (IsLive Out links (set levels node (length order))) graph.chained_out (λ place _. still Out place);
-  chained_back = chained-fewer _ _ _ _ (IsLive Back links levels) (IsLive Back links (set levels node (length order))) graph.chained_back (λ place _. still Back place);
+  chained_out = chained-fewer _ _ _ _ (IsLive Out arcs levels) (IsLive Out arcs (set levels node (length order))) graph.chained_out (λ place _. still Out place);
+  chained_back = chained-fewer _ _ _ _ (IsLive Back arcs levels) (IsLive Back arcs (set levels node (length order))) graph.chained_back (λ place _. still Back place);
   ordered = ordered-taken nodes levels order node graph.ordered graph.sized some low in_core room;
 }
   where
-    still : (side : Side) (place : ℕ) → IsLive side links (set levels node (length order)) place → IsLive side links levels place
-    still side place live = elim (cases_eq (arc_at side links place).head node) [
+    still : (side : Side) (place : ℕ) → IsLive side arcs (set levels node (length order)) place → IsLive side arcs levels place
+    still side place live = elim (cases_eq (arc_at side arcs place).head node) [
       | inl same ↦
           let its = get_or-set_same levels node (length order) 4294967295 (omega (arith, graph.sized)) in
           absurd (omega (arith, ap (level_in (set levels node (length order))) same, its, live))
-      | inr differs ↦ sym (get_or-set_other levels node (arc_at side links place).head (length order) 4294967295 differs) ∙ live
+      | inr differs ↦ sym (get_or-set_other levels node (arc_at side arcs place).head (length order) 4294967295 differs) ∙ live
     ]

@@ -1,3 +1,4 @@
+pub mod Turning
 pub mod ChainSteps
 pub mod GraphSteps
 pub mod Collecting

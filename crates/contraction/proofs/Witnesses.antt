@@ -1,17 +1,20 @@
 -- The steps of a witness search.
 use Rattle.std.proofs.Common.{◌≡◌, ◌≢◌, ℕ, ◌+◌, ◌<◌, ◌≤◌, inl, inr, length, get_or, set, refl, sym, ◌∙◌, ap, subst, arith}
-use Rattle.std.specs.Prelude.{Option, Some, None, min, replicate}
+use Rattle.std.specs.Prelude.{Option, Some, None, Contains, min, replicate}
 use Rattle.hierarchy_laws.specs.Ways.{Reaches}
 use Rattle.hierarchy_laws.specs.Hierarchy.{IsApart}
 use Rattle.hierarchy_laws.proofs.Ways.{reaches-same, reaches-behind}
 use Rattle.road_times.proofs.Lists.{all_none}
 use Rattle.std.proofs.lemmas.Bool.{cases_eq, cases_lt}
 use Rattle.std.proofs.lemmas.List.{get_or-set_same, get_or-set_other, length-set, length-replicate}
+use Rattle.std.proofs.lemmas.List.Elements.{Contains-get_or}
+use Rattle.ride_model.specs.declared.network.RoadArc.{RoadArc}
+use Rattle.road_times.specs.Sorting.{no_arc}
 use Rattle.radix_queue.specs.Queue.{key_of, lesser_key}
 use Rattle.contraction.specs.declared.graph.Graph.{Graph}
 use Rattle.contraction.specs.declared.witness.Reached.{Reached}
 use Rattle.contraction.specs.declared.witness.Witness.{Witness}
-use Rattle.contraction.specs.Graph.{link_at, IsLinked, IsGraph}
+use Rattle.contraction.specs.Graph.{IsGraph}
 use Rattle.contraction.specs.Levels.{level_in}
 use Rattle.contraction.specs.Witness.{IsFound, IsRoomy, IsWitness, reached_at, nothing_reached}
 
@@ -93,23 +96,30 @@ witness-begun old new nodes roomy round reached keys graph avoided source = reco
   timed = λ node is. absurd (omega (arith, ap (λ rs. (get_or rs node nothing_reached).round) reached, roomy.rounds node, round, is));
 }
 
--- from a node that was found a link leads on
-pub found-onward : (graph : Graph) (avoided source node place time more : ℕ) → IsGraph graph → place < length graph.links.items
-    → IsFound graph avoided source node time → (link_at graph.links.items place).arc.tail ≡ node
-    → level_in graph.levels.items (link_at graph.links.items place).arc.head ≡ 4294967295 → (link_at graph.links.items place).arc.head ≢ avoided
-    → time + (link_at graph.links.items place).arc.seconds ≡ more
-    → IsFound graph avoided source (link_at graph.links.items place).arc.head more
+-- from a node that was found an arc leads on
+pub found-onward : (graph : Graph) (avoided source node place time more : ℕ) → IsGraph graph → place < length graph.arcs.items
+    → IsFound graph avoided source node time → (get_or graph.arcs.items place no_arc).tail ≡ node
+    → level_in graph.levels.items (get_or graph.arcs.items place no_arc).head ≡ 4294967295 → (get_or graph.arcs.items place no_arc).head ≢ avoided
+    → time + (get_or graph.arcs.items place no_arc).seconds ≡ more
+    → IsFound graph avoided source (get_or graph.arcs.items place no_arc).head more
 found-onward graph avoided source node place time more is low found tail live apart total = record {
-  way = reaches-behind (IsApart (IsLinked graph.links.items) (level_in graph.levels.items) (length graph.order.items) avoided)
-      (link_at graph.links.items place).arc source (link_at graph.links.items place).arc.head time more refl (omega arith) (
-        ((place, low, refl), omega (arith, ap (level_in graph.levels.items) tail, found.live, is.ordered.short), omega (arith, live, is.ordered.short)),
+  way = reaches-behind (IsApart (Contains graph.arcs.items) (level_in graph.levels.items) (length graph.order.items) avoided)
+      arc source arc.head time more refl (omega arith) (
+        (
+          Contains-get_or graph.arcs.items place no_arc low,
+          omega (arith, ap (level_in graph.levels.items) tail, found.live, is.ordered.short),
+          omega (arith, live, is.ordered.short),
+        ),
         (λ e. found.apart (sym tail ∙ e)),
         apart,
       )
-      (subst (λ n. Reaches (IsApart (IsLinked graph.links.items) (level_in graph.levels.items) (length graph.order.items) avoided) source n time) (sym tail) found.way);
+      (subst (λ n. Reaches (IsApart (Contains graph.arcs.items) (level_in graph.levels.items) (length graph.order.items) avoided) source n time) (sym tail) found.way);
   live = live;
   apart = apart;
 }
+  where
+    arc : RoadArc
+    arc = get_or graph.arcs.items place no_arc
 
 -- the source is found
 pub found-source : (graph : Graph) (avoided source : ℕ) → level_in graph.levels.items source ≡ 4294967295 → source ≢ avoided

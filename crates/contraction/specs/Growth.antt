@@ -3,21 +3,20 @@ use Rattle.std.specs.Prelude.{◌≡◌, ◌≢◌, ℕ, ◌+◌, ◌⊎◌, len
 use Rattle.ride_model.specs.declared.network.RoadArc.{RoadArc}
 use Rattle.ride_model.specs.Road.{RoadMap}
 use Rattle.hierarchy_laws.specs.Ways.{Reaches}
-use Rattle.hierarchy_laws.specs.Hierarchy.{IsHierarchy}
+use Rattle.hierarchy_laws.specs.Hierarchy.{IsHierarchyOf}
 use Rattle.contraction.specs.declared.graph.Neighbor.{Neighbor}
 use Rattle.contraction.specs.declared.graph.Graph.{Graph}
-use Rattle.contraction.specs.Graph.{IsLinked}
 use Rattle.contraction.specs.Levels.{level_in}
 use Rattle.contraction.specs.Witness.{ReachesPast}
 
--- the links and levels of a graph are a hierarchy of a map
+-- the arcs and levels of a graph are a hierarchy of a map
 abbrev pub IsHierarchyGraph : RoadMap → Graph → Type 0
 IsHierarchyGraph roads graph =
-    IsHierarchy (Contains roads.arcs) (IsLinked graph.links.items) (level_in graph.levels.items) (length graph.order.items)
+    IsHierarchyOf roads graph.arcs.items (level_in graph.levels.items) (length graph.order.items)
 
 -- an arc of the core past a node that weighs what a way weighs
 pub record IsShortcut (graph : Graph) (node : ℕ) (arc : RoadArc) : Type 0 where
-  pub way : Reaches (IsLinked graph.links.items) arc.tail arc.head arc.seconds
+  pub way : Reaches (Contains graph.arcs.items) arc.tail arc.head arc.seconds
   pub tail_live : level_in graph.levels.items arc.tail ≡ 4294967295
   pub head_live : level_in graph.levels.items arc.head ≡ 4294967295
   pub tail_apart : arc.tail ≢ node
@@ -28,21 +27,21 @@ pub record HasShortcuts (node : ℕ) (old new : Graph) : Type 0 where
   pub nodes : new.nodes ≡ old.nodes
   pub levels : new.levels.items ≡ old.levels.items
   pub order : new.order.items ≡ old.order.items
-  pub kept : (arc : RoadArc) → IsLinked old.links.items arc → IsLinked new.links.items arc
-  pub added : (arc : RoadArc) → IsLinked new.links.items arc → IsLinked old.links.items arc ⊎ IsShortcut old node arc
+  pub kept : (arc : RoadArc) → Contains old.arcs.items arc → Contains new.arcs.items arc
+  pub added : (arc : RoadArc) → Contains new.arcs.items arc → Contains old.arcs.items arc ⊎ IsShortcut old node arc
 
--- a neighbor in the core of which a link leads to a node, and one to which a link of the node leads
+-- a neighbor in the core of which an arc leads to a node, and one to which an arc of the node leads
 pub record IsIncoming (graph : Graph) (node : ℕ) (neighbor : Neighbor) : Type 0 where
-  pub linked : IsLinked graph.links.items (record { tail = neighbor.node; head = node; seconds = neighbor.seconds })
+  pub linked : Contains graph.arcs.items (record { tail = neighbor.node; head = node; seconds = neighbor.seconds })
   pub live : level_in graph.levels.items neighbor.node ≡ 4294967295
   pub apart : neighbor.node ≢ node
 
 pub record IsOutgoing (graph : Graph) (node : ℕ) (neighbor : Neighbor) : Type 0 where
-  pub linked : IsLinked graph.links.items (record { tail = node; head = neighbor.node; seconds = neighbor.seconds })
+  pub linked : Contains graph.arcs.items (record { tail = node; head = neighbor.node; seconds = neighbor.seconds })
   pub live : level_in graph.levels.items neighbor.node ≡ 4294967295
   pub apart : neighbor.node ≢ node
 
 -- what goes from a neighbor over a node to another has a way past it that weighs no more
 abbrev pub IsCovered : Graph → ℕ → Neighbor → Neighbor → Type 0
 IsCovered graph node into onward = into.node ≢ onward.node
-    → ReachesPast graph.links.items graph.levels.items (length graph.order.items) node into.node onward.node (into.seconds + onward.seconds)
+    → ReachesPast graph.arcs.items graph.levels.items (length graph.order.items) node into.node onward.node (into.seconds + onward.seconds)

@@ -1,23 +1,22 @@
 -- What a witness search has found: ways through the rest of the core, past a node. It need not be all of them.
-use Rattle.std.specs.Prelude.{◌≡◌, ◌≢◌, ℕ, ◌+◌, ◌≤◌, List, length, slice_index_or, Some}
+use Rattle.std.specs.Prelude.{◌≡◌, ◌≢◌, ℕ, ◌+◌, ◌≤◌, List, length, Contains, slice_index_or, Some}
+use Rattle.ride_model.specs.declared.network.RoadArc.{RoadArc}
 use Rattle.hierarchy_laws.specs.Ways.{Reaches}
 use Rattle.hierarchy_laws.specs.Hierarchy.{IsApart}
 use Rattle.radix_queue.specs.Queue.{key_of}
-use Rattle.contraction.specs.declared.graph.Link.{Link}
 use Rattle.contraction.specs.declared.graph.Graph.{Graph}
 use Rattle.contraction.specs.declared.witness.Reached.{Reached}
 use Rattle.contraction.specs.declared.witness.Witness.{Witness}
-use Rattle.contraction.specs.Graph.{IsLinked}
 use Rattle.contraction.specs.Levels.{level_in}
 
--- some way over links of the core that do not touch a node weighs no more than the limit
-abbrev pub ReachesPast : List Link → List ℕ → ℕ → ℕ → ℕ → ℕ → ℕ → Type 0
-ReachesPast links levels core avoided source node limit =
-    Reaches (IsApart (IsLinked links) (level_in levels) core avoided) source node limit
+-- some way over arcs of the core that do not touch a node weighs no more than the limit
+abbrev pub ReachesPast : List RoadArc → List ℕ → ℕ → ℕ → ℕ → ℕ → ℕ → Type 0
+ReachesPast arcs levels core avoided source node limit =
+    Reaches (IsApart (Contains arcs) (level_in levels) core avoided) source node limit
 
 -- a node of the core that was reached
 pub record IsFound (graph : Graph) (avoided source node time : ℕ) : Type 0 where
-  pub way : ReachesPast graph.links.items graph.levels.items (length graph.order.items) avoided source node time
+  pub way : ReachesPast graph.arcs.items graph.levels.items (length graph.order.items) avoided source node time
   pub live : level_in graph.levels.items node ≡ 4294967295
   pub apart : node ≢ avoided
 

@@ -1,10 +1,10 @@
 // The arcs of a map and the shortcuts that were added, chained by the nodes that they leave and by those that they lead to.
-ghost use Rattle.std.specs.Prelude.{◌≡◌, suc, ◌≢◌, ℕ, ◌+◌, ◌^◌, ◌<◌, ◌≤◌, length, slice_index_or, Contains, IfOk, OnOk, OnErr, IsTrue, IsFalse, ◌↔◌};
+ghost use Rattle.std.specs.Prelude.{◌≡◌, suc, ◌≢◌, ℕ, ◌+◌, ◌^◌, ◌<◌, ◌≤◌, [], length, slice_index_or, Contains, IfOk, OnOk, OnErr, IsTrue, IsFalse, ◌↔◌};
 ghost use Rattle.ride_model.specs.declared.network.RoadArc.{RoadArc};
 ghost use Rattle.road_times.specs.Turned.{turned_arc};
-ghost use Rattle.contraction.specs.declared.graph.Link.{Link};
+ghost use Rattle.contraction.specs.declared.graph.Chain.{Chain};
 ghost use Rattle.contraction.specs.declared.graph.Neighbor.{Neighbor};
-ghost use Rattle.contraction.specs.Graph.{next_of, firsts_in, link_at, arc_at, IsFit, IsGraph, IsSameGraph, HasPushed, IsNeighbor, IsTakenOut, IsLive, HasSameArcs, relinked};
+ghost use Rattle.contraction.specs.Graph.{next_of, firsts_in, chain_at, arc_at, IsFit, IsGraph, IsSameGraph, HasPushed, IsNeighbor, IsTakenOut, IsLive, relinked};
 ghost use Rattle.contraction.specs.Levels.{level_in};
 
 use ride_model::RoadArc;
@@ -14,17 +14,16 @@ use std::alloc::{AllocError, Global};
 /// The level of a node that is not contracted.
 pub(crate) const IN_CORE: u32 = u32::MAX;
 
-/// The most links of a graph.
+/// The most arcs and shortcuts of a graph, together its links.
 pub(crate) const MOST_LINKS: usize = 5_000_000;
 
-/// The most links of a chain that are looked at when it is pruned.
+/// The most arcs of a chain that are looked at when it is pruned.
 const MOST_PRUNED: u32 = 1_000;
 
-/// An arc or a shortcut. The links of a node are chained: `next_out` and `next_back` are one more than the place of the next
-/// link that leaves the same node, or that leads to the same, and 0 at the end. The next is always an earlier link.
+/// What follows an arc or shortcut: `next_out` and `next_back` are one more than the place of the next one that leaves the same
+/// node, or that leads to the same, and 0 at the end. The next one always has an earlier place.
 #[derive(Clone, Copy)]
-pub(crate) struct Link {
-    pub(crate) arc: RoadArc,
+pub(crate) struct Chain {
     pub(crate) next_out: u32,
     pub(crate) next_back: u32,
 }
@@ -36,31 +35,31 @@ pub(crate) struct Neighbor {
     pub(crate) seconds: u32,
 }
 
-/// The links with their chains, the level of each node, and the contracted nodes in the order of their levels.
+/// The arcs and shortcuts, the chains of each at the same place, the level of each node, and the contracted nodes in the order of
+/// their levels. The arcs stand by themselves, so that they are left when the chains are freed.
 #[derive(Drop)]
 pub(crate) struct Graph {
     pub(crate) nodes: u32,
-    pub(crate) links: Vec<Link>,
+    pub(crate) arcs: Vec<RoadArc>,
+    pub(crate) chains: Vec<Chain>,
     pub(crate) first_out: Vec<u32>,
     pub(crate) first_back: Vec<u32>,
     pub(crate) levels: Vec<u32>,
     pub(crate) order: Vec<u32>,
 }
 
-/// A link with another next one.
+/// A chain with another next one.
 #[inline]
-fn with_next(link: Link, side: Side, next: u32) -> Link
-    ensures { result ≡ relinked side link next }
+fn with_next(chain: Chain, side: Side, next: u32) -> Chain
+    ensures { result ≡ relinked side chain next }
 {
     match side {
-        Side::Out => Link {
-            arc: link.arc,
+        Side::Out => Chain {
             next_out: next,
-            next_back: link.next_back,
+            next_back: chain.next_back,
         },
-        Side::Back => Link {
-            arc: link.arc,
-            next_out: link.next_out,
+        Side::Back => Chain {
+            next_out: chain.next_out,
             next_back: next,
         },
     }
@@ -82,22 +81,24 @@ pub(crate) fn turned(arc: &RoadArc, side: Side) -> RoadArc
 }
 
 impl Graph {
-    /// A graph of so many nodes with no link, with room for so many.
+    /// A graph of so many nodes with no arc, with room for so many.
     pub(crate) fn new(alloc: Global, nodes: u32, room: usize) -> Result<Graph, AllocError>
         requires { nodes < 2 ^ 31 }
         ensures graph { IfOk result IsGraph }
         ensures nodes { IfOk result (λ graph. graph.nodes ≡ nodes) }
-        ensures links { IfOk result (λ graph. length graph.links.items ≡ 0) }
+        ensures arcs { IfOk result (λ graph. graph.arcs.items ≡ []) }
         ensures order { IfOk result (λ graph. length graph.order.items ≡ 0) }
     {
-        let links = Vec::with_capacity(alloc, room)?;
+        let arcs = Vec::with_capacity(alloc, room)?;
+        let chains = Vec::with_capacity(alloc, room)?;
         let first_out = vec![in alloc; 0u32; nodes as usize + 1]?;
         let first_back = vec![in alloc; 0u32; nodes as usize + 1]?;
         let levels = vec![in alloc; IN_CORE; nodes as usize + 1]?;
         let order = Vec::with_capacity(alloc, nodes as usize)?;
         Ok(Graph {
             nodes,
-            links,
+            arcs,
+            chains,
             first_out,
             first_back,
             levels,
@@ -105,28 +106,29 @@ impl Graph {
         })
     }
 
-    /// Adds a link.
+    /// Adds an arc or a shortcut.
     pub(crate) fn add(&mut self, arc: RoadArc) -> Result<(), AllocError>
         requires graph { IsGraph self.old }
         requires fits { IsFit self.old.nodes arc }
-        requires room { length self.old.links.items < MOST_LINKS }
+        requires room { length self.old.arcs.items < MOST_LINKS }
         ensures graph { IsGraph self.new }
         ensures ok { OnOk result (HasPushed self.old self.new arc) }
         ensures err { OnErr result (IsSameGraph self.old self.new) }
     {
-        let link = Link {
-            arc,
+        let chain = Chain {
             next_out: self.first_out[arc.tail as usize],
             next_back: self.first_back[arc.head as usize],
         };
-        self.links.push(link)?;
-        let count = self.links.len() as u32;
+        self.chains.reserve(1)?;
+        self.arcs.push(arc)?;
+        self.chains.push(chain)?;
+        let count = self.arcs.len() as u32;
         self.first_out[arc.tail as usize] = count;
         self.first_back[arc.head as usize] = count;
         Ok(())
     }
 
-    /// The place, and one more, of the first link of a node.
+    /// The place, and one more, of the first arc of a node.
     #[inline]
     pub(crate) fn first(&self, side: Side, node: u32) -> u32
         requires graph { IsGraph self.now }
@@ -139,26 +141,27 @@ impl Graph {
         }
     }
 
-    /// The place, and one more, of the link that follows in a chain.
+    /// The place, and one more, of the arc that follows in a chain.
     #[inline]
     pub(crate) fn next(&self, side: Side, place: usize) -> u32
-        requires { place < length self.now.links.items }
-        ensures { result ≡ next_of side (link_at self.now.links.items place) }
+        requires graph { IsGraph self.now }
+        requires place { place < length self.now.arcs.items }
+        ensures { result ≡ next_of side (chain_at self.now.chains.items place) }
     {
-        let link = &self.links[place];
+        let chain = &self.chains[place];
         match side {
-            Side::Out => link.next_out,
-            Side::Back => link.next_back,
+            Side::Out => chain.next_out,
+            Side::Back => chain.next_back,
         }
     }
 
     /// The arc at a place as a search meets it.
     #[inline]
     pub(crate) fn arc(&self, side: Side, place: usize) -> RoadArc
-        requires { place < length self.now.links.items }
-        ensures { result ≡ arc_at side self.now.links.items place }
+        requires { place < length self.now.arcs.items }
+        ensures { result ≡ arc_at side self.now.arcs.items place }
     {
-        turned(&self.links[place].arc, side)
+        turned(&self.arcs[place], side)
     }
 
     /// Whether a node is not contracted.
@@ -171,7 +174,7 @@ impl Graph {
         self.levels[node as usize] == IN_CORE
     }
 
-    /// Fills a list with the neighbors of a node that are in the core, by the links of one side. A loop has no neighbor.
+    /// Fills a list with the neighbors of a node that are in the core, by the arcs of one side. A loop has no neighbor.
     pub(crate) fn neighbors(
         &self,
         side: Side,
@@ -220,27 +223,27 @@ impl Graph {
         Ok(())
     }
 
-    /// Writes what follows a link in a chain: what follows the next, which leads to a contracted node.
+    /// Writes what follows an arc in a chain: what follows the next, which leads to a contracted node.
     fn pass_over(&mut self, side: Side, place: usize, later: usize)
         requires graph { IsGraph self.old }
-        requires place { place < length self.old.links.items }
-        requires later { later < length self.old.links.items }
-        requires next { next_of side (link_at self.old.links.items place) ≡ suc later }
-        requires dead { ¬ (IsLive side self.old.links.items self.old.levels.items later) }
+        requires place { place < length self.old.arcs.items }
+        requires later { later < length self.old.arcs.items }
+        requires next { next_of side (chain_at self.old.chains.items place) ≡ suc later }
+        requires dead { ¬ (IsLive side self.old.arcs.items self.old.levels.items later) }
         ensures graph { IsGraph self.new }
-        ensures arcs { HasSameArcs self.old self.new }
+        ensures same { IsSameGraph self.old self.new }
     {
         let beyond = self.next(side, later);
-        let link = self.links[place];
-        self.links[place] = with_next(link, side, beyond);
+        let chain = self.chains[place];
+        self.chains[place] = with_next(chain, side, beyond);
     }
 
-    /// Takes links to contracted nodes out of a chain, but for its first.
+    /// Takes arcs to contracted nodes out of a chain, but for its first.
     pub(crate) fn prune(&mut self, side: Side, node: u32)
         requires graph { IsGraph self.old }
         requires node { node ≤ self.old.nodes }
         ensures graph { IsGraph self.new }
-        ensures arcs { HasSameArcs self.old self.new }
+        ensures same { IsSameGraph self.old self.new }
     {
         let mut cursor = self.first(side, node);
         'chain: for _ in 0..MOST_PRUNED {

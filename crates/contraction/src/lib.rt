@@ -11,7 +11,7 @@ ghost use Rattle.radix_queue.specs.Queue.{Queue};
 ghost use Rattle.contraction.specs.Contracted.{IsContractionOf, IsFitContraction};
 ghost use Rattle.contraction.specs.Graph.{IsGraph};
 ghost use Rattle.contraction.specs.Levels.{level_in};
-ghost use Rattle.contraction.specs.View.{arcs_of, contracted_of};
+ghost use Rattle.contraction.specs.View.{contracted_of};
 
 use radix_queue::RadixQueue;
 use ride_model::{Network, RoadArc};
@@ -23,7 +23,7 @@ mod shortcuts;
 mod start;
 mod witness;
 
-use graph::{Graph, Link, MOST_LINKS, Neighbor};
+use graph::{Graph, MOST_LINKS, Neighbor};
 use shortcuts::{contract, judge};
 use start::{first_candidates, graph_of};
 use witness::Witness;
@@ -37,8 +37,9 @@ const MOST_WORK: u64 = 1_000;
 /// What is added to each priority, so that none is below zero.
 pub(crate) const BIAS: u64 = 1 << 32;
 
-// Memory: a link takes 20 bytes, and a node 88: 20 in the graph, 40 in the witness, 24 in the queue and 4 for its depth. The
-// largest map, 500,000 nodes and 2,000,000 arcs, takes at most 144 megabytes while it is contracted.
+// Memory: a link takes 20 bytes, 12 for the arc and 8 for its chains, and a node 84: 16 in the graph, 40 in the witness, 24 in the
+// queue and 4 for its depth. Room for the most links is taken at the start. The largest map, 500,000 nodes and 2,000,000 arcs, takes
+// at most 142 megabytes while it is contracted, and 64 of them once that is finished: the arcs, levels and order are handed on.
 
 /// A road map that is being contracted.
 #[derive(Drop)]
@@ -96,13 +97,6 @@ fn deepen(depths: &mut [u32], neighbors: &[Neighbor], depth: u32) {
     }
 }
 
-/// The arcs of links, without their chains.
-fn arcs_of(alloc: Global, links: &[Link]) -> Result<Vec<RoadArc>, AllocError>
-    ensures { IfOk result (λ arcs. arcs.items ≡ arcs_of links.now) }
-{
-    links.iter().map(|link| link.arc).collect(alloc)
-}
-
 impl Contraction {
     /// A map of which no node is contracted.
     pub fn new(alloc: Global, map: &Network) -> Result<Contraction, NoMemory>
@@ -153,7 +147,7 @@ impl Contraction {
             &mut self.outs,
         )?;
         self.work_left = self.work_left.saturating_sub(judged.work);
-        if judged.shortcuts > self.most_links.saturating_sub(self.graph.links.len()) as u64 {
+        if judged.shortcuts > self.most_links.saturating_sub(self.graph.arcs.len()) as u64 {
             self.work_left = 0;
             return Ok(None);
         }
@@ -246,7 +240,7 @@ impl Contraction {
     pub fn links(&self) -> usize
         ensures { result ≡ length self.now.arcs }
     {
-        self.graph.links.len()
+        self.graph.arcs.len()
     }
 
     /// An arc or a shortcut.
@@ -254,7 +248,7 @@ impl Contraction {
         requires { place < length self.now.arcs }
         ensures { slice_get self.now.arcs place ≡ Some result }
     {
-        self.graph.links[place].arc
+        self.graph.arcs[place]
     }
 
     /// The graph alone: what only contracting needs is freed.
@@ -265,22 +259,21 @@ impl Contraction {
         self.graph
     }
 
-    /// What the contraction leaves, as far as it went. All else is freed before the arcs are copied.
-    pub fn finish(self, alloc: Global) -> Result<Levelled, NoMemory>
-        ensures nodes { IfOk result (λ made. made.nodes ≡ self.nodes) }
-        ensures arcs { IfOk result (λ made. made.arcs.items ≡ self.arcs) }
-        ensures levels { IfOk result (λ made. made.levels.items ≡ self.levels) }
-        ensures order { IfOk result (λ made. made.order.items ≡ self.order) }
-        ensures few { IfOk result (λ made. length made.arcs.items ≤ 5000000) }
+    /// What the contraction leaves, as far as it went. All else is freed, and nothing is copied.
+    pub fn finish(self) -> Levelled
+        ensures nodes { result.nodes ≡ self.nodes }
+        ensures arcs { result.arcs.items ≡ self.arcs }
+        ensures levels { result.levels.items ≡ self.levels }
+        ensures order { result.order.items ≡ self.order }
+        ensures few { length result.arcs.items ≤ 5000000 }
         ensures fits { IsFitContraction self }
     {
         let graph = self.into_graph();
-        let arcs = arcs_of(alloc, graph.links.as_slice())?;
-        Ok(Levelled {
+        Levelled {
             nodes: graph.nodes,
-            arcs,
+            arcs: graph.arcs,
             levels: graph.levels,
             order: graph.order,
-        })
+        }
     }
 }

@@ -3,7 +3,7 @@ ghost use Rattle.std.specs.Prelude.{◌≡◌, ℕ, ◌+◌, ◌<◌, ◌≤◌,
 ghost use Rattle.ride_model.specs.Road.{RoadMap};
 ghost use Rattle.contraction.specs.declared.graph.Graph.{Graph};
 ghost use Rattle.contraction.specs.declared.graph.Neighbor.{Neighbor};
-ghost use Rattle.contraction.specs.Graph.{HasSameArcs, IsGraph};
+ghost use Rattle.contraction.specs.Graph.{IsGraph, IsSameGraph};
 ghost use Rattle.contraction.specs.Levels.{level_in};
 ghost use Rattle.contraction.specs.Witness.{IsRoomy, IsWitness};
 ghost use Rattle.contraction.specs.Growth.{IsHierarchyGraph, HasShortcuts, IsIncoming, IsOutgoing, IsCovered};
@@ -51,7 +51,7 @@ fn cover_pair(
     if seconds > u64::from(Network::MOST_SECONDS) {
         return Ok(false);
     }
-    if graph.links.len() >= MOST_LINKS {
+    if graph.arcs.len() >= MOST_LINKS {
         return Ok(false);
     }
     graph.add(RoadArc {
@@ -165,7 +165,7 @@ fn take_out(
 fn prune_all(graph: &mut Graph, side: Side, neighbors: &[Neighbor])
     requires { IsGraph graph.old }
     ensures graph { IsGraph graph.new }
-    ensures arcs { HasSameArcs graph.old graph.new }
+    ensures same { IsSameGraph graph.old graph.new }
 {
     for neighbor in neighbors {
         if neighbor.node > graph.nodes {

@@ -1,6 +1,5 @@
 // A contraction begins: the graph of the map, and the nodes in the order of their degrees.
 ghost use Rattle.std.specs.Prelude.{◌≡◌, ℕ, ◌+◌, ◌≤◌, length, map, take, IfOk};
-ghost use Rattle.contraction.specs.View.{arcs_of};
 ghost use Rattle.contraction.specs.Graph.{IsGraph};
 
 use crate::BIAS;
@@ -13,7 +12,7 @@ use std::alloc::{AllocError, Global};
 pub(crate) fn graph_of(alloc: Global, map: &Network, room: usize) -> Result<Graph, AllocError>
     ensures graph { IfOk result IsGraph }
     ensures nodes { IfOk result (λ graph. graph.nodes ≡ map.now.nodes) }
-    ensures arcs { IfOk result (λ graph. arcs_of graph.links.items ≡ map.now.arcs) }
+    ensures arcs { IfOk result (λ graph. graph.arcs.items ≡ map.now.arcs) }
     ensures order { IfOk result (λ graph. length graph.order.items ≡ 0) }
 {
     let mut graph = Graph::new(alloc, map.nodes(), room)?;

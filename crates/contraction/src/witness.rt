@@ -79,7 +79,7 @@ impl Witness {
         true
     }
 
-    /// Relaxes the links of a node that lead to nodes of the core other than the one that is avoided.
+    /// Relaxes the arcs of a node that lead to nodes of the core other than the one that is avoided.
     fn relax(&mut self, graph: &Graph, avoided: u32, node: u32, time: u64) -> u64
         requires graph { IsGraph graph.now }
         requires room { IsRoomy graph.now.nodes self.old }
@@ -161,7 +161,7 @@ impl Witness {
     pub(crate) fn reaches(&self, node: u32, limit: u64) -> bool
         requires room { (nodes : ℕ) × IsRoomy nodes self.now × (node ≤ nodes) }
         ensures { IsTrue result → (graph : Graph) (avoided source : ℕ) → IsWitness graph avoided source self.now
-            → ReachesPast graph.links.items graph.levels.items (length graph.order.items) avoided source node limit }
+            → ReachesPast graph.arcs.items graph.levels.items (length graph.order.items) avoided source node limit }
     {
         let reached = self.reached[node as usize];
         reached.round == self.round && reached.time <= limit

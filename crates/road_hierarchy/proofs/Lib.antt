@@ -1,6 +1,7 @@
 pub mod Parts
 pub mod Turning
-pub mod Grouping
+pub mod Tallies
+pub mod Placing
 pub mod Marking
 pub mod Selecting
 pub mod Packing

@@ -27,7 +27,7 @@ use Rattle.road_hierarchy.specs.Marks.{node_at}
 use Rattle.road_hierarchy.specs.Descents.{upper_of, no_upper, upper_at, AreDescents}
 use Rattle.road_hierarchy.specs.Packed.{arc_below, uppers_at, arcs_below, hierarchy_of, IsPacked, IsPackingOf}
 use Rattle.road_hierarchy.proofs.Parts.{slice-at, length-slice}
-use Rattle.road_hierarchy.proofs.Turning.{turned-turned}
+use Rattle.contraction.proofs.Turning.{turned-turned}
 use Rattle.road_hierarchy.proofs.Marking.{falls-low, node-of_level}
 
 -- what a list has that is put together from lists

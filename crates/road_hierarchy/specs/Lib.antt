@@ -1,5 +1,6 @@
 pub mod Links
 pub mod Parts
+pub mod Tallies
 pub mod Descents
 pub mod Marks
 pub mod Packed

@@ -42,8 +42,8 @@ use sweep::{read, sweep, time_at};
 /// Want of memory.
 pub type NoMemory = AllocError;
 
-// Memory: an arc or shortcut takes 8 bytes, and a node 24. While a hierarchy is packed each arc takes 12 more, and for a side at
-// a time 8 for itself and for each node. A worker's room takes 8 bytes a node and 8 a selected node.
+// Memory: an arc or shortcut takes 8 bytes, and a node 24. While a hierarchy is packed the arcs of the contraction take 12 more each,
+// and a node 8 more: at most 116 megabytes for the largest map. A worker's room takes 8 bytes a node and 8 a selected node.
 
 /// A contraction of all nodes packed for climbs and sweeps. To contracts it means the same as the contraction, but for loops.
 ///
@@ -111,7 +111,7 @@ impl Hierarchy {
             (map : RoadMap) → IsContractionOf map contraction → IsContractionOf map hierarchy)) }
         ensures none { IfOk result (λ made. IfNone made (length contraction.order ≢ contraction.nodes)) }
     {
-        let made = contraction.finish(alloc)?;
+        let made = contraction.finish();
         if made.order.len() != made.nodes as usize {
             return Ok(None);
         }

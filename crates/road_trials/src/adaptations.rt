@@ -2,12 +2,13 @@
 ghost use Rattle.std.specs.Prelude.{◌≡◌, ◌≤◌, length, IfOk};
 ghost use Rattle.ride_model.specs.Road.{IsNode};
 
-use adaptive_roads::{AdaptiveRoads, BatchRoads, RowRoom};
+use adaptive_roads::{AdaptiveRoads, BatchRoads, RowRoom, SharedHierarchy};
 use ride_model::{Network, NoMemory, RoadArc};
 use road_times::{Roads, Scratch, Side};
 use std::alloc::Global;
 use std::process::Abort;
 use std::test::Fail;
+use std::thread::{Threads, join};
 
 /// The number of nodes.
 const NODES: u32 = 9;
@@ -96,5 +97,90 @@ fn times_stay_the_same_once_a_map_is_contracted(rt: HostRuntime) -> Result<(), F
     adaptive.note(1);
     adaptive.prepare(alloc);
     expect_times(&rt, alloc, &adaptive, true)?;
+    Ok(())
+}
+
+/// One of two makes a hierarchy, and both sweep by it.
+fn expect_sharing<'d, 'q>(
+    rt: &impl Abort,
+    alloc: Global,
+    roads: &'d Roads,
+    shared: &'d SharedHierarchy<'q>,
+) -> Result<(), NoMemory>
+    requires nodes { roads.now.nodes ≡ 9 }
+    requires shared { shared.now ≡ roads.now }
+{
+    let mut maker = AdaptiveRoads::new(roads);
+    let mut other = AdaptiveRoads::new(roads);
+    other.note(120 * 9 - 1);
+    other.share(alloc, shared);
+    assert!(rt; !other.is_making());
+    maker.note(1);
+    maker.share(alloc, shared);
+    other.share(alloc, shared);
+    assert!(rt; maker.is_making() && !other.is_making());
+    maker.note(1_000);
+    maker.prepare(alloc);
+    other.prepare(alloc);
+    other.share(alloc, shared);
+    expect_times(rt, alloc, &maker, true)?;
+    expect_times(rt, alloc, &other, false)?;
+    maker.share(alloc, shared);
+    other.share(alloc, shared);
+    expect_times(rt, alloc, &maker, true)?;
+    expect_times(rt, alloc, &other, true)
+}
+
+/// Searches enough for a hierarchy and meets the others. Answers whether it sweeps then.
+fn searches_and_meets<'d, 'q>(
+    alloc: Global,
+    roads: &'d Roads,
+    shared: &'d SharedHierarchy<'q>,
+) -> bool
+    requires nodes { roads.now.nodes ≡ 9 }
+    requires shared { shared.now ≡ roads.now }
+{
+    let mut adaptive = AdaptiveRoads::new(roads);
+    adaptive.note(120 * 9);
+    adaptive.share(alloc, shared);
+    adaptive.prepare(alloc);
+    adaptive.share(alloc, shared);
+    adaptive.select(alloc, &WANTED, &ENDS).is_some()
+}
+
+/// Two threads share a hierarchy, which at least the one that makes it has then.
+fn expect_sharing_threads<R: Threads + Sync + Abort>(rt: &R, alloc: Global, roads: &Roads)
+    requires { roads.now.nodes ≡ 9 }
+{
+    let shared = SharedHierarchy::new(roads);
+    let one = &shared;
+    let (first, second) = join(
+        rt,
+        || -> bool
+            requires { (roads.now.nodes ≡ 9) × (one.now ≡ roads.now) }
+        { searches_and_meets(alloc, roads, one) },
+        || -> bool
+            requires { (roads.now.nodes ≡ 9) × (one.now ≡ roads.now) }
+        { searches_and_meets(alloc, roads, one) },
+    );
+    assert!(rt; first || second);
+}
+
+#[test]
+fn threads_share_a_hierarchy(rt: HostRuntime) -> Result<(), Fail> {
+    let alloc = rt.alloc();
+    let network = ring(alloc)?;
+    let roads = Roads::new(alloc, &network)?;
+    expect_sharing_threads(&rt, alloc, &roads);
+    Ok(())
+}
+
+#[test]
+fn a_hierarchy_is_made_once_for_all_who_share_it(rt: HostRuntime) -> Result<(), Fail> {
+    let alloc = rt.alloc();
+    let network = ring(alloc)?;
+    let roads = Roads::new(alloc, &network)?;
+    let shared = SharedHierarchy::new(&roads);
+    expect_sharing(&rt, alloc, &roads, &shared)?;
     Ok(())
 }

@@ -1,14 +1,31 @@
 use Rattle.std.proofs.Common.{◌≡◌, ◌+◌, refl, subst, arith}
 use Rattle.contraction.specs.Witness.{ReachesPast}
-use Rattle.contraction.proofs.Growths.{past-wider, shortcuts-pushed, over-node, covered-pushed}
+use Rattle.contraction.proofs.Growths.{contained-fit, past-wider, shortcuts-pushed, over-node, covered-pushed}
 use Rattle.contraction.proofs.shortcuts.cover_pair.Goals as goal
+
+pub reaches-requires : goal.reaches-requires
+reaches-requires c = record {
+  room = (c.args.graph.now.nodes, c.requires.room, (contained-fit c.args.graph.now _ c.requires.graph c.requires.onward.linked).head);
+}
+
+pub add-requires-clause-fits : goal.add-requires-clause-fits
+add-requires-clause-fits c =
+    let into = contained-fit c.args.graph.now _ c.requires.graph c.requires.into.linked in
+    let onward = contained-fit c.args.graph.now _ c.requires.graph c.requires.onward.linked in
+    record {
+      some_tail = into.some_tail;
+      tail = into.tail;
+      some_head = onward.some_head;
+      head = onward.head;
+      seconds = omega (arith, c.if-seconds-from.false, c.from-3.ensures);
+    }
 
 pub returns-then-reaches-clause-covered : goal.returns-then-reaches-clause-covered
 returns-then-reaches-clause-covered c = λ _ differ.
     let (base, grown, ways) = c.requires.ways in
     let graph = c.args.graph.now in
     let total : c.from.result + c.from-2.result ≡ c.args.into.seconds + c.args.onward.seconds = omega (arith, c.from.ensures, c.from-2.ensures) in
-    subst (ReachesPast graph.links.items graph.levels.items _ c.args.node c.args.into.node c.args.onward.node) total
+    subst (ReachesPast graph.arcs.items graph.levels.items _ c.args.node c.args.into.node c.args.onward.node) total
     (past-wider c.args.node base graph c.args.node c.args.into.node c.args.onward.node (c.from.result + c.from-2.result) grown
     (c.if-reaches.ensures refl base c.args.node c.args.into.node ways))
 

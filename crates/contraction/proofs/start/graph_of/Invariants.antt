@@ -1,13 +1,12 @@
 use Rattle.std.proofs.Common.{◌≡◌, length, take}
 use Rattle.contraction.specs.Graph.{IsGraph}
-use Rattle.contraction.specs.View.{arcs_of}
 use Rattle.contraction.proofs.start.graph_of.Given as goal
 
 abbrev pub invariant-loop-arc : goal.invariant-loop-arc
 invariant-loop-arc l = record {
   graph : IsGraph l.graph;
   nodes : l.graph.nodes ≡ l.map.nodes;
-  arcs : arcs_of l.graph.links.items ≡ take l.arc-index l.map.arcs;
+  arcs : l.graph.arcs.items ≡ take l.arc-index l.map.arcs;
   order : length l.graph.order.items ≡ 0;
-  count : length l.graph.links.items ≡ l.arc-index;
+  count : length l.graph.arcs.items ≡ l.arc-index;
 }

@@ -4,11 +4,11 @@ use Rattle.road_hierarchy.proofs.Hierarchy.new.Goals as goal
 
 pub returns-clause-packed : goal.returns-clause-packed
 returns-clause-packed c =
-    let same = c.in_ok-made.ensures in
-    packing-same (levelled c.in_ok-made.made) c.args.contraction c.in_ok-hierarchy.hierarchy same.nodes same.arcs same.levels same.order c.in_ok-hierarchy.ensures
+    let same = c.finish-made.ensures in
+    packing-same (levelled c.finish-made.result) c.args.contraction c.in_ok-hierarchy.hierarchy same.nodes same.arcs same.levels same.order c.in_ok-hierarchy.ensures
 
 pub returns-clause-hierarchy : goal.returns-clause-hierarchy
 returns-clause-hierarchy c = λ map h.
-    let same = c.in_ok-made.ensures in
+    let same = c.finish-made.ensures in
     packing-keeps map c.args.contraction c.in_ok-hierarchy.hierarchy
-    (packing-same (levelled c.in_ok-made.made) c.args.contraction c.in_ok-hierarchy.hierarchy same.nodes same.arcs same.levels same.order c.in_ok-hierarchy.ensures) h
+    (packing-same (levelled c.finish-made.result) c.args.contraction c.in_ok-hierarchy.hierarchy same.nodes same.arcs same.levels same.order c.in_ok-hierarchy.ensures) h

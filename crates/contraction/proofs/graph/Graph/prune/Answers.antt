@@ -1,9 +1,9 @@
 use Rattle.std.proofs.Common.{◌-◌, length, get_or, ap, arith}
 use Rattle.ride_model.specs.declared.network.RoadArc.{RoadArc}
-use Rattle.contraction.specs.Graph.{arc_at, link_at, next_of, firsts_in, IsLive}
+use Rattle.contraction.specs.Graph.{arc_at, chain_at, next_of, firsts_in, IsLive}
 use Rattle.contraction.proofs.ChainSteps.{first-le}
 use Rattle.contraction.proofs.Collecting.{chains_of, arc-fits}
-use Rattle.contraction.proofs.Pruning.{same_arcs-none}
+use Rattle.contraction.proofs.Pruning.{same-none}
 use Rattle.contraction.proofs.graph.Graph.prune.Goals as goal
 
 pub chain-init : goal.chain-init
@@ -12,12 +12,12 @@ chain-init c =
     let side = c.args.side in
     record {
       graph = c.requires.graph;
-      arcs = same_arcs-none g;
+      same = same-none g;
       within = omega (
         arith,
         c.first-cursor.ensures,
-        first-le (length g.links.items) (λ place. (arc_at side g.links.items place).tail) (λ node. get_or (firsts_in side g) node 0)
-            (λ place. next_of side (link_at g.links.items place)) (IsLive side g.links.items g.levels.items) (chains_of side g c.requires.graph) c.args.node,
+        first-le (length g.arcs.items) (λ place. (arc_at side g.arcs.items place).tail) (λ node. get_or (firsts_in side g) node 0)
+            (λ place. next_of side (chain_at g.chains.items place)) (IsLive side g.arcs.items g.levels.items) (chains_of side g c.requires.graph) c.args.node,
       );
     }
 

@@ -1,7 +1,7 @@
-use Rattle.std.proofs.Common.{◌≡◌, ◌-◌, ◌+◌, suc, refl, sym, ap, ◌∙◌, subst, arith}
+use Rattle.std.proofs.Common.{◌≡◌, ◌-◌, ◌+◌, suc, get_or, refl, sym, ap, ◌∙◌, subst, arith}
 use Rattle.road_times.specs.declared.side.Side.TheVariants.{Out}
 use Rattle.ride_model.specs.declared.network.RoadArc.{RoadArc}
-use Rattle.contraction.specs.Graph.{link_at}
+use Rattle.road_times.specs.Sorting.{no_arc}
 use Rattle.contraction.specs.Levels.{level_in}
 use Rattle.contraction.specs.Witness.{IsFound}
 use Rattle.contraction.proofs.Collecting.{IsCursor, cursor-first, cursor-next}
@@ -12,28 +12,28 @@ pub loop-cursor-init : goal.loop-cursor-init
 loop-cursor-init c =
     let g = c.args.graph.now in
     record {
-      at_link = subst (IsCursor Out g.links.items c.args.node) (sym c.first-cursor.ensures)
-          (cursor-first Out g.links.items g.first_out.items g.levels.items c.args.node c.requires.graph.chained_out);
+      at_arc = subst (IsCursor Out g.arcs.items c.args.node) (sym c.first-cursor.ensures)
+          (cursor-first Out g.arcs.items g.chains.items g.first_out.items g.levels.items c.args.node c.requires.graph.chained_out);
       room = c.requires.room;
       floor = c.requires.floor;
       ways = λ source found w. w;
     }
 
-pub next-cursor-requires : goal.next-cursor-requires
-next-cursor-requires c =
+pub next-cursor-requires-clause-place : goal.next-cursor-requires-clause-place
+next-cursor-requires-clause-place c =
     let at : c.loop-cursor.cursor ≡ suc (c.loop-cursor.cursor - 1) = omega arith in
-    (c.loop-cursor.invariant.at_link (c.loop-cursor.cursor - 1) at).0
+    (c.loop-cursor.invariant.at_arc (c.loop-cursor.cursor - 1) at).0
 
 pub loop-cursor-preserved : goal.loop-cursor-preserved
 loop-cursor-preserved c =
     let g = c.args.graph.now in
     let place = c.loop-cursor.cursor - 1 in
     let at : c.loop-cursor.cursor ≡ suc place = omega arith in
-    let (low, tail) = c.loop-cursor.invariant.at_link place at in
-    let same : c.arc-arc.result ≡ (link_at g.links.items place).arc = c.arc-arc.ensures in
+    let (low, tail) = c.loop-cursor.invariant.at_arc place at in
+    let same : c.arc-arc.result ≡ get_or g.arcs.items place no_arc = c.arc-arc.ensures in
     record {
-      at_link = subst (IsCursor Out g.links.items c.args.node) (sym c.next-cursor.ensures)
-          (cursor-next Out g.links.items g.first_out.items g.levels.items c.args.node place c.requires.graph.chained_out low tail);
+      at_arc = subst (IsCursor Out g.arcs.items c.args.node) (sym c.next-cursor.ensures)
+          (cursor-next Out g.arcs.items g.chains.items g.first_out.items g.levels.items c.args.node place c.requires.graph.chained_out low tail);
       room = c.improve.ensures.room g.nodes c.loop-cursor.invariant.room;
       floor = c.improve.ensures.floor ∙ c.loop-cursor.invariant.floor;
       ways = λ source found w.

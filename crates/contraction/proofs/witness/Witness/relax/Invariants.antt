@@ -6,7 +6,7 @@ use Rattle.contraction.proofs.witness.Witness.relax.Given as goal
 
 abbrev pub invariant-loop-cursor : goal.invariant-loop-cursor
 invariant-loop-cursor l = record {
-  at_link : IsCursor Out l.graph.links.items l.node l.cursor;
+  at_arc : IsCursor Out l.graph.arcs.items l.node l.cursor;
   room : IsRoomy l.graph.nodes l.self;
   floor : l.self.queue.floor ≡ l.time;
   ways : (source : ℕ) → IsFound l.graph l.avoided source l.node l.time → IsWitness l.graph l.avoided source l.initial.self
