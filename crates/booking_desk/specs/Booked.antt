@@ -1,25 +1,11 @@
 -- What the booking of a feed gives.
-use Rattle.std.specs.Prelude.{◌≡◌, ℕ, true, false, List, ◌++◌, Option, IfSome}
-use mathlib.Core.List.{IsPrefix}
-use Rattle.line_text.specs.Lines.{lines_of}
+use Rattle.std.specs.Prelude.{◌≡◌, ℕ, true, false, List, ◌++◌, Option}
+use Rattle.line_reader.specs.FeedRuns.{AreFirstLines, IsReadWhole, IsUnhindered}
 use Rattle.line_reader.specs.Limits.{IsTooLong, IsWithinLimits, lines_within}
 use Rattle.ride_ports.specs.Bytes.{Writes, WritesPrefix}
 use Rattle.ride_ports.specs.declared.outcome.Ran.{Ran}
 use Rattle.command_lines.specs.Limits.{feed_limits}
 use Rattle.booking_desk.specs.BookText.{book_text, last_line_after, text_of_lines}
-
--- these are the first lines of a feed: of the bytes that were taken, and of all its bytes, where they are told
-pub record AreFirstOf (feed : Option (List ℕ)) (taken : List ℕ) (lines : List (List ℕ)) : Type 0 where
-  pub of_taken : IsPrefix lines (lines_of taken)
-  pub of_feed : IfSome feed (λ bytes. IsPrefix lines (lines_of bytes))
-
--- neither the sink nor memory stood in the way
-abbrev pub IsUnhindered : Ran → Type 0
-IsUnhindered ran = (ran.sink_failed ≡ false) × (ran.no_memory ≡ false)
-
--- nothing kept the source from being read to its end
-abbrev pub IsReadWhole : Ran → Type 0
-IsReadWhole ran = (ran.source_failed ≡ false) × (ran.too_long ≡ false)
 
 -- of the bytes of a feed these were taken, and so much of their plain feed was written: all of it, where nothing stood in the
 -- way; without the last line that of the lines within the limits, where only the source did; without the last line that of some
@@ -28,8 +14,8 @@ pub record IsBooked (ran : Ran) (feed : Option (List ℕ)) (taken : List ℕ) (b
   pub whole : IsUnhindered ran → IsReadWhole ran → Writes before after (book_text taken)
   pub cut : IsUnhindered ran → (IsReadWhole ran → ⊥) → Writes before after (text_of_lines (lines_within feed_limits taken))
   pub no_memory : ran.sink_failed ≡ false → ran.no_memory ≡ true
-      → (lines : List (List ℕ)) × AreFirstOf feed taken lines × Writes before after (text_of_lines lines)
+      → (lines : List (List ℕ)) × AreFirstLines feed taken lines × Writes before after (text_of_lines lines)
   pub sink_failed : ran.sink_failed ≡ true
-      → (lines : List (List ℕ)) × AreFirstOf feed taken lines × WritesPrefix before after (text_of_lines lines ++ last_line_after lines)
+      → (lines : List (List ℕ)) × AreFirstLines feed taken lines × WritesPrefix before after (text_of_lines lines ++ last_line_after lines)
   pub within : IsUnhindered ran → ran.too_long ≡ false → IsWithinLimits feed_limits taken
   pub too_long : ran.too_long ≡ true → IsTooLong feed_limits taken

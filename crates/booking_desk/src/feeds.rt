@@ -1,19 +1,21 @@
 //! Feeds with bookings, and the plain feeds that they give.
-ghost use Rattle.std.specs.Prelude.{◌≡◌, ℕ, ◌≤◌, [], true, false, List, Option, IfOk, IfSome, IsTrue};
+ghost use Rattle.std.specs.Prelude.{◌≡◌, ℕ, ◌≤◌, [], true, false, List, Option, IfNone, IfOk, IfSome, IsTrue};
 ghost use Rattle.ride_ports.specs.Bytes.{Reads};
 ghost use Rattle.ride_ports.specs.Count.{Rose};
+ghost use Rattle.line_reader.specs.FeedRuns.{HasRun, IsReadWhole, IsUnhindered, is_source_failed};
 ghost use Rattle.line_reader.specs.Limits.{IsWithinLimits};
 ghost use Rattle.line_reader.specs.Reader.{HasGiven};
 ghost use Rattle.command_lines.specs.Limits.{feed_limits};
 ghost use Rattle.text_page.specs.Output.{HasPut};
-ghost use Rattle.booking_desk.specs.BookText.{text_of_lines};
-ghost use Rattle.booking_desk.specs.Booked.{IsBooked, IsReadWhole, IsUnhindered};
-ghost use Rattle.booking_desk.specs.FeedDesk.{HasRun, IsNew, is_source_failed, run_text};
+ghost use Rattle.booking_desk.specs.BookLines.{calls_in};
+ghost use Rattle.booking_desk.specs.BookText.{most_bookings, text_of_lines};
+ghost use Rattle.booking_desk.specs.Booked.{IsBooked};
+ghost use Rattle.booking_desk.specs.FeedDesk.{IsNew, run_text};
+ghost use Rattle.booking_desk.specs.Released.{desk_after};
 
 use crate::NoMemory;
 use crate::feed_desk::FeedDesk;
-use crate::stops::{Stop, is_no_memory, is_source_failed, is_too_long};
-use line_reader::{Limits, LineReader, NextLine};
+use line_reader::{Limits, LineReader, NextLine, Stop, ran_of};
 use line_text::MOST_LINE;
 use ride_ports::{Ran, Sink, Source};
 use std::alloc::Global;
@@ -43,21 +45,11 @@ pub fn book_feed<S: Source, K: Sink>(alloc: Global, feed: &mut S, out: &mut K) -
     ensures sink_never_falls { K.faults out.old ≤ K.faults out.new }
 {
     let Ok((mut reader, mut desk)) = begun(alloc) else {
-        return Ran {
-            sink_failed: false,
-            no_memory: true,
-            source_failed: false,
-            too_long: false,
-        };
+        return ran_of(Some(Stop::NoMemory), false);
     };
     let stop = run_feed(&mut reader, &mut desk, feed, out);
     desk.end(out);
-    Ran {
-        sink_failed: desk.failed(),
-        no_memory: is_no_memory(stop),
-        source_failed: is_source_failed(stop),
-        too_long: is_too_long(stop),
-    }
+    ran_of(stop, desk.failed())
 }
 
 /// A reader of a feed and a desk, at their start.
@@ -88,7 +80,8 @@ fn run_feed<S: Source, K: Sink>(
     requires nothing_given { HasGiven reader.old [] }
     requires nothing_pending { reader.old.pending ≡ [] }
     requires nothing_done { IsNew desk.old }
-    ensures ran { (taken : List ℕ) × (lines : List (List ℕ)) × HasRun (S.left feed.old) (S.left feed.new) result desk.new taken lines
+    ensures ran { (taken : List ℕ) × (lines : List (List ℕ))
+        × HasRun feed_limits (S.left feed.old) (S.left feed.new) result desk.new.output.failed taken lines
         × HasPut (K.written out.old) (K.written out.new) (K.faults out.old) (K.faults out.new) desk.new.output (run_text result lines) }
     ensures fault { IsTrue (is_source_failed result) → Rose (S.faults feed.old) (S.faults feed.new) }
     ensures other_counts_none { is_source_failed result ≡ false → S.faults feed.new ≡ S.faults feed.old }
@@ -114,8 +107,10 @@ fn take_lines<S: Source, K: Sink>(
     requires nothing_given { HasGiven reader.old [] }
     requires nothing_pending { reader.old.pending ≡ [] }
     requires nothing_done { IsNew desk.old }
-    ensures ran { (taken : List ℕ) × (lines : List (List ℕ)) × HasRun (S.left feed.old) (S.left feed.new) result desk.new taken lines
-        × HasPut (K.written out.old) (K.written out.new) (K.faults out.old) (K.faults out.new) desk.new.output (text_of_lines lines) }
+    ensures ran { (taken : List ℕ) × (lines : List (List ℕ))
+        × HasRun feed_limits (S.left feed.old) (S.left feed.new) result desk.new.output.failed taken lines
+        × HasPut (K.written out.old) (K.written out.new) (K.faults out.old) (K.faults out.new) desk.new.output (text_of_lines lines)
+        × IfNone result (desk.new.desk ≡ desk_after most_bookings (calls_in lines)) }
     ensures fault { IsTrue (is_source_failed result) → Rose (S.faults feed.old) (S.faults feed.new) }
     ensures other_counts_none { is_source_failed result ≡ false → S.faults feed.new ≡ S.faults feed.old }
     ensures count_never_falls { S.faults feed.old ≤ S.faults feed.new }

@@ -10,7 +10,6 @@ mod plain_lines;
 mod releases;
 mod replies;
 mod spelling;
-mod stops;
 
 pub use desk::BookingDesk;
 pub use feeds::book_feed;

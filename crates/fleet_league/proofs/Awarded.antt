@@ -21,13 +21,12 @@ use Rattle.ride_model.specs.Fleet.{IsFleet}
 use Rattle.ride_model.specs.History.{entries_of, command_of, fed_commands}
 use Rattle.ride_model.specs.Legal.{after_event, replay, all_feeds_ended}
 use Rattle.ride_model.specs.Road.{RoadMap}
-use Rattle.ride_model.specs.Seating.{BatchCopy, IsBatchOver, Certifies, vehicle_ids, seat_offer, seating_cost}
+use Rattle.ride_model.specs.Seating.{BatchCopy, Certifies, vehicle_ids, seat_offer, seating_cost}
 use Rattle.ride_model.specs.State.{State, is_actor, open_batch_numbered, is_batch}
 use Rattle.ride_model.specs.Step.{step}
-use Rattle.ride_model.specs.Vehicle.{IsLawful}
 use Rattle.batch_commit.specs.Answer.{CertifiesOverCells}
 use Rattle.batch_commit.specs.Solved.{SolvedBatch}
-use Rattle.batch_commit.specs.Table.{IsTableOf}
+use Rattle.batch_commit.specs.Table.{Table, IsTableOf}
 use Rattle.model_laws.specs.Requests.{is_of}
 use Rattle.model_laws.proofs.Histories.{replay-append}
 use Rattle.model_laws.proofs.Among.{Among, among_map, among_map_back}
@@ -44,19 +43,21 @@ use Rattle.board_core.specs.declared.opening.Opening.TheVariants.{Batch, Idle, E
 use Rattle.board_core.specs.Opening.{opening_at}
 use Rattle.board_core.specs.Recorded.{Recorded, state_of, opened_entry, committed_entry, abandoned_entry}
 use Rattle.board_core.proofs.Fedded.{fed_commands-append}
-use Rattle.board_core.proofs.OpenBatches.{state-push, open-fits}
+use Rattle.board_core.proofs.OpenBatches.{state-push}
 use Rattle.fleet_league.specs.declared.briefs.Brief.{Brief}
 use Rattle.fleet_league.specs.declared.briefs.Win.{Win}
 use Rattle.fleet_league.specs.Prices.{prices_by, prices_of}
 use Rattle.fleet_league.specs.Companies.{is_report, report_count, IsIdle}
 use Rattle.fleet_league.specs.Awards.{won_rides, won_columns, price_list, request_of, request_entries, asking_entries, opening_entry, confirming_entry, giving_up_entry, AreSeatsOf, AddsAward, AddsPart, IsCertifiedBy}
 use Rattle.fleet_league.specs.Awarding.{MayConfirm, IsWonBatch, asked_state, won_batch, requests_of}
+use Rattle.fleet_league.specs.Quoting.{quoting_batch}
 use Rattle.fleet_league.proofs.AllConfirmed.{seat-of-win, outcome-confirmed, outcomes-are, all-confirmed}
 use Rattle.fleet_league.proofs.BatchOpened.{opened-none, opened-not_cancelled}
 use Rattle.fleet_league.proofs.Legality.{IsLegalBoard, board-fleet, board-roads}
 use Rattle.fleet_league.proofs.Reports.{NoneWaits, none-rides, rides-none}
 use Rattle.fleet_league.proofs.Requested.{waiting-are}
 use Rattle.fleet_league.proofs.WinsAsked.{fed-requests, asked-board}
+use Rattle.fleet_league.proofs.WonTables.{table-of-batch}
 
 -- where none waited, and there are few enough, the wins are the next batch
 pub next-won : (s : State) (wins : List Win) → waiting_rides s ≡ [] → length wins ≤ s.settings.batch
@@ -420,27 +421,21 @@ cut-none_open old new wins many others history none =
     ∙ replay-append old.start old.history (take many (asking_entries (state_of old) wins)))
     ∙ cut-batches (state_of old) wins (Asked ((state_of old).asked + 1)) many ∙ none
 
--- what pricing asks of the batch
-pub award-fits : (old now : Recorded) (brief : Brief) (batch : BatchCopy) (roads : RoadMap) → MayConfirm old brief → IsOpened old brief now batch
-    → IsLegalBoard now → now.start.roads ≡ roads
-    → (batch.time ≤ 1000000000) × IsBatchOver roads batch × All (IsLawful roads) batch.vehicles
-award-fits old now brief batch roads may is legal same =
-    let won = won_batch (state_of old) brief.wins in
-    let one : (state_of now).batches ≡ won ∷ []
-    = ap (λ (x : State). x.batches) is.awarding.state_is ∙ one-open (state_of old) brief.wins may.idle.none_open in
-    subst (λ m. (batch.time ≤ 1000000000) × IsBatchOver m batch × All (IsLawful m) batch.vehicles) same
-    (subst (λ (b : BatchCopy). (b.time ≤ 1000000000) × IsBatchOver now.start.roads b × All (IsLawful now.start.roads) b.vehicles)
-    (sym is.batch_is) (open-fits now won legal.begins legal.legal (open-found won (state_of now) one)))
-
--- and seating
-pub award-won : (old now : Recorded) (brief : Brief) (batch : BatchCopy) (roads : RoadMap) → MayConfirm old brief → IsOpened old brief now batch
-    → IsLegalBoard now → now.start.roads ≡ roads → IsWonBatch roads batch brief
-award-won old now brief batch roads may is legal same =
+-- what seating asks of the batch: that the wins are certified, and its table
+pub award-won : (old now : Recorded) (brief : Brief) (batch : BatchCopy) → MayConfirm old brief → IsOpened old brief now batch
+    → IsLegalBoard now → IsWonBatch old.start.roads batch brief
+award-won old now brief batch may is legal =
     let s : State = state_of old in
-    let roads_are : s.roads ≡ roads
+    let roads_are : s.roads ≡ old.start.roads
     = sym (ap (λ (t : State). t.roads) (is.awarding.state_is ∙ others-opening (asked_state s brief.wins) (won_batch s brief.wins)))
-    ∙ board-roads now legal ∙ same in
-    subst (λ (b : BatchCopy). IsWonBatch roads b brief) (sym is.batch_is) (won-certified old roads brief may roads_are)
+    ∙ board-roads now legal ∙ ap (λ (t : State). t.roads) is.awarding.start in
+    subst (λ (b : BatchCopy). IsWonBatch old.start.roads b brief) (sym is.batch_is) (won-certified old old.start.roads brief may roads_are)
+
+pub award-table : (old now : Recorded) (brief : Brief) (batch : BatchCopy) (table : Table) → IsOpened old brief now batch
+    → IsTableOf old.start.roads (quoting_batch (state_of old) (won_rides brief.wins)) table → IsTableOf old.start.roads batch table
+award-table old now brief batch table is of =
+    subst (λ (b : BatchCopy). IsTableOf old.start.roads b table) (sym is.batch_is)
+    (table-of-batch old.start.roads (state_of old) brief.wins table of)
 
 -- the batch is open
 pub award-open : (old now : Recorded) (brief : Brief) (batch other : BatchCopy) → MayConfirm old brief → IsOpened old brief now batch

@@ -1,11 +1,9 @@
 -- A company of a league is awarded its part of a round.
-use Rattle.std.proofs.Common.{◌≡◌, ◌≢◌, ℕ, Bool, true, false, sym, arith, not, cond, List, [], ◌∷◌, ◌++◌, None, Some, refl, ap, ◌∙◌, append_assoc}
-use Rattle.std.specs.Prelude.{All, Contains, option_map}
-use Rattle.std.proofs.lemmas.Bool.{eq-eqb}
+use Rattle.std.proofs.Common.{◌≡◌, ◌≢◌, ℕ, Bool, true, false, sym, arith, List, [], ◌∷◌, ◌++◌, refl, ap, ◌∙◌, append_assoc}
+use Rattle.std.specs.Prelude.{All, Contains}
 use Rattle.ride_model.specs.declared.entry.Entry.{Entry}
 use Rattle.ride_model.specs.declared.vehicle.Ride.{Ride}
-use Rattle.ride_model.specs.declared.vehicle.Vehicle.{Vehicle}
-use Rattle.ride_model.specs.Legal.{replay, versions_of}
+use Rattle.ride_model.specs.Legal.{replay}
 use Rattle.ride_model.specs.State.{State, accepted_request}
 use Rattle.ride_model.specs.Text.{IsSpelled, IsSpelledCommand}
 use Rattle.model_laws.proofs.Among.{among_from_contains}
@@ -14,8 +12,7 @@ use Rattle.history_laws.proofs.Lookups.{all_of, of_all}
 use Rattle.board_core.specs.Recorded.{state_of}
 use Rattle.fleet_league.specs.declared.briefs.Brief.{Brief}
 use Rattle.fleet_league.specs.declared.briefs.Win.{Win}
-use Rattle.fleet_league.specs.declared.briefs.Settled.TheVariants.{Confirmed, Timed}
-use Rattle.fleet_league.specs.Awards.{AddsAward, won_rides, asking_entries, confirming_entry, first_moved, moved_answer, opening_entry, request_of, settled_at, settled_by}
+use Rattle.fleet_league.specs.Awards.{AddsAward, won_rides, asking_entries, confirming_entry, opening_entry, request_of}
 use Rattle.fleet_league.specs.Companies.{CompanyState, report_count}
 use Rattle.fleet_league.specs.LeagueBoards.{IsPlayed}
 use Rattle.fleet_league.proofs.Awarded.{reports-award}
@@ -23,7 +20,6 @@ use Rattle.fleet_league.proofs.WonOnly.{won-only}
 use Rattle.model_laws.specs.Requests.{is_of}
 use Rattle.history_laws.proofs.Opening.{is_of-among, of_rides}
 use Rattle.fleet_league.specs.League.{IsAwarded}
-use Rattle.fleet_league.specs.Prices.{quote_of}
 
 -- what holds of rides holds of those that are won
 pub won-each : (P : Ride → Type 0) (rides won : List Ride) → All P rides → All (Contains rides) won → All P won
@@ -33,22 +29,6 @@ won-each P rides won each of_them =
 -- a ride whose request has a text
 pub id-spelled : (log : ℕ) (ride : Ride) → IsSpelledCommand log (request_of ride) → IsSpelled ride.id
 id-spelled log ride spelled = spelled.0
-
-pub chairs-spelled : (log : ℕ) (ride : Ride) → IsSpelledCommand log (request_of ride) → log ≡ 1 → ride.chairs ≡ 0
-chairs-spelled log ride (id, from, to, seats, latest, longest, chairs, rule) = rule
-
--- no vehicle has moved that is quoted as it stands
-none-moved : (vehicles : List Vehicle) → first_moved (versions_of vehicles) vehicles ≡ None
-none-moved [] = refl
-none-moved (v ∷ vehicles) =
-    ap (λ b. cond (not b) (Some ((v.id, v.version), v)) (first_moved (versions_of vehicles) vehicles)) (eq-eqb v.version v.version refl)
-    ∙ none-moved vehicles
-
--- a quote of a state as it stands is confirmed
-pub settled-now : (s : State) (rides : List Ride) → settled_at s.clock s.vehicles (quote_of s rides) ≡ Confirmed
-settled-now s rides =
-    ap (λ moved. settled_by s.clock (quote_of s rides) (option_map moved_answer moved)) (none-moved s.vehicles)
-    ∙ ap (λ b. cond b Confirmed (Timed s.clock s.clock)) (eq-eqb s.clock s.clock refl)
 
 -- a board after a confirmed award
 award-state : (old new : CompanyState) (brief : Brief) (adds : AddsAward (state_of old.board) brief old.board.history new.board.history)

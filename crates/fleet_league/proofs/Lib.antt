@@ -8,6 +8,7 @@ pub mod AllConfirmed
 pub mod WinsAsked
 pub mod Outcomes
 pub mod CertifiedWins
+pub mod WonTables
 pub mod Awarded
 pub mod QuotedState
 pub mod MayAward
@@ -31,6 +32,5 @@ pub mod Beside
 pub mod LeagueKept
 pub mod RoundsMade
 pub mod ToldLines
-pub mod FeedLines
 pub mod TextRuns
 pub mod LeagueEnds

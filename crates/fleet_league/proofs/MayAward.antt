@@ -1,29 +1,31 @@
--- What an award asks of a company's board is what its batch needs.
-use Rattle.std.proofs.Common.{◌≡◌, ℕ, ◌+◌, ◌<◌, ◌≤◌, length, sym, subst, arith}
-use Rattle.std.specs.Prelude.{All, nat_eq}
+-- What an award asks of a company is what its batch needs.
+use Rattle.std.proofs.Common.{◌≡◌, ℕ, ◌+◌, ◌<◌, ◌≤◌, List, length, sym, subst, arith}
+use Rattle.std.specs.Prelude.{All, Contains, IsTrue, nat_eq}
 use Rattle.std.specs.List.{IsDistinct}
 use Rattle.std.proofs.lemmas.List.{length-map}
 use Rattle.ride_model.specs.declared.settings.Settings.{Settings}
 use Rattle.ride_model.specs.declared.vehicle.Ride.{Ride}
 use Rattle.ride_model.specs.Road.{RoadMap, IsRoadMap}
-use Rattle.ride_model.specs.State.{State}
 use Rattle.ride_model.specs.Text.{IsSpelled, IsSpelledCommand}
 use Rattle.ride_model.specs.Vehicle.{IsRide, ride_ids}
+use Rattle.model_laws.proofs.Among.{contains_from_among}
 use Rattle.history_laws.proofs.Lookups.{of_all, all_of}
 use Rattle.board_core.specs.Recorded.{Recorded, state_of}
 use Rattle.fleet_league.specs.declared.briefs.Brief.{Brief}
 use Rattle.fleet_league.specs.declared.briefs.Win.{Win}
 use Rattle.fleet_league.specs.declared.quotes.Quote.{Quote}
 use Rattle.fleet_league.specs.Prices.{IsNewRide}
-use Rattle.fleet_league.specs.Companies.{IsIdle}
+use Rattle.fleet_league.specs.Companies.{CompanyState, IsCompany, IsIdle}
 use Rattle.fleet_league.specs.Awards.{won_rides, request_of, AreOfOneState}
 use Rattle.fleet_league.specs.Awarding.{MayConfirm}
+use Rattle.fleet_league.specs.LeagueBoards.{MayWin}
+use Rattle.fleet_league.proofs.AwardedMembers.{won-each}
 use Rattle.fleet_league.proofs.Legality.{IsLegalBoard, board-roads, board-settings}
 use Rattle.fleet_league.proofs.QuotedState.{Stands, certified-now}
 use Rattle.fleet_league.proofs.Reports.{few-fed}
 
 -- the request of a ride of the map has a text
-ride-spelled : (roads : RoadMap) (log : ℕ) (ride : Ride) → IsRoadMap roads → IsRide roads ride → IsSpelled ride.id
+pub ride-spelled : (roads : RoadMap) (log : ℕ) (ride : Ride) → IsRoadMap roads → IsRide roads ride → IsSpelled ride.id
     → (log ≡ 1 → ride.chairs ≡ 0) → IsSpelledCommand log (request_of ride)
 ride-spelled roads log ride map fits id chairs =
     let (_, from) = fits.from_node in
@@ -35,11 +37,8 @@ ride-spelled roads log ride map fits id chairs =
     let longest : ride.longest ≤ 1000000 = fits.longest_limit in
     (id, omega arith, omega arith, omega arith, omega arith, omega arith, omega arith, chairs)
 
--- what an award asks
+-- what an award of a quote asks
 pub record MayAward (board : Recorded) (quote : Quote) (brief : Brief) : Type 0 where
-  pub one_feed : board.feeds ≡ 1
-  pub one_desk : board.desks ≡ 1
-  pub idle : IsIdle board
   pub legal : IsLegalBoard board
   pub of_one_state : AreOfOneState board quote brief
   pub rides : All (IsNewRide (state_of board)) (won_rides brief.wins)
@@ -50,29 +49,64 @@ pub record MayAward (board : Recorded) (quote : Quote) (brief : Brief) : Type 0 
   pub room : length (state_of board).requests + length brief.wins ≤ 100000
   pub few_asked : (state_of board).asked < 2000
 
-pub may-confirm : (board : Recorded) (quote : Quote) (brief : Brief) → MayAward board quote brief
-    → Stands (state_of board).clock (state_of board).vehicles quote → MayConfirm board brief
-may-confirm board quote brief may stands =
-    let s : State = state_of board in
-    let begins = may.legal.begins in
-    let batch : board.start.settings.batch ≤ 128 = begins.settings_fit.batch_limit in
+-- where all stands, its wins may be won
+pub may-win : (company : CompanyState) (quote : Quote) (brief : Brief) → IsTrue company.is_open → MayAward company.board quote brief
+    → Stands (state_of company.board).clock (state_of company.board).vehicles quote → MayWin company (won_rides brief.wins) brief
+may-win company quote brief is_open may stands =
+    let board : Recorded = company.board in
+    let rides : List Ride = won_rides brief.wins in
+    let many : length rides ≡ length brief.wins = length-map brief.wins (λ (w : Win). w.ride) in
+    record {
+      may = record {
+        is_open = is_open;
+        each = may.rides;
+        differ = may.ids_differ;
+        spelled = all_of (λ ride. IsSpelledCommand board.start.settings.log (request_of ride)) rides (λ ride there.
+            ride-spelled (state_of board).roads board.start.settings.log ride
+            (subst IsRoadMap (sym (board-roads board may.legal)) may.legal.begins.map_fits)
+            (of_all (IsNewRide (state_of board)) rides ride may.rides there).fits
+            (of_all (λ (r : Ride). IsSpelled r.id) rides ride may.ids_spelled there)
+            (λ first. of_all (λ (r : Ride). r.chairs ≡ 0) rides ride (may.chairs first) there));
+        few = omega (arith, may.few, many);
+        room = omega (arith, may.room, many);
+        few_asked = may.few_asked;
+      };
+      of_them = all_of (Contains rides) rides (contains_from_among rides);
+      differ = may.ids_differ;
+      few = omega (arith, many);
+      certified = certified-now board quote brief may.legal may.of_one_state stands;
+    }
+
+-- there are few rides in a round
+pub few-wins : (company : CompanyState) (rides : List Ride) (brief : Brief) → IsLegalBoard company.board → MayWin company rides brief
+    → length brief.wins ≤ 128
+few-wins company rides brief legal may =
+    let batch : company.board.start.settings.batch ≤ 128 = legal.begins.settings_fit.batch_limit in
+    omega (arith, may.few, may.may.few, batch)
+
+-- what may be won may be confirmed
+pub may-confirm : (roads : RoadMap) (settings : Settings) (company : CompanyState) (rides : List Ride) (brief : Brief)
+    → IsCompany roads settings company → IsLegalBoard company.board → MayWin company rides brief → MayConfirm company.board brief
+may-confirm roads settings company rides brief is legal may =
+    let board : Recorded = company.board in
+    let idle : IsIdle board = is.idle may.may.is_open in
     let many : length (won_rides brief.wins) ≡ length brief.wins = length-map brief.wins (λ (w : Win). w.ride) in
     record {
-      one_desk = may.one_desk;
-      idle = may.idle;
+      one_desk = is.one_desk;
+      idle = idle;
       asks = record {
-        one_feed = may.one_feed;
-        none_ended = may.idle.none_ended;
-        few = omega (arith, few-fed board may.legal may.idle, may.idle.few_reports, may.few, batch, many);
-        new = record { each = may.rides; differ = may.ids_differ; room = omega (arith, may.room, many) };
-        spelled = all_of (λ ride. IsSpelledCommand board.start.settings.log (request_of ride)) (won_rides brief.wins) (λ ride there.
-            ride-spelled s.roads board.start.settings.log ride
-            (subst IsRoadMap (sym (board-roads board may.legal)) begins.map_fits)
-            (of_all (IsNewRide s) (won_rides brief.wins) ride may.rides there).fits
-            (of_all (λ (r : Ride). IsSpelled r.id) (won_rides brief.wins) ride may.ids_spelled there)
-            (λ first. of_all (λ (r : Ride). r.chairs ≡ 0) (won_rides brief.wins) ride (may.chairs first) there));
+        one_feed = is.one_feed;
+        none_ended = idle.none_ended;
+        few = omega (arith, few-fed board legal idle, idle.few_reports, few-wins company rides brief legal may, many);
+        new = record {
+          each = won-each (IsNewRide (state_of board)) rides (won_rides brief.wins) may.may.each may.of_them;
+          differ = may.differ;
+          room = omega (arith, may.may.room, may.few, many);
+        };
+        spelled = won-each (λ (ride : Ride). IsSpelledCommand board.start.settings.log (request_of ride)) rides (won_rides brief.wins)
+            may.may.spelled may.of_them;
       };
-      few_asked = omega (arith, may.few_asked);
-      few_wins = subst (λ (settings : Settings). length brief.wins ≤ settings.batch) (sym (board-settings board may.legal)) may.few;
-      certified = certified-now board quote brief may.legal may.of_one_state stands;
+      few_asked = omega (arith, may.may.few_asked);
+      few_wins = subst (λ (s : Settings). length brief.wins ≤ s.batch) (sym (board-settings board legal)) (omega (arith, may.few, may.may.few));
+      certified = may.certified;
     }

@@ -1,23 +1,16 @@
 -- A league that takes a feed, line by line.
-use Rattle.std.specs.Prelude.{◌≡◌, ℕ, Bool, true, false, List, [], ◌++◌, length, Option, Some, None, IfSome}
+use Rattle.std.specs.Prelude.{◌≡◌, ℕ, List, ◌++◌, length, Option, Some, None}
 use Rattle.ride_model.specs.declared.entry.Ending.{Ending}
 use Rattle.ride_model.specs.declared.entry.Ending.TheVariants.{Cut, Whole}
 use Rattle.ride_model.specs.Text.{IsOneOrTwo}
-use Rattle.ride_ports.specs.Bytes.{Reads}
-use Rattle.line_text.specs.Lines.{lines_of}
-use Rattle.line_reader.specs.declared.answers.ReadStop.TheVariants.{SourceFailed, TooLong}
-use Rattle.line_reader.specs.Limits.{IsWithinLimits, lines_within}
-use Rattle.line_reader.specs.Reader.{StopsAt}
-use Rattle.command_lines.specs.Limits.{feed_limits}
+use Rattle.line_reader.specs.declared.stops.Stop.{Stop}
+use Rattle.line_reader.specs.declared.stops.Stop.TheVariants.{NoMemory, SinkFailed, OfFeed}
 use Rattle.text_page.specs.Output.{IsFresh, OutputState, Puts}
 use Rattle.fleet_league.specs.declared.broker.scribe.Scribe.{Scribe}
-use Rattle.fleet_league.specs.declared.broker.stops.Stop.{Stop}
-use Rattle.fleet_league.specs.declared.broker.stops.Stop.TheVariants.{NoMemory, SinkFailed, OfFeed}
 use Rattle.fleet_league.specs.Feed.{said_in}
 use Rattle.fleet_league.specs.League.{LeagueState, TellsLines}
 use Rattle.fleet_league.specs.LeagueBoards.{IsLeague, league_of}
 use Rattle.fleet_league.specs.LeagueTexts.{last_line}
-use Rattle.fleet_league.specs.Leagued.{AreFirstLines}
 
 -- a scribe between two lines: its league is in order after as many lines, and the log's version is the league's
 pub record IsScribe (scribe : Scribe) : Type 0 where
@@ -48,20 +41,6 @@ pub record HasTold (start : LeagueState) (was : Option (List ℕ)) (faults_was :
   pub told : PutsText start was faults_was old now faults_now scribe.output lines
   pub end_is : told.end ≡ league_of scribe.league
 
--- why no more lines of a feed were taken than these: they are all of them; or memory was wanting; or the sink failed; or they are
--- those that count of a feed that was not read to its end
-abbrev pub IsEnded : Option Stop → Option (List ℕ) → List ℕ → Bool → List (List ℕ) → Type 0
-IsEnded None left taken failed lines = (lines ≡ lines_of taken) × IsWithinLimits feed_limits taken × IfSome left (λ rest. rest ≡ [])
-IsEnded (Some NoMemory) left taken failed lines = Unit {0}
-IsEnded (Some SinkFailed) left taken failed lines = failed ≡ true
-IsEnded (Some (OfFeed stop)) left taken failed lines = (lines ≡ lines_within feed_limits taken) × StopsAt feed_limits taken stop
-
--- of a feed these bytes and these lines were taken, until the end or a stop
-pub record HasRun (feed left : Option (List ℕ)) (stop : Option Stop) (failed : Bool) (taken : List ℕ) (lines : List (List ℕ)) : Type 0 where
-  pub reads : Reads feed left taken
-  pub first : AreFirstLines feed taken lines
-  pub ended : IsEnded stop left taken failed lines
-
 -- the ending of a feed that was stopped, or was not: none where its text stops short of the last line
 abbrev pub ending_of : Option Stop → Option Ending
 ending_of None = Some Whole
@@ -76,16 +55,3 @@ with_ending (Some ending) text = text ++ last_line ending
 
 abbrev pub ended_text : Option Stop → List ℕ → List ℕ
 ended_text stop text = with_ending (ending_of stop) text
-
--- whether a feed was stopped for want of memory, by its source, or by its length
-abbrev pub is_no_memory : Option Stop → Bool
-is_no_memory (Some NoMemory) = true
-is_no_memory _ = false
-
-abbrev pub is_source_failed : Option Stop → Bool
-is_source_failed (Some (OfFeed SourceFailed)) = true
-is_source_failed _ = false
-
-abbrev pub is_too_long : Option Stop → Bool
-is_too_long (Some (OfFeed TooLong)) = true
-is_too_long _ = false

@@ -1,11 +1,11 @@
 -- What a league's session writes of its feed.
-use Rattle.std.specs.Prelude.{◌≡◌, ℕ, ◌⊎◌, ◌++◌, true, false, List, [], Option, IfSome}
-use mathlib.Core.List.{IsPrefix}
+use Rattle.std.specs.Prelude.{◌≡◌, ℕ, ◌⊎◌, ◌++◌, true, false, List, [], Option}
 use Rattle.ride_model.specs.declared.entry.Ending.{Ending}
 use Rattle.ride_model.specs.declared.entry.Ending.TheVariants.{Cut, Whole}
 use Rattle.ride_model.specs.declared.settings.Settings.{Settings}
 use Rattle.ride_model.specs.declared.vehicle.Vehicle.{Vehicle}
 use Rattle.ride_model.specs.Road.{RoadMap}
+use Rattle.line_reader.specs.FeedRuns.{AreFirstLines, IsReadWhole, IsUnhindered}
 use Rattle.line_reader.specs.Limits.{IsTooLong, IsWithinLimits, lines_within}
 use Rattle.line_text.specs.Lines.{lines_of}
 use Rattle.ride_ports.specs.Bytes.{Writes, WritesPrefix}
@@ -14,11 +14,6 @@ use Rattle.command_lines.specs.Limits.{feed_limits}
 use Rattle.fleet_league.specs.Feed.{said_in}
 use Rattle.fleet_league.specs.League.{LeagueState, TellsLines, league_start}
 use Rattle.fleet_league.specs.LeagueTexts.{head_line, last_line}
-
--- these are the first lines of a feed: of the bytes that were taken, and of all its bytes, where they are told
-pub record AreFirstLines (feed : Option (List ℕ)) (taken : List ℕ) (lines : List (List ℕ)) : Type 0 where
-  pub of_taken : IsPrefix lines (lines_of taken)
-  pub of_feed : IfSome feed (λ bytes. IsPrefix lines (lines_of bytes))
 
 -- a text of a legal league from its start on, which takes each of the lines that is neither blank nor a comment, once and in order
 pub record IsLeagueText (start : LeagueState) (lines : List (List ℕ)) (text : List ℕ) : Type 0 where
@@ -30,14 +25,6 @@ pub record IsLeagueText (start : LeagueState) (lines : List (List ℕ)) (text : 
 -- the same of two fleets over a map
 abbrev pub IsTextOf : RoadMap → Settings → List Vehicle → List Vehicle → List (List ℕ) → List ℕ → Type 0
 IsTextOf roads settings first second lines text = IsLeagueText (league_start roads settings first second) lines text
-
--- neither the sink nor memory stood in the way
-abbrev pub IsUnhindered : Ran → Type 0
-IsUnhindered ran = (ran.sink_failed ≡ false) × (ran.no_memory ≡ false)
-
--- nothing kept the source from being read to its end
-abbrev pub IsReadWhole : Ran → Type 0
-IsReadWhole ran = (ran.source_failed ≡ false) × (ran.too_long ≡ false)
 
 -- of the bytes of a feed these were taken, and so much of a legal league's text was written: that of all lines and `end`, where
 -- nothing stood in the way; that of the lines within the limits and `cut`, where only the source did; without a last line that of

@@ -1,5 +1,5 @@
 -- How a company's vehicles are priced.
-use Rattle.std.specs.Prelude.{ℕ, List, map, Option, option_map}
+use Rattle.std.specs.Prelude.{ℕ, ◌==◌, List, map, position, Option, option_map, unwrap_or}
 use Rattle.std.specs.List.{range_with_len}
 use Rattle.ride_model.specs.declared.offer.Offer.{Offer}
 use Rattle.ride_model.specs.declared.vehicle.Ride.{Ride}
@@ -17,6 +17,14 @@ quoting_batch s rides = record {
   requests = rides;
   vehicles = s.vehicles;
 }
+
+-- the offers in the first cells of a table's row
+abbrev pub offer_row : Table → ℕ → ℕ → List (Option Offer)
+offer_row table row count = map (λ column. cell_at table row column) (range_with_len 0 count)
+
+-- the place of the first ride of an id, or 0 where there is none
+abbrev pub place_of : List Ride → ℕ → ℕ
+place_of rides id = unwrap_or (position (λ (ride : Ride). ride.id == id) rides) 0
 
 -- the cost in a cell, if it has an offer
 abbrev pub cost_in : Option Offer → Option ℕ

@@ -1,18 +1,23 @@
 //! Awards: a company confirms its part of a round, or says what has changed since its quote.
-ghost use Rattle.std.specs.Prelude.{◌≡◌, ◌≢◌, ℕ, ◌+◌, ◌<◌, ◌≤◌, [], length, nat_eq, option_map, Ok, Contains, All, IfOk, OnOk, OnErr, IsErr, IsTrue, IsFalse};
+ghost use Rattle.std.specs.Prelude.{◌≡◌, ◌≢◌, ℕ, ◌+◌, ◌<◌, ◌≤◌, List, [], length, nat_eq, option_map, Ok, Contains, All, IfOk, OnOk, OnErr, IsErr, IsTrue, IsFalse};
 ghost use Rattle.std.specs.List.{IsDistinct};
 ghost use Rattle.ride_model.specs.declared.vehicle.Ride.{Ride};
 ghost use Rattle.ride_model.specs.Text.{IsSpelled};
 ghost use Rattle.ride_model.specs.Vehicle.{ride_ids};
+ghost use Rattle.batch_commit.specs.Table.{IsTableOf};
 ghost use Rattle.board_core.specs.Recorded.{state_of};
 ghost use Rattle.fleet_league.specs.declared.briefs.Settled.TheVariants.{Confirmed};
+ghost use Rattle.fleet_league.specs.LeagueBoards.{MayWin};
 ghost use Rattle.fleet_league.specs.Prices.{IsNewRide};
+ghost use Rattle.fleet_league.specs.Quoting.{quoting_batch};
 ghost use Rattle.fleet_league.specs.Awards.{won_rides, AreOfOneState, first_moved, moved_answer, settled_at, AddsAward, AddsPart};
 
 use crate::confirming::confirm;
 use crate::{Brief, Company, Quote, Settled};
+use batch_commit::PriceTable;
 use ride_model::{NoMemory, Vehicle};
 use road_times::Scratch;
+use std::alloc::AllocError;
 use std::thread::Threads;
 
 impl<'r> Company<'r> {
@@ -61,17 +66,40 @@ impl<'r> Company<'r> {
         if !matches!(settled, Settled::Confirmed) || brief.wins.items().is_empty() {
             return Ok(settled);
         }
-        self.open = false;
-        confirm(
-            &mut self.board,
-            rt,
-            self.alloc,
-            self.roads,
-            scratches,
-            brief,
-        )?;
-        self.open = true;
+        let Ok(table) = self.price_won(rt, scratches, brief.wins.items()) else {
+            self.open = false;
+            return Err(AllocError);
+        };
+        self.award_priced(table, brief)?;
         Ok(Settled::Confirmed)
+    }
+
+    /// The same for a brief over the vehicles as they stand, by the table of the rides of its wins.
+    pub(crate) fn award_priced(&mut self, table: PriceTable, brief: &Brief) -> Result<(), NoMemory>
+        requires may { (rides : List Ride) × MayWin self.old rides brief.now }
+        requires table { IsTableOf self.old.board.start.roads
+            (quoting_batch (state_of self.old.board) (won_rides brief.now.wins)) table }
+        ensures no_wins { brief.now.wins ≡ [] → self.new ≡ self.old }
+        ensures confirmed { brief.now.wins ≢ []
+            → OnOk result (AddsAward (state_of self.old.board) brief.now self.old.board.history self.new.board.history) }
+        ensures stays_open { OnOk result (IsTrue self.new.is_open) }
+        ensures spent { OnErr result (IsFalse self.new.is_open) }
+        ensures part { OnErr result (AddsPart (state_of self.old.board) brief.now.wins self.old.board.history self.new.board.history) }
+        ensures none_open { OnErr result ((state_of self.new.board).batches ≡ []) }
+        ensures others { self.new ≡ record self.old {
+          board = record self.old.board { history = self.new.board.history; spare = self.new.board.spare };
+          is_open = self.new.is_open;
+        } }
+    {
+        if brief.wins.items().is_empty() {
+            return Ok(());
+        }
+        // This call tells that the history is legal.
+        let _history = self.board.entries();
+        self.open = false;
+        confirm(&mut self.board, self.alloc, table, brief)?;
+        self.open = true;
+        Ok(())
     }
 }
 

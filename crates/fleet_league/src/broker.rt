@@ -15,3 +15,4 @@ mod state;
 mod stops;
 
 pub use session::league;
+pub use settling::part_of;

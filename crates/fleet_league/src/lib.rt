@@ -14,9 +14,10 @@ mod quoting;
 mod rounds;
 mod seating;
 mod unions;
+mod won_tables;
 
 pub use briefs::{Brief, Settled, Win, WinList};
-pub use broker::league;
+pub use broker::{league, part_of};
 pub use company::Company;
 pub use quotes::{PriceRows, Quote};
 pub use ride_model::NoMemory;

@@ -3,23 +3,32 @@ ghost use Rattle.std.specs.Prelude.{◌≡◌, ◌≤◌, ◌<◌, ◌++◌, len
 ghost use Rattle.std.specs.List.{IsDistinct};
 ghost use Rattle.ride_model.specs.Legal.{versions_of};
 ghost use Rattle.ride_model.specs.Road.{RoadMap};
-ghost use Rattle.ride_model.specs.Vehicle.{ride_ids};
+ghost use Rattle.ride_model.specs.Seating.{IsBatchOver};
+ghost use Rattle.ride_model.specs.Vehicle.{IsLawful, ride_ids};
 ghost use Rattle.batch_commit.specs.Table.{cell_at, FitsBatch, IsTableOf};
 ghost use Rattle.board_core.specs.Recorded.{state_of};
+ghost use Rattle.fleet_league.specs.Awards.{won_rides};
 ghost use Rattle.fleet_league.specs.Prices.{prices_by, prices_of, IsNewRide};
 ghost use Rattle.fleet_league.specs.Quoting.{quoting_batch, cost_in, cost_row};
 ghost use Rattle.fleet_league.specs.Round.{IsPriced};
 
-use crate::{Company, PriceRows, Quote};
+use crate::{Company, PriceRows, Quote, Win};
 use adaptive_roads::AdaptiveRoads;
 use batch_commit::{Batch, PriceTable};
-use pricing_workers::{Search, price_batch_adapting};
+use pricing_workers::{Search, price_batch, price_batch_adapting};
 use ride_model::{Fleet, NoMemory, Ride, Vehicle, VersionList};
 use ride_ports::OpenGate;
 use road_times::Scratch;
 use std::alloc::Global;
 use std::slice::from_mut;
 use std::thread::Threads;
+
+/// A quote with the table that its prices are of.
+#[derive(Debug, Drop)]
+pub(crate) struct PricedQuote {
+    pub(crate) quote: Quote,
+    pub(crate) table: PriceTable,
+}
 
 impl<'r> Company<'r> {
     /// The company's vehicles with their versions, and their prices for rides at its clock. Nothing changes.
@@ -41,27 +50,30 @@ impl<'r> Company<'r> {
         ensures scratch { scratch.new ≡ scratch.old }
     {
         let mut roads = AdaptiveRoads::new(self.roads);
-        self.quote_adapting(rt, &mut roads, scratch, rides)
+        let priced = self.quote_adapting(rt, &mut roads, scratch, rides)?;
+        Ok(priced.quote)
     }
 
-    /// The same over roads that adapt to how much is asked of them.
+    /// The same over roads that adapt to how much is asked of them, with the table of the rides.
     pub(crate) fn quote_adapting<R: Threads + Sync>(
         &self,
         rt: &R,
         roads: &mut AdaptiveRoads<'_>,
         scratch: &mut Scratch,
         rides: &[Ride],
-    ) -> Result<Quote, NoMemory>
+    ) -> Result<PricedQuote, NoMemory>
         requires is_open { IsTrue self.now.is_open }
         requires roads { roads.old ≡ self.now.board.start.roads }
         requires scratch { scratch.old.nodes ≡ self.now.board.start.roads.nodes }
         requires few { length rides.now ≤ 128 }
         requires rides { All (IsNewRide (state_of self.now.board)) rides.now }
         requires ids_differ { IsDistinct nat_eq (ride_ids rides.now) }
-        ensures time { IfOk result (λ quote. quote.time ≡ (state_of self.now.board).clock) }
-        ensures plans { IfOk result (λ quote. quote.plans ≡ versions_of (state_of self.now.board).vehicles) }
-        ensures prices { IfOk result (λ quote. quote.prices ≡ prices_of (state_of self.now.board) rides.now) }
-        ensures priced { IfOk result (λ quote. IsPriced quote.prices) }
+        ensures time { IfOk result (λ priced. priced.quote.time ≡ (state_of self.now.board).clock) }
+        ensures plans { IfOk result (λ priced. priced.quote.plans ≡ versions_of (state_of self.now.board).vehicles) }
+        ensures prices { IfOk result (λ priced. priced.quote.prices ≡ prices_of (state_of self.now.board) rides.now) }
+        ensures priced { IfOk result (λ priced. IsPriced priced.quote.prices) }
+        ensures table { IfOk result (λ priced. IsTableOf self.now.board.start.roads
+            (quoting_batch (state_of self.now.board) rides.now) priced.table) }
         ensures scratch { scratch.new ≡ scratch.old }
         ensures roads { roads.new ≡ roads.old }
     {
@@ -80,18 +92,46 @@ impl<'r> Company<'r> {
         )?;
         let plans = versions_of(self.alloc, self.board.vehicles())?;
         let prices = prices_in(self.alloc, &batch, &table)?;
-        Ok(Quote {
+        let quote = Quote {
             time: self.board.now(),
             plans: VersionList::of(plans),
             prices,
-        })
+        };
+        Ok(PricedQuote { quote, table })
+    }
+
+    /// The table of the rides of wins, over the vehicles as they stand.
+    pub(crate) fn price_won<R: Threads + Sync>(
+        &self,
+        rt: &R,
+        scratches: &mut [Scratch],
+        wins: &[Win],
+    ) -> Result<PriceTable, NoMemory>
+        requires some_scratch { 1 ≤ length scratches.old }
+        requires scratches { All (λ scratch. scratch.nodes ≡ self.now.board.start.roads.nodes) scratches.old }
+        requires few { length wins.now ≤ 128 }
+        requires rides { All (IsNewRide (state_of self.now.board)) (won_rides wins.now) }
+        requires ids_differ { IsDistinct nat_eq (ride_ids (won_rides wins.now)) }
+        ensures table { IfOk result (IsTableOf self.now.board.start.roads
+            (quoting_batch (state_of self.now.board) (won_rides wins.now))) }
+        ensures scratches { scratches.new ≡ scratches.old }
+    {
+        // This call tells that the history is legal.
+        let _history = self.board.entries();
+        let rides = won_rides(self.alloc, wins)?;
+        let batch = self.batch_of(&rides)?;
+        price_batch(rt, self.alloc, &batch, self.roads, scratches, &OpenGate)
     }
 
     // Rides as the requests of a batch that no desk has opened, over the vehicles as they stand.
     fn batch_of(&self, rides: &[Ride]) -> Result<Batch, NoMemory>
         requires few { length rides.now ≤ 128 }
+        requires rides { All (IsNewRide (state_of self.now.board)) rides.now }
         requires ids_differ { IsDistinct nat_eq (ride_ids rides.now) }
-        ensures { IfOk result (λ batch. batch ≡ quoting_batch (state_of self.now.board) rides.now) }
+        ensures batch { IfOk result (λ batch. batch ≡ quoting_batch (state_of self.now.board) rides.now) }
+        ensures time { IfOk result (λ batch. batch.time ≤ 1000000000) }
+        ensures over_map { IfOk result (IsBatchOver self.now.board.start.roads) }
+        ensures lawful { IfOk result (λ batch. All (IsLawful self.now.board.start.roads) batch.vehicles) }
     {
         // This call tells that the history is legal.
         let _history = self.board.entries();
@@ -101,6 +141,13 @@ impl<'r> Company<'r> {
         let time = self.board.now();
         Ok(Batch::of(0, time, 0, self.settings, requests, Fleet::new(vehicles)))
     }
+}
+
+// The rides of wins.
+fn won_rides(alloc: Global, wins: &[Win]) -> Result<Vec<Ride>, NoMemory>
+    ensures { IfOk result (λ rides. rides.items ≡ won_rides wins.now) }
+{
+    wins.iter().map(|win| win.ride).collect(alloc)
 }
 
 // Copies of vehicles.

@@ -1,8 +1,9 @@
 //! The answer to a batch of wins: their seats, with the prices and pays of their brief.
-ghost use Rattle.std.specs.Prelude.{◌≡◌, ◌≤◌, ◌<◌, ◌==◌, ℕ, List, length, slice_index, position, All, IfOk, IfErr, IfSome};
+ghost use Rattle.std.specs.Prelude.{◌≡◌, ◌≤◌, ◌<◌, ◌==◌, ℕ, List, length, slice_index, position, IfOk, IfErr, IfSome};
 ghost use Rattle.ride_model.specs.declared.vehicle.Vehicle.{Vehicle};
-ghost use Rattle.ride_model.specs.Seating.{IsBatchOver, vehicle_ids};
-ghost use Rattle.ride_model.specs.Vehicle.{IsLawful, ride_ids};
+ghost use Rattle.ride_model.specs.Road.{RoadMap};
+ghost use Rattle.ride_model.specs.Seating.{vehicle_ids};
+ghost use Rattle.ride_model.specs.Vehicle.{ride_ids};
 ghost use Rattle.batch_commit.specs.Answer.{CertifiesOverCells, undecided};
 ghost use Rattle.batch_commit.specs.Table.{FitsBatch, IsTableOf};
 ghost use Rattle.hungarian.specs.Seats.{seat_at, seats_by};
@@ -11,73 +12,33 @@ ghost use Rattle.fleet_league.specs.Awarding.{IsWonBatch};
 
 use crate::{Brief, Win};
 use batch_commit::{Answer, Batch, PriceTable, Solved};
-use pricing_workers::price_batch;
 use ride_model::{AmountList, NoMemory, Seat, SeatList, Vehicle};
-use ride_ports::OpenGate;
-use road_times::{Roads, Scratch};
 use std::alloc::Global;
-use std::thread::Threads;
 
-/// A batch of wins with their seats, or the batch again where memory is wanting.
-pub(crate) fn solved<R: Threads + Sync>(
-    rt: &R,
+/// A batch of wins with their seats, by its table, or the batch again where memory is wanting.
+pub(crate) fn solved(
     alloc: Global,
     batch: Batch,
-    roads: &Roads,
-    scratches: &mut [Scratch],
+    table: PriceTable,
     brief: &Brief,
 ) -> Result<Solved, Batch>
-    requires some_scratch { 1 ≤ length scratches.old }
-    requires scratches { All (λ scratch. scratch.nodes ≡ roads.now.nodes) scratches.old }
-    requires time { batch.time ≤ 1000000000 }
-    requires over_map { IsBatchOver roads.now batch }
-    requires lawful { All (IsLawful roads.now) batch.vehicles }
-    requires won { IsWonBatch roads.now batch brief.now }
+    requires won { (roads : RoadMap) × IsTableOf roads batch table × IsWonBatch roads batch brief.now }
     ensures batch { IfOk result (λ solved. solved.batch ≡ batch) }
-    ensures table { IfOk result (λ solved. IsTableOf roads.now batch solved.table) }
+    ensures table { IfOk result (λ solved. solved.table ≡ table) }
     ensures certified { IfOk result (λ solved. CertifiesOverCells batch solved.table solved.answer.seating solved.answer.prices
         solved.answer.pays) }
     ensures seats { IfOk result (λ solved. AreSeatsOf brief.now.wins solved.answer.seating) }
     ensures prices { IfOk result (λ solved. solved.answer.prices ≡ price_list brief.now.wins) }
     ensures pays { IfOk result (λ solved. solved.answer.pays ≡ brief.now.pays) }
     ensures same_batch { IfErr result (λ same. same ≡ batch) }
-    ensures scratches { scratches.new ≡ scratches.old }
-{
-    match seated(rt, alloc, &batch, roads, scratches, brief) {
-        Ok((table, answer)) => Ok(Solved::tie(batch, table, answer)),
-        Err(_) => Err(batch),
-    }
-}
-
-// The table of a batch of wins, and its answer.
-fn seated<R: Threads + Sync>(
-    rt: &R,
-    alloc: Global,
-    batch: &Batch,
-    roads: &Roads,
-    scratches: &mut [Scratch],
-    brief: &Brief,
-) -> Result<(PriceTable, Answer), NoMemory>
-    requires some_scratch { 1 ≤ length scratches.old }
-    requires scratches { All (λ scratch. scratch.nodes ≡ roads.now.nodes) scratches.old }
-    requires time { batch.now.time ≤ 1000000000 }
-    requires over_map { IsBatchOver roads.now batch.now }
-    requires lawful { All (IsLawful roads.now) batch.now.vehicles }
-    requires won { IsWonBatch roads.now batch.now brief.now }
-    ensures table { IfOk result (λ pair. IsTableOf roads.now batch.now pair.0) }
-    ensures certified { IfOk result (λ pair. CertifiesOverCells batch.now pair.0 pair.1.seating pair.1.prices pair.1.pays) }
-    ensures seats { IfOk result (λ pair. AreSeatsOf brief.now.wins pair.1.seating) }
-    ensures prices { IfOk result (λ pair. pair.1.prices ≡ price_list brief.now.wins) }
-    ensures pays { IfOk result (λ pair. pair.1.pays ≡ brief.now.pays) }
-    ensures undecided { IfOk result (λ pair. pair.1.outcomes ≡ undecided pair.1.prices) }
-    ensures scratches { scratches.new ≡ scratches.old }
 {
     // These calls tell that the requests differ, and the vehicles.
     let _requests = batch.requests();
     let _vehicles = batch.vehicles().vehicles();
-    let table = price_batch(rt, alloc, batch, roads, scratches, &OpenGate)?;
-    let answer = answer_by(alloc, batch, &table, brief)?;
-    Ok((table, answer))
+    match answer_by(alloc, &batch, &table, brief) {
+        Ok(answer) => Ok(Solved::tie(batch, table, answer)),
+        Err(_) => Err(batch),
+    }
 }
 
 // The answer that seats the wins of a brief, with their prices and its pays.

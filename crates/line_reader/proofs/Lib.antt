@@ -1,2 +1,3 @@
 pub mod LineParts
 pub mod Ranges
+pub mod FeedLines

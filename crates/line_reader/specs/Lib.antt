@@ -1,2 +1,3 @@
 pub mod Limits
 pub mod Reader
+pub mod FeedRuns

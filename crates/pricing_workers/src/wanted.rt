@@ -36,13 +36,14 @@ impl Wanted {
         requires time_limit { batch.now.time ≤ 1000000000 }
         ensures { IfOk result (IsWanted batch.now.settings batch.now.time batch.now.vehicles) }
     {
-        let mut wanted = Wanted {
-            nodes: Vec::new(alloc),
-            plans: Vec::new(alloc),
-        };
         let settings = batch.settings();
         let time = batch.time();
-        for vehicle in batch.vehicles().vehicles() {
+        let vehicles = batch.vehicles().vehicles();
+        let mut wanted = Wanted {
+            nodes: Vec::with_capacity(alloc, vehicles.len())?,
+            plans: Vec::with_capacity(alloc, vehicles.len())?,
+        };
+        for vehicle in vehicles {
             wanted.add(vehicle, settings, time)?;
         }
         Ok(wanted)

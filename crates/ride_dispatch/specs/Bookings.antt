@@ -5,7 +5,8 @@ use Rattle.ride_ports.specs.Contents.{GivenBack}
 use Rattle.ride_ports.specs.Count.{Rose}
 use Rattle.ride_ports.specs.Status.{status_of}
 use Rattle.ride_ports.specs.declared.outcome.Ran.{Ran}
-use Rattle.booking_desk.specs.Booked.{IsBooked, IsReadWhole, IsUnhindered}
+use Rattle.line_reader.specs.FeedRuns.{IsReadWhole, IsUnhindered}
+use Rattle.booking_desk.specs.Booked.{IsBooked}
 use Rattle.ride_dispatch.specs.Answers.{told_bytes}
 use Rattle.ride_dispatch.specs.Files.{AreGivenBack, IsFeedWithin, IsSpent}
 use Rattle.ride_dispatch.specs.Runs.{Seen, Untouched, files_of}

@@ -13,7 +13,8 @@ use Rattle.gr_reader.specs.declared.errors.MapError.{MapError}
 use Rattle.fleet_file.specs.FleetText.{fleet_format, fleet_text}
 use Rattle.fleet_file.specs.declared.errors.FleetError.{FleetError}
 use Rattle.fleet_file.specs.declared.errors.FleetError.TheVariants.{TooLong}
-use Rattle.fleet_league.specs.Leagued.{IsLeagued, IsReadWhole, IsUnhindered}
+use Rattle.line_reader.specs.FeedRuns.{IsReadWhole, IsUnhindered}
+use Rattle.fleet_league.specs.Leagued.{IsLeagued}
 use Rattle.ride_dispatch.specs.Answers.{told_bytes, AreTextsOf, PassesLimit, RefusesFleet, RefusesMap}
 use Rattle.ride_dispatch.specs.Files.{AreGivenBack, AreTexts, FailsIn, IsFeedWithin, IsSpent}
 use Rattle.ride_dispatch.specs.Refusals.{fleet_refusal, map_refusal, IsOfFleet}

@@ -17,7 +17,6 @@ use Rattle.ride_model.specs.Road.{RoadMap, IsRoadMap}
 use Rattle.ride_model.specs.Settings.{IsSettings}
 use Rattle.ride_model.specs.State.{State, start_state, is_actor}
 use Rattle.ride_model.specs.Vehicle.{IsLawful}
-use Rattle.ride_ports.specs.Bytes.{Writes}
 use Rattle.ride_ports.specs.declared.outcome.Ran.{Ran}
 use Rattle.ride_model.specs.Text.{HasText}
 use Rattle.command_lines.specs.declared.pieces.FeedStop.TheVariants.{SourceFailed, TooLong}
@@ -26,10 +25,11 @@ use Rattle.command_lines.specs.Limits.{AreFirst, IsTooLong, IsWithinLimits, ende
 use Rattle.history_laws.specs.Start.{IsStart}
 use Rattle.history_laws.proofs.KeptHistory.{keeps_promises}
 use Rattle.board_core.specs.Recorded.{Recorded, state_of, end_entry}
+use Rattle.text_page.specs.Output.{HasPut, OutputState}
+use Rattle.text_page.proofs.OutputLemmas.{written-prefix, written-whole}
 use Rattle.session_run.specs.declared.stops.Stop.{Stop}
 use Rattle.session_run.specs.declared.stops.Stop.TheVariants.{NoMemory, OfFeed}
 use Rattle.session_run.specs.Logged.{IsLogged}
-use Rattle.session_run.specs.Page.{LogState, HasLogged}
 use Rattle.session_run.specs.Reading.{AreFirstOf, HasEnded, ending_of, is_source_failed, is_too_long}
 use Rattle.session_run.specs.Replay.{IsReadWhole, IsReplay}
 use Rattle.session_run.specs.Running.{IsPrompt, IsSession, IsRunning}
@@ -242,12 +242,9 @@ no-replay start ran feed begins text none long =
     each (Some bytes) = (commands_of start.settings.log bytes, refl)
 
 -- a log at its end
-pub is-logged : (ran : Ran) (before after : Option (List ℕ)) (faults n : ℕ) (log : LogState) (text : List ℕ) → ran.sink_failed ≡ log.failed
-    → (log.failed ≡ false → log.page ≡ []) → HasLogged before after faults n log text → IsLogged ran before after text
+pub is-logged : (ran : Ran) (before after : Option (List ℕ)) (faults n : ℕ) (log : OutputState) (text : List ℕ) → ran.sink_failed ≡ log.failed
+    → (log.failed ≡ false → log.page ≡ []) → HasPut before after faults n log text → IsLogged ran before after text
 is-logged ran before after faults n log text failed nothing_left has = record {
-  whole = λ stands.
-      let still : log.failed ≡ false = sym failed ∙ stands in
-      let (done, written, is) = rw still at has.bytes in
-      inl (subst (Writes before after) (sym (is ∙ ap (λ p. done ++ p) (nothing_left still) ∙ append-nil done)) written);
-  prefix = λ fell. let gone : log.failed ≡ true = sym failed ∙ fell in rw gone at has.bytes;
+  whole = λ stands. inl (written-whole before after faults n log text has (sym failed ∙ stands) nothing_left);
+  prefix = λ fell. written-prefix before after faults n log text has (sym failed ∙ fell);
 }

@@ -7,10 +7,10 @@ use Rattle.ride_model.specs.Text.{entry_lines}
 use Rattle.ride_ports.specs.Bytes.{WritesPrefix}
 use Rattle.ride_ports.specs.Count.{Rose}
 use Rattle.ride_ports.specs.declared.sources.Failed.{Failed}
+use Rattle.text_page.proofs.OutputLemmas.{put-failed, put-line, put-line_failed}
 use Rattle.session_run.specs.declared.live.scribes.Scribed.{Scribed}
 use Rattle.session_run.specs.Actors.{HasToldSome, bare}
 use Rattle.session_run.specs.Loops.{HasScribed, HasScribedSome}
-use Rattle.session_run.proofs.LogLemmas.{logged-failed, logged-line, logged-line_failed}
 
 -- so many entries were logged, and whether the sink took the head
 pub record Told (log : ℕ) (head_failed : Bool) (before after : Option (List ℕ)) (faults m : ℕ) (scribed : Result Scribed Failed) (seen : List Entry)
@@ -27,7 +27,7 @@ untold log now m seen = record {
   within = omega arith;
   answered = tt;
   some = record {
-    told = λ earlier faults text has. logged-failed earlier now faults m (bare true) text (entry_lines log (take 0 seen)) refl has;
+    told = λ earlier faults text has. put-failed earlier now faults m (bare true) text (entry_lines log (take 0 seen)) refl has;
   };
 }
 
@@ -41,7 +41,7 @@ told log before after faults m (Ok s) seen has part fault counts falls = record 
   answered = (refl, refl);
   some = record {
     told = λ earlier first text logged.
-        logged-line earlier before after first faults m (bare false) (bare false) text (entry_lines log (take s.entries seen)) refl refl refl refl
+        put-line earlier before after first faults m (bare false) (bare false) text (entry_lines log (take s.entries seen)) refl refl refl refl
         has.written counts logged;
   };
 }
@@ -51,7 +51,7 @@ told log before after faults m (Err f) seen has part fault counts falls = record
   answered = tt;
   some = record {
     told = λ earlier first text logged.
-        logged-line_failed earlier before after first faults m (bare false) (bare true) text
+        put-line_failed earlier before after first faults m (bare false) (bare true) text
         (entry_lines log (take (min part.count (length seen)) seen)) refl refl refl
         (subst (λ (es : List Entry). WritesPrefix before after (entry_lines log es)) (sym (take_min part.count seen)) part.prefix) fault falls logged;
   };

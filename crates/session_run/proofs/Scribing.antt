@@ -6,15 +6,14 @@ use Rattle.std.proofs.lemmas.List.{length-take, take-append-le, take_min}
 use Rattle.std.proofs.lemmas.List.Elements.{All-drop, All-take}
 use Rattle.ride_model.specs.declared.entry.Entry.{Entry}
 use Rattle.ride_model.specs.Text.{HasLine, entry_lines}
-use Rattle.ride_ports.specs.Bytes.{Writes, WritesPrefix}
 use Rattle.ride_ports.specs.Count.{Rose}
 use Rattle.board_core.specs.Recorded.{Recorded}
 use Rattle.fleet_board.specs.Passes.{AddsNone, IsPoint, Known, root_of}
 use Rattle.ride_ports.specs.declared.sources.Failed.{Failed}
+use Rattle.text_page.specs.Output.{HasPut, IsFresh, OutputState}
+use Rattle.text_page.proofs.OutputLemmas.{rose-where-failed, same-where-sound, written-prefix, written-whole}
 use Rattle.session_run.specs.declared.live.scribes.Scribed.{Scribed}
-use Rattle.session_run.specs.Actors.{bare}
 use Rattle.session_run.specs.Loops.{HasScribed, HasScribedSome}
-use Rattle.session_run.specs.Page.{HasLogged, LogState}
 use Rattle.session_run.proofs.LogLemmas.{entry_lines-append}
 
 -- no call adds nothing, and two that add nothing add nothing together
@@ -96,77 +95,59 @@ next-lines log count items first k none log_is point are =
     (subst (λ n. All (HasLine n) k.seen) (ap (λ (r : Recorded). r.start.settings.log) (root-stays first k none) ∙ sym log_is) point.text.lines)))
 
 -- a scribe that began at one point and stands at another, and whose sink has not failed
-pub record IsScribing (log : ℕ) (first k : Known) (before now : Option (List ℕ)) (faults m : ℕ) (logger : LogState) (count : ℕ) : Type 0 where
+pub record IsScribing (log : ℕ) (first k : Known) (before now : Option (List ℕ)) (faults m : ℕ) (output : OutputState) (count : ℕ) : Type 0 where
   pub none : AddsNone first k
   pub within : count ≤ length k.seen
-  pub stands : logger.failed ≡ false
-  pub logged : HasLogged before now faults m logger (entry_lines log (take count k.seen))
+  pub stands : output.failed ≡ false
+  pub logged : HasPut before now faults m output (entry_lines log (take count k.seen))
 
 -- after a look whose entries were put
-pub scribing-told : (log : ℕ) (first old new : Known) (before now later : Option (List ℕ)) (faults m n : ℕ) (logger after : LogState)
-    (count next : ℕ) (items : List Entry) → IsScribing log first old before now faults m logger count → Looks old new count items next
-    → ((earlier : Option (List ℕ)) (at : ℕ) (text : List ℕ) → HasLogged earlier now at m logger text
-    → HasLogged earlier later at n after (text ++ entry_lines log items))
-    → HasLogged before later faults n after (entry_lines log (take next new.seen))
-scribing-told log first old new before now later faults m n logger after count next items s looks told =
-    subst (λ (t : List ℕ). HasLogged before later faults n after t)
+pub scribing-told : (log : ℕ) (first old new : Known) (before now later : Option (List ℕ)) (faults m n : ℕ) (output after : OutputState)
+    (count next : ℕ) (items : List Entry) → IsScribing log first old before now faults m output count → Looks old new count items next
+    → ((earlier : Option (List ℕ)) (at : ℕ) (text : List ℕ) → HasPut earlier now at m output text
+    → HasPut earlier later at n after (text ++ entry_lines log items))
+    → HasPut before later faults n after (entry_lines log (take next new.seen))
+scribing-told log first old new before now later faults m n output after count next items s looks told =
+    subst (λ (t : List ℕ). HasPut before later faults n after t)
     (sym (ap (entry_lines log) (next-entries old new count items next looks s.within) ∙ entry_lines-append log (take count old.seen) items))
     (told before faults (entry_lines log (take count old.seen)) s.logged)
 
-pub scribing-on : (log : ℕ) (first old new : Known) (before now later : Option (List ℕ)) (faults m n : ℕ) (logger after : LogState)
-    (count next : ℕ) (items : List Entry) → IsScribing log first old before now faults m logger count → Looks old new count items next
-    → ((earlier : Option (List ℕ)) (at : ℕ) (text : List ℕ) → HasLogged earlier now at m logger text
-    → HasLogged earlier later at n after (text ++ entry_lines log items))
+pub scribing-on : (log : ℕ) (first old new : Known) (before now later : Option (List ℕ)) (faults m n : ℕ) (output after : OutputState)
+    (count next : ℕ) (items : List Entry) → IsScribing log first old before now faults m output count → Looks old new count items next
+    → ((earlier : Option (List ℕ)) (at : ℕ) (text : List ℕ) → HasPut earlier now at m output text
+    → HasPut earlier later at n after (text ++ entry_lines log items))
     → after.failed ≡ false → IsScribing log first new before later faults n after next
-scribing-on log first old new before now later faults m n logger after count next items s looks told stands = record {
+scribing-on log first old new before now later faults m n output after count next items s looks told stands = record {
   none = adds_none-then first old new s.none looks.none;
   within = next-within old new count items next looks s.within;
   stands = stands;
-  logged = scribing-told log first old new before now later faults m n logger after count next items s looks told;
+  logged = scribing-told log first old new before now later faults m n output after count next items s looks told;
 }
 
 -- after a look for which memory was wanting
-pub scribing-still : (log : ℕ) (first old new : Known) (before now : Option (List ℕ)) (faults m : ℕ) (logger : LogState) (count : ℕ)
-    → IsScribing log first old before now faults m logger count → AddsNone old new → IsScribing log first new before now faults m logger count
-scribing-still log first old new before now faults m logger count s none = record {
+pub scribing-still : (log : ℕ) (first old new : Known) (before now : Option (List ℕ)) (faults m : ℕ) (output : OutputState) (count : ℕ)
+    → IsScribing log first old before now faults m output count → AddsNone old new → IsScribing log first new before now faults m output count
+scribing-still log first old new before now faults m output count s none = record {
   none = adds_none-then first old new s.none none;
   within = omega (arith, seen-grows old new none, s.within);
   stands = s.stands;
-  logged = subst (λ (es : List Entry). HasLogged before now faults m logger (entry_lines log es)) (sym (first-stay old new count none s.within)) s.logged;
+  logged = subst (λ (es : List Entry). HasPut before now faults m output (entry_lines log es)) (sym (first-stay old new count none s.within)) s.logged;
 }
 
--- what was logged with nothing left on the page was written, and a prefix where the sink failed
-pub written-whole : (before now : Option (List ℕ)) (faults m : ℕ) (logger : LogState) (text : List ℕ) → logger.failed ≡ false → logger.page ≡ []
-    → HasLogged before now faults m logger text → Writes before now text
-written-whole before now faults m logger text stands empty has =
-    let (done, written, is) = rw stands at has.bytes in
-    subst (Writes before now) (sym (is ∙ ap (λ (p : List ℕ). done ++ p) empty ∙ append-nil done)) written
-
-pub written-part : (before now : Option (List ℕ)) (faults m : ℕ) (logger : LogState) (text : List ℕ) → logger.failed ≡ true
-    → HasLogged before now faults m logger text → WritesPrefix before now text
-written-part before now faults m logger text failed has = rw failed at has.bytes
-
-pub counts-none : (before now : Option (List ℕ)) (faults m : ℕ) (logger : LogState) (text : List ℕ) → logger.failed ≡ false
-    → HasLogged before now faults m logger text → m ≡ faults
-counts-none before now faults m logger text stands has = rw stands at has.faults
-
-pub counts-fault : (before now : Option (List ℕ)) (faults m : ℕ) (logger : LogState) (text : List ℕ) → logger.failed ≡ true
-    → HasLogged before now faults m logger text → Rose faults m
-counts-fault before now faults m logger text failed has = rw failed at has.faults
-
-pub has-scribed : (log : ℕ) (before now : Option (List ℕ)) (faults m : ℕ) (logger : LogState) (count : ℕ) (seen : List Entry) → count ≤ length seen
-    → logger.failed ≡ false → logger.page ≡ [] → HasLogged before now faults m logger (entry_lines log (take count seen))
+-- what was put with nothing left on the page was written, and a prefix where the sink failed
+pub has-scribed : (log : ℕ) (before now : Option (List ℕ)) (faults m : ℕ) (output : OutputState) (count : ℕ) (seen : List Entry) → count ≤ length seen
+    → output.failed ≡ false → output.page ≡ [] → HasPut before now faults m output (entry_lines log (take count seen))
     → HasScribed log before now count seen
-has-scribed log before now faults m logger count seen within stands empty has = record {
+has-scribed log before now faults m output count seen within stands empty has = record {
   some = within;
-  written = written-whole before now faults m logger (entry_lines log (take count seen)) stands empty has;
+  written = written-whole before now faults m output (entry_lines log (take count seen)) has stands (λ _. empty);
 }
 
-pub has-scribed-some : (log : ℕ) (before now : Option (List ℕ)) (faults m : ℕ) (logger : LogState) (count : ℕ) (seen : List Entry)
-    → logger.failed ≡ true → HasLogged before now faults m logger (entry_lines log (take count seen)) → HasScribedSome log before now seen
-has-scribed-some log before now faults m logger count seen failed has = record {
+pub has-scribed-some : (log : ℕ) (before now : Option (List ℕ)) (faults m : ℕ) (output : OutputState) (count : ℕ) (seen : List Entry)
+    → output.failed ≡ true → HasPut before now faults m output (entry_lines log (take count seen)) → HasScribedSome log before now seen
+has-scribed-some log before now faults m output count seen failed has = record {
   count = count;
-  prefix = written-part before now faults m logger (entry_lines log (take count seen)) failed has;
+  prefix = written-prefix before now faults m output (entry_lines log (take count seen)) has failed;
 }
 
 -- what a scribe answers for which memory was wanting
@@ -177,25 +158,23 @@ pub record CutShort (log : ℕ) (before now : Option (List ℕ)) (faults m : ℕ
   pub fault : OnErr scribed (Rose faults m)
   pub counts_none : OnOk scribed (m ≡ faults)
 
-pub cut-short : (log : ℕ) (before now : Option (List ℕ)) (faults m : ℕ) (logger : LogState) (count : ℕ) (seen : List Entry) (scribed : Result Scribed Failed)
-    → count ≤ length seen → HasLogged before now faults m logger (entry_lines log (take count seen))
-    → OnOk scribed (logger ≡ bare false) → OnErr scribed (logger.failed ≡ true)
+pub cut-short : (log : ℕ) (before now : Option (List ℕ)) (faults m : ℕ) (output : OutputState) (count : ℕ) (seen : List Entry) (scribed : Result Scribed Failed)
+    → count ≤ length seen → HasPut before now faults m output (entry_lines log (take count seen))
+    → OnOk scribed (IsFresh output) → OnErr scribed (output.failed ≡ true)
     → IfOk scribed (λ (s : Scribed). s ≡ record { entries = count; whole = false }) → CutShort log before now faults m scribed seen
-cut-short log before now faults m logger count seen (Ok s) within has empty failed is =
-    let stands : logger.failed ≡ false = ap (λ (l : LogState). l.failed) empty in
-    record {
-      written = subst (λ n. HasScribed log before now n seen) (sym (ap (λ (t : Scribed). t.entries) is))
-          (has-scribed log before now faults m logger count seen within stands (ap (λ (l : LogState). l.page) empty) has);
-      not_whole = ap (λ (t : Scribed). t.whole) is;
-      prefix = tt;
-      fault = tt;
-      counts_none = counts-none before now faults m logger (entry_lines log (take count seen)) stands has;
-    }
-cut-short log before now faults m logger count seen (Err f) within has empty failed is = record {
+cut-short log before now faults m output count seen (Ok s) within has fresh failed is = record {
+  written = subst (λ n. HasScribed log before now n seen) (sym (ap (λ (t : Scribed). t.entries) is))
+      (has-scribed log before now faults m output count seen within fresh.stands fresh.bare has);
+  not_whole = ap (λ (t : Scribed). t.whole) is;
+  prefix = tt;
+  fault = tt;
+  counts_none = same-where-sound before now faults m output (entry_lines log (take count seen)) has fresh.stands;
+}
+cut-short log before now faults m output count seen (Err f) within has fresh failed is = record {
   written = tt;
   not_whole = tt;
-  prefix = has-scribed-some log before now faults m logger count seen failed has;
-  fault = counts-fault before now faults m logger (entry_lines log (take count seen)) failed has;
+  prefix = has-scribed-some log before now faults m output count seen failed has;
+  fault = rose-where-failed before now faults m output (entry_lines log (take count seen)) has failed;
   counts_none = tt;
 }
 

@@ -16,12 +16,12 @@ use Rattle.history_laws.specs.Start.{IsStart}
 use Rattle.board_core.specs.Recorded.{Recorded}
 use Rattle.turn_lock.specs.Passes.{knowledge}
 use Rattle.fleet_board.specs.Turns.{as_began}
+use Rattle.text_page.specs.Output.{HasPut, OutputState}
 use Rattle.session_run.specs.declared.live.actors.Actors.{Actors}
 use Rattle.session_run.specs.declared.live.actors.Answers.{Answers}
 use Rattle.session_run.specs.declared.live.scribes.Scribed.{Scribed}
 use Rattle.session_run.specs.declared.live.stages.Stage.{Stage}
 use Rattle.session_run.specs.Actors.{bare}
-use Rattle.session_run.specs.Page.{HasLogged, LogState}
 use Rattle.session_run.specs.Replay.{IsReadWhole}
 use Rattle.session_run.specs.Serving.{FeedRun, HasServed, IsFeedOf, IsServed, IsWrittenOut}
 use Rattle.session_run.specs.Stages.{IsClosed, IsReady, LeavesActors, is_cut_short, ran_of, root_at}
@@ -83,19 +83,19 @@ module _ (answers : Answers) (sink_failed : Bool) where
 module _ (roads : RoadMap) (log desks : ℕ) (stage : Stage) (riders drivers : FeedRun) (head_failed : Bool) (first before now last : Option (List ℕ))
     (faults m n k : ℕ) (answers : Answers) (new : Actors) (ready : IsReady roads stage)
     (left : LeavesActors stage.board log riders drivers head_failed before now m n answers stage.actors new) (board : Recorded)
-    (closed : IsClosed new board) (logger : LogState) where
+    (closed : IsClosed new board) (output : OutputState) where
   abbrev ran : Ran
-  ran = ran_of answers logger.failed
+  ran = ran_of answers output.failed
 
   -- the whole text was logged
-  pub logged-all : (root_at stage).desks ≡ desks → HasLogged first before faults m (bare head_failed) (head_line log 2 desks)
+  pub logged-all : (root_at stage).desks ≡ desks → HasPut first before faults m (bare head_failed) (head_line log 2 desks)
       → ((earlier : Option (List ℕ)) (at count : ℕ) (text : List ℕ) → IfOk answers.scribed (λ (s : Scribed). s.entries ≡ count)
-      → HasLogged earlier now at n (bare (is_err answers.scribed)) text
-      → HasLogged earlier last at k logger (text ++ entry_lines log (drop count board.history)))
-      → HasLogged first last faults k logger (text_of log 2 desks board.history)
+      → HasPut earlier now at n (bare (is_err answers.scribed)) text
+      → HasPut earlier last at k output (text ++ entry_lines log (drop count board.history)))
+      → HasPut first last faults k output (text_of log 2 desks board.history)
   logged-all desks_are head rest =
       let s = left.scribe in
-      subst (λ (t : List ℕ). HasLogged first last faults k logger t)
+      subst (λ (t : List ℕ). HasPut first last faults k output t)
       (text-joined log desks s.count (knowledge new.scribe).seen board.history closed.seen s.within)
       (rest first faults s.count (head_line log 2 desks ++ entry_lines log (take s.count (knowledge new.scribe).seen))
       (entries_are answers.scribed s.answered) (s.some.told first faults (head_line log 2 desks) head))
@@ -107,7 +107,7 @@ module _ (roads : RoadMap) (log desks : ℕ) (stage : Stage) (riders drivers : F
 
   -- the history answers both feeds, and the log is its text
   pub is-served : (root_at stage).feeds ≡ 2 → (root_at stage).desks ≡ desks → (root_at stage).start.settings.log ≡ log
-      → (logger.failed ≡ false → logger.page ≡ []) → HasLogged first last faults k logger (text_of log 2 desks board.history)
+      → (output.failed ≡ false → output.page ≡ []) → HasPut first last faults k output (text_of log 2 desks board.history)
       → IsServed (root_at stage).start desks riders drivers ran first last
   is-served feeds_are desks_are log_is nothing_left has =
       subst (λ v. (riders_taken drivers_taken : List ℕ) × (entries : List Entry)
@@ -121,15 +121,15 @@ module _ (roads : RoadMap) (log desks : ℕ) (stage : Stage) (riders drivers : F
         board.history,
         served start desks ran board.history begins legal text
             (λ memory. desks-whole roads log stage riders drivers head_failed before now m n answers new ready left board closed
-            (none-wanted answers logger.failed memory).desks desks desks_are (one_or_two text))
+            (none-wanted answers output.failed memory).desks desks desks_are (one_or_two text))
             (λ memory read feed fits. first-or-second (λ f. has_whole_end (entries_of (Feed f) board.history) ≡ true) feed
-            (of_riders.ends_whole (none-wanted answers logger.failed memory).riders (read_both read).0)
-            (of_drivers.ends_whole (none-wanted answers logger.failed memory).drivers (read_both read).1) fits.0 fits.1),
+            (of_riders.ends_whole (none-wanted answers output.failed memory).riders (read_both read).0)
+            (of_drivers.ends_whole (none-wanted answers output.failed memory).drivers (read_both read).1) fits.0 fits.1),
         of_riders.is,
         of_drivers.is,
-        λ long. by_feed (length-passed answers logger.failed left.desk_1.only.length long),
-        written-out ran first last faults k logger (text_of log 2 desks board.history)
-            (sink-is answers logger.failed left.feed_1.sink left.feed_2.sink left.desk_1.only.sink) nothing_left has,
+        λ long. by_feed (length-passed answers output.failed left.desk_1.only.length long),
+        written-out ran first last faults k output (text_of log 2 desks board.history)
+            (sink-is answers output.failed left.feed_1.sink left.feed_2.sink left.desk_1.only.sink) nothing_left has,
       )
     where
       start : State
@@ -137,11 +137,11 @@ module _ (roads : RoadMap) (log desks : ℕ) (stage : Stage) (riders drivers : F
 
       of_riders : FeedOf log 1 riders answers.riders ran board.history
       of_riders = riders-of roads log stage riders drivers head_failed before now m n answers new ready left board closed ran
-          (λ memory. (none-wanted answers logger.failed memory).riders)
+          (λ memory. (none-wanted answers output.failed memory).riders)
 
       of_drivers : FeedOf log 2 drivers answers.drivers ran board.history
       of_drivers = drivers-of roads log stage riders drivers head_failed before now m n answers new ready left board closed ran
-          (λ memory. (none-wanted answers logger.failed memory).drivers)
+          (λ memory. (none-wanted answers output.failed memory).drivers)
 
       began_so : as_began board ≡ root_at stage
       began_so = began roads log stage riders drivers head_failed before now m n answers new ready left board closed
@@ -163,8 +163,8 @@ module _ (roads : RoadMap) (log desks : ℕ) (stage : Stage) (riders drivers : F
 
       read_both : IsReadWhole ran → IsReadWhole answers.riders × IsReadWhole answers.drivers
       read_both (sound, fits) =
-          let s = sources-sound answers logger.failed sound in
-          let f = lengths-fit answers logger.failed fits in
+          let s = sources-sound answers output.failed sound in
+          let f = lengths-fit answers output.failed fits in
           ((s.0, f.0), (s.1, f.1))
 
       by_feed : (answers.riders.too_long ≡ true) ⊎ (answers.drivers.too_long ≡ true) → IsTooLong of_riders.taken ⊎ IsTooLong of_drivers.taken

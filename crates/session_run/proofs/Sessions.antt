@@ -13,12 +13,12 @@ use Rattle.history_laws.specs.Finishing.{has_whole_end}
 use Rattle.history_laws.specs.Start.{IsStart}
 use Rattle.history_laws.proofs.Finished.{whole-finished}
 use Rattle.history_laws.proofs.KeptHistory.{keeps_promises}
-use Rattle.session_run.specs.Page.{HasLogged, LogState}
+use Rattle.text_page.specs.Output.{HasPut, OutputState}
+use Rattle.text_page.proofs.OutputLemmas.{written-prefix, written-whole}
 use Rattle.session_run.specs.Replay.{IsReadWhole}
 use Rattle.session_run.specs.Serving.{HasServed, IsWrittenOut}
 use Rattle.session_run.proofs.DeskParts.{DeskWhole, none-given_up, part-whole}
 use Rattle.session_run.proofs.LogLemmas.{text_of-append}
-use Rattle.session_run.proofs.Scribing.{written-part, written-whole}
 
 -- neither of two, and one of two
 pub neither : (a b : Bool) → (a || b) ≡ false → (a ≡ false) × (b ≡ false)
@@ -73,11 +73,9 @@ text-joined log desks count seen history (more, is) within =
     first = sym (ap (take count) (sym is) ∙ take-append-le count seen more within)
 
 -- the log was written
-pub written-out : (ran : Ran) (before now : Option (List ℕ)) (faults m : ℕ) (logger : LogState) (text : List ℕ) → ran.sink_failed ≡ logger.failed
-    → (logger.failed ≡ false → logger.page ≡ []) → HasLogged before now faults m logger text → IsWrittenOut ran before now text
-written-out ran before now faults m logger text is nothing_left has = record {
-  whole = λ sound.
-      let stands : logger.failed ≡ false = sym is ∙ sound in
-      written-whole before now faults m logger text stands (nothing_left stands) has;
-  prefix = λ fell. written-part before now faults m logger text (sym is ∙ fell) has;
+pub written-out : (ran : Ran) (before now : Option (List ℕ)) (faults m : ℕ) (output : OutputState) (text : List ℕ) → ran.sink_failed ≡ output.failed
+    → (output.failed ≡ false → output.page ≡ []) → HasPut before now faults m output text → IsWrittenOut ran before now text
+written-out ran before now faults m output text is nothing_left has = record {
+  whole = λ sound. written-whole before now faults m output text has (sym is ∙ sound) nothing_left;
+  prefix = λ fell. written-prefix before now faults m output text has (sym is ∙ fell);
 }

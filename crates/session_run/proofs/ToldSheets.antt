@@ -10,9 +10,10 @@ use Rattle.board_core.specs.Recorded.{end_entry}
 use Rattle.idle_moves.specs.declared.moves.MoveSheet.{MoveSheet}
 use Rattle.idle_moves.specs.AheadText.{ahead_text, head_line, last_line, sheet_line, sheet_lines}
 use Rattle.idle_moves.specs.HistorySheets.{AreSheetsOf}
+use Rattle.text_page.specs.Output.{HasPut, OutputState}
 use Rattle.session_run.specs.declared.batches.Answered.{Answered}
 use Rattle.session_run.specs.Ahead.{sheets_text}
-use Rattle.session_run.specs.Page.{HasLogged, LogState, SessionState}
+use Rattle.session_run.specs.SessionState.{SessionState}
 use Rattle.session_run.specs.Planning.{is_whole, sheets_in}
 use Rattle.session_run.specs.Reading.{HasToldAllBy, TellsSheets}
 use Rattle.session_run.specs.Running.{GoesOn, IsPrompt}
@@ -30,8 +31,8 @@ lines-more reach sheets more =
 -- a session before and after an answer, of which sheets are told
 module _ (reach : ℕ) (answered : Answered) (earlier now later : Option (List ℕ)) (faults n m : ℕ) (old new : SessionState)
     (wanting : new.no_memory ≡ (old.no_memory || not (is_whole answered)))
-    (logged : (text : List ℕ) → HasLogged earlier now faults n old.log text
-    → HasLogged earlier later faults m new.log (text ++ cond new.no_memory [] (sheet_lines (sheets_in answered)))) where
+    (logged : (text : List ℕ) → HasPut earlier now faults n old.log text
+    → HasPut earlier later faults m new.log (text ++ cond new.no_memory [] (sheet_lines (sheets_in answered)))) where
   -- where memory was wanting no more is told
   told-wanting : new.no_memory ≡ true → GoesOn old.board new.board
       → TellsSheets reach (λ sheets. head_line reach ++ sheet_lines sheets) earlier now faults n old
@@ -49,7 +50,7 @@ module _ (reach : ℕ) (answered : Answered) (earlier now later : Option (List �
         prompt = tells.prompt;
         sheets_are = subst (λ s. AreSheetsOf s reach tells.first tells.sheets) (sym goes_on.start) tells.sheets_are;
         all = λ sound. absurd (cc (is, sound));
-        logged = subst (λ (t : List ℕ). HasLogged earlier later faults m new.log t)
+        logged = subst (λ (t : List ℕ). HasPut earlier later faults m new.log t)
             (ap (λ b. text ++ cond b [] (sheet_lines (sheets_in answered))) is ∙ append-nil text) (logged text tells.logged);
       }
 
@@ -70,7 +71,7 @@ module _ (reach : ℕ) (answered : Answered) (earlier now later : Option (List �
         sheets_are = goes_on.sheets whole reach refl tells.sheets
             (subst (λ h. AreSheetsOf old.board.start reach h tells.sheets) first tells.sheets_are);
         all = λ _. refl;
-        logged = subst (λ (t : List ℕ). HasLogged earlier later faults m new.log t)
+        logged = subst (λ (t : List ℕ). HasPut earlier later faults m new.log t)
             (ap (λ b. text ++ cond b [] (sheet_lines more)) is ∙ lines-more reach tells.sheets more) (logged text tells.logged);
       }
     where
@@ -91,8 +92,8 @@ module _ (reach : ℕ) (answered : Answered) (earlier now later : Option (List �
 -- the last line is told where memory was not wanting
 pub told-last : (reach told : ℕ) (ending : Ending) (earlier now later : Option (List ℕ)) (faults n m : ℕ) (old new : SessionState)
     → new.no_memory ≡ old.no_memory → GoesOnTo ending told old.board new.board
-    → ((text : List ℕ) → HasLogged earlier now faults n old.log text
-    → HasLogged earlier later faults m new.log (text ++ cond old.no_memory [] (last_line ending)))
+    → ((text : List ℕ) → HasPut earlier now faults n old.log text
+    → HasPut earlier later faults m new.log (text ++ cond old.no_memory [] (last_line ending)))
     → TellsSheets reach (λ sheets. head_line reach ++ sheet_lines sheets) earlier now faults n old
     → TellsSheets reach (sheets_text reach new.no_memory ending) earlier later faults m new
 told-last reach told ending earlier now later faults n m old new same goes_on logged tells =
@@ -115,7 +116,7 @@ told-last reach told ending earlier now later faults n m old new same goes_on lo
           prompt = tells.prompt;
           sheets_are = subst (λ s. AreSheetsOf s reach tells.first tells.sheets) (sym goes_on.start) tells.sheets_are;
           all = λ sound. absurd (cc (is, same, sound));
-          logged = subst (λ (t : List ℕ). HasLogged earlier later faults m new.log t)
+          logged = subst (λ (t : List ℕ). HasPut earlier later faults m new.log t)
               (ap (λ b. lines ++ cond b [] (last_line ending)) is ∙ append-nil lines
               ∙ sym (ap (λ b. sheets_text reach b ending tells.sheets) (same ∙ is))) (logged lines tells.logged);
         }
@@ -129,15 +130,15 @@ told-last reach told ending earlier now later faults n m old new same goes_on lo
           sheets_are = adds-ends reach old.board new.board ending goes_on.desk_ending goes_on.start goes_on.grows tells.sheets
               (subst (λ h. AreSheetsOf old.board.start reach h tells.sheets) first tells.sheets_are);
           all = λ _. refl;
-          logged = subst (λ (t : List ℕ). HasLogged earlier later faults m new.log t)
+          logged = subst (λ (t : List ℕ). HasPut earlier later faults m new.log t)
               (ap (λ b. lines ++ cond b [] (last_line ending)) is
               ∙ ap (λ sheets. ahead_text reach ending sheets) (sym (append-nil tells.sheets))
               ∙ sym (ap (λ b. sheets_text reach b ending (tells.sheets ++ [])) (same ∙ is))) (logged lines tells.logged);
         }
 
 -- what was told stays told where the page is written
-pub told-flushed : (reach : Option ℕ) (ending : Ending) (earlier now later : Option (List ℕ)) (faults n m : ℕ) (s : SessionState) (log : LogState)
-    → ((text : List ℕ) → HasLogged earlier now faults n s.log text → HasLogged earlier later faults m log text)
+pub told-flushed : (reach : Option ℕ) (ending : Ending) (earlier now later : Option (List ℕ)) (faults n m : ℕ) (s : SessionState) (log : OutputState)
+    → ((text : List ℕ) → HasPut earlier now faults n s.log text → HasPut earlier later faults m log text)
     → HasToldAllBy reach ending earlier now faults n s → HasToldAllBy reach ending earlier later faults m (record s { log = log })
 told-flushed None ending earlier now later faults n m s log logged told = logged (text_of s.board.start.settings.log 1 1 s.board.history) told
 told-flushed (Some reach) ending earlier now later faults n m s log logged told = record {

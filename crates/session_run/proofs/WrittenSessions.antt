@@ -11,11 +11,12 @@ use Rattle.board_core.specs.Recorded.{Recorded}
 use Rattle.idle_moves.specs.declared.moves.MoveSheet.{MoveSheet}
 use Rattle.idle_moves.specs.AheadText.{ahead_text}
 use Rattle.idle_moves.specs.HistorySheets.{AreSheetsOf}
+use Rattle.text_page.specs.Output.{HasPut}
 use Rattle.session_run.specs.declared.stops.Stop.{Stop}
 use Rattle.session_run.specs.declared.stops.Stop.TheVariants.{NoMemory, OfFeed}
 use Rattle.session_run.specs.Ahead.{IsWrittenBy, feed_ending, sheets_text}
 use Rattle.session_run.specs.Logged.{IsLogged}
-use Rattle.session_run.specs.Page.{HasLogged, SessionState}
+use Rattle.session_run.specs.SessionState.{SessionState}
 use Rattle.session_run.specs.Reading.{HasEnded, HasToldAll, HasToldAllBy, ending_of, is_source_failed, is_too_long}
 use Rattle.session_run.proofs.Replays.{is-logged}
 
@@ -64,7 +65,7 @@ module _ (start : State) (ran : Ran) (ending : Ending) (before after : Option (L
 -- some text was logged
 pub record LoggedSome (before after : Option (List ℕ)) (faults n : ℕ) (s : SessionState) : Type 0 where
   pub text : List ℕ
-  pub has : HasLogged before after faults n s.log text
+  pub has : HasPut before after faults n s.log text
 
 pub logged-some : (reach : Option ℕ) (ending : Ending) (before after : Option (List ℕ)) (faults n : ℕ) (s : SessionState)
     → HasToldAllBy reach ending before after faults n s → LoggedSome before after faults n s

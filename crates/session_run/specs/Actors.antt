@@ -16,9 +16,9 @@ use Rattle.fleet_board.specs.declared.shared.SharedBoard.{SharedBoard}
 use Rattle.fleet_board.specs.Passes.{AddsNone, IsPoint, commands_in, root_of}
 use Rattle.fleet_board.specs.Roles.{MayFeed, MayOpen}
 use Rattle.fleet_board.specs.Sharing.{MayUse}
+use Rattle.text_page.specs.Output.{HasPut, OutputState}
 use Rattle.session_run.specs.declared.live.scribes.Scribed.{Scribed}
 use Rattle.session_run.specs.Loops.{RunsDesk, RunsFeed}
-use Rattle.session_run.specs.Page.{HasLogged, LogState}
 use Rattle.session_run.specs.Serving.{FeedRun}
 
 -- what kept either of two from running whole
@@ -36,16 +36,16 @@ pub record OnlyWants (ran : Ran) : Type 0 where
   pub source : ran.source_failed ≡ false
   pub length : ran.too_long ≡ false
 
--- a log with nothing on its page
-abbrev pub bare : Bool → LogState
-bare failed = record { page = []; failed = failed }
+-- an output with nothing on its page
+abbrev pub bare : Bool → OutputState
+bare failed = record { page = []; full = 0; failed = failed }
 
 -- the lines of so many entries were logged, by what the scribe answered
 pub record HasToldSome (log : ℕ) (head_failed : Bool) (before after : Option (List ℕ)) (faults_before faults_after : ℕ)
     (scribed : Result Scribed Failed) (count : ℕ) (seen : List Entry) : Type 0 where
   pub told : (earlier : Option (List ℕ)) (faults : ℕ) (text : List ℕ)
-      → HasLogged earlier before faults faults_before (bare head_failed) text
-      → HasLogged earlier after faults faults_after (bare (is_err scribed)) (text ++ entry_lines log (take count seen))
+      → HasPut earlier before faults faults_before (bare head_failed) text
+      → HasPut earlier after faults faults_after (bare (is_err scribed)) (text ++ entry_lines log (take count seen))
 
 module _ {g : Ghosts Kept Recorded Entry} where
   -- a feed may run: few commands are its own, and they are read by this version of the log

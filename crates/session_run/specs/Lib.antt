@@ -1,7 +1,7 @@
 pub mod Settled
 pub mod Replay
 pub mod Logged
-pub mod Page
+pub mod SessionState
 pub mod Running
 pub mod Planning
 pub mod Ahead

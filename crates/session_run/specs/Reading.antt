@@ -16,10 +16,11 @@ use Rattle.board_core.specs.Recorded.{Recorded}
 use Rattle.idle_moves.specs.declared.moves.MoveSheet.{MoveSheet}
 use Rattle.idle_moves.specs.AheadText.{head_line, sheet_lines}
 use Rattle.idle_moves.specs.HistorySheets.{AreSheetsOf}
+use Rattle.text_page.specs.Output.{HasPut, OutputState}
 use Rattle.session_run.specs.declared.stops.Stop.{Stop}
 use Rattle.session_run.specs.declared.stops.Stop.TheVariants.{NoMemory, OfFeed}
 use Rattle.session_run.specs.Ahead.{sheets_text}
-use Rattle.session_run.specs.Page.{LogState, HasLogged, SessionState}
+use Rattle.session_run.specs.SessionState.{SessionState}
 use Rattle.session_run.specs.Running.{IsPrompt, IsSession, IsRunning}
 
 -- these commands are the first that a feed gives of the bytes that were taken, and of all its bytes, where they are told
@@ -46,9 +47,9 @@ pub record HasRun (log : ℕ) (feed left : Option (List ℕ)) (stop : Option Sto
   pub ended : HasEnded log left stop board no_memory taken
 
 -- what was logged is the text of the board's history
-abbrev pub IsTold : Option (List ℕ) → Option (List ℕ) → ℕ → ℕ → LogState → Recorded → Type 0
+abbrev pub IsTold : Option (List ℕ) → Option (List ℕ) → ℕ → ℕ → OutputState → Recorded → Type 0
 IsTold earlier now faults_before faults_now log board =
-    HasLogged earlier now faults_before faults_now log (text_of board.start.settings.log 1 1 board.history)
+    HasPut earlier now faults_before faults_now log (text_of board.start.settings.log 1 1 board.history)
 
 -- of the sheets within a reach of a session's history this text was written: of all its commits where memory was not wanting, and
 -- else of those before it was
@@ -60,7 +61,7 @@ pub record TellsSheets (reach : ℕ) (text : List MoveSheet → List ℕ) (earli
   pub prompt : IsPrompt first
   pub sheets_are : AreSheetsOf s.board.start reach first sheets
   pub all : s.no_memory ≡ false → first ≡ s.board.history
-  pub logged : HasLogged earlier now faults_before faults_now s.log (text sheets)
+  pub logged : HasPut earlier now faults_before faults_now s.log (text sheets)
 
 -- what was written of a session so far: its log, or sheets
 abbrev pub HasToldBy : Option ℕ → Option (List ℕ) → Option (List ℕ) → ℕ → ℕ → SessionState → Type 0

@@ -16,12 +16,13 @@ use Rattle.fleet_board.specs.declared.shared.SharedBoard.{SharedBoard}
 use Rattle.fleet_board.specs.Passes.{IsPoint, root_of}
 use Rattle.fleet_board.specs.Sets.{IsBack, IsNewDesk, IsNewFeed, IsPartOf, one_if_some}
 use Rattle.fleet_board.specs.Turns.{as_began}
+use Rattle.text_page.specs.Output.{IsFresh}
 use Rattle.session_run.specs.declared.live.actors.Actors.{Actors}
 use Rattle.session_run.specs.declared.live.actors.Answers.{Answers}
 use Rattle.session_run.specs.declared.live.desk_pairs.Desk.{Desk}
 use Rattle.session_run.specs.declared.live.scribes.Scribed.{Scribed}
 use Rattle.session_run.specs.declared.live.stages.Stage.{Stage}
-use Rattle.session_run.specs.Actors.{LeavesDesk, LeavesFeed, LeavesScribe, MayRunDesk, MayRunFeed, MayScribe, bare, either}
+use Rattle.session_run.specs.Actors.{LeavesDesk, LeavesFeed, LeavesScribe, MayRunDesk, MayRunFeed, MayScribe, either}
 use Rattle.session_run.specs.Serving.{FeedRun}
 
 -- the board of a session of two feeds as it begins
@@ -49,7 +50,7 @@ pub record IsReady (roads : RoadMap) (stage : Stage) : Type 0 where
   pub scribe_point : IsPoint (knowledge stage.actors.scribe)
   pub scribe_seen : (knowledge stage.actors.scribe).seen ≡ []
   pub out : (knowledge stage.actors.scribe).out ≡ 3 + one_if_some stage.actors.desk_2
-  pub logger : stage.logger ≡ bare false
+  pub output : IsFresh stage.output
 
 -- all passes are back
 pub record MayClose (board : SharedBoard) (actors : Actors) : Type 0 where

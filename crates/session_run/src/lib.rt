@@ -9,7 +9,6 @@ mod drills;
 mod live;
 mod logging;
 mod one_feed;
-mod page;
 mod replaying;
 mod sending;
 mod session;

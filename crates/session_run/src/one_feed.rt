@@ -10,6 +10,7 @@ ghost use Rattle.ride_model.specs.Vehicle.{IsLawful};
 ghost use Rattle.ride_ports.specs.Bytes.{Reads};
 ghost use Rattle.ride_ports.specs.Count.{Rose};
 ghost use Rattle.command_lines.specs.Feeds.{HasGiven};
+ghost use Rattle.text_page.specs.Output.{IsFresh};
 ghost use Rattle.session_run.specs.Ahead.{IsWrittenBy};
 ghost use Rattle.session_run.specs.Reading.{HasRun, HasTold, is_source_failed};
 ghost use Rattle.session_run.specs.Replay.{IsReadWhole, IsReplay};
@@ -94,7 +95,7 @@ fn begun<'r>(
     ensures start { IfOk result (λ made. made.0.board.start ≡ start_state roads.now settings fleet) }
     ensures history { IfOk result (λ made. made.0.board.history ≡ []) }
     ensures running { IfOk result (λ made. IsRunning made.0.board made.0.no_memory) }
-    ensures log { IfOk result (λ made. made.0.log ≡ record { page = []; failed = false }) }
+    ensures log { IfOk result (λ made. IsFresh made.0.log) }
     ensures reach { IfOk result (λ made. made.0.reach ≡ reach) }
     ensures version { IfOk result (λ made. made.1.log ≡ settings.log) }
     ensures nothing_given { IfOk result (λ made. (left : Option (List ℕ)) → HasGiven made.1 left [] []) }

@@ -12,7 +12,7 @@ ghost use Rattle.ride_model.specs.Text.{HasText, IsOneOrTwo, IsSpelledCommand, h
 ghost use Rattle.ride_model.specs.Vehicle.{IsLawful};
 ghost use Rattle.board_core.specs.Recorded.{Recorded, end_entry, state_of};
 ghost use Rattle.idle_moves.specs.AheadText.{last_line, sheet_lines};
-ghost use Rattle.session_run.specs.Page.{HasLogged};
+ghost use Rattle.text_page.specs.Output.{HasPut, IsFresh};
 ghost use Rattle.session_run.specs.Planning.{is_whole, sheets_in};
 ghost use Rattle.session_run.specs.Reading.{HasTold, HasToldAll, IsTold};
 ghost use Rattle.session_run.specs.Telling.{GoesOnTo, GoesOnWith};
@@ -20,7 +20,7 @@ ghost use Rattle.session_run.specs.Running.{IsRunning, IsSession, Stops};
 
 use crate::answers::answer;
 use crate::batches::Answered;
-use crate::logging::Logger;
+use crate::logging::{put_all, put_end, put_head, put_reach, put_sheet};
 use crate::tools::DeskTools;
 use board_core::Board;
 use ride_model::{Actor, Command, Ending, Entry, Fleet, NoMemory, Settings};
@@ -29,13 +29,14 @@ use road_times::Roads;
 use std::alloc::Global;
 use std::marker::Model;
 use std::thread::Threads;
+use text_page::Output;
 
 /// A board of one feed and one desk, what its desk works with, and what is written of it: its log, or the sheets of its batches.
 #[derive(Drop)]
 pub(crate) struct Session<'r> {
     board: Board<'r>,
     tools: DeskTools<'r>,
-    log: Logger,
+    log: Output,
     /// The version of the log.
     version: u8,
     /// The reach of the sheets, where these are written in place of the log.
@@ -46,7 +47,7 @@ pub(crate) struct Session<'r> {
 impl<'r> Model for Session<'r> {
     ghost use Rattle.std.specs.Prelude.{◌≡◌, ◌≤◌};
     ghost use Rattle.std.specs.Option.{ForSome};
-    ghost use Rattle.session_run.specs.Page.{SessionState};
+    ghost use Rattle.session_run.specs.SessionState.{SessionState};
 
     ghost Value = { SessionState };
 
@@ -74,12 +75,12 @@ impl<'r> Session<'r> {
         ensures start { IfOk result (λ session. session.board.start ≡ start_state roads.now settings fleet) }
         ensures history { IfOk result (λ session. session.board.history ≡ []) }
         ensures running { IfOk result (λ session. IsRunning session.board session.no_memory) }
-        ensures log { IfOk result (λ session. session.log ≡ record { page = []; failed = false }) }
+        ensures log { IfOk result (λ session. IsFresh session.log) }
         ensures reach { IfOk result (λ session. session.reach ≡ reach) }
         ensures memory { IfOk result (λ session. session.no_memory ≡ false) }
     {
         let tools = DeskTools::new(alloc, roads, workers)?;
-        let log = Logger::new(alloc)?;
+        let log = Output::new(alloc)?;
         let version = settings.log;
         let board = Board::new(alloc, roads, settings, fleet, 1, 1)?;
         Ok(Session {
@@ -117,7 +118,7 @@ impl<'r> Session<'r> {
 
     /// Writes the first line.
     pub(crate) fn begin<K: Sink>(&mut self, out: &mut K)
-        requires fresh { self.old.log ≡ record { page = []; failed = false } }
+        requires fresh { IsFresh self.old.log }
         requires bare { self.old.board.history ≡ [] }
         ensures told { HasTold (K.written out.old) (K.written out.new) (K.faults out.old) (K.faults out.new) self.new }
         ensures others { self.new ≡ record self.old { log = self.new.log } }
@@ -125,8 +126,8 @@ impl<'r> Session<'r> {
         // This call tells that the version is 1 or 2.
         let _history = self.board.entries();
         match self.reach {
-            Some(reach) => self.log.put_reach(out, reach),
-            None => self.log.put_head(out, self.version, 1, 1),
+            Some(reach) => put_reach(&mut self.log, out, reach),
+            None => put_head(&mut self.log, out, self.version, 1, 1),
         }
     }
 
@@ -183,7 +184,7 @@ impl<'r> Session<'r> {
         let told = self.board.entries().len();
         self.end_actors(ending);
         self.tell_end(out, told, ending);
-        self.log.flush(out);
+        self.log.end(out);
     }
 
     // Ends the feed, and then the desk.
@@ -221,8 +222,8 @@ impl<'r> Session<'r> {
     // Writes the sheet of the batch after a command, if there is one and memory was not wanting.
     fn tell_sheet<K: Sink>(&mut self, out: &mut K, answered: &Answered)
         ensures told { (earlier : Option (List ℕ)) (faults : ℕ) (text : List ℕ)
-            → HasLogged earlier (K.written out.old) faults (K.faults out.old) self.old.log text
-            → HasLogged earlier (K.written out.new) faults (K.faults out.new) self.new.log
+            → HasPut earlier (K.written out.old) faults (K.faults out.old) self.old.log text
+            → HasPut earlier (K.written out.new) faults (K.faults out.new) self.new.log
             (text ++ (if self.old.no_memory then [] else sheet_lines (sheets_in answered.now))) }
         ensures others { self.new ≡ record self.old { log = self.new.log } }
     {
@@ -230,7 +231,7 @@ impl<'r> Session<'r> {
             return;
         }
         if let Some(sheet) = answered.sheet() {
-            self.log.put_sheet(out, sheet);
+            put_sheet(&mut self.log, out, sheet);
         }
     }
 
@@ -251,13 +252,13 @@ impl<'r> Session<'r> {
     // Writes the last line of the sheets, unless memory was wanting.
     fn tell_last<K: Sink>(&mut self, out: &mut K, ending: Ending)
         ensures told { (earlier : Option (List ℕ)) (faults : ℕ) (text : List ℕ)
-            → HasLogged earlier (K.written out.old) faults (K.faults out.old) self.old.log text
-            → HasLogged earlier (K.written out.new) faults (K.faults out.new) self.new.log
+            → HasPut earlier (K.written out.old) faults (K.faults out.old) self.old.log text
+            → HasPut earlier (K.written out.new) faults (K.faults out.new) self.new.log
             (text ++ (if self.old.no_memory then [] else last_line ending)) }
         ensures others { self.new ≡ record self.old { log = self.new.log } }
     {
         if !self.no_memory {
-            self.log.put_end(out, ending);
+            put_end(&mut self.log, out, ending);
         }
     }
 
@@ -265,12 +266,12 @@ impl<'r> Session<'r> {
     fn log_rest<K: Sink>(&mut self, out: &mut K, told: usize)
         requires { told ≤ length self.old.board.history }
         ensures told { (earlier : Option (List ℕ)) (faults : ℕ)
-            → HasLogged earlier (K.written out.old) faults (K.faults out.old) self.old.log
+            → HasPut earlier (K.written out.old) faults (K.faults out.old) self.old.log
             (text_of self.old.board.start.settings.log 1 1 (take told self.old.board.history))
             → IsTold earlier (K.written out.new) faults (K.faults out.new) self.new.log self.new.board }
         ensures others { self.new ≡ record self.old { log = self.new.log } }
     {
         let entries = self.board.entries();
-        self.log.put_all(out, &entries[told..], self.version);
+        put_all(&mut self.log, out, &entries[told..], self.version);
     }
 }

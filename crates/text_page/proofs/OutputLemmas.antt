@@ -169,6 +169,12 @@ pub put-nothing : (now : Option (List ℕ)) (n : ℕ) (output : OutputState) →
 put-nothing now n output fresh =
     stood now now n n output [] fresh.stands (record { done = []; written = Writes-none now; whole = sym fresh.bare; same = refl })
 
+-- what was put depends on the page and on the failure alone
+pub put-same : (before now : Option (List ℕ)) (faults n : ℕ) (output same : OutputState) (text : List ℕ) → same.page ≡ output.page
+    → same.failed ≡ output.failed → HasPut before now faults n output text → HasPut before now faults n same text
+put-same before now faults n output same text page failed has =
+    record { bytes = rw (failed, page) has.bytes; faults = rw failed has.faults; never_falls = has.never_falls }
+
 -- where the output failed the sink's count rose, and else it is as it was
 pub rose-where-failed : (before now : Option (List ℕ)) (faults n : ℕ) (output : OutputState) (text : List ℕ)
     → HasPut before now faults n output text → output.failed ≡ true → Rose faults n

@@ -1,10 +1,11 @@
 -- Texts that print themselves onto an output's page.
 use Rattle.std.proofs.Common.{◌≡◌, ℕ, Bool, true, false, cond, List, [], ◌∷◌, ◌++◌, length, take, Option, Some, None, Result, Ok, Err, refl, ap, sym, subst, ◌∙◌}
-use Rattle.std.specs.Prelude.{OnErr, is_ok}
+use Rattle.std.specs.Prelude.{◌≤◌, OnErr, OnOk, is_err, is_ok}
 use Rattle.ride_ports.specs.Bytes.{Writes, WritesPrefix}
+use Rattle.ride_ports.specs.Count.{Rose}
 use Rattle.ride_ports.proofs.ByteLemmas.{Writes-told}
 use Rattle.text_page.specs.Output.{HasPut, OutputState, told_page}
-use Rattle.text_page.proofs.OutputLemmas.{put-added}
+use Rattle.text_page.proofs.OutputLemmas.{put-added, put-printed}
 
 -- an output whose sink has not failed tells its page, and one that tells a page has not failed
 tells-page : (output : OutputState) → output.failed ≡ false → told_page output ≡ Some output.page
@@ -53,3 +54,12 @@ printed-back (Err e) before now later faults n m old printed new mark earlier te
     back before faults earlier
     (subst (λ (k : ℕ). HasPut before now faults n (record printed { page = take k printed.page }) earlier) (sym marked)
     (printed-part before now faults n old printed earlier text stands part has))
+
+-- a text that was printed to the sink itself, where nothing is left on the page
+pub printed-out : {T E : Type 0} (r : Result T E) (before now later : Option (List ℕ)) (faults n m : ℕ) (old new : OutputState) (earlier text : List ℕ)
+    → old.failed ≡ false → old.page ≡ [] → new ≡ record old { failed = is_err r } → OnOk r (Writes now later text)
+    → OnErr r (WritesPrefix now later text) → OnErr r (Rose n m) → OnOk r (m ≡ n) → n ≤ m
+    → HasPut before now faults n old earlier → HasPut before later faults m new (earlier ++ text)
+printed-out r before now later faults n m old new earlier text stands bare noted whole part rose counts falls has =
+    put-printed r before now later faults n m old new earlier text stands bare (ap (λ (o : OutputState). o.failed) noted)
+    (ap (λ (o : OutputState). o.page) noted ∙ bare) whole part rose counts falls has

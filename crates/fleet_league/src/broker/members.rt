@@ -1,28 +1,30 @@
 //! The companies of a league.
-ghost use Rattle.std.specs.Prelude.{◌≡◌, ◌<◌, List, [], All, Contains, IfOk, OnOk, IsTrue};
-ghost use Rattle.ride_model.specs.declared.vehicle.Ride.{Ride};
+ghost use Rattle.std.specs.Prelude.{◌≡◌, ◌<◌, [], All, IfOk, OnOk, IsTrue};
 ghost use Rattle.ride_model.specs.declared.vehicle.Vehicle.{Vehicle};
 ghost use Rattle.ride_model.specs.Settings.{IsSettings};
 ghost use Rattle.ride_model.specs.State.{start_state};
 ghost use Rattle.ride_model.specs.Step.{step};
 ghost use Rattle.ride_model.specs.Text.{IsSpelledCommand};
 ghost use Rattle.ride_model.specs.Vehicle.{IsLawful};
+ghost use Rattle.batch_commit.specs.Table.{IsTableOf};
 ghost use Rattle.board_core.specs.Recorded.{state_of};
-ghost use Rattle.fleet_league.specs.Awards.{won_rides};
 ghost use Rattle.fleet_league.specs.Companies.{is_report, most_reports, report_count};
 ghost use Rattle.fleet_league.specs.League.{IsAwarded, is_with};
 ghost use Rattle.fleet_league.specs.LeagueBoards.{IsPlayed, IsReported, IsSound, MayPlay, MayWin};
 ghost use Rattle.fleet_league.specs.Prices.{quote_of};
+ghost use Rattle.fleet_league.specs.Quoting.{quoting_batch};
 ghost use Rattle.fleet_league.specs.Round.{IsPriced};
 
-use crate::{Brief, Company, NoMemory, Quote};
+use crate::quoting::PricedQuote;
+use crate::won_tables::table_of_won;
+use crate::{Brief, Company, NoMemory};
 use adaptive_roads::AdaptiveRoads;
+use batch_commit::PriceTable;
 use board_core::Board;
 use ride_model::{Command, Fleet, Reply, Ride, Settings};
 use road_times::{Roads, Scratch};
 use std::alloc::Global;
 use std::marker::Model;
-use std::slice::from_mut;
 use std::thread::Threads;
 
 /// A company of a league, with what it prices its vehicles with: roads that adapt to how much is asked of them, and a scratch.
@@ -96,15 +98,17 @@ impl<'r> Member<'r> {
         self.company.report(command)
     }
 
-    /// What the company quotes for rides.
+    /// What the company quotes for rides, with their table.
     pub(crate) fn quote<R: Threads + Sync>(
         &mut self,
         rt: &R,
         rides: &[Ride],
-    ) -> Result<Quote, NoMemory>
+    ) -> Result<PricedQuote, NoMemory>
         requires may { MayPlay self.old rides.now }
-        ensures quote { IfOk result (λ quote. quote ≡ quote_of (state_of self.old.board) rides.now) }
-        ensures priced { IfOk result (λ quote. IsPriced quote.prices) }
+        ensures quote { IfOk result (λ priced. priced.quote ≡ quote_of (state_of self.old.board) rides.now) }
+        ensures priced { IfOk result (λ priced. IsPriced priced.quote.prices) }
+        ensures table { IfOk result (λ priced. IsTableOf self.old.board.start.roads
+            (quoting_batch (state_of self.old.board) rides.now) priced.table) }
         ensures kept { self.new ≡ self.old }
         ensures sound { IsSound self.old.board }
     {
@@ -114,24 +118,30 @@ impl<'r> Member<'r> {
             .quote_adapting(rt, &mut self.roads, &mut self.scratch, rides)
     }
 
-    /// Awards the company its part of a round of rides, which it has quoted as it stands.
-    pub(crate) fn award<R: Threads + Sync>(
+    /// Awards the company its part of a round of rides, by the table of the rides over its vehicles as they stand.
+    pub(crate) fn award(
         &mut self,
-        rt: &R,
-        quote: &Quote,
+        table: &PriceTable,
+        rides: &[Ride],
         brief: &Brief,
     ) -> Result<(), NoMemory>
-        requires may { (rides : List Ride) × MayWin self.old rides brief.now
-            × (quote.now ≡ quote_of (state_of self.old.board) rides) }
+        requires may { MayWin self.old rides.now brief.now }
+        requires table { IsTableOf self.old.board.start.roads (quoting_batch (state_of self.old.board) rides.now) table.now }
         ensures awarded { OnOk result (IsAwarded brief.now (state_of self.old.board) (state_of self.new.board)) }
-        ensures played { (rides : List Ride) → All (Contains rides) (won_rides brief.now.wins)
-            → OnOk result (IsPlayed rides self.old self.new) }
+        ensures played { OnOk result (IsPlayed rides.now self.old self.new) }
         ensures start { self.new.board.start ≡ self.old.board.start }
     {
         // This call tells that the history is legal.
         let _history = self.company.board().entries();
-        let scratches = from_mut(&mut self.scratch);
-        self.company.award(rt, scratches, quote, brief)?;
+        let vehicles = self.company.board().vehicles().len() as u32;
+        let won = table_of_won(
+            self.company.alloc,
+            table,
+            vehicles,
+            rides,
+            brief.wins.items(),
+        )?;
+        self.company.award_priced(won, brief)?;
         Ok(())
     }
 }

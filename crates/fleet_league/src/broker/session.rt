@@ -5,19 +5,19 @@ ghost use Rattle.ride_model.specs.Settings.{IsSettings};
 ghost use Rattle.ride_model.specs.Vehicle.{IsLawful};
 ghost use Rattle.ride_ports.specs.Bytes.{Reads};
 ghost use Rattle.ride_ports.specs.Count.{Rose};
+ghost use Rattle.line_reader.specs.FeedRuns.{HasRun, IsReadWhole, IsUnhindered, is_source_failed};
 ghost use Rattle.line_reader.specs.Limits.{IsWithinLimits};
 ghost use Rattle.line_reader.specs.Reader.{HasGiven};
 ghost use Rattle.command_lines.specs.Limits.{feed_limits};
 ghost use Rattle.text_page.specs.Output.{HasPut};
 ghost use Rattle.fleet_league.specs.League.{league_start};
 ghost use Rattle.fleet_league.specs.LeagueBoards.{league_of};
-ghost use Rattle.fleet_league.specs.LeagueRuns.{HasRun, IsNew, IsScribe, PutsText, ended_text, is_source_failed};
-ghost use Rattle.fleet_league.specs.Leagued.{IsLeagueText, IsLeagued, IsReadWhole, IsUnhindered};
+ghost use Rattle.fleet_league.specs.LeagueRuns.{IsNew, IsScribe, PutsText, ended_text};
+ghost use Rattle.fleet_league.specs.Leagued.{IsLeagueText, IsLeagued};
 
 use crate::NoMemory;
 use crate::broker::scribe::Scribe;
-use crate::broker::stops::{Stop, is_no_memory, is_source_failed, is_too_long};
-use line_reader::{Limits, LineReader, NextLine};
+use line_reader::{Limits, LineReader, NextLine, Stop, ran_of};
 use line_text::MOST_LINE;
 use ride_model::{Fleet, Settings};
 use ride_ports::{Ran, Sink, Source};
@@ -68,21 +68,11 @@ pub fn league<R: Threads + Sync, S: Source, K: Sink>(
     ensures sink_never_falls { K.faults out.old ≤ K.faults out.new }
 {
     let Ok((mut reader, mut scribe)) = begun(alloc, roads, settings, first, second) else {
-        return Ran {
-            sink_failed: false,
-            no_memory: true,
-            source_failed: false,
-            too_long: false,
-        };
+        return ran_of(Some(Stop::NoMemory), false);
     };
     let stop = run_feed(rt, &mut reader, &mut scribe, feed, out);
     scribe.end(out);
-    Ran {
-        sink_failed: scribe.failed(),
-        no_memory: is_no_memory(stop),
-        source_failed: is_source_failed(stop),
-        too_long: is_too_long(stop),
-    }
+    ran_of(stop, scribe.failed())
 }
 
 // A reader of a feed and a scribe, at their start.
@@ -129,7 +119,7 @@ fn run_feed<R: Threads + Sync, S: Source, K: Sink>(
     requires nothing_pending { reader.old.pending ≡ [] }
     requires nothing_done { IsNew scribe.old }
     ensures ran { (taken : List ℕ) × (lines : List (List ℕ)) × (text : List ℕ)
-        × HasRun (S.left feed.old) (S.left feed.new) result scribe.new.output.failed taken lines
+        × HasRun feed_limits (S.left feed.old) (S.left feed.new) result scribe.new.output.failed taken lines
         × IsLeagueText (league_of scribe.old.league) lines text
         × HasPut (K.written out.old) (K.written out.new) (K.faults out.old) (K.faults out.new) scribe.new.output (ended_text result text) }
     ensures fault { IsTrue (is_source_failed result) → Rose (S.faults feed.old) (S.faults feed.new) }
@@ -157,7 +147,7 @@ fn take_lines<R: Threads + Sync, S: Source, K: Sink>(
     requires log { scribe.old.log ≡ (league_of scribe.old.league).desk.settings.log }
     requires fits { IsScribe scribe.old }
     ensures ran { (taken : List ℕ) × (lines : List (List ℕ))
-        × HasRun (S.left feed.old) (S.left feed.new) result scribe.new.output.failed taken lines
+        × HasRun feed_limits (S.left feed.old) (S.left feed.new) result scribe.new.output.failed taken lines
         × PutsText (league_of scribe.old.league) (K.written out.old) (K.faults out.old) scribe.old.output
         (K.written out.new) (K.faults out.new) scribe.new.output lines }
     ensures fault { IsTrue (is_source_failed result) → Rose (S.faults feed.old) (S.faults feed.new) }

@@ -3,8 +3,9 @@ ghost use Rattle.std.specs.Prelude.{◌≡◌, ◌^◌, ◌<◌, ◌≤◌, ℕ,
 ghost use Rattle.dual_check.specs.Cells.{GridCells};
 ghost use Rattle.dual_check.specs.Grid.{CertifiesPairing, pairing_cost};
 ghost use Rattle.fleet_league.specs.declared.quotes.Quote.{Quote};
-ghost use Rattle.fleet_league.specs.League.{IsRoundOf};
+ghost use Rattle.fleet_league.specs.League.{IsRoundOf, round_columns, round_rows};
 ghost use Rattle.fleet_league.specs.Round.{IsPriced};
+ghost use Rattle.fleet_league.specs.RoundParts.{brief_of};
 
 use crate::broker::parts::{brief_of, sheet_of};
 use crate::broker::rows::{columns_of, paid_columns, rows_of};
@@ -43,6 +44,23 @@ pub(crate) fn parts_of(
         first: brief_of(alloc, 1, &rows, &paid)?,
         second: brief_of(alloc, 2, &rows, &paid)?,
     })
+}
+
+/// The part of a company in a round that was settled over the quotes of two companies, which are numbered 1 and 2.
+pub fn part_of(
+    alloc: Global,
+    company: u64,
+    quotes: &[Quote; 2],
+    rides: &[Ride],
+    round: &Paired,
+) -> Result<Brief, NoMemory>
+    ensures { IfOk result (λ part. part
+        ≡ brief_of company (round_rows quotes.now rides.now round.now) (round_columns quotes.now round.now)) }
+{
+    let columns = columns_of(alloc, &quotes[0], &quotes[1])?;
+    let rows = rows_of(alloc, &columns, rides, round)?;
+    let paid = paid_columns(alloc, &columns, round)?;
+    brief_of(alloc, company, &rows, &paid)
 }
 
 // What a certified pairing costs: what the rows are priced at less what the columns pay.

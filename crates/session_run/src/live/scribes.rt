@@ -5,15 +5,16 @@ ghost use Rattle.ride_ports.specs.Count.{Rose};
 ghost use Rattle.turn_lock.specs.Passes.{knowledge};
 ghost use Rattle.fleet_board.specs.Passes.{AddsNone, IsPoint, all_ended, root_of, seen_state};
 ghost use Rattle.fleet_board.specs.Sharing.{MayUse};
+ghost use Rattle.text_page.specs.Output.{HasPut, IsFresh, Puts};
 ghost use Rattle.session_run.specs.Loops.{HasScribed, HasScribedSome, HasSeenAll};
-ghost use Rattle.session_run.specs.Page.{HasLogged};
 
-use crate::logging::Logger;
+use crate::logging::put_all;
 use fleet_board::{ActorPass, SharedBoard, Tail};
 use ride_model::{Entry, NoMemory};
 use ride_ports::{Failed, Sink};
 use std::alloc::{AllocError, Global};
 use std::sync::Wait;
+use text_page::Output;
 
 /// The most entries that are copied while the board's turn is held.
 const MOST: u32 = 1024;
@@ -50,7 +51,7 @@ pub fn scribe_loop<'r, R: Wait, K: Sink>(
     ensures sink_counts_none { OnOk result (K.faults out.new ≡ K.faults out.old) }
     ensures sink_never_falls { K.faults out.old ≤ K.faults out.new }
 {
-    let Ok(mut logger) = Logger::new(alloc) else {
+    let Ok(mut output) = Output::new(alloc) else {
         return Ok(Scribed {
             entries: 0,
             whole: false,
@@ -59,10 +60,10 @@ pub fn scribe_loop<'r, R: Wait, K: Sink>(
     let mut entries = 0;
     'looks: for _ in rt.forever() {
         let Ok((tail, count)) = next_tail(rt, alloc, board, pass, entries) else {
-            return written_out(&mut logger, out, entries);
+            return written_out(&mut output, out, entries);
         };
-        put_tail(&mut logger, out, tail.entries.as_slice(), log);
-        if logger.failed() {
+        put_tail(&mut output, out, tail.entries.as_slice(), log);
+        if output.failed() {
             return Err(Failed);
         }
         entries = count;
@@ -106,32 +107,31 @@ fn next_tail<'r, R: Wait>(
 }
 
 // Puts entries on the page. Where they are fewer than a look copies, the scribe has caught up, and the page is written out.
-fn put_tail<K: Sink>(logger: &mut Logger, out: &mut K, entries: &[Entry], log: u8)
+fn put_tail<K: Sink>(output: &mut Output, out: &mut K, entries: &[Entry], log: u8)
     requires log { IsOneOrTwo log }
     requires have_lines { All (HasLine log) entries.now }
-    ensures logged { (before : Option (List ℕ)) (faults : ℕ) (text : List ℕ)
-        → HasLogged before (K.written out.old) faults (K.faults out.old) logger.old text
-        → HasLogged before (K.written out.new) faults (K.faults out.new) logger.new (text ++ entry_lines log entries.now) }
-    ensures caught_up { length entries.now < 1024 → logger.new.failed ≡ false → logger.new.page ≡ [] }
+    ensures logged { Puts (K.written out.old) (K.faults out.old) output.old (K.written out.new) (K.faults out.new) output.new
+        (entry_lines log entries.now) }
+    ensures caught_up { length entries.now < 1024 → output.new.failed ≡ false → output.new.page ≡ [] }
 {
-    logger.put_all(out, entries, log);
+    put_all(output, out, entries, log);
     if entries.len() == MOST as usize {
         return;
     }
-    logger.flush(out);
+    output.end(out);
 }
 
 // Writes the page out for want of memory.
-fn written_out<K: Sink>(logger: &mut Logger, out: &mut K, entries: u64) -> Result<Scribed, Failed>
+fn written_out<K: Sink>(output: &mut Output, out: &mut K, entries: u64) -> Result<Scribed, Failed>
     ensures logged { (before : Option (List ℕ)) (faults : ℕ) (text : List ℕ)
-        → HasLogged before (K.written out.old) faults (K.faults out.old) logger.old text
-        → HasLogged before (K.written out.new) faults (K.faults out.new) logger.new text }
-    ensures nothing_left { OnOk result (logger.new ≡ record { page = []; failed = false }) }
-    ensures failed { OnErr result (logger.new.failed ≡ true) }
+        → HasPut before (K.written out.old) faults (K.faults out.old) output.old text
+        → HasPut before (K.written out.new) faults (K.faults out.new) output.new text }
+    ensures nothing_left { OnOk result (IsFresh output.new) }
+    ensures failed { OnErr result (output.new.failed ≡ true) }
     ensures scribed { IfOk result (λ scribed. scribed ≡ record { entries = entries; whole = false }) }
 {
-    logger.flush(out);
-    if logger.failed() {
+    output.end(out);
+    if output.failed() {
         return Err(Failed);
     }
     Ok(Scribed {

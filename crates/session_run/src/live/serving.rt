@@ -8,9 +8,9 @@ ghost use Rattle.ride_model.specs.Text.{HasLine, IsOneOrTwo, entry_lines, text_o
 ghost use Rattle.ride_model.specs.Vehicle.{IsLawful};
 ghost use Rattle.ride_ports.specs.Count.{Rose, most_count};
 ghost use Rattle.command_lines.specs.Limits.{IsTooLong};
+ghost use Rattle.text_page.specs.Output.{HasPut, IsFresh};
 ghost use Rattle.session_run.specs.declared.live.scribes.Scribed.{Scribed};
 ghost use Rattle.session_run.specs.Actors.{bare};
-ghost use Rattle.session_run.specs.Page.{HasLogged};
 ghost use Rattle.session_run.specs.Serving.{HasNotServed, HasServed, IsFeedOf, IsServed, IsWrittenOut, feed_run};
 ghost use Rattle.session_run.specs.Stages.{IsReady, root_at};
 
@@ -18,13 +18,14 @@ use super::actors::run_actors;
 use super::outcomes::ran_of;
 use super::scribes::Scribed;
 use super::stages::{Stage, begun, closed};
-use crate::logging::Logger;
+use crate::logging::{put_all, put_head};
 use ride_model::{Entry, Fleet, Settings};
 use ride_ports::{Failed, Gate, Ran, Sink, Source};
 use road_times::Roads;
 use std::alloc::Global;
 use std::sync::Wait;
 use std::thread::Threads;
+use text_page::Output;
 
 /// Serves the feeds of riders and of drivers over a fleet, by one or two desks with so many workers each, and writes the trip
 /// log while the session runs. Riders are feed 1, drivers feed 2.
@@ -121,10 +122,10 @@ fn run<'r, R: Threads + Wait + Sync, S: Source, K: Sink, G: Gate>(
     let Stage {
         board,
         mut actors,
-        mut logger,
+        mut output,
     } = stage;
-    logger.put_head(out, log, 2, desks);
-    let head_failed = logger.failed();
+    put_head(&mut output, out, log, 2, desks);
+    let head_failed = output.failed();
     let answers = run_actors(
         rt,
         alloc,
@@ -139,13 +140,13 @@ fn run<'r, R: Threads + Wait + Sync, S: Source, K: Sink, G: Gate>(
         head_failed,
     );
     let board = closed(board, actors);
-    put_rest(&mut logger, out, board.entries(), &answers.scribed, log);
-    ran_of(&answers, logger.failed())
+    put_rest(&mut output, out, board.entries(), &answers.scribed, log);
+    ran_of(&answers, output.failed())
 }
 
 // Writes what a scribe has not written, unless the sink failed.
 fn put_rest<K: Sink>(
-    logger: &mut Logger,
+    output: &mut Output,
     out: &mut K,
     entries: &[Entry],
     scribed: &Result<Scribed, Failed>,
@@ -154,18 +155,18 @@ fn put_rest<K: Sink>(
     requires log { IsOneOrTwo log }
     requires have_lines { All (HasLine log) entries.now }
     requires within { IfOk scribed.now (λ (s : Scribed). s.entries ≤ length entries.now) }
-    requires sound { IfOk scribed.now (λ (s : Scribed). logger.old ≡ bare false) }
+    requires sound { IfOk scribed.now (λ (s : Scribed). IsFresh output.old) }
     ensures logged { (before : Option (List ℕ)) (faults count : ℕ) (text : List ℕ)
         → IfOk scribed.now (λ (s : Scribed). s.entries ≡ count)
-        → HasLogged before (K.written out.old) faults (K.faults out.old) (bare (is_err scribed.now)) text
-        → HasLogged before (K.written out.new) faults (K.faults out.new) logger.new (text ++ entry_lines log (drop count entries.now)) }
-    ensures nothing_left { logger.new.failed ≡ false → logger.new.page ≡ [] }
+        → HasPut before (K.written out.old) faults (K.faults out.old) (bare (is_err scribed.now)) text
+        → HasPut before (K.written out.new) faults (K.faults out.new) output.new (text ++ entry_lines log (drop count entries.now)) }
+    ensures nothing_left { output.new.failed ≡ false → output.new.page ≡ [] }
 {
     match scribed {
         Ok(scribed) => {
-            logger.put_all(out, &entries[scribed.entries as usize..], log);
-            logger.flush(out);
+            put_all(output, out, &entries[scribed.entries as usize..], log);
+            output.end(out);
         }
-        Err(_) => logger.fail(),
+        Err(_) => output.note(Err(Failed)),
     }
 }

@@ -9,20 +9,20 @@ ghost use Rattle.session_run.specs.Stages.{HasScratches, IsClosed, IsReady, MayC
 
 use super::actors::Actors;
 use super::desk_pairs::Desk;
-use crate::logging::Logger;
 use board_core::Board;
 use fleet_board::{ActorPass, PassSet, SharedBoard};
 use pricing_workers::scratches_of;
 use ride_model::{Fleet, NoMemory, Settings};
 use road_times::Roads;
 use std::alloc::Global;
+use text_page::Output;
 
-/// A board, its actors, and the log that is written of it.
+/// A board, its actors, and its log on the way out.
 #[derive(Drop)]
 pub(super) struct Stage<'r> {
     pub(super) board: SharedBoard<'r>,
     pub(super) actors: Actors<'r>,
-    pub(super) logger: Logger,
+    pub(super) output: Output,
 }
 
 /// Takes all memory that a session needs before its actors run.
@@ -43,14 +43,14 @@ pub(super) fn begun<'r>(
     ensures ready { IfOk result (IsReady roads.now) }
     ensures root { IfOk result (λ stage. root_at stage ≡ session_root (start_state roads.now settings fleet) desks) }
 {
-    let logger = Logger::new(alloc)?;
+    let output = Output::new(alloc)?;
     let board = Board::new(alloc, roads, settings, fleet, 2, desks)?;
     let (board, passes) = SharedBoard::start(alloc, board)?;
     let actors = actors_of(alloc, roads, passes, workers)?;
     Ok(Stage {
         board,
         actors,
-        logger,
+        output,
     })
 }
 

@@ -1,61 +1,69 @@
-use Rattle.std.proofs.Common.{◌≡◌, true, false, [], refl, sym, ◌∙◌}
+use Rattle.std.proofs.Common.{[], sym, ap, subst, ◌∙◌}
 use Rattle.ride_ports.specs.declared.outcome.Ran.{Ran}
 use Rattle.ride_ports.proofs.ByteLemmas.{Reads-none}
+use Rattle.line_reader.specs.FeedRuns.{IsReadWhole, IsUnhindered, ran_of}
+use Rattle.line_reader.proofs.FeedLines.{are-taken, run-still, short-enough}
+use Rattle.command_lines.specs.Limits.{feed_limits}
 use Rattle.text_page.proofs.OutputLemmas.{rose-where-failed, same-where-sound}
+use Rattle.booking_desk.specs.Booked.{IsBooked}
 use Rattle.booking_desk.specs.FeedDesk.{run_text}
-use Rattle.booking_desk.proofs.FeedRuns.{booked-none, is-booked, none-left, short-enough}
+use Rattle.booking_desk.proofs.FeedRuns.{booked-none, is-booked}
 use Rattle.booking_desk.proofs.feeds.book_feed.Goals as goal
 
 pub returns-in_default-clause-text : goal.returns-in_default-clause-text
 returns-in_default-clause-text g c = (
   [],
   Reads-none (g.S.Source.left c.args.feed.now),
-  booked-none (g.S.Source.left c.args.feed.now) (g.K.Sink.written c.args.out.now) _ refl refl refl,
+  subst (λ (r : Ran). IsBooked r (g.S.Source.left c.args.feed.now) [] (g.K.Sink.written c.args.out.now) (g.K.Sink.written c.args.out.now))
+      (sym c.ran_of.ensures) (booked-none (g.S.Source.left c.args.feed.now) (g.K.Sink.written c.args.out.now)),
 )
 
 pub returns-clause-text : goal.returns-clause-text
 returns-clause-text g c =
     let (taken, lines, run, put) = c.run_feed-stop.ensures.ran in
-    let ran : Ran = record {
-      sink_failed = c.failed.result;
-      no_memory = c.is_no_memory.result;
-      source_failed = c.is_source_failed.result;
-      too_long = c.is_too_long.result;
-    } in (
+    let still = run-still feed_limits _ _ c.run_feed-stop.result _ c.end.new.self.output.failed taken lines c.end.ensures.still_failed run in (
       taken,
       run.reads,
-      is-booked (g.S.Source.left c.args.feed.now) (g.S.Source.left c.run_feed-stop.new.feed) (g.K.Sink.written c.args.out.now) (g.K.Sink.written c.end.new.out)
-          (g.K.Sink.faults c.args.out.now) (g.K.Sink.faults c.end.new.out) taken lines run.first c.run_feed-stop.new.desk c.end.new.self ran
-          c.end.ensures.nothing_left c.end.ensures.still_failed c.failed.ensures c.run_feed-stop.result run.ended
-          (c.end.ensures.put (g.K.Sink.written c.args.out.now) (g.K.Sink.faults c.args.out.now) (run_text c.run_feed-stop.result lines) put)
-          c.is_no_memory.ensures c.is_source_failed.ensures c.is_too_long.ensures,
+      subst (λ (r : Ran). IsBooked r (g.S.Source.left c.args.feed.now) taken (g.K.Sink.written c.args.out.now) (g.K.Sink.written c.end.new.out))
+          (sym (c.ran_of-2.ensures ∙ ap (ran_of c.run_feed-stop.result) c.failed.ensures))
+          (is-booked (g.S.Source.left c.args.feed.now) _ (g.K.Sink.written c.args.out.now) (g.K.Sink.written c.end.new.out) (g.K.Sink.faults c.args.out.now)
+          (g.K.Sink.faults c.end.new.out) taken lines c.run_feed-stop.result c.end.new.self.output c.end.ensures.nothing_left still
+          (c.end.ensures.put (g.K.Sink.written c.args.out.now) (g.K.Sink.faults c.args.out.now) (run_text c.run_feed-stop.result lines) put)),
     )
 
 pub returns-clause-to_end : goal.returns-clause-to_end
 returns-clause-to_end g c written read =
     let (taken, lines, run, put) = c.run_feed-stop.ensures.ran in
-    none-left (g.S.Source.left c.args.feed.now) (g.S.Source.left c.run_feed-stop.new.feed) c.run_feed-stop.result c.run_feed-stop.new.desk taken lines run
-    (λ failed. absurd (let no : true ≡ false = sym (c.failed.ensures ∙ c.end.ensures.still_failed failed) ∙ written.0 in cc))
-    (sym c.is_no_memory.ensures ∙ written.1) (sym c.is_source_failed.ensures ∙ read.0) (sym c.is_too_long.ensures ∙ read.1)
+    let still = run-still feed_limits _ _ c.run_feed-stop.result _ c.failed.result taken lines
+    (λ fell. c.failed.ensures ∙ c.end.ensures.still_failed fell) run in
+    (are-taken feed_limits c.run_feed-stop.result _ taken c.failed.result lines still.ended).none_left
+    (subst (λ (r : Ran). IsUnhindered r) c.ran_of-2.ensures written) (subst (λ (r : Ran). IsReadWhole r) c.ran_of-2.ensures read)
 
 pub returns-clause-short_enough : goal.returns-clause-short_enough
 returns-clause-short_enough g c =
     let (taken, reads, booked) = returns-clause-text g c in
-    short-enough (g.S.Source.left c.args.feed.now) _ _ _ taken _ reads booked
+    short-enough feed_limits (g.S.Source.left c.args.feed.now) _ taken _ reads booked.too_long
+
+pub returns-clause-source_fault : goal.returns-clause-source_fault
+returns-clause-source_fault g c fell = c.run_feed-stop.ensures.fault (sym (ap (λ (r : Ran). r.source_failed) c.ran_of-2.ensures) ∙ fell)
+
+pub returns-clause-source_counts_none : goal.returns-clause-source_counts_none
+returns-clause-source_counts_none g c stood =
+    c.run_feed-stop.ensures.other_counts_none (sym (ap (λ (r : Ran). r.source_failed) c.ran_of-2.ensures) ∙ stood)
 
 pub returns-clause-sink_fault : goal.returns-clause-sink_fault
 returns-clause-sink_fault g c fell =
     let (taken, lines, run, put) = c.run_feed-stop.ensures.ran in
     rose-where-failed _ _ _ _ c.end.new.self.output _
     (c.end.ensures.put (g.K.Sink.written c.args.out.now) (g.K.Sink.faults c.args.out.now) (run_text c.run_feed-stop.result lines) put)
-    (sym c.failed.ensures ∙ fell)
+    (sym (ap (λ (r : Ran). r.sink_failed) c.ran_of-2.ensures ∙ c.failed.ensures) ∙ fell)
 
 pub returns-clause-sink_counts_none : goal.returns-clause-sink_counts_none
 returns-clause-sink_counts_none g c stood =
     let (taken, lines, run, put) = c.run_feed-stop.ensures.ran in
     same-where-sound _ _ _ _ c.end.new.self.output _
     (c.end.ensures.put (g.K.Sink.written c.args.out.now) (g.K.Sink.faults c.args.out.now) (run_text c.run_feed-stop.result lines) put)
-    (sym c.failed.ensures ∙ stood)
+    (sym (ap (λ (r : Ran). r.sink_failed) c.ran_of-2.ensures ∙ c.failed.ensures) ∙ stood)
 
 pub returns-clause-sink_never_falls : goal.returns-clause-sink_never_falls
 returns-clause-sink_never_falls g c =

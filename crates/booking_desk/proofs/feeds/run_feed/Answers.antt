@@ -2,17 +2,15 @@ use Rattle.std.proofs.Common.{◌++◌, length, subst}
 use Rattle.text_page.specs.Output.{HasPut}
 use Rattle.booking_desk.specs.BookText.{held_line, text_of_lines}
 use Rattle.booking_desk.specs.Desk.{DeskState}
-use Rattle.booking_desk.proofs.FeedRuns.{held-after, run-held}
 use Rattle.booking_desk.proofs.feeds.run_feed.Goals as goal
 
 pub returns-in-None-clause-ran : goal.returns-in-None-clause-ran
 returns-in-None-clause-ran g c =
-    let (taken, lines, run, put) = c.in-None.ensures.ran in (
+    let (taken, lines, run, put, desk_is) = c.in-None.ensures.ran in (
       taken,
       lines,
-      run-held _ _ c.take_lines.new.desk c.put_held.new.self taken lines run c.put_held.ensures.desk,
+      record { reads = run.reads; first = run.first; ended = run.ended },
       subst (λ (d : DeskState). HasPut (g.K.Sink.written c.args.out.now) (g.K.Sink.written c.put_held.new.out) (g.K.Sink.faults c.args.out.now)
-          (g.K.Sink.faults c.put_held.new.out) c.put_held.new.self.output (text_of_lines lines ++ held_line (length d.held)))
-          (held-after _ _ c.take_lines.new.desk taken lines run)
+          (g.K.Sink.faults c.put_held.new.out) c.put_held.new.self.output (text_of_lines lines ++ held_line (length d.held))) desk_is
           (c.put_held.ensures.put (g.K.Sink.written c.args.out.now) (g.K.Sink.faults c.args.out.now) (text_of_lines lines) put),
     )

@@ -1,17 +1,12 @@
-use Rattle.std.proofs.Common.{◌≡◌, ◌++◌, ◌∷◌, [], List, ℕ, Option, refl, sym, ap, subst, ◌∙◌, append-nil}
-use Rattle.line_text.specs.Lines.{ended_lines, last_line}
-use Rattle.line_reader.specs.declared.answers.NextLine.{NextLine}
+use Rattle.std.proofs.Common.{◌++◌, ◌∷◌, [], Ok, Err, refl, sym, ap, subst, ◌∙◌}
+use Rattle.line_text.specs.Lines.{ended_lines}
 use Rattle.line_reader.specs.declared.answers.NextLine.TheVariants.{Line, Unfinished, End}
-use Rattle.line_reader.specs.declared.limits.Limits.{Limits}
-use Rattle.line_reader.specs.Reader.{IsAtEnd, IsNext, IsStopped}
-use Rattle.ride_ports.specs.Bytes.{Reads}
-use Rattle.ride_ports.proofs.ByteLemmas.{Reads-none}
+use Rattle.line_reader.proofs.FeedLines.{between-none, follows, run-sink_failed}
 use Rattle.command_lines.specs.Limits.{feed_limits}
-use Rattle.booking_desk.specs.declared.stops.Stop.TheVariants.{NoMemory, SinkFailed}
 use Rattle.booking_desk.specs.Desk.{DeskState}
-use Rattle.booking_desk.specs.FeedDesk.{AreSpelled, HasBooked}
+use Rattle.booking_desk.specs.FeedDesk.{AreSpelled}
 use Rattle.booking_desk.proofs.BookedLines.{booked-nothing}
-use Rattle.booking_desk.proofs.FeedRuns.{booked-written, few-last, few-next, last-is, line-shown, over-shown, reads-line, reads-on, run-cut, run-stopped, run-whole}
+use Rattle.booking_desk.proofs.FeedRuns.{booked-written}
 use Rattle.booking_desk.proofs.feeds.take_lines.Goals as goal
 
 pub lines-init : goal.lines-init
@@ -21,195 +16,124 @@ lines-init g c = record {
   count = refl;
   so_far = (
     [],
-    c.requires.nothing_given,
-    subst (λ (l : List ℕ). Reads (g.S.Source.left c.args.feed.now) (g.S.Source.left c.args.feed.now) l) (sym c.requires.nothing_pending)
-        (Reads-none (g.S.Source.left c.args.feed.now)),
+    between-none (g.S.Source.left c.args.feed.now) c.args.reader.now c.requires.nothing_given c.requires.nothing_pending,
     booked-nothing (g.K.Sink.written c.args.out.now) (g.K.Sink.faults c.args.out.now) c.args.desk.now c.requires.nothing_done,
   );
 }
 
 pub take_line-requires-clause-few : goal.take_line-requires-clause-few
 take_line-requires-clause-few g c κs longer =
-    let (bytes, given, reads, booked) = c.lines.invariant.so_far in
-    let feed : Option (List ℕ) = g.S.Source.left c.args.feed.now in
-    let left : Option (List ℕ) = g.S.Source.left c.next.new.source in
-    let (more, reads_more, step) = c.in-Ok-Line.ensures.next in
-    let came : List ℕ = c.lines.reader.pending ++ more in
-    let all : Reads feed left (bytes ++ came) = reads-on feed (g.S.Source.left c.lines.feed) left bytes c.lines.reader.pending more reads reads_more in
-    let next : IsNext left c.next.new.self bytes came Line
-    = subst (λ (n : NextLine). IsNext left c.next.new.self bytes came n) c.in-Ok-Line.field-0-is (step bytes given) in
-    let limits : c.next.new.self.limits ≡ feed_limits = c.next.ensures.limits ∙ c.lines.invariant.limits in
-    rw booked.counted (few-next c.next.new.self bytes came next.0 limits next.1)
+    let (bytes, between, booked) = c.lines.invariant.so_far in
+    let (came, follow) =
+    follows feed_limits (g.S.Source.left c.args.feed.now) (g.S.Source.left c.lines.feed) (g.S.Source.left c.next.new.source) c.lines.reader c.next.new.self
+    bytes (Ok c.in-Ok-Line.field-0) (Ok Line) (ap Ok c.in-Ok-Line.field-0-is) c.lines.invariant.limits c.next.ensures.limits between c.in-Ok-Line.ensures.next in
+    let (line, come, on, lines_are) = follow in
+    rw booked.counted come.few
 
 pub returns-in-Err-take_line-clause-ran : goal.returns-in-Err-take_line-clause-ran
 returns-in-Err-take_line-clause-ran g c =
-    let (bytes, given, reads, booked) = c.lines.invariant.so_far in
-    let feed : Option (List ℕ) = g.S.Source.left c.args.feed.now in
-    let left : Option (List ℕ) = g.S.Source.left c.next.new.source in
-    let (more, reads_more, step) = c.in-Ok-Line.ensures.next in
-    let came : List ℕ = c.lines.reader.pending ++ more in
-    let all : Reads feed left (bytes ++ came) = reads-on feed (g.S.Source.left c.lines.feed) left bytes c.lines.reader.pending more reads reads_more in
-    let next : IsNext left c.next.new.self bytes came Line
-    = subst (λ (n : NextLine). IsNext left c.next.new.self bytes came n) c.in-Ok-Line.field-0-is (step bytes given) in
-    let limits : c.next.new.self.limits ≡ feed_limits = c.next.ensures.limits ∙ c.lines.invariant.limits in (
+    let (bytes, between, booked) = c.lines.invariant.so_far in
+    let (came, follow) =
+    follows feed_limits (g.S.Source.left c.args.feed.now) (g.S.Source.left c.lines.feed) (g.S.Source.left c.next.new.source) c.lines.reader c.next.new.self
+    bytes (Ok c.in-Ok-Line.field-0) (Ok Line) (ap Ok c.in-Ok-Line.field-0-is) c.lines.invariant.limits c.next.ensures.limits between c.in-Ok-Line.ensures.next in
+    let (line, come, on, lines_are) = follow in (
       bytes ++ came,
       ended_lines bytes,
-      run-cut feed left NoMemory c.take_line.new.self bytes came given.whole all tt,
-      c.in-Err-take_line.ensures.booked (g.K.Sink.written c.args.out.now) (g.K.Sink.faults c.args.out.now) (ended_lines bytes) next.0 booked
-          (line-shown c.next.new.self _ next.0 c.line.result.now limits next.1.shown c.line.ensures)
-          (over-shown c.next.new.self _ next.0 c.over.result limits next.1.shown c.over.ensures),
+      come.wanting c.take_line.new.self.output.failed,
+      c.in-Err-take_line.ensures.booked (g.K.Sink.written c.args.out.now) (g.K.Sink.faults c.args.out.now) (ended_lines bytes) line booked
+          (c.line.ensures ∙ come.shown) (c.over.ensures ∙ come.over),
+      tt,
     )
 
 pub take_line-requires-in-Ok-Unfinished-clause-few : goal.take_line-requires-in-Ok-Unfinished-clause-few
 take_line-requires-in-Ok-Unfinished-clause-few g c κs longer =
-    let (bytes, given, reads, booked) = c.lines.invariant.so_far in
-    let feed : Option (List ℕ) = g.S.Source.left c.args.feed.now in
-    let left : Option (List ℕ) = g.S.Source.left c.next.new.source in
-    let (more, reads_more, step) = c.in-Ok-Unfinished.ensures.next in
-    let came : List ℕ = c.lines.reader.pending ++ more in
-    let all : Reads feed left (bytes ++ came) = reads-on feed (g.S.Source.left c.lines.feed) left bytes c.lines.reader.pending more reads reads_more in
-    let next : IsNext left c.next.new.self bytes came Unfinished
-    = subst (λ (n : NextLine). IsNext left c.next.new.self bytes came n) c.in-Ok-Unfinished.field-0-is (step bytes given) in
-    let limits : c.next.new.self.limits ≡ feed_limits = c.next.ensures.limits ∙ c.lines.invariant.limits in
-    let (at_end, some, shown) = next in
-    let end : IsAtEnd left feed_limits bytes came = subst (λ (l : Limits). IsAtEnd left l bytes came) limits at_end in
-    rw booked.counted (few-last left bytes came end some)
+    let (bytes, between, booked) = c.lines.invariant.so_far in
+    let (came, follow) =
+    follows feed_limits (g.S.Source.left c.args.feed.now) (g.S.Source.left c.lines.feed) (g.S.Source.left c.next.new.source) c.lines.reader c.next.new.self
+    bytes (Ok c.in-Ok-Unfinished.field-0) (Ok Unfinished) (ap Ok c.in-Ok-Unfinished.field-0-is) c.lines.invariant.limits c.next.ensures.limits between
+    c.in-Ok-Unfinished.ensures.next in
+    let (come, run) = follow in
+    rw booked.counted come.few
 
 pub returns-in-Ok-take_line-clause-ran : goal.returns-in-Ok-take_line-clause-ran
 returns-in-Ok-take_line-clause-ran g c =
-    let (bytes, given, reads, booked) = c.lines.invariant.so_far in
-    let feed : Option (List ℕ) = g.S.Source.left c.args.feed.now in
-    let left : Option (List ℕ) = g.S.Source.left c.next.new.source in
-    let (more, reads_more, step) = c.in-Ok-Unfinished.ensures.next in
-    let came : List ℕ = c.lines.reader.pending ++ more in
-    let all : Reads feed left (bytes ++ came) = reads-on feed (g.S.Source.left c.lines.feed) left bytes c.lines.reader.pending more reads reads_more in
-    let next : IsNext left c.next.new.self bytes came Unfinished
-    = subst (λ (n : NextLine). IsNext left c.next.new.self bytes came n) c.in-Ok-Unfinished.field-0-is (step bytes given) in
-    let limits : c.next.new.self.limits ≡ feed_limits = c.next.ensures.limits ∙ c.lines.invariant.limits in
-    let (at_end, some, shown) = next in
-    let end : IsAtEnd left feed_limits bytes came = subst (λ (l : Limits). IsAtEnd left l bytes came) limits at_end in
-    let booked_more = c.in-Ok-take_line.ensures.booked (g.K.Sink.written c.args.out.now) (g.K.Sink.faults c.args.out.now) (ended_lines bytes) came booked
-    (line-shown c.next.new.self _ came c.line-in-Ok-Unfinished.result.now limits shown c.line-in-Ok-Unfinished.ensures)
-    (over-shown c.next.new.self _ came c.over-in-Ok-Unfinished.result limits shown c.over-in-Ok-Unfinished.ensures) in (
-      bytes ++ came,
-      ended_lines bytes ++ came ∷ [],
-      run-whole feed left c.take_line-in-Ok-Unfinished.new.self bytes came (ended_lines bytes ++ came ∷ []) all end
-          (ap (λ ls. ended_lines bytes ++ ls) (sym (last-is came some))) booked_more.desk_is,
-      booked_more.put,
-    )
+    let (bytes, between, booked) = c.lines.invariant.so_far in
+    let (came, follow) =
+    follows feed_limits (g.S.Source.left c.args.feed.now) (g.S.Source.left c.lines.feed) (g.S.Source.left c.next.new.source) c.lines.reader c.next.new.self
+    bytes (Ok c.in-Ok-Unfinished.field-0) (Ok Unfinished) (ap Ok c.in-Ok-Unfinished.field-0-is) c.lines.invariant.limits c.next.ensures.limits between
+    c.in-Ok-Unfinished.ensures.next in
+    let (come, run) = follow in
+    let more = c.in-Ok-take_line.ensures.booked (g.K.Sink.written c.args.out.now) (g.K.Sink.faults c.args.out.now) (ended_lines bytes) came booked
+    (c.line-in-Ok-Unfinished.ensures ∙ come.shown) (c.over-in-Ok-Unfinished.ensures ∙ come.over) in
+    (bytes ++ came, ended_lines bytes ++ came ∷ [], run c.take_line-in-Ok-Unfinished.new.self.output.failed, more.put, more.desk_is)
 
 pub returns-in-Err-take_line-2-clause-ran : goal.returns-in-Err-take_line-2-clause-ran
 returns-in-Err-take_line-2-clause-ran g c =
-    let (bytes, given, reads, booked) = c.lines.invariant.so_far in
-    let feed : Option (List ℕ) = g.S.Source.left c.args.feed.now in
-    let left : Option (List ℕ) = g.S.Source.left c.next.new.source in
-    let (more, reads_more, step) = c.in-Ok-Unfinished.ensures.next in
-    let came : List ℕ = c.lines.reader.pending ++ more in
-    let all : Reads feed left (bytes ++ came) = reads-on feed (g.S.Source.left c.lines.feed) left bytes c.lines.reader.pending more reads reads_more in
-    let next : IsNext left c.next.new.self bytes came Unfinished
-    = subst (λ (n : NextLine). IsNext left c.next.new.self bytes came n) c.in-Ok-Unfinished.field-0-is (step bytes given) in
-    let limits : c.next.new.self.limits ≡ feed_limits = c.next.ensures.limits ∙ c.lines.invariant.limits in
-    let (at_end, some, shown) = next in
-    let end : IsAtEnd left feed_limits bytes came = subst (λ (l : Limits). IsAtEnd left l bytes came) limits at_end in (
+    let (bytes, between, booked) = c.lines.invariant.so_far in
+    let (came, follow) =
+    follows feed_limits (g.S.Source.left c.args.feed.now) (g.S.Source.left c.lines.feed) (g.S.Source.left c.next.new.source) c.lines.reader c.next.new.self
+    bytes (Ok c.in-Ok-Unfinished.field-0) (Ok Unfinished) (ap Ok c.in-Ok-Unfinished.field-0-is) c.lines.invariant.limits c.next.ensures.limits between
+    c.in-Ok-Unfinished.ensures.next in
+    let (come, run) = follow in (
       bytes ++ came,
       ended_lines bytes,
-      run-cut feed left NoMemory c.take_line-in-Ok-Unfinished.new.self bytes came given.whole all tt,
+      come.wanting c.take_line-in-Ok-Unfinished.new.self.output.failed,
       c.in-Err-take_line-2.ensures.booked (g.K.Sink.written c.args.out.now) (g.K.Sink.faults c.args.out.now) (ended_lines bytes) came booked
-          (line-shown c.next.new.self _ came c.line-in-Ok-Unfinished.result.now limits shown c.line-in-Ok-Unfinished.ensures)
-          (over-shown c.next.new.self _ came c.over-in-Ok-Unfinished.result limits shown c.over-in-Ok-Unfinished.ensures),
+          (c.line-in-Ok-Unfinished.ensures ∙ come.shown) (c.over-in-Ok-Unfinished.ensures ∙ come.over),
+      tt,
     )
 
 pub returns-in-Ok-End-clause-ran : goal.returns-in-Ok-End-clause-ran
 returns-in-Ok-End-clause-ran g c =
-    let (bytes, given, reads, booked) = c.lines.invariant.so_far in
-    let feed : Option (List ℕ) = g.S.Source.left c.args.feed.now in
-    let left : Option (List ℕ) = g.S.Source.left c.next.new.source in
-    let (more, reads_more, step) = c.in-Ok-End.ensures.next in
-    let came : List ℕ = c.lines.reader.pending ++ more in
-    let all : Reads feed left (bytes ++ came) = reads-on feed (g.S.Source.left c.lines.feed) left bytes c.lines.reader.pending more reads reads_more in
-    let next : IsNext left c.next.new.self bytes came End
-    = subst (λ (n : NextLine). IsNext left c.next.new.self bytes came n) c.in-Ok-End.field-0-is (step bytes given) in
-    let limits : c.next.new.self.limits ≡ feed_limits = c.next.ensures.limits ∙ c.lines.invariant.limits in
-    let (at_end, none) = next in
-    let end : IsAtEnd left feed_limits bytes came = subst (λ (l : Limits). IsAtEnd left l bytes came) limits at_end in (
-      bytes ++ came,
-      ended_lines bytes,
-      run-whole feed left c.lines.desk bytes came (ended_lines bytes) all end
-          (sym (append-nil (ended_lines bytes)) ∙ ap (λ l. ended_lines bytes ++ last_line l) (sym none)) booked.desk_is,
-      booked.put,
-    )
+    let (bytes, between, booked) = c.lines.invariant.so_far in
+    let (came, run) =
+    follows feed_limits (g.S.Source.left c.args.feed.now) (g.S.Source.left c.lines.feed) (g.S.Source.left c.next.new.source) c.lines.reader c.next.new.self
+    bytes (Ok c.in-Ok-End.field-0) (Ok End) (ap Ok c.in-Ok-End.field-0-is) c.lines.invariant.limits c.next.ensures.limits between c.in-Ok-End.ensures.next in
+    (bytes ++ came, ended_lines bytes, run c.lines.desk.output.failed, booked.put, booked.desk_is)
 
 pub returns-in-Err-clause-ran : goal.returns-in-Err-clause-ran
 returns-in-Err-clause-ran g c =
-    let (bytes, given, reads, booked) = c.lines.invariant.so_far in
-    let feed : Option (List ℕ) = g.S.Source.left c.args.feed.now in
-    let left : Option (List ℕ) = g.S.Source.left c.next.new.source in
-    let (more, reads_more, step) = c.in-Err.ensures.next in
-    let came : List ℕ = c.lines.reader.pending ++ more in
-    let all : Reads feed left (bytes ++ came) = reads-on feed (g.S.Source.left c.lines.feed) left bytes c.lines.reader.pending more reads reads_more in
-    let stopped : IsStopped feed_limits bytes came c.in-Err.stop
-    = subst (λ (l : Limits). IsStopped l bytes came c.in-Err.stop) c.lines.invariant.limits (step bytes given) in
-    (bytes ++ came, ended_lines bytes, run-stopped feed left c.in-Err.stop c.lines.desk bytes came given.whole all stopped, booked.put)
+    let (bytes, between, booked) = c.lines.invariant.so_far in
+    let (came, run) =
+    follows feed_limits (g.S.Source.left c.args.feed.now) (g.S.Source.left c.lines.feed) (g.S.Source.left c.next.new.source) c.lines.reader c.next.new.self
+    bytes (Err c.in-Err.stop) (Err c.in-Err.stop) refl c.lines.invariant.limits c.next.ensures.limits between c.in-Err.ensures.next in
+    (bytes ++ came, ended_lines bytes, run c.lines.desk.output.failed, booked.put, tt)
 
 pub returns-then-failed-clause-ran : goal.returns-then-failed-clause-ran
 returns-then-failed-clause-ran g c =
-    let (bytes, given, reads, booked) = c.lines.invariant.so_far in
-    let feed : Option (List ℕ) = g.S.Source.left c.args.feed.now in
-    let left : Option (List ℕ) = g.S.Source.left c.next.new.source in
-    let (more, reads_more, step) = c.in-Ok-Line.ensures.next in
-    let came : List ℕ = c.lines.reader.pending ++ more in
-    let all : Reads feed left (bytes ++ came) = reads-on feed (g.S.Source.left c.lines.feed) left bytes c.lines.reader.pending more reads reads_more in
-    let next : IsNext left c.next.new.self bytes came Line
-    = subst (λ (n : NextLine). IsNext left c.next.new.self bytes came n) c.in-Ok-Line.field-0-is (step bytes given) in
-    let limits : c.next.new.self.limits ≡ feed_limits = c.next.ensures.limits ∙ c.lines.invariant.limits in
-    let more_booked = c.in-Ok.ensures.booked (g.K.Sink.written c.args.out.now) (g.K.Sink.faults c.args.out.now) (ended_lines bytes) next.0 booked
-    (line-shown c.next.new.self _ next.0 c.line.result.now limits next.1.shown c.line.ensures)
-    (over-shown c.next.new.self _ next.0 c.over.result limits next.1.shown c.over.ensures) in
-    let after : HasBooked (g.K.Sink.written c.args.out.now) (g.K.Sink.written c.take_line.new.out) (g.K.Sink.faults c.args.out.now)
-    (g.K.Sink.faults c.take_line.new.out) c.take_line.new.self (ended_lines (bytes ++ next.0 ++ 10 ∷ []))
-    = subst (λ (ls : List (List ℕ)). HasBooked (g.K.Sink.written c.args.out.now) (g.K.Sink.written c.take_line.new.out) (g.K.Sink.faults c.args.out.now)
-    (g.K.Sink.faults c.take_line.new.out) c.take_line.new.self ls) (sym next.1.lines_are) more_booked in
-    let written : HasBooked (g.K.Sink.written c.args.out.now) (g.K.Sink.written c.write_before_wait.new.out) (g.K.Sink.faults c.args.out.now)
-    (g.K.Sink.faults c.write_before_wait.new.out) c.write_before_wait.new.desk (ended_lines (bytes ++ next.0 ++ 10 ∷ []))
-    = booked-written c.take_line.new.self c.write_before_wait.new.desk (ended_lines (bytes ++ next.0 ++ 10 ∷ [])) c.write_before_wait.ensures.desk
-    c.write_before_wait.ensures.lines (c.write_before_wait.ensures.put _ _ _ after.put) after in (
-      (bytes ++ next.0 ++ 10 ∷ []) ++ c.next.new.self.pending,
-      ended_lines (bytes ++ next.0 ++ 10 ∷ []),
-      run-cut feed left SinkFailed c.write_before_wait.new.desk (bytes ++ next.0 ++ 10 ∷ []) c.next.new.self.pending next.1.given.whole
-          (reads-line feed left c.next.new.self bytes came next.0 all next.1) (sym c.if-failed.ensures),
+    let (bytes, between, booked) = c.lines.invariant.so_far in
+    let (came, follow) =
+    follows feed_limits (g.S.Source.left c.args.feed.now) (g.S.Source.left c.lines.feed) (g.S.Source.left c.next.new.source) c.lines.reader c.next.new.self
+    bytes (Ok c.in-Ok-Line.field-0) (Ok Line) (ap Ok c.in-Ok-Line.field-0-is) c.lines.invariant.limits c.next.ensures.limits between c.in-Ok-Line.ensures.next in
+    let (line, come, on, lines_are) = follow in
+    let more = c.in-Ok.ensures.booked (g.K.Sink.written c.args.out.now) (g.K.Sink.faults c.args.out.now) (ended_lines bytes) line booked
+    (c.line.ensures ∙ come.shown) (c.over.ensures ∙ come.over) in
+    let written = booked-written _ _ _ _ _ _ c.take_line.new.self c.write_before_wait.new.desk _ _ lines_are c.write_before_wait.ensures.desk
+    c.write_before_wait.ensures.lines c.write_before_wait.ensures.put more in (
+      (bytes ++ line ++ 10 ∷ []) ++ c.next.new.self.pending,
+      ended_lines (bytes ++ line ++ 10 ∷ []),
+      run-sink_failed feed_limits _ _ c.next.new.self c.write_before_wait.new.desk.output.failed (bytes ++ line ++ 10 ∷ []) on (sym c.if-failed.ensures),
       written.put,
+      tt,
     )
 
 pub lines-preserved : goal.lines-preserved
 lines-preserved g c =
-    let (bytes, given, reads, booked) = c.lines.invariant.so_far in
-    let feed : Option (List ℕ) = g.S.Source.left c.args.feed.now in
-    let left : Option (List ℕ) = g.S.Source.left c.next.new.source in
-    let (more, reads_more, step) = c.in-Ok-Line.ensures.next in
-    let came : List ℕ = c.lines.reader.pending ++ more in
-    let all : Reads feed left (bytes ++ came) = reads-on feed (g.S.Source.left c.lines.feed) left bytes c.lines.reader.pending more reads reads_more in
-    let next : IsNext left c.next.new.self bytes came Line
-    = subst (λ (n : NextLine). IsNext left c.next.new.self bytes came n) c.in-Ok-Line.field-0-is (step bytes given) in
-    let limits : c.next.new.self.limits ≡ feed_limits = c.next.ensures.limits ∙ c.lines.invariant.limits in
-    let more_booked = c.in-Ok.ensures.booked (g.K.Sink.written c.args.out.now) (g.K.Sink.faults c.args.out.now) (ended_lines bytes) next.0 booked
-    (line-shown c.next.new.self _ next.0 c.line.result.now limits next.1.shown c.line.ensures)
-    (over-shown c.next.new.self _ next.0 c.over.result limits next.1.shown c.over.ensures) in
-    let after : HasBooked (g.K.Sink.written c.args.out.now) (g.K.Sink.written c.take_line.new.out) (g.K.Sink.faults c.args.out.now)
-    (g.K.Sink.faults c.take_line.new.out) c.take_line.new.self (ended_lines (bytes ++ next.0 ++ 10 ∷ []))
-    = subst (λ (ls : List (List ℕ)). HasBooked (g.K.Sink.written c.args.out.now) (g.K.Sink.written c.take_line.new.out) (g.K.Sink.faults c.args.out.now)
-    (g.K.Sink.faults c.take_line.new.out) c.take_line.new.self ls) (sym next.1.lines_are) more_booked in
-    let written : HasBooked (g.K.Sink.written c.args.out.now) (g.K.Sink.written c.write_before_wait.new.out) (g.K.Sink.faults c.args.out.now)
-    (g.K.Sink.faults c.write_before_wait.new.out) c.write_before_wait.new.desk (ended_lines (bytes ++ next.0 ++ 10 ∷ []))
-    = booked-written c.take_line.new.self c.write_before_wait.new.desk (ended_lines (bytes ++ next.0 ++ 10 ∷ [])) c.write_before_wait.ensures.desk
-    c.write_before_wait.ensures.lines (c.write_before_wait.ensures.put _ _ _ after.put) after in
+    let (bytes, between, booked) = c.lines.invariant.so_far in
+    let (came, follow) =
+    follows feed_limits (g.S.Source.left c.args.feed.now) (g.S.Source.left c.lines.feed) (g.S.Source.left c.next.new.source) c.lines.reader c.next.new.self
+    bytes (Ok c.in-Ok-Line.field-0) (Ok Line) (ap Ok c.in-Ok-Line.field-0-is) c.lines.invariant.limits c.next.ensures.limits between c.in-Ok-Line.ensures.next in
+    let (line, come, on, lines_are) = follow in
+    let more = c.in-Ok.ensures.booked (g.K.Sink.written c.args.out.now) (g.K.Sink.faults c.args.out.now) (ended_lines bytes) line booked
+    (c.line.ensures ∙ come.shown) (c.over.ensures ∙ come.over) in
     record {
-      limits = limits;
+      limits = c.next.ensures.limits ∙ c.lines.invariant.limits;
       spelled = subst (λ (d : DeskState). AreSpelled d.held) (sym c.write_before_wait.ensures.desk) c.in-Ok.ensures.spelled;
       count = c.in-Ok-Line.ensures.other_counts_none (λ is. (cc is)) ∙ c.lines.invariant.count;
       so_far = (
-        bytes ++ next.0 ++ 10 ∷ [],
-        next.1.given,
-        reads-line feed left c.next.new.self bytes came next.0 all next.1,
-        written,
+        bytes ++ line ++ 10 ∷ [],
+        on,
+        booked-written _ _ _ _ _ _ c.take_line.new.self c.write_before_wait.new.desk _ _ lines_are c.write_before_wait.ensures.desk
+            c.write_before_wait.ensures.lines c.write_before_wait.ensures.put more,
       );
     }

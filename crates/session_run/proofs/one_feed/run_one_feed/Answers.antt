@@ -8,14 +8,14 @@ use Rattle.ride_model.specs.State.{State, start_state}
 use Rattle.ride_ports.specs.declared.outcome.Ran.{Ran}
 use Rattle.history_laws.specs.Start.{IsStart}
 use Rattle.board_core.specs.Recorded.{Recorded, state_of, end_entry}
+use Rattle.text_page.proofs.OutputLemmas.{rose-where-failed, same-where-sound}
 use Rattle.session_run.specs.declared.stops.Stop.{Stop}
 use Rattle.command_lines.specs.Feeds.{HasGiven}
-use Rattle.session_run.specs.Page.{SessionState}
+use Rattle.session_run.specs.SessionState.{SessionState}
 use Rattle.session_run.specs.Reading.{AreFirstOf, HasEnded, ending_of}
 use Rattle.ride_ports.proofs.ByteLemmas.{Reads-none}
 use Rattle.session_run.proofs.Replays.{is-start, is-replay, no-replay}
 use Rattle.session_run.proofs.WrittenSessions.{feed-ends, logged-some, none-written, written-by}
-use Rattle.session_run.proofs.Begun.{rose-where-failed, same-where-sound}
 use Rattle.session_run.proofs.NothingLeft.{nothing-left}
 use Rattle.session_run.proofs.one_feed.run_one_feed.Goals as goal
 
@@ -91,14 +91,14 @@ returns-clause-sink_fault g c fell =
     let some = logged-some c.end.new.self.reach c.ending_of.result _ _ _ _ c.end.new.self
     (c.end.ensures.told (g.K.Sink.written c.args.out.now) (g.K.Sink.faults c.args.out.now)
     (c.run_feed-stop.ensures.told (g.K.Sink.written c.args.out.now) (g.K.Sink.faults c.args.out.now) c.begin.ensures.told)) in
-    rose-where-failed _ _ _ _ c.end.new.self.log some.text some.has c.sink_failed.result c.sink_failed.ensures fell
+    rose-where-failed _ _ _ _ c.end.new.self.log some.text some.has (sym c.sink_failed.ensures ∙ fell)
 
 pub returns-clause-sink_counts_none : goal.returns-clause-sink_counts_none
 returns-clause-sink_counts_none g c stood =
     let some = logged-some c.end.new.self.reach c.ending_of.result _ _ _ _ c.end.new.self
     (c.end.ensures.told (g.K.Sink.written c.args.out.now) (g.K.Sink.faults c.args.out.now)
     (c.run_feed-stop.ensures.told (g.K.Sink.written c.args.out.now) (g.K.Sink.faults c.args.out.now) c.begin.ensures.told)) in
-    same-where-sound _ _ _ _ c.end.new.self.log some.text some.has c.sink_failed.result c.sink_failed.ensures stood
+    same-where-sound _ _ _ _ c.end.new.self.log some.text some.has (sym c.sink_failed.ensures ∙ stood)
 
 pub returns-clause-sink_never_falls : goal.returns-clause-sink_never_falls
 returns-clause-sink_never_falls g c =

@@ -1,11 +1,12 @@
 use Rattle.std.proofs.Common.{◌≡◌, ◌++◌, [], refl, sym, ap, subst, ◌∙◌}
+use Rattle.line_reader.proofs.FeedLines.{run-still}
+use Rattle.command_lines.specs.Limits.{feed_limits}
 use Rattle.text_page.proofs.OutputLemmas.{put-nothing}
 use Rattle.fleet_league.specs.declared.broker.scribe.Scribe.{Scribe}
 use Rattle.fleet_league.specs.League.{LeagueState}
 use Rattle.fleet_league.specs.LeagueBoards.{league_of}
 use Rattle.fleet_league.specs.LeagueTexts.{head_line}
 use Rattle.fleet_league.specs.Leagued.{IsLeagueText}
-use Rattle.fleet_league.proofs.FeedLines.{run-still}
 use Rattle.fleet_league.proofs.TextRuns.{scribe-same}
 use Rattle.fleet_league.proofs.broker.session.run_feed.Goals as goal
 
@@ -31,7 +32,7 @@ returns-clause-ran g c =
       taken,
       lines,
       head_line ++ told.body,
-      run-still _ _ c.take_lines-stop.result _ _ taken lines c.put_end.ensures.still_failed run,
+      run-still feed_limits _ _ c.take_lines-stop.result _ _ taken lines c.put_end.ensures.still_failed run,
       subst (λ (s : LeagueState). IsLeagueText s lines (head_line ++ told.body)) same
           (record { end = told.end; body = told.body; tells = told.tells; text_is = refl }),
       c.put_end.ensures.put (g.K.Sink.written c.args.out.now) (g.K.Sink.faults c.args.out.now) (head_line ++ told.body)

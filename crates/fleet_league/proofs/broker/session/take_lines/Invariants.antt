@@ -1,7 +1,6 @@
-use Rattle.std.proofs.Common.{◌≡◌, ◌++◌, ℕ, List}
-use Rattle.ride_ports.specs.Bytes.{Reads}
+use Rattle.std.proofs.Common.{◌≡◌, ℕ, List}
 use Rattle.line_text.specs.Lines.{ended_lines}
-use Rattle.line_reader.specs.Reader.{HasGiven}
+use Rattle.line_reader.specs.FeedRuns.{IsBetween}
 use Rattle.command_lines.specs.Limits.{feed_limits}
 use Rattle.fleet_league.specs.LeagueBoards.{league_of}
 use Rattle.fleet_league.specs.LeagueRuns.{HasTold, IsScribe}
@@ -13,7 +12,7 @@ invariant-lines g l = record {
   limits : l.reader.limits ≡ feed_limits;
   fits : IsScribe l.scribe;
   count : g.S.Source.faults l.feed ≡ g.S.Source.faults l.initial.feed;
-  so_far : (bytes : List ℕ) × HasGiven l.reader bytes × Reads (g.S.Source.left l.initial.feed) (g.S.Source.left l.feed) (bytes ++ l.reader.pending)
+  so_far : (bytes : List ℕ) × IsBetween (g.S.Source.left l.initial.feed) (g.S.Source.left l.feed) l.reader bytes
       × HasTold (league_of l.initial.scribe.league) (g.K.Sink.written l.initial.out) (g.K.Sink.faults l.initial.out) l.initial.scribe.output
       (g.K.Sink.written l.out) (g.K.Sink.faults l.out) l.scribe (ended_lines bytes);
 }

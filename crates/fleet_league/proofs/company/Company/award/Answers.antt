@@ -1,13 +1,14 @@
-use Rattle.std.proofs.Common.{◌≡◌, ◌+◌, ◌<◌, ◌≤◌, length, sym, ap, subst, ◌∙◌}
+use Rattle.std.proofs.Common.{◌≡◌, ◌+◌, ◌<◌, ◌≤◌, length, sym, ap, subst, ◌∙◌, arith}
 use Rattle.std.specs.Prelude.{All, IsTrue}
 use Rattle.ride_model.specs.declared.vehicle.Ride.{Ride}
 use Rattle.board_core.specs.Recorded.{Recorded, state_of}
 use Rattle.fleet_league.specs.declared.briefs.Settled.TheVariants.{Confirmed}
 use Rattle.fleet_league.specs.Companies.{CompanyState}
+use Rattle.fleet_league.specs.LeagueBoards.{MayWin}
 use Rattle.fleet_league.specs.Prices.{IsNewRide}
 use Rattle.fleet_league.specs.Awards.{won_rides, AreOfOneState, settled_at}
 use Rattle.fleet_league.proofs.Legality.{IsLegalBoard}
-use Rattle.fleet_league.proofs.MayAward.{MayAward, may-confirm}
+use Rattle.fleet_league.proofs.MayAward.{MayAward, may-win}
 use Rattle.fleet_league.proofs.QuotedState.{as-many-plans, stands-confirmed}
 use Rattle.fleet_league.proofs.company.Company.award.Goals as goal
 use Rattle.fleet_league.proofs.company.Company.award.Goals.{in-Confirmed, in_default}
@@ -20,15 +21,20 @@ settled_at-settled-requires g c =
     (subst (λ (s : CompanyState). AreOfOneState s.board c.args.quote.now c.args.brief.now) (sym c.self.view_is) c.requires.of_one_state)
     ∙ ap (λ vs. length vs) (sym c.vehicles.ensures)
 
-pub confirm-requires-clause-may : goal.confirm-requires-clause-may
-confirm-requires-clause-may g c κs within =
+pub price_won-requires-clause-few : goal.price_won-requires-clause-few
+price_won-requires-clause-few g c κs within =
+    let board : Recorded = c.self.inside.board in
+    let begins = c.entries-history.ensures.start in
+    let batch : board.start.settings.batch ≤ 128 = begins.settings_fit.batch_limit in
+    let few = subst (λ (s : CompanyState). length c.args.brief.now.wins ≤ s.board.start.settings.batch) (sym c.self.view_is) c.requires.few in
+    omega (arith, few, batch, ap (λ ws. length ws) c.items-2.ensures)
+
+pub award_priced-requires-clause-may : goal.award_priced-requires-clause-may
+award_priced-requires-clause-may g c =
     let board : Recorded = c.self.inside.board in
     let brief = c.args.brief.now in
     let back = sym c.self.view_is in
     let may : MayAward board c.args.quote.now brief = record {
-      one_feed = c.self.invariant.one_feed;
-      one_desk = c.self.invariant.one_desk;
-      idle = c.self.invariant.idle (subst (λ (s : CompanyState). IsTrue s.is_open) back c.requires.is_open);
       legal = record { begins = c.entries-history.ensures.start; legal = c.entries-history.ensures.legal };
       of_one_state = subst (λ (s : CompanyState). AreOfOneState s.board c.args.quote.now brief) back c.requires.of_one_state;
       rides = subst (λ (s : CompanyState). All (IsNewRide (state_of s.board)) (won_rides brief.wins)) back c.requires.rides;
@@ -46,4 +52,9 @@ confirm-requires-clause-may g c κs within =
     ] in
     let at : settled_at (state_of board).clock (state_of board).vehicles c.args.quote.now ≡ Confirmed
     = (λ i. settled_at (sym c.now.ensures i) (sym c.vehicles.ensures i) c.args.quote.now) ∙ sym c.settled_at-settled.ensures ∙ settled in
-    may-confirm board c.args.quote.now brief may (stands-confirmed (state_of board).clock (state_of board).vehicles c.args.quote.now at)
+    let inside : CompanyState = record { board = board; is_open = c.self.inside.open } in (
+      won_rides brief.wins,
+      subst (λ (s : CompanyState). MayWin s (won_rides brief.wins) brief) c.self.view_is
+          (may-win inside c.args.quote.now brief (subst (λ (s : CompanyState). IsTrue s.is_open) back c.requires.is_open) may
+          (stands-confirmed (state_of board).clock (state_of board).vehicles c.args.quote.now at)),
+    )

@@ -7,13 +7,13 @@ use Rattle.pricing_workers.proofs.wanted.Wanted.of.Goals as goal
 
 pub add-requires-clause-lawful : goal.add-requires-clause-lawful
 add-requires-clause-lawful c =
-    let same = c.vehicles-vehicle-items.ensures.items ∙ c.vehicles.ensures in
+    let same = c.vehicles-vehicles.ensures.items ∙ c.vehicles.ensures in
     subst IsLawfulSomewhere (sym c.vehicle-item.is)
-    (All-get_or IsLawfulSomewhere c.vehicles-vehicle-items.result.now c.loop-vehicle.vehicle-index c.vehicle-item.result
+    (All-get_or IsLawfulSomewhere c.vehicles-vehicles.result.now c.loop-vehicle.vehicle-index c.vehicle-item.result
     c.loop-vehicle-test.true (subst (All IsLawfulSomewhere) (sym same) c.requires.lawful))
 
 pub loop-vehicle-preserved : goal.loop-vehicle-preserved
 loop-vehicle-preserved c =
-    wanted-step c.settings-settings.result.now c.time-time.result c.vehicles-vehicle-items.result.now c.loop-vehicle.vehicle-index
+    wanted-step c.settings-settings.result.now c.time-time.result c.vehicles-vehicles.result.now c.loop-vehicle.vehicle-index
     c.vehicle-item.result c.loop-vehicle.wanted _ c.loop-vehicle-test.true c.vehicle-item.is c.loop-vehicle.invariant
     c.in_ok-add.ensures.nodes c.in_ok-add.ensures.plans

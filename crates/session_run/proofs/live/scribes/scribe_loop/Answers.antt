@@ -4,7 +4,8 @@ use Rattle.std.proofs.lemmas.Bool.{eqb-true}
 use Rattle.ride_model.specs.declared.entry.Entry.{Entry}
 use Rattle.ride_model.specs.Text.{entry_lines}
 use Rattle.turn_lock.specs.Passes.{knowledge}
-use Rattle.session_run.proofs.Scribing.{adds_none-then, counts-fault, counts-none, cut-short, has-scribed, has-scribed-some, looks-of, never_whole, next-lines, next-within, none-next, scribing-on, scribing-still, scribing-told}
+use Rattle.text_page.proofs.OutputLemmas.{rose-where-failed, same-where-sound}
+use Rattle.session_run.proofs.Scribing.{adds_none-then, cut-short, has-scribed, has-scribed-some, looks-of, never_whole, next-lines, next-within, none-next, scribing-on, scribing-still, scribing-told}
 use Rattle.session_run.proofs.live.scribes.scribe_loop.Goals as goal
 
 pub put_tail-requires-clause-have_lines : goal.put_tail-requires-clause-have_lines
@@ -24,7 +25,7 @@ looks-preserved g c =
       point = c.next_tail.ensures.point;
       scribing = scribing-on c.args.log (knowledge c.args.pass.now) (knowledge c.looks.pass) (knowledge c.next_tail.new.pass)
           (g.K.Sink.written c.args.out.now) (g.K.Sink.written c.looks.out) (g.K.Sink.written c.put_tail.new.out) (g.K.Sink.faults c.args.out.now)
-          (g.K.Sink.faults c.looks.out) (g.K.Sink.faults c.put_tail.new.out) c.looks.logger c.put_tail.new.logger c.looks.entries
+          (g.K.Sink.faults c.looks.out) (g.K.Sink.faults c.put_tail.new.out) c.looks.output c.put_tail.new.output c.looks.entries
           c.in-Ok-next_tail.count c.as_slice.result.now c.looks.invariant.scribing found c.put_tail.ensures.logged
           (sym c.failed.ensures ∙ c.if-failed.false);
     }
@@ -35,7 +36,7 @@ returns-then-failed g c =
     c.in-Ok-next_tail.count c.next_tail.ensures.none c.as_slice.ensures.value c.in-Ok-next_tail.ensures.entries c.in-Ok-next_tail.ensures.count in
     let told = scribing-told c.args.log (knowledge c.args.pass.now) (knowledge c.looks.pass) (knowledge c.next_tail.new.pass)
     (g.K.Sink.written c.args.out.now) (g.K.Sink.written c.looks.out) (g.K.Sink.written c.put_tail.new.out) (g.K.Sink.faults c.args.out.now)
-    (g.K.Sink.faults c.looks.out) (g.K.Sink.faults c.put_tail.new.out) c.looks.logger c.put_tail.new.logger c.looks.entries c.in-Ok-next_tail.count
+    (g.K.Sink.faults c.looks.out) (g.K.Sink.faults c.put_tail.new.out) c.looks.output c.put_tail.new.output c.looks.entries c.in-Ok-next_tail.count
     c.as_slice.result.now c.looks.invariant.scribing found c.put_tail.ensures.logged in
     let fell = sym c.failed.ensures ∙ c.if-failed.true in
     record {
@@ -46,7 +47,7 @@ returns-then-failed g c =
       written = tt;
       whole = tt;
       prefix = has-scribed-some _ _ _ _ _ _ _ _ fell told;
-      sink_fault = counts-fault _ _ _ _ _ _ fell told;
+      sink_fault = rose-where-failed _ _ _ _ _ _ told fell;
       sink_counts_none = tt;
       sink_never_falls = told.never_falls;
     }
@@ -57,7 +58,7 @@ returns-then-tail g c =
     c.in-Ok-next_tail.count c.next_tail.ensures.none c.as_slice.ensures.value c.in-Ok-next_tail.ensures.entries c.in-Ok-next_tail.ensures.count in
     let told = scribing-told c.args.log (knowledge c.args.pass.now) (knowledge c.looks.pass) (knowledge c.next_tail.new.pass)
     (g.K.Sink.written c.args.out.now) (g.K.Sink.written c.looks.out) (g.K.Sink.written c.put_tail.new.out) (g.K.Sink.faults c.args.out.now)
-    (g.K.Sink.faults c.looks.out) (g.K.Sink.faults c.put_tail.new.out) c.looks.logger c.put_tail.new.logger c.looks.entries c.in-Ok-next_tail.count
+    (g.K.Sink.faults c.looks.out) (g.K.Sink.faults c.put_tail.new.out) c.looks.output c.put_tail.new.output c.looks.entries c.in-Ok-next_tail.count
     c.as_slice.result.now c.looks.invariant.scribing found c.put_tail.ensures.logged in
     let stands = sym c.failed.ensures ∙ c.if-failed.false in
     let no_item : length c.as_slice.result.now ≡ 0 = omega (arith, eqb-true (vec_len c.in-Ok-next_tail.tail.entries) 0 (sym c.is_empty.ensures ∙ c.if-is_empty.true), c.as_slice.ensures.len) in
@@ -76,7 +77,7 @@ returns-then-tail g c =
       );
       prefix = tt;
       sink_fault = tt;
-      sink_counts_none = counts-none _ _ _ _ _ _ stands told;
+      sink_counts_none = same-where-sound _ _ _ _ _ _ told stands;
       sink_never_falls = told.never_falls;
     }
 
@@ -84,12 +85,12 @@ pub returns-in_default-next_tail : goal.returns-in_default-next_tail
 returns-in_default-next_tail g c =
     let seen : List Entry = (knowledge c.next_tail.new.pass).seen in
     let s = scribing-still c.args.log (knowledge c.args.pass.now) (knowledge c.looks.pass) (knowledge c.next_tail.new.pass)
-    (g.K.Sink.written c.args.out.now) (g.K.Sink.written c.looks.out) (g.K.Sink.faults c.args.out.now) (g.K.Sink.faults c.looks.out) c.looks.logger
+    (g.K.Sink.written c.args.out.now) (g.K.Sink.written c.looks.out) (g.K.Sink.faults c.args.out.now) (g.K.Sink.faults c.looks.out) c.looks.output
     c.looks.entries c.looks.invariant.scribing c.next_tail.ensures.none in
     let has = c.written_out.ensures.logged (g.K.Sink.written c.args.out.now) (g.K.Sink.faults c.args.out.now)
     (entry_lines c.args.log (take c.looks.entries seen)) s.logged in
     let cut = cut-short c.args.log (g.K.Sink.written c.args.out.now) (g.K.Sink.written c.written_out.new.out) (g.K.Sink.faults c.args.out.now)
-    (g.K.Sink.faults c.written_out.new.out) c.written_out.new.logger c.looks.entries seen c.written_out.result s.within has
+    (g.K.Sink.faults c.written_out.new.out) c.written_out.new.output c.looks.entries seen c.written_out.result s.within has
     c.written_out.ensures.nothing_left c.written_out.ensures.failed c.written_out.ensures.scribed in
     record {
       pass = c.next_tail.ensures.pass;

@@ -10,5 +10,5 @@ invariant-looks g l = record {
   pass : MayUse l.board l.pass;
   point : IsPoint (knowledge l.pass);
   scribing : IsScribing l.log (knowledge l.initial.pass) (knowledge l.pass) (g.K.Sink.written l.initial.out) (g.K.Sink.written l.out)
-      (g.K.Sink.faults l.initial.out) (g.K.Sink.faults l.out) l.logger l.entries;
+      (g.K.Sink.faults l.initial.out) (g.K.Sink.faults l.out) l.output l.entries;
 }

@@ -3,31 +3,31 @@ use Rattle.std.specs.Prelude.{IfOk, is_err}
 use Rattle.ride_model.specs.declared.entry.Entry.{Entry}
 use Rattle.ride_model.specs.Text.{entry_lines, head_line, text_of}
 use Rattle.ride_ports.specs.declared.outcome.Ran.{Ran}
+use Rattle.text_page.specs.Output.{HasPut}
+use Rattle.text_page.proofs.OutputLemmas.{put-same, rose-where-failed, same-where-sound}
 use Rattle.session_run.specs.declared.live.scribes.Scribed.{Scribed}
 use Rattle.session_run.specs.Actors.{bare}
-use Rattle.session_run.specs.Page.{HasLogged, LogState}
 use Rattle.session_run.specs.Serving.{IsServed, feed_run}
 use Rattle.session_run.specs.Stages.{ran_of, root_at}
-use Rattle.session_run.proofs.Scribing.{counts-fault, counts-none}
 use Rattle.session_run.proofs.Served.{is-served, logged-all, sink-is, source-failed, sources-sound}
 use Rattle.session_run.proofs.live.serving.run.Given as given
 use Rattle.session_run.proofs.live.serving.run.Goals as goal
 
 -- the whole text was logged
-logged : (g : given.Over) (c : goal.After-drop-logger-inside g)
-    → HasLogged (g.K.Sink.written c.args.out.now) (g.K.Sink.written c.put_rest.new.out) (g.K.Sink.faults c.args.out.now)
-    (g.K.Sink.faults c.put_rest.new.out) c.put_rest.new.logger (text_of c.args.log 2 c.args.desks c.closed-board.result.history)
+logged : (g : given.Over) (c : goal.After-drop-output-inside g)
+    → HasPut (g.K.Sink.written c.args.out.now) (g.K.Sink.written c.put_rest.new.out) (g.K.Sink.faults c.args.out.now)
+    (g.K.Sink.faults c.put_rest.new.out) c.put_rest.new.output (text_of c.args.log 2 c.args.desks c.closed-board.result.history)
 logged g c =
     let history : List Entry = c.closed-board.result.history in
     let entries : c.entries.result.now ≡ history = c.entries.ensures.items in
-    let head = subst (λ (l : LogState). HasLogged (g.K.Sink.written c.args.out.now) (g.K.Sink.written c.put_head.new.out) (g.K.Sink.faults c.args.out.now)
-    (g.K.Sink.faults c.put_head.new.out) l (head_line c.args.log 2 c.args.desks))
-    (λ i. record { page = c.put_head.ensures.bare i; failed = sym c.failed-head_failed.ensures i }) c.put_head.ensures.logged in
+    let head = put-same (g.K.Sink.written c.args.out.now) (g.K.Sink.written c.put_head.new.out) (g.K.Sink.faults c.args.out.now)
+    (g.K.Sink.faults c.put_head.new.out) c.put_head.new.output (bare c.failed-head_failed.result) (head_line c.args.log 2 c.args.desks)
+    (sym c.put_head.ensures.bare) c.failed-head_failed.ensures c.put_head.ensures.logged in
     let rest = subst (λ (es : List Entry). (earlier : Option (List ℕ)) (at count : ℕ) (text : List ℕ)
     → IfOk c.run_actors-answers.result.scribed (λ (s : Scribed). s.entries ≡ count)
-    → HasLogged earlier (g.K.Sink.written c.run_actors-answers.new.out) at (g.K.Sink.faults c.run_actors-answers.new.out)
+    → HasPut earlier (g.K.Sink.written c.run_actors-answers.new.out) at (g.K.Sink.faults c.run_actors-answers.new.out)
     (bare (is_err c.run_actors-answers.result.scribed)) text
-    → HasLogged earlier (g.K.Sink.written c.put_rest.new.out) at (g.K.Sink.faults c.put_rest.new.out) c.put_rest.new.logger
+    → HasPut earlier (g.K.Sink.written c.put_rest.new.out) at (g.K.Sink.faults c.put_rest.new.out) c.put_rest.new.output
     (text ++ entry_lines c.args.log (drop count es))) entries c.put_rest.ensures.logged in
     logged-all c.args.roads.now c.args.log c.args.desks c.args.stage
     (feed_run (g.S.Source.left c.args.riders.now) (g.S.Source.left c.run_actors-answers.new.riders) (g.S.Source.faults c.args.riders.now)
@@ -38,18 +38,18 @@ logged g c =
     (g.K.Sink.written c.run_actors-answers.new.out) (g.K.Sink.written c.put_rest.new.out) (g.K.Sink.faults c.args.out.now)
     (g.K.Sink.faults c.put_head.new.out) (g.K.Sink.faults c.run_actors-answers.new.out) (g.K.Sink.faults c.put_rest.new.out)
     c.run_actors-answers.result c.run_actors-answers.new.actors c.requires.ready c.run_actors-answers.ensures c.closed-board.result
-    c.closed-board.ensures c.put_rest.new.logger c.requires.desks head rest
+    c.closed-board.ensures c.put_rest.new.output c.requires.desks head rest
 
 -- the session's answer
-answer : (g : given.Over) (c : goal.After-drop-logger-inside g)
-    → c.ran_of.result ≡ ran_of c.run_actors-answers.result c.put_rest.new.logger.failed
+answer : (g : given.Over) (c : goal.After-drop-output-inside g)
+    → c.ran_of.result ≡ ran_of c.run_actors-answers.result c.put_rest.new.output.failed
 answer g c = c.ran_of.ensures ∙ ap (λ b. ran_of c.run_actors-answers.result b) c.failed.ensures
 
-sink : (g : given.Over) (c : goal.After-drop-logger-inside g) → c.ran_of.result.sink_failed ≡ c.put_rest.new.logger.failed
+sink : (g : given.Over) (c : goal.After-drop-output-inside g) → c.ran_of.result.sink_failed ≡ c.put_rest.new.output.failed
 sink g c =
     let left = c.run_actors-answers.ensures in
     ap (λ (r : Ran). r.sink_failed) (answer g c)
-    ∙ sink-is c.run_actors-answers.result c.put_rest.new.logger.failed left.feed_1.sink left.feed_2.sink left.desk_1.only.sink
+    ∙ sink-is c.run_actors-answers.result c.put_rest.new.output.failed left.feed_1.sink left.feed_2.sink left.desk_1.only.sink
 
 pub returns-clause-served : goal.returns-clause-served
 returns-clause-served g c =
@@ -63,7 +63,7 @@ returns-clause-served g c =
     (g.K.Sink.written c.put_head.new.out) (g.K.Sink.written c.run_actors-answers.new.out) (g.K.Sink.written c.put_rest.new.out)
     (g.K.Sink.faults c.args.out.now) (g.K.Sink.faults c.put_head.new.out) (g.K.Sink.faults c.run_actors-answers.new.out)
     (g.K.Sink.faults c.put_rest.new.out) c.run_actors-answers.result c.run_actors-answers.new.actors c.requires.ready
-    c.run_actors-answers.ensures c.closed-board.result c.closed-board.ensures c.put_rest.new.logger c.requires.feeds c.requires.desks
+    c.run_actors-answers.ensures c.closed-board.result c.closed-board.ensures c.put_rest.new.output c.requires.feeds c.requires.desks
     c.requires.log c.put_rest.ensures.nothing_left (logged g c))
 
 pub returns-clause-source_fault : goal.returns-clause-source_fault
@@ -86,10 +86,10 @@ returns-clause-drivers_count_none g c sound =
     (sources-sound c.run_actors-answers.result c.failed.result (sym (ap (λ (r : Ran). r.source_failed) c.ran_of.ensures) ∙ sound)).1
 
 pub returns-clause-sink_fault : goal.returns-clause-sink_fault
-returns-clause-sink_fault g c failed = counts-fault _ _ _ _ c.put_rest.new.logger _ (sym (sink g c) ∙ failed) (logged g c)
+returns-clause-sink_fault g c failed = rose-where-failed _ _ _ _ c.put_rest.new.output _ (logged g c) (sym (sink g c) ∙ failed)
 
 pub returns-clause-sink_counts_none : goal.returns-clause-sink_counts_none
-returns-clause-sink_counts_none g c sound = counts-none _ _ _ _ c.put_rest.new.logger _ (sym (sink g c) ∙ sound) (logged g c)
+returns-clause-sink_counts_none g c sound = same-where-sound _ _ _ _ c.put_rest.new.output _ (logged g c) (sym (sink g c) ∙ sound)
 
 pub returns-clause-sink_never_falls : goal.returns-clause-sink_never_falls
 returns-clause-sink_never_falls g c = (logged g c).never_falls

@@ -36,5 +36,5 @@ returns-clause-ready c =
           (one_if_some passes.desk_2) (one_if_some actors.desk_2) (ap one_if_some are.feed_1) (ap one_if_some are.feed_2)
           (ap one_if_some are.desk_1.0) (second-count (λ (desk : Desk). desk.pass) passes.desk_2 actors.desk_2
           (λ (desk : Desk). HasScratches c.args.roads.now desk.scratches.items) are.desk_2));
-      logger = c.in_ok-logger.ensures;
+      output = c.in_ok-output.ensures;
     }

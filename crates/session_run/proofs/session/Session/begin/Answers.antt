@@ -1,7 +1,8 @@
 use Rattle.std.proofs.Common.{◌≡◌, ℕ, [], List, Option, refl, ap, sym, subst, ◌∙◌, append-nil}
 use Rattle.ride_model.specs.Text.{head_line, text_of}
 use Rattle.idle_moves.specs.AheadText.{head_line as head_of_sheets}
-use Rattle.session_run.specs.Page.{SessionState, HasLogged}
+use Rattle.text_page.specs.Output.{HasPut}
+use Rattle.session_run.specs.SessionState.{SessionState}
 use Rattle.session_run.specs.Reading.{HasToldBy}
 use Rattle.session_run.proofs.LogLemmas.{text_of-none}
 use Rattle.session_run.proofs.session.Session.begin.Goals as goal
@@ -12,14 +13,14 @@ returns-in-None-clause-told g c =
     let bare : c.self.inside.board.history ≡ [] = ap (λ (s : SessionState). s.board.history) c.self.view_is ∙ c.requires.bare in
     let new : SessionState = record {
       board = c.self.inside.board;
-      log = c.put_head.new.self;
+      log = c.put_head.new.output;
       reach = c.self.inside.reach;
       no_memory = c.self.inside.no_memory;
     } in
     subst (λ (o : Option ℕ). HasToldBy o (g.K.Sink.written c.args.out.now) (g.K.Sink.written c.put_head.new.out) (g.K.Sink.faults c.args.out.now)
     (g.K.Sink.faults c.put_head.new.out) new) (sym c.in-None.is)
-    (subst (λ (t : List ℕ). HasLogged (g.K.Sink.written c.args.out.now) (g.K.Sink.written c.put_head.new.out) (g.K.Sink.faults c.args.out.now)
-    (g.K.Sink.faults c.put_head.new.out) c.put_head.new.self t)
+    (subst (λ (t : List ℕ). HasPut (g.K.Sink.written c.args.out.now) (g.K.Sink.written c.put_head.new.out) (g.K.Sink.faults c.args.out.now)
+    (g.K.Sink.faults c.put_head.new.out) c.put_head.new.output t)
     (ap (λ n. head_line n 1 1) c.self.invariant.1 ∙ sym (ap (text_of log 1 1) bare ∙ text_of-none log))
     c.put_head.ensures.logged)
 
@@ -29,7 +30,7 @@ returns-in-Some-clause-told g c =
     let bare : c.self.inside.board.history ≡ [] = ap (λ (s : SessionState). s.board.history) c.self.view_is ∙ c.requires.bare in
     let new : SessionState = record {
       board = c.self.inside.board;
-      log = c.put_reach.new.self;
+      log = c.put_reach.new.output;
       reach = c.self.inside.reach;
       no_memory = c.self.inside.no_memory;
     } in
@@ -42,6 +43,6 @@ returns-in-Some-clause-told g c =
       prompt = record { direct = refl; none_given_up = refl };
       sheets_are = tt;
       all = λ _. sym bare;
-      logged = subst (λ (t : List ℕ). HasLogged (g.K.Sink.written c.args.out.now) (g.K.Sink.written c.put_reach.new.out) (g.K.Sink.faults c.args.out.now)
-          (g.K.Sink.faults c.put_reach.new.out) c.put_reach.new.self t) (sym (append-nil (head_of_sheets reach))) c.put_reach.ensures;
+      logged = subst (λ (t : List ℕ). HasPut (g.K.Sink.written c.args.out.now) (g.K.Sink.written c.put_reach.new.out) (g.K.Sink.faults c.args.out.now)
+          (g.K.Sink.faults c.put_reach.new.out) c.put_reach.new.output t) (sym (append-nil (head_of_sheets reach))) c.put_reach.ensures;
     })

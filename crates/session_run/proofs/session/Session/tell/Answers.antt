@@ -2,7 +2,8 @@ use Rattle.std.proofs.Common.{◌≡◌, ℕ, Option, Some, cond, [], ◌++◌, 
 use Rattle.std.specs.Prelude.{◌||◌, not}
 use Rattle.board_core.specs.Recorded.{Recorded}
 use Rattle.idle_moves.specs.AheadText.{sheet_lines}
-use Rattle.session_run.specs.Page.{HasLogged, SessionState}
+use Rattle.text_page.specs.Output.{HasPut}
+use Rattle.session_run.specs.SessionState.{SessionState}
 use Rattle.session_run.specs.Planning.{is_whole, sheets_in}
 use Rattle.session_run.specs.Reading.{HasToldBy}
 use Rattle.session_run.specs.Telling.{GoesOnWith}
@@ -26,10 +27,10 @@ returns-in-Some-clause-told g c earlier faults board goes has =
     subst (λ (o : Option ℕ). HasToldBy o earlier (g.K.Sink.written c.tell_sheet.new.out) faults (g.K.Sink.faults c.tell_sheet.new.out) new) (sym still)
     (told-more reach c.args.answered.now earlier (g.K.Sink.written c.args.out.now) (g.K.Sink.written c.tell_sheet.new.out) faults
     (g.K.Sink.faults c.args.out.now) (g.K.Sink.faults c.tell_sheet.new.out) old new wanting
-    (λ text before. subst (λ b. HasLogged earlier (g.K.Sink.written c.tell_sheet.new.out) faults (g.K.Sink.faults c.tell_sheet.new.out) new.log
+    (λ text before. subst (λ b. HasPut earlier (g.K.Sink.written c.tell_sheet.new.out) faults (g.K.Sink.faults c.tell_sheet.new.out) new.log
     (text ++ cond b [] (sheet_lines (sheets_in c.args.answered.now)))) (sym (ap (λ (s : SessionState). s.no_memory) others))
     (c.tell_sheet.ensures.told earlier faults text
-    (subst (λ (s : SessionState). HasLogged earlier (g.K.Sink.written c.args.out.now) faults (g.K.Sink.faults c.args.out.now) s.log text) (sym view) before)))
+    (subst (λ (s : SessionState). HasPut earlier (g.K.Sink.written c.args.out.now) faults (g.K.Sink.faults c.args.out.now) s.log text) (sym view) before)))
     c.args.told
     (subst (λ (b : Recorded). GoesOnWith (Some reach) c.args.told c.args.answered.now board b) (sym stands)
     (subst (λ (o : Option ℕ). GoesOnWith o c.args.told c.args.answered.now board now.board) given goes))

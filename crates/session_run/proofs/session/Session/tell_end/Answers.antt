@@ -1,6 +1,6 @@
 use Rattle.std.proofs.Common.{◌≡◌, ℕ, Option, Some, sym, ap, subst, ◌∙◌}
 use Rattle.board_core.specs.Recorded.{Recorded}
-use Rattle.session_run.specs.Page.{SessionState}
+use Rattle.session_run.specs.SessionState.{SessionState}
 use Rattle.session_run.specs.Reading.{HasToldBy, HasToldAllBy}
 use Rattle.session_run.specs.Telling.{GoesOnTo}
 use Rattle.session_run.proofs.ToldSheets.{told-last}

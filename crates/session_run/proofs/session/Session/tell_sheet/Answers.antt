@@ -1,7 +1,8 @@
 use Rattle.std.proofs.Common.{◌≡◌, ℕ, List, false, cond, [], ◌++◌, sym, ap, subst, ◌∙◌, append-nil}
 use Rattle.idle_moves.specs.declared.moves.MoveSheet.{MoveSheet}
 use Rattle.idle_moves.specs.AheadText.{sheet_line, sheet_lines}
-use Rattle.session_run.specs.Page.{HasLogged, SessionState}
+use Rattle.text_page.specs.Output.{HasPut}
+use Rattle.session_run.specs.SessionState.{SessionState}
 use Rattle.session_run.specs.Planning.{sheets_in}
 use Rattle.session_run.proofs.session.Session.tell_sheet.Goals as goal
 
@@ -12,8 +13,8 @@ returns-in-Some-clause-told g c earlier faults text has =
     sym (append-nil (sheet_line c.in-Some.sheet.now))
     ∙ ap (λ (sheets : List MoveSheet). sheet_lines sheets) (sym c.in-Some.ensures)
     ∙ ap (λ b. cond b [] (sheet_lines (sheets_in c.args.answered.now))) (sym sound) in
-    subst (λ (l : List ℕ). HasLogged earlier (g.K.Sink.written c.put_sheet.new.out) faults (g.K.Sink.faults c.put_sheet.new.out) c.put_sheet.new.self
+    subst (λ (l : List ℕ). HasPut earlier (g.K.Sink.written c.put_sheet.new.out) faults (g.K.Sink.faults c.put_sheet.new.out) c.put_sheet.new.output
     (text ++ l)) line
     (c.put_sheet.ensures earlier faults text
-    (subst (λ (s : SessionState). HasLogged earlier (g.K.Sink.written c.args.out.now) faults (g.K.Sink.faults c.args.out.now) s.log text)
+    (subst (λ (s : SessionState). HasPut earlier (g.K.Sink.written c.args.out.now) faults (g.K.Sink.faults c.args.out.now) s.log text)
     (sym c.self.view_is) has))
