@@ -7,6 +7,8 @@
   live.py silence PROGRAM   ten seconds of two silent pipes
   live.py memory PROGRAM    two feeds of 1,000,000 lines, and two desks of 8 workers on the largest map
   live.py day PROGRAM       the city's day of write_day.py: a replay, the audit of its log, and one and two desks
+  live.py plans PROGRAM     batches of 128 over 1,000 vehicles on a map of New York's size, from their opening to their commit, as all
+                            plans grow to 14 stops; on two processors, and then on four
 """
 import os
 import random
@@ -191,6 +193,63 @@ def day(program, folder):
         print(f"desks {desks}: {2_000 / clock * 3600:,.0f} batches an hour, {clock:.1f} s by the clock, {busy:.1f} s of processors, {megabytes:.0f} MB")
 
 
+def plans(program, folder):
+    here = os.path.dirname(os.path.abspath(__file__))
+    subprocess.run([sys.executable, f"{here}/write_map.py", f"{folder}/map"], check=True)
+    for processors in (2, 4):
+        grow(program, folder, processors)
+        os.remove(f"{folder}/riders")
+        os.remove(f"{folder}/drivers")
+
+
+def one_batch(session, riders, draw, nodes, number, count, batch):
+    """A batch of so many requests: the vehicles that have a seat, and the seconds from its opening to its commit."""
+    ends = (draw.sample(range(1, nodes + 1), 2) for _ in range(count))
+    asked = "".join(f"request {number + place} {origin} {end} 1 1000000000 1000000\n" for place, (origin, end) in enumerate(ends, 1))
+    riders.write((asked + "batch\n").encode())
+    log = until(session, f"d1 open {batch} ".encode(), b"")
+    began = time.monotonic()
+    log = until(session, f"d1 commit {batch} ".encode(), log)
+    seconds = time.monotonic() - began
+    line = until(session, b"\n", log.split(f"d1 commit {batch} ".encode())[1]).decode().split()
+    return [int(seat.split(":")[1]) for seat in line[line.index("seats") + 1:line.index("prices")]], seconds
+
+
+def report(session, drivers, lines):
+    """Writes reports, and waits for the answer to the last."""
+    if lines:
+        drivers.write("".join(line + "\n" for line in lines).encode())
+        until(session, f"f2 {lines[-1]} = ".encode(), b"")
+
+
+def grow(program, folder, processors):
+    """Gives each vehicle 7 rides, by batches of those that have fewer, and then times batches over all of them."""
+    draw = random.Random(1)
+    nodes, vehicles, full = 264_346, range(1, 1001), 7
+    fleet = "".join(f"vehicle {v} 16 {draw.randint(1, nodes)} 0\n" for v in vehicles)
+    write(f"{folder}/fleet", "set batch 128\nset penalty 1000000000000\nset wait 1\n" + fleet)
+    all_processors = os.sched_getaffinity(0)
+    os.sched_setaffinity(0, set(sorted(all_processors)[:processors]))
+    session, riders, drivers = pipes(program, folder, processors, 1)
+    os.sched_setaffinity(0, all_processors)
+    rides, number, batches = dict.fromkeys(vehicles, 0), 0, []
+    while waiting := sum(count < full for count in rides.values()):
+        count = min(128, waiting)
+        seats, seconds = one_batch(session, riders, draw, nodes, number, count, len(batches) + 1)
+        batches.append(seconds)
+        number += count
+        for vehicle in seats:
+            rides[vehicle] += 1
+        leaving = [vehicle for vehicle in seats if rides[vehicle] == full]
+        report(session, drivers, [f"off {vehicle}" for vehicle in leaving])
+    report(session, drivers, [f"on {vehicle}" for vehicle in vehicles])
+    last = [one_batch(session, riders, draw, nodes, number + 128 * place, 128, len(batches) + 1 + place)[1] for place in range(3)]
+    print(f"{processors} processors: {len(batches)} batches until each plan has 14 stops, the first {batches[0]:.2f} s, the longest "
+          f"{max(batches):.2f} s, the last {batches[-1]:.2f} s; then of 128 over 1,000 full plans " + ", ".join(f"{s:.2f} s" for s in last))
+    session.kill()
+
+
 if __name__ == "__main__":
     with tempfile.TemporaryDirectory() as folder:
-        {"speed": speed, "answers": answers, "silence": silence, "memory": memory, "day": day}[sys.argv[1]](sys.argv[2], folder)
+        {"speed": speed, "answers": answers, "silence": silence, "memory": memory, "day": day,
+         "plans": plans}[sys.argv[1]](sys.argv[2], folder)
