@@ -1,23 +1,12 @@
 -- The texts of sheets.
-use Rattle.std.proofs.Common.{◌≡◌, ℕ, List, [], ◌∷◌, ◌++◌, map, ap, sym, ◌∙◌, append_assoc, append-nil}
+use Rattle.std.proofs.Common.{◌≡◌, ℕ, List, [], ◌∷◌, ◌++◌, map, ap, sym, ◌∙◌, append_assoc}
 use Rattle.std.specs.Prelude.{codes, decimal}
-use Rattle.ride_model.specs.Text.{amount_field, line_of}
+use Rattle.ride_model.specs.Text.{amount_field}
 use Rattle.trip_log.specs.Prints.{fields_then, listed}
 use Rattle.trip_log.proofs.PrintsLemmas.{fields_then-append, fields_then-map, fields_then-more, line-fields}
 use Rattle.idle_moves.specs.declared.moves.Move.{Move}
 use Rattle.idle_moves.specs.declared.moves.MoveSheet.{MoveSheet}
 use Rattle.idle_moves.specs.AheadText.{order_field, sheet_line}
-
--- the start of a line
-pub start_text : (batch cost : List ℕ)
-    → (codes "moves " ++ batch) ++ (codes " cost " ++ cost) ≡ codes "moves" ++ fields_then (batch ∷ codes "cost" ∷ cost ∷ []) []
-start_text batch cost =
-    append_assoc (codes "moves ") batch (codes " cost " ++ cost)
-    ∙ ap (λ more. codes "moves " ++ (batch ++ (codes " cost " ++ more))) (sym (append-nil cost))
-
--- the head
-pub head_text : (reach : List ℕ) → (codes "ahead 1 reach " ++ reach) ++ 10 ∷ [] ≡ line_of (codes "ahead" ∷ codes "1" ∷ codes "reach" ∷ reach ∷ [])
-head_text reach = append_assoc (codes "ahead 1 reach ") reach (10 ∷ [])
 
 -- the lists of a line
 module _ (moves : List Move) (prices pays : List (ℕ × ℕ)) where

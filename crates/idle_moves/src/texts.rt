@@ -1,56 +1,34 @@
 //! The lines of sheets.
-ghost use Rattle.std.specs.Prelude.{◌≡◌, ◌≤◌, ◌+◌, ◌++◌, ◌∷◌, [], ℕ, List, codes, decimal, length};
-ghost use Rattle.ride_model.specs.Text.{amount_field};
-ghost use Rattle.trip_log.specs.Prints.{Prints, fields_then, listed};
+ghost use Rattle.std.specs.Prelude.{◌≡◌, ◌++◌, ◌∷◌, [], ℕ, List, codes, decimal};
+ghost use Rattle.trip_log.specs.Prints.{Prints, fields_then};
 ghost use Rattle.idle_moves.specs.AheadText.{head_line, last_line, order_field, sheet_line};
 
 use crate::{Move, MoveSheet};
 use arrayvec::ArrayVec;
-use line_text::put_number;
 use ride_model::Ending;
-use ride_ports::{Failed, Sink, write_all};
-
-/// The most bytes that are put together before they are written: five numbers of 20 digits and what stands between them.
-const MOST_TEXT: usize = 128;
-
-/// How the items of a list are spelled.
-trait Spelling<T> {
-    // An item's field.
-    ghost field: { T → List ℕ };
-
-    /// A blank and the item.
-    fn text(item: &T) -> ArrayVec<u8, MOST_TEXT>
-        ensures { result.items ≡ 32 ∷ field item.now };
-}
+use ride_ports::{Failed, Sink};
+use trip_log::lists::{AmountText, Spelling, print_list};
+use trip_log::pieces::{MOST_TEXT, Piece, print, put, text_of};
 
 /// Orders.
 struct OrderText;
-
-/// Ids with their amounts.
-struct AmountText;
 
 impl Spelling<Move> for OrderText {
     ghost field = { λ order. order_field order };
 
     fn text(item: &Move) -> ArrayVec<u8, MOST_TEXT> {
-        let mut text = ArrayVec::new();
-        add(&mut text, b" ", item.request);
-        add(&mut text, b":", item.vehicle);
-        add(&mut text, b"@", item.version);
-        add(&mut text, b":", u64::from(item.node));
-        add(&mut text, b":", item.seconds);
-        text
-    }
-}
-
-impl Spelling<(u64, u64)> for AmountText {
-    ghost field = { λ amount. amount_field amount };
-
-    fn text(item: &(u64, u64)) -> ArrayVec<u8, MOST_TEXT> {
-        let mut text = ArrayVec::new();
-        add(&mut text, b" ", item.0);
-        add(&mut text, b":", item.1);
-        text
+        text_of(&[
+            Piece::Bytes(b" "),
+            Piece::Number(item.request),
+            Piece::Bytes(b":"),
+            Piece::Number(item.vehicle),
+            Piece::Bytes(b"@"),
+            Piece::Number(item.version),
+            Piece::Bytes(b":"),
+            Piece::Number(u64::from(item.node)),
+            Piece::Bytes(b":"),
+            Piece::Number(item.seconds),
+        ])
     }
 }
 
@@ -58,10 +36,14 @@ impl Spelling<(u64, u64)> for AmountText {
 pub fn print_head<K: Sink>(reach: u64, sink: &mut K) -> Result<(), Failed>
     ensures { Prints result (K.written sink.old) (K.written sink.new) (K.faults sink.old) (K.faults sink.new) (head_line reach) }
 {
-    let mut text = ArrayVec::new();
-    add(&mut text, b"ahead 1 reach ", reach);
-    text.push(b'\n');
-    put(text.as_slice(), sink)
+    print(
+        &[
+            Piece::Bytes(b"ahead 1 reach "),
+            Piece::Number(reach),
+            Piece::Bytes(b"\n"),
+        ],
+        sink,
+    )
 }
 
 /// Prints the line of a sheet.
@@ -97,58 +79,13 @@ fn print_start<K: Sink>(batch: u64, cost: u64, sink: &mut K) -> Result<(), Faile
     ensures { Prints result (K.written sink.old) (K.written sink.new) (K.faults sink.old) (K.faults sink.new)
         (codes "moves" ++ fields_then (decimal batch ∷ codes "cost" ∷ decimal cost ∷ []) []) }
 {
-    let mut text = ArrayVec::new();
-    add(&mut text, b"moves ", batch);
-    add(&mut text, b" cost ", cost);
-    put(text.as_slice(), sink)
-}
-
-// Prints a blank and a word, and after them the items.
-fn print_list<S: Spelling<T>, T, K: Sink>(
-    word: &[u8],
-    items: &[T],
-    sink: &mut K,
-) -> Result<(), Failed>
-    ensures { Prints result (K.written sink.old) (K.written sink.new) (K.faults sink.old) (K.faults sink.new)
-        (word.now ++ listed S.field items.now) }
-{
-    put(word, sink)?;
-    print_items::<S, T, K>(items, sink)
-}
-
-// Prints items, each after a blank.
-fn print_items<S: Spelling<T>, T, K: Sink>(items: &[T], sink: &mut K) -> Result<(), Failed>
-    ensures { Prints result (K.written sink.old) (K.written sink.new) (K.faults sink.old) (K.faults sink.new)
-        (listed S.field items.now) }
-{
-    for item in items {
-        print_item::<S, T, K>(item, sink)?;
-    }
-    Ok(())
-}
-
-// Prints a blank and an item.
-fn print_item<S: Spelling<T>, T, K: Sink>(item: &T, sink: &mut K) -> Result<(), Failed>
-    ensures { Prints result (K.written sink.old) (K.written sink.new) (K.faults sink.old) (K.faults sink.new)
-        (32 ∷ S.field item.now) }
-{
-    put(S::text(item).as_slice(), sink)
-}
-
-// Prints bytes.
-fn put<K: Sink>(bytes: &[u8], sink: &mut K) -> Result<(), Failed>
-    ensures { Prints result (K.written sink.old) (K.written sink.new) (K.faults sink.old) (K.faults sink.new) bytes.now }
-{
-    write_all(sink, bytes)
-}
-
-// Adds a mark and a number at the end of a text.
-fn add(text: &mut ArrayVec<u8, MOST_TEXT>, mark: &[u8], number: u64)
-    requires { length text.old.items + length mark.now + 20 ≤ 128 }
-    ensures text { text.new.items ≡ text.old.items ++ (mark.now ++ decimal number) }
-    ensures room { length text.new.items ≤ length text.old.items + length mark.now + 20 }
-{
-    let digits = put_number(number);
-    let _ = text.try_extend_from_slice(mark);
-    let _ = text.try_extend_from_slice(digits.as_slice());
+    print(
+        &[
+            Piece::Bytes(b"moves "),
+            Piece::Number(batch),
+            Piece::Bytes(b" cost "),
+            Piece::Number(cost),
+        ],
+        sink,
+    )
 }

@@ -1,16 +1,15 @@
 -- The example vehicles are lawful.
-use Rattle.std.proofs.Common.{◌≡◌, ◌≢◌, ℕ, zero, suc, ◌+◌, ◌≤◌, ◌<◌, List, [], ◌∷◌, refl, arith}
-use Rattle.std.specs.Prelude.{All, IfSome, Option, Some, None, Contains, map}
+use Rattle.std.proofs.Common.{◌≡◌, ◌≢◌, ℕ, zero, suc, ◌≤◌, [], ◌∷◌, refl, arith}
+use Rattle.std.specs.Prelude.{IfSome, Option, Some, None, Contains, map}
 use Rattle.std.specs.List.{IsDistinct}
 use Rattle.std.proofs.lemmas.List.Elements.{All-from_recursion}
-use Rattle.ride_model.specs.declared.network.RoadArc.{RoadArc}
 use Rattle.ride_model.specs.declared.vehicle.Ride.{Ride}
 use Rattle.ride_model.specs.declared.vehicle.Stop.{Stop}
 use Rattle.ride_model.specs.declared.vehicle.Vehicle.{Vehicle}
-use Rattle.ride_model.specs.Road.{RoadMap, IsRoadMap, IsArc, travel, travel_within}
-use Rattle.ride_model.specs.Vehicle.{IsRide, IsLawful, IsLawfulSomewhere, IsRoutedSomewhere, visit_of, visits_due, stops_of, ride_ids, IsFresh}
-use Rattle.stop_plans.specs.Change.{InsertsInto, RemovesFrom, HasFirstStopAt}
-use Rattle.plan_trials.specs.SmallPlans.{arc, four_nodes, ride_of, pickup_at, dropoff_at, vehicle_of, promised, pooled, arrived, carrying, pooling}
+use Rattle.ride_model.specs.Road.{IsRoadMap, IsArc, travel, travel_within}
+use Rattle.ride_model.specs.Vehicle.{IsRide, IsLawful, IsLawfulSomewhere, visit_of, visits_due, stops_of, ride_ids, IsFresh}
+use Rattle.stop_plans.specs.Change.{InsertsInto, RemovesFrom}
+use Rattle.plan_trials.specs.SmallPlans.{arc, four_nodes, ride_of, pickup_at, dropoff_at, promised, pooled, arrived, carrying, pooling}
 
 fits : (tail head : ℕ) → 1 ≤ tail → tail ≤ 4 → 1 ≤ head → head ≤ 4 → IsArc four_nodes (arc tail head)
 fits tail head a b c d = ((a, b), (c, d), omega arith)

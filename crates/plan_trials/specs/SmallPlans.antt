@@ -1,6 +1,5 @@
 -- Examples: a road of four nodes, a minute between neighbours, and a vehicle on it.
 use Rattle.std.specs.Prelude.{ℕ, List, [], ◌∷◌, true, Option, Some, None}
-use Rattle.arrayvec.specs.ArrayVec.{ArrayVec}
 use Rattle.ride_model.specs.declared.network.RoadArc.{RoadArc}
 use Rattle.ride_model.specs.declared.vehicle.Kind.TheVariants.{Pickup, Dropoff}
 use Rattle.ride_model.specs.declared.vehicle.Ride.{Ride}

@@ -8,6 +8,7 @@ mod cities;
 mod drawn_plans;
 #[cfg(test)]
 mod limits;
+pub mod line_road;
 #[cfg(test)]
 mod offer_rows;
 #[cfg(test)]

@@ -4,6 +4,7 @@ ghost use Rattle.ride_model.specs.Vehicle.{IsRoutedSomewhere, IsLawfulSomewhere}
 ghost use Rattle.plan_trials.specs.OneRide.{on_the_way, with_rider};
 ghost use Rattle.plan_trials.specs.LineRoad.{vehicle_with, is_routed, is_lawful};
 
+use crate::line_road::{copy_of_rides, copy_of_stops};
 use arrayvec::ArrayVec;
 use promises::*;
 use ride_model::{Ids, Kind, Ride, Stop, Vehicle};
@@ -139,28 +140,6 @@ fn promised(ready: u64, chairs: u32, rides: &[Ride], stops: &[Stop]) -> Vehicle
         version: 0,
         ..vehicle(1, ready, rides, stops)
     }
-}
-
-fn copy_of_rides(rides: &[Ride]) -> ArrayVec<Ride, 16>
-    requires { length rides.now ≤ 16 }
-    ensures { result.items ≡ rides.now }
-{
-    let mut copy = ArrayVec::new();
-    for ride in rides {
-        copy.push(*ride);
-    }
-    copy
-}
-
-fn copy_of_stops(stops: &[Stop]) -> ArrayVec<Stop, 16>
-    requires { length stops.now ≤ 16 }
-    ensures { result.items ≡ stops.now }
-{
-    let mut copy = ArrayVec::new();
-    for stop in stops {
-        copy.push(*stop);
-    }
-    copy
 }
 
 // Whether a vehicle with so many chairs keeps its promises to these rides.

@@ -1,99 +1,11 @@
 // Worked rows as calls, on a road of four nodes in a line, a minute between neighbours.
-ghost use Rattle.std.specs.Prelude.{◌≡◌, ◌≤◌, length, map, IsTrue};
-ghost use Rattle.plan_trials.specs.LineRoad.{seconds_between, vehicle_with};
-ghost use Rattle.plan_trials.specs.NearInLine.{near_in_line, near_stop_in_line, may_be_asked};
+ghost use Rattle.std.specs.Prelude.{◌≤◌, length, IsTrue};
+ghost use Rattle.plan_trials.specs.LineRoad.{vehicle_with};
+ghost use Rattle.plan_trials.specs.NearInLine.{may_be_asked};
 
-use arrayvec::ArrayVec;
+use crate::line_road::{Car, near, vehicle};
 use insertion::*;
-use ride_model::{Kind, Ride, Settings, Stop, Vehicle};
-
-/// Where a vehicle is, and what it takes.
-#[derive(Clone, Copy)]
-struct Car {
-    at: u32,
-    ready: u64,
-    seats: u32,
-    chairs: u32,
-}
-
-fn vehicle(car: Car, rides: &[Ride], stops: &[Stop]) -> Vehicle
-    requires few_rides { length rides.now ≤ 16 }
-    requires few_stops { length stops.now ≤ 16 }
-    ensures { result ≡ vehicle_with car.at car.ready car.seats car.chairs rides.now stops.now }
-{
-    Vehicle {
-        id: 1,
-        seats: car.seats,
-        chairs: car.chairs,
-        at: car.at,
-        ready: car.ready,
-        duty: true,
-        version: 0,
-        rides: copy_of_rides(rides),
-        stops: copy_of_stops(stops),
-    }
-}
-
-fn copy_of_rides(rides: &[Ride]) -> ArrayVec<Ride, 16>
-    requires { length rides.now ≤ 16 }
-    ensures { result.items ≡ rides.now }
-{
-    let mut copy = ArrayVec::new();
-    for ride in rides {
-        copy.push(*ride);
-    }
-    copy
-}
-
-fn copy_of_stops(stops: &[Stop]) -> ArrayVec<Stop, 16>
-    requires { length stops.now ≤ 16 }
-    ensures { result.items ≡ stops.now }
-{
-    let mut copy = ArrayVec::new();
-    for stop in stops {
-        copy.push(*stop);
-    }
-    copy
-}
-
-fn seconds_between(x: u32, y: u32) -> u64
-    ensures { result ≡ seconds_between x y }
-{
-    60 * u64::from(x.saturating_sub(y) + y.saturating_sub(x))
-}
-
-fn near(vehicle: &Vehicle, ride: &Ride) -> Near
-    ensures { result ≡ near_in_line vehicle.now ride.now }
-{
-    Near {
-        at_from: Some(seconds_between(vehicle.at, ride.from)),
-        at_to: Some(seconds_between(vehicle.at, ride.to)),
-        direct: Some(seconds_between(ride.from, ride.to)),
-        stops: near_stops(vehicle.stops.as_slice(), ride),
-    }
-}
-
-fn near_stops(stops: &[Stop], ride: &Ride) -> ArrayVec<NearStop, 16>
-    requires { length stops.now ≤ 16 }
-    ensures { result.items ≡ map (near_stop_in_line ride.now) stops.now }
-{
-    let mut near = ArrayVec::new();
-    for stop in stops {
-        near.push(near_stop(stop, ride));
-    }
-    near
-}
-
-fn near_stop(stop: &Stop, ride: &Ride) -> NearStop
-    ensures { result ≡ near_stop_in_line ride.now stop.now }
-{
-    NearStop {
-        to_from: Some(seconds_between(stop.node, ride.from)),
-        from_here: Some(seconds_between(ride.from, stop.node)),
-        to_to: Some(seconds_between(stop.node, ride.to)),
-        to_here: Some(seconds_between(ride.to, stop.node)),
-    }
-}
+use ride_model::{Kind, Ride, Settings, Stop};
 
 // The least cost of a ride.
 fn cost(car: Car, rides: &[Ride], stops: &[Stop], ride: Ride, settings: Settings) -> Option<u64>

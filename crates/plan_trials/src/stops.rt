@@ -3,7 +3,7 @@ ghost use Rattle.std.specs.Prelude.{◌≡◌, ◌≤◌, length};
 ghost use Rattle.ride_model.specs.Vehicle.{IsRoutedSomewhere, IsLawfulSomewhere};
 ghost use Rattle.plan_trials.specs.SmallPlans.{ride_of, pickup_at, dropoff_at, vehicle_of, promised, pooled, arrived, carrying};
 
-use arrayvec::ArrayVec;
+use crate::line_road::{copy_of_rides, copy_of_stops};
 use ride_model::{Joins, Kind, Load, Offer, Reply, Ride, Stop, Vehicle};
 use stop_plans::*;
 
@@ -57,31 +57,9 @@ fn vehicle(at: u32, ready: u64, rides: &[Ride], stops: &[Stop]) -> Vehicle
         ready,
         duty: true,
         version: 1,
-        rides: list_of_rides(rides),
-        stops: list_of_stops(stops),
+        rides: copy_of_rides(rides),
+        stops: copy_of_stops(stops),
     }
-}
-
-fn list_of_rides(rides: &[Ride]) -> ArrayVec<Ride, 16>
-    requires { length rides.now ≤ 16 }
-    ensures { result.items ≡ rides.now }
-{
-    let mut list = ArrayVec::new();
-    for ride in rides {
-        list.push(*ride);
-    }
-    list
-}
-
-fn list_of_stops(stops: &[Stop]) -> ArrayVec<Stop, 16>
-    requires { length stops.now ≤ 16 }
-    ensures { result.items ≡ stops.now }
-{
-    let mut list = ArrayVec::new();
-    for stop in stops {
-        list.push(*stop);
-    }
-    list
 }
 
 fn promised_vehicle() -> Vehicle

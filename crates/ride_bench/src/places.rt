@@ -1,14 +1,14 @@
 //! The cheapest places for one more ride in a plan of 14 stops, on a road of four nodes in a line, a minute between neighbours.
-ghost use Rattle.std.specs.Prelude.{◌≡◌, ◌≤◌, length, map, false, IsTrue};
+ghost use Rattle.std.specs.Prelude.{◌≡◌, ◌≤◌, length, false, IsTrue};
 ghost use Rattle.ride_model.specs.Offers.{is_idle};
-ghost use Rattle.plan_trials.specs.LineRoad.{seconds_between, vehicle_with};
-ghost use Rattle.plan_trials.specs.NearInLine.{near_in_line, near_stop_in_line, may_be_asked};
+ghost use Rattle.plan_trials.specs.LineRoad.{vehicle_with};
+ghost use Rattle.plan_trials.specs.NearInLine.{near_in_line, may_be_asked};
 ghost use Rattle.ride_bench.specs.Places.{settings};
 ghost use Rattle.slack_tables.specs.SlackOf.{slack_of};
 
 use anyhow::Result;
-use arrayvec::ArrayVec;
-use insertion::{Near, NearStop, best_place};
+use insertion::{Near, best_place};
+use plan_trials::line_road::{self, Car, near};
 use ride_model::{Kind, Ride, Settings, Stop, Vehicle};
 use slack_tables::{Slack, best_place_fast};
 use std::rt::Clock;
@@ -89,78 +89,13 @@ fn vehicle(rides: &[Ride], stops: &[Stop]) -> Vehicle
     requires few_stops { length stops.now ≤ 16 }
     ensures { result ≡ vehicle_with 1 1000 16 0 rides.now stops.now }
 {
-    Vehicle {
-        id: 1,
-        seats: 16,
-        chairs: 0,
+    let car = Car {
         at: 1,
         ready: READY,
-        duty: true,
-        version: 0,
-        rides: copy_of_rides(rides),
-        stops: copy_of_stops(stops),
-    }
-}
-
-fn copy_of_rides(rides: &[Ride]) -> ArrayVec<Ride, 16>
-    requires { length rides.now ≤ 16 }
-    ensures { result.items ≡ rides.now }
-{
-    let mut copy = ArrayVec::new();
-    for ride in rides {
-        copy.push(*ride);
-    }
-    copy
-}
-
-fn copy_of_stops(stops: &[Stop]) -> ArrayVec<Stop, 16>
-    requires { length stops.now ≤ 16 }
-    ensures { result.items ≡ stops.now }
-{
-    let mut copy = ArrayVec::new();
-    for stop in stops {
-        copy.push(*stop);
-    }
-    copy
-}
-
-fn seconds_between(x: u32, y: u32) -> u64
-    ensures { result ≡ seconds_between x y }
-{
-    60 * u64::from(x.saturating_sub(y) + y.saturating_sub(x))
-}
-
-fn near(vehicle: &Vehicle, ride: &Ride) -> Near
-    ensures { result ≡ near_in_line vehicle.now ride.now }
-{
-    Near {
-        at_from: Some(seconds_between(vehicle.at, ride.from)),
-        at_to: Some(seconds_between(vehicle.at, ride.to)),
-        direct: Some(seconds_between(ride.from, ride.to)),
-        stops: near_stops(vehicle.stops.as_slice(), ride),
-    }
-}
-
-fn near_stops(stops: &[Stop], ride: &Ride) -> ArrayVec<NearStop, 16>
-    requires { length stops.now ≤ 16 }
-    ensures { result.items ≡ map (near_stop_in_line ride.now) stops.now }
-{
-    let mut near = ArrayVec::new();
-    for stop in stops {
-        near.push(near_stop(stop, ride));
-    }
-    near
-}
-
-fn near_stop(stop: &Stop, ride: &Ride) -> NearStop
-    ensures { result ≡ near_stop_in_line ride.now stop.now }
-{
-    NearStop {
-        to_from: Some(seconds_between(stop.node, ride.from)),
-        from_here: Some(seconds_between(ride.from, stop.node)),
-        to_to: Some(seconds_between(stop.node, ride.to)),
-        to_here: Some(seconds_between(ride.to, stop.node)),
-    }
+        seats: 16,
+        chairs: 0,
+    };
+    line_road::vehicle(car, rides, stops)
 }
 
 /// The sum of the least costs at so many times, by the plain search.

@@ -1,7 +1,7 @@
 use Rattle.std.proofs.Common.{◌≡◌, take}
 use Rattle.std.specs.Prelude.{map}
 use Rattle.plan_trials.specs.NearInLine.{near_stop_in_line}
-use Rattle.plan_trials.proofs.slack.near_stops.Given as goal
+use Rattle.plan_trials.proofs.line_road.near_stops.Given as goal
 
 -- the times near those so far
 abbrev pub invariant-loop-stop : goal.invariant-loop-stop

@@ -1,5 +1,5 @@
 use Rattle.std.proofs.Common.{◌≡◌, take}
-use Rattle.plan_trials.proofs.offer_rows.copy_of_stops.Given as goal
+use Rattle.plan_trials.proofs.line_road.copy_of_stops.Given as goal
 
 -- those so far are copied
 abbrev pub invariant-loop-stop : goal.invariant-loop-stop

@@ -1,5 +1,5 @@
 use Rattle.std.proofs.Common.{◌≡◌, take}
-use Rattle.plan_trials.proofs.limits.copy_of_rides.Given as goal
+use Rattle.plan_trials.proofs.line_road.copy_of_rides.Given as goal
 
 -- those so far are copied
 abbrev pub invariant-loop-ride : goal.invariant-loop-ride
