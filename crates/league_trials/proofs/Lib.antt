@@ -3,3 +3,7 @@ pub mod OneVehicle
 pub mod TownRides
 pub mod AfterAwards
 pub mod NoWins
+pub mod FewRequests
+pub mod DaySides
+pub mod HalfFleets
+pub mod DayRounds

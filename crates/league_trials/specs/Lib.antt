@@ -1,2 +1,3 @@
 pub mod TwoCompanies
 pub mod OneVehicle
+pub mod Sides

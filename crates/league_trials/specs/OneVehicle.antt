@@ -1,13 +1,12 @@
 -- Companies of one vehicle in a town of four nodes, rides there, and what the vehicle wins.
-use Rattle.std.specs.Prelude.{◌≡◌, ◌≢◌, ℕ, ◌≤◌, List, [], ◌∷◌, Some, None, All, IsTrue}
+use Rattle.std.specs.Prelude.{◌≡◌, ◌≢◌, ℕ, ◌≤◌, List, [], ◌∷◌, Some, All, IsTrue}
 use Rattle.ride_model.specs.declared.vehicle.Ride.{Ride}
 use Rattle.ride_model.specs.declared.vehicle.Vehicle.{Vehicle}
 use Rattle.ride_model.specs.Legal.{versions_of}
 use Rattle.ride_model.specs.Road.{RoadMap}
 use Rattle.ride_model.specs.Seating.{vehicle_ids}
 use Rattle.ride_model.specs.State.{State}
-use Rattle.ride_model.specs.Text.{IsSpelled}
-use Rattle.ride_model.specs.Vehicle.{IsLawful, IsRide}
+use Rattle.ride_model.specs.Vehicle.{IsLawful}
 use Rattle.dual_check.specs.Cells.{GridCells}
 use Rattle.fleet_league.specs.Awards.{AddsAward}
 use Rattle.fleet_league.specs.Companies.{CompanyState}
@@ -15,17 +14,15 @@ use Rattle.fleet_league.specs.declared.briefs.Brief.{Brief}
 use Rattle.fleet_league.specs.declared.quotes.Quote.{Quote}
 use Rattle.fleet_league.specs.Prices.{prices_of}
 use Rattle.fleet_league.specs.Round.{IsPriced}
+use Rattle.league_trials.specs.Sides.{IsRideOf}
 
 -- a node of the town
 abbrev pub IsTownNode : ℕ → Type 0
 IsTownNode node = (1 ≤ node) × (node ≤ 4)
 
--- a ride that waits, fits every map of four nodes, and whose request has a text of the first version
-pub record IsTownRide (ride : Ride) : Type 0 where
-  pub fits : (roads : RoadMap) → roads.nodes ≡ 4 → IsRide roads ride
-  pub waits : ride.picked ≡ None
-  pub spelled : IsSpelled ride.id
-  pub no_chairs : ride.chairs ≡ 0
+-- a ride of a map of four nodes
+abbrev pub IsTownRide : Ride → Type 0
+IsTownRide ride = IsRideOf 4 ride
 
 -- two such rides
 pub record AreTownRides (rides : List Ride) : Type 0 where

@@ -1,8 +1,11 @@
 //! Trials of companies that share one dispatcher: rounds of hand-made quotes, a part of a round, three companies that seat
-//! rides together, a company that two brokers share, and companies that have moved on, quote nothing or win nothing. It has
-//! nothing but tests, so that the crates that it tests are proved once.
+//! rides together, a company that two brokers share, companies that have moved on, quote nothing or win nothing, and a day of two
+//! companies over a generated city, whose logs are audited. It has nothing but tests, so that the crates that it tests are proved
+//! once.
 #![tactic(auto)]
 
+#[cfg(test)]
+mod city_days;
 #[cfg(test)]
 mod companies;
 #[cfg(test)]
@@ -17,5 +20,7 @@ mod restrictions;
 mod rounds;
 #[cfg(test)]
 mod shared_company;
+#[cfg(test)]
+mod sides;
 #[cfg(test)]
 mod three_companies;

@@ -1,0 +1,35 @@
+use Rattle.std.proofs.Common.{◌≡◌, sym, subst}
+use Rattle.ride_model.specs.declared.vehicle.Ride.{Ride}
+use Rattle.ride_model.specs.Text.{IsSpelled, IsSpelledCommand}
+use Rattle.history_laws.proofs.Lookups.{all_of, of_all}
+use Rattle.board_core.specs.Recorded.{state_of}
+use Rattle.fleet_league.specs.Awards.{request_of, won_rides}
+use Rattle.fleet_league.specs.Companies.{CompanyState}
+use Rattle.fleet_league.specs.LeagueBoards.{MayWin}
+use Rattle.fleet_league.specs.Prices.{IsNewRide}
+use Rattle.fleet_league.proofs.AwardedMembers.{id-spelled, won-each}
+use Rattle.league_trials.proofs.DaySides.{no-chairs}
+use Rattle.league_trials.proofs.sides.Side.award.Goals as goal
+
+pub award-requires-clause-rides : goal.award-requires-clause-rides
+award-requires-clause-rides g c κs within =
+    let may = subst (λ (s : CompanyState). MayWin s c.args.rides.now c.args.brief.now) (sym c.self.view_is) c.requires.may in
+    won-each (IsNewRide (state_of c.self.inside.company.board)) c.args.rides.now (won_rides c.args.brief.now.wins) may.may.each may.of_them
+
+pub award-requires-clause-ids_spelled : goal.award-requires-clause-ids_spelled
+award-requires-clause-ids_spelled g c κs within =
+    let may = c.requires.may in
+    let log = c.args.self.now.board.start.settings.log in
+    won-each (λ (ride : Ride). IsSpelled ride.id) c.args.rides.now (won_rides c.args.brief.now.wins)
+    (all_of (λ (ride : Ride). IsSpelled ride.id) c.args.rides.now (λ ride there.
+    id-spelled log ride (of_all (λ (r : Ride). IsSpelledCommand log (request_of r)) c.args.rides.now ride may.may.spelled there)))
+    may.of_them
+
+pub award-requires-clause-chairs : goal.award-requires-clause-chairs
+award-requires-clause-chairs g c κs within first =
+    let may = subst (λ (s : CompanyState). MayWin s c.args.rides.now c.args.brief.now) (sym c.self.view_is) c.requires.may in
+    let log = c.self.inside.company.board.start.settings.log in
+    won-each (λ (ride : Ride). ride.chairs ≡ 0) c.args.rides.now (won_rides c.args.brief.now.wins)
+    (all_of (λ (ride : Ride). ride.chairs ≡ 0) c.args.rides.now (λ ride there.
+    no-chairs log ride (of_all (λ (r : Ride). IsSpelledCommand log (request_of r)) c.args.rides.now ride may.may.spelled there) first))
+    may.of_them
