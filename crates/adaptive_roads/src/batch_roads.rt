@@ -1,4 +1,4 @@
-//! Travel times for a batch by searches or by sweeps, whichever is at hand: the times are the same.
+//! Travel times for a batch by searches, or by sweeps and climbs, whichever is at hand: the times are the same.
 ghost use Rattle.std.specs.Prelude.{◌≡◌, ◌≤◌, length, map, All, IfSome};
 ghost use Rattle.ride_model.specs.Road.{IsRoadMap, IsNode, travel};
 ghost use Rattle.road_times.specs.Turned.{travel_by};
@@ -15,7 +15,6 @@ use std::marker::Model;
 pub struct BatchRoads<'a> {
     roads: &'a Roads,
     wanted: &'a [u32],
-    ends: &'a [u32],
     selections: Option<&'a Selections<'a>>,
 }
 
@@ -28,7 +27,7 @@ impl<'a> Model for BatchRoads<'a> {
 
     ghost view = { λ b. record { roads = b.roads.now; wanted = b.wanted.now; places = places_of b.selections } };
 
-    ghost invariant = { λ b. AreServed b.roads.now b.wanted.now b.ends.now b.selections };
+    ghost invariant = { λ b. AreServed b.roads.now b.wanted.now b.selections };
 }
 
 impl<'a> BatchRoads<'a> {
@@ -39,18 +38,17 @@ impl<'a> BatchRoads<'a> {
         ensures wanted { result.wanted ≡ wanted.now }
         ensures places { result.places ≡ 0 }
     {
-        BatchRoads::over(roads, wanted, &[], None)
+        BatchRoads::over(roads, wanted, None)
     }
 
-    /// By sweeps over what was selected, if anything was, and else by searches.
+    /// By sweeps over what was selected and by climbs, if anything was selected, and else by searches.
     pub fn over(
         roads: &'a Roads,
         wanted: &'a [u32],
-        ends: &'a [u32],
         selections: Option<&'a Selections<'a>>,
     ) -> BatchRoads<'a>
         requires nodes { All (IsNode roads.now) wanted.now }
-        requires selected { IfSome selections (λ s. IsSelectedOf roads.now wanted.now ends.now s.now) }
+        requires selected { IfSome selections (λ s. IsSelectedOf roads.now wanted.now s.now) }
         ensures roads { result.roads ≡ roads.now }
         ensures wanted { result.wanted ≡ wanted.now }
         ensures places { result.places ≡ places_of selections.entry }
@@ -58,7 +56,6 @@ impl<'a> BatchRoads<'a> {
         BatchRoads {
             roads,
             wanted,
-            ends,
             selections,
         }
     }
@@ -101,7 +98,7 @@ impl<'a> BatchRoads<'a> {
         room.count(scratch.settled());
     }
 
-    /// The travel time from x to y, swift where y is one of the ends. Takes no memory.
+    /// The travel time from x to y. Takes no memory.
     pub fn time(&self, scratch: &mut Scratch, room: &mut RowRoom, x: u32, y: u32) -> Option<u64>
         requires scratch { scratch.old.nodes ≡ self.now.roads.nodes }
         requires room { self.now.places ≤ room.old.places }
@@ -114,9 +111,7 @@ impl<'a> BatchRoads<'a> {
         // This call tells that the roads are a map.
         let _nodes = self.roads.nodes();
         if let Some(selections) = self.selections {
-            if let Some(end) = self.ends.iter().position(|end| *end == y) {
-                return selections.time_to_end(&mut room.sweep, x, end);
-            }
+            return selections.time(&mut room.sweep, x, y);
         }
         let time = self.roads.time(scratch, x, y);
         room.count(scratch.settled());

@@ -12,7 +12,9 @@
 ghost use Rattle.std.specs.Prelude.{◌≡◌, All, IfSome};
 ghost use Rattle.ride_model.specs.Road.{IsNode};
 ghost use Rattle.adaptive_roads.specs.Selections.{IsSelectedOf};
+ghost use Rattle.adaptive_roads.specs.Shared.{IsMadeOf};
 
+use road_hierarchy::Hierarchy;
 use road_times::Roads;
 use stages::Stage;
 use std::alloc::Global;
@@ -24,11 +26,13 @@ mod rooms;
 mod selections;
 mod shared;
 mod stages;
+mod travel_times;
 
 pub use batch_roads::BatchRoads;
 pub use rooms::RowRoom;
 pub use selections::Selections;
 pub use shared::SharedHierarchy;
+pub use travel_times::TravelTimes;
 
 /// How many times as many nodes as the map has are settled by searches before its contraction pays.
 const MAPS_BEFORE: u64 = 120;
@@ -37,7 +41,8 @@ const MAPS_BEFORE: u64 = 120;
 const LINKS_A_NODE: u64 = 4;
 
 // Memory: while the map is contracted, what a contraction takes, and while that begins a network; after that, what a hierarchy takes,
-// once for all who share it. Who takes it from another makes two networks, to compare them, and frees them.
+// once for all who share it. Who takes it from another makes two networks, to compare them, and frees them. Travel times take what a
+// search takes, and 16 bytes a node more once they climb, as a worker's room does once a batch is swept.
 
 /// How many nodes the searches of a batch settled: all workers together, and the worker that settled the most.
 #[derive(Clone, Copy, Debug, Default, PartialEq, Eq)]
@@ -152,14 +157,23 @@ impl<'r> AdaptiveRoads<'r> {
         }
     }
 
-    /// Selects what rows to these nodes need, and times to these ends. None where they come by searches: a hierarchy is not made, or
-    /// memory is wanting for the selection.
-    pub fn select(&self, alloc: Global, wanted: &[u32], ends: &[u32]) -> Option<Selections<'_>>
-        requires wanted { All (IsNode self.now) wanted.now }
-        requires ends { All (IsNode self.now) ends.now }
-        ensures { IfSome result (IsSelectedOf self.now wanted.now ends.now) }
+    /// Selects what rows to these nodes need. None where rows and times come by searches: a hierarchy is not made, or memory is wanting
+    /// for the selection.
+    pub fn select(&self, alloc: Global, wanted: &[u32]) -> Option<Selections<'_>>
+        requires { All (IsNode self.now) wanted.now }
+        ensures { IfSome result (IsSelectedOf self.now wanted.now) }
     {
         let hierarchy = self.stage.hierarchy()?;
-        Selections::of(alloc, hierarchy, wanted, ends).ok()
+        Selections::of(alloc, hierarchy, wanted).ok()
+    }
+
+    /// The hierarchy that is shared, once this one has given or taken it.
+    pub fn shared(&self) -> Option<&'r Hierarchy>
+        ensures { IfSome result (λ hierarchy. IsMadeOf self.now hierarchy.now) }
+    {
+        match self.stage {
+            Stage::Sharing(hierarchy) => Some(hierarchy),
+            _ => None,
+        }
     }
 }

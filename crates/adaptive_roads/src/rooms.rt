@@ -6,7 +6,7 @@ use road_hierarchy::SweepRoom;
 use std::alloc::Global;
 use std::marker::Model;
 
-/// Room for sweeps, and a count of the nodes that searches settled.
+/// Room for sweeps and climbs, and a count of the nodes that searches settled.
 #[derive(Drop)]
 pub struct RowRoom {
     pub(crate) sweep: SweepRoom,

@@ -1,5 +1,5 @@
 //! What is selected of a hierarchy for a batch.
-ghost use Rattle.std.specs.Prelude.{◌≡◌, ◌≤◌, ◌<◌, ◌+◌, length, map, slice_index, All, IfOk};
+ghost use Rattle.std.specs.Prelude.{◌≡◌, ◌≤◌, ◌+◌, length, map, All, IfOk};
 ghost use Rattle.ride_model.specs.Road.{RoadMap, IsRoadMap, travel};
 ghost use Rattle.road_times.specs.Turned.{travel_by};
 ghost use Rattle.contraction.specs.Contracted.{IsContractionOf};
@@ -10,13 +10,13 @@ use road_times::Side;
 use std::alloc::Global;
 use std::marker::Model;
 
-/// What rows to wanted nodes need of a hierarchy, rows from these nodes, and times to the ends of trips.
+/// What rows to wanted nodes need of a hierarchy, and rows from these nodes. Times between any two nodes need no more than the
+/// hierarchy.
 #[derive(Drop)]
 pub struct Selections<'h> {
     hierarchy: &'h Hierarchy,
     out: Selected,
     back: Selected,
-    ends: Selected,
 }
 
 impl<'h> Model for Selections<'h> {
@@ -24,54 +24,43 @@ impl<'h> Model for Selections<'h> {
 
     ghost Value = { Selected };
 
-    ghost use Rattle.std.specs.Prelude.{◌+◌};
-    ghost use Rattle.adaptive_roads.specs.Selections.{AreSelections, most_of};
+    ghost use Rattle.adaptive_roads.specs.Selections.{AreSelections};
 
-    ghost view = { λ s. record { hierarchy = s.hierarchy.now; wanted = s.out.wanted; ends = s.ends.wanted; places = s.hierarchy.now.nodes + most_of s.out s.back s.ends } };
+    ghost view = { λ s. record { hierarchy = s.hierarchy.now; wanted = s.out.wanted } };
 
-    ghost invariant = { λ s. AreSelections s.hierarchy.now s.out s.back s.ends };
+    ghost invariant = { λ s. AreSelections s.hierarchy.now s.out s.back };
 }
 
 impl<'h> Selections<'h> {
-    /// Selects for these wanted nodes and these ends.
+    /// Selects for these wanted nodes.
     pub(crate) fn of(
         alloc: Global,
         hierarchy: &'h Hierarchy,
         wanted: &[u32],
-        ends: &[u32],
     ) -> Result<Selections<'h>, NoMemory>
-        requires wanted { All (λ node. (1 ≤ node) × (node ≤ hierarchy.now.nodes)) wanted.now }
-        requires ends { All (λ node. (1 ≤ node) × (node ≤ hierarchy.now.nodes)) ends.now }
+        requires { All (λ node. (1 ≤ node) × (node ≤ hierarchy.now.nodes)) wanted.now }
         ensures hierarchy { IfOk result (λ made. made.hierarchy ≡ hierarchy.now) }
         ensures wanted { IfOk result (λ made. made.wanted ≡ wanted.now) }
-        ensures ends { IfOk result (λ made. made.ends ≡ ends.now) }
     {
         let out = Selected::of(alloc, hierarchy, Side::Out, wanted)?;
         let back = Selected::of(alloc, hierarchy, Side::Back, wanted)?;
-        let ends = Selected::of(alloc, hierarchy, Side::Out, ends)?;
         Ok(Selections {
             hierarchy,
             out,
             back,
-            ends,
         })
     }
 
-    /// How many places a room for these sweeps must have.
+    /// How many places a room must have: for two climbs, or for one and a sweep, in which no more nodes are selected than there are.
     pub(crate) fn places(&self) -> usize
-        ensures { result ≡ self.now.places }
+        ensures { result ≡ self.now.hierarchy.nodes + self.now.hierarchy.nodes }
     {
-        let most = self
-            .out
-            .count()
-            .max(self.back.count())
-            .max(self.ends.count());
-        self.hierarchy.nodes() as usize + most
+        2 * self.hierarchy.nodes() as usize
     }
 
     /// Fills a row with the travel times from x to each of the wanted nodes, or from each of them to x.
     pub(crate) fn row(&self, room: &mut SweepRoom, x: u32, side: Side, into: &mut [Option<u64>])
-        requires room { self.now.places ≤ room.old.places }
+        requires room { self.now.hierarchy.nodes + self.now.hierarchy.nodes ≤ room.old.places }
         requires some_node { 1 ≤ x }
         requires node { x ≤ self.now.hierarchy.nodes }
         requires places { length self.now.wanted ≡ length into.old }
@@ -86,16 +75,16 @@ impl<'h> Selections<'h> {
         self.hierarchy.row_in(selected, room, x, into);
     }
 
-    /// The travel time from x to the end of this number.
-    pub(crate) fn time_to_end(&self, room: &mut SweepRoom, x: u32, end: usize) -> Option<u64>
-        requires room { self.now.places ≤ room.old.places }
-        requires some_node { 1 ≤ x }
-        requires node { x ≤ self.now.hierarchy.nodes }
-        requires end { end < length self.now.ends }
-        ensures time { (roads : RoadMap) → IsRoadMap roads → IsContractionOf roads self.now.hierarchy
-            → result ≡ travel roads x (slice_index self.now.ends end) }
+    /// The travel time from x to y.
+    pub(crate) fn time(&self, room: &mut SweepRoom, x: u32, y: u32) -> Option<u64>
+        requires room { self.now.hierarchy.nodes + self.now.hierarchy.nodes ≤ room.old.places }
+        requires some_from { 1 ≤ x }
+        requires from { x ≤ self.now.hierarchy.nodes }
+        requires some_to { 1 ≤ y }
+        requires to { y ≤ self.now.hierarchy.nodes }
+        ensures time { (roads : RoadMap) → IsRoadMap roads → IsContractionOf roads self.now.hierarchy → result ≡ travel roads x y }
         ensures room { room.new ≡ room.old }
     {
-        self.hierarchy.time_in(&self.ends, room, x, end)
+        self.hierarchy.time(room, x, y)
     }
 }

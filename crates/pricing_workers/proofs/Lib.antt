@@ -3,5 +3,7 @@ pub mod Wanting
 pub mod Filling
 pub mod Nodes
 pub mod PairFacts
+pub mod SameItems
 pub mod SeatOffers
 pub mod SmallCosts
+pub mod WorkerTimes

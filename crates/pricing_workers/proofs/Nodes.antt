@@ -7,26 +7,16 @@ use Rattle.ride_model.specs.declared.vehicle.Stop.{Stop}
 use Rattle.ride_model.specs.declared.vehicle.Vehicle.{Vehicle}
 use Rattle.ride_model.specs.Road.{RoadMap, IsNode}
 use Rattle.ride_model.specs.Vehicle.{IsRide, IsLawful}
-use Rattle.model_laws.proofs.Among.{Among}
+use Rattle.plain_lemmas.proofs.Among.{Among}
+use Rattle.plain_lemmas.proofs.Each.{of_each, each-among}
 use Rattle.model_laws.proofs.PlanStops.{stop-of-ride}
 use Rattle.pricing_workers.specs.Wanted.{nodes_of, all_nodes}
-
--- what holds of each element of a list holds of one among them
-among-all : {X : Type 0} (P : X → Type 0) (xs : List X) (x : X) → AllByRecursion P xs → Among x xs → P x
-among-all P [] x h among = absurd among
-among-all P (y ∷ xs) x h (inl is) = subst P is h.0
-among-all P (y ∷ xs) x h (inr later) = among-all P xs x h.1 later
-
--- what holds of each one among a list holds of each element
-all-among : {X : Type 0} (P : X → Type 0) (xs : List X) → ((x : X) → Among x xs → P x) → AllByRecursion P xs
-all-among P [] h = tt
-all-among P (x ∷ xs) h = (h x (inl refl), all-among P xs (λ y there. h y (inr there)))
 
 -- the stops of a lawful vehicle are at nodes
 stop-at-node : (roads : RoadMap) (v : Vehicle) (stop : Stop) → IsLawful roads v → Among stop v.stops.items → IsNode roads stop.node
 stop-at-node roads v stop lawful there =
     let (ride, among, node) = stop-of-ride v.rides.items v.stops.items stop lawful.routed.planned there in
-    let fits = among-all (IsRide roads) v.rides.items ride (recursion_from_All (IsRide roads) v.rides.items lawful.routed.rides_fit) among in
+    let fits = of_each (IsRide roads) v.rides.items ride (recursion_from_All (IsRide roads) v.rides.items lawful.routed.rides_fit) among in
     elim node [
       | inl from ↦ subst (IsNode roads) (sym from) fits.from_node
       | inr to ↦ subst (IsNode roads) (sym to) fits.to_node
@@ -38,7 +28,7 @@ nodes-of-on-map roads v lawful = All-append (IsNode roads) (v.at ∷ []) (map (�
     (All-from_recursion (IsNode roads) (v.at ∷ []) (lawful.routed.at_node, tt))
     (All-map (IsNode roads) (λ (stop : Stop). stop.node) v.stops.items
     (All-from_recursion (λ (stop : Stop). IsNode roads stop.node) v.stops.items
-    (all-among (λ (stop : Stop). IsNode roads stop.node) v.stops.items (λ stop there. stop-at-node roads v stop lawful there))))
+    (each-among (λ (stop : Stop). IsNode roads stop.node) v.stops.items (λ stop there. stop-at-node roads v stop lawful there))))
 
 on-map : (roads : RoadMap) (vehicles : List Vehicle) → AllByRecursion (IsLawful roads) vehicles → All (IsNode roads) (all_nodes vehicles)
 on-map roads [] lawful = All-from_recursion (IsNode roads) [] tt

@@ -26,7 +26,7 @@ use Rattle.pricing_workers.proofs.RowTimes.{nodes-fit, rows-wide, holds-at}
 pub record Facts (roads : RoadMap) (batch : BatchCopy) (times : Times) (ride : Ride) (v : Vehicle) (plan : Plan) : Type 0 where
   pub wide : IsWide (plan.first + 1 + length v.stops.items) times
   pub holds : HoldsAt roads ride plan.first v times
-  pub slack : plan.slack ≡ slack_of v (start_of v batch.settings.lead batch.time) batch.settings.dwell
+  pub tables : plan.tables ≡ slack_of v (start_of v batch.settings.lead batch.time) batch.settings.dwell
   pub lawful : IsLawful roads v
   pub fresh : IsFresh v.rides.items ride.id
 
@@ -51,7 +51,7 @@ pair-facts roads batch wanted times ride place v plan shown may low shown_is sam
       holds = subst (λ n. HoldsAt roads ride n v times) (sym first)
           (subst (λ u. HoldsAt roads ride (length (all_nodes (take place vehicles))) u times) (sym v_is)
           (holds-at roads ride vehicles times place v rows low));
-      slack = ap (λ (p : Plan). p.slack) plan_known;
+      tables = ap (λ (p : Plan). p.tables) plan_known;
       lawful = subst (IsLawful roads) (sym v_is) (All-get_or (IsLawful roads) vehicles place v low may.may_fill.lawful);
       fresh = subst (λ (u : Vehicle). IsFresh u.rides.items ride.id) (sym v_is)
           (All-get_or (λ (u : Vehicle). IsFresh u.rides.items ride.id) vehicles place v low may.request.fresh);

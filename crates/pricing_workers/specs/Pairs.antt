@@ -6,6 +6,7 @@ use Rattle.ride_model.specs.Road.{RoadMap, IsRoadMap}
 use Rattle.ride_model.specs.Seating.{BatchCopy}
 use Rattle.ride_model.specs.Settings.{IsSettings}
 use Rattle.ride_model.specs.Vehicle.{IsRide, IsFresh, IsLawful}
+use Rattle.ride_model.specs.Limits.{latest_time}
 use Rattle.pricing_workers.specs.declared.times.Times.{Times}
 use Rattle.pricing_workers.specs.declared.wanted.Wanted.{Wanted}
 use Rattle.pricing_workers.specs.Rows.{HoldsRows}
@@ -21,7 +22,7 @@ pub record IsRequest (roads : RoadMap) (batch : BatchCopy) (ride : Ride) : Type 
 pub record MayFill (roads : RoadMap) (batch : BatchCopy) (wanted : Wanted) : Type 0 where
   pub map_fits : IsRoadMap roads
   pub settings_fit : IsSettings batch.settings
-  pub time_limit : batch.time ≤ 1000000000
+  pub time_limit : batch.time ≤ latest_time
   pub lawful : All (IsLawful roads) batch.vehicles
   pub wanted_is : IsWanted batch.settings batch.time batch.vehicles wanted
 

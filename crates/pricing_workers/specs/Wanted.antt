@@ -1,5 +1,5 @@
 -- The nodes that times are wanted of, and the tables of the plans.
-use Rattle.std.specs.Prelude.{◌≡◌, ℕ, ◌<◌, List, ◌∷◌, length, map, flat_map, take, slice_index_or}
+use Rattle.std.specs.Prelude.{◌≡◌, ℕ, ◌<◌, ◌≤◌, List, ◌∷◌, length, map, flat_map, take, slice_index_or}
 use Rattle.ride_model.specs.declared.settings.Settings.{Settings}
 use Rattle.ride_model.specs.declared.vehicle.Stop.{Stop}
 use Rattle.ride_model.specs.declared.vehicle.Vehicle.{Vehicle}
@@ -20,12 +20,12 @@ all_nodes vehicles = flat_map nodes_of vehicles
 abbrev pub plan_at : Settings → ℕ → List Vehicle → ℕ → Vehicle → Plan
 plan_at settings time vehicles c v = record {
   first = length (all_nodes (take c vehicles));
-  slack = slack_of v (start_of v settings.lead time) settings.dwell;
+  tables = slack_of v (start_of v settings.lead time) settings.dwell;
 }
 
--- what is wanted for these vehicles
+-- what is wanted for these vehicles: there is a plan at each one's place, and there may be more
 pub record IsWanted (settings : Settings) (time : ℕ) (vehicles : List Vehicle) (wanted : Wanted) : Type 0 where
   pub nodes_are : wanted.nodes.items ≡ all_nodes vehicles
-  pub plan_count : length wanted.plans.items ≡ length vehicles
+  pub plan_count : length vehicles ≤ length wanted.plans.items
   pub plans_are : (c : ℕ) (v : Vehicle) (plan : Plan) → c < length vehicles
       → slice_index_or wanted.plans.items c plan ≡ plan_at settings time vehicles c (slice_index_or vehicles c v)

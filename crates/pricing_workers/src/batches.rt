@@ -1,10 +1,11 @@
 //! The table of a batch.
-ghost use Rattle.std.specs.Prelude.{◌≡◌, ◌*◌, ◌≤◌, length, map, All, IfOk};
+ghost use Rattle.std.specs.Prelude.{◌≡◌, ◌+◌, ◌*◌, ◌≤◌, length, map, take, All, IfOk};
 ghost use Rattle.std.specs.Result.{OnOk};
 ghost use Rattle.ride_model.specs.declared.vehicle.Ride.{Ride};
 ghost use Rattle.ride_model.specs.Road.{IsNode};
 ghost use Rattle.ride_model.specs.Seating.{IsBatchOver};
 ghost use Rattle.ride_model.specs.Vehicle.{IsLawful};
+ghost use Rattle.ride_model.specs.Limits.{largest_batch, latest_time};
 ghost use Rattle.batch_commit.specs.Table.{IsTableOf};
 ghost use Rattle.pricing_workers.specs.Cells.{AreRowsOf};
 ghost use Rattle.pricing_workers.specs.Pairs.{IsRequest, MayFill};
@@ -12,6 +13,7 @@ ghost use Rattle.pricing_workers.specs.Rows.{HasRoom};
 
 use crate::pairs::Search;
 use crate::pieces::{Job, fill_rows};
+use crate::pricer::{Kept, Pricer};
 use crate::times::Times;
 use crate::wanted::Wanted;
 use adaptive_roads::{AdaptiveRoads, BatchRoads, Searched};
@@ -26,7 +28,7 @@ use std::thread::{Threads, join_mut};
 // stops wants 17,000 nodes, which makes a megabyte a worker; the rows of all of 128 requests at once would take 139.
 
 /// The least offer of each vehicle of a batch to each of its requests: rows of times from the road, by as many workers as there
-/// are scratches and requests, and pairs priced in parallel. A worker passes the gate at place 7 before the rows of each request.
+/// are scratches and requests. A worker passes the gate at place 7 before the rows of each request.
 pub fn price_batch<R: Threads + Sync, G: Gate>(
     rt: &R,
     alloc: Global,
@@ -37,7 +39,7 @@ pub fn price_batch<R: Threads + Sync, G: Gate>(
 ) -> Result<PriceTable, NoMemory>
     requires some_scratch { 1 ≤ length scratches.old }
     requires scratches { All (λ scratch. scratch.nodes ≡ roads.now.nodes) scratches.old }
-    requires time { batch.now.time ≤ 1000000000 }
+    requires time { batch.now.time ≤ latest_time }
     requires over_map { IsBatchOver roads.now batch.now }
     requires lawful { All (IsLawful roads.now) batch.now.vehicles }
     ensures table { IfOk result (λ table. IsTableOf roads.now batch.now table) }
@@ -58,48 +60,52 @@ pub fn price_batch_by<R: Threads + Sync, G: Gate>(
 ) -> Result<PriceTable, NoMemory>
     requires some_scratch { 1 ≤ length scratches.old }
     requires scratches { All (λ scratch. scratch.nodes ≡ roads.now.nodes) scratches.old }
-    requires time { batch.now.time ≤ 1000000000 }
+    requires time { batch.now.time ≤ latest_time }
     requires over_map { IsBatchOver roads.now batch.now }
     requires lawful { All (IsLawful roads.now) batch.now.vehicles }
     ensures table { IfOk result (λ table. IsTableOf roads.now batch.now table) }
     ensures scratches { scratches.new ≡ scratches.old }
 {
-    let wanted = wanted_of(alloc, batch, roads)?;
+    let mut kept = Kept::new(alloc);
+    let wanted = &mut kept.wanted;
+    renew_wanted(wanted, batch, roads)?;
     let roads = BatchRoads::by_searches(roads, wanted.nodes.as_slice());
     let job = Job {
         search,
         roads: &roads,
         batch,
-        wanted: &wanted,
+        wanted,
     };
-    let (table, _searched) = table_of(rt, alloc, &job, scratches, gate)?;
+    let (table, _searched) = table_of(rt, alloc, &job, &mut kept.times, scratches, gate)?;
     Ok(table)
 }
 
-/// The same over roads that adapt: rows come by sweeps once that pays, and until then a piece of what sweeps need is made beside the
-/// searches. What was searched is noted.
+/// The same by a pricer, whose roads adapt: rows come by sweeps once that pays, and until then a piece of what sweeps need is made beside
+/// the searches. What was searched is noted.
 pub fn price_batch_adapting<R: Threads + Sync, G: Gate>(
     rt: &R,
     alloc: Global,
     search: Search,
     batch: &Batch,
-    roads: &mut AdaptiveRoads,
+    pricer: &mut Pricer,
     scratches: &mut [Scratch],
     gate: &G,
 ) -> Result<PriceTable, NoMemory>
     requires some_scratch { 1 ≤ length scratches.old }
-    requires scratches { All (λ scratch. scratch.nodes ≡ roads.old.nodes) scratches.old }
-    requires time { batch.now.time ≤ 1000000000 }
-    requires over_map { IsBatchOver roads.old batch.now }
-    requires lawful { All (IsLawful roads.old) batch.now.vehicles }
-    ensures table { IfOk result (λ table. IsTableOf roads.old batch.now table) }
-    ensures roads { roads.new ≡ roads.old }
+    requires scratches { All (λ scratch. scratch.nodes ≡ pricer.old.nodes) scratches.old }
+    requires time { batch.now.time ≤ latest_time }
+    requires over_map { IsBatchOver pricer.old batch.now }
+    requires lawful { All (IsLawful pricer.old) batch.now.vehicles }
+    ensures table { IfOk result (λ table. IsTableOf pricer.old batch.now table) }
+    ensures pricer { pricer.new ≡ pricer.old }
     ensures scratches { scratches.new ≡ scratches.old }
 {
+    let roads = &mut pricer.roads;
+    let kept = pricer.kept.get_or_insert_with(|| Kept::new(alloc));
     let (table, searched) = if roads.is_making() {
-        table_beside(rt, alloc, search, batch, roads, scratches, gate)?
+        table_beside(rt, alloc, search, batch, roads, kept, scratches, gate)?
     } else {
-        table_either_way(rt, alloc, search, batch, roads, scratches, gate)?
+        table_either_way(rt, alloc, search, batch, roads, kept, scratches, gate)?
     };
     roads.note_batch(searched);
     Ok(table)
@@ -112,12 +118,13 @@ fn table_beside<R: Threads + Sync, G: Gate>(
     search: Search,
     batch: &Batch,
     adaptive: &mut AdaptiveRoads,
+    kept: &mut Kept,
     scratches: &mut [Scratch],
     gate: &G,
 ) -> Result<(PriceTable, Searched), NoMemory>
     requires some_scratch { 1 ≤ length scratches.old }
     requires scratches { All (λ scratch. scratch.nodes ≡ adaptive.old.nodes) scratches.old }
-    requires time { batch.now.time ≤ 1000000000 }
+    requires time { batch.now.time ≤ latest_time }
     requires over_map { IsBatchOver adaptive.old batch.now }
     requires lawful { All (IsLawful adaptive.old) batch.now.vehicles }
     ensures table { IfOk result (λ pair. IsTableOf adaptive.old batch.now pair.0) }
@@ -125,15 +132,16 @@ fn table_beside<R: Threads + Sync, G: Gate>(
     ensures scratches { scratches.new ≡ scratches.old }
 {
     let roads = adaptive.roads();
-    let wanted = wanted_of(alloc, batch, roads)?;
+    let wanted = &mut kept.wanted;
+    renew_wanted(wanted, batch, roads)?;
     let roads = BatchRoads::by_searches(roads, wanted.nodes.as_slice());
     let job = Job {
         search,
         roads: &roads,
         batch,
-        wanted: &wanted,
+        wanted,
     };
-    make_beside(rt, alloc, &job, adaptive, scratches, gate)
+    make_beside(rt, alloc, &job, adaptive, &mut kept.times, scratches, gate)
 }
 
 // The table of a batch, while a piece of what sweeps need is made.
@@ -142,6 +150,7 @@ fn make_beside<R: Threads + Sync, G: Gate>(
     alloc: Global,
     job: &Job,
     adaptive: &mut AdaptiveRoads,
+    times: &mut Vec<Times>,
     scratches: &mut [Scratch],
     gate: &G,
 ) -> Result<(PriceTable, Searched), NoMemory>
@@ -167,7 +176,7 @@ fn make_beside<R: Threads + Sync, G: Gate>(
                 × All (λ scratch. scratch.nodes ≡ job.now.roads.now.roads.nodes) scratches.now }
             ensures { IfOk result (λ pair. IsTableOf job.entry.now.roads.now.roads job.entry.now.batch.now pair.0)
                 × (scratches.exit.now ≡ scratches.entry.now) }
-        { table_of(rt, alloc, job, scratches, gate) },
+        { table_of(rt, alloc, job, times, scratches, gate) },
     );
     made
 }
@@ -179,51 +188,45 @@ fn table_either_way<R: Threads + Sync, G: Gate>(
     search: Search,
     batch: &Batch,
     adaptive: &AdaptiveRoads,
+    kept: &mut Kept,
     scratches: &mut [Scratch],
     gate: &G,
 ) -> Result<(PriceTable, Searched), NoMemory>
     requires some_scratch { 1 ≤ length scratches.old }
     requires scratches { All (λ scratch. scratch.nodes ≡ adaptive.now.nodes) scratches.old }
-    requires time { batch.now.time ≤ 1000000000 }
+    requires time { batch.now.time ≤ latest_time }
     requires over_map { IsBatchOver adaptive.now batch.now }
     requires lawful { All (IsLawful adaptive.now) batch.now.vehicles }
     ensures table { IfOk result (λ pair. IsTableOf adaptive.now batch.now pair.0) }
     ensures scratches { scratches.new ≡ scratches.old }
 {
     let roads = adaptive.roads();
-    let wanted = wanted_of(alloc, batch, roads)?;
+    let wanted = &mut kept.wanted;
+    renew_wanted(wanted, batch, roads)?;
     let nodes = wanted.nodes.as_slice();
-    let ends = ends_of(alloc, batch)?;
-    let selections = adaptive.select(alloc, nodes, ends.as_slice());
-    let roads = BatchRoads::over(roads, nodes, ends.as_slice(), selections.as_ref());
+    let selections = adaptive.select(alloc, nodes);
+    let roads = BatchRoads::over(roads, nodes, selections.as_ref());
     let job = Job {
         search,
         roads: &roads,
         batch,
-        wanted: &wanted,
+        wanted,
     };
-    table_of(rt, alloc, &job, scratches, gate)
+    table_of(rt, alloc, &job, &mut kept.times, scratches, gate)
 }
 
-// Where the trips of a batch's requests end.
-fn ends_of(alloc: Global, batch: &Batch) -> Result<Vec<u32>, NoMemory>
-    ensures { IfOk result (λ ends. ends.items ≡ map (λ (ride : Ride). ride.to) batch.now.requests) }
-{
-    batch.requests().iter().map(|ride| ride.to).collect(alloc)
-}
-
-// What is wanted of a map that is within its limits, as all roads are.
-fn wanted_of(alloc: Global, batch: &Batch, roads: &Roads) -> Result<Wanted, NoMemory>
-    requires time { batch.now.time ≤ 1000000000 }
+// Makes it what is wanted for a batch, of a map that is within its limits, as all roads are.
+fn renew_wanted(wanted: &mut Wanted, batch: &Batch, roads: &Roads) -> Result<(), NoMemory>
+    requires time { batch.now.time ≤ latest_time }
     requires over_map { IsBatchOver roads.now batch.now }
     requires lawful { All (IsLawful roads.now) batch.now.vehicles }
-    ensures ready { IfOk result (MayFill roads.now batch.now) }
-    ensures inside { IfOk result (λ wanted. All (IsNode roads.now) wanted.nodes.items) }
+    ensures ready { OnOk result (MayFill roads.now batch.now wanted.new) }
+    ensures inside { OnOk result (All (IsNode roads.now) wanted.new.nodes.items) }
 {
     // The number of nodes is asked for the proof alone: with it comes that the map is within its limits.
     let _ = roads.nodes();
-    let wanted = Wanted::of(alloc, batch)?;
-    Ok(wanted)
+    wanted.renew(batch)?;
+    Ok(())
 }
 
 // The table of a batch, and what its searches settled.
@@ -231,6 +234,7 @@ fn table_of<R: Threads + Sync, G: Gate>(
     rt: &R,
     alloc: Global,
     job: &Job,
+    times: &mut Vec<Times>,
     scratches: &mut [Scratch],
     gate: &G,
 ) -> Result<(PriceTable, Searched), NoMemory>
@@ -245,7 +249,7 @@ fn table_of<R: Threads + Sync, G: Gate>(
     let rows = job.batch.requests().len();
     let columns = job.batch.vehicles().vehicles().len();
     let mut cells = vec![in alloc; None; rows * columns]?;
-    let searched = fill_cells(rt, alloc, job, scratches, gate, cells.as_mut_slice())?;
+    let searched = fill_cells(rt, alloc, job, times, scratches, gate, cells.as_mut_slice())?;
     let table = PriceTable::of(rows as u32, columns as u32, cells);
     Ok((table, searched))
 }
@@ -255,12 +259,13 @@ fn fill_cells<R: Threads + Sync, G: Gate>(
     rt: &R,
     alloc: Global,
     job: &Job,
+    times: &mut Vec<Times>,
     scratches: &mut [Scratch],
     gate: &G,
     cells: &mut [Option<Offer>],
 ) -> Result<Searched, NoMemory>
     requires ready { MayFill job.now.roads.now.roads job.now.batch.now job.now.wanted.now }
-    requires few { length job.now.batch.now.requests ≤ 128 }
+    requires few { length job.now.batch.now.requests ≤ largest_batch }
     requires requests { All (IsRequest job.now.roads.now.roads job.now.batch.now) job.now.batch.now.requests }
     requires wanted { job.now.roads.now.wanted ≡ job.now.wanted.now.nodes.items }
     requires some_scratch { 1 ≤ length scratches.old }
@@ -272,17 +277,10 @@ fn fill_cells<R: Threads + Sync, G: Gate>(
     let requests = job.batch.requests();
     let workers = requests.len().min(scratches.len()).max(1);
     let places = job.roads.places();
-    let mut times = times_of(alloc, workers, job.wanted.nodes.len(), places)?;
-    fill_pieces(
-        rt,
-        job,
-        requests,
-        scratches,
-        times.as_mut_slice(),
-        gate,
-        cells,
-    );
-    Ok(searched_by(times.as_slice()))
+    renew_times(alloc, times, workers, job.wanted.nodes.len(), places)?;
+    let times = &mut times.as_mut_slice()[..workers];
+    fill_pieces(rt, job, requests, scratches, times, gate, cells);
+    Ok(searched_by(times))
 }
 
 // How many nodes the workers' searches settled.
@@ -296,21 +294,43 @@ fn searched_by(times: &[Times]) -> Searched {
     searched
 }
 
-// Times for so many workers, each with room for so many nodes, and for sweeps of so many places.
-fn times_of(
+// Makes the times of so many workers ready for a batch: each has room for just so many nodes, and for sweeps of so many places. Those
+// of more workers stay as they are.
+fn renew_times(
     alloc: Global,
+    times: &mut Vec<Times>,
     workers: usize,
     nodes: usize,
     places: usize,
-) -> Result<Vec<Times>, NoMemory>
-    ensures count { IfOk result (λ times. length times.items ≡ workers) }
-    ensures room { IfOk result (λ times. All (HasRoom nodes places) times.items) }
+) -> Result<(), NoMemory>
+    ensures count { OnOk result (workers ≤ length times.new.items) }
+    ensures room { OnOk result (All (HasRoom nodes places) (take workers times.new.items)) }
 {
-    let mut times = Vec::with_capacity(alloc, workers)?;
-    for _ in 0..workers {
-        times.push(Times::new(alloc, nodes, places)?)?;
+    for worker in 0..workers {
+        renew_times_at(alloc, times, worker, nodes, places)?;
     }
-    Ok(times)
+    Ok(())
+}
+
+// Makes the times of the next worker ready.
+fn renew_times_at(
+    alloc: Global,
+    times: &mut Vec<Times>,
+    worker: usize,
+    nodes: usize,
+    places: usize,
+) -> Result<(), NoMemory>
+    requires count { worker ≤ length times.old.items }
+    requires room { All (HasRoom nodes places) (take worker times.old.items) }
+    ensures count { OnOk result (worker + 1 ≤ length times.new.items) }
+    ensures room { OnOk result (All (HasRoom nodes places) (take (worker + 1) times.new.items)) }
+{
+    if worker < times.len() {
+        times[worker].renew(alloc, nodes, places)?;
+        return Ok(());
+    }
+    times.push(Times::new(alloc, nodes, places)?)?;
+    Ok(())
 }
 
 // Fills the cells of requests with as many workers as there are times: the first half of the workers fills its part of the
@@ -325,9 +345,9 @@ fn fill_pieces<R: Threads + Sync, G: Gate>(
     cells: &mut [Option<Offer>],
 )
     requires ready { MayFill job.now.roads.now.roads job.now.batch.now job.now.wanted.now }
-    requires few { length requests.now ≤ 128 }
+    requires few { length requests.now ≤ largest_batch }
     requires requests { All (IsRequest job.now.roads.now.roads job.now.batch.now) requests.now }
-    requires workers { (1 ≤ length times.old) × (length times.old ≤ 128) }
+    requires workers { (1 ≤ length times.old) × (length times.old ≤ largest_batch) }
     requires own_scratches { length times.old ≤ length scratches.old }
     requires scratches { All (λ scratch. scratch.nodes ≡ job.now.roads.now.roads.nodes) scratches.old }
     requires wanted { job.now.roads.now.wanted ≡ job.now.wanted.now.nodes.items }
@@ -338,15 +358,7 @@ fn fill_pieces<R: Threads + Sync, G: Gate>(
 {
     let workers = times.len();
     if workers < 2 {
-        fill_rows(
-            rt,
-            job,
-            requests,
-            &mut scratches[0],
-            &mut times[0],
-            gate,
-            cells,
-        );
+        fill_rows(job, requests, &mut scratches[0], &mut times[0], gate, cells);
         return;
     }
     let half = workers / 2;
@@ -359,9 +371,9 @@ fn fill_pieces<R: Threads + Sync, G: Gate>(
         rt,
         &mut ||
             requires { MayFill job.now.roads.now.roads job.now.batch.now job.now.wanted.now
-                × (length front.now ≤ 128)
+                × (length front.now ≤ largest_batch)
                 × All (IsRequest job.now.roads.now.roads job.now.batch.now) front.now
-                × ((1 ≤ length front_times.now) × (length front_times.now ≤ 128))
+                × ((1 ≤ length front_times.now) × (length front_times.now ≤ largest_batch))
                 × (length front_times.now ≤ length front_scratches.now)
                 × All (λ scratch. scratch.nodes ≡ job.now.roads.now.roads.nodes) front_scratches.now
                 × (job.now.roads.now.wanted ≡ job.now.wanted.now.nodes.items)
@@ -382,9 +394,9 @@ fn fill_pieces<R: Threads + Sync, G: Gate>(
         },
         &mut ||
             requires { MayFill job.now.roads.now.roads job.now.batch.now job.now.wanted.now
-                × (length back.now ≤ 128)
+                × (length back.now ≤ largest_batch)
                 × All (IsRequest job.now.roads.now.roads job.now.batch.now) back.now
-                × ((1 ≤ length back_times.now) × (length back_times.now ≤ 128))
+                × ((1 ≤ length back_times.now) × (length back_times.now ≤ largest_batch))
                 × (length back_times.now ≤ length back_scratches.now)
                 × All (λ scratch. scratch.nodes ≡ job.now.roads.now.roads.nodes) back_scratches.now
                 × (job.now.roads.now.wanted ≡ job.now.wanted.now.nodes.items)

@@ -4,12 +4,16 @@
 mod batches;
 mod pairs;
 mod pieces;
+mod pricer;
+mod rooms;
 mod seats;
+mod tables;
 mod times;
 mod wanted;
 mod workers;
 
 pub use batches::{price_batch, price_batch_adapting, price_batch_by};
 pub use pairs::Search;
+pub use pricer::Pricer;
 pub use seats::{SeatPlaces, offer_of_seat};
 pub use workers::{scratches_of, workers_at_hand};

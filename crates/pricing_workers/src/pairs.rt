@@ -49,7 +49,7 @@ pub(crate) fn price_pair(
     least_offer(
         search,
         vehicle,
-        &plan.slack,
+        plan.tables.slack(),
         ride,
         batch.time(),
         batch.settings(),

@@ -11,11 +11,9 @@ use crate::times::Times;
 use crate::wanted::Wanted;
 use adaptive_roads::BatchRoads;
 use batch_commit::Batch;
-use rayon::prelude::*;
 use ride_model::{Offer, Ride};
 use ride_ports::Gate;
 use road_times::Scratch;
-use std::thread::Threads;
 
 /// The place at the gate of a worker that is about to search the rows of a request.
 const BEFORE_ROWS: u32 = 7;
@@ -29,10 +27,8 @@ pub(crate) struct Job<'a> {
     pub(crate) wanted: &'a Wanted,
 }
 
-/// Fills the cells of requests, one request after the other. Only one request's times are kept, and no memory is taken but by
-/// the threads.
-pub(crate) fn fill_rows<R: Threads + Sync, G: Gate>(
-    rt: &R,
+/// Fills the cells of requests, one request after the other. Only one request's times are kept, and no memory is taken.
+pub(crate) fn fill_rows<G: Gate>(
     job: &Job,
     requests: &[Ride],
     scratch: &mut Scratch,
@@ -54,33 +50,17 @@ pub(crate) fn fill_rows<R: Threads + Sync, G: Gate>(
         let begin = row * columns;
         gate.pass(BEFORE_ROWS);
         times.fill(job.roads, scratch, ride);
-        fill_row(rt, job, ride, times, &mut cells[begin..begin + columns]);
+        fill_row(job, ride, times, &mut cells[begin..begin + columns]);
     }
 }
 
-// Fills the cells of a request whose times are at hand, in parallel.
-fn fill_row<R: Threads + Sync>(
-    rt: &R,
-    job: &Job,
-    ride: &Ride,
-    times: &Times,
-    cells: &mut [Option<Offer>],
-)
+// Fills the cells of a request whose times are at hand.
+fn fill_row(job: &Job, ride: &Ride, times: &Times, cells: &mut [Option<Offer>])
     requires ready { MayPrice job.now.roads.now.roads job.now.batch.now job.now.wanted.now times.now ride.now }
     requires cells { length cells.old ≡ length job.now.batch.now.vehicles }
     ensures { IsRowOf job.now.roads.now.roads job.now.batch.now ride.now cells.new }
 {
-    let (search, batch, wanted) = (job.search, job.batch, job.wanted);
-    par_for_each_mut(
-        rt,
-        cells,
-        |place: usize, cell: &mut Option<Offer>|
-            requires { (place < length batch.now.vehicles)
-                × ((roads : RoadMap) × MayPrice roads batch.now wanted.now times.now ride.now) }
-            ensures { (roads : RoadMap) (v : Vehicle) → MayPrice roads batch.entry.now wanted.entry.now times.entry.now ride.entry.now
-                → IsCellOf roads batch.entry.now ride.entry.now (slice_index_or batch.entry.now.vehicles place v) cell.new }
-        {
-            *cell = price_pair(search, batch, wanted, times, ride, place);
-        },
-    );
+    for place in 0..cells.len() {
+        cells[place] = price_pair(job.search, job.batch, job.wanted, times, ride, place);
+    }
 }

@@ -5,6 +5,7 @@ ghost use Rattle.ride_model.specs.declared.vehicle.Vehicle.{Vehicle};
 ghost use Rattle.ride_model.specs.Offers.{offer_of};
 ghost use Rattle.ride_model.specs.Seating.{IsBatchOver};
 ghost use Rattle.ride_model.specs.Vehicle.{IsLawful};
+ghost use Rattle.ride_model.specs.Limits.{latest_time};
 ghost use Rattle.pricing_workers.specs.Wanted.{nodes_of};
 
 use crate::pairs::near;
@@ -37,7 +38,7 @@ pub fn offer_of_seat(
     requires request_in { seat.request < length batch.now.requests }
     requires vehicle_in { seat.vehicle < length batch.now.vehicles }
     requires scratch { scratch.old.nodes ≡ roads.now.nodes }
-    requires time { batch.now.time ≤ 1000000000 }
+    requires time { batch.now.time ≤ latest_time }
     requires over_map { IsBatchOver roads.now batch.now }
     requires lawful { All (IsLawful roads.now) batch.now.vehicles }
     ensures offer { IfOk result (λ offer. (ride : Ride) (v : Vehicle) → offer ≡ offer_of roads.now batch.now.settings

@@ -1,9 +1,11 @@
 //! A request's rows of times.
 ghost use Rattle.std.specs.Prelude.{◌≡◌, ◌<◌, length, map, IfOk};
+ghost use Rattle.std.specs.Result.{OnOk};
 ghost use Rattle.ride_model.specs.Road.{IsRoadMap, IsNode};
 ghost use Rattle.pricing_workers.specs.Rows.{HasRoom, HoldsRows, near_at};
 
-use adaptive_roads::{BatchRoads, RowRoom};
+use crate::rooms::WorkerRoom;
+use adaptive_roads::BatchRoads;
 use insertion::NearStop;
 use ride_model::Ride;
 use ride_ports::NoMemory;
@@ -11,7 +13,7 @@ use road_times::{Scratch, Side};
 use std::alloc::Global;
 
 /// The times between a request's two nodes and each wanted node, and from its pickup to its drop-off, absent where there is no
-/// way. One of these serves all requests of a piece in turn.
+/// way. One of these serves all requests of a piece in turn, batch after batch.
 #[derive(Drop)]
 pub(crate) struct Times {
     /// From each node to the pickup.
@@ -23,7 +25,7 @@ pub(crate) struct Times {
     /// From the drop-off to each node.
     pub(crate) to_here: Vec<Option<u64>>,
     pub(crate) direct: Option<u64>,
-    pub(crate) room: RowRoom,
+    pub(crate) room: WorkerRoom,
 }
 
 impl Times {
@@ -37,8 +39,24 @@ impl Times {
             to_to: vec![in alloc; None; nodes]?,
             to_here: vec![in alloc; None; nodes]?,
             direct: None,
-            room: RowRoom::new(alloc, places)?,
+            room: WorkerRoom::new(alloc, places)?,
         })
+    }
+
+    /// Makes the rows just so long, and the room for sweeps at least so large. Memory is taken only for more than any batch before had.
+    pub(crate) fn renew(
+        &mut self,
+        alloc: Global,
+        nodes: usize,
+        places: usize,
+    ) -> Result<(), NoMemory>
+        ensures { OnOk result (HasRoom nodes places self.new) }
+    {
+        self.to_from.resize(nodes, None)?;
+        self.from_here.resize(nodes, None)?;
+        self.to_to.resize(nodes, None)?;
+        self.to_here.resize(nodes, None)?;
+        self.room.renew(alloc, places)
     }
 
     /// Fills the rows for a request: four from its nodes, and the time between them.
@@ -53,7 +71,8 @@ impl Times {
         ensures fits { IsRoadMap roads.now.roads }
     {
         let (from, to) = (ride.from, ride.to);
-        let room = &mut self.room;
+        let worker = &mut self.room;
+        let room = &mut worker.rows;
         roads.rows(scratch, room, from, Side::Back, self.to_from.as_mut_slice());
         roads.rows(
             scratch,

@@ -1,28 +1,30 @@
 //! What is found once for all requests of a batch.
-ghost use Rattle.std.specs.Prelude.{◌≡◌, ◌≤◌, ◌++◌, ◌∷◌, [], length, map, All, IfOk};
+ghost use Rattle.std.specs.Prelude.{◌≡◌, ◌≤◌, ◌+◌, ◌++◌, ◌∷◌, [], length, map, take, All};
 ghost use Rattle.std.specs.Result.{OnOk};
 ghost use Rattle.ride_model.specs.declared.vehicle.Stop.{Stop};
 ghost use Rattle.ride_model.specs.Offers.{start_of};
 ghost use Rattle.ride_model.specs.Settings.{IsSettings};
 ghost use Rattle.ride_model.specs.Vehicle.{IsLawfulSomewhere};
+ghost use Rattle.ride_model.specs.Limits.{latest_ready, latest_time, longest_dwell};
 ghost use Rattle.slack_tables.specs.SlackOf.{slack_of};
 ghost use Rattle.pricing_workers.specs.Wanted.{IsWanted, nodes_of};
 
+use crate::tables::PlanTables;
 use batch_commit::Batch;
 use insertion::prices::start_of;
 use ride_model::{Settings, Stop, Vehicle};
 use ride_ports::NoMemory;
-use slack_tables::Slack;
 use std::alloc::Global;
 
 /// Where a vehicle's nodes begin among those that are wanted, and the tables of its plan.
 #[derive(Drop)]
 pub(crate) struct Plan {
     pub(crate) first: usize,
-    pub(crate) slack: Slack,
+    pub(crate) tables: PlanTables,
 }
 
-/// The nodes that times are wanted of, vehicle by vehicle: the one where it is, then those of its stops.
+/// The nodes that times are wanted of, vehicle by vehicle: the one where it is, then those of its stops. Plans beyond a batch's vehicles
+/// are of batches before.
 #[derive(Drop)]
 pub(crate) struct Wanted {
     pub(crate) nodes: Vec<u32>,
@@ -30,43 +32,63 @@ pub(crate) struct Wanted {
 }
 
 impl Wanted {
-    /// What is wanted for a batch.
-    pub(crate) fn of(alloc: Global, batch: &Batch) -> Result<Wanted, NoMemory>
+    /// Room for what is wanted, which holds nothing yet.
+    pub(crate) fn new(alloc: Global) -> Wanted {
+        Wanted {
+            nodes: Vec::new(alloc),
+            plans: Vec::new(alloc),
+        }
+    }
+
+    /// Makes it what is wanted for a batch. The tables of a plan are made anew only where they differ from those of the vehicle at the
+    /// same place of the batch before, and memory is taken only for more vehicles or nodes than any batch before had.
+    pub(crate) fn renew(&mut self, batch: &Batch) -> Result<(), NoMemory>
         requires lawful { All IsLawfulSomewhere batch.now.vehicles }
-        requires time_limit { batch.now.time ≤ 1000000000 }
-        ensures { IfOk result (IsWanted batch.now.settings batch.now.time batch.now.vehicles) }
+        requires time_limit { batch.now.time ≤ latest_time }
+        ensures { OnOk result (IsWanted batch.now.settings batch.now.time batch.now.vehicles self.new) }
     {
         let settings = batch.settings();
         let time = batch.time();
         let vehicles = batch.vehicles().vehicles();
-        let mut wanted = Wanted {
-            nodes: Vec::with_capacity(alloc, vehicles.len())?,
-            plans: Vec::with_capacity(alloc, vehicles.len())?,
-        };
-        for vehicle in vehicles {
-            wanted.add(vehicle, settings, time)?;
+        self.nodes.clear();
+        let missing = vehicles.len().saturating_sub(self.plans.len());
+        self.plans.reserve(missing)?;
+        for (place, vehicle) in vehicles.iter().enumerate() {
+            self.renew_at(place, vehicle, settings, time)?;
         }
-        Ok(wanted)
+        Ok(())
     }
 
-    // Adds a vehicle.
-    fn add(&mut self, vehicle: &Vehicle, settings: &Settings, time: u64) -> Result<(), NoMemory>
+    // Adds the nodes of the vehicle at a place, and makes the plan there its plan.
+    fn renew_at(
+        &mut self,
+        place: usize,
+        vehicle: &Vehicle,
+        settings: &Settings,
+        time: u64,
+    ) -> Result<(), NoMemory>
+        requires place { place ≤ length self.old.plans.items }
         requires lawful { IsLawfulSomewhere vehicle.now }
         requires settings_fit { IsSettings settings.now }
-        requires time_limit { time ≤ 1000000000 }
+        requires time_limit { time ≤ latest_time }
         ensures nodes { OnOk result (self.new.nodes.items ≡ self.old.nodes.items ++ nodes_of vehicle.now) }
-        ensures plans { OnOk result (self.new.plans.items ≡ self.old.plans.items ++ record {
+        ensures plans { OnOk result (take (place + 1) self.new.plans.items ≡ take place self.old.plans.items ++ record {
           first = length self.old.nodes.items;
-          slack = slack_of vehicle.now (start_of vehicle.now settings.now.lead time) settings.now.dwell;
+          tables = slack_of vehicle.now (start_of vehicle.now settings.now.lead time) settings.now.dwell;
         } ∷ []) }
     {
         let first = self.nodes.len();
-        let start = start_of(vehicle, settings.lead, time);
-        let slack = Slack::of(vehicle, start, settings.dwell);
         self.nodes.push(vehicle.at)?;
         self.add_stops(vehicle.stops.as_slice())?;
-        self.plans.push(Plan { first, slack })?;
-        Ok(())
+        let start = start_of(vehicle, settings.lead, time);
+        renew_plan(
+            &mut self.plans,
+            place,
+            first,
+            vehicle,
+            start,
+            settings.dwell,
+        )
     }
 
     // Adds the nodes of stops.
@@ -79,4 +101,33 @@ impl Wanted {
         }
         Ok(())
     }
+}
+
+// Makes the plan at a place that of a vehicle whose nodes begin at `first`, and who leaves at `start`.
+fn renew_plan(
+    plans: &mut Vec<Plan>,
+    place: usize,
+    first: usize,
+    vehicle: &Vehicle,
+    start: u64,
+    dwell: u64,
+) -> Result<(), NoMemory>
+    requires place { place ≤ length plans.old.items }
+    requires lawful { IsLawfulSomewhere vehicle.now }
+    requires start_limit { start ≤ latest_ready }
+    requires dwell_limit { dwell ≤ longest_dwell }
+    ensures { OnOk result (take (place + 1) plans.new.items ≡ take place plans.old.items ++ record {
+      first = first;
+      tables = slack_of vehicle.now start dwell;
+    } ∷ []) }
+{
+    if place < plans.len() {
+        let plan = &mut plans[place];
+        plan.first = first;
+        plan.tables.renew(vehicle, start, dwell);
+        return Ok(());
+    }
+    let tables = PlanTables::of(vehicle, start, dwell);
+    plans.push(Plan { first, tables })?;
+    Ok(())
 }

@@ -9,3 +9,4 @@ pub mod Sweeping
 pub mod Labels
 pub mod Choosing
 pub mod Climbing
+pub mod Meeting

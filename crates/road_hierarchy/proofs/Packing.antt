@@ -2,7 +2,7 @@
 use Rattle.std.proofs.Common.{◌≡◌, ◌≢◌, ℕ, zero, suc, ◌+◌, ◌-◌, ◌<◌, ◌≤◌, inl, inr, true, false, eqb, List, [], ◌∷◌, length, get_or, refl, sym, ◌∙◌, ap, subst, arith}
 use Rattle.std.specs.Prelude.{Contains, map, flat_map, ◌↔◌}
 use Rattle.std.specs.List.{list_any}
-use Rattle.std.proofs.lemmas.Bool.{cases_eq, cases_lt, eqb-true}
+use Rattle.std.proofs.lemmas.Bool.{cases_eq, cases_lt, eqb-true, ne_eqb}
 use Rattle.std.proofs.lemmas.Map.Keys.{IsDistinct-from_apart}
 use Rattle.std.proofs.lemmas.Map.Steps.{length-le_from_distinct_below}
 use Rattle.std.proofs.lemmas.Map.Views.{Contains-from_any}
@@ -167,13 +167,6 @@ ordered-whole nodes levels order ordered all node one high = elim (ordered.cored
       absurd (omega (arith, all))
 ]
   where
-    differ : (a b : ℕ) → a ≢ b → eqb a b ≡ false
-    differ a b differs =
-        elim (eqb a b) as (λ t. eqb a b ≡ t → t ≡ false) [
-          | true ↦ λ same. absurd (differs (eqb-true a b same))
-          | false ↦ λ _. refl
-        ] refl
-
     at : (k d : ℕ) → k < length order → level_in levels (get_or order k d) ≡ k
     at k d low = ap (level_in levels) (get_or_default order k d 0 low) ∙ (ordered.listed k low).2
 
@@ -183,15 +176,15 @@ ordered-whole nodes levels order ordered all node one high = elim (ordered.cored
     apart : level_in levels node ≡ 4294967295 → (i j d : ℕ) → i < j → j < length (0 ∷ node ∷ order)
         → eqb (get_or (0 ∷ node ∷ order) i d) (get_or (0 ∷ node ∷ order) j d) ≡ false
     apart left i zero d less low = absurd (omega arith)
-    apart left zero (suc zero) d less low = differ 0 node (omega arith)
+    apart left zero (suc zero) d less low = ne_eqb 0 node (omega arith)
     apart left (suc i) (suc zero) d less low = absurd (omega arith)
-    apart left zero (suc (suc j)) d less low = differ 0 (get_or order j d) (λ e. absurd (omega (arith, e, some j d (omega arith))))
+    apart left zero (suc (suc j)) d less low = ne_eqb 0 (get_or order j d) (λ e. absurd (omega (arith, e, some j d (omega arith))))
     apart left (suc zero) (suc (suc j)) d less low =
-        differ node (get_or order j d) (λ e.
+        ne_eqb node (get_or order j d) (λ e.
         let short = ordered.short in
         absurd (omega (arith, ap (level_in levels) e, left, at j d (omega arith))))
     apart left (suc (suc i)) (suc (suc j)) d less low =
-        differ (get_or order i d) (get_or order j d) (λ e.
+        ne_eqb (get_or order i d) (get_or order j d) (λ e.
         absurd (omega (arith, ap (level_in levels) e, at i d (omega arith), at j d (omega arith))))
 
     within : (q k : ℕ) → k < length (0 ∷ node ∷ order) → get_or (0 ∷ node ∷ order) k q ≡ q → q < nodes + 1

@@ -2,7 +2,7 @@
 use Rattle.std.proofs.Common.{◌≡◌, ◌≢◌, ℕ, zero, suc, ◌+◌, ◌<◌, ◌≤◌, inl, inr, Bool, true, false, eqb, List, [], ◌∷◌, ◌++◌, length, get_or, set, refl, sym, ◌∙◌, ap, subst, arith}
 use Rattle.std.specs.Prelude.{map}
 use Rattle.std.specs.List.{list_any, IsDistinct}
-use Rattle.std.proofs.lemmas.Bool.{cases_eq, cases_lt, eqb-true}
+use Rattle.std.proofs.lemmas.Bool.{cases_eq, cases_lt, eqb-true, ne_eqb}
 use Rattle.std.proofs.lemmas.List.{get_or_append_left, get_or_push, length_push, get_or-map, length-map, get_or-set_same, get_or-set_other, length-set, same_lists, get_or_default}
 use Rattle.std.proofs.lemmas.Map.Keys.{IsDistinct-from_apart}
 use Rattle.std.proofs.lemmas.Map.Steps.{length-le_from_distinct_below}
@@ -150,22 +150,15 @@ selecting-few Link level count marks IsDone nodes starts steps places s some =
     let few : suc (length nodes) ≤ count = length-le_from_distinct_below (0 ∷ nodes) count distinct below in
     omega arith
   where
-    differ : (a b : ℕ) → a ≢ b → eqb a b ≡ false
-    differ a b differs =
-        elim (eqb a b) as (λ t. eqb a b ≡ t → t ≡ false) [
-          | true ↦ λ same. absurd (differs (eqb-true a b same))
-          | false ↦ λ _. refl
-        ] refl
-
     apart : (i j d : ℕ) → i < j → j < length (0 ∷ nodes) → eqb (get_or (0 ∷ nodes) i d) (get_or (0 ∷ nodes) j d) ≡ false
     apart i zero d less low = absurd (omega arith)
     apart zero (suc j) d less low =
         let (one, _) = s.inside j (omega arith) in
-        differ 0 (get_or nodes j d) (λ e. absurd (omega (arith, e, get_or_default nodes j d 0 (omega arith), one)))
+        ne_eqb 0 (get_or nodes j d) (λ e. absurd (omega (arith, e, get_or_default nodes j d 0 (omega arith), one)))
     apart (suc i) (suc j) d less low =
         let first = s.placed i (omega arith) in
         let second = s.placed j (omega arith) in
-        differ (get_or nodes i d) (get_or nodes j d) (λ e.
+        ne_eqb (get_or nodes i d) (get_or nodes j d) (λ e.
         let same : node_at nodes i ≡ node_at nodes j
         = sym (get_or_default nodes i d 0 (omega arith)) ∙ e ∙ get_or_default nodes j d 0 (omega arith) in
         absurd (omega (arith, first, second, ap (node_at places) same)))

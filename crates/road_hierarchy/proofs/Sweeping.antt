@@ -34,7 +34,7 @@ label-same limit label Weighs Others there back is = record {
 }
 
 -- there is one label that is not above the limit
-label-unique : (limit a b : ℕ) (Weighs : ℕ → Type 0) → IsLabel limit Weighs a → IsLabel limit Weighs b → a ≤ limit → b ≤ limit → a ≡ b
+pub label-unique : (limit a b : ℕ) (Weighs : ℕ → Type 0) → IsLabel limit Weighs a → IsLabel limit Weighs b → a ≤ limit → b ≤ limit → a ≡ b
 label-unique limit a b Weighs first second a_low b_low =
     elim (ltb a limit) as (λ t. ltb a limit ≡ t → a ≡ b) [
       | true ↦ λ e.
@@ -70,7 +70,7 @@ travel_by-le Out roads x y fits time is = travel-le roads x y time fits is
 travel_by-le Back roads x y fits time is = travel-le roads y x time fits is
 
 -- the travel time is the label of the ways over the arcs of a map
-label-of_travel : (roads : RoadMap) (x y : ℕ) → IsRoadMap roads → IsLabel never (Reaches (Contains roads.arcs) x y) (label_for (travel roads x y))
+pub label-of_travel : (roads : RoadMap) (x y : ℕ) → IsRoadMap roads → IsLabel never (Reaches (Contains roads.arcs) x y) (label_for (travel roads x y))
 label-of_travel roads x y fits = of_time (travel roads x y) (travel_is_least roads x y fits)
   where
     of_time : (time : Option ℕ) → IsTravel roads x y time → IsLabel never (Reaches (Contains roads.arcs) x y) (label_for time)
@@ -206,17 +206,6 @@ read-is_travel side roads x nodes times places fits labels inside =
     ∙ time-of_label (travel_by side roads x (node_at nodes place)) (travel_by-le side roads x (node_at nodes place) fits)
     ∙ sym (ap (travel_by side roads x) (get_or-map (node_at nodes) places k 0 0 low))
     ∙ sym (get_or-map (travel_by side roads x) (map (node_at nodes) places) k 0 d (omega (arith, length-map places (node_at nodes)))))
-
--- and that of one of them
-pub time-is_travel : (side : Side) (roads : RoadMap) (x : ℕ) (nodes labels places : List ℕ) (k place : ℕ) → IsRoadMap roads
-    → ((p : ℕ) → p < length nodes → node_at labels p ≡ label_for (travel_by side roads x (node_at nodes p)))
-    → All (λ p. p < length nodes) places → k < length places → place ≡ get_or places k 0
-    → time_of never (node_at labels place) ≡ travel_by side roads x (get_or (map (node_at nodes) places) k 0)
-time-is_travel side roads x nodes labels places k place fits are inside low is =
-    ap (λ p. time_of never (node_at labels p)) is
-    ∙ ap (time_of never) (are (get_or places k 0) (inside k 0 low))
-    ∙ time-of_label (travel_by side roads x (node_at nodes (get_or places k 0))) (travel_by-le side roads x (node_at nodes (get_or places k 0)) fits)
-    ∙ sym (ap (travel_by side roads x) (get_or-map (node_at nodes) places k 0 0 low))
 
 -- a place that was swept, by equal lists
 pub swept-same : (starts more : List ℕ) (steps others : List Step) (climb : ℕ → ℕ) (times labels : List ℕ) (place : ℕ)

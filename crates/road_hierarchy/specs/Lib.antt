@@ -7,4 +7,5 @@ pub mod Packed
 pub mod Selection
 pub mod Sweep
 pub mod Climb
+pub mod Meet
 pub mod Rooms

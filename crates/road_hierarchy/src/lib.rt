@@ -1,15 +1,16 @@
-//! Rows of travel times by a contraction hierarchy: a climb upward, and then one sweep downward.
+//! Travel times by a contraction hierarchy: rows by a climb upward and then one sweep downward, and single times by two climbs.
 //!
 //! Delling, Goldberg and Werneck, "Faster batched shortest paths in road networks" (RPHAST), 2011: the nodes from which arcs
 //! lead down to a wanted node are selected once a batch, in descending order, so that the sweep of each row is one pass over
-//! flat arrays. The climb is a pass over the levels above its node.
+//! flat arrays. The climb is a pass over the levels above its node. A single time needs no selection: a climb from one node and a climb
+//! against the arcs from the other meet.
 //!
 //! A hierarchy is packed from a contraction of which no node is left, and the wanted nodes of a batch are selected once for either
 //! side. `adaptive_roads` then gives the rows, the same whether they come from sweeps or from searches of the roads.
 #![tactic(auto)]
 
-ghost use Rattle.std.specs.Prelude.{◌≡◌, ◌≢◌, ℕ, ◌+◌, ◌<◌, ◌≤◌, length, map, slice_index, IfOk, IfSome, IfNone};
-ghost use Rattle.ride_model.specs.Road.{RoadMap, IsRoadMap};
+ghost use Rattle.std.specs.Prelude.{◌≡◌, ◌≢◌, ℕ, ◌+◌, ◌<◌, ◌≤◌, length, map, IfOk, IfSome, IfNone};
+ghost use Rattle.ride_model.specs.Road.{RoadMap, IsRoadMap, travel};
 ghost use Rattle.road_times.specs.declared.side.Side.TheVariants.{Out, Back};
 ghost use Rattle.road_times.specs.Turned.{travel_by};
 ghost use Rattle.contraction.specs.Contracted.{Contracted, IsContractionOf, IsFitContraction};
@@ -31,19 +32,22 @@ mod climb;
 mod descents;
 mod links;
 mod marks;
+mod meet;
 mod selected;
 mod sweep;
 
 use climb::climb;
 use descents::Descents;
+use meet::least_sum;
 pub use selected::Selected;
-use sweep::{read, sweep, time_at};
+use sweep::{read, sweep, time_for};
 
 /// Want of memory.
 pub type NoMemory = AllocError;
 
 // Memory: an arc or shortcut takes 8 bytes, and a node 24. While a hierarchy is packed the arcs of the contraction take 12 more each,
-// and a node 8 more: at most 116 megabytes for the largest map. A worker's room takes 8 bytes a node and 8 a selected node.
+// and a node 8 more: at most 116 megabytes for the largest map. A worker's room takes 8 bytes a node and 8 a selected node, and a room
+// for single times 16 bytes a node.
 
 /// A contraction of all nodes packed for climbs and sweeps. To contracts it means the same as the contraction, but for loops.
 ///
@@ -68,7 +72,8 @@ impl Model for Hierarchy {
     ghost invariant = { λ h. IsPacked h.levels.items h.order.items h.descents h.ascents };
 }
 
-/// What rows write, so that they take no memory: the labels of a climb by levels, and then those of the selected nodes.
+/// What rows and times write, so that they take no memory: the labels of a climb by levels, and then those of the selected nodes, or of
+/// a second climb.
 #[derive(Drop)]
 pub struct SweepRoom {
     labels: Vec<u64>,
@@ -222,31 +227,28 @@ impl Hierarchy {
         read(&selected.places, labels, into);
     }
 
-    /// The travel time from x to the wanted node of this number, or from that node to x. Takes no memory.
-    pub fn time_in(
-        &self,
-        selected: &Selected,
-        room: &mut SweepRoom,
-        x: u32,
-        wanted: usize,
-    ) -> Option<u64>
-        requires selected { IsSelectionOf self.now selected.now }
-        requires room { self.now.nodes + length selected.now.nodes ≤ room.old.places }
-        requires some_node { 1 ≤ x }
-        requires node { x ≤ self.now.nodes }
-        requires wanted { wanted < length selected.now.wanted }
-        ensures time { (roads : RoadMap) → IsRoadMap roads → IsContractionOf roads self.now
-            → result ≡ travel_by selected.now.side roads x (slice_index selected.now.wanted wanted) }
+    /// The travel time from x to y in seconds, None where there is no way: two climbs, which meet at the highest node of a least way.
+    /// Takes no memory, and time of the number of nodes.
+    pub fn time(&self, room: &mut SweepRoom, x: u32, y: u32) -> Option<u64>
+        requires room { self.now.nodes + self.now.nodes ≤ room.old.places }
+        requires some_from { 1 ≤ x }
+        requires from { x ≤ self.now.nodes }
+        requires some_to { 1 ≤ y }
+        requires to { y ≤ self.now.nodes }
+        ensures time { (roads : RoadMap) → IsRoadMap roads → IsContractionOf roads self.now → result ≡ travel roads x y }
         ensures room { room.new ≡ room.old }
     {
-        let (climbs, labels) = room.labels.split_at_mut(self.order.len());
-        self.label(selected, x, climbs, labels);
-        time_at(labels, selected.places[wanted])
+        let nodes = self.order.len();
+        let (ups, rest) = room.labels.split_at_mut(nodes);
+        let downs = &mut rest[..nodes];
+        self.climb(Side::Out, x, ups);
+        self.climb(Side::Back, y, downs);
+        time_for(least_sum(ups, downs))
     }
 }
 
 impl SweepRoom {
-    /// Room for so many labels: one for each node, and one for each node of a selection.
+    /// Room for so many labels: one for each node, and one for each node of a selection. For single times, two for each node.
     pub fn new(alloc: Global, places: usize) -> Result<SweepRoom, NoMemory>
         ensures { IfOk result (λ room. room.places ≡ places) }
     {

@@ -49,14 +49,21 @@ pub(crate) fn sweep(
     }
 }
 
+/// The travel time that a label stands for.
+#[inline]
+pub(crate) fn time_for(label: u64) -> Option<u64>
+    ensures { result ≡ time_of never label }
+{
+    if label < NEVER { Some(label) } else { None }
+}
+
 /// The travel time that the label of a place stands for.
 #[inline]
-pub(crate) fn time_at(labels: &[u64], place: u32) -> Option<u64>
+fn time_at(labels: &[u64], place: u32) -> Option<u64>
     requires { place < length labels.now }
     ensures { result ≡ time_of never (node_at labels.now place) }
 {
-    let label = labels[place as usize];
-    if label < NEVER { Some(label) } else { None }
+    time_for(labels[place as usize])
 }
 
 /// Reads the travel times of the wanted nodes from the labels of their places.

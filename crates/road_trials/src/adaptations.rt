@@ -1,8 +1,8 @@
-//! A one-way ring of nine nodes, ten seconds from each to the next: it is searched, contracted and swept.
+//! A one-way ring of nine nodes, ten seconds from each to the next: it is searched, contracted, swept and climbed.
 ghost use Rattle.std.specs.Prelude.{◌≡◌, ◌≤◌, length, IfOk};
 ghost use Rattle.ride_model.specs.Road.{IsNode};
 
-use adaptive_roads::{AdaptiveRoads, BatchRoads, RowRoom, SharedHierarchy};
+use adaptive_roads::{AdaptiveRoads, BatchRoads, RowRoom, SharedHierarchy, TravelTimes};
 use ride_model::{Network, NoMemory, RoadArc};
 use road_times::{Roads, Scratch, Side};
 use std::alloc::Global;
@@ -15,8 +15,6 @@ const NODES: u32 = 9;
 
 /// One of the wanted nodes is wanted twice.
 const WANTED: [u32; 4] = [3, 8, 3, 5];
-
-const ENDS: [u32; 2] = [2, 7];
 
 fn ring(alloc: Global) -> Result<Network, NoMemory>
     ensures { IfOk result (λ network. network.nodes ≡ 9) }
@@ -38,7 +36,7 @@ fn around(from: u32, to: u32) -> Option<u64> {
     Some(u64::from(steps).wrapping_mul(10))
 }
 
-/// Both rows of a node, and its times to two nodes, of which one is an end.
+/// Both rows of a node, and its times to two nodes.
 fn expect_node(
     rt: &impl Abort,
     roads: &BatchRoads,
@@ -63,7 +61,7 @@ fn expect_node(
     assert_eq!(rt; roads.time(scratch, room, node, 9), around(node, 9));
 }
 
-/// All rows and times of the ring, by sweeps or by searches.
+/// All rows and times of the ring, by sweeps and climbs with no search, or by searches.
 fn expect_times(
     rt: &impl Abort,
     alloc: Global,
@@ -72,15 +70,15 @@ fn expect_times(
 ) -> Result<(), NoMemory>
     requires { adaptive.now.nodes ≡ 9 }
 {
-    let selections = adaptive.select(alloc, &WANTED, &ENDS);
+    let selections = adaptive.select(alloc, &WANTED);
     assert_eq!(rt; selections.is_some(), by_sweeps);
-    let roads = BatchRoads::over(adaptive.roads(), &WANTED, &ENDS, selections.as_ref());
+    let roads = BatchRoads::over(adaptive.roads(), &WANTED, selections.as_ref());
     let mut scratch = Scratch::new(alloc, adaptive.roads())?;
     let mut room = RowRoom::new(alloc, roads.places())?;
     for node in 0..NODES {
         expect_node(rt, &roads, &mut scratch, &mut room, 1 + node);
     }
-    assert!(rt; room.settled() > 0);
+    assert_eq!(rt; room.settled() == 0, by_sweeps);
     Ok(())
 }
 
@@ -98,6 +96,46 @@ fn times_stay_the_same_once_a_map_is_contracted(rt: HostRuntime) -> Result<(), F
     adaptive.prepare(alloc);
     expect_times(&rt, alloc, &adaptive, true)?;
     Ok(())
+}
+
+/// Times from a node to each.
+fn expect_around(rt: &impl Abort, times: &mut TravelTimes)
+    requires { times.old.nodes ≡ 9 }
+    ensures { times.new ≡ times.old }
+{
+    for node in 0..NODES {
+        assert_eq!(rt; times.time(4, 1 + node), around(4, 1 + node));
+    }
+}
+
+/// Times by searches, and then by climbs of the hierarchy that is shared.
+fn expect_climbs(rt: &impl Abort, alloc: Global, adaptive: &AdaptiveRoads) -> Result<(), NoMemory>
+    requires { adaptive.now.nodes ≡ 9 }
+{
+    let mut times = TravelTimes::new(alloc, adaptive.roads())?;
+    expect_around(rt, &mut times);
+    let Some(hierarchy) = adaptive.shared() else {
+        panic!(rt; "no hierarchy is shared");
+    };
+    times.climb_by(alloc, hierarchy);
+    expect_around(rt, &mut times);
+    Ok(())
+}
+
+/// Two sweep and climb by a hierarchy that they share.
+fn expect_shared(
+    rt: &impl Abort,
+    alloc: Global,
+    one: &AdaptiveRoads,
+    other: &AdaptiveRoads,
+) -> Result<(), NoMemory>
+    requires one { one.now.nodes ≡ 9 }
+    requires other { other.now.nodes ≡ 9 }
+{
+    expect_times(rt, alloc, one, true)?;
+    expect_times(rt, alloc, other, true)?;
+    expect_climbs(rt, alloc, one)?;
+    expect_climbs(rt, alloc, other)
 }
 
 /// One of two makes a hierarchy, and both sweep by it.
@@ -127,8 +165,7 @@ fn expect_sharing<'d, 'q>(
     expect_times(rt, alloc, &other, false)?;
     maker.share(alloc, shared);
     other.share(alloc, shared);
-    expect_times(rt, alloc, &maker, true)?;
-    expect_times(rt, alloc, &other, true)
+    expect_shared(rt, alloc, &maker, &other)
 }
 
 /// Searches enough for a hierarchy and meets the others. Answers whether it sweeps then.
@@ -145,7 +182,7 @@ fn searches_and_meets<'d, 'q>(
     adaptive.share(alloc, shared);
     adaptive.prepare(alloc);
     adaptive.share(alloc, shared);
-    adaptive.select(alloc, &WANTED, &ENDS).is_some()
+    adaptive.select(alloc, &WANTED).is_some()
 }
 
 /// Two threads share a hierarchy, which at least the one that makes it has then.

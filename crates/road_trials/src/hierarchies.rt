@@ -1,12 +1,15 @@
-//! Small maps, whose travel times were computed outside by Floyd's and Warshall's method, contracted to the last node.
+//! Small maps, whose travel times were computed outside by Floyd's and Warshall's method, contracted to the last node: rows by sweeps,
+//! and times by two climbs.
 ghost use Rattle.std.specs.Prelude.{◌≡◌, ℕ, ◌+◌, ◌≤◌, length, All, IfOk, IfSome};
 ghost use Rattle.contraction.specs.Contracted.{IsContractionOf};
 ghost use Rattle.road_hierarchy.specs.Selection.{IsSelectionOf};
+ghost use Rattle.adaptive_roads.specs.Shared.{IsMadeOf};
 
+use adaptive_roads::TravelTimes;
 use contraction::Contraction;
 use ride_model::{Network, RoadArc};
 use road_hierarchy::*;
-use road_times::Side;
+use road_times::{Roads, Side};
 use std::alloc::Global;
 use std::process::Abort;
 use std::test::Fail;
@@ -154,6 +157,84 @@ fn expect_side(
     Ok(())
 }
 
+// Fills a row with the times from a node to each node, each by two climbs.
+fn climb_to_all(hierarchy: &Hierarchy, room: &mut SweepRoom, x: u32, row: &mut [Option<u64>])
+    requires room { hierarchy.now.nodes + hierarchy.now.nodes ≤ room.old.places }
+    requires some_node { 1 ≤ x }
+    requires node { x ≤ hierarchy.now.nodes }
+    requires places { length row.old ≡ hierarchy.now.nodes }
+    ensures room { room.new ≡ room.old }
+{
+    for place in 0..hierarchy.nodes() {
+        row[place as usize] = hierarchy.time(room, x, place + 1);
+    }
+}
+
+// Compares each time by two climbs with the table.
+fn expect_climbs(
+    rt: &impl Abort,
+    alloc: Global,
+    hierarchy: &Hierarchy,
+    table: &[u64],
+) -> Result<(), NoMemory> {
+    let nodes = hierarchy.nodes();
+    let mut room = SweepRoom::new(alloc, 2 * nodes as usize)?;
+    let mut row = vec![in alloc; None; nodes as usize]?;
+    for place in 0..nodes {
+        climb_to_all(hierarchy, &mut room, place + 1, &mut row);
+        let first = (place as usize).wrapping_mul(row.len());
+        expect_row(rt, &row, table, first, 1);
+    }
+    Ok(())
+}
+
+// Fills a row with the times from a node to each node.
+fn travel_to_all(times: &mut TravelTimes, x: u32, row: &mut [Option<u64>])
+    requires some_node { 1 ≤ x }
+    requires node { x ≤ times.old.nodes }
+    requires places { length row.old ≡ times.old.nodes }
+    ensures times { times.new ≡ times.old }
+{
+    for place in 0..times.roads().nodes() {
+        row[place as usize] = times.time(x, place + 1);
+    }
+}
+
+// Compares each time with the table.
+fn expect_travels(
+    rt: &impl Abort,
+    alloc: Global,
+    times: &mut TravelTimes,
+    table: &[u64],
+) -> Result<(), NoMemory>
+    ensures { times.new ≡ times.old }
+{
+    let nodes = times.roads().nodes();
+    let mut row = vec![in alloc; None; nodes as usize]?;
+    for place in 0..nodes {
+        travel_to_all(times, place + 1, &mut row);
+        let first = (place as usize).wrapping_mul(row.len());
+        expect_row(rt, &row, table, first, 1);
+    }
+    Ok(())
+}
+
+// Compares times by searches with the table, and then those by climbs.
+fn expect_same_travels<'r>(
+    rt: &impl Abort,
+    alloc: Global,
+    roads: &'r Roads,
+    hierarchy: &'r Hierarchy,
+    table: &[u64],
+) -> Result<(), NoMemory>
+    requires { IsMadeOf roads.now hierarchy.now }
+{
+    let mut times = TravelTimes::new(alloc, roads)?;
+    expect_travels(rt, alloc, &mut times, table)?;
+    times.climb_by(alloc, hierarchy);
+    expect_travels(rt, alloc, &mut times, table)
+}
+
 fn expect_table(
     rt: &impl Abort,
     alloc: Global,
@@ -167,31 +248,32 @@ fn expect_table(
         panic!(rt; "nodes are left");
     };
     expect_side(rt, alloc, &hierarchy, Side::Out, table)?;
-    expect_side(rt, alloc, &hierarchy, Side::Back, table)
+    expect_side(rt, alloc, &hierarchy, Side::Back, table)?;
+    expect_climbs(rt, alloc, &hierarchy, table)?;
+    let roads = Roads::new(alloc, &map)?;
+    expect_same_travels(rt, alloc, &roads, &hierarchy, table)
 }
 
 #[test]
-fn rows_are_the_least_times_of_a_small_map(rt: HostRuntime) -> Result<(), Fail> {
+fn times_are_the_least_of_a_small_map(rt: HostRuntime) -> Result<(), Fail> {
     expect_table(&rt, rt.alloc(), 8, &SMALL, &SMALL_TIMES)?;
     Ok(())
 }
 
 #[test]
-fn rows_are_the_least_times_with_the_least_and_greatest_seconds(
-    rt: HostRuntime,
-) -> Result<(), Fail> {
+fn times_are_the_least_with_the_least_and_greatest_seconds(rt: HostRuntime) -> Result<(), Fail> {
     expect_table(&rt, rt.alloc(), 6, &EXTREME, &EXTREME_TIMES)?;
     Ok(())
 }
 
 #[test]
-fn rows_are_the_least_times_over_parallel_arcs_and_loops(rt: HostRuntime) -> Result<(), Fail> {
+fn times_are_the_least_over_parallel_arcs_and_loops(rt: HostRuntime) -> Result<(), Fail> {
     expect_table(&rt, rt.alloc(), 3, &PAIR, &PAIR_TIMES)?;
     Ok(())
 }
 
 #[test]
-fn rows_are_the_least_times_with_no_arcs(rt: HostRuntime) -> Result<(), Fail> {
+fn times_are_the_least_with_no_arcs(rt: HostRuntime) -> Result<(), Fail> {
     expect_table(&rt, rt.alloc(), 2, &[], &[0, NO, NO, 0])?;
     Ok(())
 }

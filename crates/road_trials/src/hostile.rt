@@ -182,9 +182,9 @@ fn expect_adapted(
 ) -> Result<(), NoMemory>
     requires { adaptive.now.nodes ≡ 60 }
 {
-    let selections = adaptive.select(alloc, &WANTED, &[]);
+    let selections = adaptive.select(alloc, &WANTED);
     assert_eq!(rt; selections.is_some(), by_sweeps);
-    let roads = BatchRoads::over(adaptive.roads(), &WANTED, &[], selections.as_ref());
+    let roads = BatchRoads::over(adaptive.roads(), &WANTED, selections.as_ref());
     let mut scratch = Scratch::new(alloc, adaptive.roads())?;
     let mut room = RowRoom::new(alloc, roads.places())?;
     for place in 0..NODES {

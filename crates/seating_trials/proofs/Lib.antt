@@ -1,2 +1,3 @@
 pub mod OneCell
 pub mod TwoRequests
+pub mod InTurn

@@ -3,13 +3,14 @@ use Rattle.std.proofs.Common.{◌≡◌, ℕ, ◌<◌, ◌≤◌, ◌^◌, true,
 use Rattle.std.specs.Prelude.{All, Option, Some, None, not, is_none, ◌&&◌}
 use Rattle.std.specs.List.{IsDistinct}
 use Rattle.std.proofs.lemmas.List.Elements.{All-from_recursion}
+use Rattle.std.proofs.lemmas.Bool.{not-true, and_parts}
 use Rattle.ride_model.specs.declared.vehicle.Ride.{Ride}
 use Rattle.ride_model.specs.declared.vehicle.Vehicle.{Vehicle}
 use Rattle.ride_model.specs.Fleet.{IsFleet}
 use Rattle.ride_model.specs.Seating.{IsBatchOver}
 use Rattle.ride_model.specs.Vehicle.{IsRide, IsFresh, IsLawful, IsRouted}
-use Rattle.model_laws.proofs.AboardLoads.{and-true}
-use Rattle.model_laws.proofs.Among.{among_from_contains}
+use Rattle.plain_lemmas.proofs.Among.{among_from_contains}
+use Rattle.plain_lemmas.proofs.Options.{none_from_is_none}
 use Rattle.plan_trials.specs.SmallPlans.{four_nodes}
 use Rattle.plan_trials.specs.LineRoad.{is_ride}
 use Rattle.plan_trials.proofs.LineRoad.{a_ride}
@@ -57,14 +58,6 @@ both-routed : (duty : Bool) → All (IsRouted four_nodes) (idle 1 1 true ∷ idl
 both-routed duty = All-from_recursion (IsRouted four_nodes) (idle 1 1 true ∷ idle 2 4 duty ∷ [])
     (idle-routed 1 1 true (omega arith) (omega arith), (idle-routed 2 4 duty (omega arith) (omega arith), tt))
 
-none-picked : (picked : Option ℕ) → is_none picked ≡ true → picked ≡ None
-none-picked None is = refl
-none-picked (Some time) is = absurd (cc is)
-
-not-true : (b : Bool) → not b ≡ true → b ≡ false
-not-true true is = absurd (cc is)
-not-true false is = refl
-
 -- no idle vehicle has a ride
 fresh-in-both : (duty : Bool) (id : ℕ) → All (λ (v : Vehicle). IsFresh v.rides.items id) (idle 1 1 true ∷ idle 2 4 duty ∷ [])
 fresh-in-both duty id = All-from_recursion (λ (v : Vehicle). IsFresh v.rides.items id) (idle 1 1 true ∷ idle 2 4 duty ∷ [])
@@ -74,15 +67,15 @@ fresh-in-both duty id = All-from_recursion (λ (v : Vehicle). IsFresh v.rides.it
 pub ids-differ : (first second : Ride) → may_ask first second ≡ true → IsDistinct eqb (first.id ∷ second.id ∷ [])
 unfolding IsDistinct
 ids-differ first second h =
-    let apart = (and-true _ (not (eqb first.id second.id)) h).1 in
+    let apart = (and_parts _ (not (eqb first.id second.id)) h).1 in
     ((not-true (eqb first.id second.id) apart, tt), (tt, tt))
 
 pub over-line : (first second : Ride) (duty : Bool) → may_ask first second ≡ true → IsBatchOver four_nodes (batch_of (first ∷ second ∷ []) duty)
 over-line first second duty h =
-    let (h4, apart) = and-true _ (not (eqb first.id second.id)) h in
-    let (h3, second_waits) = and-true _ (is_none second.picked) h4 in
-    let (h2, second_fits) = and-true _ (is_ride second) h3 in
-    let (first_fits, first_waits) = and-true (is_ride first) (is_none first.picked) h2 in
+    let (h4, apart) = and_parts _ (not (eqb first.id second.id)) h in
+    let (h3, second_waits) = and_parts _ (is_none second.picked) h4 in
+    let (h2, second_fits) = and_parts _ (is_ride second) h3 in
+    let (first_fits, first_waits) = and_parts (is_ride first) (is_none first.picked) h2 in
     let both = first ∷ second ∷ [] in
     record {
       settings_fit = settings_fit settings refl;
@@ -90,7 +83,7 @@ over-line first second duty h =
       vehicles_fit = both-routed duty;
       rides_fit = All-from_recursion (IsRide four_nodes) both (a_ride first first_fits, (a_ride second second_fits, tt));
       rides_wait = All-from_recursion (λ (ride : Ride). ride.picked ≡ None) both
-          (none-picked first.picked first_waits, (none-picked second.picked second_waits, tt));
+          (none_from_is_none first.picked first_waits, (none_from_is_none second.picked second_waits, tt));
       rides_fresh = All-from_recursion (λ (ride : Ride). All (λ (v : Vehicle). IsFresh v.rides.items ride.id) (batch_of both duty).vehicles) both
           (fresh-in-both duty first.id, (fresh-in-both duty second.id, tt));
     }

@@ -14,3 +14,5 @@ mod pairings;
 mod prices;
 #[cfg(test)]
 mod seatings;
+#[cfg(test)]
+mod turns;

@@ -14,7 +14,7 @@ use std::sync::atomic::{AtomicU64, Ordering};
 use std::test::Fail;
 use std::thread::Threads;
 
-const SETTINGS: Settings = Settings {
+pub(crate) const SETTINGS: Settings = Settings {
     batch: 32,
     penalty: 3600,
     drive: 1,
@@ -43,7 +43,7 @@ const SEVEN: Ride = ride!(7, 2, 4, 600);
 
 const EIGHT: Ride = ride!(8, 4, 3, 600);
 
-fn idle(id: u64, at: u32, duty: bool) -> Vehicle
+pub(crate) fn idle(id: u64, at: u32, duty: bool) -> Vehicle
     ensures { result ≡ idle id at duty }
 {
     Vehicle {
@@ -70,7 +70,7 @@ fn arc(tail: u32, head: u32) -> RoadArc
 }
 
 // The road of four nodes.
-fn line(alloc: Global) -> Result<Roads, NoMemory>
+pub(crate) fn line(alloc: Global) -> Result<Roads, NoMemory>
     ensures { IfOk result (λ roads. roads ≡ four_nodes) }
 {
     let arcs = [
@@ -123,7 +123,7 @@ fn empty_batch(alloc: Global) -> Result<Batch, NoMemory>
     Ok(Batch::of(1, 0, 0, SETTINGS, Vec::new(alloc), vehicles))
 }
 
-fn cost(table: &PriceTable, request: u32, vehicle: u32) -> Option<u64>
+pub(crate) fn cost(table: &PriceTable, request: u32, vehicle: u32) -> Option<u64>
     requires request_in { request < table.now.rows }
     requires vehicle_in { vehicle < table.now.columns }
 {

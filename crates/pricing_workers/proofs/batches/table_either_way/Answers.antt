@@ -1,16 +1,7 @@
-use Rattle.std.proofs.Common.{sym, ◌∙◌, subst}
-use Rattle.std.specs.Prelude.{All, IfOk}
-use Rattle.std.proofs.lemmas.List.Elements.{All-map}
-use Rattle.ride_model.specs.declared.vehicle.Ride.{Ride}
-use Rattle.ride_model.specs.Road.{IsNode}
+use Rattle.std.proofs.Common.{◌∙◌, subst}
+use Rattle.std.specs.Prelude.{IfOk}
 use Rattle.batch_commit.specs.Table.{IsTableOf}
 use Rattle.pricing_workers.proofs.batches.table_either_way.Goals as goal
-
-pub select-selections-requires-clause-ends : goal.select-selections-requires-clause-ends
-select-selections-requires-clause-ends g c =
-    let roads = c.args.adaptive.now in
-    subst (All (IsNode roads)) (sym (c.as_slice.ensures.value ∙ c.in_ok-ends.ensures))
-    (All-map (IsNode roads) (λ (ride : Ride). ride.to) c.args.batch.now.requests (λ k d low. (c.requires.over_map.rides_fit k d low).to_node))
 
 pub returns-clause-table : goal.returns-clause-table
 returns-clause-table g c =

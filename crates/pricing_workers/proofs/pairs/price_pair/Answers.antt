@@ -34,7 +34,7 @@ least_offer-requires-clause-slack c =
     let facts = pair-facts roads c.args.batch.now c.args.wanted.now c.args.times.now c.args.ride.now c.args.place
     c.index-vehicles-place.result c.index-plan.result.now c.vehicles-2.result.now may c.requires.place
     c.index-vehicles-place.is (c.vehicles-2.ensures.items ∙ c.vehicles.ensures) c.index-plan.ensures in
-    rw (c.settings.ensures.settings, c.time.ensures) facts.slack
+    rw (c.settings.ensures.settings, c.time.ensures) (c.slack.ensures ∙ facts.tables)
 
 pub returns : goal.returns
 returns c = λ roads d may.

@@ -1,4 +1,4 @@
-use Rattle.dual_check.proofs.TwoOfEach.{two_requests, two_vehicles}
+use Rattle.trial_town.proofs.TwoOfEach.{two_requests, two_vehicles}
 use Rattle.seating_trials.proofs.batch_certificates.batch.Goals as goal
 
 pub new-fleet-requires : goal.new-fleet-requires

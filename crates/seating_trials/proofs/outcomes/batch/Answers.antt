@@ -2,11 +2,11 @@ use Rattle.std.proofs.Common.{sym, ap, ◌∙◌, subst, eqb, arith}
 use Rattle.std.specs.List.{IsDistinct}
 use Rattle.ride_model.specs.Fleet.{IsFleet}
 use Rattle.ride_model.specs.Vehicle.{ride_ids}
-use Rattle.ride_model.proofs.OneVehicle.{fleet_of_one}
+use Rattle.trial_town.proofs.IdleVehicle.{fleet-of}
 use Rattle.seating_trials.proofs.outcomes.batch.Goals as goal
 
 pub new-fleet-requires : goal.new-fleet-requires
-new-fleet-requires c = subst IsFleet (sym c.in_ok-one.ensures) (fleet_of_one c.vehicle.result (omega (arith, c.vehicle.ensures)))
+new-fleet-requires c = subst IsFleet (sym c.in_ok-one.ensures) (fleet-of c.vehicle.result (omega (arith, c.vehicle.ensures)))
 
 pub of-requires-clause-ids_differ : goal.of-requires-clause-ids_differ
 unfolding IsDistinct

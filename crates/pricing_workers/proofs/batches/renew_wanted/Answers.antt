@@ -2,9 +2,9 @@ use Rattle.std.proofs.Common.{sym, subst}
 use Rattle.std.specs.Prelude.{All}
 use Rattle.ride_model.specs.Road.{IsNode}
 use Rattle.pricing_workers.proofs.Nodes.{nodes-on-map}
-use Rattle.pricing_workers.proofs.batches.wanted_of.Goals as goal
+use Rattle.pricing_workers.proofs.batches.renew_wanted.Goals as goal
 
 pub returns-clause-inside : goal.returns-clause-inside
 returns-clause-inside c =
     let roads = c.args.roads.now in
-    subst (All (IsNode roads)) (sym c.in_ok-wanted.ensures.nodes_are) (nodes-on-map roads c.args.batch.now.vehicles c.requires.lawful)
+    subst (All (IsNode roads)) (sym c.in_ok-renew.ensures.nodes_are) (nodes-on-map roads c.args.batch.now.vehicles c.requires.lawful)

@@ -1,0 +1,12 @@
+use Rattle.std.proofs.Common.{◌≡◌, ◌<◌, ℕ, length, get_or}
+use Rattle.std.specs.Prelude.{None}
+use Rattle.ride_model.specs.declared.vehicle.Vehicle.{Vehicle}
+use Rattle.pricing_workers.specs.Cells.{IsCellOf}
+use Rattle.pricing_workers.proofs.pieces.fill_row.Given as goal
+
+-- the first cells are filled, and there are as many as there were
+abbrev pub invariant-loop-place : goal.invariant-loop-place
+invariant-loop-place l =
+    (length l.cells ≡ length l.initial.cells)
+    × ((c : ℕ) (v : Vehicle) → c < l.place
+    → IsCellOf l.job.roads.now.roads l.job.batch.now l.ride (get_or l.job.batch.now.vehicles c v) (get_or l.cells c None))
