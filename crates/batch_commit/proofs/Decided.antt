@@ -1,5 +1,5 @@
 -- Outcomes that are decided one after another.
-use Rattle.std.proofs.Common.{◌≡◌, ℕ, zero, suc, ◌+◌, ◌<◌, ◌≤◌, Bool, List, [], ◌∷◌, length, take, get_or, refl, sym, ◌∙◌, ap, subst, arith}
+use Rattle.std.proofs.Common.{◌≡◌, ℕ, zero, suc, ◌+◌, ◌<◌, ◌≤◌, Bool, List, [], ◌∷◌, length, take, get_or, refl, sym, ◌∙◌, ap, subst, arith, add-one}
 use Rattle.std.specs.Prelude.{map, slice_set}
 use Rattle.std.proofs.lemmas.List.{length-map}
 use Rattle.ride_model.specs.declared.entry.Outcome.{Outcome}
@@ -18,11 +18,8 @@ pub decided-more : (f : ℕ → Outcome) (ids : List ℕ) (xs : List (ℕ × Out
     → take r xs ≡ take r (map (λ q. (q, f q)) ids)
     → take (r + 1) (slice_set xs r (id, o)) ≡ take (r + 1) (map (λ q. (q, f q)) ids)
 decided-more f ids xs r id o same low id_is o_is so_far =
-    ap (λ n. take n (slice_set xs r (id, o))) (one r) ∙ step ids xs r same low id_is o_is so_far ∙ ap (λ n. take n (map (λ q. (q, f q)) ids)) (sym (one r))
+    ap (λ n. take n (slice_set xs r (id, o))) (add-one r) ∙ step ids xs r same low id_is o_is so_far ∙ ap (λ n. take n (map (λ q. (q, f q)) ids)) (sym (add-one r))
   where
-    one : (k : ℕ) → k + 1 ≡ suc k
-    one k = omega arith
-
     step : (qs : List ℕ) (ys : List (ℕ × Outcome)) (n : ℕ) → length ys ≡ length qs → n < length qs → id ≡ get_or qs n 0 → o ≡ f (get_or qs n 0)
         → take n ys ≡ take n (map (λ q. (q, f q)) qs)
         → take (suc n) (slice_set ys n (id, o)) ≡ take (suc n) (map (λ q. (q, f q)) qs)

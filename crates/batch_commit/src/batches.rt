@@ -3,6 +3,7 @@ ghost use Rattle.std.specs.Prelude.{◌≡◌, ◌≤◌, length, nat_eq};
 ghost use Rattle.std.specs.List.{IsDistinct};
 ghost use Rattle.ride_model.specs.Settings.{IsSettings};
 ghost use Rattle.ride_model.specs.Vehicle.{ride_ids};
+ghost use Rattle.ride_model.specs.Limits.{largest_batch};
 
 use ride_model::{Fleet, Ride, Settings};
 use std::marker::Model;
@@ -36,7 +37,9 @@ impl Model for Batch {
       vehicles = b.vehicles;
     } };
 
-    ghost invariant = { λ b. (length b.requests.items ≤ 128) × IsDistinct nat_eq (ride_ids b.requests.items) × IsSettings b.settings };
+    ghost use Rattle.ride_model.specs.Limits.{largest_batch};
+
+    ghost invariant = { λ b. (length b.requests.items ≤ largest_batch) × IsDistinct nat_eq (ride_ids b.requests.items) × IsSettings b.settings };
 }
 
 impl Batch {
@@ -49,7 +52,7 @@ impl Batch {
         requests: Vec<Ride>,
         vehicles: Fleet,
     ) -> Batch
-        requires few { length requests.items ≤ 128 }
+        requires few { length requests.items ≤ largest_batch }
         requires ids_differ { IsDistinct nat_eq (ride_ids requests.items) }
         requires settings_fit { IsSettings settings }
         ensures { result ≡ record {
@@ -99,7 +102,7 @@ impl Batch {
 
     pub fn requests(&self) -> &[Ride]
         ensures requests { result.now ≡ self.now.requests }
-        ensures few { length self.now.requests ≤ 128 }
+        ensures few { length self.now.requests ≤ largest_batch }
         ensures ids_differ { IsDistinct nat_eq (ride_ids self.now.requests) }
     {
         self.requests.as_slice()

@@ -6,6 +6,7 @@ ghost use Rattle.city_maker.specs.Feed.{commands_of, draws_before, group_of, gro
 
 use crate::CityPlan;
 use crate::draws::Draws;
+use ride_model::limits::LATEST_TIME;
 use ride_model::{Command, NoMemory};
 use std::alloc::Global;
 
@@ -19,8 +20,6 @@ const LATEST_AFTER_CLOCK: u64 = 900;
 const LONGEST: u64 = 3_600;
 /// The most seats of a request.
 const MOST_SEATS: u32 = 2;
-/// The clock at which the day is over.
-const LAST_CLOCK: u64 = 1_000_000_000;
 
 /// The commands of feed 1, drawn after the vehicles.
 pub fn commands(alloc: Global, plan: &CityPlan, draws: &mut Draws) -> Result<Vec<Command>, NoMemory>
@@ -32,7 +31,7 @@ pub fn commands(alloc: Global, plan: &CityPlan, draws: &mut Draws) -> Result<Vec
     for group in 0..plan.requests.div_ceil(GROUP) {
         push_group(&mut commands, plan, group, draws)?;
     }
-    commands.push(Command::Clock { time: LAST_CLOCK })?;
+    commands.push(Command::Clock { time: LATEST_TIME })?;
     Ok(commands)
 }
 

@@ -9,6 +9,7 @@ ghost use Rattle.command_lines.specs.declared.pieces.FeedStop.TheVariants.{Sourc
 ghost use Rattle.command_lines.specs.Commands.{before, said_by};
 ghost use Rattle.command_lines.specs.Feeds.{HasCut, HasGiven, IsStopped, IsWhole, lines_ahead};
 
+use crate::limits::{MOST_BYTES, MOST_LINES};
 use crate::pieces::FeedStop;
 use crate::reading::read_feed_line;
 use line_reader::{Limits, LineReader, NextLine, ReadStop};
@@ -17,11 +18,6 @@ use ride_model::{Command, NoMemory};
 use ride_ports::Source;
 use std::alloc::Global;
 use std::marker::Model;
-
-/// The most bytes of a feed.
-const MOST_BYTES: usize = 1 << 26;
-/// The most lines of a feed.
-const MOST_LINES: u32 = 1_000_000;
 
 /// Reads the commands of a feed, each as soon as its line has come. A feed has at most 2^26 bytes and 1,000,000 lines.
 #[derive(Drop)]

@@ -4,6 +4,7 @@
 
 mod feeds;
 pub mod laws;
+pub mod limits;
 mod pieces;
 mod printing;
 mod reading;

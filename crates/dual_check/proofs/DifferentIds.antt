@@ -8,7 +8,8 @@ use Rattle.std.proofs.lemmas.List.Folds.{find_at}
 use Rattle.std.proofs.lemmas.List.Sums.{position_or_len_is}
 use Rattle.std.proofs.lemmas.Map.Keys.{IsDistinct-head, IsDistinct-tail, IsDistinct-cons, apart_from_distinct}
 use Rattle.std.proofs.lemmas.Option.{slice_get-get_or}
-use Rattle.model_laws.proofs.Sums.{each-filter}
+use Rattle.plain_lemmas.proofs.Each.{each-filter}
+use Rattle.plain_lemmas.proofs.Lists.{distinct-filter}
 use Rattle.batch_commit.specs.Answer.{place_of}
 
 -- different ids have different places
@@ -55,17 +56,6 @@ find-id id_of xs k id d distinct low is =
         apart zs i j differ before j_in =
             let at = apart_from_distinct eqb (map id_of zs) i j 0 differ before (omega (arith, j_in, length-map zs id_of)) in
             rw (get_or-map id_of zs i d 0 (omega (arith, before, j_in)), get_or-map id_of zs j d 0 j_in) at at
-
--- some of different ids are different
-pub IsDistinct-filter : (p : ℕ → Bool) (ids : List ℕ) → IsDistinct eqb ids → IsDistinct eqb (filter p ids)
-IsDistinct-filter p [] distinct = distinct
-IsDistinct-filter p (id ∷ ids) distinct =
-    elim (p id) as (λ b. IsDistinct eqb (cond b (id ∷ filter p ids) (filter p ids))) [
-      | true ↦ IsDistinct-cons eqb id (filter p ids)
-          (each-filter (λ y. eqb id y ≡ false) p ids (IsDistinct-head eqb id ids distinct))
-          (IsDistinct-filter p ids (IsDistinct-tail eqb id ids distinct))
-      | false ↦ IsDistinct-filter p ids (IsDistinct-tail eqb id ids distinct)
-    ]
 
 -- an item's id at its place among the ids
 pub id-at : {X : Type 0} (id_of : X → ℕ) (xs : List X) (k id : ℕ) → k < length xs → ((d : X) → id_of (get_or xs k d) ≡ id)

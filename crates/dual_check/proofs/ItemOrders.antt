@@ -5,17 +5,10 @@ use Rattle.std.specs.List.{AllByRecursion, IsDistinct}
 use Rattle.std.proofs.lemmas.Bool.{eqb-true, eqb-false, ne_eqb, eq-eqb, false≢true}
 use Rattle.std.proofs.lemmas.Map.Keys.{IsDistinct-head, IsDistinct-tail}
 use Rattle.std.proofs.lemmas.List.{length_push, append_assoc, append-nil, drop_more, drop_all, length-drop}
-use Rattle.model_laws.proofs.Sums.{each-filter}
+use Rattle.plain_lemmas.proofs.Each.{each-filter, each-weaker}
+use Rattle.plain_lemmas.proofs.Numbers.{eqb-flip}
+use Rattle.plain_lemmas.proofs.Filters.{filter-same}
 use Rattle.dual_check.specs.Orders.{item_of, has_item, StandsInOrder, first_if_of}
-
--- two tests that agree at each element keep the same elements
-filter-agree : {A : Type 0} (p q : A → Bool) (xs : List A) → AllByRecursion (λ x. p x ≡ q x) xs → filter p xs ≡ filter q xs
-filter-agree p q [] h = refl
-filter-agree p q (x ∷ xs) (first, rest) =
-    rw first (elim (q x) as (λ b. cond b (x ∷ filter p xs) (filter p xs) ≡ cond b (x ∷ filter q xs) (filter q xs)) [
-      | true ↦ ap (λ ys. x ∷ ys) (filter-agree p q xs rest)
-      | false ↦ filter-agree p q xs rest
-    ])
 
 -- two functions that agree at each element have the same images
 pub map-agree : {A B : Type 0} (f g : A → B) (xs : List A) → AllByRecursion (λ x. f x ≡ g x) xs → map f xs ≡ map g xs
@@ -26,16 +19,6 @@ map-agree f g (x ∷ xs) (first, rest) = ap (λ y. y ∷ map f xs) first ∙ ap 
 pub map-map : {A B C : Type 0} (g : B → C) (f : A → B) (xs : List A) → map g (map f xs) ≡ map (λ x. g (f x)) xs
 map-map g f [] = refl
 map-map g f (x ∷ xs) = ap (λ ys. g (f x) ∷ ys) (map-map g f xs)
-
--- what holds of each and gives another fact
-pub each-weaker : {A : Type 0} (P Q : A → Type 0) → ((x : A) → P x → Q x) → (xs : List A) → AllByRecursion P xs
-    → AllByRecursion Q xs
-each-weaker P Q weaker [] h = tt
-each-weaker P Q weaker (x ∷ xs) (first, rest) = (weaker x first, each-weaker P Q weaker xs rest)
-
--- numbers differ both ways round
-eqb-flip : (a b : ℕ) → eqb a b ≡ false → eqb b a ≡ false
-eqb-flip a b h = ne_eqb b a (λ same. eqb-false a b h (sym same))
 
 module _ {A : Type 0} (id_of : A → ℕ) where
   -- what each id gets where each takes the first item that is left, if it is of the id
@@ -166,7 +149,7 @@ module _ {A : Type 0} (id_of : A → ℕ) where
     where
       kept : AllByRecursion (λ y. eqb (id_of item) y ≡ false) ids → filter (has_item id_of (item ∷ items)) ids ≡ filter
           (has_item id_of items) ids
-      kept others = filter-agree (has_item id_of (item ∷ items)) (has_item id_of items) ids
+      kept others = filter-same (has_item id_of (item ∷ items)) (has_item id_of items) ids
           (each-weaker (λ y. eqb (id_of item) y ≡ false) (λ y. has_item id_of (item ∷ items) y ≡ has_item id_of items y)
           (λ y h. rw h refl) ids others)
 

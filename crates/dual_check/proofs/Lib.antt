@@ -7,4 +7,3 @@ pub mod SeatCosts
 pub mod SeatPairings
 pub mod OverMaps
 pub mod SpreadChecks
-pub mod TwoOfEach

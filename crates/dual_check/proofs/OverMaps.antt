@@ -10,13 +10,14 @@ use Rattle.ride_model.specs.declared.vehicle.Vehicle.{Vehicle}
 use Rattle.ride_model.specs.Road.{RoadMap}
 use Rattle.ride_model.specs.Offers.{offer_of, price}
 use Rattle.ride_model.specs.Seating.{BatchCopy, vehicle_ids, find_ride, find_vehicle, seat_offer, seat_cost, seating_cost, IsLeastSeating, amount_of, IsCovered, Certifies}
-use Rattle.model_laws.proofs.Among.{Among}
+use Rattle.plain_lemmas.proofs.Among.{Among}
+use Rattle.plain_lemmas.proofs.Each.{each-among}
 use Rattle.model_laws.proofs.Certificates.{certified_is_least}
 use Rattle.batch_commit.specs.Table.{Table, IsTableOf, IsLeastOffer, cell_at as offer_at}
 use Rattle.batch_commit.specs.Answer.{place_of, cell_cost, cells_cost, CertifiesOverCells}
 use Rattle.dual_check.proofs.DifferentIds.{find-id, element}
 use Rattle.dual_check.proofs.SeatPlaces.{cost_in_cell, AreSeats, places-of}
-use Rattle.dual_check.proofs.SeatCosts.{sum_by-agree, each-among}
+use Rattle.dual_check.proofs.SeatCosts.{sum_by-agree}
 
 -- the offer of a seat over a map is that of its cell
 record HasOffer (roads : RoadMap) (batch : BatchCopy) (table : Table) (seat : Seat) : Type 0 where

@@ -12,15 +12,17 @@ use Rattle.ride_model.specs.declared.vehicle.Ride.{Ride}
 use Rattle.ride_model.specs.Vehicle.{ride_ids}
 use Rattle.ride_model.specs.Batch.{seat_of}
 use Rattle.ride_model.specs.Seating.{BatchCopy, vehicle_ids, has_seat, amount_ids, amount_of, has_amount}
-use Rattle.model_laws.proofs.Among.{Among}
+use Rattle.plain_lemmas.proofs.Among.{Among}
 use Rattle.model_laws.proofs.Certificates.{sum-amounts, sum-amounts-le}
-use Rattle.model_laws.proofs.Sums.{sum_by-map}
+use Rattle.plain_lemmas.proofs.Sums.{sum_by-map}
+use Rattle.plain_lemmas.proofs.Each.{each-among}
+use Rattle.plain_lemmas.proofs.Lists.{distinct-filter}
 use Rattle.batch_commit.specs.Table.{Table}
 use Rattle.batch_commit.specs.Answer.{place_of, cell_cost, cells_cost}
 use Rattle.dual_check.specs.Cells.{GridCells, cell_at}
 use Rattle.dual_check.specs.Grid.{column_of, row_cost, pairing_cost}
 use Rattle.dual_check.specs.Costs.{cost_grid, seat_place, seat_columns, amounts_over}
-use Rattle.dual_check.proofs.DifferentIds.{place-of-id, not-found, IsDistinct-filter}
+use Rattle.dual_check.proofs.DifferentIds.{place-of-id, not-found}
 use Rattle.dual_check.proofs.SeatPlaces.{cost-cell, AreSeats, seat-of-request}
 use Rattle.dual_check.proofs.CertifiedPairings.{each-range, each-kept, sum_by-times}
 
@@ -28,11 +30,6 @@ use Rattle.dual_check.proofs.CertifiedPairings.{each-range, each-kept, sum_by-ti
 pub sum_by-agree : {X : Type 0} (f g : X → ℕ) (xs : List X) → AllByRecursion (λ x. f x ≡ g x) xs → sum_by f xs ≡ sum_by g xs
 sum_by-agree f g [] h = refl
 sum_by-agree f g (x ∷ xs) (first, rest) = omega (arith, first, sum_by-agree f g xs rest, sum_by-cons f x xs, sum_by-cons g x xs)
-
--- a fact of each that is among them
-pub each-among : {X : Type 0} (P : X → Type 0) (xs : List X) → ((x : X) → Among x xs → P x) → AllByRecursion P xs
-each-among P [] h = tt
-each-among P (x ∷ xs) h = (h x (inl refl), each-among P xs (λ y among. h y (inr among)))
 
 -- amounts of some of different ids, in their order, sum to those of all these ids
 pub sum-amounts-over : (ids : List ℕ) (amounts : List (ℕ × ℕ)) → IsDistinct eqb ids
@@ -42,7 +39,7 @@ sum-amounts-over ids amounts distinct ordered =
     let over = sum-map (amount_of amounts) ids in
     let most = sum-amounts-le amounts ids distinct in
     let some_differ : IsDistinct eqb (amount_ids amounts)
-    = subst (IsDistinct eqb) (sym ordered) (IsDistinct-filter (has_amount amounts) ids distinct) in
+    = subst (IsDistinct eqb) (sym ordered) (distinct-filter (has_amount amounts) ids distinct) in
     let least = subst (λ qs. sum_by (λ (item : ℕ × ℕ). item.1) amounts ≤ sum_by (amount_of amounts) qs) ordered
     (sum-amounts amounts some_differ) in
     let parts = sum_by-filter_both (has_amount amounts) (λ q. not (has_amount amounts q)) (λ _. refl) (amount_of amounts) ids in
@@ -117,7 +114,7 @@ cost-of-seats batch table seats are ordered =
     let penalty = batch.settings.penalty in
     let without = filter (λ q. not (has_seat seats q)) requests in
     let distinct : IsDistinct eqb (map (λ (seat : Seat). seat.request) seats)
-    = subst (IsDistinct eqb) (sym ordered) (IsDistinct-filter (has_seat seats) requests are.requests_differ) in
+    = subst (IsDistinct eqb) (sym ordered) (distinct-filter (has_seat seats) requests are.requests_differ) in
     let parts = sum_by-filter_both (has_seat seats) (λ q. not (has_seat seats q)) (λ _. refl) cost requests in
     let lengths = length-filter_both (has_seat seats) (λ q. not (has_seat seats q)) (λ _. refl) requests in
     let seated = ap (sum_by cost) (sym ordered) ∙ sum_by-map cost (λ (seat : Seat). seat.request) seats

@@ -14,13 +14,14 @@ use Rattle.ride_model.specs.declared.vehicle.Vehicle.{Vehicle}
 use Rattle.ride_model.specs.Vehicle.{ride_ids}
 use Rattle.ride_model.specs.Batch.{seat_of}
 use Rattle.ride_model.specs.Seating.{BatchCopy, vehicle_ids, has_seat, amount_ids, amount_of, has_amount}
-use Rattle.model_laws.proofs.Among.{Among, among_from_contains, contains_from_among}
+use Rattle.plain_lemmas.proofs.Among.{Among, among_from_contains, contains_from_among}
+use Rattle.plain_lemmas.proofs.Lists.{distinct-filter}
 use Rattle.batch_commit.specs.Table.{Table, cell_at as offer_at}
 use Rattle.batch_commit.specs.Answer.{place_of, CertifiesOverCells}
 use Rattle.dual_check.specs.Cells.{cell_at}
 use Rattle.dual_check.specs.Grid.{IsPairing, CertifiesPairing, price_at}
 use Rattle.dual_check.specs.Costs.{cost_grid, seat_place, seat_columns, amounts_over}
-use Rattle.dual_check.proofs.DifferentIds.{same-place, find-id, element, IsDistinct-filter}
+use Rattle.dual_check.proofs.DifferentIds.{same-place, find-id, element}
 use Rattle.dual_check.proofs.SeatPlaces.{cost_in_cell, cost-cell, AreSeats, places-of, seat-of-row, column-of-seat}
 use Rattle.dual_check.proofs.SeatCosts.{sum-amounts-over, cost-of-seats}
 
@@ -43,7 +44,7 @@ seated-requests-differ : (batch : BatchCopy) (seats : List Seat) → IsDistinct 
     → map (λ (seat : Seat). seat.request) seats ≡ filter (has_seat seats) (ride_ids batch.requests)
     → IsDistinct eqb (map (λ (seat : Seat). seat.request) seats)
 seated-requests-differ batch seats distinct ordered =
-    subst (IsDistinct eqb) (sym ordered) (IsDistinct-filter (has_seat seats) (ride_ids batch.requests) distinct)
+    subst (IsDistinct eqb) (sym ordered) (distinct-filter (has_seat seats) (ride_ids batch.requests) distinct)
 
 -- seats of a pairing have different vehicles
 vehicles-differ : (batch : BatchCopy) (table : Table) (seats : List Seat) → AreSeats batch table seats

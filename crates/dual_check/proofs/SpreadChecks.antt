@@ -5,6 +5,8 @@ use Rattle.std.specs.List.{AllByRecursion, IsDistinct}
 use Rattle.std.proofs.lemmas.List.{length-map}
 use Rattle.std.proofs.lemmas.List.Sums.{length-filter, count_by-le-length}
 use Rattle.std.proofs.lemmas.Bool.{eq-eqb, or_right}
+use Rattle.plain_lemmas.proofs.Each.{each-weaker}
+use Rattle.plain_lemmas.proofs.Filters.{filter-all}
 use Rattle.ride_model.specs.declared.offer.Seat.{Seat}
 use Rattle.ride_model.specs.Vehicle.{ride_ids}
 use Rattle.ride_model.specs.Seating.{BatchCopy, vehicle_ids}
@@ -14,31 +16,25 @@ use Rattle.dual_check.specs.Grid.{CertifiesPairing}
 use Rattle.dual_check.specs.Orders.{has_item, StandsInOrder}
 use Rattle.dual_check.specs.Costs.{cost_grid, seat_columns, amounts_over}
 use Rattle.dual_check.proofs.PairingParts.{decided-like}
-use Rattle.dual_check.proofs.ItemOrders.{each-weaker}
 use Rattle.dual_check.proofs.SeatPlaces.{AreSeats}
 use Rattle.dual_check.proofs.SeatPairings.{certified-from-pairing, pairing-from-certified}
 
 -- a filter that keeps as many keeps all
-filter-all : {X : Type 0} (p : X → Bool) (xs : List X) → length (filter p xs) ≡ length xs → filter p xs ≡ xs
-filter-all p [] h = refl
-filter-all p (x ∷ xs) h =
+filter-as_many : {X : Type 0} (p : X → Bool) (xs : List X) → length (filter p xs) ≡ length xs → filter p xs ≡ xs
+filter-as_many p [] h = refl
+filter-as_many p (x ∷ xs) h =
     elim (p x) as (λ b. length (cond b (x ∷ filter p xs) (filter p xs)) ≡ length (x ∷ xs)
     → cond b (x ∷ filter p xs) (filter p xs) ≡ x ∷ xs) [
-      | true ↦ λ many. ap (λ ys. x ∷ ys) (filter-all p xs (omega (arith, many)))
+      | true ↦ λ many. ap (λ ys. x ∷ ys) (filter-as_many p xs (omega (arith, many)))
       | false ↦ λ many. absurd (omega (arith, many, length-filter p xs, count_by-le-length p xs))
     ] h
-
--- a filter keeps all that pass
-filter-passing : {X : Type 0} (p : X → Bool) (xs : List X) → AllByRecursion (λ x. p x ≡ true) xs → filter p xs ≡ xs
-filter-passing p [] h = refl
-filter-passing p (x ∷ xs) (first, rest) = rw first (ap (λ ys. x ∷ ys) (filter-passing p xs rest))
 
 -- as many items as ids, in their order, are of all the ids
 all-in-order : {A : Type 0} (id_of : A → ℕ) (ids : List ℕ) (items : List A) → length items ≡ length ids
     → StandsInOrder id_of ids items
     → map id_of items ≡ ids
 all-in-order id_of ids items many ordered =
-    ordered ∙ filter-all (has_item id_of items) ids (ap length (sym ordered) ∙ length-map items id_of ∙ many)
+    ordered ∙ filter-as_many (has_item id_of items) ids (ap length (sym ordered) ∙ length-map items id_of ∙ many)
 
 -- the ids of items have items
 has-own : {A : Type 0} (id_of : A → ℕ) (items : List A) → AllByRecursion (λ id. has_item id_of items id ≡ true) (map id_of items)
@@ -53,7 +49,7 @@ has-own id_of (item ∷ items) = (
 pub in-order-all : {A : Type 0} (id_of : A → ℕ) (ids : List ℕ) (items : List A) → map id_of items ≡ ids
     → StandsInOrder id_of ids items
 in-order-all id_of ids items is =
-    sym (filter-passing (has_item id_of items) (map id_of items) (has-own id_of items)) ∙ ap (filter (has_item id_of items)) is
+    sym (filter-all (has_item id_of items) (map id_of items) (has-own id_of items)) ∙ ap (filter (has_item id_of items)) is
 
 -- seats in the cells of a batch whose requests and fleet have these ids
 pub record HaveIds (batch : BatchCopy) (table : Table) (seats : List Seat) (requests fleet : List ℕ) : Type 0 where

@@ -1,5 +1,6 @@
 -- The cells of a grid.
 use Rattle.std.specs.Prelude.{◌≡◌, ℕ, ◌+◌, ◌*◌, ◌<◌, ◌≤◌, ◌^◌, List, length, slice_index_or, All, Option, None, IfSome}
+use Rattle.ride_model.specs.Limits.{largest_batch}
 
 -- a grid of rows and columns, its cells row by row: each an amount or none
 pub record GridCells : Type 0 where
@@ -17,7 +18,7 @@ IsSmall cell = IfSome cell (λ amount. amount < 2 ^ 42)
 
 -- the limits of a grid
 pub record IsGrid (grid : GridCells) : Type 0 where
-  pub rows_limit : grid.rows ≤ 128
+  pub rows_limit : grid.rows ≤ largest_batch
   pub columns_limit : grid.columns ≤ 8000
   pub one_each : length grid.cells ≡ grid.rows * grid.columns
   pub amounts_limit : All IsSmall grid.cells

@@ -4,6 +4,7 @@ ghost use Rattle.std.specs.List.{IsDistinct};
 ghost use Rattle.ride_model.specs.Road.{RoadMap};
 ghost use Rattle.ride_model.specs.Vehicle.{ride_ids};
 ghost use Rattle.ride_model.specs.Seating.{vehicle_ids, Certifies};
+ghost use Rattle.ride_model.specs.Limits.{largest_batch};
 ghost use Rattle.batch_commit.specs.Table.{FitsBatch, IsTableOf, HasSmallCosts};
 ghost use Rattle.batch_commit.specs.Answer.{IsSeatAt, CertifiesOverCells};
 
@@ -59,7 +60,7 @@ fn certifies_over_cells(
     requires fits { FitsBatch batch.now table.now }
     requires in_cells { All (λ seat. (r : ℕ) × (c : ℕ) × IsSeatAt batch.now table.now seat r c) seats.now }
     requires requests_are { requests.now ≡ ride_ids batch.now.requests }
-    requires few { length requests.now ≤ 128 }
+    requires few { length requests.now ≤ largest_batch }
     requires requests_differ { IsDistinct nat_eq requests.now }
     requires fleet_is { fleet.now ≡ vehicle_ids batch.now.vehicles }
     requires few_vehicles { length fleet.now ≤ 1000 }

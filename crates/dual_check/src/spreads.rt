@@ -2,6 +2,7 @@
 ghost use Rattle.std.specs.Prelude.{◌≡◌, ◌≤◌, ◌<◌, ℕ, length, map, nat_eq, IfSome, MatchOption};
 ghost use Rattle.std.specs.List.{IsDistinct};
 ghost use Rattle.ride_model.specs.declared.offer.Seat.{Seat};
+ghost use Rattle.ride_model.specs.Limits.{largest_batch};
 ghost use Rattle.batch_commit.specs.Answer.{place_of};
 ghost use Rattle.dual_check.specs.Orders.{StandsInOrder};
 ghost use Rattle.dual_check.specs.Costs.{seat_place, seat_columns, amount_alone, amounts_over};
@@ -17,7 +18,7 @@ pub fn columns_of(
     fleet: &[u64],
     seats: &[Seat],
 ) -> Option<ArrayVec<Option<u32>, 128>>
-    requires few { length requests.now ≤ 128 }
+    requires few { length requests.now ≤ largest_batch }
     requires few_vehicles { length fleet.now ≤ 1000 }
     requires ids_differ { IsDistinct nat_eq requests.now }
     ensures { MatchOption result
@@ -31,7 +32,7 @@ pub fn columns_of(
 
 // The places in the fleet of the vehicles of seats.
 fn places_of(seats: &[Option<Seat>], fleet: &[u64]) -> ArrayVec<Option<u32>, 128>
-    requires few { length seats.now ≤ 128 }
+    requires few { length seats.now ≤ largest_batch }
     requires few_vehicles { length fleet.now ≤ 1000 }
     ensures { result.items ≡ map (seat_place fleet.now) seats.now }
 {

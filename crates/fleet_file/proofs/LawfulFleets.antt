@@ -3,8 +3,9 @@ use Rattle.std.proofs.Common.{◌≡◌, ℕ, zero, suc, ◌+◌, ◌==◌, ◌|
 use Rattle.std.specs.Prelude.{All, codes}
 use Rattle.std.specs.List.{IsDistinct, list_any}
 use Rattle.std.specs.Str.{bytes_eq}
-use Rattle.std.proofs.lemmas.Bool.{eqb-false, le-leb, ltb-false}
+use Rattle.std.proofs.lemmas.Bool.{eqb-false, le-leb, ltb-false, or_parts}
 use Rattle.std.proofs.lemmas.List.Elements.{All-append}
+use Rattle.plain_lemmas.proofs.Each.{all_of_one, all_of_none}
 use Rattle.line_text.specs.Fields.{numbers_of, words_of}
 use Rattle.line_text.specs.Lines.{lines_of}
 use Rattle.line_text.specs.Texts.{and_then, after_lines, after_ended}
@@ -24,21 +25,14 @@ pub record IsStarting (map : RoadMap) (v : Vehicle) : Type 0 where
   pub idle : v.stops.items ≡ []
   pub first_version : v.version ≡ 0
 
-either : (a b : Bool) → (a || b) ≡ false → (a ≡ false) × (b ≡ false)
-either true b is = absurd (true≢false is)
-either false b is = (refl, is)
-
-none-of : {X : Type 0} (P : X → Type 0) → All P []
-none-of P k d below = absurd (omega arith)
-
 starting : (map : RoadMap) (new : NewVehicle) → (new.node == 0 || nat_lt map.nodes new.node) ≡ false → has_value_out new ≡ false
     → IsStarting map (idle_vehicle new)
 unfolding IsDistinct
 starting map new node values =
-    let (some_node, node_in) = either (new.node == 0) (nat_lt map.nodes new.node) node in
-    let (all_but_ready, early) = either (new.seats == 0 || nat_lt 16 new.seats || nat_lt 4 new.chairs) (nat_lt 1000000000 new.ready) values in
-    let (seats_in, few_chairs) = either (new.seats == 0 || nat_lt 16 new.seats) (nat_lt 4 new.chairs) all_but_ready in
-    let (some_seat, few_seats) = either (new.seats == 0) (nat_lt 16 new.seats) seats_in in
+    let (some_node, node_in) = or_parts (new.node == 0) (nat_lt map.nodes new.node) node in
+    let (all_but_ready, early) = or_parts (new.seats == 0 || nat_lt 16 new.seats || nat_lt 4 new.chairs) (nat_lt 1000000000 new.ready) values in
+    let (seats_in, few_chairs) = or_parts (new.seats == 0 || nat_lt 16 new.seats) (nat_lt 4 new.chairs) all_but_ready in
+    let (some_seat, few_seats) = or_parts (new.seats == 0) (nat_lt 16 new.seats) seats_in in
     record {
       lawful = record {
         routed = record {
@@ -47,9 +41,9 @@ starting map new node values =
           chairs_limit = ltb-false _ _ few_chairs;
           at_node = (omega (arith, eqb-false new.node 0 some_node), ltb-false _ _ node_in);
           ready_limit = omega (arith, ltb-false 1000000000 new.ready early);
-          rides_fit = none-of _;
-          picked_before = none-of _;
-          planned = record { ids_differ = tt; each_ride = none-of _; each_stop = none-of _ };
+          rides_fit = all_of_none _;
+          picked_before = all_of_none _;
+          planned = record { ids_differ = tt; each_ride = all_of_none _; each_stop = all_of_none _ };
           legs = tt;
         };
         loads = rw (le-leb 0 new.seats (omega arith), le-leb 0 new.chairs (omega arith)) refl;
@@ -77,10 +71,6 @@ after-setting map number so_far next (Some s) all is =
     let (_, taken) = passed (nat_lt s.1 (least s.0) || nat_lt (greatest s.0) s.1) _ _ next in_range in
     subst (λ (f : FleetSoFar). All (IsStarting map) f.vehicles) (same-ok _ next taken) all
 
-one : {X : Type 0} (P : X → Type 0) (x : X) → P x → All P (x ∷ [])
-one P x h zero d below = h
-one P x h (suc k) d below = absurd (omega arith)
-
 after-vehicle : (map : RoadMap) (number : ℕ) (so_far next : FleetSoFar) (o : Option NewVehicle) → AllStarting map so_far
     → vehicle_line map.nodes number so_far o ≡ Ok next → AllStarting map next
 after-vehicle map number so_far next None all is = absurd (cc is)
@@ -90,7 +80,7 @@ after-vehicle map number so_far next (Some new) all is =
     let (values, in_range) = passed (has_value_out new) _ _ next on_map in
     let (_, taken) = passed (nat_le 1000 (length so_far.vehicles)) _ _ next in_range in
     subst (λ (f : FleetSoFar). All (IsStarting map) f.vehicles) (same-ok _ next taken)
-    (All-append (IsStarting map) so_far.vehicles (idle_vehicle new ∷ []) all (one (IsStarting map) (idle_vehicle new) (starting map new node values)))
+    (All-append (IsStarting map) so_far.vehicles (idle_vehicle new ∷ []) all (all_of_one (IsStarting map) (idle_vehicle new) (starting map new node values)))
 
 after-line : (map : RoadMap) (number : ℕ) (so_far next : FleetSoFar) (words : Option (List (List ℕ))) → AllStarting map so_far
     → after_words map.nodes number so_far words ≡ Ok next → AllStarting map next
@@ -131,7 +121,7 @@ text-starting map bytes settings vehicles is =
     (and_then {B = Settings × List Vehicle} (after_lines (fleet_format map.nodes) 1 nothing_said (lines_of bytes)) (λ so_far. Ok (so_far.settings, so_far.vehicles))) ≡ Ok (settings, vehicles) → All (IsStarting map) vehicles) [
       | true ↦ λ h. absurd (too_long (after_ended (fleet_format map.nodes) (take 1048576 bytes)) h)
       | false ↦ λ h. whole (after_lines (fleet_format map.nodes) 1 nothing_said (lines_of bytes))
-          (λ next k. after-all map 1 nothing_said next (lines_of bytes) (none-of _) k) h
+          (λ next k. after-all map 1 nothing_said next (lines_of bytes) (all_of_none _) k) h
     ] is
   where
     too_long : (r : Result FleetSoFar FleetError) → and_then {B = Settings × List Vehicle} r (λ _. Err TooLong) ≡ Ok (settings, vehicles) → ⊥
@@ -143,7 +133,7 @@ text-starting map bytes settings vehicles is =
     whole (Ok so_far) all h = let same : so_far.vehicles ≡ vehicles = ap (λ (p : Settings × List Vehicle). p.1) (same-ok (so_far.settings, so_far.vehicles) (settings, vehicles) h) in subst (All (IsStarting map)) same (all so_far refl)
     whole (Err e) all h = absurd (cc h)
 
--- the same of a fleet of these vehicles over a map of so many nodes, one fact at a time
+-- the same of a fleet of these vehicles over a map of so many nodes, all_of_one fact at a time
 starting-fleet : (map : RoadMap) (nodes : ℕ) (bytes : List ℕ) (settings : Settings) (vehicles fleet : List Vehicle)
     → nodes ≡ map.nodes → fleet ≡ vehicles → fleet_text nodes bytes ≡ Ok (settings, vehicles) → All (IsStarting map) fleet
 starting-fleet map nodes bytes settings vehicles fleet among same is =

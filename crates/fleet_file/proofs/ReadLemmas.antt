@@ -1,5 +1,6 @@
 -- What the reader has taken after one more line, and what the text gives then.
 use Rattle.std.proofs.Common.{◌≡◌, ◌≢◌, ℕ, ◌+◌, ◌<◌, ◌≤◌, Option, Some, None, IfSome, List, [], ◌∷◌, ◌++◌, length, Result, Ok, Err, MatchResult, refl, ap, sym, ◌∙◌, arith}
+use Rattle.plain_lemmas.proofs.Lists.{some_bytes}
 use Rattle.line_text.specs.Fields.{words_of}
 use Rattle.line_text.specs.Lines.{ended_lines, lines_of}
 use Rattle.line_text.specs.Reading.{AreFirst, GoesOn, counted_lines}
@@ -53,11 +54,7 @@ pub told-too_long : (nodes : ℕ) (first now : FleetLines) (left : Option (List 
 told-too_long nodes first now None bytes among full taken more = tt
 told-too_long nodes first now (Some all) bytes among full taken (more, some, whole) =
     ap (fleet_text nodes) whole ∙ ap (λ n. fleet_text n (bytes ++ more)) (sym among)
-    ∙ text_value-too_long (fleet_format first.nodes) (said now) bytes more full (not-nil more some) taken.after
-  where
-    not-nil : (more : List ℕ) → more ≢ [] → 0 < length more
-    not-nil [] some = absurd (some refl)
-    not-nil (b ∷ more) some = omega arith
+    ∙ text_value-too_long (fleet_format first.nodes) (said now) bytes more full (some_bytes more some) taken.after
 
 fault-not-memory : ReadFault ≢ NoMemory
 fault-not-memory is = cc

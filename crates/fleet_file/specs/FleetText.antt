@@ -9,6 +9,7 @@ use Rattle.fleet_file.specs.declared.settings.Name.TheVariants.{Batch, Penalty, 
 use Rattle.fleet_file.specs.declared.settings.Seen.{Seen}
 use Rattle.ride_model.specs.declared.settings.Settings.{Settings}
 use Rattle.ride_model.specs.declared.vehicle.Vehicle.{Vehicle}
+use Rattle.ride_model.specs.Limits.{greatest_penalty, greatest_weight, largest_batch, latest_time, longest_dwell, longest_lead}
 use Rattle.fleet_file.specs.declared.vehicles.NewVehicle.{NewVehicle}
 use Rattle.fleet_file.specs.declared.errors.FleetError.{FleetError}
 use Rattle.fleet_file.specs.declared.errors.FleetError.TheVariants.{BadLine, Repeat, NodeOut, ValueOut, TooMany, TooLong}
@@ -65,12 +66,12 @@ least Dwell = 0
 least Log = 1
 
 abbrev pub greatest : Name → ℕ
-greatest Batch = 128
-greatest Penalty = 1000000000000
-greatest Drive = 1000
-greatest Wait = 1000
-greatest Lead = 3600
-greatest Dwell = 3600
+greatest Batch = largest_batch
+greatest Penalty = greatest_penalty
+greatest Drive = greatest_weight
+greatest Wait = greatest_weight
+greatest Lead = longest_lead
+greatest Dwell = longest_dwell
 greatest Log = 2
 
 -- what the lines so far said: settings with the defaults of those that were not set, which were set, and vehicles
@@ -134,7 +135,7 @@ setting_line number so_far (Some setting) =
 
 -- whether a value of a vehicle is out of its range
 abbrev pub has_value_out : NewVehicle → Bool
-has_value_out new = new.seats == 0 || nat_lt 16 new.seats || nat_lt 4 new.chairs || nat_lt 1000000000 new.ready
+has_value_out new = new.seats == 0 || nat_lt 16 new.seats || nat_lt 4 new.chairs || nat_lt latest_time new.ready
 
 -- the tests of a vehicle, in a line of this number, over a map of so many nodes
 abbrev pub vehicle_line : ℕ → ℕ → FleetSoFar → Option NewVehicle → Result FleetSoFar FleetError

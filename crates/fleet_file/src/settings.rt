@@ -4,6 +4,9 @@ ghost use Rattle.fleet_file.specs.FleetText.{greatest, has_seen, least, name_of,
 ghost use Rattle.ride_model.specs.Settings.{IsSettings};
 
 use ride_model::Settings;
+use ride_model::limits::{
+    GREATEST_PENALTY, GREATEST_WEIGHT, LARGEST_BATCH, LONGEST_DWELL, LONGEST_LEAD,
+};
 
 /// A setting.
 #[derive(Clone, Copy, Debug)]
@@ -72,12 +75,12 @@ pub fn greatest(name: Name) -> u64
     ensures { result ≡ greatest name }
 {
     match name {
-        Name::Batch => 128,
-        Name::Penalty => 1_000_000_000_000,
-        Name::Drive => 1_000,
-        Name::Wait => 1_000,
-        Name::Lead => 3_600,
-        Name::Dwell => 3_600,
+        Name::Batch => LARGEST_BATCH,
+        Name::Penalty => GREATEST_PENALTY,
+        Name::Drive => GREATEST_WEIGHT,
+        Name::Wait => GREATEST_WEIGHT,
+        Name::Lead => LONGEST_LEAD,
+        Name::Dwell => LONGEST_DWELL,
         Name::Log => 2,
     }
 }

@@ -1,6 +1,7 @@
 -- What the reader has taken after one more line, and what the text gives then.
 use Rattle.std.proofs.Common.{◌≡◌, ◌≢◌, ℕ, ◌+◌, ◌<◌, ◌≤◌, Option, Some, None, IfSome, List, [], ◌∷◌, ◌++◌, length, Result, Ok, Err, MatchResult, refl, ap, sym, ◌∙◌, arith}
 use Rattle.std.proofs.lemmas.List.{length_push}
+use Rattle.plain_lemmas.proofs.Lists.{some_bytes}
 use Rattle.line_text.specs.Fields.{words_of}
 use Rattle.line_text.specs.Lines.{ended_lines}
 use Rattle.line_text.specs.Reading.{AreFirst, GoesOn, counted_lines}
@@ -52,11 +53,7 @@ pub told-too_long : (left : Option (List ℕ)) (bytes : List ℕ) (now : MapLine
     IfSome left (λ all. map_text all ≡ Err TooLong)
 told-too_long None bytes now full taken more = tt
 told-too_long (Some all) bytes now full taken (more, some, whole) =
-    ap map_text whole ∙ text_value-too_long map_format taken.so_far bytes more full (not-nil more some) taken.said
-  where
-    not-nil : (more : List ℕ) → more ≢ [] → 0 < length more
-    not-nil [] some = absurd (some refl)
-    not-nil (b ∷ more) some = omega arith
+    ap map_text whole ∙ text_value-too_long map_format taken.so_far bytes more full (some_bytes more some) taken.said
 
 fault-not-memory : ReadFault ≢ NoMemory
 fault-not-memory is = cc

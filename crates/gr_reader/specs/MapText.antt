@@ -5,6 +5,7 @@ use Rattle.line_text.specs.Fields.{numbers_of, words_of}
 use Rattle.line_text.specs.Texts.{Format, and_then, text_value}
 use Rattle.ride_model.specs.declared.network.RoadArc.{RoadArc}
 use Rattle.ride_model.specs.Road.{RoadMap}
+use Rattle.ride_model.specs.Limits.{latest_time, most_arcs, most_nodes}
 use Rattle.gr_reader.specs.declared.lines.Problem.{Problem}
 use Rattle.gr_reader.specs.declared.errors.MapError.{MapError}
 use Rattle.gr_reader.specs.declared.errors.MapError.TheVariants.{NoProblem, SecondProblem, BadLine, NodeOut, WeightOut, ArcCount, TooLarge, TooLong}
@@ -34,7 +35,7 @@ checked_problem number None = Err (BadLine number)
 checked_problem number (Some problem) =
     if problem.nodes == 0
     then Err (BadLine number)
-    else (if nat_lt 500000 problem.nodes || nat_lt 2000000 problem.arcs then Err (TooLarge number) else Ok problem)
+    else (if nat_lt most_nodes problem.nodes || nat_lt most_arcs problem.arcs then Err (TooLarge number) else Ok problem)
 
 -- whether there is no node of this number
 abbrev pub is_out : ℕ → ℕ → Bool
@@ -46,7 +47,7 @@ checked_arc number nodes None = Err (BadLine number)
 checked_arc number nodes (Some arc) =
     if is_out nodes arc.tail || is_out nodes arc.head
     then Err (NodeOut number)
-    else (if nat_lt 1000000000 arc.seconds then Err (WeightOut number) else Ok arc)
+    else (if nat_lt latest_time arc.seconds then Err (WeightOut number) else Ok arc)
 
 -- a problem line, of which there is one
 abbrev pub problem_line : ℕ → Option Problem → List RoadArc → List (List ℕ) → Result MapSoFar MapError

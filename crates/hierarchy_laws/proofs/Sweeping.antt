@@ -1,6 +1,7 @@
 -- The sweep computes travel times.
 use Rattle.std.proofs.Common.{◌≡◌, ℕ, ◌+◌, ◌<◌, ◌≤◌, ◌⊎◌, inl, inr, true, false, cond, List, [], ◌∷◌, ltb, refl, sym, subst, arith}
 use Rattle.std.specs.Prelude.{Option, Some, None, Contains}
+use Rattle.std.proofs.lemmas.Bool.{ltb-true, ltb-false}
 use Rattle.ride_model.specs.declared.network.RoadArc.{RoadArc}
 use Rattle.ride_model.specs.Road.{RoadMap, IsRoadMap, IsWalk, IsTravel, weight_of, travel}
 use Rattle.model_laws.proofs.Walks.{weight-cons}
@@ -90,7 +91,7 @@ pub swept-is_travel : (never : ℕ) (roads : RoadMap) (Link : RoadArc → Type 0
 swept-is_travel never roads Link level core x y label fits large h is =
     elim (ltb label never) as (λ b. ltb label never ≡ b → travel roads x y ≡ cond b (Some label) None) [
       | true ↦ λ below.
-          let low : label < never = ltb_true label never below in
+          let low : label < never = ltb-true label never below in
           let way = reaches-carried Link (IsRoad roads) x y label h.sound (reaches-up_down Link level x y label (is.reached low)) in
           let lightest = walk_weighs (weight_of way.way) way.way (walk-from_way roads x y way.way way.walked) refl in
           travel-is_travel roads x y (Some label) fits record {
@@ -98,16 +99,10 @@ swept-is_travel never roads Link level core x y label fits large h is =
             least = λ walk walked. walk_weighs (weight_of walk) walk walked refl;
           }
       | false ↦ λ above.
-          let high : never ≤ label = ltb_false label never above in
+          let high : never ≤ label = ltb-false label never above in
           no_time high (travel roads x y) refl
     ] refl
   where
-    ltb_true : (a b : ℕ) → ltb a b ≡ true → a < b
-    ltb_true a b e = grind arith
-
-    ltb_false : (a b : ℕ) → ltb a b ≡ false → b ≤ a
-    ltb_false a b e = grind arith
-
     walk_weighs : (weight : ℕ) (walk : List RoadArc) → IsWalk roads x y walk → weight_of walk ≡ weight → label ≤ weight
     walk_weighs weight walk walked weighs =
         let r : Reaches (IsRoad roads) x y weight = record { way = walk; walked = way-from_walk roads x y walk walked; lighter = omega arith } in

@@ -2,11 +2,11 @@
 use Rattle.std.proofs.Common.{◌≡◌, ℕ, ◌+◌, ◌≤◌, ◌&&◌, ◌||◌, ◌⊎◌, Bool, true, false, not, cond, inl, inr, List, [], ◌∷◌, ◌++◌, length, eqb, ltb-false, refl, sym, ap, subst, arith, length-append}
 use Rattle.std.specs.Prelude.{map, max, Some, None, is_some, find, ◌==◌, nat_le, nat_lt, nat_eq, ⊤}
 use Rattle.std.specs.List.{IsDistinct, AllByRecursion}
-use Rattle.std.proofs.lemmas.Bool.{eqb-false, leb-false}
+use Rattle.std.proofs.lemmas.Bool.{eqb-false, leb-false, or_parts, not-false, and_parts}
 use Rattle.std.proofs.lemmas.Map.Keys.{IsDistinct-head, IsDistinct-tail, IsDistinct-cons}
 use Rattle.ride_model.specs.declared.command.Command.{Command}
 use Rattle.ride_model.specs.declared.command.Command.TheVariants.{Request, Cancel, At, Done, On, Off, Clock, Ask, Bad}
-use Rattle.ride_model.specs.declared.reply.RequestState.TheVariants.{Waiting as IsWaiting}
+use Rattle.ride_model.specs.declared.reply.RequestState.TheVariants.{Waiting as WaitingState}
 use Rattle.ride_model.specs.declared.vehicle.Ride.{Ride}
 use Rattle.ride_model.specs.declared.vehicle.Vehicle.{Vehicle}
 use Rattle.ride_model.specs.Seating.{find_vehicle}
@@ -15,14 +15,13 @@ use Rattle.ride_model.specs.Step.{is_node, with_accepted, request_step, cancel_s
 use Rattle.ride_model.specs.Vehicle.{IsRide, ride_ids}
 use Rattle.history_laws.specs.Start.{IsStart}
 use Rattle.history_laws.specs.Consistent.{request_ids, promised_as, vehicle_of_request}
-use Rattle.model_laws.proofs.Among.{Among}
-use Rattle.model_laws.proofs.AboardLoads.{and-true}
+use Rattle.plain_lemmas.proofs.Among.{Among}
 use Rattle.history_laws.proofs.Lookups.{fresh_by}
 use Rattle.history_laws.proofs.Earlier.{all_earlier-same}
 use Rattle.history_laws.proofs.Invariant.{find_request, Inv, Goes}
 use Rattle.history_laws.proofs.Changes.{open_batch-later}
 use Rattle.history_laws.proofs.Raised.{node_is}
-use Rattle.history_laws.proofs.Fed.{cond_goes, not-false, refused_goes, still_goes, duty_goes, at_goes, cancel_goes, done_goes, or-false}
+use Rattle.history_laws.proofs.Fed.{cond_goes, refused_goes, still_goes, duty_goes, at_goes, cancel_goes, done_goes}
 
 -- what was found is found with more behind it
 pub find-push : {X : Type 0} (p : X → Bool) (xs : List X) (x y : X) → find p xs ≡ Some y → find p (xs ++ x ∷ []) ≡ Some y
@@ -108,7 +107,7 @@ accepted_goes desks fed ok start s ride inv none few fits waits fine =
     }
   where
     new : AcceptedRequest
-    new = record { ride = ride; state = IsWaiting }
+    new = record { ride = ride; state = WaitingState }
 
     of_push : (P : AcceptedRequest → Type 0) → ((r : AcceptedRequest) → Among r s.requests → P r) → P new
         → (r : AcceptedRequest)
@@ -138,12 +137,12 @@ request_goes desks fed ok start s id from to seats latest longest chairs inv fin
     cond_goes Keeps (nat_lt 8 seats || nat_lt 4 chairs || eqb (seats + chairs) 0) _ _ (λ _. refuses) (λ load.
     cond_goes Keeps (nat_lt 1000000000 latest || eqb longest 0 || nat_lt 1000000 longest) _ _ (λ _. refuses) (λ limits.
     cond_goes Keeps (nat_le 100000 (length s.requests)) _ _ (λ _. refuses) (λ few.
-    let (from_in, to_in) = and-true (is_node s.roads from) (is_node s.roads to)
+    let (from_in, to_in) = and_parts (is_node s.roads from) (is_node s.roads to)
     (not-false (is_node s.roads from && is_node s.roads to) nodes) in
-    let (loads, some) = or-false (nat_lt 8 seats || nat_lt 4 chairs) (eqb (seats + chairs) 0) load in
-    let (seat_limit, chair_limit) = or-false (nat_lt 8 seats) (nat_lt 4 chairs) loads in
-    let (times, long) = or-false (nat_lt 1000000000 latest || eqb longest 0) (nat_lt 1000000 longest) limits in
-    let (late, short) = or-false (nat_lt 1000000000 latest) (eqb longest 0) times in
+    let (loads, some) = or_parts (nat_lt 8 seats || nat_lt 4 chairs) (eqb (seats + chairs) 0) load in
+    let (seat_limit, chair_limit) = or_parts (nat_lt 8 seats) (nat_lt 4 chairs) loads in
+    let (times, long) = or_parts (nat_lt 1000000000 latest || eqb longest 0) (nat_lt 1000000 longest) limits in
+    let (late, short) = or_parts (nat_lt 1000000000 latest) (eqb longest 0) times in
     accepted_goes desks fed ok start s
     (record { id = id; from = from; to = to; seats = seats; chairs = chairs; latest = latest; longest = longest; picked = None })
     inv none (omega (arith, leb-false 100000 (length s.requests) few)) (record {

@@ -23,21 +23,22 @@ use Rattle.ride_model.specs.Text.{IsSpelled, IsSpelledSeat, IsSpelledPair, IsSpe
 use Rattle.ride_model.specs.Vehicle.{IsLawful, ride_ids}
 use Rattle.history_laws.specs.Start.{IsStart}
 use Rattle.history_laws.specs.Consistent.{IsInBatch, IsOpenBatch}
-use Rattle.model_laws.proofs.Among.{Among, among_map, among_map_back, among_filter_back}
-use Rattle.model_laws.proofs.AboardLoads.{and-true, length-same}
+use Rattle.plain_lemmas.proofs.Among.{Among, among_map, among_map_back, among_filter_back}
+use Rattle.model_laws.proofs.AboardLoads.{length-same}
 use Rattle.model_laws.proofs.BatchSums.{seating_cost-lt}
 use Rattle.model_laws.proofs.Certificates.{found_among, seat_facts}
 use Rattle.model_laws.proofs.Costs.{offer_plan}
 use Rattle.model_laws.proofs.Insertions.{length-stops_with, inserted_facts}
 use Rattle.model_laws.proofs.PlanStops.{unlegged-routed}
-use Rattle.model_laws.proofs.Sums.{sum_by-le-times}
-use Rattle.history_laws.proofs.Lookups.{of_all, all_of, found_by}
+use Rattle.plain_lemmas.proofs.Sums.{sum_by-le-times}
+use Rattle.plain_lemmas.proofs.Each.{of_all, all_of}
+use Rattle.history_laws.proofs.Lookups.{found_by}
 use Rattle.history_laws.proofs.Earlier.{later_of}
 use Rattle.history_laws.proofs.Invariant.{Inv, map_of}
 use Rattle.history_laws.proofs.Opening.{waits_in}
 use Rattle.history_laws.proofs.Confirming.{start-fits, priced_start-found}
 use Rattle.history_laws.proofs.Replies.{vehicle_spelled}
-use Rattle.std.proofs.lemmas.Bool.{leb-true}
+use Rattle.std.proofs.lemmas.Bool.{leb-true, and_parts}
 
 -- a term of a sum is at most the sum
 term-le : {X : Type 0} (f : X → ℕ) (xs : List X) (x : X) → Among x xs → f x ≤ sum_by f xs
@@ -56,7 +57,7 @@ module _ (desks fed : ℕ) (start s : State) (begins : IsStart start) (inv : Inv
       → NamesBatch (next_batch s desk) number time requests plans
       → IsSpelled number × IsSpelled time × All IsSpelled requests × All IsSpelledPair plans
   opened_said desk number time requests plans may names =
-      let (_, fewer) = and-true (not (has_ended s (Desk desk)) && not (is_some (open_batch_of s desk))) (nat_lt s.opened s.asked) may in (
+      let (_, fewer) = and_parts (not (has_ended s (Desk desk)) && not (is_some (open_batch_of s desk))) (nat_lt s.opened s.asked) may in (
         omega (arith, names.number_is, ltb-true s.opened s.asked fewer, inv.few_asked),
         omega (arith, names.time_is, inv.clock_fits),
         subst (All IsSpelled) (sym names.requests_are) (all_of IsSpelled (ride_ids (next_batch s desk).requests) (λ id there.
@@ -112,9 +113,9 @@ module _ (desks fed : ℕ) (start s : State) (begins : IsStart start) (inv : Inv
       where
         few_kept : (new : Vehicle) (leave dwell : ℕ) → keeps new leave dwell ≡ true → length new.stops.items ≤ 16
         few_kept new leave dwell h =
-            let (both, _) = and-true (leb (length new.stops.items) 16 && list_all (keeps_ride new leave dwell) new.rides.items)
+            let (both, _) = and_parts (leb (length new.stops.items) 16 && list_all (keeps_ride new leave dwell) new.rides.items)
             (loads_fit new) h in
-            leb-true (length new.stops.items) 16 (and-true (leb (length new.stops.items) 16)
+            leb-true (length new.stops.items) 16 (and_parts (leb (length new.stops.items) 16)
             (list_all (keeps_ride new leave dwell) new.rides.items) both).0
 
     -- a price has a text

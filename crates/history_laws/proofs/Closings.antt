@@ -13,11 +13,11 @@ use Rattle.ride_model.specs.declared.entry.Entry.{Entry}
 use Rattle.ride_model.specs.declared.entry.Event.{Event}
 use Rattle.ride_model.specs.declared.entry.Event.TheVariants.{Fed, Finish, Opened, Committed, Abandoned}
 use Rattle.ride_model.specs.declared.entry.Outcome.{Outcome}
-use Rattle.ride_model.specs.declared.entry.Outcome.TheVariants.{Confirmed as IsConfirmed, Away as IsAway, Gone, Moved, Behind}
+use Rattle.ride_model.specs.declared.entry.Outcome.TheVariants.{Confirmed as ConfirmedState, Away as AwayState, Gone, Moved, Behind}
 use Rattle.ride_model.specs.declared.offer.Seat.{Seat}
 use Rattle.ride_model.specs.declared.reply.Reply.TheVariants.{OnMap, Late}
 use Rattle.ride_model.specs.declared.reply.RequestState.{RequestState}
-use Rattle.ride_model.specs.declared.reply.RequestState.TheVariants.{Waiting, InBatch, Confirmed, Aboard, Done as IsDone, Away, Cancelled}
+use Rattle.ride_model.specs.declared.reply.RequestState.TheVariants.{Waiting, InBatch, Confirmed, Aboard, Done as DoneState, Away, Cancelled}
 use Rattle.ride_model.specs.declared.vehicle.Kind.{Kind}
 use Rattle.ride_model.specs.declared.vehicle.Kind.TheVariants.{Pickup, Dropoff}
 use Rattle.ride_model.specs.declared.vehicle.Ride.{Ride}
@@ -36,8 +36,8 @@ use Rattle.ride_model.specs.Vehicle.{ride_ids}
 use Rattle.history_laws.specs.Start.{IsStart}
 use Rattle.history_laws.specs.Closing.{is_closed, closings_in, closings_of}
 use Rattle.history_laws.specs.Consistent.{promised_as, IsInBatch}
-use Rattle.model_laws.proofs.Among.{Among, among_map_back}
-use Rattle.history_laws.proofs.Lookups.{of_all}
+use Rattle.plain_lemmas.proofs.Among.{Among, among_map_back}
+use Rattle.plain_lemmas.proofs.Each.{of_all}
 use Rattle.history_laws.proofs.Invariant.{find_request, Inv, Goes}
 use Rattle.history_laws.proofs.Fed.{answer_by, found_at, stop_ride, promised-open}
 use Rattle.history_laws.proofs.Leaving.{open_batch, in_batch-none}
@@ -100,7 +100,7 @@ by_state_closes : (s : State) (q id : ℕ) (was : AcceptedRequest) → find_requ
     → was.state ≡ state
     → ClosesBy q (Cancel id) s (cancel_by_state s id state)
 by_state_closes s q id was found (Aboard v) is = inl refl
-by_state_closes s q id was found IsDone is = inl refl
+by_state_closes s q id was found DoneState is = inl refl
 by_state_closes s q id was found (Away n) is = inl refl
 by_state_closes s q id was found Cancelled is = inl refl
 by_state_closes s q id was found Waiting is =
@@ -159,9 +159,9 @@ done_at_closes desks fed start s q vehicle place v inv there (stop ∷ rest) is 
     by_kind Dropoff =
         let of_stop = stop_ride desks fed any_id start s v stop rest inv there is in
         let t = with_vehicle s place (raised (served s.settings.dwell v stop rest stop.kind)) in
-        closes_one q stop.ride s (with_request_state stop.ride IsDone t)
+        closes_one q stop.ride s (with_request_state stop.ride DoneState t)
         (promised_as v.id of_stop.ride, of_stop.accepted, promised-open v.id of_stop.ride.picked)
-        (marked_at stop.ride IsDone s t (promised_as v.id of_stop.ride) of_stop.accepted refl refl)
+        (marked_at stop.ride DoneState s t (promised_as v.id of_stop.ride) of_stop.accepted refl refl)
 
 -- a served stop of a vehicle that is there or not
 done_closes : (desks fed : ℕ) (start s : State) (q vehicle : ℕ) → IsStart start → Inv desks fed any_id start s
@@ -255,9 +255,9 @@ counted f id (q ∷ ids) distinct =
         inr (omega (arith, one, one_rest, total), inr there, later_away)
 
 -- the outcome that is away
-away_is : (outcome : Outcome) → is_away outcome ≡ true → outcome ≡ IsAway
-away_is IsAway h = refl
-away_is IsConfirmed h = absurd (cc h)
+away_is : (outcome : Outcome) → is_away outcome ≡ true → outcome ≡ AwayState
+away_is AwayState h = refl
+away_is ConfirmedState h = absurd (cc h)
 away_is Gone h = absurd (cc h)
 away_is (Moved named stands) h = absurd (cc h)
 away_is (Behind first now) h = absurd (cc h)
@@ -273,7 +273,7 @@ committed_closes desks fed start s q batch cost seats prices pays outcomes begin
     (sym commits.outcomes_are)
     (by_count (counted (outcome_of batch seats s) q (ride_ids batch.requests) (inv.batches_fit batch there).requests_differ))
   where
-    closed_by : (ride : Ride) → Among ride batch.requests → outcome_of batch seats s ride.id ≡ IsAway
+    closed_by : (ride : Ride) → Among ride batch.requests → outcome_of batch seats s ride.id ≡ AwayState
         → IsAt false s ride.id × IsAt true (after_commit batch seats s) ride.id
     closed_by ride ride_there is =
         let within = of_all (IsInBatch s batch.number) batch.requests ride (inv.batches_fit batch there).requests_are ride_there in (
@@ -296,7 +296,7 @@ committed_closes desks fed start s q batch cost seats prices pays outcomes begin
         cancelled_is r state found = rw found refl
 
         held : (state : RequestState) (b : Bool) → was_cancelled s ride.id ≡ b → was_cancelled s ride.id ≡ is_cancelled state
-            → (is_in_batch batch.number state || is_cancelled state) ≡ true → outcome_of batch seats s ride.id ≡ IsAway
+            → (is_in_batch batch.number state || is_cancelled state) ≡ true → outcome_of batch seats s ride.id ≡ AwayState
             → is_in_batch batch.number state ≡ true
         held state true was same within away =
             let gone : outcome_of batch seats s ride.id ≡ Gone = ap (λ c. outcome_by batch s c (seat_of seats ride.id)) was in

@@ -7,7 +7,7 @@ use Rattle.ride_model.specs.declared.entry.Outcome.{Outcome}
 use Rattle.ride_model.specs.declared.entry.Outcome.TheVariants.{Confirmed, Away, Gone, Moved, Behind}
 use Rattle.ride_model.specs.declared.offer.Seat.{Seat}
 use Rattle.ride_model.specs.declared.reply.RequestState.{RequestState}
-use Rattle.ride_model.specs.declared.reply.RequestState.TheVariants.{Waiting as IsWaiting, Confirmed as IsConfirmed, Away as IsAway}
+use Rattle.ride_model.specs.declared.reply.RequestState.TheVariants.{Waiting as WaitingState, Confirmed as ConfirmedState, Away as AwayState}
 use Rattle.ride_model.specs.declared.settings.Settings.{Settings}
 use Rattle.ride_model.specs.declared.vehicle.Ride.{Ride}
 use Rattle.ride_model.specs.declared.vehicle.Vehicle.{Vehicle}
@@ -21,19 +21,21 @@ use Rattle.ride_model.specs.Vehicle.{IsRide, IsFresh, ride_ids}
 use Rattle.history_laws.specs.Start.{IsStart}
 use Rattle.history_laws.specs.Closing.{is_closed}
 use Rattle.history_laws.specs.Consistent.{promised_state, promised_as, vehicle_of_request, IsInBatch, IsOpenBatch}
-use Rattle.model_laws.proofs.Among.{Among, among_map, contains_from_among}
+use Rattle.plain_lemmas.proofs.Among.{Among, among_map, contains_from_among}
+use Rattle.plain_lemmas.proofs.Numbers.{eqb-comm}
+use Rattle.plain_lemmas.proofs.Each.{of_each, of_all}
 use Rattle.model_laws.proofs.OfferPrices.{among_append}
 use Rattle.std.proofs.lemmas.Map.Keys.{IsDistinct-head, IsDistinct-tail}
+use Rattle.std.proofs.lemmas.Option.{same_Some}
 use Rattle.model_laws.proofs.Certificates.{found_among, seat_facts}
 use Rattle.model_laws.proofs.RequestStates.{marked}
-use Rattle.history_laws.proofs.Lookups.{of_all, of_each, find-map, found_by, put, put-id, Placed}
+use Rattle.history_laws.proofs.Lookups.{find-map, found_by, put, put-id, Placed}
 use Rattle.history_laws.proofs.Changes.{stays_in, find_request-map}
 use Rattle.history_laws.proofs.Marks.{marked-ride, marked-passing, marked-other, marks_go}
 use Rattle.history_laws.proofs.Moves.{only_request, move_goes}
 use Rattle.history_laws.proofs.Leaving.{without_inv, fewer-filter, others_of, is_batch-own, other_number, in_batch-none, in_batch-stays}
 use Rattle.history_laws.proofs.Confirming.{ready_at, Confirming, confirming, version_of-found, with_confirmed-is}
 use Rattle.history_laws.proofs.Kept.{Keeping, AllKeep, all_keep-placed, keeping-kept}
-use Rattle.history_laws.proofs.Served.{eqb-comm}
 use Rattle.history_laws.proofs.Raised.{lawful-raised}
 use Rattle.history_laws.proofs.Fed.{found_at}
 use Rattle.history_laws.proofs.Asked.{among-push, map-push}
@@ -215,7 +217,7 @@ module _ (desks fed : ℕ) (ok : ℕ → Type 0) (start s : State) (begins : IsS
       → find_vehicle batch.vehicles seat.vehicle ≡ Some v
       → find_vehicle s.vehicles seat.vehicle ≡ Some v
       → Confirming t.roads v ride (start_of v batch.settings.lead batch.time) seat.i seat.j batch.settings.dwell
-      → OneStep t (with_request_state ride.id (IsConfirmed seat.vehicle) (with_vehicle t place (with_confirmed t batch ride seat v)))
+      → OneStep t (with_request_state ride.id (ConfirmedState seat.vehicle) (with_vehicle t place (with_confirmed t batch ride seat v)))
       ride.id (Some seat)
   confirm_step t rides ride state seat place v part opened ride_there accepted within placed id_is copied stands c =
       let was : AcceptedRequest = record { ride = ride; state = state } in
@@ -231,9 +233,9 @@ module _ (desks fed : ℕ) (ok : ℕ → Type 0) (start s : State) (begins : IsS
       (of_all (λ (r : Ride). All (λ (x : Vehicle). IsFresh x.rides.items r.id) batch.vehicles) batch.requests ride
       opened.over_map.rides_fresh ride_there) v_copied in
       let none = in_batch-none batch.number state within in
-      subst (λ w. OneStep t (with_request_state ride.id (IsConfirmed seat.vehicle) (with_vehicle t place w)) ride.id (Some seat))
+      subst (λ w. OneStep t (with_request_state ride.id (ConfirmedState seat.vehicle) (with_vehicle t place w)) ride.id (Some seat))
       (sym new_is) (record {
-        goes = move_goes desks fed fed ok start t place v new ride.id was (IsConfirmed seat.vehicle) begins inv_t placed (record {
+        goes = move_goes desks fed fed ok start t place v new ride.id was (ConfirmedState seat.vehicle) begins inv_t placed (record {
           found = placed.found;
           accepted = accepted;
           was_with = inl none.0;
@@ -247,7 +249,7 @@ module _ (desks fed : ℕ) (ok : ℕ → Type 0) (start s : State) (begins : IsS
           rides_kept = λ q differs q_there. subst (Among q) (sym (map-push (λ (r : Ride). r.id) v.rides.items ride))
               (among_append (ride_ids v.rides.items) (ride.id ∷ []) q (inl q_there));
           is_with = λ k some. (
-            id_is ∙ same_number seat.vehicle k some,
+            id_is ∙ same_Some seat.vehicle k some,
             subst (Among ride.id) (sym (map-push (λ (r : Ride). r.id) v.rides.items ride))
                 (among_append (ride_ids v.rides.items) (ride.id ∷ []) ride.id (inr (inl refl))),
           );
@@ -261,7 +263,7 @@ module _ (desks fed : ℕ) (ok : ℕ → Type 0) (start s : State) (begins : IsS
         ));
         batches_are = refl;
         opened_is = refl;
-        other_requests = λ q differs. marked_elsewhere ride.id q (IsConfirmed seat.vehicle) t.requests differs;
+        other_requests = λ q differs. marked_elsewhere ride.id q (ConfirmedState seat.vehicle) t.requests differs;
         other_vehicles = λ k differ.
             ap (λ vs. find_vehicle vs k) (placed.set_is new refl)
             ∙ put_elsewhere new k t.vehicles (ap (λ n. eqb n k) id_is ∙ differ seat refl);
@@ -271,19 +273,16 @@ module _ (desks fed : ℕ) (ok : ℕ → Type 0) (start s : State) (begins : IsS
             (keeping-kept batch.settings.dwell late new c.kept));
       })
     where
-      same_number : (a b : ℕ) → Some a ≡ Some b → a ≡ b
-      same_number a b e = cc e
-
       unpicked : ride.picked ≡ None → ride ≡ record ride { picked = None }
       unpicked waits = λ i. record ride { picked = waits i }
 
-      promised_is : ride.picked ≡ None → v.id ≡ seat.vehicle → IsConfirmed seat.vehicle ≡ promised_state v.id ride.picked
-      promised_is waits id_is = ap IsConfirmed (sym id_is) ∙ ap (promised_state v.id) (sym waits)
+      promised_is : ride.picked ≡ None → v.id ≡ seat.vehicle → ConfirmedState seat.vehicle ≡ promised_state v.id ride.picked
+      promised_is waits id_is = ap ConfirmedState (sym id_is) ∙ ap (promised_state v.id) (sym waits)
 
       back : IsFresh v.rides.items ride.id → ride.picked ≡ None → v.id ≡ seat.vehicle → (other : Ride)
           → Among other v.rides.items ⊎ (ride ≡ other)
           → ((eqb other.id ride.id ≡ false) × Among other v.rides.items)
-          ⊎ ((eqb other.id ride.id ≡ true) × (record { ride = ride; state = IsConfirmed seat.vehicle } ≡ promised_as v.id other))
+          ⊎ ((eqb other.id ride.id ≡ true) × (record { ride = ride; state = ConfirmedState seat.vehicle } ≡ promised_as v.id other))
       back fresh waits id_is other (inl there) =
           inl (
             ne_eqb other.id ride.id (λ equal. fresh (contains_from_among (ride_ids v.rides.items) ride.id
@@ -293,7 +292,7 @@ module _ (desks fed : ℕ) (ok : ℕ → Type 0) (start s : State) (begins : IsS
       back fresh waits id_is other (inr is) =
           inr (
             eq-eqb other.id ride.id (ap (λ (r : Ride). r.id) (sym is)),
-            subst (λ (r : Ride). record { ride = ride; state = IsConfirmed seat.vehicle } ≡ promised_as v.id r) is
+            subst (λ (r : Ride). record { ride = ride; state = ConfirmedState seat.vehicle } ≡ promised_as v.id r) is
                 (λ i. record { ride = unpicked waits i; state = promised_is waits id_is i }),
           )
 
@@ -322,14 +321,14 @@ module _ (desks fed : ℕ) (ok : ℕ → Type 0) (start s : State) (begins : IsS
       let facts = seat_facts s.roads batch seat offered in
       let found_s : find_vehicle s.vehicles seat.vehicle ≡ Some v
       = sym (part.vehicles_stand ride (inl refl) seat seated) ∙ ap (find_vehicle t.vehicles) (sym at.id_is) ∙ at.placed.found in
-      let copy_is : copy.vehicle ≡ v = same copy.vehicle v (sym copy.stands ∙ found_s) in
+      let copy_is : copy.vehicle ≡ v = same_Some copy.vehicle v (sym copy.stands ∙ found_s) in
       let copied : find_vehicle batch.vehicles seat.vehicle ≡ Some v = copy.copied ∙ ap Some copy_is in
       let vehicle_is : facts.vehicle ≡ v
-      = same facts.vehicle v (sym (found_by (λ (x : Vehicle). x.id) batch.vehicles facts.vehicle opened.fleet_fits.ids_differ
+      = same_Some facts.vehicle v (sym (found_by (λ (x : Vehicle). x.id) batch.vehicles facts.vehicle opened.fleet_fits.ids_differ
       facts.vehicle_there)
       ∙ ap (find_vehicle batch.vehicles) facts.vehicle_id ∙ copied) in
       let ride_is : facts.ride ≡ ride
-      = same_ride facts.ride ride (sym (found_by (λ (x : Ride). x.id) batch.requests facts.ride opened.requests_differ facts.ride_there)
+      = same_Some facts.ride ride (sym (found_by (λ (x : Ride). x.id) batch.requests facts.ride opened.requests_differ facts.ride_there)
       ∙ ap (λ n. find (λ (x : Ride). x.id == n) batch.requests) (facts.ride_id ∙ request_is)
       ∙ found_by (λ (x : Ride). x.id) batch.requests ride opened.requests_differ ride_there) in
       let roads_are : s.roads ≡ t.roads = inv.roads_stay ∙ sym inv_t.roads_stay in
@@ -348,12 +347,6 @@ module _ (desks fed : ℕ) (ok : ℕ → Type 0) (start s : State) (begins : IsS
       (of_all (λ (r : Ride). r.picked ≡ None) batch.requests ride opened.over_map.rides_wait ride_there)
       (omega (arith, opened.in_time, inv.clock_fits)) offer in
       confirm_step t (ride ∷ rides) ride state seat place v part opened ride_there accepted within at.placed at.id_is copied found_s c
-    where
-      same : (a b : Vehicle) → Some a ≡ Some b → a ≡ b
-      same a b e = cc e
-
-      same_ride : (a b : Ride) → Some a ≡ Some b → a ≡ b
-      same_ride a b e = cc e
 
   -- what became of a request of the batch, by whether it was cancelled
   held_or_cancelled : (state : RequestState) → stays_in batch.number state ≡ true → is_cancelled state ≡ false
@@ -377,9 +370,9 @@ module _ (desks fed : ℕ) (ok : ℕ → Type 0) (start s : State) (begins : IsS
       (cond b (Behind (priced_start batch seat.vehicle) s.clock) Confirmed)) t)
       ride.id (Some seat)
   seated_step t rides ride state seat part opened ride_there accepted within seated false b equal =
-      mark_step t (ride ∷ rides) ride.id (Some seat) (record { ride = ride; state = state }) IsWaiting part accepted within refl
+      mark_step t (ride ∷ rides) ride.id (Some seat) (record { ride = ride; state = state }) WaitingState part accepted within refl
   seated_step t rides ride state seat part opened ride_there accepted within seated true true equal =
-      mark_step t (ride ∷ rides) ride.id (Some seat) (record { ride = ride; state = state }) IsWaiting part accepted within refl
+      mark_step t (ride ∷ rides) ride.id (Some seat) (record { ride = ride; state = state }) WaitingState part accepted within refl
   seated_step t rides ride state seat part opened ride_there accepted within seated true false equal =
       confirmed_step t rides ride state seat part opened ride_there accepted within seated equal (placed_vehicle t seat.vehicle) refl
 
@@ -391,7 +384,7 @@ module _ (desks fed : ℕ) (ok : ℕ → Type 0) (start s : State) (begins : IsS
       → OneStep t (after_outcome batch ride o (outcome_by batch s c o) t) ride.id o
   outcome_step t rides ride state part opened ride_there accepted true within o seated = no_step t ride.id o part.goes.inv
   outcome_step t rides ride state part opened ride_there accepted false within None seated =
-      mark_step t (ride ∷ rides) ride.id None (record { ride = ride; state = state }) (IsAway batch.number) part accepted
+      mark_step t (ride ∷ rides) ride.id None (record { ride = ride; state = state }) (AwayState batch.number) part accepted
       (within refl) refl
   outcome_step t rides ride state part opened ride_there accepted false within (Some seat) seated =
       seated_step t rides ride state seat part opened ride_there accepted (within refl) seated
@@ -404,16 +397,13 @@ module _ (desks fed : ℕ) (ok : ℕ → Type 0) (start s : State) (begins : IsS
       → eqb a.vehicle b.vehicle ≡ false
   other_seats first second a b differ a_is b_is = by_test (eqb a.vehicle b.vehicle) refl
     where
-      same : (x y : Seat) → Some x ≡ Some y → x ≡ y
-      same x y e = cc e
-
       by_test : (c : Bool) → eqb a.vehicle b.vehicle ≡ c → c ≡ false
       by_test false is = refl
       by_test true is =
           let (a_there, a_request) = seat_in first a a_is in
           let (b_there, b_request) = seat_in second b b_is in
           let key = λ (x : Seat). x.vehicle in
-          let equal : a ≡ b = same a b (sym (found_by key seats a seating.vehicles_differ a_there)
+          let equal : a ≡ b = same_Some a b (sym (found_by key seats a seating.vehicles_differ a_there)
           ∙ ap (λ n. find (λ (x : Seat). x.vehicle == n) seats) (eqb-true a.vehicle b.vehicle is)
           ∙ found_by key seats b seating.vehicles_differ b_there) in
           absurd (cc (differ, eq-eqb first.id second.id (sym a_request ∙ ap (λ (x : Seat). x.request) equal ∙ b_request)))
@@ -518,7 +508,7 @@ module _ (desks fed : ℕ) (ok : ℕ → Type 0) (start s : State) (begins : IsS
       → ((ride : Ride) → Among ride rides → Among ride batch.requests)
       → Partway t rides → (ride : Ride) → Among ride rides → outcome_of batch seats s ride.id ≡ Away
       → find_request (after_outcomes batch seats s rides t).requests ride.id ≡ Some
-      (record { ride = ride; state = IsAway batch.number })
+      (record { ride = ride; state = AwayState batch.number })
   away_after [] t opened distinct among part ride ride_there is = absurd ride_there
   away_after (first ∷ rides) t opened distinct among part ride (inl same) is =
       let step = first_step first rides t opened (among first (inl refl)) part in
@@ -529,12 +519,12 @@ module _ (desks fed : ℕ) (ok : ℕ → Type 0) (start s : State) (begins : IsS
       let within = of_all (IsInBatch s batch.number) batch.requests first opened.requests_are (among first (inl refl)) in
       let away : outcome_of batch seats s first.id ≡ Away = ap (λ (r : Ride). outcome_of batch seats s r.id) same ∙ is in
       let after_is : after ≡ with_request_state first.id
-      (IsAway batch.number) t = ap (λ o. after_outcome batch first (seat_of seats first.id) o t) away in
+      (AwayState batch.number) t = ap (λ o. after_outcome batch first (seat_of seats first.id) o t) away in
       subst (λ (r : Ride). find_request (after_outcomes batch seats s rides after).requests r.id ≡ Some
-      (record { ride = r; state = IsAway batch.number })) same
-      (goes.closed_stay first.id (record { ride = first; state = IsAway batch.number })
+      (record { ride = r; state = AwayState batch.number })) same
+      (goes.closed_stay first.id (record { ride = first; state = AwayState batch.number })
       (ap (λ (x : State). find_request x.requests first.id) after_is
-      ∙ marked_here first.id (IsAway batch.number) t.requests (record { ride = first; state = within.state })
+      ∙ marked_here first.id (AwayState batch.number) t.requests (record { ride = first; state = within.state })
       (part.requests_stand first (inl refl) ∙ within.accepted)) refl)
   away_after (first ∷ rides) t opened distinct among part ride (inr later) is =
       let step = first_step first rides t opened (among first (inl refl)) part in
@@ -545,10 +535,10 @@ module _ (desks fed : ℕ) (ok : ℕ → Type 0) (start s : State) (begins : IsS
 
   -- a request that a commit turns away is away after it
   pub away_stands : (ride : Ride) → Among ride batch.requests → outcome_of batch seats s ride.id ≡ Away
-      → find_request (after_commit batch seats s).requests ride.id ≡ Some (record { ride = ride; state = IsAway batch.number })
+      → find_request (after_commit batch seats s).requests ride.id ≡ Some (record { ride = ride; state = AwayState batch.number })
   away_stands ride ride_there is =
       let opened = inv.batches_fit batch there in
-      subst (λ (x : State). find_request x.requests ride.id ≡ Some (record { ride = ride; state = IsAway batch.number }))
+      subst (λ (x : State). find_request x.requests ride.id ≡ Some (record { ride = ride; state = AwayState batch.number }))
       (without-outcomes batch seats s batch.requests s)
       (away_after batch.requests (without_batch batch s) opened opened.requests_differ (λ other other_there. other_there) first_part ride
       ride_there is)

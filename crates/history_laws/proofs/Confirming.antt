@@ -4,6 +4,7 @@ use Rattle.std.specs.Prelude.{max, Some, None, option_map, unwrap_or, IfSome}
 use Rattle.std.specs.List.{list_all}
 use Rattle.std.proofs.lemmas.List.Elements.{All-weaker}
 use Rattle.std.proofs.lemmas.Option.{IfSome_then}
+use Rattle.std.proofs.lemmas.Bool.{and_parts}
 use Rattle.ride_model.specs.declared.offer.Offer.{Offer}
 use Rattle.ride_model.specs.declared.offer.Seat.{Seat}
 use Rattle.ride_model.specs.declared.settings.Settings.{Settings}
@@ -21,10 +22,10 @@ use Rattle.ride_model.specs.Settings.{IsSettings}
 use Rattle.ride_model.specs.State.{State}
 use Rattle.ride_model.specs.Step.{raised}
 use Rattle.ride_model.specs.Vehicle.{IsRide, IsFresh, IsRouted, IsLawful}
-use Rattle.model_laws.proofs.Among.{Among}
-use Rattle.model_laws.proofs.AboardLoads.{and-true}
+use Rattle.plain_lemmas.proofs.Among.{Among}
 use Rattle.model_laws.proofs.Costs.{offer_plan}
 use Rattle.model_laws.proofs.Insertions.{routed-with, inserted_facts}
+use Rattle.model_laws.proofs.Starts.{start-later}
 use Rattle.history_laws.proofs.Kept.{each_passes}
 
 -- a vehicle that is ready at a later time
@@ -47,14 +48,6 @@ routed-ready roads v start r later fits = record {
   planned = r.planned;
   legs = r.legs;
 }
-
--- the start of a vehicle for a batch
-start-later : (v : Vehicle) (lead time : ℕ) → v.ready ≤ start_of v lead time
-start-later v lead time = by_test (is_idle v)
-  where
-    by_test : (b : Bool) → v.ready ≤ cond b (max v.ready (time + lead)) v.ready
-    by_test true = omega arith
-    by_test false = omega arith
 
 -- the start is within its limit
 pub start-fits : (v : Vehicle) (lead time : ℕ) → v.ready ≤ 1000003600 → time ≤ 1000000000 → lead ≤ 3600
@@ -88,10 +81,10 @@ confirming roads settings v ride time i j offer ranges lawful fits fresh waits i
     = ap (λ o. option_map (with_plan (ready_at start v) (v.rides.items ++ ride ∷ [])) o) facts.route in
     let kept : keeps (with_plan v (v.rides.items ++ ride ∷ []) facts.out) start settings.dwell ≡ true
     = subst (λ w. keeps w start settings.dwell ≡ true) facts.new_is plan.plan.kept in
-    let (both, loads) = and-true (leb (length facts.out) 16 && list_all
+    let (both, loads) = and_parts (leb (length facts.out) 16 && list_all
     (keeps_ride (with_plan v (v.rides.items ++ ride ∷ []) facts.out) start settings.dwell) (v.rides.items ++ ride ∷ []))
     (loads_fit (with_plan v (v.rides.items ++ ride ∷ []) facts.out)) kept in
-    let (few, all_kept) = and-true (leb (length facts.out) 16)
+    let (few, all_kept) = and_parts (leb (length facts.out) 16)
     (list_all (keeps_ride (with_plan v (v.rides.items ++ ride ∷ []) facts.out) start settings.dwell) (v.rides.items ++ ride ∷ []))
     both in
     record {

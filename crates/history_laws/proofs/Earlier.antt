@@ -1,10 +1,11 @@
 -- Earlier and later records of the vehicles of a fleet.
 use Rattle.std.proofs.Common.{◌≡◌, ℕ, ◌+◌, Bool, true, false, cond, inl, inr, List, [], ◌∷◌, eqb, refl, sym, ◌∙◌, ap, subst, arith}
 use Rattle.std.specs.Prelude.{map, Some}
+use Rattle.std.proofs.lemmas.Option.{same_Some}
 use Rattle.ride_model.specs.declared.vehicle.Vehicle.{Vehicle}
 use Rattle.ride_model.specs.Seating.{find_vehicle}
 use Rattle.history_laws.specs.Consistent.{IsEarlier, AreEarlier}
-use Rattle.model_laws.proofs.Among.{Among}
+use Rattle.plain_lemmas.proofs.Among.{Among}
 
 -- a record is an earlier one of itself
 pub earlier-same : (v : Vehicle) → IsEarlier v v
@@ -58,9 +59,6 @@ later_of (e ∷ earliers) [] id v h is = absurd h
 later_of (e ∷ earliers) (l ∷ laters) id v (first, rest) is = by_test (λ some. later_of earliers laters id v rest some)
     (eqb e.id id) refl is
   where
-    same : (a b : Vehicle) → Some a ≡ Some b → a ≡ b
-    same a b e = cc e
-
     by_test : (find_vehicle earliers id ≡ Some v → (w : Vehicle) × (find_vehicle laters id ≡ Some w) × IsEarlier v w)
         → (b : Bool) → eqb e.id id ≡ b → cond b (Some e) (find_vehicle earliers id) ≡ Some v
         → (w : Vehicle) × (find_vehicle (l ∷ laters) id ≡ Some w) × IsEarlier v w
@@ -68,7 +66,7 @@ later_of (e ∷ earliers) (l ∷ laters) id v (first, rest) is = by_test (λ som
       l,
       ap (λ b. cond b (Some l) (find_vehicle laters id)) (ap (λ k. eqb k id) (sym first.id_is)
           ∙ here),
-      subst (λ u. IsEarlier u l) (same e v some) first,
+      subst (λ u. IsEarlier u l) (same_Some e v some) first,
     )
     by_test later false other some =
         let (w, found, goes_on) = later some in

@@ -14,8 +14,9 @@ use Rattle.ride_model.specs.Seating.{BatchCopy}
 use Rattle.ride_model.specs.State.{State, AcceptedRequest, with_end, open_batch_numbered}
 use Rattle.ride_model.specs.Vehicle.{IsLawful, visits_due, visit_of, stops_of}
 use Rattle.history_laws.specs.Start.{IsStart, is_fed}
-use Rattle.model_laws.proofs.Among.{Among}
-use Rattle.history_laws.proofs.Lookups.{of_all, distinct_nil}
+use Rattle.plain_lemmas.proofs.Among.{Among}
+use Rattle.plain_lemmas.proofs.Each.{of_all}
+use Rattle.history_laws.proofs.Lookups.{distinct_nil}
 use Rattle.history_laws.proofs.Earlier.{all_earlier-same}
 use Rattle.history_laws.proofs.Invariant.{Inv, Goes}
 use Rattle.history_laws.proofs.Changes.{open_batch-later}

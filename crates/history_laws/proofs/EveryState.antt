@@ -3,6 +3,7 @@ use Rattle.std.proofs.Common.{◌≡◌, ℕ, ◌+◌, List, [], ◌∷◌, ◌+
 use Rattle.std.specs.Prelude.{Some, All, Contains, ⊤}
 use Rattle.std.proofs.lemmas.List.Elements.{All-head, All-tail}
 use Rattle.std.proofs.lemmas.List.Sums.{sum_by-cons}
+use Rattle.std.proofs.lemmas.Option.{same_Some}
 use Rattle.ride_model.specs.declared.command.Command.TheVariants.{Request, Cancel, At, Done, On, Off, Clock, Ask, Bad}
 use Rattle.ride_model.specs.declared.entry.Entry.{Entry}
 use Rattle.ride_model.specs.declared.entry.Event.{Event}
@@ -13,9 +14,10 @@ use Rattle.ride_model.specs.Seating.{find_vehicle}
 use Rattle.ride_model.specs.State.{State}
 use Rattle.history_laws.specs.Start.{IsStart, fed_total}
 use Rattle.history_laws.specs.Consistent.{IsConsistent}
-use Rattle.model_laws.proofs.Among.{among_from_contains}
+use Rattle.plain_lemmas.proofs.Among.{among_from_contains}
+use Rattle.plain_lemmas.proofs.Each.{all_of}
 use Rattle.model_laws.proofs.Histories.{replay-append, IsLegal-parts}
-use Rattle.history_laws.proofs.Lookups.{all_of, found_by}
+use Rattle.history_laws.proofs.Lookups.{found_by}
 use Rattle.history_laws.proofs.Earlier.{later_of}
 use Rattle.history_laws.proofs.Invariant.{Inv, Goes, fleet_of, consistent_by}
 use Rattle.history_laws.proofs.Committing.{stays, goes_then}
@@ -100,12 +102,9 @@ equal_records feeds desks start first second begins legal earlier later earlier_
     (fleet_of desks (0 + fed_total first) any_id start middle begins goes.inv).ids_differ
     (among_from_contains middle.vehicles earlier earlier_there) in
     let (w, w_found, goes_on) = later_of middle.vehicles (replay middle second).vehicles earlier.id earlier on.earlier found in
-    let w_is : w ≡ later = same w later (sym w_found ∙ ap (find_vehicle (replay middle second).vehicles) ids
+    let w_is : w ≡ later = same_Some w later (sym w_found ∙ ap (find_vehicle (replay middle second).vehicles) ids
     ∙ found_by (λ (v : Vehicle). v.id) (replay middle second).vehicles later
     (fleet_of desks (0 + fed_total first + fed_total second) any_id start (replay middle second) begins on.inv).ids_differ
     (among_from_contains (replay middle second).vehicles later
     (subst (λ (s : State). Contains s.vehicles later) (replay-append start first second) later_there))) in
     goes_on.same (versions ∙ ap (λ (v : Vehicle). v.version) (sym w_is)) ∙ w_is
-  where
-    same : (a b : Vehicle) → Some a ≡ Some b → a ≡ b
-    same a b e = cc e

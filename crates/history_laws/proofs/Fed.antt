@@ -1,9 +1,10 @@
 -- What is kept is kept by each command that a feed gives.
 use Rattle.std.proofs.Common.{◌≡◌, ℕ, ◌+◌, ◌≤◌, ◌||◌, ◌⊎◌, Bool, true, false, not, cond, inl, inr, List, [], ◌∷◌, length, eqb, ltb-false, refl, sym, ◌∙◌, ap, subst, arith}
 use Rattle.std.specs.Prelude.{Contains, Option, Some, None, slice_set, ◌==◌, nat_lt}
-use Rattle.std.proofs.lemmas.Bool.{eqb-true}
+use Rattle.std.proofs.lemmas.Bool.{eqb-true, not-true, or_parts, not-false}
+use Rattle.std.proofs.lemmas.Option.{same_Some}
 use Rattle.ride_model.specs.declared.reply.RequestState.{RequestState}
-use Rattle.ride_model.specs.declared.reply.RequestState.TheVariants.{Waiting as IsWaiting, InBatch, Confirmed, Aboard, Done as IsDone, Away, Cancelled as IsCancelled}
+use Rattle.ride_model.specs.declared.reply.RequestState.TheVariants.{Waiting as WaitingState, InBatch, Confirmed, Aboard, Done as DoneState, Away, Cancelled as CancelledState}
 use Rattle.ride_model.specs.declared.vehicle.Kind.{Kind}
 use Rattle.ride_model.specs.declared.vehicle.Kind.TheVariants.{Pickup, Dropoff}
 use Rattle.ride_model.specs.declared.vehicle.Ride.{Ride}
@@ -17,12 +18,13 @@ use Rattle.ride_model.specs.Vehicle.{IsPlanFor, ride_ids}
 use Rattle.history_laws.specs.Start.{IsStart}
 use Rattle.history_laws.specs.Closing.{is_closed}
 use Rattle.history_laws.specs.Consistent.{promised_state, promised_as, vehicle_of_request}
-use Rattle.model_laws.proofs.Among.{Among, among_from_contains, among_map, among_map_back, among_filter, among_filter_back}
+use Rattle.plain_lemmas.proofs.Among.{Among, among_from_contains, among_map, among_map_back, among_filter, among_filter_back}
+use Rattle.plain_lemmas.proofs.Each.{of_all}
 use Rattle.model_laws.proofs.Certificates.{found_among}
 use Rattle.model_laws.proofs.PlanStops.{ids-without}
 use Rattle.model_laws.proofs.Removal.{lawful-without}
 use Rattle.model_laws.proofs.Routes.{with_leg}
-use Rattle.history_laws.proofs.Lookups.{of_all, ids-map, Placed, placed_is}
+use Rattle.history_laws.proofs.Lookups.{ids-map, Placed, placed_is}
 use Rattle.history_laws.proofs.Earlier.{all_earlier-same}
 use Rattle.history_laws.proofs.Invariant.{find_request, Inv, Goes, map_of, fleet_of}
 use Rattle.history_laws.proofs.Changes.{stays_in, open_batch-later}
@@ -137,21 +139,6 @@ pub cond_goes : (P : State → Type 0) (b : Bool) (x y : Answered) → (b ≡ tr
     → P (cond b x y).state
 cond_goes P b x y h k = answer_by (λ (answer : Answered). P answer.state) b x y h k
 
--- neither of two tests passes
-pub or-false : (a b : Bool) → (a || b) ≡ false → (a ≡ false) × (b ≡ false)
-or-false false b h = (refl, h)
-or-false true b h = absurd (cc h)
-
--- a test of which the contrary fails
-pub not-false : (b : Bool) → not b ≡ false → b ≡ true
-not-false true h = refl
-not-false false h = absurd (cc h)
-
--- a test of which the contrary passes
-pub not-true : (b : Bool) → not b ≡ true → b ≡ false
-not-true false h = refl
-not-true true h = absurd (cc h)
-
 -- a found vehicle with its place
 pub record Found (s : State) (place vehicle : ℕ) (v : Vehicle) : Type 0 where
   pub there : Among v s.vehicles
@@ -190,7 +177,7 @@ cancelled_goes : (desks fed : ℕ) (ok : ℕ → Type 0) (start s : State) (id :
     → find_request s.requests id ≡ Some was → vehicle_of_request was.state ≡ None → is_closed was.state ≡ false
     → Goes desks (fed + 1) ok start s (cancelled s id).state
 cancelled_goes desks fed ok start s id was inv accepted none open_still =
-    marks_go desks fed (fed + 1) ok start s (is_id id) IsCancelled (omega arith) inv (record {
+    marks_go desks fed (fed + 1) ok start s (is_id id) CancelledState (omega arith) inv (record {
       with_none = refl;
       were_with_none = λ r there passes.
           ap (λ (x : AcceptedRequest). vehicle_of_request x.state) (only_request desks fed ok start s id was r inv accepted there passes)
@@ -218,7 +205,7 @@ freed_goes desks fed ok start s id vehicle was begins inv accepted confirmed (So
     let at = found_at desks fed ok start s place vehicle v begins inv is in
     let fits = map_of desks fed ok start s begins inv in
     let lawful = inv.lawful v at.there in
-    move_goes desks fed (fed + 1) ok start s place v (raised (without_ride s.roads v id)) id was IsCancelled begins inv at.placed (record {
+    move_goes desks fed (fed + 1) ok start s place v (raised (without_ride s.roads v id)) id was CancelledState begins inv at.placed (record {
       found = at.placed.found;
       accepted = accepted;
       was_with = inr (ap vehicle_of_request confirmed ∙ ap Some (sym at.id_is));
@@ -241,10 +228,10 @@ by_state_goes : (desks fed : ℕ) (ok : ℕ → Type 0) (start s : State) (id : 
     → find_request s.requests id ≡ Some was → (state : RequestState) → was.state ≡ state
     → Goes desks (fed + 1) ok start s (cancel_by_state s id state).state
 by_state_goes desks fed ok start s id was begins inv accepted (Aboard _) is = refused_goes desks fed ok start s inv
-by_state_goes desks fed ok start s id was begins inv accepted IsDone is = refused_goes desks fed ok start s inv
+by_state_goes desks fed ok start s id was begins inv accepted DoneState is = refused_goes desks fed ok start s inv
 by_state_goes desks fed ok start s id was begins inv accepted (Away _) is = refused_goes desks fed ok start s inv
-by_state_goes desks fed ok start s id was begins inv accepted IsCancelled is = refused_goes desks fed ok start s inv
-by_state_goes desks fed ok start s id was begins inv accepted IsWaiting is =
+by_state_goes desks fed ok start s id was begins inv accepted CancelledState is = refused_goes desks fed ok start s inv
+by_state_goes desks fed ok start s id was begins inv accepted WaitingState is =
     cancelled_goes desks fed ok start s id was inv accepted (ap vehicle_of_request is) (ap is_closed is)
 by_state_goes desks fed ok start s id was begins inv accepted (InBatch n) is =
     cancelled_goes desks fed ok start s id was inv accepted (ap vehicle_of_request is) (ap is_closed is)
@@ -335,9 +322,6 @@ module _ (desks fed : ℕ) (ok : ℕ → Type 0) (start s : State) (begins : IsS
       same_vehicle : (k : ℕ) → Some v.id ≡ Some k → v.id ≡ k
       same_vehicle k e = cc e
 
-      same_request : (a b : AcceptedRequest) → Some a ≡ Some b → a ≡ b
-      same_request a b e = cc e
-
       picked_back : (of_stop : StopRide s v stop) (ride : Ride) → Among ride v.rides.items → (b : Bool) → eqb ride.id stop.ride ≡ b
           → ((eqb (cond b (record ride { picked = Some v.ready }) ride).id stop.ride ≡ false)
           × Among (cond b (record ride { picked = Some v.ready }) ride) v.rides.items)
@@ -346,7 +330,7 @@ module _ (desks fed : ℕ) (ok : ℕ → Type 0) (start s : State) (begins : IsS
           (cond b (record ride { picked = Some v.ready }) ride)))
       picked_back of_stop ride there true is =
           let equal : promised_as v.id of_stop.ride ≡ promised_as v.id ride
-          = same_request (promised_as v.id of_stop.ride) (promised_as v.id ride)
+          = same_Some (promised_as v.id of_stop.ride) (promised_as v.id ride)
           (sym of_stop.accepted ∙ ap (find_request s.requests) (sym (eqb-true ride.id stop.ride is))
           ∙ inv.promised v at.there ride there) in
           inr (is, ap (λ (x : AcceptedRequest). record x { state = Aboard v.id }) equal)
@@ -355,7 +339,7 @@ module _ (desks fed : ℕ) (ok : ℕ → Type 0) (start s : State) (begins : IsS
       let of_stop = stop_ride desks fed ok start s v stop rest inv at.there stops_are in
       move_goes desks fed (fed + 1) ok start s place v (raised (served s.settings.dwell v stop rest Dropoff)) stop.ride
       (promised_as v.id of_stop.ride)
-      IsDone begins inv at.placed (record {
+      DoneState begins inv at.placed (record {
         found = at.placed.found;
         accepted = of_stop.accepted;
         was_with = inr (vehicle_of-promised v.id of_stop.ride.picked);

@@ -2,8 +2,9 @@
 use Rattle.std.proofs.Common.{◌≡◌, ℕ, ◌+◌, ◌<◌, ◌≤◌, Bool, true, false, ◌||◌, ◌&&◌, not, cond, ◌⊎◌, inl, inr, List, [], ◌∷◌, ◌++◌, Option, Some, None, eqb, refl, sym, ap, subst, ◌∙◌, arith}
 use Rattle.std.specs.Prelude.{find, ◌==◌, nat_lt, is_some, IsSome, IsNone, IsSomeAnd}
 use Rattle.std.specs.List.{filter, list_any, list_all, range_with_len}
-use Rattle.std.proofs.lemmas.Bool.{eqb-true, eq-eqb}
+use Rattle.std.proofs.lemmas.Bool.{eqb-true, eq-eqb, not-true, and_parts, or_cases}
 use Rattle.std.proofs.lemmas.List.Folds.{list_any-append}
+use Rattle.std.proofs.Math.Bool.{or-false, and-false}
 use Rattle.ride_model.specs.declared.command.Actor.{Actor}
 use Rattle.ride_model.specs.declared.command.Actor.TheVariants.{Feed, Desk}
 use Rattle.ride_model.specs.declared.entry.Ending.{Ending}
@@ -15,8 +16,8 @@ use Rattle.ride_model.specs.History.{entries_of, ended_whole, is_whole, is_aband
 use Rattle.ride_model.specs.Legal.{after_event, after_entry, replay, IsLegal, IsLegalEvent, IsNumbered, MayEnd}
 use Rattle.ride_model.specs.Seating.{BatchCopy}
 use Rattle.ride_model.specs.State.{State, is_actor, has_ended, open_batch_of, open_batch_numbered}
-use Rattle.model_laws.proofs.AboardLoads.{and-true}
-use Rattle.model_laws.proofs.Among.{Among, among_filter}
+use Rattle.plain_lemmas.proofs.Among.{Among, among_filter}
+use Rattle.plain_lemmas.proofs.Each.{of_all}
 use Rattle.model_laws.proofs.Histories.{IsLegal-parts}
 use Rattle.history_laws.specs.Consistent.{IsOpenBatch, IsConsistent}
 use Rattle.history_laws.specs.Finishing.{is_whole_end, has_whole_end, gives_up, AllWhole}
@@ -24,13 +25,7 @@ use Rattle.history_laws.specs.Start.{IsStart, fed_total}
 use Rattle.history_laws.proofs.EveryState.{consistent}
 use Rattle.history_laws.proofs.Effects.{ends_in, is_opened, effect}
 use Rattle.history_laws.proofs.Leaving.{open_batch}
-use Rattle.history_laws.proofs.Lookups.{of_all}
-use Rattle.history_laws.proofs.Others.{is_actor-comm, or_false, ended-other, ended-same, NoneToCome, range_all, none_to_come-event}
-
--- one of two
-either_true : (a b : Bool) → (a || b) ≡ true → (a ≡ true) ⊎ (b ≡ true)
-either_true true b h = inl refl
-either_true false b h = inr h
+use Rattle.history_laws.proofs.Others.{is_actor-comm, ended-other, ended-same, NoneToCome, range_all, none_to_come-event}
 
 -- no value is None
 none_is : {X : Type 0} (o : Option X) → IsNone o → o ≡ None
@@ -43,10 +38,10 @@ ends_of [] = []
 ends_of (entry ∷ entries) = ends_in entry.actor entry.event ++ ends_of entries
 
 -- who has ended whole after entries, by the state before and by the actor's own entries
-whole-after : (actor : Actor) (s : State) (entries : List Entry)
+pub whole-after : (actor : Actor) (s : State) (entries : List Entry)
     → ended_whole (replay s entries) actor ≡ (ended_whole s actor || has_whole_end (entries_of actor entries))
 unfolding replay entries_of
-whole-after actor s [] = sym (or_false (ended_whole s actor))
+whole-after actor s [] = sym (or-false (ended_whole s actor))
 whole-after actor s (entry ∷ entries) =
     whole-after actor (after_entry s entry) entries
     ∙ ap (λ b. b || has_whole_end (entries_of actor entries)) (by_event entry.actor entry.event)
@@ -55,16 +50,12 @@ whole-after actor s (entry ∷ entries) =
     test : Actor × Ending → Bool
     test end = is_actor end.0 actor && is_whole end.1
 
-    and_false : (b : Bool) → (b && false) ≡ false
-    and_false true = refl
-    and_false false = refl
-
     added : (a : Actor) (event : Event) → list_any test (ends_in a event) ≡ (is_actor a actor && is_whole_end event)
-    added a (Finish ending) = or_false (is_actor a actor && is_whole ending)
-    added a (Fed command reply) = sym (and_false (is_actor a actor))
-    added a (Opened number time requests plans) = sym (and_false (is_actor a actor))
-    added a (Committed number cost seats prices pays outcomes) = sym (and_false (is_actor a actor))
-    added a (Abandoned number) = sym (and_false (is_actor a actor))
+    added a (Finish ending) = or-false (is_actor a actor && is_whole ending)
+    added a (Fed command reply) = sym (and-false (is_actor a actor))
+    added a (Opened number time requests plans) = sym (and-false (is_actor a actor))
+    added a (Committed number cost seats prices pays outcomes) = sym (and-false (is_actor a actor))
+    added a (Abandoned number) = sym (and-false (is_actor a actor))
 
     by_event : (a : Actor) (event : Event)
         → ended_whole (after_event s a event) actor ≡ (ended_whole s actor || (is_actor a actor && is_whole_end event))
@@ -117,13 +108,9 @@ none_open-event feeds desks s (Desk n) (Opened number time requests plans) desk 
 
     alive : has_ended s (Desk n) ≡ false
     alive =
-        let (both, fewer) = and-true (not (has_ended s (Desk n)) && not (is_some (open_batch_of s n))) (nat_lt s.opened s.asked) may in
-        let (lives, none) = and-true (not (has_ended s (Desk n))) (not (is_some (open_batch_of s n))) both in
-        not_true (has_ended s (Desk n)) lives
-      where
-        not_true : (b : Bool) → not b ≡ true → b ≡ false
-        not_true true h = absurd (cc h)
-        not_true false h = refl
+        let (both, fewer) = and_parts (not (has_ended s (Desk n)) && not (is_some (open_batch_of s n))) (nat_lt s.opened s.asked) may in
+        let (lives, none) = and_parts (not (has_ended s (Desk n))) (not (is_some (open_batch_of s n))) both in
+        not-true (has_ended s (Desk n)) lives
 
     same : has_ended (after_event s (Desk n) event) (Desk desk) ≡ has_ended s (Desk desk)
     same = ended-same s (Desk n) (Desk desk) event refl
@@ -172,7 +159,7 @@ settles-event feeds desks s actor event legal settles = record {
     before : (desk : ℕ) → ended_whole (after_event s actor event) (Desk desk) ≡ true → NoneToCome feeds s
     before desk ended =
         let test = λ (end : Actor × Ending). is_actor end.0 (Desk desk) && is_whole end.1 in
-        elim (either_true (ended_whole s (Desk desk)) (list_any test (ends_in actor event)) (
+        elim (or_cases (ended_whole s (Desk desk)) (list_any test (ends_in actor event)) (
         sym (ap (list_any test) (effect s actor event).ended ∙ list_any-append test s.ended (ends_in actor event)) ∙ ended
         )) [
           | inl earlier ↦ settles.whole desk earlier

@@ -5,6 +5,7 @@ use Rattle.std.specs.List.{filter, AllByRecursion}
 use Rattle.std.proofs.lemmas.Bool.{eq-eqb}
 use Rattle.std.proofs.lemmas.List.Elements.{All-from_recursion, All-head, All-tail}
 use Rattle.std.proofs.lemmas.List.Sums.{sum_by-cons}
+use Rattle.plain_lemmas.proofs.Numbers.{one_of_two}
 use Rattle.ride_model.specs.declared.command.Actor.{Actor}
 use Rattle.ride_model.specs.declared.command.Actor.TheVariants.{Feed, Desk}
 use Rattle.ride_model.specs.declared.command.Command.{Command}
@@ -41,7 +42,7 @@ fine_spelled log (Committed batch cost seats prices pays outcomes) h = tt
 fine_spelled log (Abandoned batch) h = tt
 
 -- a number from 1 to 1 or 2
-one_or_two : (most n : ℕ) → IsOneOrTwo most → IsNumbered most n → IsOneOrTwo n
+pub one_or_two : (most n : ℕ) → IsOneOrTwo most → IsNumbered most n → IsOneOrTwo n
 one_or_two most n (some, few) (low, high) = (low, omega arith)
 
 -- each event and its actor have a text
@@ -181,9 +182,6 @@ fed-le feeds desks s (entry ∷ entries) feeds_in (legal, rest) =
     of_feed : (feed k : ℕ) → entry.actor ≡ Feed feed → feed ≡ k → is_actor entry.actor (Feed k) ≡ true
     of_feed feed k is same = ap (λ a. is_actor a (Feed k)) is ∙ eq-eqb feed k same
 
-    one_of : (n : ℕ) → 1 ≤ n → n ≤ 2 → (n ≡ 1) ⊎ (n ≡ 2)
-    one_of n low high = grind arith
-
     by_feed : (feed : ℕ) → entry.actor ≡ Feed feed → is_fed entry.event ≡ true → (feed ≡ 1) ⊎ (feed ≡ 2)
         → 1 + (many 1 entries + many 2 entries) ≤ many 1 (entry ∷ entries) + many 2 (entry ∷ entries)
     by_feed feed is fed (inl same) = omega (arith, many-fed 1 entry entries (of_feed feed 1 is same) fed, many-more 2 entry entries)
@@ -194,7 +192,7 @@ fed-le feeds desks s (entry ∷ entries) feeds_in (legal, rest) =
     by_event false is legal = omega (arith, many-more 1 entry entries, many-more 2 entry entries)
     by_event true is legal =
         let (feed, actor_is, numbered) = fed_by feeds desks s entry.actor entry.event legal is in
-        by_feed feed actor_is is (one_of feed numbered.0 (omega (arith, numbered.1, feeds_in.1)))
+        by_feed feed actor_is is (one_of_two feed numbered.0 (omega (arith, numbered.1, feeds_in.1)))
 
 -- every legal history has a text
 pub has_text : (feeds desks : ℕ) (start : State) (entries : List Entry) → IsStart start → IsOneOrTwo feeds → IsOneOrTwo desks

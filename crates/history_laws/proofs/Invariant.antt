@@ -14,8 +14,8 @@ use Rattle.ride_model.specs.Vehicle.{IsRide, IsLawful, ride_ids}
 use Rattle.history_laws.specs.Start.{IsStart}
 use Rattle.history_laws.specs.Closing.{is_closed}
 use Rattle.history_laws.specs.Consistent.{request_ids, promised_as, vehicle_of_request, IsWithVehicle, AreEarlier, IsOpenBatch, IsConsistent}
-use Rattle.model_laws.proofs.Among.{Among, contains_from_among, among_map, among_map_back}
-use Rattle.history_laws.proofs.Lookups.{of_all, all_of}
+use Rattle.plain_lemmas.proofs.Among.{Among, contains_from_among, among_map, among_map_back}
+use Rattle.plain_lemmas.proofs.Each.{of_all, all_of}
 
 -- the first accepted request of an id
 abbrev pub find_request : List AcceptedRequest → ℕ → Option AcceptedRequest

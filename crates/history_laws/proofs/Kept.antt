@@ -2,17 +2,15 @@
 use Rattle.std.proofs.Common.{◌≡◌, ℕ, ◌+◌, ◌&&◌, ◌||◌, Bool, true, false, cond, inl, inr, List, [], ◌∷◌, ◌++◌, eqb, leb, leb-true, ltb, le-ltb, refl, sym, ◌∙◌, ap, subst}
 use Rattle.std.specs.Prelude.{map, Option, Some, None, slice_set, ◌==◌}
 use Rattle.std.specs.List.{list_all, filter}
-use Rattle.std.proofs.lemmas.Bool.{eq-eqb}
+use Rattle.std.proofs.lemmas.Bool.{eq-eqb, or_parts, or_from, and_parts}
 use Rattle.std.proofs.lemmas.List.Folds.{list_any-append}
 use Rattle.ride_model.specs.declared.vehicle.Ride.{Ride}
 use Rattle.ride_model.specs.declared.vehicle.Stop.{Stop}
 use Rattle.ride_model.specs.declared.vehicle.Vehicle.{Vehicle}
 use Rattle.ride_model.specs.Keeps.{is_pickup_at, is_dropoff_at, keeps_visits, keeps_ride, breaks_visits, breaks_ride, broken_of}
 use Rattle.ride_model.specs.Promises.{is_late}
-use Rattle.model_laws.proofs.Among.{Among, among_map, among_map_back, among_filter}
-use Rattle.model_laws.proofs.AboardLoads.{and-true}
+use Rattle.plain_lemmas.proofs.Among.{Among, among_map, among_map_back, among_filter}
 use Rattle.history_laws.proofs.Lookups.{put, Placed}
-use Rattle.history_laws.proofs.Fed.{or-false}
 
 -- a vehicle's times break no limit of a ride that was not named late
 abbrev pub Keeping : ℕ → List ℕ → Vehicle → Type 0
@@ -26,7 +24,7 @@ AllKeep dwell late vehicles = (v : Vehicle) → Among v vehicles → Keeping dwe
 pub not_late : (late more : List ℕ) (id : ℕ) → is_late (late ++ more) id ≡ false
     → (is_late late id ≡ false) × (is_late more id ≡ false)
 not_late late more id h =
-    or-false (is_late late id) (is_late more id) (sym (list_any-append (λ other. other == id) late more) ∙ h)
+    or_parts (is_late late id) (is_late more id) (sym (list_any-append (λ other. other == id) late more) ∙ h)
 
 -- more late rides ask less
 pub keeping-more : (dwell : ℕ) (late more : List ℕ) (v : Vehicle) → Keeping dwell late v → Keeping dwell (late ++ more) v
@@ -82,17 +80,14 @@ all_keep-placed dwell late vehicles place v new placed id_is keep keeping =
 keeps-whole : (ride : Ride) (picked : Option ℕ) (visits : List (Stop × ℕ)) → keeps_visits ride picked visits ≡ true
     → breaks_visits ride picked visits ≡ false
 keeps-whole ride None (p ∷ d ∷ []) keeps =
-    let (three, within) = and-true (is_pickup_at ride.from p.0 && is_dropoff_at ride.to d.0 && leb p.1 ride.latest)
+    let (three, within) = and_parts (is_pickup_at ride.from p.0 && is_dropoff_at ride.to d.0 && leb p.1 ride.latest)
     (leb d.1 (p.1 + ride.longest)) keeps in
-    let (places, in_time) = and-true (is_pickup_at ride.from p.0 && is_dropoff_at ride.to d.0) (leb p.1 ride.latest) three in
-    false-or (ltb ride.latest p.1) (ltb (p.1 + ride.longest) d.1)
+    let (places, in_time) = and_parts (is_pickup_at ride.from p.0 && is_dropoff_at ride.to d.0) (leb p.1 ride.latest) three in
+    or_from (ltb ride.latest p.1) (ltb (p.1 + ride.longest) d.1)
     (le-ltb ride.latest p.1 (leb-true p.1 ride.latest in_time))
     (le-ltb (p.1 + ride.longest) d.1 (leb-true d.1 (p.1 + ride.longest) within))
-  where
-    false-or : (a b : Bool) → a ≡ false → b ≡ false → (a || b) ≡ false
-    false-or a b p q = rw p q
 keeps-whole ride (Some at) (d ∷ []) keeps =
-    let (place, within) = and-true (is_dropoff_at ride.to d.0) (leb d.1 (at + ride.longest)) keeps in
+    let (place, within) = and_parts (is_dropoff_at ride.to d.0) (leb d.1 (at + ride.longest)) keeps in
     le-ltb (at + ride.longest) d.1 (leb-true d.1 (at + ride.longest) within)
 keeps-whole ride None [] keeps = refl
 keeps-whole ride None (p ∷ []) keeps = refl
@@ -105,9 +100,9 @@ pub each_passes : (test : Ride → Bool) (rides : List Ride) (ride : Ride) → l
     → test ride ≡ true
 each_passes test [] ride h there = absurd there
 each_passes test (first ∷ rides) ride h (inl is) =
-    ap test (sym is) ∙ (and-true (test first) (list_all test rides) h).0
+    ap test (sym is) ∙ (and_parts (test first) (list_all test rides) h).0
 each_passes test (first ∷ rides) ride h (inr there) =
-    each_passes test rides ride (and-true (test first) (list_all test rides) h).1 there
+    each_passes test rides ride (and_parts (test first) (list_all test rides) h).1 there
 
 -- a vehicle that keeps its promises from the time at which it is ready breaks no limit
 pub keeping-kept : (dwell : ℕ) (late : List ℕ) (v : Vehicle)

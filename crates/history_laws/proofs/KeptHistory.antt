@@ -1,6 +1,7 @@
 -- Every legal history keeps its promises.
 use Rattle.std.proofs.Common.{◌≡◌, ℕ, ◌+◌, false, List, [], ◌∷◌, ◌++◌, refl, sym, ◌∙◌, subst}
 use Rattle.std.specs.Prelude.{Option, Some, None, IsSome, IsSomeAnd}
+use Rattle.plain_lemmas.proofs.Each.{of_all, all_of}
 use Rattle.ride_model.specs.declared.command.Actor.{Actor}
 use Rattle.ride_model.specs.declared.command.Actor.TheVariants.{Feed, Desk}
 use Rattle.ride_model.specs.declared.entry.Entry.{Entry}
@@ -19,7 +20,6 @@ use Rattle.ride_model.specs.State.{State, open_batch_numbered}
 use Rattle.ride_model.specs.Vehicle.{IsLawful}
 use Rattle.history_laws.specs.Start.{IsStart}
 use Rattle.model_laws.proofs.RequestStates.{opening-is, abandon-is}
-use Rattle.history_laws.proofs.Lookups.{of_all, all_of}
 use Rattle.history_laws.proofs.Invariant.{Inv}
 use Rattle.history_laws.proofs.Kept.{AllKeep, all_keep-more}
 use Rattle.history_laws.proofs.KeptReports.{keeping-idle}

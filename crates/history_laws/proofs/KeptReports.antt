@@ -16,7 +16,7 @@ use Rattle.ride_model.specs.State.{State, placed_vehicle}
 use Rattle.ride_model.specs.Step.{Answered, is_node, raised, reported, report, report_driving, at_found}
 use Rattle.history_laws.specs.Start.{IsStart}
 use Rattle.model_laws.specs.Sooner.{AllSooner}
-use Rattle.model_laws.proofs.Among.{Among}
+use Rattle.plain_lemmas.proofs.Among.{Among}
 use Rattle.model_laws.proofs.Routes.{with_leg, sooner-filter, visits_from}
 use Rattle.model_laws.proofs.Removal.{breaks-sooner}
 use Rattle.history_laws.proofs.Lookups.{Placed}

@@ -2,7 +2,8 @@
 use Rattle.std.proofs.Common.{◌≡◌, ℕ, ◌+◌, ◌≤◌, ◌||◌, Bool, true, false, not, cond, List, [], ◌∷◌, ◌++◌, eqb, ltb, ltb-false, refl, sym, ◌∙◌, ap, subst, arith}
 use Rattle.std.specs.Prelude.{map, Option, Some, None, slice_set, ◌==◌, nat_lt, IfSome}
 use Rattle.std.specs.List.{filter}
-use Rattle.std.proofs.lemmas.Bool.{eqb-true}
+use Rattle.std.proofs.lemmas.Bool.{eqb-true, not-true, or_parts, not-false}
+use Rattle.std.proofs.lemmas.Option.{same_Some}
 use Rattle.ride_model.specs.declared.command.Command.TheVariants.{Done}
 use Rattle.ride_model.specs.declared.entry.Event.TheVariants.{Fed}
 use Rattle.ride_model.specs.declared.vehicle.Kind.{Kind}
@@ -18,7 +19,8 @@ use Rattle.ride_model.specs.State.{State, placed_vehicle}
 use Rattle.ride_model.specs.Step.{Answered, raised, served, served_reply, done_at_stop, done_found}
 use Rattle.ride_model.specs.Vehicle.{IsPlanFor, IsRouted, HasLegs, visits_due, visit_of, stops_of}
 use Rattle.history_laws.specs.Start.{IsStart}
-use Rattle.model_laws.proofs.Among.{Among, among_map_back, among_filter_back}
+use Rattle.plain_lemmas.proofs.Among.{Among, among_map_back, among_filter_back}
+use Rattle.plain_lemmas.proofs.Numbers.{eqb-comm}
 use Rattle.model_laws.proofs.AboardLoads.{filter-kept, filter-skipped}
 use Rattle.model_laws.proofs.Certificates.{found_among}
 use Rattle.model_laws.proofs.Routes.{visits_from}
@@ -26,8 +28,8 @@ use Rattle.model_laws.proofs.TravelTimes.{travel-same}
 use Rattle.history_laws.proofs.Invariant.{Inv}
 use Rattle.history_laws.proofs.Kept.{Keeping, AllKeep, all_keep-more, keeping-more, all_keep-placed}
 use Rattle.history_laws.proofs.KeptReports.{AnswerKeeps}
-use Rattle.history_laws.proofs.Served.{eqb-comm, picked_up, visits_at, waits_at, after_visit, after_last}
-use Rattle.history_laws.proofs.Fed.{answer_by, or-false, Found, found_at, not-false, not-true}
+use Rattle.history_laws.proofs.Served.{picked_up, visits_at, waits_at, after_visit, after_last}
+use Rattle.history_laws.proofs.Fed.{answer_by, Found, found_at}
 
 -- the visits of a ride are of its stops
 visits-stops : (dwell leave id : ℕ) (stops : List Stop)
@@ -69,11 +71,8 @@ module _ (s : State) (v : Vehicle) (stop : Stop) (rest : List Stop) (r : IsRoute
       ap (visits_from s.settings.dwell v.ready) stops_are
       ∙ ap (λ n. (stop, n) ∷ visits_from s.settings.dwell (n + s.settings.dwell) rest) (at_once stop.leg no_way)
     where
-      same : (a b : ℕ) → Some a ≡ Some b → a ≡ b
-      same a b e = cc e
-
       no_way : stop.leg ≡ 0
-      no_way = same stop.leg 0 (sym (subst (HasLegs s.roads v.at) stops_are r.legs).0
+      no_way = same_Some stop.leg 0 (sym (subst (HasLegs s.roads v.at) stops_are r.legs).0
           ∙ ap (λ x. travel s.roads x stop.node) at_stop ∙ travel-same s.roads stop.node)
 
       at_once : (leg : ℕ) → leg ≡ 0 → v.ready + leg ≡ v.ready
@@ -127,7 +126,7 @@ module _ (s : State) (v : Vehicle) (stop : Stop) (rest : List Stop) (r : IsRoute
       = sym (ap (λ picked. breaks_visits ride picked ((stop, v.ready) ∷ last ∷ [])) waits)
       ∙ sym (ap (λ visits. breaks_visits ride ride.picked ((stop, v.ready) ∷ visits)) only)
       ∙ own_whole ride there is h in
-      ltb-false ride.latest v.ready (or-false (ltb ride.latest v.ready) (ltb (v.ready + ride.longest) last.1) whole).0
+      ltb-false ride.latest v.ready (or_parts (ltb ride.latest v.ready) (ltb (v.ready + ride.longest) last.1) whole).0
 
   -- a drop-off is in time
   dropped_in_time : stop.kind ≡ Dropoff → (ride : Ride) → Among ride v.rides.items → eqb ride.id stop.ride ≡ true
@@ -154,7 +153,7 @@ module _ (s : State) (v : Vehicle) (stop : Stop) (rest : List Stop) (r : IsRoute
   aboard_whole : (ride : Ride) (visits : List (Stop × ℕ)) → breaks_visits ride None ((stop, v.ready) ∷ visits) ≡ false
       → breaks_visits (record ride { picked = Some v.ready }) (Some v.ready) visits ≡ false
   aboard_whole ride [] whole = refl
-  aboard_whole ride (last ∷ []) whole = (or-false (ltb ride.latest v.ready) (ltb (v.ready + ride.longest) last.1) whole).1
+  aboard_whole ride (last ∷ []) whole = (or_parts (ltb ride.latest v.ready) (ltb (v.ready + ride.longest) last.1) whole).1
   aboard_whole ride (last ∷ more ∷ visits) whole = refl
 
   -- the vehicle after the stop keeps what it kept

@@ -1,11 +1,12 @@
 -- Each command keeps what was promised, but for the rides that its reply names as broken.
 use Rattle.std.proofs.Common.{◌≡◌, ℕ, ◌+◌, ◌&&◌, ◌||◌, Bool, true, false, not, List, [], ◌++◌, eqb, refl}
 use Rattle.std.specs.Prelude.{Option, Some, None, is_some, length, ◌==◌, nat_le, nat_lt}
+use Rattle.std.proofs.lemmas.Bool.{not-true}
 use Rattle.ride_model.specs.declared.command.Command.{Command}
 use Rattle.ride_model.specs.declared.command.Command.TheVariants.{Request, Cancel, At, Done, On, Off, Clock, Ask, Bad}
 use Rattle.ride_model.specs.declared.entry.Event.TheVariants.{Fed}
 use Rattle.ride_model.specs.declared.reply.RequestState.{RequestState}
-use Rattle.ride_model.specs.declared.reply.RequestState.TheVariants.{Waiting as IsWaiting, InBatch, Confirmed, Aboard, Done as IsDone, Away, Cancelled as IsCancelled}
+use Rattle.ride_model.specs.declared.reply.RequestState.TheVariants.{Waiting as WaitingState, InBatch, Confirmed, Aboard, Done as DoneState, Away, Cancelled as CancelledState}
 use Rattle.ride_model.specs.declared.vehicle.Ride.{Ride}
 use Rattle.ride_model.specs.declared.vehicle.Vehicle.{Vehicle}
 use Rattle.ride_model.specs.Insertion.{without_ride}
@@ -14,13 +15,13 @@ use Rattle.ride_model.specs.State.{State, AcceptedRequest, accepted_request, pla
 use Rattle.ride_model.specs.Step.{is_node, raised, freed, cancel_by_state, cancel_found, duty_found, request_step, cancel_step, at_step, done_step, duty_step, clock_step, ask_step, step}
 use Rattle.ride_model.specs.Vehicle.{IsRouted}
 use Rattle.history_laws.specs.Start.{IsStart}
-use Rattle.model_laws.proofs.Among.{among_filter_back}
+use Rattle.plain_lemmas.proofs.Among.{among_filter_back}
 use Rattle.model_laws.proofs.Removal.{breaks_ride-without}
 use Rattle.history_laws.proofs.Invariant.{Inv, map_of}
 use Rattle.history_laws.proofs.Kept.{Keeping, AllKeep, keeping-more, all_keep-more, all_keep-placed}
 use Rattle.history_laws.proofs.KeptReports.{AnswerKeeps, at_keeps}
 use Rattle.history_laws.proofs.KeptService.{done_keeps}
-use Rattle.history_laws.proofs.Fed.{answer_by, found_at, not-true}
+use Rattle.history_laws.proofs.Fed.{answer_by, found_at}
 
 module _ (desks fed : ℕ) (ok : ℕ → Type 0) (start s : State) (begins : IsStart start) (inv : Inv desks fed ok start s)
     (late : List ℕ) (keep : AllKeep s.settings.dwell late s.vehicles) where
@@ -63,10 +64,10 @@ module _ (desks fed : ℕ) (ok : ℕ → Type 0) (start s : State) (begins : IsS
   -- a cancellation by what has become of the request
   by_state_keeps : (id : ℕ) (state : RequestState) → AnswerKeeps s.settings.dwell late (Cancel id) (cancel_by_state s id state)
   by_state_keeps id (Aboard _) = same_keeps []
-  by_state_keeps id IsDone = same_keeps []
+  by_state_keeps id DoneState = same_keeps []
   by_state_keeps id (Away _) = same_keeps []
-  by_state_keeps id IsCancelled = same_keeps []
-  by_state_keeps id IsWaiting = same_keeps []
+  by_state_keeps id CancelledState = same_keeps []
+  by_state_keeps id WaitingState = same_keeps []
   by_state_keeps id (InBatch _) = same_keeps []
   by_state_keeps id (Confirmed vehicle) = freed_keeps id vehicle (placed_vehicle s vehicle) refl
 

@@ -2,7 +2,8 @@
 use Rattle.std.proofs.Common.{◌≡◌, ℕ, ◌+◌, ◌≤◌, ◌||◌, Bool, true, false, not, cond, inl, inr, List, [], ◌∷◌, length, eqb, refl, sym, ◌∙◌, ap, subst, arith}
 use Rattle.std.specs.Prelude.{Some, None, option_map, find, ◌==◌}
 use Rattle.std.specs.List.{filter}
-use Rattle.std.proofs.lemmas.Bool.{eqb-true, eq-eqb}
+use Rattle.std.proofs.lemmas.Bool.{eqb-true, eq-eqb, not-true, and_from, and_parts}
+use Rattle.std.proofs.lemmas.Option.{same_Some}
 use Rattle.ride_model.specs.declared.reply.RequestState.{RequestState}
 use Rattle.ride_model.specs.declared.reply.RequestState.TheVariants.{Waiting, InBatch, Confirmed, Aboard, Done, Away, Cancelled}
 use Rattle.ride_model.specs.declared.vehicle.Ride.{Ride}
@@ -12,15 +13,14 @@ use Rattle.ride_model.specs.State.{State, AcceptedRequest, is_batch, request_sta
 use Rattle.history_laws.specs.Closing.{is_closed}
 use Rattle.history_laws.specs.Consistent.{vehicle_of_request}
 use Rattle.model_laws.specs.Requests.{is_of, is_in}
-use Rattle.model_laws.proofs.Among.{Among, among_filter_back}
-use Rattle.model_laws.proofs.AboardLoads.{and-true, true-and, filter-skipped}
+use Rattle.plain_lemmas.proofs.Among.{Among, among_filter_back}
+use Rattle.model_laws.proofs.AboardLoads.{filter-skipped}
 use Rattle.model_laws.proofs.Certificates.{found_among}
 use Rattle.model_laws.proofs.RequestStates.{abandon-is}
 use Rattle.history_laws.proofs.Lookups.{found_by, distinct-filter_by}
 use Rattle.history_laws.proofs.Earlier.{all_earlier-same}
 use Rattle.history_laws.proofs.Invariant.{find_request, Inv, Goes}
 use Rattle.history_laws.proofs.Changes.{stays_in, open_batch-later}
-use Rattle.history_laws.proofs.Fed.{not-true}
 use Rattle.history_laws.proofs.Marks.{marks_go}
 use Rattle.history_laws.proofs.Opening.{of_rides}
 use Rattle.history_laws.proofs.Raised.{length-filter-le}
@@ -80,12 +80,12 @@ pub open_batch : (s : State) (desk number : ℕ) (batch : BatchCopy) → open_ba
     → OpenBatch s desk number batch
 open_batch s desk number batch is =
     let (there, both) = found_among (λ (b : BatchCopy). is_batch desk number b) s.batches batch is in
-    let (desk_is, number_is) = and-true (batch.desk == desk) (batch.number == number) both in
+    let (desk_is, number_is) = and_parts (batch.desk == desk) (batch.number == number) both in
     record { there = there; desk_is = eqb-true batch.desk desk desk_is; number_is = eqb-true batch.number number number_is }
 
 -- a batch is itself
 pub is_batch-own : (batch : BatchCopy) → is_batch batch.desk batch.number batch ≡ true
-is_batch-own batch = true-and (batch.desk == batch.desk) (batch.number == batch.number) (eq-eqb batch.desk batch.desk refl)
+is_batch-own batch = and_from (batch.desk == batch.desk) (batch.number == batch.number) (eq-eqb batch.desk batch.desk refl)
     (eq-eqb batch.number batch.number refl)
 
 -- another open batch has another number
@@ -94,9 +94,6 @@ pub other_number : (desks fed : ℕ) (ok : ℕ → Type 0) (start s : State) (ba
     → Among b (without_batch batch s).batches → eqb batch.number b.number ≡ false
 other_number desks fed ok start s batch b inv there b_there = by_test (eqb batch.number b.number) refl
   where
-    same : (x y : BatchCopy) → Some x ≡ Some y → x ≡ y
-    same x y e = cc e
-
     by_test : (c : Bool) → eqb batch.number b.number ≡ c → c ≡ false
     by_test false is = refl
     by_test true is =
@@ -109,7 +106,7 @@ other_number desks fed ok start s batch b inv there b_there = by_test (eqb batch
         absurd (cc (
           not-true (is_batch batch.desk batch.number b) kept,
           ap (is_batch batch.desk batch.number)
-              (same batch b both),
+              (same_Some batch b both),
           is_batch-own batch,
         ))
 

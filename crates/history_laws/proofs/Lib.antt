@@ -30,3 +30,4 @@ pub mod Closings
 pub mod Standing
 pub mod Finished
 pub mod Unmoved
+pub mod OpenedBatches

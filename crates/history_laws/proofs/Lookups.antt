@@ -5,21 +5,11 @@ use Rattle.std.specs.List.{AllByRecursion, IsDistinct, enumerate_from, filter}
 use Rattle.std.proofs.lemmas.Bool.{eqb-true, eq-eqb, ne_eqb}
 use Rattle.std.proofs.lemmas.List.Elements.{All-from_recursion, All-contains}
 use Rattle.std.proofs.lemmas.Map.Keys.{IsDistinct-head, IsDistinct-tail, IsDistinct-cons}
+use Rattle.std.proofs.lemmas.Option.{same_Some}
 use Rattle.ride_model.specs.declared.vehicle.Vehicle.{Vehicle}
 use Rattle.ride_model.specs.Seating.{find_vehicle, vehicle_ids}
-use Rattle.model_laws.proofs.Among.{Among, contains_from_among, among_map}
-
--- what holds of all elements holds of each
-pub of_all : {X : Type 0} (P : X → Type 0) (xs : List X) (x : X) → All P xs → Among x xs → P x
-of_all P xs x h there = All-contains P xs x h (contains_from_among xs x there)
-
--- what holds of each holds of all
-pub all_of : {X : Type 0} (P : X → Type 0) (xs : List X) → ((x : X) → Among x xs → P x) → All P xs
-all_of {X} P xs h = All-from_recursion P xs (each xs h)
-  where
-    each : (ys : List X) → ((x : X) → Among x ys → P x) → AllByRecursion P ys
-    each [] h = tt
-    each (y ∷ ys) h = (h y (inl refl), each ys (λ x there. h x (inr there)))
+use Rattle.plain_lemmas.proofs.Among.{Among, contains_from_among, among_map}
+use Rattle.plain_lemmas.proofs.Each.{of_each, of_all, all_of}
 
 -- what is found after a map that changes no id
 pub find-map : {X : Type 0} (key : X → ℕ) (g : X → X) → ((x : X) → key (g x) ≡ key x) → (q : ℕ) (xs : List X)
@@ -46,12 +36,6 @@ pub map-same : {X : Type 0} (g : X → X) (xs : List X) → ((x : X) → Among x
 map-same g [] same = refl
 map-same g (x ∷ xs) same = ap (λ y. y ∷ map g xs) (same x (inl refl))
     ∙ ap (λ ys. x ∷ ys) (map-same g xs (λ y there. same y (inr there)))
-
--- an element of a list that holds for each holds by recursion
-pub of_each : {X : Type 0} (P : X → Type 0) (xs : List X) (x : X) → AllByRecursion P xs → Among x xs → P x
-of_each P [] x h there = absurd there
-of_each P (y ∷ ys) x (first, rest) (inl is) = subst P is first
-of_each P (y ∷ ys) x (first, rest) (inr there) = of_each P ys x rest there
 
 -- each element is found by its id, where the ids differ
 pub found_by : {X : Type 0} (key : X → ℕ) (xs : List X) (x : X) → IsDistinct eqb (map key xs) → Among x xs
@@ -90,9 +74,6 @@ placed_from n [] id place v distinct is = absurd (cc is)
 placed_from n (w ∷ ws) id place v distinct is =
     by_test (λ some. placed_from (n + 1) ws id place v (IsDistinct-tail eqb w.id (vehicle_ids ws) distinct) some) (eqb w.id id) refl is
   where
-    same : (a b : ℕ × Vehicle) → Some a ≡ Some b → a ≡ b
-    same a b e = cc e
-
     others : w.id ≡ id → (new : Vehicle) → new.id ≡ id → (u : Vehicle) → Among u ws → put new u ≡ u
     others here new new_is u there =
         ap (λ b. cond b new u) (ne_eqb u.id new.id (λ equal. absurd (cc (
@@ -106,7 +87,7 @@ placed_from n (w ∷ ws) id place v distinct is =
         → cond b (Some (n, w)) (find (λ (placed : ℕ × Vehicle). placed.1.id == id) (enumerate_from (n + 1) ws)) ≡ Some (place, v)
         → (k : ℕ) × (place ≡ n + k) × Placed (w ∷ ws) id k v
     by_test later true here some =
-        let pair = same (n, w) (place, v) some in
+        let pair = same_Some (n, w) (place, v) some in
         let at : n ≡ place = ap (λ (p : ℕ × Vehicle). p.0) pair in
         let vehicle_is : w ≡ v = ap (λ (p : ℕ × Vehicle). p.1) pair in (
           0,

@@ -2,6 +2,7 @@
 use Rattle.std.proofs.Common.{◌≡◌, ℕ, ◌+◌, ◌≤◌, ◌⊎◌, Bool, true, false, cond, inl, inr, length, eqb, refl, sym, ◌∙◌, ap, subst, arith}
 use Rattle.std.specs.Prelude.{map, Option, Some, None, option_map, ◌==◌}
 use Rattle.std.proofs.lemmas.Bool.{eqb-true, eqb-false}
+use Rattle.std.proofs.lemmas.Option.{same_Some}
 use Rattle.ride_model.specs.declared.reply.RequestState.{RequestState}
 use Rattle.ride_model.specs.declared.vehicle.Ride.{Ride}
 use Rattle.ride_model.specs.declared.vehicle.Vehicle.{Vehicle}
@@ -11,7 +12,7 @@ use Rattle.ride_model.specs.Vehicle.{IsLawful, ride_ids}
 use Rattle.history_laws.specs.Closing.{is_closed}
 use Rattle.history_laws.specs.Consistent.{IsEarlier, promised_state, promised_as, vehicle_of_request}
 use Rattle.history_laws.specs.Start.{IsStart}
-use Rattle.model_laws.proofs.Among.{Among}
+use Rattle.plain_lemmas.proofs.Among.{Among}
 use Rattle.model_laws.proofs.Certificates.{found_among}
 use Rattle.model_laws.proofs.RequestStates.{marked}
 use Rattle.history_laws.proofs.Lookups.{map-same, found_by, put, put-id, Placed}
@@ -109,12 +110,9 @@ pub put_cases : (desks fed : ℕ) (ok : ℕ → Type 0) (start s : State) → Is
     → ((w ≡ v) × (put new w ≡ new)) ⊎ ((w.id ≡ v.id → ⊥) × (put new w ≡ w))
 put_cases desks fed ok start s begins inv v new w found id_is there = by_test (eqb w.id new.id) refl
   where
-    same : (a b : Vehicle) → Some a ≡ Some b → a ≡ b
-    same a b e = cc e
-
     by_test : (b : Bool) → eqb w.id new.id ≡ b → ((w ≡ v) × (put new w ≡ new)) ⊎ ((w.id ≡ v.id → ⊥) × (put new w ≡ w))
     by_test true is = inl (
-      same w v (sym (found_by (λ (x : Vehicle). x.id) s.vehicles w (fleet_of desks fed ok start s begins inv).ids_differ there)
+      same_Some w v (sym (found_by (λ (x : Vehicle). x.id) s.vehicles w (fleet_of desks fed ok start s begins inv).ids_differ there)
           ∙ ap (find_vehicle s.vehicles) (eqb-true w.id new.id is ∙ id_is) ∙ found),
       ap (λ b. cond b new w) is,
     )

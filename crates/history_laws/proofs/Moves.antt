@@ -2,6 +2,7 @@
 use Rattle.std.proofs.Common.{◌≡◌, ℕ, ◌+◌, ◌≤◌, ◌⊎◌, Bool, true, false, cond, inl, inr, length, eqb, refl, sym, ◌∙◌, ap, subst, arith}
 use Rattle.std.specs.Prelude.{map, Some, None, option_map, ◌==◌}
 use Rattle.std.proofs.lemmas.Bool.{eqb-true, eq-eqb}
+use Rattle.std.proofs.lemmas.Option.{same_Some}
 use Rattle.ride_model.specs.declared.reply.RequestState.{RequestState}
 use Rattle.ride_model.specs.declared.vehicle.Ride.{Ride}
 use Rattle.ride_model.specs.declared.vehicle.Vehicle.{Vehicle}
@@ -11,7 +12,7 @@ use Rattle.ride_model.specs.Vehicle.{IsLawful, ride_ids}
 use Rattle.history_laws.specs.Closing.{is_closed}
 use Rattle.history_laws.specs.Consistent.{IsEarlier, promised_as, vehicle_of_request}
 use Rattle.history_laws.specs.Start.{IsStart}
-use Rattle.model_laws.proofs.Among.{Among}
+use Rattle.plain_lemmas.proofs.Among.{Among}
 use Rattle.model_laws.proofs.Certificates.{found_among}
 use Rattle.model_laws.proofs.RequestStates.{marked}
 use Rattle.history_laws.proofs.Lookups.{found_by, put, put-id, Placed}
@@ -47,11 +48,8 @@ pub only_request : (desks fed : ℕ) (ok : ℕ → Type 0) (start s : State) (id
     → Inv desks fed ok start s
     → find_request s.requests id ≡ Some was → Among r s.requests → eqb r.ride.id id ≡ true → r ≡ was
 only_request desks fed ok start s id was r inv accepted there is =
-    same r was (sym (found_by (λ (x : AcceptedRequest). x.ride.id) s.requests r inv.requests_differ there)
+    same_Some r was (sym (found_by (λ (x : AcceptedRequest). x.ride.id) s.requests r inv.requests_differ there)
     ∙ ap (find_request s.requests) (eqb-true r.ride.id id is) ∙ accepted)
-  where
-    same : (a b : AcceptedRequest) → Some a ≡ Some b → a ≡ b
-    same a b e = cc e
 
 -- such a move is a change
 pub move-change : (desks fed : ℕ) (ok : ℕ → Type 0) (start s : State) (v new : Vehicle) (id : ℕ) (was : AcceptedRequest)

@@ -2,7 +2,8 @@
 use Rattle.std.proofs.Common.{◌≡◌, ℕ, zero, suc, ◌+◌, ◌&&◌, ◌||◌, ◌⊎◌, Bool, true, false, not, inl, inr, List, [], ◌∷◌, ◌++◌, take, eqb, ltb-true, refl, sym, ◌∙◌, ap, subst, arith, length-append, length-take}
 use Rattle.std.specs.Prelude.{map, Some, None, option_map, is_some, nat_lt, nat_eq, All}
 use Rattle.std.specs.List.{filter, IsDistinct}
-use Rattle.std.proofs.lemmas.Bool.{eqb-true, eq-eqb, ne_eqb}
+use Rattle.std.proofs.lemmas.Bool.{eqb-true, eq-eqb, ne_eqb, not-true, and_parts}
+use Rattle.std.proofs.lemmas.Option.{same_Some}
 use Rattle.ride_model.specs.declared.command.Actor.TheVariants.{Desk}
 use Rattle.ride_model.specs.declared.reply.RequestState.{RequestState}
 use Rattle.ride_model.specs.declared.reply.RequestState.TheVariants.{Waiting, InBatch, Confirmed, Aboard, Done, Away, Cancelled}
@@ -17,15 +18,14 @@ use Rattle.history_laws.specs.Start.{IsStart}
 use Rattle.history_laws.specs.Closing.{is_closed}
 use Rattle.history_laws.specs.Consistent.{promised_as, vehicle_of_request, IsInBatch, IsOpenBatch}
 use Rattle.model_laws.specs.Requests.{is_of}
-use Rattle.model_laws.proofs.Among.{Among, among_from_contains, among_map_back, among_filter_back}
-use Rattle.model_laws.proofs.AboardLoads.{and-true}
+use Rattle.plain_lemmas.proofs.Among.{Among, among_from_contains, among_map_back, among_filter_back}
+use Rattle.plain_lemmas.proofs.Each.{all_of}
 use Rattle.model_laws.proofs.RequestStates.{marked, opening-is}
-use Rattle.history_laws.proofs.Lookups.{all_of, found_by, fresh_by, distinct-filter_by, distinct-take_by, among_take}
+use Rattle.history_laws.proofs.Lookups.{found_by, fresh_by, distinct-filter_by, distinct-take_by, among_take}
 use Rattle.history_laws.proofs.Earlier.{all_earlier-same}
 use Rattle.history_laws.proofs.Invariant.{find_request, Inv, Goes, settings_of, fleet_of}
 use Rattle.history_laws.proofs.Changes.{stays_in, find_request-map, open_batch-later}
 use Rattle.history_laws.proofs.Marks.{marked-ride, marked-passing, Marks, marks_go, vehicle_of-promised}
-use Rattle.history_laws.proofs.Fed.{not-true}
 use Rattle.history_laws.proofs.Asked.{among-push, distinct-push, map-push}
 
 -- a waiting request is with no vehicle, and open
@@ -97,10 +97,7 @@ module _ (desks fed : ℕ) (ok : ℕ → Type 0) (start s : State) (begins : IsS
       let both : Some w.request ≡ Some r
       = sym (found_by key s.requests w.request inv.requests_differ w.there) ∙ ap (find_request s.requests) same_id
       ∙ found_by key s.requests r inv.requests_differ there in
-      ap (λ (x : AcceptedRequest). is_waiting x.state) (sym (same_of w.request r both)) ∙ w.waiting
-    where
-      same_of : (a b : AcceptedRequest) → Some a ≡ Some b → a ≡ b
-      same_of a b e = cc e
+      ap (λ (x : AcceptedRequest). is_waiting x.state) (sym (same_Some w.request r both)) ∙ w.waiting
 
   -- the requests of the next batch may be marked
   opening_marks : Marks s (is_of (next_batch s desk).requests) (InBatch (s.opened + 1))
@@ -136,15 +133,12 @@ module _ (desks fed : ℕ) (ok : ℕ → Type 0) (start s : State) (begins : IsS
           let found = found_by (λ (x : AcceptedRequest). x.ride.id) s.requests w.request inv.requests_differ w.there in
           let both : Some w.request ≡ Some (promised_as v.id other)
           = sym found ∙ ap (find_request s.requests) (ap (λ (x : Ride). x.id) w.ride_is ∙ sym id_is) ∙ promised in
-          let equal : w.request ≡ promised_as v.id other = same_of w.request (promised_as v.id other) both in
+          let equal : w.request ≡ promised_as v.id other = same_Some w.request (promised_as v.id other) both in
           cc (
             (waiting-none w.request.state w.waiting).0,
             ap (λ (x : AcceptedRequest). vehicle_of_request x.state) equal,
             vehicle_of-promised v.id other.picked,
           )
-        where
-          same_of : (a b : AcceptedRequest) → Some a ≡ Some b → a ≡ b
-          same_of a b e = cc e
 
   -- the state with the requests in the batch
   abbrev pub marked_state : State
@@ -208,8 +202,8 @@ module _ (desks fed : ℕ) (ok : ℕ → Type 0) (start s : State) (begins : IsS
   -- an opening
   pub opened_goes : IsNumbered desks desk → may_open s desk ≡ true → Goes desks fed ok start s (after_opening s (next_batch s desk))
   opened_goes desk_in may =
-      let (both, fewer) = and-true (not (has_ended s (Desk desk)) && not (is_some (open_batch_of s desk))) (nat_lt s.opened s.asked) may in
-      let (_, none_open) = and-true (not (has_ended s (Desk desk))) (not (is_some (open_batch_of s desk))) both in
+      let (both, fewer) = and_parts (not (has_ended s (Desk desk)) && not (is_some (open_batch_of s desk))) (nat_lt s.opened s.asked) may in
+      let (_, none_open) = and_parts (not (has_ended s (Desk desk))) (not (is_some (open_batch_of s desk))) both in
       let marks = marks_go desks fed fed ok start s (is_of (next_batch s desk).requests) (InBatch (s.opened + 1))
       (omega arith) inv opening_marks in
       let kept = marks.inv in

@@ -2,8 +2,10 @@
 use Rattle.std.proofs.Common.{◌≡◌, ℕ, ◌+◌, ◌<◌, ◌≤◌, Bool, true, false, ◌||◌, ◌&&◌, not, cond, List, [], ◌∷◌, ◌++◌, Option, Some, None, eqb, refl, sym, ap, subst, ◌∙◌, zero, suc, ltb-true, arith}
 use Rattle.std.specs.Prelude.{find, ◌==◌, nat_lt, is_some}
 use Rattle.std.specs.List.{filter, list_any, list_all, range_with_len}
-use Rattle.std.proofs.lemmas.Bool.{eqb-true}
+use Rattle.std.proofs.lemmas.Bool.{eqb-true, and_from, and_parts}
 use Rattle.std.proofs.lemmas.List.Folds.{list_any-append}
+use Rattle.std.proofs.Math.Bool.{or-false}
+use Rattle.plain_lemmas.proofs.Numbers.{eqb-comm}
 use Rattle.ride_model.specs.declared.command.Actor.{Actor}
 use Rattle.ride_model.specs.declared.command.Actor.TheVariants.{Feed, Desk}
 use Rattle.ride_model.specs.declared.entry.Ending.{Ending}
@@ -15,27 +17,15 @@ use Rattle.ride_model.specs.History.{entries_of}
 use Rattle.ride_model.specs.Legal.{after_event, after_entry, replay, IsLegal, IsLegalEvent, IsNumbered, all_feeds_ended}
 use Rattle.ride_model.specs.Seating.{BatchCopy}
 use Rattle.ride_model.specs.State.{State, is_actor, has_ended, open_batch_of}
-use Rattle.model_laws.proofs.AboardLoads.{and-true, true-and}
 use Rattle.history_laws.specs.Start.{is_fed}
 use Rattle.history_laws.proofs.Effects.{ends_in, is_opened, Effect, effect}
 
 -- the same with the two actors in turn
 pub is_actor-comm : (a b : Actor) → is_actor a b ≡ is_actor b a
 is_actor-comm (Feed a) (Feed b) = eqb-comm a b
-  where
-    eqb-comm : (x y : ℕ) → eqb x y ≡ eqb y x
-    eqb-comm x y = grind arith
 is_actor-comm (Desk a) (Desk b) = eqb-comm a b
-  where
-    eqb-comm : (x y : ℕ) → eqb x y ≡ eqb y x
-    eqb-comm x y = grind arith
 is_actor-comm (Feed a) (Desk b) = refl
 is_actor-comm (Desk a) (Feed b) = refl
-
--- or
-pub or_false : (b : Bool) → (b || false) ≡ b
-or_false true = refl
-or_false false = refl
 
 -- a filter that keeps nothing
 pub record KeepsNone {X : Type 0} (p : X → Bool) (x : X) (xs : List X) : Type 0 where
@@ -66,7 +56,7 @@ ended-other s actor other event apart =
     ap (list_any test) (effect s actor event).ended
     ∙ list_any-append test s.ended (ends_in actor event)
     ∙ ap (λ b. has_ended s other || b) (others_end actor other event apart)
-    ∙ or_false (has_ended s other)
+    ∙ or-false (has_ended s other)
 
 -- whether an actor has ended, after an event that is no end
 pub ended-same : (s : State) (actor other : Actor) (event : Event) → ends_in actor event ≡ []
@@ -76,7 +66,7 @@ ended-same s actor other event no_end =
     ap (list_any test) (effect s actor event).ended
     ∙ list_any-append test s.ended (ends_in actor event)
     ∙ ap (λ ends. has_ended s other || list_any test ends) no_end
-    ∙ or_false (has_ended s other)
+    ∙ or-false (has_ended s other)
 
 -- whether it has ended after entries of others
 pub ended-others : (actor : Actor) (s : State) (entries : List Entry) → entries_of actor entries ≡ []
@@ -114,7 +104,7 @@ pub record NoneToCome (feeds : ℕ) (s : State) : Type 0 where
 pub in_range : (p : ℕ → Bool) (from many n : ℕ) → list_all p (range_with_len from many) ≡ true → from ≤ n → n < from + many → p n ≡ true
 in_range p from zero n all low high = absurd (omega (arith, low, high))
 in_range p from (suc many) n all low high =
-    let (first, rest) = and-true (p from) (list_all p (range_with_len (from + 1) many)) all in
+    let (first, rest) = and_parts (p from) (list_all p (range_with_len (from + 1) many)) all in
     by_test first (λ above. in_range p (from + 1) many n rest above (omega (arith, high))) (eqb n from) refl
   where
     above : (a b : ℕ) → eqb a b ≡ false → b ≤ a → b + 1 ≤ a
@@ -129,7 +119,7 @@ pub range_all : (p : ℕ → Bool) (from many : ℕ) → ((n : ℕ) → from ≤
     → list_all p (range_with_len from many) ≡ true
 range_all p from zero each = refl
 range_all p from (suc many) each =
-    true-and (p from) (list_all p (range_with_len (from + 1) many)) (each from (omega arith) (omega arith))
+    and_from (p from) (list_all p (range_with_len (from + 1) many)) (each from (omega arith) (omega arith))
     (range_all p (from + 1) many (λ n low high. each n (omega arith) (omega arith)))
 
 -- a feed of so many has ended, where all have
@@ -173,7 +163,7 @@ none_to_come-event feeds desks s actor event legal none =
     by_case (Feed n) (Finish ending) legal go = go refl refl
     by_case (Desk n) (Finish ending) legal go = go refl refl
     by_case (Desk n) (Opened number time requests plans) (numbered, may, names) go =
-        let (others, fewer) = and-true (not (has_ended s (Desk n)) && not (is_some (open_batch_of s n))) (nat_lt s.opened s.asked) may in
+        let (others, fewer) = and_parts (not (has_ended s (Desk n)) && not (is_some (open_batch_of s n))) (nat_lt s.opened s.asked) may in
         let below : s.opened < s.asked = ltb-true s.opened s.asked fewer in
         absurd (omega (arith, below, none.all_opened))
     by_case (Desk n) (Committed number cost seats prices pays outcomes) legal go = go refl refl

@@ -5,6 +5,7 @@ use Rattle.std.specs.List.{filter}
 use Rattle.std.proofs.lemmas.List.Elements.{All-weaker}
 use Rattle.std.proofs.lemmas.List.Filters.{length-filter_both}
 use Rattle.std.proofs.lemmas.Option.{IfSome_then}
+use Rattle.std.proofs.lemmas.Bool.{and_parts}
 use Rattle.ride_model.specs.declared.vehicle.Ride.{Ride}
 use Rattle.ride_model.specs.declared.vehicle.Stop.{Stop}
 use Rattle.ride_model.specs.declared.vehicle.Vehicle.{Vehicle}
@@ -16,7 +17,7 @@ use Rattle.ride_model.specs.State.{State}
 use Rattle.ride_model.specs.Step.{raised, is_node, reported}
 use Rattle.model_laws.proofs.Routes.{with_leg, routed-cons, routed-has_legs, routed-own}
 use Rattle.model_laws.proofs.PlanStops.{unlegged-routed, plan-same}
-use Rattle.model_laws.proofs.AboardLoads.{and-true, fits_throughout, loads_fit-throughout, load-same, length-same}
+use Rattle.model_laws.proofs.AboardLoads.{fits_throughout, loads_fit-throughout, load-same, length-same}
 use Rattle.model_laws.proofs.Removal.{route_without, without_ride-is}
 
 -- the version and the duty do not matter
@@ -46,7 +47,7 @@ lawful-raised roads v lawful = lawful-version roads v (v.version + 1) v.duty law
 -- the number of a node
 pub node_is : (roads : RoadMap) (x : ℕ) → is_node roads x ≡ true → IsNode roads x
 node_is roads x h =
-    let (low, high) = and-true (leb 1 x) (leb x roads.nodes) h in
+    let (low, high) = and_parts (leb 1 x) (leb x roads.nodes) h in
     (leb-true 1 x low, leb-true x roads.nodes high)
 
 -- a vehicle at a node at a time, its stops routed from there

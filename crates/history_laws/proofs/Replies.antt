@@ -8,7 +8,7 @@ use Rattle.ride_model.specs.declared.command.Command.TheVariants.{Request, Cance
 use Rattle.ride_model.specs.declared.reply.Reply.{Reply}
 use Rattle.ride_model.specs.declared.reply.Reply.TheVariants.{OnMap, Late, Noted, Refused}
 use Rattle.ride_model.specs.declared.reply.RequestState.{RequestState}
-use Rattle.ride_model.specs.declared.reply.RequestState.TheVariants.{Waiting as IsWaiting, InBatch, Confirmed, Aboard, Done as IsDone, Away, Cancelled as IsCancelled}
+use Rattle.ride_model.specs.declared.reply.RequestState.TheVariants.{Waiting as WaitingState, InBatch, Confirmed, Aboard, Done as DoneState, Away, Cancelled as CancelledState}
 use Rattle.ride_model.specs.declared.vehicle.Kind.{Kind}
 use Rattle.ride_model.specs.declared.vehicle.Kind.TheVariants.{Pickup, Dropoff}
 use Rattle.ride_model.specs.declared.vehicle.Ride.{Ride}
@@ -20,15 +20,15 @@ use Rattle.ride_model.specs.State.{State, AcceptedRequest, accepted_request, pla
 use Rattle.ride_model.specs.Step.{Answered, is_node, freed, cancel_by_state, cancel_found, cancel_step, reported, report, report_driving, at_found, at_step, served_reply, done_at_stop, done_found, done_step, duty_found, duty_step, clock_step, ask_step, request_step, step}
 use Rattle.ride_model.specs.Text.{IsSpelled, IsSpelledReply, IsNotedIfBad}
 use Rattle.history_laws.specs.Start.{IsStart}
-use Rattle.model_laws.proofs.Among.{Among, among_map_back, among_filter_back}
+use Rattle.plain_lemmas.proofs.Among.{Among, among_map_back, among_filter_back}
+use Rattle.plain_lemmas.proofs.Each.{of_all, all_of}
 use Rattle.model_laws.proofs.Certificates.{found_among}
 use Rattle.model_laws.proofs.TravelTimes.{travel-le}
-use Rattle.history_laws.proofs.Lookups.{all_of, of_all}
+use Rattle.model_laws.proofs.FewRides.{few-rides}
 use Rattle.history_laws.proofs.Invariant.{Inv, map_of, fleet_of}
 use Rattle.history_laws.specs.Consistent.{promised_as}
 use Rattle.history_laws.proofs.Fed.{answer_by, found_at, stop_ride}
 use Rattle.history_laws.proofs.Raised.{length-filter-le}
-use Rattle.history_laws.proofs.RideCounts.{few_rides}
 
 -- a reply that has a text and notes no bad line
 abbrev pub IsSaid : Reply → Type 0
@@ -84,10 +84,10 @@ by_state_said : (desks fed : ℕ) (start s : State) (id : ℕ) → IsStart start
     → (state : RequestState)
     → IsSaid (cancel_by_state s id state).reply
 by_state_said desks fed start s id begins inv (Aboard v) = refusal 8 (omega arith)
-by_state_said desks fed start s id begins inv IsDone = refusal 9 (omega arith)
+by_state_said desks fed start s id begins inv DoneState = refusal 9 (omega arith)
 by_state_said desks fed start s id begins inv (Away n) = refusal 9 (omega arith)
-by_state_said desks fed start s id begins inv IsCancelled = refusal 9 (omega arith)
-by_state_said desks fed start s id begins inv IsWaiting = (tt, λ e. cc e)
+by_state_said desks fed start s id begins inv CancelledState = refusal 9 (omega arith)
+by_state_said desks fed start s id begins inv WaitingState = (tt, λ e. cc e)
 by_state_said desks fed start s id begins inv (InBatch n) = (tt, λ e. cc e)
 by_state_said desks fed start s id begins inv (Confirmed vehicle) = freed_said desks fed start s id vehicle begins inv
     (placed_vehicle s vehicle) refl
@@ -113,7 +113,7 @@ broken_said desks fed start s node time v inv there = (
     arith,
     length-map (filter (breaks_ride (reported s node time v) s.settings.dwell) v.rides.items) (λ (r : Ride). r.id),
     length-filter-le (breaks_ride (reported s node time v) s.settings.dwell) v.rides.items,
-    few_rides v.rides.items v.stops.items (inv.lawful v there).routed.planned,
+    few-rides v.rides.items v.stops.items (inv.lawful v there).routed.planned,
     inv.few_stops v there,
   ),
 )

@@ -13,11 +13,12 @@ use Rattle.ride_model.specs.State.{State}
 use Rattle.ride_model.specs.Vehicle.{IsPlanFor, visits_due, visit_of, stops_of, ride_ids}
 use Rattle.ride_model.specs.Insertion.{stops_without}
 use Rattle.history_laws.specs.Start.{IsStart}
-use Rattle.model_laws.proofs.Among.{Among, among_map}
+use Rattle.plain_lemmas.proofs.Among.{Among, among_map}
+use Rattle.plain_lemmas.proofs.Numbers.{eqb-comm}
+use Rattle.plain_lemmas.proofs.Each.{of_each, of_all, all_of}
 use Rattle.model_laws.proofs.PlanStops.{stops-without}
-use Rattle.history_laws.proofs.Lookups.{of_all, all_of, of_each}
+use Rattle.model_laws.proofs.FewRides.{few-rides}
 use Rattle.history_laws.proofs.EveryState.{legal_goes}
-use Rattle.history_laws.proofs.Served.{eqb-comm}
 
 -- rides of different ids with a stop each are no more than the stops
 counted : (rides : List Ride) (stops : List Stop) → IsDistinct eqb (ride_ids rides)
@@ -40,17 +41,6 @@ counted (ride ∷ rides) stops distinct some =
     at_least_one [] h = absurd (h refl)
     at_least_one (x ∷ xs) h = omega arith
 
--- a plan has at least as many stops as rides
-pub few_rides : (rides : List Ride) (stops : List Stop) → IsPlanFor rides stops → length rides ≤ length stops
-few_rides rides stops plan = counted rides stops plan.ids_differ (λ ride there none. no_visits ride ride.picked (
-    sym (of_all (λ (r : Ride). map visit_of (stops_of r.id stops) ≡ visits_due r r.picked) rides ride plan.each_ride there)
-    ∙ ap (map visit_of) none
-    ))
-  where
-    no_visits : (ride : Ride) (picked : Option ℕ) → visits_due ride picked ≡ [] → ⊥
-    no_visits ride None e = cc e
-    no_visits ride (Some at) e = cc e
-
 -- a vehicle of a legal history has at most 16 stops
 pub plans_short : (feeds desks : ℕ) (start : State) (entries : List Entry) → IsStart start → IsLegal feeds desks start entries
     → All (λ (v : Vehicle). length v.stops.items ≤ 16) (replay start entries).vehicles
@@ -63,5 +53,5 @@ pub rides_short : (feeds desks : ℕ) (start : State) (entries : List Entry) →
     → All (λ (v : Vehicle). length v.rides.items ≤ length v.stops.items) (replay start entries).vehicles
 rides_short feeds desks start entries begins legal =
     all_of (λ (v : Vehicle). length v.rides.items ≤ length v.stops.items) (replay start entries).vehicles
-    (λ v there. few_rides v.rides.items v.stops.items
+    (λ v there. few-rides v.rides.items v.stops.items
     ((legal_goes feeds desks start entries begins legal).inv.lawful v there).routed.planned)

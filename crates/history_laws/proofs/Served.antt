@@ -15,16 +15,15 @@ use Rattle.ride_model.specs.Vehicle.{IsRide, IsLawful, IsPlanFor, HasLegs, visit
 use Rattle.ride_model.specs.Loads.{is_pickup, is_aboard_from, is_aboard_after, load_after, fits_load}
 use Rattle.ride_model.specs.Insertion.{with_plan, stops_without, rides_without}
 use Rattle.ride_model.specs.Step.{rides_with_picked}
-use Rattle.model_laws.proofs.Among.{Among, among_from_contains, among_map_back}
+use Rattle.plain_lemmas.proofs.Among.{Among, among_from_contains, among_map_back}
 use Rattle.model_laws.proofs.AboardLoads.{fits_throughout, loads_fit-throughout, fits-without, filter-kept, filter-skipped}
 use Rattle.model_laws.proofs.Insertions.{all-kept}
 use Rattle.model_laws.proofs.PlanStops.{unlegged, plan-without}
-use Rattle.model_laws.proofs.Sums.{sum_by-map}
-use Rattle.history_laws.proofs.Lookups.{of_all, all_of, ids-map}
-
--- equality of numbers either way
-pub eqb-comm : (a b : ℕ) → eqb a b ≡ eqb b a
-eqb-comm a b = grind arith
+use Rattle.plain_lemmas.proofs.Sums.{sum_by-map}
+use Rattle.plain_lemmas.proofs.Numbers.{eqb-comm}
+use Rattle.plain_lemmas.proofs.Each.{of_all, all_of}
+use Rattle.plain_lemmas.proofs.Lists.{same-head, same-tail}
+use Rattle.history_laws.proofs.Lookups.{ids-map}
 
 -- a ride with its rider picked up, where it is the one of the id
 abbrev pub picked_up : ℕ → ℕ → Ride → Ride
@@ -61,36 +60,24 @@ visits_past rides stop rest ride plan there is =
 pub waits_at : (ride : Ride) (picked : Option ℕ) (stop : Stop) (visits : List (Kind × ℕ)) → stop.kind ≡ Pickup
     → visit_of stop ∷ visits ≡ visits_due ride picked → picked ≡ None
 waits_at ride None stop visits kind_is is = refl
-waits_at ride (Some at) stop visits kind_is is = absurd (differ (head (visit_of stop) (Dropoff, ride.to) visits [] is))
+waits_at ride (Some at) stop visits kind_is is = absurd (differ (same-head (visit_of stop) (Dropoff, ride.to) visits [] is))
   where
-    head : (x y : Kind × ℕ) (xs ys : List (Kind × ℕ)) → x ∷ xs ≡ y ∷ ys → x ≡ y
-    head x y xs ys e = cc e
-
     differ : visit_of stop ≡ (Dropoff, ride.to) → ⊥
     differ equal = let kinds : stop.kind ≡ Dropoff = ap (λ (p : Kind × ℕ). p.0) equal in cc (kind_is, kinds)
 
 -- what a ride needs after its pickup
 pub after_visit : (ride : Ride) (picked : Option ℕ) (stop : Stop) (visits : List (Kind × ℕ)) → stop.kind ≡ Pickup
     → visit_of stop ∷ visits ≡ visits_due ride picked → visits ≡ (Dropoff, ride.to) ∷ []
-after_visit ride None stop visits kind_is is = tail (visit_of stop) (Pickup, ride.from) visits ((Dropoff, ride.to) ∷ []) is
-  where
-    tail : (x y : Kind × ℕ) (xs ys : List (Kind × ℕ)) → x ∷ xs ≡ y ∷ ys → xs ≡ ys
-    tail x y xs ys e = cc e
+after_visit ride None stop visits kind_is is = same-tail (visit_of stop) (Pickup, ride.from) visits ((Dropoff, ride.to) ∷ []) is
 after_visit ride (Some at) stop visits kind_is is = absurd (cc (waits_at ride (Some at) stop visits kind_is is))
 
 -- what a ride needs after its drop-off
 pub after_last : (ride : Ride) (picked : Option ℕ) (stop : Stop) (visits : List (Kind × ℕ)) → stop.kind ≡ Dropoff
     → visit_of stop ∷ visits ≡ visits_due ride picked → visits ≡ []
-after_last ride (Some at) stop visits kind_is is = tail (visit_of stop) (Dropoff, ride.to) visits [] is
-  where
-    tail : (x y : Kind × ℕ) (xs ys : List (Kind × ℕ)) → x ∷ xs ≡ y ∷ ys → xs ≡ ys
-    tail x y xs ys e = cc e
+after_last ride (Some at) stop visits kind_is is = same-tail (visit_of stop) (Dropoff, ride.to) visits [] is
 after_last ride None stop visits kind_is is = absurd
-    (differ (head (visit_of stop) (Pickup, ride.from) visits ((Dropoff, ride.to) ∷ []) is))
+    (differ (same-head (visit_of stop) (Pickup, ride.from) visits ((Dropoff, ride.to) ∷ []) is))
   where
-    head : (x y : Kind × ℕ) (xs ys : List (Kind × ℕ)) → x ∷ xs ≡ y ∷ ys → x ≡ y
-    head x y xs ys e = cc e
-
     differ : visit_of stop ≡ (Pickup, ride.from) → ⊥
     differ equal = let kinds : stop.kind ≡ Pickup = ap (λ (p : Kind × ℕ). p.0) equal in cc (kind_is, kinds)
 

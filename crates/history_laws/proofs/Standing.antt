@@ -2,6 +2,7 @@
 use Rattle.std.proofs.Common.{◌≡◌, ℕ, ◌+◌, Bool, true, false, not, cond, List, ◌∷◌, ◌++◌, eqb, refl, sym, ◌∙◌, ap, subst}
 use Rattle.std.specs.Prelude.{map, Option, Some, None, option_map, nat_eq, nat_lt, Contains, IsSome, IsSomeAnd}
 use Rattle.std.specs.List.{IsDistinct}
+use Rattle.std.proofs.lemmas.Option.{same_Some}
 use Rattle.ride_model.specs.declared.command.Actor.TheVariants.{Desk}
 use Rattle.ride_model.specs.declared.entry.Entry.{Entry}
 use Rattle.ride_model.specs.declared.entry.Event.TheVariants.{Committed}
@@ -19,14 +20,16 @@ use Rattle.history_laws.specs.Start.{IsStart, fed_total}
 use Rattle.history_laws.specs.Closing.{is_closed}
 use Rattle.history_laws.specs.Consistent.{IsOpenBatch}
 use Rattle.history_laws.proofs.Entries.{IsFineEvent}
-use Rattle.model_laws.proofs.Among.{Among, among_from_contains, among_map_back}
+use Rattle.plain_lemmas.proofs.Among.{Among, among_from_contains, among_map_back}
+use Rattle.plain_lemmas.proofs.Each.{of_all, all_of}
+use Rattle.plain_lemmas.proofs.Lists.{distinct-filter}
 use Rattle.model_laws.proofs.Histories.{replay-append, IsLegal-parts}
-use Rattle.model_laws.proofs.PlanStops.{distinct-filter}
-use Rattle.history_laws.proofs.Lookups.{of_all, all_of, found_by}
+use Rattle.history_laws.proofs.Lookups.{found_by}
 use Rattle.history_laws.proofs.Invariant.{find_request}
 use Rattle.history_laws.proofs.Leaving.{open_batch}
 use Rattle.history_laws.proofs.Committing.{same_copy}
 use Rattle.history_laws.proofs.EveryState.{any_id, any_fine, history_goes, legal_goes}
+use Rattle.history_laws.proofs.Unmoved.{standing_version}
 
 -- a request that is closed stays as it is
 pub stay_closed : (feeds desks : ℕ) (start : State) (first second : List Entry) → IsStart start
@@ -49,24 +52,7 @@ stay_closed feeds desks start first second begins legal id state is closed =
         → request_state after id ≡ Some state
     by_found after None found none stands = absurd (cc none)
     by_found after (Some r) found some stands =
-        ap (option_map (λ (x : AcceptedRequest). x.state)) (stands r found (ap is_closed (same r.state state some) ∙ closed)) ∙ some
-      where
-        same : (a b : RequestState) → Some a ≡ Some b → a ≡ b
-        same a b e = cc e
-
--- a confirmed outcome is that of a seat whose vehicle has the version of its copy
-confirmed_version : (s : State) (batch : BatchCopy) (seat : Seat) (c : Bool) → outcome_by batch s c (Some seat) ≡ Confirmed
-    → eqb (version_of batch.vehicles seat.vehicle) (version_of s.vehicles seat.vehicle) ≡ true
-confirmed_version s batch seat true is = absurd (cc is)
-confirmed_version s batch seat false is =
-    by_tests (eqb (version_of batch.vehicles seat.vehicle) (version_of s.vehicles seat.vehicle)) is
-  where
-    by_tests : (a : Bool)
-        → cond (not a) (Moved (version_of batch.vehicles seat.vehicle) (version_of s.vehicles seat.vehicle))
-        (cond (nat_lt (priced_start batch seat.vehicle) s.clock) (Behind (priced_start batch seat.vehicle) s.clock) Confirmed) ≡ Confirmed
-        → a ≡ true
-    by_tests true is = refl
-    by_tests false is = absurd (cc is)
+        ap (option_map (λ (x : AcceptedRequest). x.state)) (stands r found (ap is_closed (same_Some r.state state some) ∙ closed)) ∙ some
 
 -- the vehicle of a confirmed seat is as its copy
 confirmed_stands : (desks cost : ℕ) (s : State) (batch : BatchCopy) (seats : List Seat) (prices pays : List (ℕ × ℕ))
@@ -85,7 +71,7 @@ confirmed_stands desks cost s batch seats prices pays outcomes seat opened commi
     (distinct-filter (has_seat seats) (ride_ids batch.requests) opened.requests_differ) in
     let seated : seat_of seats id ≡ Some seat = ap (seat_of seats) id_is
     ∙ found_by (λ (x : Seat). x.request) seats seat differ seat_there in
-    let equal = confirmed_version s batch seat (was_cancelled s id) (sym (ap (outcome_by batch s (was_cancelled s id)) seated)
+    let equal = standing_version s batch seat (was_cancelled s id) (sym (ap (outcome_by batch s (was_cancelled s id)) seated)
     ∙ outcome_is) in
     let copy = same_copy desks s batch seat opened
     (of_all (λ (x : Seat). IsSome (seat_offer s.roads batch x)) seats seat seating.offered seat_there) equal in

@@ -47,7 +47,7 @@ confirmed-id s batch ride seat v =
     by_route (Some stops) = refl
 
 -- a confirmed outcome is that of a seat whose vehicle has the version of its copy
-standing_version : (s : State) (batch : BatchCopy) (seat : Seat) (c : Bool) → outcome_by batch s c (Some seat) ≡ Confirmed
+pub standing_version : (s : State) (batch : BatchCopy) (seat : Seat) (c : Bool) → outcome_by batch s c (Some seat) ≡ Confirmed
     → eqb (version_of batch.vehicles seat.vehicle) (version_of s.vehicles seat.vehicle) ≡ true
 standing_version s batch seat true is = absurd (cc is)
 standing_version s batch seat false is = by_tests (eqb (version_of batch.vehicles seat.vehicle) (version_of s.vehicles seat.vehicle)) is

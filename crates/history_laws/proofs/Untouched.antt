@@ -5,12 +5,12 @@ use Rattle.std.specs.Prelude.{is_some, not, nat_lt, nat_le, max, length, ◌&&�
 use Rattle.ride_model.specs.declared.command.Command.{Command}
 use Rattle.ride_model.specs.declared.command.Command.TheVariants.{Request, Cancel, At, Done, On, Off, Clock, Ask, Bad}
 use Rattle.ride_model.specs.declared.entry.Outcome.{Outcome}
-use Rattle.ride_model.specs.declared.entry.Outcome.TheVariants.{Confirmed as IsConfirmedThere, Away as IsAwayThere, Gone, Moved, Behind}
+use Rattle.ride_model.specs.declared.entry.Outcome.TheVariants.{Confirmed as ConfirmedOutcome, Away as AwayOutcome, Gone, Moved, Behind}
 use Rattle.ride_model.specs.declared.offer.Seat.{Seat}
 use Rattle.ride_model.specs.declared.reply.Reply.{Reply}
-use Rattle.ride_model.specs.declared.reply.Reply.TheVariants.{Waiting as IsWaiting, Asked, Now, OnMap, Late, Refused}
+use Rattle.ride_model.specs.declared.reply.Reply.TheVariants.{Waiting as WaitingState, Asked, Now, OnMap, Late, Refused}
 use Rattle.ride_model.specs.declared.reply.RequestState.{RequestState}
-use Rattle.ride_model.specs.declared.reply.RequestState.TheVariants.{Waiting, InBatch, Confirmed, Aboard, Done as IsDone, Away, Cancelled}
+use Rattle.ride_model.specs.declared.reply.RequestState.TheVariants.{Waiting, InBatch, Confirmed, Aboard, Done as DoneState, Away, Cancelled}
 use Rattle.ride_model.specs.declared.vehicle.Kind.{Kind}
 use Rattle.ride_model.specs.declared.vehicle.Kind.TheVariants.{Pickup, Dropoff}
 use Rattle.ride_model.specs.declared.vehicle.Ride.{Ride}
@@ -51,7 +51,7 @@ of_freed s id vehicle (Some p) = record { ended = refl; batches = refl; opened =
 
 of_state : (s : State) (id : ℕ) (state : RequestState) → Leaves s (cancel_by_state s id state)
 of_state s id (Aboard v) = refuses s 8
-of_state s id IsDone = refuses s 9
+of_state s id DoneState = refuses s 9
 of_state s id (Away n) = refuses s 9
 of_state s id Cancelled = refuses s 9
 of_state s id Waiting = record { ended = refl; batches = refl; opened = refl; asked = refl }
@@ -124,7 +124,7 @@ leaves-step s (Request id from to seats latest longest chairs) =
     (either s (nat_lt 1000000000 latest || (longest == 0) || nat_lt 1000000 longest) _ _ (refuses s 5)
     (either s (nat_le 100000 (length s.requests)) _ _ (refuses s 6)
     (made s (with_accepted s (record { id = id; from = from; to = to; seats = seats; chairs = chairs; latest = latest; longest = longest; picked = None }))
-    IsWaiting refl refl refl refl))))))
+    WaitingState refl refl refl refl))))))
 leaves-step s (Cancel id) = of_cancel s id (accepted_request s id)
 leaves-step s (At vehicle node time) = of_at s node time (placed_vehicle s vehicle)
 leaves-step s (Done vehicle) = of_done s (placed_vehicle s vehicle)
@@ -159,11 +159,11 @@ stays-confirm batch ride seat (Some p) s = record { ended = refl; batches = refl
 
 stays-outcome : (batch : BatchCopy) (ride : Ride) (seat : Option Seat) (outcome : Outcome) (s : State) → Stays s (after_outcome batch ride seat outcome s)
 stays-outcome batch ride seat Gone s = record { ended = refl; batches = refl; opened = refl; asked = refl }
-stays-outcome batch ride seat IsAwayThere s = record { ended = refl; batches = refl; opened = refl; asked = refl }
+stays-outcome batch ride seat AwayOutcome s = record { ended = refl; batches = refl; opened = refl; asked = refl }
 stays-outcome batch ride seat (Moved a b) s = record { ended = refl; batches = refl; opened = refl; asked = refl }
 stays-outcome batch ride seat (Behind a b) s = record { ended = refl; batches = refl; opened = refl; asked = refl }
-stays-outcome batch ride None IsConfirmedThere s = record { ended = refl; batches = refl; opened = refl; asked = refl }
-stays-outcome batch ride (Some seat) IsConfirmedThere s = stays-confirm batch ride seat (placed_vehicle s seat.vehicle) s
+stays-outcome batch ride None ConfirmedOutcome s = record { ended = refl; batches = refl; opened = refl; asked = refl }
+stays-outcome batch ride (Some seat) ConfirmedOutcome s = stays-confirm batch ride seat (placed_vehicle s seat.vehicle) s
 
 pub stays-outcomes : (batch : BatchCopy) (seats : List Seat) (moment : State) (rides : List Ride) (s : State)
     → Stays s (after_outcomes batch seats moment rides s)

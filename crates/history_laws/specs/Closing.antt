@@ -7,14 +7,14 @@ use Rattle.ride_model.specs.declared.entry.Event.TheVariants.{Fed, Committed}
 use Rattle.ride_model.specs.declared.entry.Outcome.{Outcome}
 use Rattle.ride_model.specs.declared.reply.Reply.TheVariants.{Cancelled, Freed, Dropped}
 use Rattle.ride_model.specs.declared.reply.RequestState.{RequestState}
-use Rattle.ride_model.specs.declared.reply.RequestState.TheVariants.{Done as IsDone, Away as IsAway, Cancelled as IsCancelled}
+use Rattle.ride_model.specs.declared.reply.RequestState.TheVariants.{Done as DoneState, Away as AwayState, Cancelled as CancelledState}
 use Rattle.ride_model.specs.History.{is_away}
 
 -- whether a request is closed: its rider was dropped, it was turned away, or it was cancelled
 abbrev pub is_closed : RequestState → Bool
-is_closed IsDone = true
-is_closed (IsAway _) = true
-is_closed IsCancelled = true
+is_closed DoneState = true
+is_closed (AwayState _) = true
+is_closed CancelledState = true
 is_closed _ = false
 
 -- how often an event closes the request of an id

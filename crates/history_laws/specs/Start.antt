@@ -11,6 +11,7 @@ use Rattle.ride_model.specs.Settings.{IsSettings}
 use Rattle.ride_model.specs.State.{State, start_state}
 use Rattle.ride_model.specs.Text.{IsSpelledCommand}
 use Rattle.ride_model.specs.Vehicle.{IsLawful}
+use Rattle.ride_model.specs.Limits.{most_commands}
 
 -- the state of a fleet before anything happened: map and settings are within their ranges, and each vehicle is lawful, idle
 -- and of version 0
@@ -40,4 +41,4 @@ IsFedSpelled log _ = ⊤
 -- the commands that were fed have a text, and no feed gave more than 10^9
 pub record IsFedWithin (log : ℕ) (entries : List Entry) : Type 0 where
   pub spelled : All (λ (entry : Entry). IsFedSpelled log entry.event) entries
-  pub few : (feed : ℕ) → length (fed_commands feed entries) ≤ 1000000000
+  pub few : (feed : ℕ) → length (fed_commands feed entries) ≤ most_commands

@@ -3,6 +3,7 @@ use Rattle.std.proofs.Common.{◌≡◌, ◌≢◌, ℕ, ◌+◌, ◌<◌, ◌�
 use Rattle.std.specs.Prelude.{Some, None}
 use Rattle.std.proofs.lemmas.Bool.{cases_eq, cases_lt}
 use Rattle.std.proofs.lemmas.List.{get_or_past}
+use Rattle.std.proofs.lemmas.Option.{same_Some}
 use Rattle.dual_check.specs.Cells.{GridCells, cell_at}
 use Rattle.dual_check.specs.Grid.{price_at}
 use Rattle.hungarian.specs.declared.matches.Matches.{Matches}
@@ -16,7 +17,7 @@ use Rattle.hungarian.specs.Labels.{distance_at, source_at, rank_at, IsReached, I
 use Rattle.hungarian.specs.Rises.{column_rise, mate_rise, AreRaisable, IsRaised}
 use Rattle.hungarian.specs.Turned.{IsEnd, IsReady, IsTurned, IsLeft}
 use Rattle.hungarian.specs.Partial.{IsTight, IsPartial}
-use Rattle.hungarian.proofs.Mated.{same_some, mate-in, cases_mate}
+use Rattle.hungarian.proofs.Mated.{mate-in, cases_mate}
 use Rattle.hungarian.proofs.Raising.{rise-settled, rise-unsettled}
 use Rattle.hungarian.proofs.Reaching.{settled-in, reached-in}
 use Rattle.hungarian.proofs.Paths.{pay-capped}
@@ -285,7 +286,7 @@ row-added grid penalty matches turned duals new root search path root_in partial
               | inr by ↦ absurd (elim by.2 [
                 | inl is_root ↦ cc (before, ap (mate matches.columns.items) is_root.0, partial.later root (omega arith))
                 | inr mated ↦
-                    let same : mated.0 ≡ column = same_some mated.0 column (sym mated.1 ∙ before) in
+                    let same : mated.0 ≡ column = same_Some mated.0 column (sym mated.1 ∙ before) in
                     omega (arith, mated.2, none, ap (rank_at search) same)
               ])
             ]

@@ -137,7 +137,7 @@ row-seat table requests fleet columns row column paired had =
     seat_with o = record { request = get_or requests row 0; vehicle = get_or fleet column 0; i = o.i; j = o.j }
 
 -- what a column pays, as its vehicle's payment
-pay-cases : (vehicle amount : ℕ) → ((amount ≡ 0) × (pay_at vehicle amount ≡ None))
+pub pay-cases : (vehicle amount : ℕ) → ((amount ≡ 0) × (pay_at vehicle amount ≡ None))
     ⊎ ((1 ≤ amount) × (pay_at vehicle amount ≡ Some (vehicle, amount)))
 pay-cases vehicle amount = elim (cases_eq amount 0) [
   | inl none ↦ inl (none, rw (eq-eqb amount 0 none) refl)
@@ -159,7 +159,7 @@ pay-above vehicle amount = elim (pay-cases vehicle amount) [
 ]
 
 -- it is the amount, 0 where there is none
-pay-amount : (vehicle amount : ℕ) → amount_alone (pay_at vehicle amount) ≡ amount
+pub pay-amount : (vehicle amount : ℕ) → amount_alone (pay_at vehicle amount) ≡ amount
 pay-amount vehicle amount = elim (pay-cases vehicle amount) [
   | inl none ↦ ap amount_alone none.1 ∙ sym none.0
   | inr some ↦ ap amount_alone some.1

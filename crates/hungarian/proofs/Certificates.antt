@@ -6,6 +6,7 @@ use Rattle.std.proofs.lemmas.Bool.{cases_eq}
 use Rattle.std.proofs.lemmas.List.{length-set, get_or-set_same, get_or-set_other, get_or_default}
 use Rattle.std.proofs.lemmas.List.FromFn.{fill_by_all}
 use Rattle.std.proofs.lemmas.List.Sums.{sum_by-set, sum_by-cons, sum-map}
+use Rattle.std.proofs.lemmas.Option.{same_Some}
 use Rattle.dual_check.specs.Cells.{GridCells, cell_at}
 use Rattle.dual_check.specs.Grid.{IsPairing, row_cost, price_at, CertifiesPairing}
 use Rattle.dual_check.proofs.PairingParts.{sum_by-range-more}
@@ -13,7 +14,7 @@ use Rattle.hungarian.specs.declared.matches.Matches.{Matches}
 use Rattle.hungarian.specs.declared.duals.Duals.{Duals}
 use Rattle.hungarian.specs.Mates.{mate}
 use Rattle.hungarian.specs.Partial.{IsPartial}
-use Rattle.hungarian.proofs.Mated.{same_some, mate-in, cases_mate}
+use Rattle.hungarian.proofs.Mated.{mate-in, cases_mate}
 use Rattle.hungarian.proofs.Paths.{if-some}
 
 -- what the column of a row pays
@@ -95,7 +96,7 @@ paid-by_rows (suc n) pays columns once inside paying = elim (cases_mate (mate co
       (λ c pays_c.
       let differs : c ≢ column = λ same. pays_c (ap (price_at less) same ∙ get_or-set_same pays column 0 0 low) in
       let (r, r_low, had) = paying c (λ none. pays_c (get_or-set_other pays column c 0 0 differs ∙ none)) in
-      let apart : r ≢ n = λ same. differs (same_some c column (sym had ∙ ap (mate columns) same ∙ some.1)) in
+      let apart : r ≢ n = λ same. differs (same_Some c column (sym had ∙ ap (mate columns) same ∙ some.1)) in
       (r, omega (arith, r_low, apart), had)) in
       let same = over_rows-same (λ row. paid less (mate columns row)) (λ row. paid pays (mate columns row)) n
       (λ r r_low. elim (cases_mate (mate columns r)) [
@@ -149,7 +150,7 @@ pairing-of_rows grid penalty matches duals partial = record {
       (arith, partial.lists.columns_each, mate-in matches.rows.items column row (partial.mates.column_back row column had));
   in_cells = λ row column had. ap is_some (partial.tight row column had).cell_is;
   columns_once = λ row other column had too.
-      same_some row other (sym (partial.mates.column_back row column had) ∙ partial.mates.column_back other column too);
+      same_Some row other (sym (partial.mates.column_back row column had) ∙ partial.mates.column_back other column too);
 }
 
 -- the prices certify it

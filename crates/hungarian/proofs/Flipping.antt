@@ -2,13 +2,14 @@
 use Rattle.std.proofs.Common.{◌≡◌, ◌≢◌, ℕ, ◌<◌, ◌≤◌, ◌⊎◌, inl, inr, List, length, set, sym, ◌∙◌, ap, subst, arith}
 use Rattle.std.specs.Prelude.{Option, Some, None}
 use Rattle.std.proofs.lemmas.List.{length-set}
+use Rattle.std.proofs.lemmas.Option.{same_Some}
 use Rattle.hungarian.specs.declared.matches.Matches.{Matches}
 use Rattle.hungarian.specs.declared.search.Search.{Search}
 use Rattle.hungarian.specs.declared.search.Exit.TheVariants.{Column, Row}
 use Rattle.hungarian.specs.Mates.{mate, AreMates, AreMatesBut}
 use Rattle.hungarian.specs.Labels.{source_at, rank_at}
 use Rattle.hungarian.specs.Turned.{IsTurned, IsFlippable, IsReady, IsLeft}
-use Rattle.hungarian.proofs.Mated.{same_some, mate-in, mate-set, mates-last, mates-next}
+use Rattle.hungarian.proofs.Mated.{mate-in, mate-set, mates-last, mates-next}
 
 -- up to an open column the way back was taken over
 pub record IsFlipping (search : Search) (root last : ℕ) (old new : Matches) : Type 0 where
@@ -33,7 +34,7 @@ pairs-more : (search : Search) (root last : ℕ) (old now : Matches) (columns : 
 pairs-more search root last old now columns f columns_are row column is =
     elim (mate-set now.columns.items (source_at search last) (Some last) row (flipping-row search root last now f.left)) [
       | inl here ↦
-          let one : last ≡ column = same_some last column (sym here.1 ∙ ap (λ cs. mate cs row) (sym columns_are) ∙ is) in
+          let one : last ≡ column = same_Some last column (sym here.1 ∙ ap (λ cs. mate cs row) (sym columns_are) ∙ is) in
           inr (subst (λ k. 0 < rank_at search k) one f.left.settled, ap (source_at search) (sym one) ∙ sym here.0)
       | inr there ↦ f.pairs row column (sym there.1 ∙ ap (λ cs. mate cs row) (sym columns_are) ∙ is)
     ]
@@ -67,7 +68,7 @@ flipping-earlier search root last next now left had =
     elim (left.back last left.settled (omega arith)) [
       | inl is_root ↦ absurd (cc (had, ap (mate now.columns.items) is_root, left.bare))
       | inr earlier ↦
-          let one : earlier.0 ≡ next = same_some earlier.0 next (sym earlier.1 ∙ had) in
+          let one : earlier.0 ≡ next = same_Some earlier.0 next (sym earlier.1 ∙ had) in
           (subst (λ k. 0 < rank_at search k) one earlier.2, subst (λ k. rank_at search k < rank_at search last) one earlier.3)
     ]
 
@@ -93,7 +94,7 @@ flipping-more search root last next old now new f had columns_are rows_are =
     elim (f.left.back column settled (omega (arith, low, earlier.1))) [
       | inl is_root ↦ cc (had, ap (mate now.columns.items) (sym same ∙ is_root), f.left.bare)
       | inr before ↦
-          let one : before.0 ≡ next = same_some before.0 next (sym before.1 ∙ ap (mate now.columns.items) same ∙ had) in
+          let one : before.0 ≡ next = same_Some before.0 next (sym before.1 ∙ ap (mate now.columns.items) same ∙ had) in
           let below : rank_at search next < rank_at search column =
           subst (λ k. rank_at search k < rank_at search column) one before.3 in
           omega (arith, below, low)
@@ -178,7 +179,7 @@ flippable-at_row search root row column matches given ready had columns_are rows
     let apart : root ≢ row = λ same. cc (had, ap (mate matches.columns.items) same, ready.bare) in
     let settled : 0 < rank_at search column = elim ready.exits.1 [
       | inl is_root ↦ absurd (apart (sym is_root))
-      | inr by ↦ subst (λ k. 0 < rank_at search k) (same_some by.0 column (sym by.1 ∙ had)) by.2
+      | inr by ↦ subst (λ k. 0 < rank_at search k) (same_Some by.0 column (sym by.1 ∙ had)) by.2
     ] in
     let kept : (r : ℕ) → r ≢ row → mate given.columns.items r ≡ mate matches.columns.items r
     = λ r differs. elim (mate-set matches.columns.items row None r row_in) [
@@ -201,10 +202,10 @@ flippable-at_row search root row column matches given ready had columns_are rows
         row_back = λ r c differs is.
             let before : mate matches.columns.items r ≡ Some c =
             ready.mates.row_back r c (ap (λ rs. mate rs c) (sym rows_are) ∙ is) in
-            kept r (λ same. differs (same_some c column (sym before ∙ ap (mate matches.columns.items) same ∙ had))) ∙ before;
+            kept r (λ same. differs (same_Some c column (sym before ∙ ap (mate matches.columns.items) same ∙ had))) ∙ before;
         unclaimed = λ r is.
             let (before, differs) = was r column is in
-            differs (same_some r row (sym (ready.mates.column_back r column before) ∙ ready.mates.column_back row column had));
+            differs (same_Some r row (sym (ready.mates.column_back r column before) ∙ ready.mates.column_back row column had));
       };
       settled = settled;
       bare = kept root apart ∙ ready.bare;
@@ -213,7 +214,7 @@ flippable-at_row search root row column matches given ready had columns_are rows
         | inl is_root ↦ inl is_root
         | inr by ↦
             let differs : source_at search c ≢ row = λ same.
-            let one : by.0 ≡ column = same_some by.0 column (sym by.1 ∙ ap (mate matches.columns.items) same ∙ had) in
+            let one : by.0 ≡ column = same_Some by.0 column (sym by.1 ∙ ap (mate matches.columns.items) same ∙ had) in
             let below : rank_at search column < rank_at search c = subst (λ k. rank_at search k < rank_at search c) one by.3 in
             omega (arith, below, low) in
             inr (by.0, kept (source_at search c) differs ∙ by.1, by.2, by.3)

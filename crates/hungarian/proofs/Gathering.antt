@@ -1,5 +1,5 @@
 -- Items that are gathered from the places that have one.
-use Rattle.std.proofs.Common.{◌≡◌, ℕ, zero, suc, ◌+◌, ◌<◌, ◌≤◌, Bool, true, false, cond, List, [], ◌∷◌, ◌++◌, length, get_or, eqb, refl, sym, ◌∙◌, ap, subst, arith}
+use Rattle.std.proofs.Common.{◌≡◌, ℕ, zero, suc, ◌+◌, ◌<◌, ◌≤◌, Bool, true, false, cond, List, [], ◌∷◌, ◌++◌, length, get_or, eqb, refl, sym, ◌∙◌, ap, subst, arith, add-zero}
 use Rattle.std.specs.Prelude.{map, filter, Option, Some, None, IfSome}
 use Rattle.std.specs.List.{filter_map, cons_option, range_with_len, AllByRecursion, IsDistinct}
 use Rattle.std.proofs.lemmas.Bool.{eq-eqb, ne_eqb, eqb-false}
@@ -7,9 +7,11 @@ use Rattle.std.proofs.lemmas.List.{map-id, append-nil, get_or-map}
 use Rattle.std.proofs.lemmas.List.Elements.{filter_map-append}
 use Rattle.std.proofs.lemmas.List.FromFn.{map-range_with_len_more}
 use Rattle.std.proofs.lemmas.Map.Keys.{IsDistinct-head, IsDistinct-tail}
-use Rattle.model_laws.proofs.Sums.{each-filter}
+use Rattle.plain_lemmas.proofs.Each.{each-filter, each-weaker}
+use Rattle.plain_lemmas.proofs.Options.{none_from_not_some}
+use Rattle.plain_lemmas.proofs.Filters.{filter-same}
 use Rattle.dual_check.specs.Orders.{item_of, has_item, StandsInOrder}
-use Rattle.dual_check.proofs.ItemOrders.{map-agree, each-weaker}
+use Rattle.dual_check.proofs.ItemOrders.{map-agree}
 
 -- the places below one more
 range-more : (n : ℕ) → range_with_len 0 (n + 1) ≡ range_with_len 0 n ++ n ∷ []
@@ -48,15 +50,6 @@ each-gathered P f a (suc n) h =
 pub gathered-all : {A : Type 0} (g : ℕ → A) (xs : List ℕ) → filter_map (λ k. Some (g k)) xs ≡ map g xs
 gathered-all g [] = refl
 gathered-all g (x ∷ xs) = ap (λ ys. g x ∷ ys) (gathered-all g xs)
-
--- two tests that agree at each element keep the same elements
-filter-same : {A : Type 0} (p q : A → Bool) (xs : List A) → AllByRecursion (λ x. p x ≡ q x) xs → filter p xs ≡ filter q xs
-filter-same p q [] h = refl
-filter-same p q (x ∷ xs) (first, rest) =
-    rw first (elim (q x) as (λ b. cond b (x ∷ filter p xs) (filter p xs) ≡ cond b (x ∷ filter q xs) (filter q xs)) [
-      | true ↦ ap (λ ys. x ∷ ys) (filter-same p q xs rest)
-      | false ↦ filter-same p q xs rest
-    ])
 
 -- items of other ids give an id nothing
 nothing-of : {A : Type 0} (id_of : A → ℕ) (id : ℕ) (items : List A) → AllByRecursion (λ y. eqb id y ≡ false) (map id_of items)
@@ -115,15 +108,12 @@ gathered-from {A} id_of f (id ∷ ids) a distinct h =
     (λ k low.
     let same : a + 1 + k ≡ a + suc k = omega arith in
     subst (λ j. IfSome (f j) (λ item. id_of item ≡ get_or ids k 0)) (sym same) (h (suc k) (omega (arith, low)))) in
-    let here = subst (λ j. IfSome (f j) (λ item. id_of item ≡ id)) (on_zero a) (h 0 (omega arith)) in
+    let here = subst (λ j. IfSome (f j) (λ item. id_of item ≡ id)) (add-zero a) (h 0 (omega arith)) in
     elim (f a)
     as (λ o. IfSome o (λ item. id_of item ≡ id) → AreGathered id_of (id ∷ ids) (cons_option o items) (o ∷ each)) [
       | Some item ↦ λ is. gathered-with id_of id ids item items each absent is rest
       | None ↦ λ _. gathered-without id_of id ids items each absent rest
     ] here
-  where
-    on_zero : (k : ℕ) → k + 0 ≡ k
-    on_zero k = omega arith
 
 -- gathered items stand in the order of their ids, and each place's item is that of its id
 pub gathered-in_order : {A : Type 0} (id_of : A → ℕ) (f : ℕ → Option A) (ids : List ℕ) → IsDistinct eqb ids
@@ -136,11 +126,6 @@ gathered-in_order id_of f ids distinct h =
   where
     on_zero : (k : ℕ) → 0 + k ≡ k
     on_zero k = omega arith
-
--- what is not some is none
-pub none-from-not_some : {A : Type 0} (o : Option A) → ((x : A) → o ≡ Some x → ⊥) → o ≡ None
-none-from-not_some None h = refl
-none-from-not_some (Some x) h = absurd (h x refl)
 
 -- the id of an element that was read is that of its place
 pub id-read : {X : Type 0} (id_of : X → ℕ) (xs : List X) (k : ℕ) (x : X) → k < length xs → x ≡ get_or xs k x

@@ -3,11 +3,10 @@ use Rattle.std.proofs.Common.{◌≡◌, ◌≢◌, ℕ, zero, suc, ◌<◌, ◌
 use Rattle.std.specs.Prelude.{Option, Some, None}
 use Rattle.std.proofs.lemmas.Bool.{cases_eq}
 use Rattle.std.proofs.lemmas.List.{get_or-set_same, get_or-set_other}
+use Rattle.std.proofs.lemmas.Option.{same_Some}
 use Rattle.hungarian.specs.Mates.{mate, AreMates, AreMatesBut}
 
 -- one number is there
-pub same_some : (a b : ℕ) → Some a ≡ Some b → a ≡ b
-same_some a b e = cc e
 
 -- what is there is none or some
 pub cases_mate : (o : Option ℕ) → (o ≡ None) ⊎ ((x : ℕ) × (o ≡ Some x))
@@ -33,14 +32,14 @@ pub mates-last : (columns rows : List (Option ℕ)) (row last : ℕ) → AreMate
     → last < length rows → mate columns row ≡ None → AreMates (set columns row (Some last)) (set rows last (Some row))
 mates-last columns rows row last m row_in last_in bare = record {
   column_back = λ r c is. elim (mate-set columns row (Some last) r row_in) [
-    | inl here ↦ subst (λ k. mate (set rows last (Some row)) k ≡ Some r) (same_some last c (sym here.1 ∙ is))
+    | inl here ↦ subst (λ k. mate (set rows last (Some row)) k ≡ Some r) (same_Some last c (sym here.1 ∙ is))
         (get_or-set_same rows last (Some row) None last_in ∙ ap (λ k. Some k) (sym here.0))
     | inr there ↦
         let had : mate columns r ≡ Some c = sym there.1 ∙ is in
         get_or-set_other rows last c (Some row) None (λ e. m.unclaimed r (had ∙ ap (λ k. Some k) e)) ∙ m.column_back r c had
   ];
   row_back = λ r c is. elim (mate-set rows last (Some row) c last_in) [
-    | inl here ↦ subst (λ k. mate (set columns row (Some last)) k ≡ Some c) (same_some row r (sym here.1 ∙ is))
+    | inl here ↦ subst (λ k. mate (set columns row (Some last)) k ≡ Some c) (same_Some row r (sym here.1 ∙ is))
         (get_or-set_same columns row (Some last) None row_in ∙ ap (λ k. Some k) (sym here.0))
     | inr there ↦
         let had : mate columns r ≡ Some c = m.row_back r c there.0 (sym there.1 ∙ is) in
@@ -55,24 +54,24 @@ pub mates-next : (columns rows : List (Option ℕ)) (row last next : ℕ) → Ar
     → AreMatesBut next (set columns row (Some last)) (set rows last (Some row))
 mates-next columns rows row last next m row_in last_in had = record {
   column_back = λ r c is. elim (mate-set columns row (Some last) r row_in) [
-    | inl here ↦ subst (λ k. mate (set rows last (Some row)) k ≡ Some r) (same_some last c (sym here.1 ∙ is))
+    | inl here ↦ subst (λ k. mate (set rows last (Some row)) k ≡ Some r) (same_Some last c (sym here.1 ∙ is))
         (get_or-set_same rows last (Some row) None last_in ∙ ap (λ k. Some k) (sym here.0))
     | inr there ↦
         let was : mate columns r ≡ Some c = sym there.1 ∙ is in
         get_or-set_other rows last c (Some row) None (λ e. m.unclaimed r (was ∙ ap (λ k. Some k) e)) ∙ m.column_back r c was
   ];
   row_back = λ r c apart is. elim (mate-set rows last (Some row) c last_in) [
-    | inl here ↦ subst (λ k. mate (set columns row (Some last)) k ≡ Some c) (same_some row r (sym here.1 ∙ is))
+    | inl here ↦ subst (λ k. mate (set columns row (Some last)) k ≡ Some c) (same_Some row r (sym here.1 ∙ is))
         (get_or-set_same columns row (Some last) None row_in ∙ ap (λ k. Some k) (sym here.0))
     | inr there ↦
         let was : mate columns r ≡ Some c = m.row_back r c there.0 (sym there.1 ∙ is) in
-        let other : r ≢ row = λ e. apart (same_some c next (sym was ∙ ap (mate columns) e ∙ had)) in
+        let other : r ≢ row = λ e. apart (same_Some c next (sym was ∙ ap (mate columns) e ∙ had)) in
         get_or-set_other columns row r (Some last) None other ∙ was
   ];
   unclaimed = λ r is. elim (mate-set columns row (Some last) r row_in) [
-    | inl here ↦ m.unclaimed row (had ∙ ap (λ k. Some k) (same_some next last (sym is ∙ here.1)))
+    | inl here ↦ m.unclaimed row (had ∙ ap (λ k. Some k) (same_Some next last (sym is ∙ here.1)))
     | inr there ↦
         let was : mate columns r ≡ Some next = sym there.1 ∙ is in
-        there.0 (same_some r row (sym (m.column_back r next was) ∙ m.column_back row next had))
+        there.0 (same_Some r row (sym (m.column_back r next was) ∙ m.column_back row next had))
   ];
 }

@@ -4,6 +4,7 @@ use Rattle.std.specs.Prelude.{Option, Some, None, IfSome}
 use Rattle.std.proofs.lemmas.Bool.{cases_eq, cases_lt, lt-ltb, le-ltb}
 use Rattle.std.proofs.lemmas.List.{get_or-set_same, get_or-set_other}
 use Rattle.std.proofs.lemmas.Nat.{mul-add-lt}
+use Rattle.std.proofs.lemmas.Option.{same_Some}
 use Rattle.dual_check.specs.Cells.{GridCells, cell_at, IsGrid}
 use Rattle.dual_check.specs.Grid.{price_at}
 use Rattle.hungarian.specs.declared.matches.Matches.{Matches}
@@ -17,7 +18,7 @@ use Rattle.hungarian.specs.Ways.{IsShortened, IsRelaxable}
 use Rattle.hungarian.specs.Labels.{distance_at, source_at, rank_at, IsReached, IsSized, IsNext, IsSearch, IsLeaving, IsExit, IsPath, sooner_path}
 use Rattle.hungarian.specs.Searching.{IsSearching}
 use Rattle.hungarian.specs.Partial.{IsPartial}
-use Rattle.hungarian.proofs.Mated.{same_some, cases_mate}
+use Rattle.hungarian.proofs.Mated.{cases_mate}
 use Rattle.hungarian.proofs.Reaching.{zero-at, reached-in, Keeps, reached-kept}
 use Rattle.hungarian.proofs.Steps.{search-begun, search-relaxed, search-settled}
 
@@ -227,7 +228,7 @@ searching-next grid penalty matches duals root reach leaving later column row pr
     let (low, open_is, near, least) = next in
     let (keeps, after) = search-settled grid penalty matches duals root row reach.distance column t w partial state root_in low
     open_is
-    (omega (arith, near, now.below)) least (λ r is. same_some r row (sym is ∙ had)) settled.ranks_are settled.steps_are
+    (omega (arith, near, now.below)) least (λ r is. same_Some r row (sym is ∙ had)) settled.ranks_are settled.steps_are
     settled.distances_are settled.sources_are in
     let (here, there) = ranks-settled grid.columns column t w state.sized low settled in
     record {
@@ -252,7 +253,7 @@ searching-next grid penalty matches duals root reach leaving later column row pr
           low settled by) [
             | inl before ↦ omega (arith, shorter, now.limit r distance step before)
             | inr own ↦
-                let same : r ≡ row = same_some r row (sym own.0 ∙ had) in
+                let same : r ≡ row = same_Some r row (sym own.0 ∙ had) in
                 omega (arith, limit, own.1, price_is, ap (λ q. price_at duals.prices.items q) same)
           ];
       leaves = leaves;

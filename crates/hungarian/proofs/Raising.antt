@@ -3,6 +3,7 @@ use Rattle.std.proofs.Common.{◌≡◌, ◌≢◌, ℕ, ◌+◌, ◌-◌, ◌<�
 use Rattle.std.specs.Prelude.{Option, Some, None, nat_lt, if◌then◌else◌}
 use Rattle.std.proofs.lemmas.Bool.{cases_eq, ne_eqb, eq-eqb, lt-ltb}
 use Rattle.std.proofs.lemmas.List.{length-set, get_or-set_same, get_or-set_other}
+use Rattle.std.proofs.lemmas.Option.{same_Some}
 use Rattle.dual_check.specs.Grid.{price_at}
 use Rattle.hungarian.specs.declared.matches.Matches.{Matches}
 use Rattle.hungarian.specs.declared.duals.Duals.{Duals}
@@ -10,7 +11,7 @@ use Rattle.hungarian.specs.declared.search.Search.{Search}
 use Rattle.hungarian.specs.Mates.{mate}
 use Rattle.hungarian.specs.Labels.{distance_at, rank_at}
 use Rattle.hungarian.specs.Rises.{column_rise, mate_rise, rise_from, IsRaisable, IsColumnRaised}
-use Rattle.hungarian.proofs.Mated.{same_some, mate-in, cases_mate}
+use Rattle.hungarian.proofs.Mated.{mate-in, cases_mate}
 
 -- how far a row with this column was raised, once the columns before a place were
 abbrev pub rise_before : ℕ → Search → ℕ → Option ℕ → ℕ
@@ -69,7 +70,7 @@ column-raised matches search far column row old new r settled had prices_are pay
               | inl none ↦ ap (rise_from search far column) none
               | inr some ↦ ap (rise_from search far column) some.1
                   ∙ rise_from-other search far column some.0 (λ same. differs
-                  (same_some k row (sym (r.mates.column_back k some.0 some.1) ∙ ap (mate matches.rows.items) same ∙ had)))
+                  (same_Some k row (sym (r.mates.column_back k some.0 some.1) ∙ ap (mate matches.rows.items) same ∙ had)))
             ] in
             let kept = get_or-set_other old.prices.items row k (price_at old.prices.items row + rise) 0 differs in
             omega (arith, kept, still)

@@ -5,6 +5,7 @@ use Rattle.std.proofs.lemmas.Bool.{cases_lt, eq-eqb, ne_eqb}
 use Rattle.std.proofs.lemmas.List.{length-set, length-replicate, get_or-replicate, get_or_past}
 use Rattle.std.proofs.lemmas.List.Folds.{sum_by-replicate}
 use Rattle.std.proofs.lemmas.List.Sums.{sum_by-set}
+use Rattle.std.proofs.lemmas.Option.{same_Some}
 use Rattle.dual_check.specs.Cells.{GridCells}
 use Rattle.hungarian.specs.declared.matches.Matches.{Matches}
 use Rattle.hungarian.specs.declared.duals.Duals.{Duals}
@@ -12,7 +13,7 @@ use Rattle.hungarian.specs.declared.search.Search.{Search}
 use Rattle.hungarian.specs.Mates.{mate}
 use Rattle.hungarian.specs.Labels.{distance_at, rank_at, IsReached, IsSized}
 use Rattle.hungarian.specs.Partial.{IsPartial}
-use Rattle.hungarian.proofs.Mated.{same_some, mate-in}
+use Rattle.hungarian.proofs.Mated.{mate-in}
 
 -- a place of a number above 0 is within the list
 pub positive-in : (xs : List ℕ) (k : ℕ) → 0 < get_or xs k 0 → k < length xs
@@ -55,7 +56,7 @@ reached-once matches search root row distance step other other_step bare one two
   | inr by ↦ elim two [
     | inl is_root ↦ absurd (cc (by.1, ap (mate matches.columns.items) is_root.0, bare))
     | inr by_too ↦
-        let same : by.0 ≡ by_too.0 = same_some by.0 by_too.0 (sym by.1 ∙ by_too.1) in
+        let same : by.0 ≡ by_too.0 = same_Some by.0 by_too.0 (sym by.1 ∙ by_too.1) in
         by.3 ∙ ap (distance_at search) same ∙ sym by_too.3
   ]
 ]

@@ -1,6 +1,5 @@
 pub mod NearLegs
 pub mod Joined
-pub mod FewRides
 pub mod OfferLaws
 pub mod LeastOffers
 pub mod PlanTimes

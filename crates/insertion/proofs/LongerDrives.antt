@@ -4,6 +4,7 @@ use Rattle.std.specs.Prelude.{Option, Some, None}
 use Rattle.std.specs.List.{AllByRecursion}
 use Rattle.std.proofs.lemmas.Bool.{eqb-true, eq-eqb}
 use Rattle.std.proofs.lemmas.List.Elements.{recursion_from_All}
+use Rattle.plain_lemmas.proofs.Numbers.{less_if_differs}
 use Rattle.ride_model.specs.declared.offer.Joins.{Joins}
 use Rattle.ride_model.specs.declared.offer.Offer.{Offer}
 use Rattle.ride_model.specs.declared.settings.Settings.{Settings}
@@ -131,21 +132,12 @@ drives-more roads v ride offer new dwell h =
         (sym is) (two-together dwell offer.j offer.joins.after_pickup offer.joins.after_dropoff (with_leg offer.joins.to_pickup (pickup_of ride))
         (with_leg offer.joins.to_dropoff (dropoff_of ride)) v.stops.items h.in_range end)
 
-    before : (a b : ℕ) → a ≤ b → eqb a b ≡ false → a < b
-    before a b order differ = by_cases (eqb a b) refl
-      where
-        same_or_less : (a ≡ b) ⊎ (a < b)
-        same_or_less = grind (arith, order)
-
-        by_cases : (t : Bool) → eqb a b ≡ t → a < b
-        by_cases t is = elim same_or_less [ inl same ↦ absurd (cc (eq-eqb a b same, differ)) | inr less ↦ less ]
-
     apart : eqb offer.i offer.j ≡ false
         → way dwell (stops_joined ride offer v.stops.items) + leg_at v.stops.items offer.j + leg_at v.stops.items offer.i
         ≡ way dwell v.stops.items + offer.joins.to_pickup + offer.joins.after_pickup + offer.joins.to_dropoff + offer.joins.after_dropoff + dwell + dwell
     apart differ =
         two-apart dwell offer.i offer.j offer.joins.after_pickup offer.joins.after_dropoff (with_leg offer.joins.to_pickup (pickup_of ride))
-        (with_leg offer.joins.to_dropoff (dropoff_of ride)) v.stops.items (before offer.i offer.j h.in_order differ) h.in_range end
+        (with_leg offer.joins.to_dropoff (dropoff_of ride)) v.stops.items (less_if_differs offer.i offer.j h.in_order differ) h.in_range end
 
     by_way : (replaced : ℕ) → way dwell (stops_joined ride offer v.stops.items) + leg_at v.stops.items offer.j + replaced
         ≡ way dwell v.stops.items + offer.joins.to_pickup + offer.joins.after_pickup + offer.joins.to_dropoff + offer.joins.after_dropoff + dwell + dwell

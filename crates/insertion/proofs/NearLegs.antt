@@ -1,6 +1,7 @@
 -- Legs, read from the times near a ride.
 use Rattle.std.proofs.Common.{◌≡◌, ℕ, zero, suc, ◌-◌, ◌<◌, ◌≤◌, List, [], ◌∷◌, length, get_or, refl, ◌∙◌, ap, arith}
 use Rattle.std.specs.Prelude.{Option, Some}
+use Rattle.plain_lemmas.proofs.Numbers.{suc-less_one}
 use Rattle.insertion.specs.declared.near.NearStop.{NearStop}
 use Rattle.insertion.specs.Joined.{leg_before, leg_after}
 
@@ -11,10 +12,7 @@ before-read first time_of stops zero d some within = absurd (omega arith)
 before-read first time_of [] (suc place) d some within = absurd (omega arith)
 before-read first time_of (s ∷ stops) (suc zero) d some within = refl
 before-read first time_of (s ∷ stops) (suc (suc place)) d some within =
-    ap (λ n. time_of (get_or (s ∷ stops) n d)) (less place) ∙ before-read (time_of s) time_of stops (suc place) d (omega arith) (omega arith)
-  where
-    less : (n : ℕ) → suc (suc n) - 1 ≡ suc (suc n - 1)
-    less n = omega arith
+    ap (λ n. time_of (get_or (s ∷ stops) n d)) (suc-less_one place) ∙ before-read (time_of s) time_of stops (suc place) d (omega arith) (omega arith)
 
 -- the leg to the stop at a place
 pub after-read : (time_of : NearStop → Option ℕ) (stops : List NearStop) (place : ℕ) (d : NearStop) → place < length stops

@@ -2,7 +2,8 @@
 use Rattle.std.proofs.Common.{◌≡◌, ℕ, zero, suc, ◌+◌, ◌<◌, ◌≤◌, Bool, true, false, ◌&&◌, List, [], ◌∷◌, ◌++◌, length, eqb, leb, leb-true, le-leb, refl, sym, ◌∙◌, ap, subst, arith}
 use Rattle.std.specs.Prelude.{map, zip, Option, Some, None, option_map, option_and_then, insert, IfSome, ◌==◌}
 use Rattle.std.specs.List.{AllByRecursion, list_all}
-use Rattle.std.proofs.lemmas.Bool.{eq-eqb}
+use Rattle.std.proofs.lemmas.Bool.{eq-eqb, and_parts}
+use Rattle.std.proofs.lemmas.Option.{same_Some}
 use Rattle.ride_model.specs.declared.settings.Settings.{Settings}
 use Rattle.ride_model.specs.declared.vehicle.Ride.{Ride}
 use Rattle.ride_model.specs.declared.vehicle.Stop.{Stop}
@@ -14,11 +15,11 @@ use Rattle.ride_model.specs.Times.{times_from, times_of}
 use Rattle.ride_model.specs.Keeps.{is_pickup_at, is_dropoff_at, keeps_visits, keeps_ride, keeps}
 use Rattle.ride_model.specs.Insertion.{routed, pickup_of, dropoff_of, stops_with, with_plan, inserted}
 use Rattle.ride_model.specs.Offers.{is_open, start_of, offer_of, offer_of_plan, price}
-use Rattle.model_laws.proofs.AboardLoads.{and-true, filter-kept, filter-skipped}
+use Rattle.model_laws.proofs.AboardLoads.{filter-kept, filter-skipped}
 use Rattle.model_laws.proofs.Insertions.{inserted_facts, plan-fresh}
 use Rattle.model_laws.proofs.TravelTimes.{travel-le}
 use Rattle.stop_plans.specs.Legged.{with_leg}
-use Rattle.stop_plans.proofs.InsertedLegs.{route_head, same_some}
+use Rattle.stop_plans.proofs.InsertedLegs.{route_head}
 use Rattle.promises.proofs.Visits.{visits_along}
 use Rattle.insertion.specs.declared.near.Near.{Near}
 use Rattle.insertion.specs.declared.near.NearStop.{NearStop}
@@ -67,7 +68,7 @@ begins_at : (roads : RoadMap) (at dwell leave i j leg : ℕ) (ride : Ride) (stop
     → BeginsAt (leave_at leave dwell (times_from dwell leave stops) i + leg) (visits_along ride.id out (times_from dwell leave out))
 begins_at roads at dwell leave zero j leg ride stops out legs others in_order within before is =
     let head = route_head roads at (pickup_of ride) (insert stops j (dropoff_of ride)) out is in
-    let leg_is : head.leg ≡ leg = same_some head.leg leg (sym head.there ∙ before) in
+    let leg_is : head.leg ≡ leg = same_Some head.leg leg (sym head.there ∙ before) in
     let out_is : out ≡ with_leg leg (pickup_of ride) ∷ head.rest
     = head.out_is ∙ ap (λ n. with_leg n (pickup_of ride) ∷ head.rest) leg_is in
     record {
@@ -81,7 +82,7 @@ begins_at roads at dwell leave (suc i) zero leg ride stops out legs others in_or
 begins_at roads at dwell leave (suc i) (suc j) leg ride [] out legs others in_order within before is = absurd (omega arith)
 begins_at roads at dwell leave (suc i) (suc j) leg ride (s ∷ stops) out (there, rest) (other, others) in_order within before is =
     let head = route_head roads at s (stops_with ride i j stops) out is in
-    let leg_is : head.leg ≡ s.leg = same_some head.leg s.leg (sym head.there ∙ there) in
+    let leg_is : head.leg ≡ s.leg = same_Some head.leg s.leg (sym head.there ∙ there) in
     let out_is : out ≡ s ∷ head.rest = head.out_is ∙ ap (λ n. with_leg n s ∷ head.rest) leg_is in
     let later = begins_at roads s.node dwell (leave + s.leg + dwell) i j leg ride stops head.rest rest others (omega arith) (omega arith) before head.on in
     record {
@@ -97,15 +98,15 @@ begins_at roads at dwell leave (suc i) (suc j) leg ride (s ∷ stops) out (there
 in_time : (ride : Ride) (stop : Stop) (time : ℕ) (rest : List (Stop × ℕ)) → keeps_visits ride None ((stop, time) ∷ rest) ≡ true → time ≤ ride.latest
 in_time ride stop time [] kept = absurd (cc kept)
 in_time ride stop time (d ∷ []) kept =
-    let (three, _) = and-true (is_pickup_at ride.from stop && is_dropoff_at ride.to d.0 && leb time ride.latest) (leb d.1 (time + ride.longest)) kept in
-    let (_, soon) = and-true (is_pickup_at ride.from stop && is_dropoff_at ride.to d.0) (leb time ride.latest) three in
+    let (three, _) = and_parts (is_pickup_at ride.from stop && is_dropoff_at ride.to d.0 && leb time ride.latest) (leb d.1 (time + ride.longest)) kept in
+    let (_, soon) = and_parts (is_pickup_at ride.from stop && is_dropoff_at ride.to d.0) (leb time ride.latest) three in
     leb-true time ride.latest soon
 in_time ride stop time (d ∷ e ∷ rest) kept = absurd (cc kept)
 
 -- the last of a list passes where all do
 last-passes : (test : Ride → Bool) (rides : List Ride) (ride : Ride) → list_all test (rides ++ ride ∷ []) ≡ true → test ride ≡ true
-last-passes test [] ride all = (and-true (test ride) true all).0
-last-passes test (r ∷ rides) ride all = last-passes test rides ride (and-true (test r) (list_all test (rides ++ ride ∷ [])) all).1
+last-passes test [] ride all = (and_parts (test ride) true all).0
+last-passes test (r ∷ rides) ride all = last-passes test rides ride (and_parts (test r) (list_all test (rides ++ ride ∷ [])) all).1
 
 -- the pickup of a ride in a plan that keeps its promises is in time
 pub kept-in-time : (roads : RoadMap) (v : Vehicle) (ride : Ride) (start dwell i j leg : ℕ) (new : Vehicle) → HasLegs roads v.at v.stops.items
@@ -116,8 +117,8 @@ kept-in-time roads v ride start dwell i j leg new legs others waits in_order wit
     let facts = inserted_facts roads v ride i j new is in
     let made : Vehicle = with_plan v (v.rides.items ++ ride ∷ []) facts.out in
     let keeps_made : keeps made start dwell ≡ true = subst (λ w. keeps w start dwell ≡ true) facts.new_is kept in
-    let (two, _) = and-true (leb (length facts.out) 16 && list_all (keeps_ride made start dwell) (v.rides.items ++ ride ∷ [])) (loads_fit made) keeps_made in
-    let (_, each) = and-true (leb (length facts.out) 16) (list_all (keeps_ride made start dwell) (v.rides.items ++ ride ∷ [])) two in
+    let (two, _) = and_parts (leb (length facts.out) 16 && list_all (keeps_ride made start dwell) (v.rides.items ++ ride ∷ [])) (loads_fit made) keeps_made in
+    let (_, each) = and_parts (leb (length facts.out) 16) (list_all (keeps_ride made start dwell) (v.rides.items ++ ride ∷ [])) two in
     let own : keeps_ride made start dwell ride ≡ true = last-passes (keeps_ride made start dwell) v.rides.items ride each in
     let visits = begins_at roads v.at dwell start i j leg ride v.stops.items facts.out legs others in_order within before facts.route in
     in_time ride visits.stop (leave_at start dwell (times_of v start dwell) i + leg) visits.rest

@@ -2,7 +2,9 @@
 use Rattle.std.proofs.Common.{◌≡◌, ℕ, suc, ◌+◌, ◌<◌, ◌≤◌, ◌⊎◌, inl, inr, Bool, true, false, cond, ◌&&◌, List, [], ◌∷◌, ◌++◌, length, eqb, leb, leb-true, refl, sym, ◌∙◌, ap, subst, arith}
 use Rattle.std.specs.Prelude.{Option, Some, None, option_map, option_and_then}
 use Rattle.std.specs.List.{list_all}
-use Rattle.std.proofs.lemmas.Bool.{eqb-true, eq-eqb}
+use Rattle.std.proofs.lemmas.Bool.{eqb-true, eq-eqb, and_parts}
+use Rattle.std.proofs.lemmas.Option.{same_Some}
+use Rattle.plain_lemmas.proofs.Numbers.{same_or_less}
 use Rattle.ride_model.specs.declared.offer.Joins.{Joins}
 use Rattle.ride_model.specs.declared.offer.Offer.{Offer}
 use Rattle.ride_model.specs.declared.settings.Settings.{Settings}
@@ -16,7 +18,7 @@ use Rattle.ride_model.specs.Keeps.{keeps, keeps_ride}
 use Rattle.ride_model.specs.Insertion.{routed, stops_with, with_plan, inserted}
 use Rattle.ride_model.specs.Offers.{is_open, leg_at, joins_of, cost_of, start_of, offer_of, offer_of_plan}
 use Rattle.model_laws.proofs.PlanStops.{unlegged-routed}
-use Rattle.model_laws.proofs.AboardLoads.{and-true, length-same}
+use Rattle.model_laws.proofs.AboardLoads.{length-same}
 use Rattle.model_laws.proofs.Insertions.{inserted_facts, length-stops_with, routed-with}
 use Rattle.stop_plans.specs.Change.{InsertsInto}
 use Rattle.insertion.specs.declared.near.Near.{Near}
@@ -24,7 +26,7 @@ use Rattle.insertion.specs.declared.near.NearStop.{NearStop}
 use Rattle.insertion.specs.Asked.{near_stop, HoldsTimes, IsAsked}
 use Rattle.insertion.specs.Joined.{leg_before, leg_after, four_legs, to_pickup_of, after_pickup_of, to_dropoff_of, after_dropoff_of, joins_near}
 use Rattle.insertion.proofs.Joined.{before_place, after_place, before-noted, after-noted, legs_of_two, two-joined-together, two-joined-apart}
-use Rattle.insertion.proofs.FewRides.{few-rides}
+use Rattle.model_laws.proofs.FewRides.{few-rides}
 
 -- the legs near the ride are those that the map gives the plan with it
 pub joins-law : (roads : RoadMap) (v : Vehicle) (ride : Ride) (near : Near) (i j : ℕ) → HasLegs roads v.at v.stops.items → HoldsTimes roads v ride near
@@ -38,9 +40,6 @@ joins-law roads v ride near i j legs holds in_order within =
     ]
     ∙ as_joins (routed roads v.at (stops_with ride i j v.stops.items))
   where
-    same_or_less : (a b : ℕ) → a ≤ b → (a ≡ b) ⊎ (a < b)
-    same_or_less a b h = grind arith
-
     to_pickup : to_pickup_of near i ≡ before_place roads v.at ride.from v.stops.items i
     to_pickup =
         ap (λ o. leg_before o (λ (stop : NearStop). stop.to_from) near.stops.items i) holds.at_from
@@ -79,10 +78,7 @@ joins-law roads v ride near i j legs holds in_order within =
 
     differ : i < j → (b : Bool) → eqb i j ≡ b → eqb i j ≡ false
     differ less false is = is
-    differ less true is = absurd (omega (arith, less, eqb-same i j is))
-      where
-        eqb-same : (a b : ℕ) → eqb a b ≡ true → a ≡ b
-        eqb-same a b h = eqb-true a b h
+    differ less true is = absurd (omega (arith, less, eqb-true i j is))
 
     apart : i < j → chosen (eqb i j) ≡ option_map (legs_of_two i j) (routed roads v.at (stops_with ride i j v.stops.items))
     apart less =
@@ -131,8 +127,8 @@ pub record ArePlaces (v : Vehicle) (i j : ℕ) : Type 0 where
 
 pub are-places : (v : Vehicle) (time i j : ℕ) → (is_open v time && leb i j && leb j (length v.stops.items)) ≡ true → ArePlaces v i j
 are-places v time i j h =
-    let (first, within) = and-true (is_open v time && leb i j) (leb j (length v.stops.items)) h in
-    let (_, in_order) = and-true (is_open v time) (leb i j) first in
+    let (first, within) = and_parts (is_open v time && leb i j) (leb j (length v.stops.items)) h in
+    let (_, in_order) = and_parts (is_open v time) (leb i j) first in
     record { in_order = leb-true i j in_order; in_range = leb-true j (length v.stops.items) within }
 
 -- the plan with a ride has two stops more
@@ -207,13 +203,10 @@ inserts roads settings v ride near time offer asked may room some =
           in_order = places.in_order;
           in_range = places.in_range;
           inserted_is = is;
-          joins_are = same_joins _ _ (sym some ∙ joins);
+          joins_are = same_Some _ _ (sym some ∙ joins);
         },
       )
     ] refl law
-  where
-    same_joins : (a b : Joins) → Some a ≡ Some b → a ≡ b
-    same_joins a b e = cc e
 
 -- the offer of the plan
 pub of-plan : (roads : RoadMap) (settings : Settings) (v : Vehicle) (ride : Ride) (time : ℕ) (offer : Offer) (new : Vehicle) → InsertsInto roads v ride offer new

@@ -2,6 +2,7 @@
 use Rattle.std.proofs.Common.{◌≡◌, ℕ, zero, suc, ◌+◌, ◌-◌, ◌<◌, ◌≤◌, List, [], ◌∷◌, length, get_or, refl, ◌∙◌, ap, arith}
 use Rattle.std.specs.Prelude.{Some, None, unwrap_or}
 use Rattle.std.specs.List.{last_or}
+use Rattle.plain_lemmas.proofs.Numbers.{suc-less_one}
 use Rattle.ride_model.specs.declared.vehicle.Vehicle.{Vehicle}
 use Rattle.ride_model.specs.Times.{times_of, drive_of}
 use Rattle.ride_model.specs.Offers.{start_of}
@@ -14,24 +15,21 @@ leave-read start dwell times zero d some within = absurd (omega arith)
 leave-read start dwell [] (suc place) d some within = absurd (omega arith)
 leave-read start dwell (t ∷ times) (suc zero) d some within = refl
 leave-read start dwell (t ∷ times) (suc (suc place)) d some within =
-    ap (λ n. get_or (t ∷ times) n d + dwell) (less place) ∙ leave-read (t + dwell) dwell times (suc place) d (omega arith) (omega arith)
-  where
-    less : (n : ℕ) → suc (suc n) - 1 ≡ suc (suc n - 1)
-    less n = omega arith
+    ap (λ n. get_or (t ∷ times) n d + dwell) (suc-less_one place) ∙ leave-read (t + dwell) dwell times (suc place) d (omega arith) (omega arith)
 
 -- the last arrival, or the start where there is none
 abbrev pub last_time : ℕ → List ℕ → ℕ
 last_time start [] = start
 last_time start (time ∷ times) = last_time time times
 
+pub last-is : (t : ℕ) (ts : List ℕ) → last_or (Some t) ts ≡ Some (last_time t ts)
+last-is t [] = refl
+last-is t (u ∷ ts) = last-is u ts
+
 -- the drive is up to the last arrival
 pub drive-last : (v : Vehicle) (dwell : ℕ) → drive_of v dwell ≡ last_time 0 (times_of v 0 dwell)
 drive-last v dwell = by_times (times_of v 0 dwell)
   where
-    last-is : (t : ℕ) (ts : List ℕ) → last_or (Some t) ts ≡ Some (last_time t ts)
-    last-is t [] = refl
-    last-is t (u ∷ ts) = last-is u ts
-
     by_times : (times : List ℕ) → unwrap_or (last_or None times) 0 ≡ last_time 0 times
     by_times [] = refl
     by_times (t ∷ times) = ap (λ o. unwrap_or o 0) (last-is t times)

@@ -7,6 +7,7 @@ use Rattle.ride_model.specs.declared.vehicle.Vehicle.{Vehicle}
 use Rattle.ride_model.specs.Road.{RoadMap, IsRoadMap, travel}
 use Rattle.ride_model.specs.Settings.{IsSettings}
 use Rattle.ride_model.specs.Vehicle.{IsRide, IsFresh, IsLawful}
+use Rattle.ride_model.specs.Limits.{latest_time}
 use Rattle.insertion.specs.declared.near.Near.{Near}
 use Rattle.insertion.specs.declared.near.NearStop.{NearStop}
 
@@ -34,6 +35,6 @@ pub record IsAsked (roads : RoadMap) (v : Vehicle) (ride : Ride) (time : ℕ) (s
   pub ride_fits : IsRide roads ride
   pub waits : ride.picked ≡ None
   pub fresh : IsFresh v.rides.items ride.id
-  pub time_limit : time ≤ 1000000000
+  pub time_limit : time ≤ latest_time
   pub settings_fit : IsSettings settings
   pub near_holds : HoldsTimes roads v ride near

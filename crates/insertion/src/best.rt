@@ -3,6 +3,7 @@ ghost use Rattle.std.specs.Prelude.{◌≡◌, ◌≤◌, ◌⊎◌, length, IfS
 ghost use Rattle.ride_model.specs.declared.offer.Offer.{Offer};
 ghost use Rattle.ride_model.specs.Road.{RoadMap, lesser};
 ghost use Rattle.ride_model.specs.Offers.{offer_of, price};
+ghost use Rattle.ride_model.specs.Limits.{longest_dwell};
 ghost use Rattle.insertion.specs.Arrivals.{plan_of, is_by};
 ghost use Rattle.insertion.specs.Asked.{IsAsked};
 ghost use Rattle.insertion.specs.Drawn.{IsDrawnFor};
@@ -84,7 +85,7 @@ fn better(
     dwell: u64,
 ) -> Option<Offer>
     requires drawn { (roads : RoadMap) × (offer : Option Offer) × IsDrawnFor roads vehicle.now ride.now dwell drawn offer }
-    requires dwell_limit { dwell ≤ 3600 }
+    requires dwell_limit { dwell ≤ longest_dwell }
     ensures cost { (roads : RoadMap) (offer : Option Offer) → IsDrawnFor roads vehicle.now ride.now dwell drawn offer
         → cost_if_any result ≡ lesser (cost_if_any best) (cost_if_any offer) }
     ensures one { (roads : RoadMap) (offer : Option Offer) → IsDrawnFor roads vehicle.now ride.now dwell drawn offer

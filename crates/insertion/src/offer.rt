@@ -6,6 +6,7 @@ ghost use Rattle.ride_model.specs.declared.vehicle.Vehicle.{Vehicle};
 ghost use Rattle.ride_model.specs.Road.{RoadMap};
 ghost use Rattle.ride_model.specs.Offers.{offer_of};
 ghost use Rattle.ride_model.specs.Settings.{IsSettings};
+ghost use Rattle.ride_model.specs.Limits.{latest_ready, longest_dwell};
 ghost use Rattle.insertion.specs.Arrivals.{plan_of, leave_at};
 ghost use Rattle.insertion.specs.Asked.{IsAsked};
 ghost use Rattle.insertion.specs.Drawn.{drives_more, IsDrawn, IsDrawnFor, AreShort};
@@ -83,7 +84,7 @@ fn priced(vehicle: &Vehicle, offer: Offer, settings: &Settings, plan: &Plan) -> 
     requires ranges { IsSettings settings.now }
     requires short { AreShort offer.joins }
     requires within { offer.i ≤ length plan.now.times.items }
-    requires start_limit { plan.now.start ≤ 1000003600 }
+    requires start_limit { plan.now.start ≤ latest_ready }
     requires soon { All (λ time. time ≤ 10000000000000000) plan.now.times.items }
     ensures { result ≡ record offer {
       cost = settings.now.drive * drives_more settings.now.dwell vehicle.now.stops.items offer.i offer.j offer.joins
@@ -101,7 +102,7 @@ fn priced(vehicle: &Vehicle, offer: Offer, settings: &Settings, plan: &Plan) -> 
 /// The offer that is drawn, where its plan keeps the promises.
 pub fn kept(vehicle: &Vehicle, ride: &Ride, drawn: Offer, dwell: u64) -> Option<Offer>
     requires drawn { (roads : RoadMap) × (offer : Option Offer) × IsDrawn roads vehicle.now ride.now dwell drawn offer }
-    requires dwell_limit { dwell ≤ 3600 }
+    requires dwell_limit { dwell ≤ longest_dwell }
     ensures { (roads : RoadMap) (offer : Option Offer) → IsDrawn roads vehicle.now ride.now dwell drawn offer → result ≡ offer }
 {
     let mut new = vehicle.copy();

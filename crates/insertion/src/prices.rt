@@ -1,6 +1,7 @@
 //! When a vehicle would start for a batch, and what the change of its plan costs.
 ghost use Rattle.std.specs.Prelude.{◌≡◌, ◌≤◌, ◌+◌, ◌*◌, ◌&&◌, length, nat_le};
 ghost use Rattle.ride_model.specs.Offers.{is_idle, is_open, start_of};
+ghost use Rattle.ride_model.specs.Limits.{latest_time, longest_lead};
 
 use ride_model::{Settings, Vehicle};
 
@@ -20,8 +21,8 @@ pub fn is_open(vehicle: &Vehicle, time: u64) -> bool
 
 /// When a vehicle would start for a batch of this time: an idle one not before the time and the lead.
 pub fn start_of(vehicle: &Vehicle, lead: u64, time: u64) -> u64
-    requires lead_limit { lead ≤ 3600 }
-    requires time_limit { time ≤ 1000000000 }
+    requires lead_limit { lead ≤ longest_lead }
+    requires time_limit { time ≤ latest_time }
     ensures { result ≡ start_of vehicle.now lead time }
 {
     if is_idle(vehicle) {

@@ -1,6 +1,7 @@
 -- The lines of a feed that were taken when it ended or was stopped.
 use Rattle.std.proofs.Common.{◌≡◌, ◌≢◌, ℕ, ◌<◌, Bool, true, false, nat_lt, take, List, [], ◌∷◌, ◌++◌, length, Option, Some, None, Result, Ok, Err, refl, ap, sym, subst, ◌∙◌, arith, append_assoc, append-nil, length-append}
 use Rattle.std.specs.Prelude.{IfSome, MatchResult}
+use Rattle.std.proofs.lemmas.Bool.{false_from_ne_true}
 use mathlib.Core.List.{IsPrefix}
 use Rattle.line_text.specs.Lines.{ended_lines, last_line, lines_of, rest_of}
 use Rattle.ride_ports.specs.Bytes.{Reads}
@@ -272,13 +273,9 @@ pub short-enough : (limits : Limits) (feed left : Option (List ℕ)) (taken : Li
     → (long ≡ true → IsTooLong limits taken) → IfSome feed (λ bytes. IsWithinLimits limits bytes → long ≡ false)
 short-enough limits feed left taken long reads too_long = each feed reads
   where
-    either : (b : Bool) → (b ≡ true → ⊥) → b ≡ false
-    either true not_true = absurd (not_true refl)
-    either false not_true = refl
-
     each : (o : Option (List ℕ)) → Reads o left taken → IfSome o (λ bytes. IsWithinLimits limits bytes → long ≡ false)
     each None r = tt
     each (Some bytes) r =
         let (rest, _, is) = Reads-told bytes r refl in
-        λ within. either long (λ is_long.
+        λ within. false_from_ne_true long (λ is_long.
         first-within limits taken rest (subst (λ (l : List ℕ). IsWithinLimits limits l) is within) (too_long is_long))

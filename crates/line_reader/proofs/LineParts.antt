@@ -6,6 +6,7 @@ use Rattle.std.proofs.Math.Seq.{take-append_seam}
 use Rattle.std.proofs.lemmas.Bool.{eqb-true, eqb-false}
 use Rattle.std.proofs.lemmas.Grind.{flat_map-append}
 use Rattle.std.proofs.lemmas.List.{append_cancel_left, take-append-drop}
+use Rattle.plain_lemmas.proofs.Lists.{some_bytes}
 use Rattle.line_text.specs.Cutter.{CutterState, HasTaken, EndsLine, Continues, ShowsRest}
 use Rattle.line_text.specs.Lines.{ended_after, rest_after, ended_lines, rest_of, last_line, lines_of}
 use Rattle.line_text.proofs.LineLemmas.{ended_lines-append, lines-grow, rest_after-append, some-line}
@@ -260,10 +261,6 @@ last-shown reader bytes read shows = record {
   over = shows.more ∙ ap (λ n. nat_lt n (length (rest_of bytes))) read.most;
 }
 
-some-bytes : (bytes : List ℕ) → bytes ≢ [] → 0 < length bytes
-some-bytes [] none = absurd (none refl)
-some-bytes (b ∷ bytes) none = omega arith
-
 -- no more lines may begin
 pub stops-lines : (reader : ReaderState) (bytes part : List ℕ) → HasRead reader (bytes ++ part)
     → Begins bytes part → reader.pending ≢ [] → reader.lines_left ≡ 0 → IsStopped reader.limits bytes (part ++ reader.pending) TooLong
@@ -275,7 +272,7 @@ stops-lines reader bytes part read begins some full =
     let came : part ++ reader.pending ≡ reader.pending = ap (λ l. l ++ reader.pending) nothing in
     subst (λ (l : List ℕ). IsStopped reader.limits bytes l TooLong) (sym came) (record {
       lines_are = full-lines reader.limits bytes reader.pending whole (omega (arith, read.bytes_counted, ap length here)) many;
-      why = inr (omega (arith, one-more-line bytes reader.pending whole (some-bytes reader.pending some), many));
+      why = inr (omega (arith, one-more-line bytes reader.pending whole (some_bytes reader.pending some), many));
     })
 
 -- no more bytes come

@@ -2,9 +2,10 @@
 use Rattle.std.proofs.Common.{◌≡◌, ℕ, zero, suc, ◌+◌, ◌<◌, ◌≤◌, ◌⊎◌, inl, inr, Bool, true, false, not, cond, ◌&&◌, List, [], ◌∷◌, length, take, eqb, leb, leb-true, le-leb, refl, sym, ◌∙◌, ap, subst, arith}
 use Rattle.std.specs.Prelude.{map, is_some, ◌==◌}
 use Rattle.std.specs.List.{filter, AllByRecursion, list_all, range_with_len, sum_by}
-use Rattle.std.proofs.lemmas.Bool.{eqb-true, eq-eqb}
+use Rattle.std.proofs.lemmas.Bool.{eqb-true, eq-eqb, and_from, and_parts}
 use Rattle.std.proofs.lemmas.List.Sums.{sum_by-cons}
 use Rattle.std.proofs.lemmas.List.{take-map, length-map}
+use Rattle.plain_lemmas.proofs.Numbers.{same_or_less}
 use Rattle.ride_model.specs.declared.vehicle.Load.{Load}
 use Rattle.ride_model.specs.declared.vehicle.Ride.{Ride}
 use Rattle.ride_model.specs.declared.vehicle.Stop.{Stop}
@@ -14,33 +15,22 @@ use Rattle.ride_model.specs.Insertion.{stops_without, rides_without}
 use Rattle.model_laws.proofs.Routes.{with_leg}
 use Rattle.model_laws.proofs.PlanStops.{unlegged}
 
--- whether both hold
-pub and-true : (a b : Bool) → (a && b) ≡ true → (a ≡ true) × (b ≡ true)
-and-true true b h = (refl, h)
-and-true false b h = absurd (cc h)
-
-pub true-and : (a b : Bool) → a ≡ true → b ≡ true → (a && b) ≡ true
-true-and a b p q = rw p q
-
 -- a test passes at each number of a range
 pub range_passes : {X : Type 0} (test : X → Bool) (f : ℕ → X) (from many : ℕ) → list_all test (map f (range_with_len from many)) ≡ true
     → (k : ℕ) → from ≤ k → k < from + many → test (f k) ≡ true
 range_passes test f from zero h k low high = absurd (omega arith)
 range_passes test f from (suc many) h k low high =
-    let (first, rest) = and-true (test (f from)) (list_all test (map f (range_with_len (from + 1) many))) h in
-    elim (first_or_later from k low) [
+    let (first, rest) = and_parts (test (f from)) (list_all test (map f (range_with_len (from + 1) many))) h in
+    elim (same_or_less from k low) [
       | inl here ↦ ap (λ n. test (f n)) (sym here) ∙ first
       | inr above ↦ range_passes test f (from + 1) many rest k (omega (arith, above)) (omega arith)
     ]
-  where
-    first_or_later : (a b : ℕ) → a ≤ b → (a ≡ b) ⊎ (a < b)
-    first_or_later a b h = grind arith
 
 pub passes_range : {X : Type 0} (test : X → Bool) (f : ℕ → X) (from many : ℕ)
     → ((k : ℕ) → from ≤ k → k < from + many → test (f k) ≡ true) → list_all test (map f (range_with_len from many)) ≡ true
 passes_range test f from zero h = refl
 passes_range test f from (suc many) h =
-    true-and (test (f from)) (list_all test (map f (range_with_len (from + 1) many))) (h from (omega arith) (omega arith))
+    and_from (test (f from)) (list_all test (map f (range_with_len (from + 1) many))) (h from (omega arith) (omega arith))
     (passes_range test f (from + 1) many (λ k low high. h k (omega arith) (omega arith)))
 
 -- loads that fit after each number of stops
@@ -48,14 +38,14 @@ abbrev pub FitsThroughout : (Load → Bool) → List Ride → List Stop → Type
 FitsThroughout test rides stops = (k : ℕ) → k ≤ length stops → test (load_after rides (take k stops)) ≡ true
 
 pub fits_throughout : (v : Vehicle) → loads_fit v ≡ true → FitsThroughout (fits_load v) v.rides.items v.stops.items
-fits_throughout v h zero low = (and-true (fits_load v (load_after v.rides.items [])) (list_all (fits_load v) (loads_of v)) h).0
+fits_throughout v h zero low = (and_parts (fits_load v (load_after v.rides.items [])) (list_all (fits_load v) (loads_of v)) h).0
 fits_throughout v h (suc k) low =
     range_passes (fits_load v) (λ n. load_after v.rides.items (take n v.stops.items)) 1 (length v.stops.items)
-    (and-true (fits_load v (load_after v.rides.items [])) (list_all (fits_load v) (loads_of v)) h).1 (suc k) (omega arith) (omega arith)
+    (and_parts (fits_load v (load_after v.rides.items [])) (list_all (fits_load v) (loads_of v)) h).1 (suc k) (omega arith) (omega arith)
 
 pub loads_fit-throughout : (v : Vehicle) → FitsThroughout (fits_load v) v.rides.items v.stops.items → loads_fit v ≡ true
 loads_fit-throughout v h =
-    true-and (fits_load v (load_after v.rides.items [])) (list_all (fits_load v) (loads_of v)) (h 0 (omega arith))
+    and_from (fits_load v (load_after v.rides.items [])) (list_all (fits_load v) (loads_of v)) (h 0 (omega arith))
     (passes_range (fits_load v) (λ n. load_after v.rides.items (take n v.stops.items)) 1 (length v.stops.items)
     (λ k low high. h k (omega arith)))
 
@@ -170,8 +160,8 @@ sum_by-filter-le p f (x ∷ xs) =
 -- a lesser load fits too
 pub fits-lesser : (v : Vehicle) (a b : Load) → a.seats ≤ b.seats → a.chairs ≤ b.chairs → fits_load v b ≡ true → fits_load v a ≡ true
 fits-lesser v a b less_seats less_chairs fits =
-    let (seats, chairs) = and-true (leb b.seats v.seats) (leb b.chairs v.chairs) fits in
-    true-and (leb a.seats v.seats) (leb a.chairs v.chairs)
+    let (seats, chairs) = and_parts (leb b.seats v.seats) (leb b.chairs v.chairs) fits in
+    and_from (leb a.seats v.seats) (leb a.chairs v.chairs)
     (le-leb a.seats v.seats (omega (arith, leb-true b.seats v.seats seats)))
     (le-leb a.chairs v.chairs (omega (arith, leb-true b.chairs v.chairs chairs)))
 

@@ -7,6 +7,7 @@ use Rattle.std.proofs.lemmas.List.Elements.{recursion_from_All, All-contains}
 use Rattle.std.proofs.lemmas.List.Sums.{sum_by-cons}
 use Rattle.std.proofs.lemmas.Bool.{eqb-true, eq-eqb}
 use Rattle.std.proofs.lemmas.Map.Keys.{IsDistinct-head, IsDistinct-tail}
+use Rattle.std.proofs.lemmas.Option.{same_Some}
 use Rattle.ride_model.specs.declared.offer.Offer.{Offer}
 use Rattle.ride_model.specs.declared.offer.Seat.{Seat}
 use Rattle.ride_model.specs.declared.vehicle.Ride.{Ride}
@@ -15,22 +16,19 @@ use Rattle.ride_model.specs.Road.{RoadMap}
 use Rattle.ride_model.specs.Vehicle.{ride_ids}
 use Rattle.ride_model.specs.Offers.{offer_of}
 use Rattle.ride_model.specs.Seating.{BatchCopy, find_ride, find_vehicle, seat_offer, has_seat, IsSeating, seat_cost, IsLeastSeating, amount_ids, amount_of, IsCovered, Certifies}
-use Rattle.model_laws.proofs.Among.{Among, contains_from_among}
+use Rattle.plain_lemmas.proofs.Among.{Among, contains_from_among}
 use Rattle.model_laws.proofs.OfferPrices.{price-le-cost}
 use Rattle.model_laws.proofs.CoveredPairs.{prices-le-cost}
-use Rattle.model_laws.proofs.Sums.{sum_by-map}
+use Rattle.plain_lemmas.proofs.Sums.{sum_by-map}
 
 -- what is found passes, and is one of the elements
 pub found_among : {X : Type 0} (p : X → Bool) (xs : List X) (x : X) → find p xs ≡ Some x → Among x xs × (p x ≡ true)
 found_among p [] x h = absurd (cc h)
 found_among p (y ∷ ys) x h =
     elim (p y) as (λ b. p y ≡ b → cond b (Some y) (find p ys) ≡ Some x → Among x (y ∷ ys) × (p x ≡ true)) [
-      | true ↦ λ passes is. (inl (same y x is), ap p (sym (same y x is)) ∙ passes)
+      | true ↦ λ passes is. (inl (same_Some y x is), ap p (sym (same_Some y x is)) ∙ passes)
       | false ↦ λ _ is. let (among, passes) = found_among p ys x is in (inr among, passes)
     ] refl h
-  where
-    same : {X : Type 0} (a b : X) → Some a ≡ Some b → a ≡ b
-    same a b e = cc e
 
 -- the amount of an id, by the first item
 pub amount-cons : (id amount : ℕ) (amounts : List (ℕ × ℕ)) (q : ℕ)
@@ -185,7 +183,7 @@ seats-covered roads batch prices pays [] covered offered = tt
 seats-covered roads batch prices pays (seat ∷ seats) covered (first, rest) =
     (seat-covered roads batch prices pays seat covered first, seats-covered roads batch prices pays seats covered rest)
 
-each_capped : (m : ℕ) (amounts : List (ℕ × ℕ)) (ids : List ℕ) → AllByRecursion (λ (item : ℕ × ℕ). item.1 ≤ m) amounts
+pub each_capped : (m : ℕ) (amounts : List (ℕ × ℕ)) (ids : List ℕ) → AllByRecursion (λ (item : ℕ × ℕ). item.1 ≤ m) amounts
     → AllByRecursion (λ r. amount_of amounts r ≤ m) ids
 each_capped m amounts [] h = tt
 each_capped m amounts (q ∷ qs) h = (amount-le m amounts q h, each_capped m amounts qs h)

@@ -1,9 +1,10 @@
 -- Costs of offers: never negative, and below 2^42.
-use Rattle.std.proofs.Common.{◌≡◌, ℕ, zero, suc, ◌+◌, ◌-◌, ◌*◌, ◌<◌, ◌≤◌, ◌^◌, ◌⊎◌, inl, inr, Bool, true, false, not, cond, ◌&&◌, List, [], ◌∷◌, length, eqb, leb, leb-true, refl, sym, ◌∙◌, ap, subst, arith, mul-le-mul}
+use Rattle.std.proofs.Common.{◌≡◌, ℕ, zero, suc, ◌+◌, ◌-◌, ◌*◌, ◌<◌, ◌≤◌, ◌^◌, ◌⊎◌, inl, inr, Bool, true, false, not, cond, ◌&&◌, List, [], ◌∷◌, length, eqb, leb, leb-true, refl, sym, ◌∙◌, ap, subst, arith, mul-le-mul, add-zero}
 use Rattle.std.specs.Prelude.{Option, Some, None, option_map, option_and_then, unwrap_or, ◌==◌, Contains, IfSome, slice_index}
 use Rattle.std.specs.List.{filter, list_all, last_or}
-use Rattle.std.proofs.lemmas.Bool.{eq-eqb}
+use Rattle.std.proofs.lemmas.Bool.{eq-eqb, and_parts}
 use Rattle.std.proofs.lemmas.List.Elements.{All-contains}
+use Rattle.std.proofs.lemmas.Option.{same_Some}
 use Rattle.ride_model.specs.declared.offer.Offer.{Offer}
 use Rattle.ride_model.specs.declared.settings.Settings.{Settings}
 use Rattle.ride_model.specs.declared.vehicle.Ride.{Ride}
@@ -17,11 +18,10 @@ use Rattle.ride_model.specs.Loads.{loads_fit}
 use Rattle.ride_model.specs.Keeps.{is_pickup_at, is_dropoff_at, keeps_visits, keeps_ride, keeps}
 use Rattle.ride_model.specs.Insertion.{routed, stops_with, stops_without, inserted}
 use Rattle.ride_model.specs.Offers.{start_of, is_open, cost_of, joins_of, offer_of_plan, offer_of}
-use Rattle.model_laws.proofs.Among.{Among, among_from_contains, contains_from_among, among_filter, among_filter_back, among_map_back}
+use Rattle.plain_lemmas.proofs.Among.{Among, among_from_contains, contains_from_among, among_filter, among_filter_back, among_map_back}
 use Rattle.model_laws.specs.Sooner.{AllSooner}
 use Rattle.model_laws.proofs.Routes.{with_leg, routed-own, of_ride, visits_from}
 use Rattle.model_laws.proofs.PlanStops.{unlegged, unlegged-routed}
-use Rattle.model_laws.proofs.AboardLoads.{and-true}
 use Rattle.model_laws.proofs.Removal.{is_other, route_without}
 use Rattle.model_laws.proofs.Insertions.{stops-with-without, inserted_facts, routed-with}
 use Rattle.model_laws.proofs.OfferPrices.{offer_facts}
@@ -134,9 +134,6 @@ route-back roads v ride i j out r fresh in_order in_range route =
     ∙ routed-unlegged roads v.at v.stops.items
     ∙ routed-own roads v.at v.stops.items r.legs
 
-same-stops : (a b : List Stop) → Some a ≡ Some b → a ≡ b
-same-stops a b e = cc e
-
 -- a plan with a ride more drives no less
 pub drive-inserted : (roads : RoadMap) (v : Vehicle) (ride : Ride) (i j dwell : ℕ) (new : Vehicle) → IsRoadMap roads → IsRouted roads v
     → IsRide roads ride → IsFresh v.rides.items ride.id → ride.picked ≡ None → i ≤ j → j ≤ length v.stops.items
@@ -154,7 +151,7 @@ drive-inserted roads v ride i j dwell new fits r ride_fits fresh waits in_order 
           = subst (λ node. routed roads node (stops_without ride.id new.stops.items) ≡ Some v.stops.items) (sym at_is)
           (subst (λ stops. routed roads v.at (stops_without ride.id stops) ≡ Some v.stops.items) (sym out_is)
           (route-back roads v ride i j facts.out r fresh in_order in_range facts.route)) in
-          let old_is : left.out ≡ v.stops.items = same-stops left.out v.stops.items (sym left.route ∙ back) in
+          let old_is : left.out ≡ v.stops.items = same_Some left.out v.stops.items (sym left.route ∙ back) in
           let sooner = subst (λ stops. AllSooner 0 (visits_from dwell 0 stops) (filter (of_ride (is_other ride.id)) (visits_from dwell 0 new.stops.items))) old_is left.sooner in
           let (s, there) = visit-of-arrival dwell 0 (drive_of v dwell) v.stops.items last in
           let (other, among, below) = later-visit 0 (visits_from dwell 0 v.stops.items) (filter (of_ride (is_other ride.id)) (visits_from dwell 0 new.stops.items)) (s, drive_of v dwell) sooner there in
@@ -171,8 +168,8 @@ last_moment = 1001003600
 kept-visit : (ride : Ride) (picked : Option ℕ) (visits : List (Stop × ℕ)) (visit : Stop × ℕ) → ride.latest ≤ 1000000000 → ride.longest ≤ 1000000
     → IfSome picked (λ at. at ≤ 1000003600) → keeps_visits ride picked visits ≡ true → Among visit visits → visit.1 ≤ last_moment
 kept-visit ride None (p ∷ d ∷ []) visit latest longest before keeps there =
-    let (three, within) = and-true (is_pickup_at ride.from p.0 && is_dropoff_at ride.to d.0 && leb p.1 ride.latest) (leb d.1 (p.1 + ride.longest)) keeps in
-    let (places, in_time) = and-true (is_pickup_at ride.from p.0 && is_dropoff_at ride.to d.0) (leb p.1 ride.latest) three in
+    let (three, within) = and_parts (is_pickup_at ride.from p.0 && is_dropoff_at ride.to d.0 && leb p.1 ride.latest) (leb d.1 (p.1 + ride.longest)) keeps in
+    let (places, in_time) = and_parts (is_pickup_at ride.from p.0 && is_dropoff_at ride.to d.0) (leb p.1 ride.latest) three in
     elim there [
       | inl first ↦ omega (arith, leb-true p.1 ride.latest in_time, ap (λ (w : Stop × ℕ). w.1) first)
       | inr later ↦ elim later [
@@ -181,7 +178,7 @@ kept-visit ride None (p ∷ d ∷ []) visit latest longest before keeps there =
       ]
     ]
 kept-visit ride (Some at) (d ∷ []) visit latest longest before keeps there =
-    let (place, within) = and-true (is_dropoff_at ride.to d.0) (leb d.1 (at + ride.longest)) keeps in
+    let (place, within) = and_parts (is_dropoff_at ride.to d.0) (leb d.1 (at + ride.longest)) keeps in
     elim there [
       | inl first ↦ omega (arith, before, leb-true d.1 (at + ride.longest) within, ap (λ (w : Stop × ℕ). w.1) first)
       | inr none ↦ absurd none
@@ -195,8 +192,8 @@ kept-visit ride (Some at) (d ∷ e ∷ visits) visit latest longest before keeps
 -- each of a list passes
 each-passes : {X : Type 0} (p : X → Bool) (xs : List X) (x : X) → list_all p xs ≡ true → Among x xs → p x ≡ true
 each-passes p [] x all h = absurd h
-each-passes p (y ∷ ys) x all (inl is) = ap p (sym is) ∙ (and-true (p y) (list_all p ys) all).0
-each-passes p (y ∷ ys) x all (inr later) = each-passes p ys x (and-true (p y) (list_all p ys) all).1 later
+each-passes p (y ∷ ys) x all (inl is) = ap p (sym is) ∙ (and_parts (p y) (list_all p ys) all).0
+each-passes p (y ∷ ys) x all (inr later) = each-passes p ys x (and_parts (p y) (list_all p ys) all).1 later
 
 -- a vehicle that keeps its promises from a start has no arrival after the last moment
 pub arrival-kept : (roads : RoadMap) (v : Vehicle) (start dwell u : ℕ) → IsRouted roads v → keeps v start dwell ≡ true
@@ -208,8 +205,8 @@ arrival-kept roads v start dwell u r keeps_all there =
     let (ride, ride_there, id_is) = among_map_back (λ (q : Ride). q.id) v.rides.items s.ride (among_from_contains (ride_ids v.rides.items) s.ride of_some) in
     let ride_fits = All-contains (IsRide roads) v.rides.items ride r.rides_fit (contains_from_among v.rides.items ride ride_there) in
     let picked = All-contains (λ (q : Ride). IfSome q.picked (λ at. at ≤ v.ready)) v.rides.items ride r.picked_before (contains_from_among v.rides.items ride ride_there) in
-    let (two, _) = and-true (leb (length v.stops.items) 16 && list_all (keeps_ride v start dwell) v.rides.items) (loads_fit v) keeps_all in
-    let (_, each) = and-true (leb (length v.stops.items) 16) (list_all (keeps_ride v start dwell) v.rides.items) two in
+    let (two, _) = and_parts (leb (length v.stops.items) 16 && list_all (keeps_ride v start dwell) v.rides.items) (loads_fit v) keeps_all in
+    let (_, each) = and_parts (leb (length v.stops.items) 16) (list_all (keeps_ride v start dwell) v.rides.items) two in
     let kept = each-passes (keeps_ride v start dwell) v.rides.items ride each ride_there in
     let among = among_filter (λ (w : Stop × ℕ). w.0.ride == ride.id) (visits_from dwell start v.stops.items) (s, u) visit (eq-eqb s.ride ride.id (sym id_is)) in
     kept-visit ride ride.picked (visits_of v start dwell ride.id) (s, u) ride_fits.latest_limit ride_fits.longest_limit
@@ -225,13 +222,10 @@ drive-kept roads v start dwell r kept =
     elim (drive-among v dwell) [
       | inl none ↦ omega (arith, none)
       | inr last ↦
-          let shifted = subst (λ n. Among (start + drive_of v dwell) (times_from dwell n v.stops.items)) (plus_zero start)
+          let shifted = subst (λ n. Among (start + drive_of v dwell) (times_from dwell n v.stops.items)) (add-zero start)
           (arrival-shifted dwell start 0 (drive_of v dwell) v.stops.items last) in
           omega (arith, arrival-kept roads v start dwell (start + drive_of v dwell) r kept shifted)
     ]
-  where
-    plus_zero : (n : ℕ) → n + 0 ≡ n
-    plus_zero n = omega arith
 
 -- a number of a list that is bounded
 index-le : (m : ℕ) (xs : List ℕ) (i : ℕ) → ((u : ℕ) → Among u xs → u ≤ m) → slice_index xs i ≤ m
@@ -250,15 +244,12 @@ plan_facts settings old i j time new offer is =
     elim (keeps new (start_of old settings.lead time) settings.dwell)
     as (λ b. keeps new (start_of old settings.lead time) settings.dwell ≡ b
     → cond b (Some made) None ≡ Some offer → PlanFacts settings old i j time new offer) [
-      | true ↦ λ kept some. record { kept = kept; offer_is = sym (same made offer some) }
+      | true ↦ λ kept some. record { kept = kept; offer_is = sym (same_Some made offer some) }
       | false ↦ λ _ none. absurd (cc none)
     ] refl is
   where
     made : Offer
     made = record { i = i; j = j; cost = cost_of settings old new i (start_of old settings.lead time) time; start = start_of old settings.lead time; joins = joins_of new i j }
-
-    same : (a b : Offer) → Some a ≡ Some b → a ≡ b
-    same a b e = cc e
 
 -- the plan of an offer
 pub record OfferPlan (roads : RoadMap) (settings : Settings) (v : Vehicle) (ride : Ride) (time i j : ℕ) (offer : Offer) : Type 0 where

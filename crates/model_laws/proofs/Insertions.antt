@@ -4,13 +4,15 @@ use Rattle.std.specs.Prelude.{map, Some, None, option_map, ◌==◌, Contains, I
 use Rattle.std.specs.List.{filter, AllByRecursion, IsDistinct}
 use Rattle.std.proofs.lemmas.Bool.{eqb-true, eq-eqb}
 use Rattle.std.proofs.lemmas.List.Elements.{All-from_recursion, recursion_from_All, All-push, filter-append, Contains-append_left, Contains-push}
+use Rattle.std.proofs.lemmas.Option.{same_Some}
 use Rattle.ride_model.specs.declared.vehicle.Ride.{Ride}
 use Rattle.ride_model.specs.declared.vehicle.Stop.{Stop}
 use Rattle.ride_model.specs.declared.vehicle.Vehicle.{Vehicle}
 use Rattle.ride_model.specs.Road.{RoadMap}
 use Rattle.ride_model.specs.Vehicle.{IsRide, visits_due, visit_of, stops_of, ride_ids, IsFresh, IsPlanFor, IsRouted}
 use Rattle.ride_model.specs.Insertion.{routed, pickup_of, dropoff_of, stops_with, with_plan, inserted, stops_without}
-use Rattle.model_laws.proofs.Among.{Among, among_from_contains, contains_from_among}
+use Rattle.plain_lemmas.proofs.Among.{Among, among_from_contains, contains_from_among}
+use Rattle.plain_lemmas.proofs.Each.{each-append, each-take, each-drop}
 use Rattle.model_laws.proofs.Routes.{routed-has_legs}
 use Rattle.model_laws.proofs.PlanStops.{unlegged-routed, plan-same}
 use Rattle.model_laws.proofs.AboardLoads.{filter-kept, filter-skipped}
@@ -160,20 +162,6 @@ distinct-push (y ∷ ys) x (head, tail) fresh =
     pushed [] h = (differs (eqb y x) refl, tt)
     pushed (z ∷ zs) (first, rest) = (first, pushed zs rest)
 
-each-append : {X : Type 0} (P : X → Type 0) (xs ys : List X) → AllByRecursion P xs → AllByRecursion P ys → AllByRecursion P (xs ++ ys)
-each-append P [] ys a b = b
-each-append P (x ∷ xs) ys (first, rest) b = (first, each-append P xs ys rest b)
-
-each-take : {X : Type 0} (P : X → Type 0) (n : ℕ) (xs : List X) → AllByRecursion P xs → AllByRecursion P (take n xs)
-each-take P zero xs h = tt
-each-take P (suc n) [] h = tt
-each-take P (suc n) (x ∷ xs) (first, rest) = (first, each-take P n xs rest)
-
-each-drop : {X : Type 0} (P : X → Type 0) (n : ℕ) (xs : List X) → AllByRecursion P xs → AllByRecursion P (drop n xs)
-each-drop P zero xs h = h
-each-drop P (suc n) [] h = tt
-each-drop P (suc n) (x ∷ xs) (first, rest) = each-drop P n xs rest
-
 -- the stops with a ride more are what the rides with it need
 pub plan-with : (rides : List Ride) (stops : List Stop) (ride : Ride) (i j : ℕ) → IsPlanFor rides stops → IsFresh rides ride.id
     → ride.picked ≡ None → i ≤ j → j ≤ length stops → IsPlanFor (rides ++ ride ∷ []) (stops_with ride i j stops)
@@ -242,11 +230,8 @@ inserted_facts roads v ride i j new is =
     as (λ o. routed roads v.at (stops_with ride i j v.stops.items) ≡ o
     → option_map (with_plan v (v.rides.items ++ ride ∷ [])) o ≡ Some new → InsertedFacts roads v ride i j new) [
       | None ↦ λ _ none. absurd (cc none)
-      | Some out ↦ λ route some. record { out = out; route = route; new_is = sym (same _ _ some) }
+      | Some out ↦ λ route some. record { out = out; route = route; new_is = sym (same_Some _ _ some) }
     ] refl is
-  where
-    same : (a b : Vehicle) → Some a ≡ Some b → a ≡ b
-    same a b e = cc e
 
 -- a vehicle in order stays so with a ride more
 pub routed-with : (roads : RoadMap) (v : Vehicle) (ride : Ride) (i j : ℕ) (new : Vehicle) → IsRouted roads v → IsRide roads ride

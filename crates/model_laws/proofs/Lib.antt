@@ -1,5 +1,3 @@
-pub mod Among
-pub mod Sums
 pub mod CoveredPairs
 pub mod OfferPrices
 pub mod Certificates
@@ -14,3 +12,5 @@ pub mod BatchSums
 pub mod RequestStates
 pub mod Walks
 pub mod TravelTimes
+pub mod Starts
+pub mod FewRides

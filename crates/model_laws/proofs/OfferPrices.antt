@@ -9,7 +9,8 @@ use Rattle.ride_model.specs.declared.vehicle.Vehicle.{Vehicle}
 use Rattle.ride_model.specs.Road.{RoadMap}
 use Rattle.ride_model.specs.Insertion.{inserted}
 use Rattle.ride_model.specs.Offers.{is_open, offer_of_plan, offer_of, place_pairs, offers, price}
-use Rattle.model_laws.proofs.Among.{Among, among_map}
+use Rattle.plain_lemmas.proofs.Among.{Among, among_map}
+use Rattle.plain_lemmas.proofs.Numbers.{same_or_less}
 use Rattle.model_laws.proofs.Walks.{least_is_least}
 
 -- what a filter_map keeps
@@ -28,13 +29,10 @@ among_filter_map {X} {Y} f (z ∷ zs) x y (inr later) is =
 pub among_range : (from many n : ℕ) → from ≤ n → n < from + many → Among n (range_with_len from many)
 among_range from zero n low high = absurd (omega arith)
 among_range from (suc many) n low high =
-    elim (first_or_later from n low) [
+    elim (same_or_less from n low) [
       | inl here ↦ inl here
       | inr above ↦ inr (among_range (from + 1) many n (omega (arith, above)) (omega arith))
     ]
-  where
-    first_or_later : (a b : ℕ) → a ≤ b → (a ≡ b) ⊎ (a < b)
-    first_or_later a b h = grind arith
 
 -- what a flat_map keeps
 pub among_append : {X : Type 0} (xs ys : List X) (x : X) → Among x xs ⊎ Among x ys → Among x (xs ++ ys)

@@ -5,13 +5,16 @@ use Rattle.std.specs.List.{filter, IsDistinct, AllByRecursion}
 use Rattle.std.proofs.lemmas.Bool.{eqb-true, eq-eqb}
 use Rattle.std.proofs.lemmas.List.Elements.{All-from_recursion, recursion_from_All}
 use Rattle.std.proofs.lemmas.Map.Keys.{IsDistinct-head, IsDistinct-tail, IsDistinct-cons}
+use Rattle.std.proofs.lemmas.Option.{same_Some}
 use Rattle.ride_model.specs.declared.vehicle.Kind.{Kind}
 use Rattle.ride_model.specs.declared.vehicle.Ride.{Ride}
 use Rattle.ride_model.specs.declared.vehicle.Stop.{Stop}
 use Rattle.ride_model.specs.Road.{RoadMap, travel}
 use Rattle.ride_model.specs.Vehicle.{visits_due, visit_of, stops_of, ride_ids, IsPlanFor}
 use Rattle.ride_model.specs.Insertion.{routed, stops_without, rides_without}
-use Rattle.model_laws.proofs.Among.{Among, among_from_contains, contains_from_among, among_map, among_map_back, among_filter}
+use Rattle.plain_lemmas.proofs.Among.{Among, among_from_contains, contains_from_among, among_map, among_map_back, among_filter}
+use Rattle.plain_lemmas.proofs.Each.{of_all}
+use Rattle.plain_lemmas.proofs.Lists.{distinct-filter}
 use Rattle.model_laws.proofs.Routes.{with_leg}
 
 -- stops without their legs
@@ -20,10 +23,7 @@ unlegged stops = map (with_leg 0) stops
 
 -- a route changes legs alone
 pub unlegged-routed : (roads : RoadMap) (at : ℕ) (stops out : List Stop) → routed roads at stops ≡ Some out → unlegged out ≡ unlegged stops
-unlegged-routed roads at [] out is = ap unlegged (sym (same [] out is))
-  where
-    same : (a b : List Stop) → Some a ≡ Some b → a ≡ b
-    same a b e = cc e
+unlegged-routed roads at [] out is = ap unlegged (sym (same_Some [] out is))
 unlegged-routed roads at (stop ∷ stops) out is =
     elim (travel roads at stop.node) as (λ o.
     option_and_then (λ leg. option_map (λ rest. with_leg leg stop ∷ rest) (routed roads stop.node stops)) o ≡ Some out
@@ -34,12 +34,9 @@ unlegged-routed roads at (stop ∷ stops) out is =
           → option_map (λ rest. with_leg leg stop ∷ rest) o ≡ Some out → unlegged out ≡ unlegged (stop ∷ stops)) [
             | None ↦ λ _ none. absurd (cc none)
             | Some rest ↦ λ on made.
-                ap unlegged (sym (same (with_leg leg stop ∷ rest) out made)) ∙ ap (λ more. with_leg 0 stop ∷ more) (unlegged-routed roads stop.node stops rest on)
+                ap unlegged (sym (same_Some (with_leg leg stop ∷ rest) out made)) ∙ ap (λ more. with_leg 0 stop ∷ more) (unlegged-routed roads stop.node stops rest on)
           ] refl some
     ] is
-  where
-    same : (a b : List Stop) → Some a ≡ Some b → a ≡ b
-    same a b e = cc e
 
 -- the visits of a ride are the same whatever the legs
 pub visits-unlegged : (id : ℕ) (stops : List Stop) → map visit_of (stops_of id (unlegged stops)) ≡ map visit_of (stops_of id stops)
@@ -81,23 +78,6 @@ plan-same rides stops out same plan = record {
         → AllByRecursion (λ (ride : Ride). map visit_of (stops_of ride.id out) ≡ visits_due ride ride.picked) rs
     each [] h = tt
     each (ride ∷ rs) (first, rest) = (visits-same ride.id stops out same ∙ first, each rs rest)
-
--- what differs from each element differs from each that a filter keeps
-pub distinct-filter : (p : ℕ → Bool) (xs : List ℕ) → IsDistinct eqb xs → IsDistinct eqb (filter p xs)
-distinct-filter p [] distinct = distinct
-distinct-filter p (x ∷ xs) distinct =
-    elim (p x) as (λ b. IsDistinct eqb (cond b (x ∷ filter p xs) (filter p xs))) [
-      | true ↦ IsDistinct-cons eqb x (filter p xs) (kept xs (IsDistinct-head eqb x xs distinct)) (distinct-filter p xs (IsDistinct-tail eqb x xs distinct))
-      | false ↦ distinct-filter p xs (IsDistinct-tail eqb x xs distinct)
-    ]
-  where
-    kept : (ys : List ℕ) → AllByRecursion (λ y. eqb x y ≡ false) ys → AllByRecursion (λ y. eqb x y ≡ false) (filter p ys)
-    kept [] h = tt
-    kept (y ∷ ys) (first, rest) =
-        elim (p y) as (λ b. AllByRecursion (λ z. eqb x z ≡ false) (cond b (y ∷ filter p ys) (filter p ys))) [
-          | true ↦ (first, kept ys rest)
-          | false ↦ kept ys rest
-        ]
 
 -- the ids of the rides that are left
 pub ids-without : (id : ℕ) (rides : List Ride) → ride_ids (rides_without id rides) ≡ filter (λ q. not (eqb q id)) (ride_ids rides)
@@ -184,24 +164,16 @@ pub stop-of-ride : (rides : List Ride) (stops : List Stop) (stop : Stop) → IsP
     → (ride : Ride) × Among ride rides × ((stop.node ≡ ride.from) ⊎ (stop.node ≡ ride.to))
 stop-of-ride rides stops stop plan there =
     let named : Contains (ride_ids rides) stop.ride =
-    all_at (λ (s : Stop). Contains (ride_ids rides) s.ride) stops stop plan.each_stop there in
+    of_all (λ (s : Stop). Contains (ride_ids rides) s.ride) stops stop plan.each_stop there in
     let (ride, among, is) = among_map_back (λ (r : Ride). r.id) rides stop.ride (among_from_contains (ride_ids rides) stop.ride named) in
     let due : map visit_of (stops_of ride.id stops) ≡ visits_due ride ride.picked =
-    all_at (λ (r : Ride). map visit_of (stops_of r.id stops) ≡ visits_due r r.picked) rides ride plan.each_ride among in
+    of_all (λ (r : Ride). map visit_of (stops_of r.id stops) ≡ visits_due r r.picked) rides ride plan.each_ride among in
     let own : Among stop (stops_of ride.id stops) =
     among_filter (λ (s : Stop). eqb s.ride ride.id) stops stop there (eq-eqb stop.ride ride.id (sym is)) in
     let visited : Among (visit_of stop) (visits_due ride ride.picked) =
     subst (Among (visit_of stop)) due (among_map visit_of (stops_of ride.id stops) stop own) in
     (ride, among, node_of ride ride.picked visited)
   where
-    all_at : {X : Type 0} (P : X → Type 0) (xs : List X) (x : X) → All P xs → Among x xs → P x
-    all_at P xs x all among = by_recursion P xs x (recursion_from_All P xs all) among
-      where
-        by_recursion : {X : Type 0} (P : X → Type 0) (xs : List X) (x : X) → AllByRecursion P xs → Among x xs → P x
-        by_recursion P [] x h among = absurd among
-        by_recursion P (y ∷ xs) x h (inl is) = subst P is h.0
-        by_recursion P (y ∷ xs) x h (inr later) = by_recursion P xs x h.1 later
-
     node_of : (ride : Ride) (picked : Option ℕ) → Among (visit_of stop) (visits_due ride picked)
         → (stop.node ≡ ride.from) ⊎ (stop.node ≡ ride.to)
     node_of ride None (inl is) = inl (sym (ap (λ (v : Kind × ℕ). v.1) is))

@@ -2,7 +2,7 @@
 use Rattle.std.proofs.Common.{◌≡◌, ℕ, ◌+◌, ◌≤◌, Bool, true, false, not, cond, ◌&&◌, ◌||◌, List, [], ◌∷◌, eqb, leb, ltb, leb-true, le-leb, ltb-false, le-ltb, refl, sym, ◌∙◌, ap, subst, arith}
 use Rattle.std.specs.Prelude.{Option, Some, None, unwrap_or, ◌==◌, IfSome}
 use Rattle.std.specs.List.{filter}
-use Rattle.std.proofs.lemmas.Bool.{eqb-true, eq-eqb}
+use Rattle.std.proofs.lemmas.Bool.{eqb-true, eq-eqb, or_parts, or_from, and_from, and_parts}
 use Rattle.std.proofs.lemmas.List.Elements.{All-filter}
 use Rattle.ride_model.specs.declared.vehicle.Ride.{Ride}
 use Rattle.ride_model.specs.declared.vehicle.Stop.{Stop}
@@ -17,7 +17,7 @@ use Rattle.model_laws.proofs.TravelTimes.{travel-same}
 use Rattle.model_laws.specs.Sooner.{AllSooner}
 use Rattle.model_laws.proofs.Routes.{routed-has_legs, of_ride, sooner-filter, visits_from, ShorterRoute, shorter_route}
 use Rattle.model_laws.proofs.PlanStops.{unlegged-routed, plan-same, plan-without}
-use Rattle.model_laws.proofs.AboardLoads.{and-true, true-and, fits_throughout, loads_fit-throughout, fits-without, filter-skipped}
+use Rattle.model_laws.proofs.AboardLoads.{fits_throughout, loads_fit-throughout, fits-without, filter-skipped}
 
 -- the test of the rides that are left
 abbrev pub is_other : ℕ → ℕ → Bool
@@ -103,10 +103,10 @@ visits-sooner roads v id other start dwell fits r differ =
 pub keeps-sooner : (ride : Ride) (picked : Option ℕ) (gain : ℕ) (xs ys : List (Stop × ℕ)) → AllSooner gain xs ys
     → keeps_visits ride picked ys ≡ true → keeps_visits ride picked xs ≡ true
 keeps-sooner ride None gain (p ∷ d ∷ []) (q ∷ e ∷ []) (more, _, first, (most, further, second, _)) keeps =
-    let (three, within) = and-true (is_pickup_at ride.from q.0 && is_dropoff_at ride.to e.0 && leb q.1 ride.latest) (leb e.1 (q.1 + ride.longest)) keeps in
-    let (places, in_time) = and-true (is_pickup_at ride.from q.0 && is_dropoff_at ride.to e.0) (leb q.1 ride.latest) three in
-    true-and (is_pickup_at ride.from p.0 && is_dropoff_at ride.to d.0 && leb p.1 ride.latest) (leb d.1 (p.1 + ride.longest))
-    (true-and (is_pickup_at ride.from p.0 && is_dropoff_at ride.to d.0) (leb p.1 ride.latest)
+    let (three, within) = and_parts (is_pickup_at ride.from q.0 && is_dropoff_at ride.to e.0 && leb q.1 ride.latest) (leb e.1 (q.1 + ride.longest)) keeps in
+    let (places, in_time) = and_parts (is_pickup_at ride.from q.0 && is_dropoff_at ride.to e.0) (leb q.1 ride.latest) three in
+    and_from (is_pickup_at ride.from p.0 && is_dropoff_at ride.to d.0 && leb p.1 ride.latest) (leb d.1 (p.1 + ride.longest))
+    (and_from (is_pickup_at ride.from p.0 && is_dropoff_at ride.to d.0) (leb p.1 ride.latest)
     (same_places ∙ places)
     (le-leb p.1 ride.latest (omega (arith, leb-true q.1 ride.latest in_time, first.time_is))))
     (le-leb d.1 (p.1 + ride.longest) (omega (arith, leb-true e.1 (q.1 + ride.longest) within, first.time_is, second.time_is)))
@@ -114,8 +114,8 @@ keeps-sooner ride None gain (p ∷ d ∷ []) (q ∷ e ∷ []) (more, _, first, (
     same_places : (is_pickup_at ride.from p.0 && is_dropoff_at ride.to d.0) ≡ (is_pickup_at ride.from q.0 && is_dropoff_at ride.to e.0)
     same_places = rw (first.kind_is, first.node_is, second.kind_is, second.node_is) refl
 keeps-sooner ride (Some at) gain (d ∷ []) (e ∷ []) (more, _, only, _) keeps =
-    let (place, within) = and-true (is_dropoff_at ride.to e.0) (leb e.1 (at + ride.longest)) keeps in
-    true-and (is_dropoff_at ride.to d.0) (leb d.1 (at + ride.longest))
+    let (place, within) = and_parts (is_dropoff_at ride.to e.0) (leb e.1 (at + ride.longest)) keeps in
+    and_from (is_dropoff_at ride.to d.0) (leb d.1 (at + ride.longest))
     (same_place ∙ place)
     (le-leb d.1 (at + ride.longest) (omega (arith, leb-true e.1 (at + ride.longest) within, only.time_is)))
   where
@@ -132,20 +132,12 @@ keeps-sooner ride (Some at) gain xs (e ∷ f ∷ ys) s keeps = absurd (cc keeps)
 keeps-sooner ride (Some at) gain [] (e ∷ []) s keeps = absurd s
 keeps-sooner ride (Some at) gain (d ∷ c ∷ xs) (e ∷ []) (more, _, only, s) keeps = absurd s
 
--- whether neither holds
-or-false : (a b : Bool) → (a || b) ≡ false → (a ≡ false) × (b ≡ false)
-or-false false b h = (refl, h)
-or-false true b h = absurd (cc h)
-
-false-or : (a b : Bool) → a ≡ false → b ≡ false → (a || b) ≡ false
-false-or a b p q = rw p q
-
 -- what broke no limit of a ride breaks none when it comes sooner
 pub breaks-sooner : (ride : Ride) (picked : Option ℕ) (gain : ℕ) (xs ys : List (Stop × ℕ)) → AllSooner gain xs ys
     → breaks_visits ride picked ys ≡ false → breaks_visits ride picked xs ≡ false
 breaks-sooner ride None gain (p ∷ d ∷ []) (q ∷ e ∷ []) (more, _, first, (most, further, second, _)) whole =
-    let (in_time, within) = or-false (ltb ride.latest q.1) (ltb (q.1 + ride.longest) e.1) whole in
-    false-or (ltb ride.latest p.1) (ltb (p.1 + ride.longest) d.1)
+    let (in_time, within) = or_parts (ltb ride.latest q.1) (ltb (q.1 + ride.longest) e.1) whole in
+    or_from (ltb ride.latest p.1) (ltb (p.1 + ride.longest) d.1)
     (le-ltb ride.latest p.1 (omega (arith, ltb-false ride.latest q.1 in_time, first.time_is)))
     (le-ltb (p.1 + ride.longest) d.1 (omega (arith, ltb-false (q.1 + ride.longest) e.1 within, first.time_is, second.time_is)))
 breaks-sooner ride (Some at) gain (d ∷ []) (e ∷ []) (more, _, only, _) whole =

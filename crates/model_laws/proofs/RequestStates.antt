@@ -4,6 +4,7 @@ use Rattle.std.specs.Prelude.{map, Option, Some, None, option_map, find, ◌==�
 use Rattle.std.proofs.Common.{arith}
 use Rattle.std.proofs.lemmas.Bool.{eqb-true}
 use Rattle.std.specs.List.{filter}
+use Rattle.plain_lemmas.proofs.Numbers.{eqb-comm}
 use Rattle.ride_model.specs.declared.reply.RequestState.{RequestState}
 use Rattle.ride_model.specs.declared.reply.RequestState.TheVariants.{Waiting, InBatch}
 use Rattle.ride_model.specs.declared.vehicle.Ride.{Ride}
@@ -53,9 +54,6 @@ with_request_states-is state (ride ∷ rides) s =
     ∙ ap (λ rs. record s { requests = rs })
     (ap (map (marked (is_of rides) state)) (same-test (λ id. id == ride.id) (λ id. ride.id == id) state s.requests (λ id. eqb-comm id ride.id))
     ∙ marked-twice (λ id. ride.id == id) (is_of rides) state s.requests)
-  where
-    eqb-comm : (a b : ℕ) → eqb a b ≡ eqb b a
-    eqb-comm a b = grind arith
 
 -- the state of the first request of an id
 abbrev pub state_in : List AcceptedRequest → ℕ → Option RequestState

@@ -2,6 +2,7 @@
 use Rattle.std.proofs.Common.{◌≡◌, ℕ, ◌+◌, ◌-◌, ◌≤◌, Bool, true, false, cond, List, [], ◌∷◌, refl, sym, ap, subst, arith}
 use Rattle.std.specs.Prelude.{Some, None, option_map, option_and_then, zip, IsSomeAnd}
 use Rattle.std.specs.List.{filter}
+use Rattle.std.proofs.lemmas.Option.{same_Some}
 use Rattle.ride_model.specs.declared.vehicle.Stop.{Stop}
 use Rattle.ride_model.specs.Road.{RoadMap, IsRoadMap, travel}
 use Rattle.ride_model.specs.Vehicle.{HasLegs}
@@ -21,10 +22,7 @@ routed-cons roads at leg stop stops rest there on = rw (there, on) refl
 
 -- a route's stops have their legs
 pub routed-has_legs : (roads : RoadMap) (at : ℕ) (stops out : List Stop) → routed roads at stops ≡ Some out → HasLegs roads at out
-routed-has_legs roads at [] out is = subst (HasLegs roads at) (same [] out is) tt
-  where
-    same : (a b : List Stop) → Some a ≡ Some b → a ≡ b
-    same a b e = cc e
+routed-has_legs roads at [] out is = subst (HasLegs roads at) (same_Some [] out is) tt
 routed-has_legs roads at (stop ∷ stops) out is =
     elim (travel roads at stop.node) as (λ o. travel roads at stop.node ≡ o
     → option_and_then (λ leg. option_map (λ rest. with_leg leg stop ∷ rest) (routed roads stop.node stops)) o ≡ Some out → HasLegs roads at out) [
@@ -34,12 +32,9 @@ routed-has_legs roads at (stop ∷ stops) out is =
           → option_map (λ rest. with_leg leg stop ∷ rest) o ≡ Some out → HasLegs roads at out) [
             | None ↦ λ _ none. absurd (cc none)
             | Some rest ↦ λ on made.
-                subst (HasLegs roads at) (same (with_leg leg stop ∷ rest) out made) (there, routed-has_legs roads stop.node stops rest on)
+                subst (HasLegs roads at) (same_Some (with_leg leg stop ∷ rest) out made) (there, routed-has_legs roads stop.node stops rest on)
           ] refl some
     ] refl is
-  where
-    same : (a b : List Stop) → Some a ≡ Some b → a ≡ b
-    same a b e = cc e
 
 -- stops that have their legs are their own route
 pub routed-own : (roads : RoadMap) (at : ℕ) (stops : List Stop) → HasLegs roads at stops → routed roads at stops ≡ Some stops

@@ -9,6 +9,7 @@ use Rattle.std.proofs.lemmas.List.{length-map}
 use Rattle.std.proofs.lemmas.Bool.{eqb-true}
 use Rattle.std.proofs.lemmas.Map.Steps.{length-le_from_distinct_below}
 use Rattle.std.proofs.lemmas.Map.Keys.{IsDistinct-cons, IsDistinct-tail}
+use Rattle.std.proofs.lemmas.Option.{same_Some}
 use Rattle.ride_model.specs.declared.network.RoadArc.{RoadArc}
 use Rattle.ride_model.specs.Road.{RoadMap, IsArc, IsRoadMap, IsWalk, IsLeastWeight, IsTravel, weight_of, travel, travel_within}
 use Rattle.model_laws.proofs.Walks.{weight-cons, within-same, within_is_walked, within_is_least, walk-append}
@@ -119,7 +120,7 @@ travel_is_least roads x y fits =
       | Some t ↦ λ found. record {
         walked = within_is_walked roads roads.nodes x y t found;
         least = λ walk walked. let (s, is, below) = least walk walked in
-            omega (arith, below, same_some s t (sym is ∙ found));
+            omega (arith, below, same_Some s t (sym is ∙ found));
       }
     ] refl
   where
@@ -130,9 +131,6 @@ travel_is_least roads x y fits =
         let (t, found, below) = within_is_least roads roads.nodes x y simple.part simple.walked
         (length-simple_walk roads x y simple.part fits simple.walked simple.distinct) in
         (t, found, omega (arith, below, simple.lighter))
-
-    same_some : (a b : ℕ) → Some a ≡ Some b → a ≡ b
-    same_some a b h = cc h
 
 -- there is one travel time
 pub travel_is_unique : (roads : RoadMap) (x y : ℕ) (s t : Option ℕ) → IsTravel roads x y s → IsTravel roads x y t → s ≡ t

@@ -1,7 +1,7 @@
 -- Plans that are drawn: what is asked is allowed, and a ride that has an offer goes into the plan.
 use Rattle.std.proofs.Common.{◌≡◌, ℕ, ◌+◌, ◌<◌, ◌≤◌, inl, inr, Bool, true, false, cond, ◌&&◌, List, [], ◌∷◌, ◌++◌, length, leb, leb-true, refl, sym, ◌∙◌, ap, subst, arith}
 use Rattle.std.specs.Prelude.{map, All, Option, Some, None, IfSome, option_and_then}
-use Rattle.std.proofs.lemmas.Bool.{le-leb}
+use Rattle.std.proofs.lemmas.Bool.{le-leb, and_parts}
 use Rattle.std.specs.List.{AllByRecursion, IsDistinct}
 use Rattle.std.proofs.lemmas.List.Elements.{All-nil, All-append, All-from_recursion, recursion_from_All}
 use Rattle.ride_model.specs.declared.offer.Offer.{Offer}
@@ -15,8 +15,8 @@ use Rattle.ride_model.specs.Insertion.{inserted}
 use Rattle.ride_model.specs.Offers.{start_of, is_open, cost_of, joins_of, offer_of_plan, offer_of}
 use Rattle.ride_model.specs.Road.{RoadMap, IsNode}
 use Rattle.ride_model.specs.Vehicle.{IsRide, IsFresh, IsLawful, HasLegs, ride_ids}
-use Rattle.model_laws.proofs.AboardLoads.{and-true}
-use Rattle.model_laws.proofs.Among.{Among, among_from_contains, among_map_back}
+use Rattle.plain_lemmas.proofs.Among.{Among, among_from_contains, among_map_back}
+use Rattle.plain_lemmas.proofs.Each.{of_each, of_all}
 use Rattle.model_laws.proofs.Insertions.{inserted_facts}
 use Rattle.model_laws.proofs.PlanStops.{stop-of-ride}
 use Rattle.stop_plans.specs.Change.{InsertsInto}
@@ -26,7 +26,7 @@ use Rattle.plan_trials.specs.LineRoad.{is_ride}
 use Rattle.plan_trials.proofs.LineRoad.{travel-in-line, a_ride}
 use Rattle.insertion.specs.Asked.{near_stop, IsAsked}
 use Rattle.plan_trials.specs.NearInLine.{near_stop_in_line, near_in_line, are_settings}
-use Rattle.insertion.proofs.FewRides.{few-rides}
+use Rattle.model_laws.proofs.FewRides.{few-rides}
 use Rattle.insertion.proofs.OfferLaws.{ArePlaces, are-places, length-inserted, new-routed}
 use Rattle.plan_trials.proofs.NearInLine.{settings_fit}
 
@@ -40,8 +40,8 @@ pub record TakesRide (roads : RoadMap) (v : Vehicle) (ride : Ride) (offer : Offe
 -- a plan that keeps its limits has at most 16 stops, and room for what is aboard
 keeps-parts : (v : Vehicle) (start dwell : ℕ) → keeps v start dwell ≡ true → (length v.stops.items ≤ 16) × (loads_fit v ≡ true)
 keeps-parts v start dwell h =
-    let (first, loads) = and-true _ (loads_fit v) h in
-    let (few, _) = and-true (leb (length v.stops.items) 16) _ first in
+    let (first, loads) = and_parts _ (loads_fit v) h in
+    let (few, _) = and_parts (leb (length v.stops.items) 16) _ first in
     (leb-true (length v.stops.items) 16 few, loads)
 
 -- a ride that has an offer goes into the plan
@@ -96,20 +96,11 @@ takes-ride roads settings v ride near time offer asked is =
     by_places true may some =
         by_new (are-places v time offer.i offer.j may) (inserted roads v ride offer.i offer.j) refl some
 
--- what holds of each element of a list holds of one among them
-among-all : {X : Type 0} (P : X → Type 0) (xs : List X) (x : X) → All P xs → Among x xs → P x
-among-all P xs x all among = at P xs x (recursion_from_All P xs all) among
-  where
-    at : {X : Type 0} (P : X → Type 0) (xs : List X) (x : X) → AllByRecursion P xs → Among x xs → P x
-    at P [] x h among = absurd among
-    at P (y ∷ xs) x h (inl is) = subst P is h.0
-    at P (y ∷ xs) x h (inr later) = at P xs x h.1 later
-
 -- the stops of a lawful vehicle are at nodes
 stop-at-node : (roads : RoadMap) (v : Vehicle) (stop : Stop) → IsLawful roads v → Among stop v.stops.items → IsNode roads stop.node
 stop-at-node roads v stop lawful there =
     let (ride, among, node) = stop-of-ride v.rides.items v.stops.items stop lawful.routed.planned there in
-    let fits = among-all (IsRide roads) v.rides.items ride lawful.routed.rides_fit among in
+    let fits = of_all (IsRide roads) v.rides.items ride lawful.routed.rides_fit among in
     elim node [
       | inl from ↦ subst (IsNode roads) (sym from) fits.from_node
       | inr to ↦ subst (IsNode roads) (sym to) fits.to_node
@@ -154,7 +145,7 @@ asked-next v ride settings next lawful fits_tested id_is waits earlier ranges =
     fresh : IsFresh v.rides.items ride.id
     fresh there =
         let (r, among, is) = among_map_back (λ (q : Ride). q.id) v.rides.items ride.id (among_from_contains (ride_ids v.rides.items) ride.id there) in
-        let below : r.id < next = among-all (λ (q : Ride). q.id < next) v.rides.items r earlier among in
+        let below : r.id < next = of_all (λ (q : Ride). q.id < next) v.rides.items r earlier among in
         omega (arith, below, is, id_is)
 
 -- ids stay below the next, also where a ride of it is added

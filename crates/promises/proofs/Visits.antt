@@ -1,5 +1,5 @@
 -- A ride's visits with their arrivals.
-use Rattle.std.proofs.Common.{◌≡◌, ℕ, zero, suc, ◌+◌, ◌*◌, ◌<◌, ◌≤◌, Bool, true, false, not, cond, ◌&&◌, ◌||◌, List, [], ◌∷◌, length, drop, get_or, eqb, leb, ltb, le-leb, refl, sym, ◌∙◌, ap, arith}
+use Rattle.std.proofs.Common.{◌≡◌, ℕ, zero, suc, ◌+◌, ◌*◌, ◌<◌, ◌≤◌, Bool, true, false, not, cond, ◌&&◌, ◌||◌, List, [], ◌∷◌, length, drop, get_or, eqb, leb, ltb, le-leb, refl, sym, ◌∙◌, ap, arith, add-one}
 use Rattle.std.specs.Prelude.{map, filter, zip, All, Option, Some, None, ◌==◌}
 use Rattle.std.specs.List.{AllByRecursion, list_all}
 use Rattle.std.proofs.lemmas.Bool.{eq-eqb}
@@ -44,11 +44,8 @@ pub arrival-later : (id : ℕ) (kind : Kind) (stops : List Stop) (times : List �
     → is_visit id kind (get_or stops i d) ≡ false
     → arrival_of id kind (drop (i + 1) stops) (drop (i + 1) times) ≡ arrival_of id kind (drop i stops) (drop i times)
 arrival-later id kind stops times i d within same other =
-    ap (λ n. arrival_of id kind (drop n stops) (drop n times)) (one i) ∙ later stops times i within same other
+    ap (λ n. arrival_of id kind (drop n stops) (drop n times)) (add-one i) ∙ later stops times i within same other
   where
-    one : (n : ℕ) → n + 1 ≡ suc n
-    one n = omega arith
-
     later : (ss : List Stop) (ts : List ℕ) (n : ℕ) → n < length ss → length ts ≡ length ss → is_visit id kind (get_or ss n d) ≡ false
         → arrival_of id kind (drop (suc n) ss) (drop (suc n) ts) ≡ arrival_of id kind (drop n ss) (drop n ts)
     later [] ts n h k o = absurd (omega arith)

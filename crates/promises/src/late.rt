@@ -2,6 +2,7 @@
 ghost use Rattle.std.specs.Prelude.{◌≡◌, ◌≤◌, length, filter, All};
 ghost use Rattle.ride_model.specs.Keeps.{broken_of};
 ghost use Rattle.ride_model.specs.Vehicle.{IsLawfulSomewhere, ride_ids};
+ghost use Rattle.ride_model.specs.Limits.{longest_dwell};
 ghost use Rattle.promises.specs.Arrivals.{breaks_along, IsLimited};
 
 use crate::arrivals::breaks_limit;
@@ -12,7 +13,7 @@ use stop_plans::times;
 /// stands `dwell` seconds at each stop.
 pub fn broken(vehicle: &Vehicle, dwell: u64) -> Ids
     requires lawful { IsLawfulSomewhere vehicle.now }
-    requires dwell_limit { dwell ≤ 3600 }
+    requires dwell_limit { dwell ≤ longest_dwell }
     ensures { result ≡ broken_of vehicle.now dwell }
 {
     let times = times(vehicle, vehicle.ready, dwell);

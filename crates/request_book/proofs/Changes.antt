@@ -8,7 +8,7 @@ use Rattle.std.proofs.lemmas.List.Elements.{recursion_from_All, All-from_recursi
 use Rattle.std.proofs.lemmas.Option.{slice_get_within}
 use Rattle.indexmap.specs.IndexMap.{set_value_at}
 use Rattle.ride_model.specs.declared.reply.RequestState.{RequestState}
-use Rattle.ride_model.specs.declared.reply.RequestState.TheVariants.{Waiting as IsWaiting}
+use Rattle.ride_model.specs.declared.reply.RequestState.TheVariants.{Waiting as WaitingState}
 use Rattle.ride_model.specs.declared.vehicle.Ride.{Ride}
 use Rattle.ride_model.specs.State.{AcceptedRequest}
 use Rattle.ride_model.specs.Batch.{is_waiting}
@@ -22,11 +22,11 @@ use Rattle.request_book.proofs.Places.{places-push, places-marked}
 
 -- the entry of a request that waits
 abbrev pub waiting_entry : Ride → ℕ × Accepted
-waiting_entry ride = (ride.id, record { ride = ride; state = IsWaiting })
+waiting_entry ride = (ride.id, record { ride = ride; state = WaitingState })
 
 -- a request more
 pub requests-push : (entries : List (ℕ × Accepted)) (ride : Ride)
-    → requests_in (entries ++ waiting_entry ride ∷ []) ≡ requests_in entries ++ (record { ride = ride; state = IsWaiting }) ∷ []
+    → requests_in (entries ++ waiting_entry ride ∷ []) ≡ requests_in entries ++ (record { ride = ride; state = WaitingState }) ∷ []
 requests-push entries ride = map-append request_in entries (waiting_entry ride ∷ [])
 
 pub kept-push : (entries : List (ℕ × Accepted)) (ride : Ride) (waiting after : Waiting) → IsKept entries waiting
@@ -35,7 +35,7 @@ pub kept-push : (entries : List (ℕ × Accepted)) (ride : Ride) (waiting after 
     → IsKept (entries ++ waiting_entry ride ∷ []) after
 kept-push entries ride waiting after kept room fresh places capacity =
     let requests = requests_in entries in
-    let more : AcceptedRequest = record { ride = ride; state = IsWaiting } in
+    let more : AcceptedRequest = record { ride = ride; state = WaitingState } in
     let pushed = requests-push entries ride in
     let one_more : length (requests ++ more ∷ []) ≡ length requests + 1 = length-append requests (more ∷ []) in
     record {

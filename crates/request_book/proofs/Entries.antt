@@ -4,6 +4,7 @@ use Rattle.std.specs.Prelude.{map, slice_set, option_map, slice_index_or}
 use Rattle.std.specs.List.{AllByRecursion, IsDistinct}
 use Rattle.std.specs.Map.{lookup, keys_of, values_of}
 use Rattle.std.proofs.lemmas.Bool.{eqb-true}
+use Rattle.plain_lemmas.proofs.Numbers.{eqb-comm}
 use Rattle.indexmap.specs.IndexMap.{set_value_at}
 use Rattle.ride_model.specs.declared.reply.RequestState.{RequestState}
 use Rattle.ride_model.specs.declared.vehicle.Ride.{Ride}
@@ -19,9 +20,6 @@ IsKeyed entry = entry.0 ≡ entry.1.ride.id
 -- the request that a value keeps
 abbrev pub request_by : Accepted → AcceptedRequest
 request_by value = record { ride = value.ride; state = value.state }
-
-eqb-comm : (a b : ℕ) → eqb a b ≡ eqb b a
-eqb-comm a b = grind arith
 
 -- the value under an id is that of the request of the id
 pub looked-up : (id : ℕ) (entries : List (ℕ × Accepted)) → AllByRecursion IsKeyed entries

@@ -1,5 +1,5 @@
 -- The rides at the places that wait.
-use Rattle.std.proofs.Common.{◌≡◌, ℕ, ◌+◌, ◌<◌, ◌≤◌, zero, suc, Bool, true, false, cond, List, [], ◌∷◌, ◌++◌, length, Some, None, slice_get, ltb, refl, sym, ap, ◌∙◌, subst, arith}
+use Rattle.std.proofs.Common.{◌≡◌, ℕ, ◌+◌, ◌<◌, ◌≤◌, zero, suc, Bool, true, false, cond, List, [], ◌∷◌, ◌++◌, length, Some, None, slice_get, ltb, refl, sym, ap, ◌∙◌, subst, arith, add-zero}
 use Rattle.std.specs.Prelude.{map, filter, take}
 use Rattle.std.specs.List.{AllByRecursion}
 use Rattle.std.proofs.lemmas.Bool.{lt-ltb, le-ltb}
@@ -59,10 +59,7 @@ rides-waiting (r ∷ requests) all place same =
     moved k = omega arith
 
     first : ride_at all place ≡ r.ride
-    first = ap (ride_at all) (sym (plus-zero place)) ∙ same 0
-      where
-        plus-zero : (n : ℕ) → n + 0 ≡ n
-        plus-zero n = omega arith
+    first = ap (ride_at all) (sym (add-zero place)) ∙ same 0
 
     by : (b : Bool) → map (ride_at all) (waiting_places (place + 1) requests) ≡ waiting_of requests
         → map (ride_at all) (cond b (place ∷ waiting_places (place + 1) requests) (waiting_places (place + 1) requests))

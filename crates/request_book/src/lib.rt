@@ -5,6 +5,7 @@ ghost use Rattle.std.specs.Prelude.{◌≡◌, ◌<◌, ◌++◌, [], ◌∷◌,
 ghost use Rattle.ride_model.specs.declared.reply.RequestState.TheVariants.{Waiting};
 ghost use Rattle.ride_model.specs.Batch.{is_waiting};
 ghost use Rattle.ride_model.specs.State.{AcceptedRequest};
+ghost use Rattle.ride_model.specs.Limits.{most_requests};
 ghost use Rattle.request_book.specs.Book.{IsBook, request_of, with_state, waiting_of};
 ghost use Rattle.request_book.specs.Marked.{marked};
 
@@ -76,7 +77,7 @@ impl RequestBook {
 
     /// Accepts the request of a ride, which waits.
     pub fn accept(&mut self, ride: Ride) -> Result<(), NoMemory>
-        requires room { length self.old < 100000 }
+        requires room { length self.old < most_requests }
         requires fresh { request_of self.old ride.id ≡ None }
         ensures accepted { OnOk result (self.new ≡ self.old ++ (record { ride = ride; state = Waiting }) ∷ []) }
         ensures refused { OnErr result (self.new ≡ self.old) }

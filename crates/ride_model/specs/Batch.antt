@@ -5,7 +5,7 @@ use Rattle.ride_model.specs.declared.entry.Outcome.{Outcome}
 use Rattle.ride_model.specs.declared.entry.Outcome.TheVariants.{Confirmed, Away, Gone, Moved, Behind}
 use Rattle.ride_model.specs.declared.offer.Seat.{Seat}
 use Rattle.ride_model.specs.declared.reply.RequestState.{RequestState}
-use Rattle.ride_model.specs.declared.reply.RequestState.TheVariants.{Waiting as IsWaiting, InBatch, Confirmed as IsConfirmed, Away as IsAway, Cancelled as IsCancelled}
+use Rattle.ride_model.specs.declared.reply.RequestState.TheVariants.{Waiting as WaitingState, InBatch, Confirmed as ConfirmedState, Away as AwayState, Cancelled as CancelledState}
 use Rattle.ride_model.specs.declared.vehicle.Ride.{Ride}
 use Rattle.ride_model.specs.declared.vehicle.Vehicle.{Vehicle}
 use Rattle.ride_model.specs.Vehicle.{ride_ids}
@@ -17,12 +17,12 @@ use Rattle.ride_model.specs.Step.{raised}
 
 -- whether a request waits
 abbrev pub is_waiting : RequestState → Bool
-is_waiting IsWaiting = true
+is_waiting WaitingState = true
 is_waiting _ = false
 
 -- whether a request was cancelled
 abbrev pub is_cancelled : RequestState → Bool
-is_cancelled IsCancelled = true
+is_cancelled CancelledState = true
 is_cancelled _ = false
 
 -- whether a request is in the batch of this number
@@ -122,14 +122,14 @@ with_confirmed s batch ride seat v =
 abbrev pub confirm : BatchCopy → Ride → Seat → Option (ℕ × Vehicle) → State → State
 confirm batch ride seat None s = s
 confirm batch ride seat (Some placed) s =
-    with_request_state ride.id (IsConfirmed seat.vehicle) (with_vehicle s placed.0 (with_confirmed s batch ride seat placed.1))
+    with_request_state ride.id (ConfirmedState seat.vehicle) (with_vehicle s placed.0 (with_confirmed s batch ride seat placed.1))
 
 -- the state after an outcome: away closes the request, moved and behind let it wait again at its old place
 abbrev pub after_outcome : BatchCopy → Ride → Option Seat → Outcome → State → State
 after_outcome batch ride _ Gone s = s
-after_outcome batch ride _ Away s = with_request_state ride.id (IsAway batch.number) s
-after_outcome batch ride _ (Moved _ _) s = with_request_state ride.id IsWaiting s
-after_outcome batch ride _ (Behind _ _) s = with_request_state ride.id IsWaiting s
+after_outcome batch ride _ Away s = with_request_state ride.id (AwayState batch.number) s
+after_outcome batch ride _ (Moved _ _) s = with_request_state ride.id WaitingState s
+after_outcome batch ride _ (Behind _ _) s = with_request_state ride.id WaitingState s
 after_outcome batch ride None Confirmed s = s
 after_outcome batch ride (Some seat) Confirmed s = confirm batch ride seat (placed_vehicle s seat.vehicle) s
 
@@ -158,4 +158,4 @@ standing_rides batch s = filter (λ (ride : Ride). is_still_in batch.number (req
 
 -- the state after the batch was given up: those of its requests that are still in it wait again
 abbrev pub after_abandon : BatchCopy → State → State
-after_abandon batch s = without_batch batch (with_request_states IsWaiting (standing_rides batch s) s)
+after_abandon batch s = without_batch batch (with_request_states WaitingState (standing_rides batch s) s)

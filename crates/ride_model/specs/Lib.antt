@@ -1,3 +1,5 @@
+pub mod Limits
+pub mod Refusals
 pub mod Road
 pub mod Fleet
 pub mod Loads

@@ -1,6 +1,7 @@
 -- Road maps, walks and travel times.
 use Rattle.std.specs.Prelude.{◌≡◌, ℕ, zero, suc, ◌+◌, ◌≤◌, min, ◌==◌, if◌then◌else◌, List, [], ◌∷◌, length, map, filter, All, Contains, sum_by, Option, Some, None, option_map}
 use Rattle.ride_model.specs.declared.network.RoadArc.{RoadArc}
+use Rattle.ride_model.specs.Limits.{longest_arc, most_arcs, most_nodes}
 
 -- a road map: nodes 1 to nodes, and directed arcs among them
 pub record RoadMap : Type 0 where
@@ -13,13 +14,13 @@ IsNode map x = (1 ≤ x) × (x ≤ map.nodes)
 
 -- an arc joins two nodes, in at most 10^9 seconds
 abbrev pub IsArc : RoadMap → RoadArc → Type 0
-IsArc map arc = IsNode map arc.tail × IsNode map arc.head × (arc.seconds ≤ 1000000000)
+IsArc map arc = IsNode map arc.tail × IsNode map arc.head × (arc.seconds ≤ longest_arc)
 
 -- the limits of a map
 pub record IsRoadMap (map : RoadMap) : Type 0 where
   pub some_node : 1 ≤ map.nodes
-  pub nodes_limit : map.nodes ≤ 500000
-  pub arcs_limit : length map.arcs ≤ 2000000
+  pub nodes_limit : map.nodes ≤ most_nodes
+  pub arcs_limit : length map.arcs ≤ most_arcs
   pub arcs_fit : All (IsArc map) map.arcs
 
 -- a walk from x to y: arcs of the map, the first from x, each from where the one before it ends, the last to y;

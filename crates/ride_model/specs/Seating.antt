@@ -10,6 +10,7 @@ use Rattle.ride_model.specs.Road.{RoadMap}
 use Rattle.ride_model.specs.Settings.{IsSettings}
 use Rattle.ride_model.specs.Vehicle.{IsRide, IsFresh, IsRouted, ride_ids}
 use Rattle.ride_model.specs.Offers.{offer_of, price}
+use Rattle.ride_model.specs.Limits.{largest_batch}
 
 -- a batch: its number, the desk that opened it, its time, the settings, its requests in order of acceptance, and copies
 -- of all vehicles in fleet order
@@ -24,7 +25,7 @@ pub record BatchCopy : Type 0 where
 -- a batch whose vehicles are in order, and whose requests fit the map, wait, and are in no vehicle
 pub record IsBatchOver (roads : RoadMap) (batch : BatchCopy) : Type 0 where
   pub settings_fit : IsSettings batch.settings
-  pub few : length batch.requests ≤ 128
+  pub few : length batch.requests ≤ largest_batch
   pub vehicles_fit : All (IsRouted roads) batch.vehicles
   pub rides_fit : All (IsRide roads) batch.requests
   pub rides_wait : All (λ (ride : Ride). ride.picked ≡ None) batch.requests

@@ -1,15 +1,16 @@
 -- The ranges of the settings.
 use Rattle.std.specs.Prelude.{◌≤◌}
 use Rattle.ride_model.specs.declared.settings.Settings.{Settings}
+use Rattle.ride_model.specs.Limits.{greatest_penalty, greatest_weight, largest_batch, longest_dwell, longest_lead}
 
 -- the settings are within their ranges
 pub record IsSettings (settings : Settings) : Type 0 where
   pub some_batch : 1 ≤ settings.batch
-  pub batch_limit : settings.batch ≤ 128
-  pub penalty_limit : settings.penalty ≤ 1000000000000
-  pub drive_limit : settings.drive ≤ 1000
-  pub wait_limit : settings.wait ≤ 1000
-  pub lead_limit : settings.lead ≤ 3600
-  pub dwell_limit : settings.dwell ≤ 3600
+  pub batch_limit : settings.batch ≤ largest_batch
+  pub penalty_limit : settings.penalty ≤ greatest_penalty
+  pub drive_limit : settings.drive ≤ greatest_weight
+  pub wait_limit : settings.wait ≤ greatest_weight
+  pub lead_limit : settings.lead ≤ longest_lead
+  pub dwell_limit : settings.dwell ≤ longest_dwell
   pub log_first : 1 ≤ settings.log
   pub log_limit : settings.log ≤ 2

@@ -5,7 +5,7 @@ use Rattle.ride_model.specs.declared.command.Command.TheVariants.{Request, Cance
 use Rattle.ride_model.specs.declared.reply.Reply.{Reply}
 use Rattle.ride_model.specs.declared.reply.Reply.TheVariants.{Waiting, Cancelled, Freed, OnMap, Late, Picked, Dropped, Duty, Now, Asked, Noted, Refused}
 use Rattle.ride_model.specs.declared.reply.RequestState.{RequestState}
-use Rattle.ride_model.specs.declared.reply.RequestState.TheVariants.{Waiting as IsWaiting, InBatch, Confirmed, Aboard, Done as IsDone, Away, Cancelled as IsCancelled}
+use Rattle.ride_model.specs.declared.reply.RequestState.TheVariants.{Waiting as WaitingState, InBatch, Confirmed, Aboard, Done as DoneState, Away, Cancelled as CancelledState}
 use Rattle.ride_model.specs.declared.vehicle.Kind.{Kind}
 use Rattle.ride_model.specs.declared.vehicle.Kind.TheVariants.{Pickup, Dropoff}
 use Rattle.ride_model.specs.declared.vehicle.Ride.{Ride}
@@ -15,6 +15,8 @@ use Rattle.ride_model.specs.Road.{RoadMap, travel}
 use Rattle.ride_model.specs.Keeps.{broken_of}
 use Rattle.ride_model.specs.Insertion.{with_plan, rides_without, rerouted, without_ride}
 use Rattle.ride_model.specs.State.{State, AcceptedRequest, accepted_request, with_request_state, placed_vehicle, with_vehicle}
+use Rattle.ride_model.specs.Limits.{latest_ready, latest_time, longest_ride, most_batches, most_chairs, most_requests, most_seats}
+use Rattle.ride_model.specs.Refusals.{batches_full, day_over, end_off_map, known_id, no_stop, no_way, not_at_stop, odd_load, odd_time, report_off_map, report_too_early, request_closed, requests_full, rider_aboard, same_ends, unknown_request, unknown_vehicle}
 
 -- a command's outcome: the state after it, and the reply
 pub record Answered : Type 0 where
@@ -35,17 +37,17 @@ raised v = record v { version = v.version + 1 }
 
 -- the state after a request was accepted
 abbrev pub with_accepted : State → Ride → State
-with_accepted s ride = record s { requests = s.requests ++ (record { ride = ride; state = IsWaiting }) ∷ [] }
+with_accepted s ride = record s { requests = s.requests ++ (record { ride = ride; state = WaitingState }) ∷ [] }
 
 -- request ID FROM TO SEATS LATEST LONGEST CHAIRS
 unfoldable pub request_step : State → ℕ → ℕ → ℕ → ℕ → ℕ → ℕ → ℕ → Answered
 request_step s id from to seats latest longest chairs =
-    if is_some (accepted_request s id) then refused s 1
-    else if not (is_node s.roads from && is_node s.roads to) then refused s 2
-    else if from == to then refused s 3
-    else if nat_lt 8 seats || nat_lt 4 chairs || seats + chairs == 0 then refused s 4
-    else if nat_lt 1000000000 latest || longest == 0 || nat_lt 1000000 longest then refused s 5
-    else if nat_le 100000 (length s.requests) then refused s 6
+    if is_some (accepted_request s id) then refused s known_id
+    else if not (is_node s.roads from && is_node s.roads to) then refused s end_off_map
+    else if from == to then refused s same_ends
+    else if nat_lt most_seats seats || nat_lt most_chairs chairs || seats + chairs == 0 then refused s odd_load
+    else if nat_lt latest_time latest || longest == 0 || nat_lt longest_ride longest then refused s odd_time
+    else if nat_le most_requests (length s.requests) then refused s requests_full
     else record {
       state = with_accepted s (record { id = id; from = from; to = to; seats = seats; chairs = chairs; latest = latest; longest = longest; picked = None });
       reply = Waiting;
@@ -53,28 +55,28 @@ request_step s id from to seats latest longest chairs =
 
 -- a request that no vehicle has promised is cancelled
 abbrev pub cancelled : State → ℕ → Answered
-cancelled s id = record { state = with_request_state id IsCancelled s; reply = Cancelled }
+cancelled s id = record { state = with_request_state id CancelledState s; reply = Cancelled }
 
 -- a request that a vehicle has promised is cancelled: the ride and its two stops leave the plan
 abbrev pub freed : State → ℕ → ℕ → Option (ℕ × Vehicle) → Answered
-freed s id vehicle None = refused s 10
+freed s id vehicle None = refused s unknown_vehicle
 freed s id vehicle (Some placed) = record {
-  state = with_request_state id IsCancelled (with_vehicle s placed.0 (raised (without_ride s.roads placed.1 id)));
+  state = with_request_state id CancelledState (with_vehicle s placed.0 (raised (without_ride s.roads placed.1 id)));
   reply = Freed vehicle;
 }
 
 -- a cancellation, by what has become of the request
 abbrev pub cancel_by_state : State → ℕ → RequestState → Answered
-cancel_by_state s id (Aboard _) = refused s 8
-cancel_by_state s id IsDone = refused s 9
-cancel_by_state s id (Away _) = refused s 9
-cancel_by_state s id IsCancelled = refused s 9
-cancel_by_state s id IsWaiting = cancelled s id
+cancel_by_state s id (Aboard _) = refused s rider_aboard
+cancel_by_state s id DoneState = refused s request_closed
+cancel_by_state s id (Away _) = refused s request_closed
+cancel_by_state s id CancelledState = refused s request_closed
+cancel_by_state s id WaitingState = cancelled s id
 cancel_by_state s id (InBatch _) = cancelled s id
 cancel_by_state s id (Confirmed vehicle) = freed s id vehicle (placed_vehicle s vehicle)
 
 abbrev pub cancel_found : State → ℕ → Option AcceptedRequest → Answered
-cancel_found s id None = refused s 7
+cancel_found s id None = refused s unknown_request
 cancel_found s id (Some request) = cancel_by_state s id request.state
 
 -- cancel ID
@@ -91,7 +93,7 @@ report_reply s after new old = if nat_le new old then OnMap else Late (new - old
 
 -- a report of a driving vehicle, by the travel time from the reported node to the first stop
 abbrev pub report_driving : State → ℕ → Vehicle → Vehicle → ℕ → Option ℕ → Answered
-report_driving s place v after old None = refused s 13
+report_driving s place v after old None = refused s no_way
 report_driving s place v after old (Some leg) =
     record { state = with_vehicle s place after; reply = report_reply s after (after.ready + leg) old }
 
@@ -102,11 +104,11 @@ report s place v after (first ∷ _) =
     report_driving s place v after (v.ready + first.leg) (travel s.roads after.at first.node)
 
 abbrev pub at_found : State → ℕ → ℕ → Option (ℕ × Vehicle) → Answered
-at_found s node time None = refused s 10
+at_found s node time None = refused s unknown_vehicle
 at_found s node time (Some placed) =
-    if not (is_node s.roads node) then refused s 11
-    else if nat_lt 1000000000 time then refused s 5
-    else if nat_lt time placed.1.ready then refused s 12
+    if not (is_node s.roads node) then refused s report_off_map
+    else if nat_lt latest_time time then refused s odd_time
+    else if nat_lt time placed.1.ready then refused s report_too_early
     else report s placed.0 placed.1 (reported s node time placed.1) placed.1.stops.items
 
 -- at VEHICLE NODE TIME
@@ -132,13 +134,13 @@ served_reply stop Dropoff = Dropped stop.ride
 
 abbrev pub served_state : Vehicle → Kind → RequestState
 served_state v Pickup = Aboard v.id
-served_state v Dropoff = IsDone
+served_state v Dropoff = DoneState
 
 abbrev pub done_at_stop : State → ℕ → Vehicle → List Stop → Answered
-done_at_stop s place v [] = refused s 14
+done_at_stop s place v [] = refused s no_stop
 done_at_stop s place v (stop ∷ rest) =
-    if not (v.at == stop.node) then refused s 15
-    else if nat_lt 1000003600 (v.ready + s.settings.dwell) then refused s 17
+    if not (v.at == stop.node) then refused s not_at_stop
+    else if nat_lt latest_ready (v.ready + s.settings.dwell) then refused s day_over
     else record {
       state = with_request_state stop.ride (served_state v stop.kind)
           (with_vehicle s place (raised (served s.settings.dwell v stop rest stop.kind)));
@@ -146,7 +148,7 @@ done_at_stop s place v (stop ∷ rest) =
     }
 
 abbrev pub done_found : State → Option (ℕ × Vehicle) → Answered
-done_found s None = refused s 10
+done_found s None = refused s unknown_vehicle
 done_found s (Some placed) = done_at_stop s placed.0 placed.1 placed.1.stops.items
 
 -- done VEHICLE
@@ -154,7 +156,7 @@ unfoldable pub done_step : State → ℕ → Answered
 done_step s vehicle = done_found s (placed_vehicle s vehicle)
 
 abbrev pub duty_found : State → Bool → Option (ℕ × Vehicle) → Answered
-duty_found s duty None = refused s 10
+duty_found s duty None = refused s unknown_vehicle
 duty_found s duty (Some placed) =
     record { state = with_vehicle s placed.0 (raised (record placed.1 { duty = duty })); reply = Duty }
 
@@ -165,13 +167,13 @@ duty_step s vehicle duty = duty_found s duty (placed_vehicle s vehicle)
 -- clock TIME
 unfoldable pub clock_step : State → ℕ → Answered
 clock_step s time =
-    if nat_lt 1000000000 time then refused s 5
+    if nat_lt latest_time time then refused s odd_time
     else record { state = record s { clock = max time s.clock }; reply = Now (max time s.clock) }
 
 -- batch
 unfoldable pub ask_step : State → Answered
 ask_step s =
-    if nat_le 2000 s.asked then refused s 16
+    if nat_le most_batches s.asked then refused s batches_full
     else record { state = record s { asked = s.asked + 1 }; reply = Asked (s.asked + 1) }
 
 -- a command

@@ -8,18 +8,19 @@ use Rattle.ride_model.specs.declared.vehicle.Stop.{Stop}
 use Rattle.ride_model.specs.declared.vehicle.Vehicle.{Vehicle}
 use Rattle.ride_model.specs.Road.{RoadMap, IsRoadMap, IsNode, travel}
 use Rattle.ride_model.specs.Loads.{loads_fit}
+use Rattle.ride_model.specs.Limits.{latest_ready, latest_time, longest_ride, most_seats}
 
 -- a ride joins two different nodes, has a load and has limits in their ranges
 pub record IsRide (map : RoadMap) (ride : Ride) : Type 0 where
   pub from_node : IsNode map ride.from
   pub to_node : IsNode map ride.to
   pub nodes_differ : ride.from ≢ ride.to
-  pub seats_limit : ride.seats ≤ 8
+  pub seats_limit : ride.seats ≤ most_seats
   pub chairs_limit : ride.chairs ≤ 4
   pub some_load : 1 ≤ ride.seats + ride.chairs
-  pub latest_limit : ride.latest ≤ 1000000000
+  pub latest_limit : ride.latest ≤ latest_time
   pub some_seconds : 1 ≤ ride.longest
-  pub longest_limit : ride.longest ≤ 1000000
+  pub longest_limit : ride.longest ≤ longest_ride
 
 -- the visits that a ride still needs, in order, by whether its rider is aboard
 abbrev pub visits_due : Ride → Option ℕ → List (Kind × ℕ)
@@ -59,7 +60,7 @@ pub record IsRouted (map : RoadMap) (v : Vehicle) : Type 0 where
   pub seats_limit : v.seats ≤ 16
   pub chairs_limit : v.chairs ≤ 4
   pub at_node : IsNode map v.at
-  pub ready_limit : v.ready ≤ 1000003600
+  pub ready_limit : v.ready ≤ latest_ready
   pub rides_fit : All (IsRide map) v.rides.items
   pub picked_before : All (λ (ride : Ride). IfSome ride.picked (λ picked. picked ≤ v.ready)) v.rides.items
   pub planned : IsPlanFor v.rides.items v.stops.items

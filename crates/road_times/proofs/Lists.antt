@@ -4,6 +4,7 @@ use Rattle.std.specs.Prelude.{Option, Some, None, is_some, count_by, replicate}
 use Rattle.std.proofs.lemmas.Bool.{cases_eq}
 use Rattle.std.proofs.lemmas.List.{get_or-set_same, get_or-set_other, length-set}
 use Rattle.std.proofs.lemmas.List.Sums.{sum_by-cons, sum_by-set, count_by-le-length}
+use Rattle.plain_lemmas.proofs.Options.{none_from_is_some}
 use Rattle.road_times.specs.Search.{label_of, IsListed}
 
 -- a write at a place, seen from any place
@@ -139,10 +140,6 @@ listed-none labels settled sized none = record {
   inside = λ place before. absurd (omega arith);
   listed = λ node label has. (let both : Some label ≡ None = sym has ∙ none node in absurd (cc both));
 }
-
-pub none_from_not_some : (o : Option ℕ) → is_some o ≡ false → o ≡ None
-none_from_not_some None e = refl
-none_from_not_some (Some label) e = cc e
 
 pub some_from_is_some : (o : Option ℕ) → is_some o ≡ true → (label : ℕ) × (o ≡ Some label)
 some_from_is_some None e = cc e

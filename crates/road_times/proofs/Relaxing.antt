@@ -2,12 +2,10 @@
 use Rattle.std.proofs.Common.{◌≡◌, ◌≢◌, ℕ, ◌+◌, ◌≤◌, ◌⊎◌, inl, inr, List, length, refl, sym, ◌∙◌, ap, subst, arith}
 use Rattle.std.specs.Prelude.{Option, Some, None, slice_get}
 use Rattle.std.proofs.lemmas.Bool.{cases_eq, cases_lt}
+use Rattle.std.proofs.lemmas.Option.{same_Some}
 use Rattle.radix_queue.specs.Queue.{Queue, key_of, lesser_key, IsAboveFloor}
 use Rattle.road_times.specs.declared.adjacency.Neighbor.{Neighbor}
 use Rattle.road_times.specs.Search.{label_of, IsReached, IsOffered, IsRelaxed}
-
-same_some : {X : Type 0} (a b : X) → Some a ≡ Some b → a ≡ b
-same_some a b e = cc e
 
 offered-more : (labels : List (Option ℕ)) (neighbors : List Neighbor) (count label node key : ℕ)
     → IsOffered labels neighbors count label node key → IsOffered labels neighbors (count + 1) label node key
@@ -40,7 +38,7 @@ pub relaxed-settled : (labels : List (Option ℕ)) (neighbors : List Neighbor) (
 relaxed-settled labels neighbors count label old now neighbor r here had has low = record {
   reached = λ place other before stands. elim (cases_eq place count) [
     | inl same ↦
-        let one : neighbor ≡ other = same_some neighbor other (sym here ∙ ap (slice_get neighbors) (sym same) ∙ stands) in
+        let one : neighbor ≡ other = same_Some neighbor other (sym here ∙ ap (slice_get neighbors) (sym same) ∙ stands) in
         subst (λ (n : Neighbor). IsReached labels now n.node (label + n.seconds)) one (inl (had, has, omega (arith, low)))
     | inr differs ↦ r.reached place other (omega arith) stands
   ];
@@ -65,7 +63,7 @@ pub relaxed-put : (labels : List (Option ℕ)) (neighbors : List Neighbor) (coun
 relaxed-put labels neighbors count label old now next neighbor r here unsettled put others floor rooms above = record {
   reached = λ place other before stands. elim (cases_eq place count) [
     | inl same ↦
-        let one : neighbor ≡ other = same_some neighbor other (sym here ∙ ap (slice_get neighbors) (sym same) ∙ stands) in
+        let one : neighbor ≡ other = same_Some neighbor other (sym here ∙ ap (slice_get neighbors) (sym same) ∙ stands) in
         subst (λ (n : Neighbor). IsReached labels next n.node (label + n.seconds)) one
         (inr (lesser_key (key_of now neighbor.node) key, put, lesser-le (key_of now neighbor.node)))
     | inr differs ↦ kept other.node (label + other.seconds) (r.reached place other (omega arith) stands)
@@ -76,7 +74,7 @@ relaxed-put labels neighbors count label old now next neighbor r here unsettled 
       (lesser, next_is, omega (arith, low, lower));
   given = λ node had is. elim (cases_eq node neighbor.node) [
     | inr differs ↦ earlier node had (sym (others node differs) ∙ is)
-    | inl same ↦ at_neighbor node had same (key_of now neighbor.node) refl (same_some _ _ (sym put ∙ ap (key_of next) (sym same) ∙ is))
+    | inl same ↦ at_neighbor node had same (key_of now neighbor.node) refl (same_Some _ _ (sym put ∙ ap (key_of next) (sym same) ∙ is))
   ];
   floor = floor ∙ r.floor;
   rooms = rooms ∙ r.rooms;
@@ -92,7 +90,7 @@ relaxed-put labels neighbors count label old now next neighbor r here unsettled 
 
     lesser-falls : (o : Option ℕ) (had : ℕ) → o ≡ Some had → lesser_key o key ≤ had
     lesser-falls None had e = cc e
-    lesser-falls (Some h) had e = let one : h ≡ had = same_some h had e in omega (arith, one)
+    lesser-falls (Some h) had e = let one : h ≡ had = same_Some h had e in omega (arith, one)
 
     falls : (node had : ℕ) → key_of now node ≡ Some had → (less : ℕ) × (key_of next node ≡ Some less) × (less ≤ had)
     falls node had is = elim (cases_eq node neighbor.node) [

@@ -5,7 +5,7 @@ use Rattle.std.proofs.lemmas.Bool.{cases_eq}
 use Rattle.std.proofs.lemmas.List.{length-set}
 use Rattle.std.proofs.lemmas.List.Elements.{All-contains}
 use Rattle.std.proofs.lemmas.List.Sums.{sum_by-append}
-use Rattle.std.proofs.lemmas.Option.{slice_get_within}
+use Rattle.std.proofs.lemmas.Option.{slice_get_within, same_Some}
 use Rattle.ride_model.specs.declared.network.RoadArc.{RoadArc}
 use Rattle.ride_model.specs.Road.{RoadMap, IsArc, IsRoadMap, IsWalk, IsLeastWeight, weight_of, travel}
 use Rattle.model_laws.proofs.Walks.{weight-cons, walk-append}
@@ -100,7 +100,7 @@ search-settled roads source labels queue taken node key fits s least gone others
   rooms = size ∙ s.rooms ∙ sym (length-set labels node (Some key));
   settled = λ other label has. elim (set_cases labels node other (Some key) inside) [
     | inl (same, now) ↦
-        let one : key ≡ label = some_is key label (sym now ∙ has) in
+        let one : key ≡ label = same_Some key label (sym now ∙ has) in
         subst (λ n. IsLeastWeight roads source n label) (sym same)
         (subst (λ k. IsLeastWeight roads source node k) one (least_is_weight roads source labels queue node key fits s least))
     | inr (differs, now) ↦ s.settled other label (sym now ∙ has)
@@ -112,7 +112,7 @@ search-settled roads source labels queue taken node key fits s least gone others
   ];
   below = λ other label has. elim (set_cases labels node other (Some key) inside) [
     | inl (same, now) ↦
-        let one : key ≡ label = some_is key label (sym now ∙ has) in
+        let one : key ≡ label = same_Some key label (sym now ∙ has) in
         omega (arith, floor, one)
     | inr (differs, now) ↦ omega (arith, floor, s.below other label (sym now ∙ has), s.above node key least.here)
   ];
@@ -126,9 +126,6 @@ search-settled roads source labels queue taken node key fits s least gone others
   ];
 }
   where
-    some_is : (a b : ℕ) → Some a ≡ Some b → a ≡ b
-    some_is a b e = cc e
-
     inside : node < length labels
     inside = omega (arith, key_in-within queue.keys node key least.here, s.rooms)
 
@@ -146,7 +143,7 @@ search-settled roads source labels queue taken node key fits s least gone others
     ]
     reached other limit (inr (had, is, low)) = elim (set_cases labels node other (Some key) inside) [
       | inl (same, now) ↦
-          let one : key ≡ had = some_is key had (sym least.here ∙ ap (key_of queue) (sym same) ∙ is) in
+          let one : key ≡ had = same_Some key had (sym least.here ∙ ap (key_of queue) (sym same) ∙ is) in
           inl (key, now, omega (arith, one, low))
       | inr (differs, now) ↦ inr (had, others other differs ∙ is, low)
     ]
@@ -177,15 +174,12 @@ search-relaxed roads source labels queue relaxed adjacency node label fits packe
         let (place, here) = packed.complete arc there in
         let stands : slice_get (neighbors_at adjacency node) place ≡ Some (neighbor_of arc)
         = ap (λ n. slice_get (neighbors_at adjacency n) place) (sym same ∙ sym tail) ∙ here in
-        let one : label ≡ had = some_is label had (sym has ∙ ap (label_of labels) (sym same) ∙ is) in
+        let one : label ≡ had = same_Some label had (sym has ∙ ap (label_of labels) (sym same) ∙ is) in
         subst (λ l. IsReached labels relaxed arc.head (l + arc.seconds)) one
         (r.reached place (neighbor_of arc) (slice_get_within (neighbors_at adjacency node) place (neighbor_of arc) stands) stands)
   ];
 }
   where
-    some_is : (a b : ℕ) → Some a ≡ Some b → a ≡ b
-    some_is a b e = cc e
-
     in_map : node ≤ roads.nodes
     in_map = omega (arith, label_within labels node label has, s.sized)
 
@@ -219,7 +213,7 @@ search-begun roads source labels queue sized rooms none here others floor = reco
   queued = λ node key is. elim (cases_eq node source) [
     | inl same ↦
         let zero_is : Some 0 ≡ Some key = sym here ∙ ap (key_of queue) (sym same) ∙ is in
-        ([], sym same, some_is 0 key zero_is)
+        ([], sym same, same_Some 0 key zero_is)
     | inr differs ↦ (let both : Some key ≡ None = sym is ∙ others node differs in absurd (cc both))
   ];
   apart = λ node key is. none node;
@@ -229,8 +223,5 @@ search-begun roads source labels queue sized rooms none here others floor = reco
   onward = λ node label arc proper has there tail. unlabelled node label has;
 }
   where
-    some_is : (a b : ℕ) → Some a ≡ Some b → a ≡ b
-    some_is a b e = cc e
-
     unlabelled : {P : Type 0} → (node label : ℕ) → label_of labels node ≡ Some label → P
     unlabelled node label has = let both : Some label ≡ None = sym has ∙ none node in absurd (cc both)

@@ -2,6 +2,9 @@
 use Rattle.std.proofs.Common.{◌≡◌, ℕ, ◌+◌, ◌-◌, ◌<◌, ◌≤◌, ◌⊎◌, inl, inr, Bool, true, false, cond, ◌&&◌, length, leb, leb-true, le-leb, refl, sym, ◌∙◌, ap, subst, arith}
 use Rattle.std.specs.Prelude.{map, Some, None, option_map}
 use Rattle.std.specs.List.{range_with_len}
+use Rattle.std.proofs.lemmas.Bool.{and_from, and_parts}
+use Rattle.std.proofs.lemmas.Option.{same_Some}
+use Rattle.plain_lemmas.proofs.Numbers.{less_or_same, le_or_lt}
 use Rattle.ride_model.specs.declared.offer.Joins.{Joins}
 use Rattle.ride_model.specs.declared.offer.Offer.{Offer}
 use Rattle.ride_model.specs.declared.settings.Settings.{Settings}
@@ -12,7 +15,6 @@ use Rattle.ride_model.specs.Vehicle.{IsRouted}
 use Rattle.ride_model.specs.Loads.{loads_fit}
 use Rattle.ride_model.specs.Keeps.{keeps}
 use Rattle.ride_model.specs.Offers.{is_open, start_of, joins_of, offer_of, offer_of_plan, price, cost_of as plan_cost}
-use Rattle.model_laws.proofs.AboardLoads.{and-true, true-and}
 use Rattle.model_laws.proofs.Costs.{offer_plan}
 use Rattle.stop_plans.proofs.InsertedLegs.{inserts-into}
 use Rattle.promises.proofs.Visits.{length-times, keeps-vehicle}
@@ -58,9 +60,6 @@ some_with roads settings v ride near time i j joins asked room in_order within =
           (together (omega (arith, in_order, within)))
     ]
   where
-    less_or_same : (a b : ℕ) → a ≤ b → (a < b) ⊎ (a ≡ b)
-    less_or_same a b h = grind arith
-
     together : i ≤ length v.stops.items → joins_near near i i ≡ Some joins → IsRouted roads (with_ride v ride i i joins)
         → SomeWith roads v ride i i joins (start_of v settings.lead time) settings.dwell
     together inside some routed =
@@ -90,7 +89,7 @@ late-no-offer roads settings v ride near time i j asked open_now room late_now i
     start = start_of v settings.lead time
 
     may : (is_open v time && leb i j && leb j (length v.stops.items)) ≡ true
-    may = true-and _ (leb j (length v.stops.items)) (true-and (is_open v time) (leb i j) open_now (le-leb i j in_order))
+    may = and_from _ (leb j (length v.stops.items)) (and_from (is_open v time) (leb i j) open_now (le-leb i j in_order))
         (le-leb j (length v.stops.items) within)
 
     broken : (joins : Joins) → SomeWith roads v ride i j joins start settings.dwell
@@ -111,7 +110,7 @@ late-no-offer roads settings v ride near time i j asked open_now room late_now i
               let fits = kept_fits roads v ride i j joins start settings.dwell w.late w.pickup w.more w.dropoff w.is_with kept in
               let now : keeps v start settings.dwell ≡ true
               = sym (keeps-vehicle v start settings.dwell (roads, asked.map_fits, asked.lawful.routed) (omega (arith, room)))
-              ∙ true-and _ (loads_fit v) fits.old asked.lawful.loads in
+              ∙ and_from _ (loads_fit v) fits.old asked.lawful.loads in
               absurd (cc (late_now, now))
           | false ↦ λ _. refl
         ] refl
@@ -134,13 +133,10 @@ pub no-price : (roads : RoadMap) (settings : Settings) (v : Vehicle) (ride : Rid
     → None ≡ price roads settings v ride time
 no-price roads settings v ride near time asked may_not = price-none roads settings v ride time by_cause
   where
-    le_or_lt : (a b : ℕ) → (a ≤ b) ⊎ (b < a)
-    le_or_lt a b = grind arith
-
     open_at : (i j : ℕ) → i ≤ j → j ≤ length v.stops.items → is_open v time ≡ true →
         (is_open v time && leb i j && leb j (length v.stops.items)) ≡ true
     open_at i j in_order within open_now =
-        true-and _ (leb j (length v.stops.items)) (true-and (is_open v time) (leb i j) open_now (le-leb i j in_order))
+        and_from _ (leb j (length v.stops.items)) (and_from (is_open v time) (leb i j) open_now (le-leb i j in_order))
         (le-leb j (length v.stops.items) within)
 
     late : (b : Bool) → keeps v (start_of v settings.lead time) settings.dwell ≡ b → is_open v time ≡ true → length v.stops.items ≤ 14
@@ -149,8 +145,8 @@ no-price roads settings v ride near time asked may_not = price-none roads settin
     late true is open_now few =
         absurd (cc (
           may_not,
-          true-and _ (keeps v (start_of v settings.lead time) settings.dwell)
-              (true-and (is_open v time) (leb (length v.stops.items) 14) open_now (le-leb (length v.stops.items) 14 few)) is,
+          and_from _ (keeps v (start_of v settings.lead time) settings.dwell)
+              (and_from (is_open v time) (leb (length v.stops.items) 14) open_now (le-leb (length v.stops.items) 14 few)) is,
         ))
 
     by_cause : (i j : ℕ) → i ≤ j → j ≤ length v.stops.items → None ≡ cost_if_any (offer_of roads settings v ride time i j)
@@ -175,9 +171,9 @@ pub may_offer : (settings : Settings) (v : Vehicle) (time : ℕ)
     → (is_open v time && leb (length v.stops.items) 14 && keeps v (start_of v settings.lead time) settings.dwell) ≡ true
     → MayOffer settings v time
 may_offer settings v time h =
-    let (first, on_time) = and-true (is_open v time && leb (length v.stops.items) 14)
+    let (first, on_time) = and_parts (is_open v time && leb (length v.stops.items) 14)
     (keeps v (start_of v settings.lead time) settings.dwell) h in
-    let (open_now, few) = and-true (is_open v time) (leb (length v.stops.items) 14) first in
+    let (open_now, few) = and_parts (is_open v time) (leb (length v.stops.items) 14) first in
     record { is_open_now = open_now; few = leb-true (length v.stops.items) 14 few; on_time = on_time }
 
 -- the least cost by the tables is the price
@@ -231,12 +227,9 @@ offered-is roads settings v ride near time found asked may is =
           ∙ ap (option_map (λ new. joins_of new found.i found.j)) plan.inserted_is in
           ap (option_map (offer_with found (start_of v settings.lead time))) joins
           ∙ ap (λ n. Some (record { i = found.i; j = found.j; cost = n; start = start_of v settings.lead time; joins = joins_of plan.new found.i found.j }))
-          (sym (same offer.cost found.cost cost) ∙ ap (λ (o : Offer). o.cost) plan.plan.offer_is)
+          (sym (same_Some offer.cost found.cost cost) ∙ ap (λ (o : Offer). o.cost) plan.plan.offer_is)
           ∙ ap Some (sym plan.plan.offer_is)
     ] refl costs
-  where
-    same : (a b : ℕ) → Some a ≡ Some b → a ≡ b
-    same a b h = cc h
 
 -- the terms, the tables and the start of a search are those of the vehicle
 pub record IsOf (settings : Settings) (v : Vehicle) (ride : Ride) (time : ℕ) (terms : Terms) (slack : PlanSlack)

@@ -1,6 +1,7 @@
 -- Arrivals of a plan with one stop more: one arrival more, and those behind it later.
 use Rattle.std.proofs.Common.{◌≡◌, ℕ, zero, suc, ◌+◌, ◌<◌, ◌≤◌, List, [], ◌∷◌, length, slice_index, refl, ◌∙◌, ap, arith}
 use Rattle.std.specs.Prelude.{insert}
+use Rattle.plain_lemmas.proofs.Numbers.{swap-last}
 use Rattle.ride_model.specs.declared.vehicle.Stop.{Stop}
 use Rattle.ride_model.specs.Times.{times_from}
 use Rattle.stop_plans.specs.Legged.{relegged, with_stop}
@@ -12,17 +13,14 @@ delayed place d [] = []
 delayed zero d (t ∷ ts) = (t + d) ∷ delayed zero d ts
 delayed (suc place) d (t ∷ ts) = t ∷ delayed place d ts
 
-swap : (a d b : ℕ) → a + d + b ≡ a + b + d
-swap a d b = omega arith
-
 -- who leaves later arrives as much later
 pub times-later : (dwell leave d : ℕ) (stops : List Stop) → times_from dwell (leave + d) stops ≡ delayed zero d
     (times_from dwell leave stops)
 times-later dwell leave d [] = refl
 times-later dwell leave d (s ∷ stops) =
-    ap (λ n. n ∷ times_from dwell (n + dwell) stops) (swap leave d s.leg)
+    ap (λ n. n ∷ times_from dwell (n + dwell) stops) (swap-last leave d s.leg)
     ∙ ap (λ xs. (leave + s.leg + d) ∷ xs)
-    (ap (λ n. times_from dwell n stops) (swap (leave + s.leg) d dwell) ∙ times-later dwell (leave + s.leg + dwell) d stops)
+    (ap (λ n. times_from dwell n stops) (swap-last (leave + s.leg) d dwell) ∙ times-later dwell (leave + s.leg + dwell) d stops)
 
 -- the arrivals with one stop more, from which the stop behind it is reached later by d
 pub times-with : (dwell leave place : ℕ) (x : Stop) (after d : ℕ) (stops : List Stop) → place ≤ length stops
@@ -34,7 +32,7 @@ times-with dwell leave zero x after d [] within reaches = refl
 times-with dwell leave zero x after d (s ∷ stops) within reaches =
     ap (λ n. (leave + x.leg) ∷ n ∷ times_from dwell (n + dwell) stops) (reached (reaches (omega arith)))
     ∙ ap (λ xs. (leave + x.leg) ∷ (leave + s.leg + d) ∷ xs)
-    (ap (λ n. times_from dwell n stops) (swap (leave + s.leg) d dwell) ∙ times-later dwell (leave + s.leg + dwell) d stops)
+    (ap (λ n. times_from dwell n stops) (swap-last (leave + s.leg) d dwell) ∙ times-later dwell (leave + s.leg + dwell) d stops)
   where
     reached : d + (leave + s.leg) ≡ leave + x.leg + dwell + after → leave + x.leg + dwell + after ≡ leave + s.leg + d
     reached h = omega (arith, h)

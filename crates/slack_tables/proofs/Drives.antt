@@ -2,6 +2,7 @@
 use Rattle.std.proofs.Common.{◌≡◌, ℕ, zero, suc, ◌+◌, ◌<◌, ◌≤◌, List, [], ◌∷◌, length, slice_index, refl, sym, ◌∙◌, ap, arith}
 use Rattle.std.specs.Prelude.{insert, Some, None, unwrap_or}
 use Rattle.std.specs.List.{last_or}
+use Rattle.insertion.proofs.PlanTimes.{last-is}
 use Rattle.ride_model.specs.declared.vehicle.Stop.{Stop}
 use Rattle.ride_model.specs.declared.vehicle.Vehicle.{Vehicle}
 use Rattle.ride_model.specs.Times.{times_from, times_of, drive_of}
@@ -9,10 +10,6 @@ use Rattle.slack_tables.specs.Search.{last_time}
 use Rattle.slack_tables.proofs.Delays.{delayed, length-delayed, length-insert, last-insert, last-inserted, last-delayed}
 use Rattle.slack_tables.proofs.RideRooms.{twice_delayed}
 use Rattle.slack_tables.proofs.WithRide.{arrivals_with}
-
-last-is : (t : ℕ) (ts : List ℕ) → last_or (Some t) ts ≡ Some (last_time t ts)
-last-is t [] = refl
-last-is t (u ∷ ts) = last-is u ts
 
 -- the last arrival from a later start is as much later
 last-shift : (dwell start t leave : ℕ) (stops : List Stop) → last_time (start + t) (times_from dwell (start + leave) stops)

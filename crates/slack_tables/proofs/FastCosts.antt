@@ -1,8 +1,10 @@
 -- The costs by the tables are those of the offers.
 use Rattle.std.proofs.Common.{◌≡◌, ℕ, ◌+◌, ◌-◌, ◌<◌, ◌≤◌, ◌⊎◌, inl, inr, Bool, true, false, cond, ◌&&◌, length, eqb, leb, le-leb, refl, sym, ◌∙◌, ap, subst, arith, slice_index}
 use Rattle.std.specs.Prelude.{Option, Some, None}
-use Rattle.std.proofs.lemmas.Bool.{eqb-true, eq-eqb}
+use Rattle.std.proofs.lemmas.Bool.{eqb-true, eq-eqb, and_from}
 use Rattle.std.proofs.lemmas.List.Elements.{recursion_from_All}
+use Rattle.std.proofs.lemmas.Option.{same_Some}
+use Rattle.plain_lemmas.proofs.Numbers.{less_or_same, eqb-less, swap-last}
 use Rattle.ride_model.specs.declared.offer.Joins.{Joins}
 use Rattle.ride_model.specs.declared.offer.Offer.{Offer}
 use Rattle.ride_model.specs.declared.settings.Settings.{Settings}
@@ -14,7 +16,6 @@ use Rattle.ride_model.specs.Times.{times_from, times_of}
 use Rattle.ride_model.specs.Keeps.{keeps}
 use Rattle.ride_model.specs.Insertion.{pickup_of, dropoff_of}
 use Rattle.ride_model.specs.Offers.{is_open, start_of, offer_of, offer_of_plan}
-use Rattle.model_laws.proofs.AboardLoads.{true-and}
 use Rattle.model_laws.proofs.TravelTimes.{travel-le}
 use Rattle.stop_plans.specs.Legged.{with_leg}
 use Rattle.stop_plans.proofs.InsertedLegs.{inserts-into}
@@ -25,6 +26,7 @@ use Rattle.insertion.specs.Asked.{IsAsked}
 use Rattle.insertion.specs.Joined.{leg_before, leg_after, four_legs, joins_near}
 use Rattle.insertion.specs.Least.{cost_if_any}
 use Rattle.insertion.proofs.OfferLaws.{no-legs, inserts, of-plan, new-routed}
+use Rattle.insertion.proofs.PlanTimes.{start-le}
 use Rattle.slack_tables.specs.declared.terms.Terms.{Terms}
 use Rattle.slack_tables.specs.Tables.{PlanSlack}
 use Rattle.slack_tables.specs.SlackOf.{slack_of}
@@ -34,7 +36,7 @@ use Rattle.slack_tables.proofs.WithRide.{with_ride, arrivals_with, arrivals-two,
 use Rattle.slack_tables.proofs.Detours.{detour-one, detour-two, leave-le}
 use Rattle.slack_tables.proofs.Drives.{index-inserted}
 use Rattle.slack_tables.proofs.Judged.{LegsApart, LegsTogether, pickup_time, late_time, dropoff_apart, dropoff_together, delay_at, apart-judged, judged-apart, together-judged, judged-together, legs_there_apart, legs_there_together}
-use Rattle.slack_tables.proofs.NearTimes.{to-pickup, after-pickup, to-dropoff, after-dropoff, before-le, after-le, start-le, is_search}
+use Rattle.slack_tables.proofs.NearTimes.{to-pickup, after-pickup, to-dropoff, after-dropoff, before-le, after-le, is_search}
 use Rattle.slack_tables.proofs.Placed.{placed}
 
 -- four legs that are there
@@ -46,27 +48,17 @@ pub record FourLegs (p q r s : Option ℕ) (joins : Joins) : Type 0 where
 
 four_there : (p q r s : Option ℕ) (joins : Joins) → four_legs p q r s ≡ Some joins → FourLegs p q r s joins
 four_there (Some a) (Some b) (Some c) (Some d) joins h =
-    let same : record { to_pickup = a; after_pickup = b; to_dropoff = c; after_dropoff = d } ≡ joins = same_joins _ _ h in
+    let same : record { to_pickup = a; after_pickup = b; to_dropoff = c; after_dropoff = d } ≡ joins = same_Some _ _ h in
     record {
       first = ap (λ (x : Joins). Some x.to_pickup) same;
       second = ap (λ (x : Joins). Some x.after_pickup) same;
       third = ap (λ (x : Joins). Some x.to_dropoff) same;
       fourth = ap (λ (x : Joins). Some x.after_dropoff) same;
     }
-  where
-    same_joins : (x y : Joins) → Some x ≡ Some y → x ≡ y
-    same_joins x y e = cc e
 four_there None q r s joins h = absurd (cc h)
 four_there (Some a) None r s joins h = absurd (cc h)
 four_there (Some a) (Some b) None s joins h = absurd (cc h)
 four_there (Some a) (Some b) (Some c) None joins h = absurd (cc h)
-
-eqb-less : (a b : ℕ) → a < b → eqb a b ≡ false
-eqb-less a b h = by_cases (eqb a b) refl
-  where
-    by_cases : (c : Bool) → eqb a b ≡ c → c ≡ false
-    by_cases true is = absurd (omega (arith, h, eqb-true a b is))
-    by_cases false is = refl
 
 -- the legs near the ride at two places, and at one
 pub legs-apart : (near : Near) (i j : ℕ) (joins : Joins) → i < j → joins_near near i j ≡ Some joins
@@ -97,11 +89,8 @@ legs-together near i joins some =
     ∙ legs.third in
     record {
       legs = record { to_pickup = legs.first; direct = third; after_dropoff = legs.fourth };
-      same = same _ _ (sym second ∙ third);
+      same = same_Some _ _ (sym second ∙ third);
     }
-  where
-    same : (a b : ℕ) → Some a ≡ Some b → a ≡ b
-    same a b e = cc e
 
 -- the bound of when the vehicle leaves for a place
 leaves-soon : (roads : RoadMap) (settings : Settings) (v : Vehicle) (ride : Ride) (near : Near) (time place : ℕ)
@@ -188,16 +177,13 @@ with-apart roads settings v ride near time i j joins asked room in_order within 
           before-le roads v.at ride.to j c stops asked.map_fits to_d,
           after-le roads ride.to j e stops asked.map_fits from_d,
         );
-        arrivals = arrivals ∙ ap (λ n. arrivals_with i late (leave_i + a) j more n times) (swap leave_j c late);
+        arrivals = arrivals ∙ ap (λ n. arrivals_with i late (leave_i + a) j more n times) (swap-last leave_j c late);
       },
       λ before. delays leave_j late c dwell e (slice_index times j) (around_j before),
     )
   where
     back : (l a d b t : ℕ) → t ≤ l + a + d + b → l + a + d + b - t + t ≡ l + a + d + b
     back l a d b t h = omega (arith, h)
-
-    swap : (l c d : ℕ) → l + c + d ≡ l + d + c
-    swap l c d = omega arith
 
     delays : (l d c w e t : ℕ) → t ≤ l + c + e → l + d + c + w + e - t ≡ d + (l + c + w + e - t)
     delays l d c w e t h = omega (arith, h)
@@ -306,11 +292,8 @@ fast-costs roads settings v ride near time i j asked open_now room on_time in_or
     slack : PlanSlack
     slack = slack_of v (start_of v settings.lead time) settings.dwell
 
-    less_or_same : (a b : ℕ) → a ≤ b → (a < b) ⊎ (a ≡ b)
-    less_or_same a b h = grind arith
-
     may : (is_open v time && leb i j && leb j (length v.stops.items)) ≡ true
-    may = true-and _ (leb j (length v.stops.items)) (true-and (is_open v time) (leb i j) open_now (le-leb i j in_order))
+    may = and_from _ (leb j (length v.stops.items)) (and_from (is_open v time) (leb i j) open_now (le-leb i j in_order))
         (le-leb j (length v.stops.items) within)
 
     many : length slack.times ≡ length v.stops.items

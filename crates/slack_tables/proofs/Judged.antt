@@ -1,8 +1,9 @@
 -- When a pair of places has a cost by the tables.
 use Rattle.std.proofs.Common.{◌≡◌, ℕ, ◌+◌, ◌-◌, ◌<◌, ◌≤◌, Bool, true, false, cond, length, eqb, leb, leb-true, le-leb, refl, sym, ◌∙◌, ap, arith, slice_index}
 use Rattle.std.specs.Prelude.{Option, Some, None, option_map, option_and_then}
-use Rattle.std.proofs.lemmas.Bool.{eqb-true, eq-eqb}
-use Rattle.model_laws.proofs.AboardLoads.{and-true, true-and}
+use Rattle.std.proofs.lemmas.Bool.{eqb-true, eq-eqb, and_from, and_parts}
+use Rattle.std.proofs.lemmas.Option.{same_Some}
+use Rattle.plain_lemmas.proofs.Numbers.{eqb-less, less_if_differs}
 use Rattle.insertion.specs.declared.near.Near.{Near}
 use Rattle.insertion.specs.declared.near.NearStop.{NearStop}
 use Rattle.insertion.specs.Joined.{leg_before, leg_after, four_legs, joins_near, to_pickup_of, after_pickup_of, to_dropoff_of, after_dropoff_of}
@@ -37,13 +38,10 @@ map_some : (f : ℕ → ℕ) (o : Option ℕ) (c : ℕ) → option_map f o ≡ S
 map_some f None c h = absurd (cc h)
 map_some f (Some x) c h = (x, refl)
 
-same : (a b : ℕ) → Some a ≡ Some b → a ≡ b
-same a b h = cc h
-
 at_most_some : (limit n m : ℕ) → at_most limit n ≡ Some m → (n ≤ limit) × (n ≡ m)
 at_most_some limit n m h =
     let (below, is) = cond_some (leb n limit) (Some n) m h in
-    (leb-true n limit below, same n m is)
+    (leb-true n limit below, same_Some n m is)
 
 some_at_most : (limit n : ℕ) → n ≤ limit → at_most limit n ≡ Some n
 some_at_most limit n h = ap (λ b. cond b (Some n) None) (le-leb n limit h)
@@ -72,16 +70,10 @@ dropoff-judged terms slack near i j late pickup leave c e within leg short behin
         ≡ Some (cond b (leave + c - last_time terms.start slack.times) delay)
     by_end true is = refl
     by_end false is =
-        let (first, second) = behind (differ j (length slack.times) within is) in
+        let (first, second) = behind (less_if_differs j (length slack.times) within is) in
         ap (λ b. cond b (Some delay) None)
-        (true-and (leb delay (room_at slack i j)) (leb (delay - late) (room_at slack j j)) (le-leb delay _ first)
+        (and_from (leb delay (room_at slack i j)) (leb (delay - late) (room_at slack j j)) (le-leb delay _ first)
         (le-leb (delay - late) _ second))
-      where
-        differ : (a b : ℕ) → a ≤ b → eqb a b ≡ false → a < b
-        differ a b h differs = not_same a b h (λ is_same. absurd (cc (differs, eq-eqb a b is_same)))
-          where
-            not_same : (a b : ℕ) → a ≤ b → (a ≡ b → ⊥) → a < b
-            not_same a b h differs = grind arith
 
 pub judged-dropoff : (terms : Terms) (slack : PlanSlack) (near : Near) (i j late pickup leave c e cost : ℕ)
     → leg_after (λ (stop : NearStop). stop.to_here) near.stops.items j ≡ Some e
@@ -118,7 +110,7 @@ judged-dropoff terms slack near i j late pickup leave c e cost leg is =
         = ap (λ b. cond b (Some (leave + c - last_time terms.start slack.times)) (within_rooms slack i j late delay))
         (sym (differ before (eqb j (length slack.times)) refl)) ∙ h in
         let (both, _) = cond_some _ (Some delay) seconds there in
-        let (first, second) = and-true (leb delay (room_at slack i j)) (leb (delay - late) (room_at slack j j)) both in
+        let (first, second) = and_parts (leb delay (room_at slack i j)) (leb (delay - late) (room_at slack j j)) both in
         (leb-true delay _ first, leb-true (delay - late) _ second)
 
 -- the legs of a pair of places that are there
@@ -148,13 +140,6 @@ dropoff_together terms slack i a c = pickup_time terms slack i a + terms.dwell +
 
 abbrev pub delay_at : Terms → PlanSlack → ℕ → ℕ → ℕ → ℕ
 delay_at terms slack j dropoff e = dropoff + terms.dwell + e - slice_index slack.times j
-
-eqb-less : (a b : ℕ) → a < b → eqb a b ≡ false
-eqb-less a b h = by_cases (eqb a b) refl
-  where
-    by_cases : (c : Bool) → eqb a b ≡ c → c ≡ false
-    by_cases true is = absurd (omega (arith, h, eqb-true a b is))
-    by_cases false is = refl
 
 -- the cost at two places
 pub apart-judged : (terms : Terms) (slack : PlanSlack) (near : Near) (i j a b c e : ℕ) → i < j → j ≤ length slack.times

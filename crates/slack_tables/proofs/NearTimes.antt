@@ -4,6 +4,7 @@ use Rattle.std.specs.Prelude.{map, All, Some, None}
 use Rattle.std.specs.List.{AllByRecursion}
 use Rattle.std.proofs.lemmas.List.{length-map}
 use Rattle.std.proofs.lemmas.List.Elements.{All-from_recursion}
+use Rattle.std.proofs.lemmas.Option.{same_Some}
 use Rattle.ride_model.specs.declared.vehicle.Ride.{Ride}
 use Rattle.ride_model.specs.declared.vehicle.Stop.{Stop}
 use Rattle.ride_model.specs.declared.vehicle.Vehicle.{Vehicle}
@@ -17,6 +18,7 @@ use Rattle.insertion.specs.declared.near.NearStop.{NearStop}
 use Rattle.insertion.specs.Asked.{near_stop, HoldsTimes, IsAsked}
 use Rattle.insertion.specs.Joined.{leg_before, leg_after}
 use Rattle.insertion.proofs.Joined.{before_place, after_place, before-noted, after-noted}
+use Rattle.insertion.proofs.PlanTimes.{start-le}
 use Rattle.slack_tables.specs.SlackOf.{slack_of}
 use Rattle.slack_tables.specs.Search.{terms_of, IsShort, IsNearStop, IsSearch}
 use Rattle.slack_tables.proofs.TableLaws.{are_tables}
@@ -58,10 +60,7 @@ before-le roads at node (suc place) leg (s ∷ stops) fits is = before-le roads 
 
 pub after-le : (roads : RoadMap) (node place leg : ℕ) (stops : List Stop) → IsRoadMap roads → after_place roads node stops place
     ≡ Some leg → leg ≤ 500000000000000
-after-le roads node place leg [] fits is = let none : 0 ≡ leg = same 0 leg is in omega (arith, none)
-  where
-    same : (a b : ℕ) → Some a ≡ Some b → a ≡ b
-    same a b h = cc h
+after-le roads node place leg [] fits is = let none : 0 ≡ leg = same_Some 0 leg is in omega (arith, none)
 after-le roads node zero leg (s ∷ stops) fits is = travel-le roads node s.node leg fits is
 after-le roads node (suc place) leg (s ∷ stops) fits is = after-le roads node place leg stops fits is
 
@@ -83,11 +82,6 @@ near-short roads ride (s ∷ stops) fits = (
   },
   near-short roads ride stops fits,
 )
-
--- when a vehicle starts
-pub start-le : (v : Vehicle) (lead time : ℕ) → v.ready ≤ 1000003600 → lead ≤ 3600 → time ≤ 1000000000
-    → start_of v lead time ≤ 1000003600
-start-le v lead time ready few early = grind arith
 
 -- what is asked is a search whose numbers are in their ranges
 pub is_search : (roads : RoadMap) (settings : Settings) (v : Vehicle) (ride : Ride) (near : Near) (time : ℕ)

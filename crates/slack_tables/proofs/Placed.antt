@@ -2,7 +2,8 @@
 use Rattle.std.proofs.Common.{◌≡◌, ℕ, ◌+◌, ◌-◌, ◌*◌, ◌<◌, ◌≤◌, ◌⊎◌, inl, inr, Bool, true, false, not, cond, length, eqb, refl, sym, ◌∙◌, ap, subst, arith, slice_index}
 use Rattle.std.specs.Prelude.{Some, None}
 use Rattle.std.specs.List.{list_all}
-use Rattle.std.proofs.lemmas.Bool.{eqb-true, eq-eqb}
+use Rattle.std.proofs.lemmas.Bool.{eqb-true, eq-eqb, and_parts}
+use Rattle.plain_lemmas.proofs.Numbers.{less_or_same}
 use Rattle.ride_model.specs.declared.offer.Joins.{Joins}
 use Rattle.ride_model.specs.declared.settings.Settings.{Settings}
 use Rattle.ride_model.specs.declared.vehicle.Ride.{Ride}
@@ -12,7 +13,7 @@ use Rattle.ride_model.specs.Loads.{loads_fit}
 use Rattle.ride_model.specs.Times.{times_of, drive_of}
 use Rattle.ride_model.specs.Keeps.{keeps}
 use Rattle.ride_model.specs.Offers.{start_of, joins_of, offer_of_plan, cost_of as plan_cost}
-use Rattle.model_laws.proofs.AboardLoads.{and-true, range_passes, passes_range}
+use Rattle.model_laws.proofs.AboardLoads.{range_passes, passes_range}
 use Rattle.promises.specs.Arrivals.{breaks_along}
 use Rattle.promises.proofs.Visits.{length-times, keeps-vehicle}
 use Rattle.insertion.specs.declared.near.Near.{Near}
@@ -26,15 +27,12 @@ use Rattle.slack_tables.proofs.TableLaws.{room-is, load-is}
 use Rattle.slack_tables.proofs.Drives.{drive-last, last-before, last-at-end, pickup-index}
 use Rattle.slack_tables.proofs.Judged.{Judged, seconds_added}
 
-le_is_or : (a b : ℕ) → a ≤ b → (a < b) ⊎ (a ≡ b)
-le_is_or a b h = grind arith
-
 -- a plan that keeps its promises keeps the limits of its rides
 pub limits-kept : (roads : RoadMap) (v : Vehicle) (ride : Ride) (i j : ℕ) (joins : Joins) (start dwell late pickup more dropoff : ℕ)
     → IsWith roads v ride i j joins start dwell late pickup more dropoff → keeps v start dwell ≡ true
     → list_all (λ (r : Ride). not (breaks_along v.stops.items (times_of v start dwell) r)) v.rides.items ≡ true
 limits-kept roads v ride i j joins start dwell late pickup more dropoff w kept =
-    (and-true _ (loads_fit v) (keeps-vehicle v start dwell (roads, w.map_fits, w.lawful.routed) (omega (arith, w.room)) ∙ kept)).0
+    (and_parts _ (loads_fit v) (keeps-vehicle v start dwell (roads, w.map_fits, w.lawful.routed) (omega (arith, w.room)) ∙ kept)).0
 
 -- what fits is judged so, and what is judged so fits
 pub fits_judged : (roads : RoadMap) (settings : Settings) (v : Vehicle) (ride : Ride) (time i j : ℕ) (joins : Joins)
@@ -110,7 +108,7 @@ cost-is roads settings v ride time i j joins start late pickup more dropoff dela
     (ap (λ ts. slice_index ts i) w.arrivals ∙ pickup-index i late pickup j more dropoff times w.in_order
     (omega (arith, w.in_range, many)))
     ∙ ap (λ n. settings.drive * n + settings.wait * (pickup - time))
-    (driven (le_is_or j (length times) (omega (arith, w.in_range, many))))
+    (driven (less_or_same j (length times) (omega (arith, w.in_range, many))))
   where
     new_drive : start + drive_of (with_ride v ride i j joins) settings.dwell ≡ last_time start
         (arrivals_with i late pickup j more dropoff (times_of v start settings.dwell))

@@ -2,11 +2,11 @@
 use Rattle.std.proofs.Common.{◌≡◌, ℕ, suc, ◌+◌, ◌-◌, ◌<◌, ◌≤◌, Bool, true, false, not, cond, List, [], ◌∷◌, length, leb, leb-true, le-leb, refl, sym, ◌∙◌, ap, subst, arith}
 use Rattle.std.specs.Prelude.{map, Some, None, option_map, is_some}
 use Rattle.std.specs.List.{AllByRecursion, list_all, filter_map, cons_option}
+use Rattle.std.proofs.lemmas.Bool.{and_from, and_parts, lt-leb}
 use Rattle.ride_model.specs.declared.vehicle.Kind.TheVariants.{Pickup, Dropoff}
 use Rattle.ride_model.specs.declared.vehicle.Ride.{Ride}
 use Rattle.ride_model.specs.declared.vehicle.Stop.{Stop}
 use Rattle.ride_model.specs.Vehicle.{visits_due, visit_of, stops_of}
-use Rattle.model_laws.proofs.AboardLoads.{and-true, true-and}
 use Rattle.promises.specs.Arrivals.{arrival_of, boarding_of, breaks_between, breaks_trip, breaks_along}
 use Rattle.promises.proofs.Visits.{HasVisits}
 use Rattle.slack_tables.specs.declared.trips.Trip.{Trip}
@@ -27,15 +27,8 @@ added_at from d place = cond (leb from place) d 0
 shift_at : (from place d : ℕ) → Shift from place d (added_at from d place)
 shift_at from place d = record {
   behind = λ h. ap (λ b. cond b d 0) (le-leb from place h);
-  before = λ h. ap (λ b. cond b d 0) (not_le from place h);
+  before = λ h. ap (λ b. cond b d 0) (lt-leb from place h);
 }
-  where
-    not_le : (a b : ℕ) → b < a → leb a b ≡ false
-    not_le a b h = by_cases (leb a b) refl
-      where
-        by_cases : (c : Bool) → leb a b ≡ c → c ≡ false
-        by_cases false is = refl
-        by_cases true is = absurd (omega (arith, h, leb-true a b is))
 
 -- the shift of a boarding by the number of stops that are served with it
 shift_suc : (from place d shift : ℕ) → Shift from place d shift → Shift (suc from) (place + 1) d shift
@@ -213,13 +206,13 @@ all_limits_to_rooms stops times i late j more [] same due in_order few kept = (
 )
 all_limits_to_rooms stops times i late j more (ride ∷ rides) same (visits, due) in_order few kept =
     let t = travels ride stops times i late j more same visits in
-    let (here, behind) = and-true (not (breaks_along stops (twice_delayed i late j more times) ride))
+    let (here, behind) = and_parts (not (breaks_along stops (twice_delayed i late j more times) ride))
     (list_all (λ (r : Ride). not (breaks_along stops (twice_delayed i late j more times) r)) rides) kept in
     let (rest, rooms) = all_limits_to_rooms stops times i late j more rides same due in_order few behind in
     let limits = limits_kept (not (is_some ride.picked)) ride.latest ride.longest (t.boarding + t.q + t.p) (t.arrival + t.s + t.r)
     (ap not (sym (breaks-later ride t)) ∙ here) in
     let (old, allows) = limits_to_rooms _ _ i j late more _ _ _ _ _ _ _ _ _ _ (trips ride t in_order few) limits in (
-      true-and (not (breaks_along stops times ride)) (list_all (λ (r : Ride). not (breaks_along stops times r)) rides)
+      and_from (not (breaks_along stops times ride)) (list_all (λ (r : Ride). not (breaks_along stops times r)) rides)
           (ap not (breaks-now ride t) ∙ kept_limits
           (not (is_some ride.picked)) ride.latest ride.longest t.boarding t.arrival old) rest,
       subst (λ o. AllowsAll (cons_option o (filter_map (λ (r : Ride). trip_of r stops times) rides)) (length stops) i j late more)
@@ -239,7 +232,7 @@ pub all_rooms_to_limits : (stops : List Stop) (times : List ℕ) (i late j more 
 all_rooms_to_limits stops times i late j more [] same due in_order few kept rooms = refl
 all_rooms_to_limits stops times i late j more (ride ∷ rides) same (visits, due) in_order few kept rooms =
     let t = travels ride stops times i late j more same visits in
-    let (here, behind) = and-true (not (breaks_along stops times ride))
+    let (here, behind) = and_parts (not (breaks_along stops times ride))
     (list_all (λ (r : Ride). not (breaks_along stops times r)) rides) kept in
     let all : AllowsAll (trip_in ride t ∷ filter_map (λ (r : Ride). trip_of r stops times) rides) (length stops) i j late more
     = subst (λ o. AllowsAll (cons_option o (filter_map (λ (r : Ride). trip_of r stops times) rides))
@@ -252,7 +245,7 @@ all_rooms_to_limits stops times i late j more (ride ∷ rides) same (visits, due
       both = λ h. omega (arith, all.both h);
       second = λ h. omega (arith, all.second h);
     }) in
-    true-and (not (breaks_along stops (twice_delayed i late j more times) ride))
+    and_from (not (breaks_along stops (twice_delayed i late j more times) ride))
     (list_all (λ (r : Ride). not (breaks_along stops (twice_delayed i late j more times) r)) rides)
     (ap not (breaks-later ride t) ∙ kept_limits (not (is_some ride.picked)) ride.latest ride.longest (t.boarding + t.q + t.p)
     (t.arrival + t.s + t.r) limits)

@@ -2,6 +2,7 @@
 use Rattle.std.proofs.Common.{◌≡◌, ℕ, ◌+◌, ◌-◌, ◌<◌, ◌≤◌, ◌⊎◌, inl, inr, Bool, true, false, cond, length, eqb, refl, sym, ◌∙◌, ap, subst, arith}
 use Rattle.std.specs.Prelude.{Option, Some, None, IfSome, option_map, option_and_then}
 use Rattle.std.proofs.lemmas.Bool.{eqb-true, eq-eqb}
+use Rattle.plain_lemmas.proofs.Numbers.{less_or_same, eqb-less}
 use Rattle.ride_model.specs.Road.{lesser}
 use Rattle.model_laws.proofs.AboardLoads.{range_passes, passes_range}
 use Rattle.insertion.specs.declared.near.Near.{Near}
@@ -18,13 +19,10 @@ HasRoom terms slack i j = (p : ℕ) → i ≤ p → p < j → has_room terms (lo
 
 pub room-more : (terms : Terms) (slack : PlanSlack) (i j : ℕ) → HasRoom terms slack i j → has_room terms (load_at slack j) ≡ true
     → HasRoom terms slack i (j + 1)
-room-more terms slack i j before here p low high = elim (below_or_at p j (omega (arith, high))) [
+room-more terms slack i j before here p low high = elim (less_or_same p j (omega (arith, high))) [
   | inl less ↦ before p low less
   | inr same ↦ ap (λ n. has_room terms (load_at slack n)) same ∙ here
 ]
-  where
-    below_or_at : (a b : ℕ) → a ≤ b → (a < b) ⊎ (a ≡ b)
-    below_or_at a b h = grind arith
 
 -- only one place
 pub room-one : (terms : Terms) (slack : PlanSlack) (i : ℕ) → has_room terms (load_at slack i) ≡ true → HasRoom terms slack i (i + 1)
@@ -61,13 +59,6 @@ no-pickup-cost terms slack near i k none =
     either : (b : Bool) → cond {A = Option ℕ} b None None ≡ None
     either true = refl
     either false = refl
-
-eqb-less : (a b : ℕ) → a < b → eqb a b ≡ false
-eqb-less a b h = by_cases (eqb a b) refl
-  where
-    by_cases : (c : Bool) → eqb a b ≡ c → c ≡ false
-    by_cases true is = absurd (omega (arith, h, eqb-true a b is))
-    by_cases false is = refl
 
 pub no-lateness-cost : (terms : Terms) (slack : PlanSlack) (near : Near) (i k pickup : ℕ) → pickup_at terms slack near i ≡ Some pickup
     → lateness terms slack near i pickup ≡ None → i < k → cost_at terms slack near i k ≡ None

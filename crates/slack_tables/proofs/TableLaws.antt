@@ -11,7 +11,7 @@ use Rattle.ride_model.specs.Loads.{load_after, loads_of, fits_load}
 use Rattle.ride_model.specs.Times.{times_of}
 use Rattle.model_laws.proofs.AboardLoads.{fits_throughout}
 use Rattle.std.proofs.Common.{leb, leb-true, true}
-use Rattle.model_laws.proofs.AboardLoads.{and-true}
+use Rattle.std.proofs.lemmas.Bool.{and_parts}
 use Rattle.promises.proofs.Visits.{length-times, times-soon}
 use Rattle.slack_tables.specs.declared.trips.Trip.{Trip}
 use Rattle.slack_tables.specs.Trips.{room_of}
@@ -47,7 +47,7 @@ load-is v start dwell (suc place) within =
 small_load : (v : Vehicle) (load : Load) → v.seats ≤ 16 → v.chairs ≤ 4 → fits_load v load ≡ true → (load.seats ≤ 128) ×
     (load.chairs ≤ 64)
 small_load v load seats chairs fits =
-    let (a, b) = and-true (leb load.seats v.seats) (leb load.chairs v.chairs) fits in
+    let (a, b) = and_parts (leb load.seats v.seats) (leb load.chairs v.chairs) fits in
     (omega (arith, seats, leb-true load.seats v.seats a), omega (arith, chairs, leb-true load.chairs v.chairs b))
 
 -- the tables of a lawful vehicle of at most 16 stops

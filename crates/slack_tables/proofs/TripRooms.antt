@@ -1,12 +1,10 @@
 -- What later arrivals break of a ride's limits, and the rooms of its trip.
 use Rattle.std.proofs.Common.{◌≡◌, ℕ, suc, ◌+◌, ◌-◌, ◌<◌, ◌≤◌, ◌⊎◌, inl, inr, Bool, true, false, not, cond, ◌&&◌, ◌||◌, leb, ltb, leb-true, refl, arith}
 use Rattle.std.proofs.lemmas.Bool.Decides.{nat_tests}
-use Rattle.model_laws.proofs.AboardLoads.{and-true}
+use Rattle.std.proofs.lemmas.Bool.{and_parts}
+use Rattle.plain_lemmas.proofs.Numbers.{le_or_lt}
 use Rattle.slack_tables.specs.declared.trips.Trip.{Trip}
 use Rattle.slack_tables.specs.Trips.{no_limit, room_in}
-
-le_or_lt : (a b : ℕ) → (a ≤ b) ⊎ (b < a)
-le_or_lt a b = grind arith
 
 -- the limits of a ride, of one that waits also that of the pickup
 pub record InLimits (waits : Bool) (latest longest boarding dropoff : ℕ) : Type 0 where
@@ -75,7 +73,7 @@ bounds_room trip change place m wait ride few = by_tests (ltb place trip.boarded
     by_ride : trip.boarded ≤ place → (c : Bool) → (leb trip.boarded change && leb place trip.dropoff) ≡ c
         → m ≤ cond c trip.ride_room no_limit
     by_ride above true is =
-        let (a, b) = and-true (leb trip.boarded change) (leb place trip.dropoff) is in
+        let (a, b) = and_parts (leb trip.boarded change) (leb place trip.dropoff) is in
         ride above (leb-true trip.boarded change a) (leb-true place trip.dropoff b)
     by_ride above false is = few
 

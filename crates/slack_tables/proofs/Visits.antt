@@ -1,7 +1,9 @@
 -- Visits of rides in a plan with one stop more, and with later arrivals.
-use Rattle.std.proofs.Common.{◌≡◌, ℕ, zero, suc, ◌+◌, ◌<◌, ◌≤◌, Bool, true, false, cond, ◌&&◌, List, [], ◌∷◌, length, drop, get_or, eqb, leb, leb-true, le-leb, refl, sym, ◌∙◌, ap, arith}
+use Rattle.std.proofs.Common.{◌≡◌, ℕ, zero, suc, ◌+◌, ◌<◌, ◌≤◌, Bool, true, false, cond, ◌&&◌, List, [], ◌∷◌, length, drop, get_or, eqb, leb, leb-true, le-leb, refl, sym, ◌∙◌, ap, arith, add-zero, add-one}
 use Rattle.std.specs.Prelude.{map, Some, None, option_map, insert, nat_le, if◌then◌else◌}
 use Rattle.std.specs.List.{AllByRecursion}
+use Rattle.std.proofs.lemmas.Bool.{lt-leb}
+use Rattle.std.proofs.lemmas.Option.{same_Some}
 use Rattle.ride_model.specs.declared.vehicle.Kind.{Kind}
 use Rattle.ride_model.specs.declared.vehicle.Kind.TheVariants.{Pickup, Dropoff}
 use Rattle.ride_model.specs.declared.vehicle.Stop.{Stop}
@@ -19,11 +21,8 @@ pub visit-later : (id : ℕ) (kind : Kind) (stops : List Stop) (times : List ℕ
     → is_visit id kind (get_or stops i d) ≡ false
     → first_visit (i + 1) id kind (drop (i + 1) stops) (drop (i + 1) times) ≡ first_visit i id kind (drop i stops) (drop i times)
 visit-later id kind stops times i d within same other =
-    ap (λ n. first_visit (i + 1) id kind (drop n stops) (drop n times)) (one i) ∙ later i stops times i within same other
+    ap (λ n. first_visit (i + 1) id kind (drop n stops) (drop n times)) (add-one i) ∙ later i stops times i within same other
   where
-    one : (n : ℕ) → n + 1 ≡ suc n
-    one n = omega arith
-
     later : (place : ℕ) (ss : List Stop) (ts : List ℕ) (n : ℕ) → n < length ss → length ts ≡ length ss → is_visit id kind
         (get_or ss n d) ≡ false
         → first_visit (place + 1) id kind (drop (suc n) ss) (drop (suc n) ts) ≡ first_visit place id kind (drop n ss) (drop n ts)
@@ -142,33 +141,20 @@ visit-delayed-from place (suc from) d id kind (s ∷ stops) (t ∷ times) =
     ≡ option_map (postponed (suc from + place) d)
     (cond b (Some (record { place = place; time = t })) (first_visit (place + 1) id kind stops times))) [
       | true ↦ ap (λ n. Some (record { place = place; time = n }))
-          (plus_zero t ∙ ap (λ b. t + cond b d 0) (sym (before (suc from + place) place (omega arith))))
+          (sym (add-zero t) ∙ ap (λ b. t + cond b d 0) (sym (lt-leb (suc from + place) place (omega arith))))
       | false ↦ visit-delayed-from (place + 1) from d id kind stops times
           ∙ ap (λ n. option_map (postponed n d) (first_visit (place + 1) id kind stops times)) (shift from place)
     ]
   where
-    plus_zero : (n : ℕ) → n ≡ n + 0
-    plus_zero n = omega arith
-
     shift : (m n : ℕ) → m + (n + 1) ≡ suc m + n
     shift m n = omega arith
-
-    before : (m n : ℕ) → n < m → leb m n ≡ false
-    before m n h = by_cases (leb m n) refl
-      where
-        by_cases : (b : Bool) → leb m n ≡ b → b ≡ false
-        by_cases false is = refl
-        by_cases true is = absurd (omega (arith, leb-true m n is))
 
 -- the first visit where the arrivals from a place on are later
 pub visit-delayed : (from d id : ℕ) (kind : Kind) (stops : List Stop) (times : List ℕ)
     → first_visit 0 id kind stops (delayed from d times) ≡ option_map (postponed from d) (first_visit 0 id kind stops times)
 visit-delayed from d id kind stops times =
     visit-delayed-from 0 from d id kind stops times ∙ ap (λ n. option_map (postponed n d) (first_visit 0 id kind stops times))
-    (plus_zero from)
-  where
-    plus_zero : (n : ℕ) → n + 0 ≡ n
-    plus_zero n = omega arith
+    (add-zero from)
 
 -- a visit stands among the stops
 pub visit-place : (place id : ℕ) (kind : Kind) (stops : List Stop) (times : List ℕ) (visit : Visit)
@@ -179,14 +165,11 @@ visit-place place id kind (s ∷ stops) (t ∷ times) visit is =
     elim (is_visit id kind s) as
     (λ b. cond b (Some (record { place = place; time = t })) (first_visit (place + 1) id kind stops times) ≡ Some visit
     → (place ≤ visit.place) × (visit.place < place + suc (length stops))) [
-      | true ↦ λ here. let e : place ≡ visit.place = ap (λ (w : Visit). w.place) (same_visit _ visit here) in
+      | true ↦ λ here. let e : place ≡ visit.place = ap (λ (w : Visit). w.place) (same_Some _ visit here) in
           (omega (arith, e), omega (arith, e))
       | false ↦ λ rest. let (low, high) = visit-place (place + 1) id kind stops times visit rest in
           (omega (arith, low), omega (arith, high))
     ] is
-  where
-    same_visit : (a b : Visit) → Some a ≡ Some b → a ≡ b
-    same_visit a b e = cc e
 
 -- the visits of a ride whose stops are a drop-off
 pub record OneVisit (place id : ℕ) (stops : List Stop) (times : List ℕ) : Type 0 where

@@ -1,5 +1,5 @@
 -- What is aboard of a plan with a ride more.
-use Rattle.std.proofs.Common.{◌≡◌, ℕ, zero, suc, ◌+◌, ◌≤◌, Bool, true, false, cond, List, [], ◌∷◌, ◌++◌, length, take, eqb, refl, sym, ◌∙◌, ap, arith}
+use Rattle.std.proofs.Common.{◌≡◌, ℕ, zero, suc, ◌+◌, ◌≤◌, Bool, true, false, cond, List, [], ◌∷◌, ◌++◌, length, take, eqb, refl, sym, ◌∙◌, ap, arith, add-zero}
 use Rattle.std.specs.Prelude.{sum_by}
 use Rattle.std.specs.List.{AllByRecursion}
 use Rattle.std.proofs.lemmas.List.Sums.{sum_by-append, sum_by-cons}
@@ -76,13 +76,10 @@ pub load-push : (rides : List Ride) (ride : Ride) (stops : List Stop) (aboard : 
 load-push rides ride stops aboard is = λ k. record {
   seats = (sum_by-append (λ (r : Ride). cond (is_aboard_after stops r) r.seats 0) rides (ride ∷ [])
       ∙ ap (λ n. sum_by (λ (r : Ride). cond (is_aboard_after stops r) r.seats 0) rides + n)
-      (sum_by-cons (λ (r : Ride). cond (is_aboard_after stops r) r.seats 0) ride [] ∙ plus_zero
+      (sum_by-cons (λ (r : Ride). cond (is_aboard_after stops r) r.seats 0) ride [] ∙ add-zero
       (cond (is_aboard_after stops ride) ride.seats 0) ∙ ap (λ b. cond b ride.seats 0) is)) k;
   chairs = (sum_by-append (λ (r : Ride). cond (is_aboard_after stops r) r.chairs 0) rides (ride ∷ [])
       ∙ ap (λ n. sum_by (λ (r : Ride). cond (is_aboard_after stops r) r.chairs 0) rides + n)
-      (sum_by-cons (λ (r : Ride). cond (is_aboard_after stops r) r.chairs 0) ride [] ∙ plus_zero
+      (sum_by-cons (λ (r : Ride). cond (is_aboard_after stops r) r.chairs 0) ride [] ∙ add-zero
       (cond (is_aboard_after stops ride) ride.chairs 0) ∙ ap (λ b. cond b ride.chairs 0) is)) k;
 }
-  where
-    plus_zero : (n : ℕ) → n + 0 ≡ n
-    plus_zero n = omega arith

@@ -1,9 +1,10 @@
 -- A plan with a ride more: its arrivals, and what it keeps.
-use Rattle.std.proofs.Common.{◌≡◌, ℕ, zero, suc, ◌+◌, ◌<◌, ◌≤◌, ◌⊎◌, inl, inr, Bool, true, false, not, ◌&&◌, ◌||◌, List, [], ◌∷◌, ◌++◌, length, take, eqb, ltb, refl, sym, ◌∙◌, ap, subst, arith, slice_index}
+use Rattle.std.proofs.Common.{◌≡◌, ℕ, zero, suc, ◌+◌, ◌<◌, ◌≤◌, ◌⊎◌, inl, inr, Bool, true, false, not, ◌&&◌, ◌||◌, List, [], ◌∷◌, ◌++◌, length, take, eqb, ltb, refl, sym, ◌∙◌, ap, subst, arith, slice_index, add-zero}
 use Rattle.std.specs.Prelude.{insert, Option, Some, None, is_some}
 use Rattle.std.specs.List.{AllByRecursion, list_all}
-use Rattle.std.proofs.lemmas.Bool.{eqb-true, eq-eqb}
+use Rattle.std.proofs.lemmas.Bool.{eqb-true, eq-eqb, and_from, and_parts}
 use Rattle.std.proofs.lemmas.List.Elements.{recursion_from_All}
+use Rattle.plain_lemmas.proofs.Numbers.{le_or_lt}
 use Rattle.ride_model.specs.declared.offer.Joins.{Joins}
 use Rattle.ride_model.specs.declared.vehicle.Kind.{Kind}
 use Rattle.ride_model.specs.declared.vehicle.Kind.TheVariants.{Pickup, Dropoff}
@@ -17,7 +18,7 @@ use Rattle.ride_model.specs.Loads.{is_aboard_from, is_aboard_after, load_after, 
 use Rattle.ride_model.specs.Times.{times_from, times_of}
 use Rattle.ride_model.specs.Keeps.{keeps}
 use Rattle.ride_model.specs.Insertion.{pickup_of, dropoff_of, with_plan}
-use Rattle.model_laws.proofs.AboardLoads.{and-true, true-and, FitsThroughout, fits_throughout, loads_fit-throughout, load-agrees}
+use Rattle.model_laws.proofs.AboardLoads.{FitsThroughout, fits_throughout, loads_fit-throughout, load-agrees}
 use Rattle.model_laws.proofs.Insertions.{plan-fresh}
 use Rattle.stop_plans.specs.First.{is_kind, is_visit}
 use Rattle.stop_plans.specs.Legged.{with_leg, with_stop}
@@ -268,10 +269,7 @@ pub record NewLoads (v : Vehicle) (ride : Ride) (i j : ℕ) (joins : Joins) : Ty
       ≡ load_after v.rides.items (take k v.stops.items)
 
 load_without : (load : Load) (ride : Ride) → load_with load false ride ≡ load
-load_without load ride = λ k. record { seats = plus_zero load.seats k; chairs = plus_zero load.chairs k }
-  where
-    plus_zero : (n : ℕ) → n + 0 ≡ n
-    plus_zero n = omega arith
+load_without load ride = λ k. record { seats = add-zero load.seats k; chairs = add-zero load.chairs k }
 
 new_loads : (v : Vehicle) (ride : Ride) (i j : ℕ) (joins : Joins) → i ≤ j → j ≤ length v.stops.items → IsFresh v.rides.items ride.id
     → ride.picked ≡ None
@@ -367,11 +365,11 @@ kept_fits roads v ride i j joins start dwell late pickup more dropoff w kept =
     let times = times_of v start dwell in
     let many : length times ≡ length v.stops.items = length-times dwell start v.stops.items in
     let due = recursion_from_All (HasVisits v.stops.items) v.rides.items w.lawful.routed.planned.each_ride in
-    let (limits, fits) = and-true
+    let (limits, fits) = and_parts
     (list_all (λ (r : Ride). not (breaks_along v.stops.items (twice_delayed i late j more times) r)) v.rides.items
     && not ((true && ltb ride.latest pickup) || ltb (pickup + ride.longest) dropoff)) (loads_fit new)
     (kept-is roads v ride i j joins start dwell late pickup more dropoff w ∙ kept) in
-    let (olds, own) = and-true
+    let (olds, own) = and_parts
     (list_all (λ (r : Ride). not (breaks_along v.stops.items (twice_delayed i late j more times) r)) v.rides.items)
     (not ((true && ltb ride.latest pickup) || ltb (pickup + ride.longest) dropoff)) limits in
     let (now, rooms) = all_limits_to_rooms v.stops.items times i late j more v.rides.items many due w.in_order w.few olds in
@@ -400,15 +398,12 @@ fits_kept roads v ride i j joins start dwell late pickup more dropoff w fits =
     (plan-fresh v.rides.items v.stops.items ride.id w.lawful.routed.planned w.fresh) in
     let old_fits = fits_throughout v w.lawful.loads in
     sym (kept-is roads v ride i j joins start dwell late pickup more dropoff w)
-    ∙ true-and _ (loads_fit new)
-    (true-and _ _ (all_rooms_to_limits v.stops.items times i late j more v.rides.items many due w.in_order w.few fits.old fits.rooms)
+    ∙ and_from _ (loads_fit new)
+    (and_from _ _ (all_rooms_to_limits v.stops.items times i late j more v.rides.items many due w.in_order w.few fits.old fits.rooms)
     (kept_limits true ride.latest ride.longest pickup dropoff (record { in_time = λ _. fits.in_time; short = fits.short })))
     (loads_fit-throughout new
     (λ k few. by_place loads old_fits k (omega (arith, few, length-joined v.stops.items ride i j joins w.in_order w.in_range))))
   where
-    le_or_lt : (a b : ℕ) → (a ≤ b) ⊎ (b < a)
-    le_or_lt a b = grind arith
-
     by_place : NewLoads v ride i j joins → FitsThroughout (fits_load v) v.rides.items v.stops.items → (k : ℕ)
         → k ≤ length v.stops.items + 2
         → fits_load v (load_after (v.rides.items ++ ride ∷ []) (take k (stops_joined v.stops.items ride i j joins))) ≡ true

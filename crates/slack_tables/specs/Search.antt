@@ -6,6 +6,7 @@ use Rattle.ride_model.specs.declared.vehicle.Load.{Load}
 use Rattle.ride_model.specs.declared.vehicle.Ride.{Ride}
 use Rattle.ride_model.specs.declared.vehicle.Vehicle.{Vehicle}
 use Rattle.ride_model.specs.Road.{least_of}
+use Rattle.ride_model.specs.Limits.{latest_ready, latest_time, longest_dwell, longest_ride}
 use Rattle.insertion.specs.declared.near.Near.{Near}
 use Rattle.insertion.specs.declared.near.NearStop.{NearStop}
 use Rattle.insertion.specs.Joined.{leg_before, leg_after}
@@ -144,12 +145,12 @@ pub record IsNearStop (stop : NearStop) : Type 0 where
 
 -- the ranges of the terms
 pub record AreTerms (terms : Terms) : Type 0 where
-  pub start_limit : terms.start ≤ 1000003600
-  pub dwell_limit : terms.dwell ≤ 3600
+  pub start_limit : terms.start ≤ latest_ready
+  pub dwell_limit : terms.dwell ≤ longest_dwell
   pub drive_limit : terms.drive ≤ 1000
   pub wait_limit : terms.wait ≤ 1000
-  pub latest_limit : terms.latest ≤ 1000000000
-  pub longest_limit : terms.longest ≤ 1000000
+  pub latest_limit : terms.latest ≤ latest_time
+  pub longest_limit : terms.longest ≤ longest_ride
   pub few_seats : terms.takes.seats ≤ 8
   pub few_chairs : terms.takes.chairs ≤ 4
 

@@ -1,6 +1,7 @@
 //! The tables of a plan.
 ghost use Rattle.std.specs.Prelude.{◌≡◌, ◌≤◌, ◌<◌, ◌+◌, ◌-◌, ◌∷◌, length, slice_index, slice_index_or, []};
 ghost use Rattle.ride_model.specs.Vehicle.{IsLawfulSomewhere};
+ghost use Rattle.ride_model.specs.Limits.{latest_ready, longest_dwell};
 ghost use Rattle.slack_tables.specs.Tables.{PlanSlack, load_at, room_at};
 ghost use Rattle.slack_tables.specs.SlackOf.{slack_of};
 
@@ -33,8 +34,8 @@ impl Slack {
     /// The tables of a vehicle that leaves at `start` and stands `dwell` seconds at each stop.
     pub fn of(vehicle: &Vehicle, start: u64, dwell: u64) -> Slack
         requires lawful { IsLawfulSomewhere vehicle.now }
-        requires start_limit { start ≤ 1000003600 }
-        requires dwell_limit { dwell ≤ 3600 }
+        requires start_limit { start ≤ latest_ready }
+        requires dwell_limit { dwell ≤ longest_dwell }
         ensures { result ≡ slack_of vehicle.now start dwell }
     {
         let stops = vehicle.stops.as_slice();

@@ -1,6 +1,7 @@
 -- The legs of a plan with a ride more.
-use Rattle.std.proofs.Common.{◌≡◌, ℕ, zero, suc, ◌+◌, ◌<◌, ◌≤◌, List, [], ◌∷◌, ◌++◌, length, get_or, refl, sym, ◌∙◌, ap, arith}
+use Rattle.std.proofs.Common.{◌≡◌, ℕ, zero, suc, ◌+◌, ◌<◌, ◌≤◌, List, [], ◌∷◌, ◌++◌, length, get_or, refl, sym, ◌∙◌, ap, arith, add-one}
 use Rattle.std.specs.Prelude.{Some, None, option_map, option_and_then, insert, slice_set}
+use Rattle.std.proofs.lemmas.Option.{same_Some}
 use Rattle.ride_model.specs.declared.offer.Joins.{Joins}
 use Rattle.ride_model.specs.declared.offer.Offer.{Offer}
 use Rattle.ride_model.specs.declared.vehicle.Ride.{Ride}
@@ -34,23 +35,17 @@ route_head roads at stop stops out is =
           elim (routed roads stop.node stops) as (λ o. routed roads stop.node stops ≡ o
           → option_map (λ rest. with_leg leg stop ∷ rest) o ≡ Some out → RouteHead roads at stop stops out) [
             | None ↦ λ _ none. absurd (cc none)
-            | Some rest ↦ λ on made. record { leg = leg; rest = rest; there = there; on = on; out_is = sym (same _ _ made) }
+            | Some rest ↦ λ on made. record { leg = leg; rest = rest; there = there; on = on; out_is = sym (same_Some _ _ made) }
           ] refl some
     ] refl is
-  where
-    same : (a b : List Stop) → Some a ≡ Some b → a ≡ b
-    same a b e = cc e
-
-pub same_some : {X : Type 0} (a b : X) → Some a ≡ Some b → a ≡ b
-same_some a b e = cc e
 
 -- the legs of stops behind a new one are theirs, but for the first
 pub behind-new : (roads : RoadMap) (at from : ℕ) (stops out : List Stop) → HasLegs roads at stops → routed roads from stops ≡ Some out
     → out ≡ relegged 0 (leg_at out 0) stops
-behind-new roads at from [] out legs is = sym (same_some [] out is)
+behind-new roads at from [] out legs is = sym (same_Some [] out is)
 behind-new roads at from (s ∷ stops) out (there, rest) is =
     let head = route_head roads from s stops out is in
-    let rest_is : head.rest ≡ stops = same_some head.rest stops (sym head.on ∙ routed-own roads s.node stops rest) in
+    let rest_is : head.rest ≡ stops = same_Some head.rest stops (sym head.on ∙ routed-own roads s.node stops rest) in
     let out_is : out ≡ with_leg head.leg s ∷ stops = head.out_is ∙ ap (λ more. with_leg head.leg s ∷ more) rest_is in
     out_is ∙ ap (λ xs. with_leg (leg_at xs 0) s ∷ stops) (sym out_is)
 
@@ -67,7 +62,7 @@ one-more roads at zero x stops out legs within is =
 one-more roads at (suc place) x [] out legs within is = absurd (omega arith)
 one-more roads at (suc place) x (s ∷ stops) out (there, rest) within is =
     let head = route_head roads at s (insert stops place x) out is in
-    let leg_is : head.leg ≡ s.leg = same_some head.leg s.leg (sym head.there ∙ there) in
+    let leg_is : head.leg ≡ s.leg = same_Some head.leg s.leg (sym head.there ∙ there) in
     let on = one-more roads s.node place x stops head.rest rest (omega arith) head.on in
     let out_is : out ≡ s ∷ head.rest = head.out_is ∙ ap (λ leg. with_leg leg s ∷ head.rest) leg_is in
     out_is ∙ ap (λ more. s ∷ more) on
@@ -100,7 +95,7 @@ two-more roads at (suc i) zero ride stops out legs in_order within is = absurd (
 two-more roads at (suc i) (suc j) ride [] out legs in_order within is = absurd (omega arith)
 two-more roads at (suc i) (suc j) ride (s ∷ stops) out (there, rest) in_order within is =
     let head = route_head roads at s (stops_with ride i j stops) out is in
-    let leg_is : head.leg ≡ s.leg = same_some head.leg s.leg (sym head.there ∙ there) in
+    let leg_is : head.leg ≡ s.leg = same_Some head.leg s.leg (sym head.there ∙ there) in
     let on = two-more roads s.node i j ride stops head.rest rest (omega arith) (omega arith) head.on in
     let out_is : out ≡ s ∷ head.rest = head.out_is ∙ ap (λ leg. with_leg leg s ∷ head.rest) leg_is in
     out_is ∙ ap (λ more. s ∷ more) on
@@ -159,9 +154,6 @@ inserts-into roads v ride offer new h =
     ∙ ap (with_plan v (v.rides.items ++ ride ∷ [])) (sym legs)
     ∙ sym facts.new_is
   where
-    one : (n : ℕ) → n + 1 ≡ suc n
-    one n = omega arith
-
     two : (n : ℕ) → n + 2 ≡ suc (suc n)
     two n = omega arith
 
@@ -174,7 +166,7 @@ inserts-into roads v ride offer new h =
         }
     by_out w out is k = record {
       to_pickup = leg_at (is k) offer.i;
-      after_pickup = leg_at (is k) (one offer.i k);
-      to_dropoff = leg_at (is k) (one offer.j k);
+      after_pickup = leg_at (is k) (add-one offer.i k);
+      to_dropoff = leg_at (is k) (add-one offer.j k);
       after_dropoff = leg_at (is k) (two offer.j k);
     }

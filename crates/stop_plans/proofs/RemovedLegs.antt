@@ -3,8 +3,9 @@ use Rattle.std.proofs.Common.{◌≡◌, ℕ, zero, suc, ◌+◌, ◌<◌, ◌�
 use Rattle.std.proofs.lemmas.List.{length-map}
 use Rattle.std.specs.Prelude.{map, Option, Some, None, remove, ◌==◌, Contains}
 use Rattle.std.specs.List.{AllByRecursion}
-use Rattle.std.proofs.lemmas.Bool.{eq-eqb}
+use Rattle.std.proofs.lemmas.Bool.{eq-eqb, cases_order}
 use Rattle.std.proofs.lemmas.List.Elements.{filter-append, All-contains}
+use Rattle.std.proofs.lemmas.Option.{same_Some}
 use Rattle.ride_model.specs.declared.vehicle.Kind.{Kind}
 use Rattle.ride_model.specs.declared.vehicle.Kind.TheVariants.{Pickup, Dropoff}
 use Rattle.ride_model.specs.declared.vehicle.Ride.{Ride}
@@ -14,14 +15,14 @@ use Rattle.ride_model.specs.Road.{RoadMap}
 use Rattle.ride_model.specs.Vehicle.{HasLegs, IsPlanFor, visit_of, visits_due, stops_of, ride_ids}
 use Rattle.ride_model.specs.Insertion.{routed, with_plan, stops_without, rides_without, without_ride}
 use Rattle.ride_model.specs.Offers.{leg_at}
-use Rattle.model_laws.proofs.Among.{Among, among_from_contains, contains_from_among, among_map_back}
+use Rattle.plain_lemmas.proofs.Among.{Among, among_from_contains, contains_from_among, among_map_back}
 use Rattle.model_laws.proofs.AboardLoads.{filter-kept, filter-skipped}
 use Rattle.model_laws.proofs.Insertions.{all-kept}
 use Rattle.model_laws.proofs.Removal.{route_without, without_ride-is}
 use Rattle.stop_plans.specs.Change.{RemovesFrom}
 use Rattle.stop_plans.specs.First.{is_kind, is_visit, IsFirst}
 use Rattle.stop_plans.specs.Legged.{with_leg, relegged}
-use Rattle.stop_plans.proofs.InsertedLegs.{route_head, same_some, behind-new}
+use Rattle.stop_plans.proofs.InsertedLegs.{route_head, behind-new}
 
 -- one stop out of a list, by its place
 pub remove-at : (xs : List Stop) (y : Stop) (ys : List Stop) → remove (xs ++ y ∷ ys) (length xs) ≡ xs ++ ys
@@ -61,7 +62,7 @@ route-front roads at [] back rest out legs is = (at, out, legs, is, refl)
 route-front roads at (s ∷ front) back rest out (there, legs) is =
     let head = route_head roads at s (front ++ back) out is in
     let (end, more, rest_legs, route, rest_is) = route-front roads s.node front back rest head.rest legs head.on in
-    let leg_is : head.leg ≡ s.leg = same_some head.leg s.leg (sym head.there ∙ there) in
+    let leg_is : head.leg ≡ s.leg = same_Some head.leg s.leg (sym head.there ∙ there) in
     (end, more, rest_legs, route, head.out_is ∙ ap (λ leg. with_leg leg s ∷ head.rest) leg_is ∙ ap (λ xs. s ∷ xs) rest_is)
 
 -- the legs of a plan with two stops less
@@ -176,7 +177,7 @@ without-parts id before p between d after apart p_is d_is =
 pub first-place : (test : Stop → Bool) (xs : List Stop) (y : Stop) (ys : List Stop) (place : ℕ) → IsFirst test (xs ++ y ∷ ys) place
     → AllByRecursion (λ s. test s ≡ false) xs → test y ≡ true → place ≡ length xs
 first-place test xs y ys place first none here =
-    elim (three place (length xs)) [
+    elim (cases_order place (length xs)) [
       | inl is ↦ is
       | inr other ↦ elim other [
         | inl below ↦ absurd (cc (first.passes y (omega (arith, below, length-append xs (y ∷ ys))), at_front xs place none below))
@@ -184,9 +185,6 @@ first-place test xs y ys place first none here =
       ]
     ]
   where
-    three : (a b : ℕ) → (a ≡ b) ⊎ ((a < b) ⊎ (b < a))
-    three a b = grind arith
-
     at_front : (zs : List Stop) (n : ℕ) → AllByRecursion (λ s. test s ≡ false) zs → n < length zs → test (get_or (zs ++ y ∷ ys) n y) ≡ false
     at_front [] n h k = absurd (omega arith)
     at_front (z ∷ zs) zero (first_fails, rest) k = first_fails

@@ -4,6 +4,7 @@ ghost use Rattle.ride_model.specs.declared.vehicle.Stop.{Stop};
 ghost use Rattle.ride_model.specs.Insertion.{rides_without};
 ghost use Rattle.ride_model.specs.Step.{rides_with_picked, served, served_reply};
 ghost use Rattle.ride_model.specs.Vehicle.{IsLawfulSomewhere};
+ghost use Rattle.ride_model.specs.Limits.{latest_ready, longest_dwell};
 ghost use Rattle.stop_plans.specs.Change.{HasFirstStopAt};
 
 use crate::remove::drop_ride;
@@ -14,8 +15,8 @@ use ride_model::{Kind, Reply, Ride, Vehicle};
 pub fn serve_first(vehicle: &mut Vehicle, dwell: u64) -> Reply
     requires lawful { IsLawfulSomewhere vehicle.old }
     requires at_stop { HasFirstStopAt vehicle.old }
-    requires dwell_limit { dwell ≤ 3600 }
-    requires in_the_day { vehicle.old.ready + dwell ≤ 1000003600 }
+    requires dwell_limit { dwell ≤ longest_dwell }
+    requires in_the_day { vehicle.old.ready + dwell ≤ latest_ready }
     ensures vehicle { (stop : Stop) (rest : List Stop) → vehicle.old.stops.items ≡ stop ∷ rest
         → vehicle.new ≡ served dwell vehicle.old stop rest stop.kind }
     ensures reply { (stop : Stop) (rest : List Stop) → vehicle.old.stops.items ≡ stop ∷ rest

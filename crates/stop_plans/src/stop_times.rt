@@ -3,6 +3,7 @@ ghost use Rattle.std.specs.Prelude.{◌≡◌, ◌≤◌, length, All};
 ghost use Rattle.ride_model.specs.declared.vehicle.Stop.{Stop};
 ghost use Rattle.ride_model.specs.Times.{times_from, times_of};
 ghost use Rattle.ride_model.specs.Vehicle.{IsRoutedSomewhere};
+ghost use Rattle.ride_model.specs.Limits.{latest_ready, longest_dwell};
 
 use arrayvec::ArrayVec;
 use ride_model::{Stop, Vehicle};
@@ -10,8 +11,8 @@ use ride_model::{Stop, Vehicle};
 /// The arrival at each stop, in seconds, where the vehicle leaves at `start` and stands `dwell` seconds at each stop.
 pub fn times(vehicle: &Vehicle, start: u64, dwell: u64) -> ArrayVec<u64, 16>
     requires routed { IsRoutedSomewhere vehicle.now }
-    requires start_limit { start ≤ 1000003600 }
-    requires dwell_limit { dwell ≤ 3600 }
+    requires start_limit { start ≤ latest_ready }
+    requires dwell_limit { dwell ≤ longest_dwell }
     ensures { result.items ≡ times_of vehicle.now start dwell }
 {
     times_along(vehicle.stops.as_slice(), start, dwell)
@@ -21,8 +22,8 @@ pub fn times(vehicle: &Vehicle, start: u64, dwell: u64) -> ArrayVec<u64, 16>
 fn times_along(stops: &[Stop], start: u64, dwell: u64) -> ArrayVec<u64, 16>
     requires few { length stops.now ≤ 16 }
     requires legs { All (λ (stop : Stop). stop.leg ≤ 500000000000000) stops.now }
-    requires start_limit { start ≤ 1000003600 }
-    requires dwell_limit { dwell ≤ 3600 }
+    requires start_limit { start ≤ latest_ready }
+    requires dwell_limit { dwell ≤ longest_dwell }
     ensures { result.items ≡ times_from dwell start stops.now }
 {
     let mut times = ArrayVec::new();

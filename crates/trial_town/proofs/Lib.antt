@@ -1,1 +1,2 @@
 pub mod IdleVehicle
+pub mod TwoOfEach

@@ -3,7 +3,7 @@ use Rattle.std.proofs.Common.{◌≡◌, ◌≢◌, ℕ, zero, suc, ◌+◌, ◌
 use Rattle.std.proofs.Common.{get_or, take, drop, Option, Some, None, refl, ap, sym, ◌∙◌, arith, add-one, length-append}
 use Rattle.std.specs.List.{list_all, join_with_byte, AllByRecursion}
 use Rattle.std.proofs.Math.Seq.{take-append_seam}
-use Rattle.std.proofs.lemmas.Bool.{eq-eqb, ne_eqb, and_parts, and_from}
+use Rattle.std.proofs.lemmas.Bool.{eq-eqb, ne_eqb, and_parts, and_from, not-true}
 use Rattle.std.proofs.lemmas.List.Folds.{list_all-append}
 use Rattle.trip_log.specs.Cuts.{cut_at, front_of}
 
@@ -35,11 +35,7 @@ pub cut_at-first : (byte : ℕ) (xs ys : List ℕ) → Avoids byte xs → cut_at
 cut_at-first byte [] ys avoids = rw (eq-eqb byte byte refl) refl
 cut_at-first byte (x ∷ xs) ys avoids =
     let (here, later) = and_parts (not (x == byte)) (list_all (λ b. not (b == byte)) xs) avoids in
-    rw (not_true (x == byte) here, cut_at-first byte xs ys later) refl
-  where
-    not_true : (v : Bool) → not v ≡ true → v ≡ false
-    not_true true is = cc
-    not_true false is = refl
+    rw (not-true (x == byte) here, cut_at-first byte xs ys later) refl
 
 -- two texts that are equal up to and with the first such byte and after it
 pub first-same : (byte : ℕ) (xs ys more others : List ℕ) → Avoids byte xs → Avoids byte ys → xs ++ byte ∷ more ≡ ys ++ byte ∷ others

@@ -3,7 +3,7 @@ use Rattle.std.proofs.Common.{◌≡◌, ℕ, ◌+◌, ◌<◌, ◌==◌, not, B
 use Rattle.std.proofs.Common.{◌∙◌, append_assoc, append-nil, length-append, arith}
 use Rattle.std.specs.Prelude.{codes, decimal}
 use Rattle.std.specs.List.{join_with_byte, list_all}
-use Rattle.std.proofs.lemmas.Bool.{and_parts}
+use Rattle.std.proofs.lemmas.Bool.{and_parts, not-true}
 use Rattle.std.proofs.lemmas.List.Elements.{All-head, All-tail}
 use Rattle.line_text.specs.Lines.{ended_after, ended_lines, rest_after, rest_of}
 use Rattle.line_text.proofs.LineLemmas.{HasNoEnd, ended_after-no_end, rest_after-no_end}
@@ -115,11 +115,7 @@ has_no_end : (bytes : List ℕ) → Avoids 10 bytes → HasNoEnd bytes
 has_no_end [] avoids = tt
 has_no_end (b ∷ bytes) avoids =
     let (here, later) = and_parts (not (b == 10)) (list_all (λ c. not (c == 10)) bytes) avoids in
-    (not_true (b == 10) here, has_no_end bytes later)
-  where
-    not_true : (v : Bool) → not v ≡ true → v ≡ false
-    not_true true is = cc
-    not_true false is = refl
+    (not-true (b == 10) here, has_no_end bytes later)
 
 -- a line is cut off at its LF
 cut-line : (fields : List (List ℕ)) (more : List ℕ) → AreSolid fields

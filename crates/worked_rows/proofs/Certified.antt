@@ -3,6 +3,7 @@ use Rattle.std.proofs.Common.{◌≡◌, ℕ, ◌+◌, ◌≤◌, List, [], ◌�
 use Rattle.std.specs.Prelude.{All, IsSome, IfSome, nat_eq}
 use Rattle.std.specs.List.{IsDistinct, AllByRecursion}
 use Rattle.std.proofs.lemmas.List.Elements.{All-from_recursion}
+use Rattle.plain_lemmas.proofs.Each.{all_of_one, all_of_two, all_of_none}
 use Rattle.ride_model.specs.declared.offer.Seat.{Seat}
 use Rattle.ride_model.specs.declared.vehicle.Ride.{Ride}
 use Rattle.ride_model.specs.declared.vehicle.Vehicle.{Vehicle}
@@ -16,16 +17,6 @@ use Rattle.worked_rows.specs.Runs.{seat}
 use Rattle.worked_rows.specs.Vehicles.{idle_vehicle, ride_7, ride_of_one}
 use Rattle.worked_rows.specs.Greedy.{two_requests, greedy_seats, least_seats}
 use Rattle.worked_rows.specs.PlainPath.{batch}
-
--- what holds of one element, and of two
-pub all_of_one : {X : Type 0} (P : X → Type 0) (x : X) → P x → All P (x ∷ [])
-all_of_one P x p = All-from_recursion P (x ∷ []) (p, tt)
-
-pub all_of_two : {X : Type 0} (P : X → Type 0) (x y : X) → P x → P y → All P (x ∷ y ∷ [])
-all_of_two P x y p q = All-from_recursion P (x ∷ y ∷ []) (p, (q, tt))
-
-pub all_of_none : {X : Type 0} (P : X → Type 0) → All P []
-all_of_none P = All-from_recursion P [] tt
 
 pub greedy_is_seating : IsSeating four_nodes two_requests greedy_seats
 unfolding travel travel_within offer_of IsDistinct

@@ -3,6 +3,7 @@ use Rattle.std.proofs.Common.{◌≡◌, ◌≢◌, ℕ, ◌+◌, ◌≤◌, Lis
 use Rattle.std.specs.Prelude.{All, IfSome, Some, None, Contains, IsFalse}
 use Rattle.std.specs.List.{IsDistinct}
 use Rattle.std.proofs.lemmas.List.Elements.{All-from_recursion}
+use Rattle.plain_lemmas.proofs.Each.{all_of_one, all_of_two, all_of_none}
 use Rattle.ride_model.specs.declared.vehicle.Ride.{Ride}
 use Rattle.ride_model.specs.declared.vehicle.Stop.{Stop}
 use Rattle.ride_model.specs.declared.vehicle.Vehicle.{Vehicle}
@@ -18,7 +19,6 @@ use Rattle.ride_model.specs.Promises.{is_late, KeepsState, KeepsTimes, KeepsProm
 use Rattle.worked_rows.specs.Roads.{four_nodes}
 use Rattle.worked_rows.specs.Vehicles.{idle_vehicle, ride_7, with_ride_7, pickup, dropoff}
 use Rattle.worked_rows.specs.PlainPath.{plain_path, start, one_by_one}
-use Rattle.worked_rows.proofs.Certified.{all_of_none, all_of_one, all_of_two}
 
 pub plain_is_finished : IsFinished 1 1 start plain_path
 unfolding replay travel travel_within offer_of request_step ask_step

@@ -1,10 +1,11 @@
 use Rattle.std.proofs.Common.{◌≡◌, ℕ, sym, ap, ◌∙◌}
 use Rattle.std.specs.Prelude.{Option}
+use Rattle.plain_lemmas.proofs.Options.{none_from_not_some}
 use Rattle.ride_model.specs.declared.vehicle.Vehicle.{Vehicle}
 use Rattle.ride_model.specs.Seating.{vehicle_ids}
 use Rattle.dual_check.specs.Grid.{price_at}
 use Rattle.hungarian.specs.Seats.{pay_at}
-use Rattle.hungarian.proofs.Gathering.{gathered-some, gathered-none, none-from-not_some, id-read}
+use Rattle.hungarian.proofs.Gathering.{gathered-some, gathered-none, id-read}
 use Rattle.hungarian.proofs.seating.pays_by.Goals as goal
 use Rattle.hungarian.proofs.seating.pays_by.Goals.{in-Some+in_ok-push, in_default}
 
@@ -23,5 +24,5 @@ loop-column-preserved c =
           ∙ gathered-some f pays column w.in-Some.pay c.loop-column.invariant (sym here ∙ w.in-Some.is)
       | in_default w ↦ ap (λ v. v.items) w.pays-is
           ∙ gathered-none f pays column c.loop-column.invariant
-          (sym here ∙ none-from-not_some c.pay_at.result w.in_default.not-Some)
+          (sym here ∙ none_from_not_some c.pay_at.result w.in_default.not-Some)
     ]

@@ -3,6 +3,7 @@ use Rattle.std.specs.Prelude.{option_map, Option}
 use Rattle.std.specs.Map.{keys_of, lookup}
 use Rattle.std.proofs.lemmas.List.Quantifiers.{position-Some}
 use Rattle.std.proofs.lemmas.List.Elements.{recursion_from_All}
+use Rattle.plain_lemmas.proofs.Options.{none_from_not_some, none_from_is_some}
 use Rattle.ride_model.specs.Batch.{is_waiting}
 use Rattle.request_book.specs.Book.{request_of, with_state}
 use Rattle.request_book.specs.Kept.{requests_in}
@@ -12,20 +13,12 @@ use Rattle.request_book.proofs.Changes.{requests-at, kept-set}
 use Rattle.request_book.proofs.Places.{waits-there}
 use Rattle.request_book.proofs.RequestBook.set_state.Goals as goal
 
-none-from-not_some : {X : Type 0} (o : Option X) → ((x : X) → o ≡ Some x → ⊥) → o ≡ None
-none-from-not_some None h = refl
-none-from-not_some (Some x) h = absurd (h x refl)
-
-none-from-is_some : {X : Type 0} (o : Option X) → is_some o ≡ false → o ≡ None
-none-from-is_some None h = refl
-none-from-is_some (Some x) h = absurd (cc h)
-
 pub returns-in_default : goal.returns-in_default
 returns-in_default c =
     let entries = c.self.inside.requests.entries in
     let keyed = recursion_from_All IsKeyed entries c.self.invariant.keys_are in
-    let nothing : c.get_index_of.result ≡ None = none-from-not_some c.get_index_of.result c.in_default.not-Some in
-    let none : lookup (eqb c.args.id) entries ≡ None = none-from-is_some (lookup (eqb c.args.id) entries)
+    let nothing : c.get_index_of.result ≡ None = none_from_not_some c.get_index_of.result c.in_default.not-Some in
+    let none : lookup (eqb c.args.id) entries ≡ None = none_from_is_some (lookup (eqb c.args.id) entries)
     (sym c.get_index_of.ensures.found ∙ ap is_some nothing) in
     let absent : request_of c.args.self.now c.args.id ≡ None =
     ap (λ rs. request_of rs c.args.id) (sym c.self.view_is) ∙ sym (looked-up c.args.id entries keyed) ∙ ap (option_map request_by) none in

@@ -1,10 +1,11 @@
 use Rattle.std.proofs.Common.{◌≡◌, ◌+◌, get_or, sym, ap, ◌∙◌, subst}
 use Rattle.std.specs.Prelude.{Some, None, not, slice_get}
 use Rattle.std.proofs.lemmas.Option.{slice_get-get_or}
+use Rattle.plain_lemmas.proofs.Options.{none_from_is_some}
 use Rattle.road_times.specs.declared.adjacency.Neighbor.{Neighbor}
 use Rattle.radix_queue.specs.Queue.{key_of, lesser_key}
 use Rattle.road_times.specs.Search.{IsRelaxed}
-use Rattle.road_times.proofs.Lists.{none_from_not_some, some_from_is_some}
+use Rattle.road_times.proofs.Lists.{some_from_is_some}
 use Rattle.road_times.proofs.Relaxing.{relaxed-settled, relaxed-put}
 use Rattle.road_times.proofs.search.relax.Goals as goal
 use Rattle.road_times.proofs.search.relax.Goals.{then-is_none, else-is_none}
@@ -20,7 +21,7 @@ loop-neighbor-preserved c =
       | then-is_none w ↦
           subst (λ q. IsRelaxed labels neighbors (index + 1) c.args.label c.args.queue.now q) (sym w.queue-is)
           (relaxed-put labels neighbors index c.args.label c.args.queue.now c.loop-neighbor.queue w.put_or_lower.new.self neighbor c.loop-neighbor.invariant here
-          (none_from_not_some (get_or labels neighbor.node None) (c.is_none.ensures ∙ ap not w.if-is_none.true))
+          (none_from_is_some (get_or labels neighbor.node None) (c.is_none.ensures ∙ ap not w.if-is_none.true))
           (w.put_or_lower.ensures.key ∙ ap (λ s. Some (lesser_key (key_of c.loop-neighbor.queue neighbor.node) (c.args.label + s))) w.from.ensures) w.put_or_lower.ensures.others w.put_or_lower.ensures.same_floor w.put_or_lower.ensures.size w.put_or_lower.ensures.above)
       | else-is_none w ↦
           let (had, has) = some_from_is_some (get_or labels neighbor.node None) (c.is_none.ensures ∙ ap not w.if-is_none.false) in

@@ -1,5 +1,5 @@
 use Rattle.std.proofs.Common.{ap, ◌∙◌, ◌+◌, arith}
-use Rattle.slack_tables.proofs.Arrivals.{leave-read}
+use Rattle.insertion.proofs.PlanTimes.{leave-read}
 use Rattle.slack_tables.proofs.places.leave_at.Goals as goal
 
 pub returns-else-place-eq0-clause-value : goal.returns-else-place-eq0-clause-value

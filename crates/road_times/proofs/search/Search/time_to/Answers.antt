@@ -1,8 +1,9 @@
 use Rattle.std.proofs.Common.{◌≡◌, ◌<◌, length, sym, ap, ◌∙◌, arith}
 use Rattle.std.specs.Prelude.{None, not}
 use Rattle.std.proofs.lemmas.List.{get_or_read}
+use Rattle.plain_lemmas.proofs.Options.{none_from_is_some}
 use Rattle.road_times.specs.Search.{label_of}
-use Rattle.road_times.proofs.Lists.{none_from_not_some, some_from_is_some}
+use Rattle.road_times.proofs.Lists.{some_from_is_some}
 use Rattle.road_times.proofs.Searches.{label_is_travel, nothing_is_left}
 use Rattle.road_times.proofs.search.Search.time_to.Goals as goal
 
@@ -18,7 +19,7 @@ returns-then-not-advance-clause-time c roads source over =
     let old = c.loop-self.self.labels.items in
     let low : node < length old = omega (arith, c.loop-self.invariant.size, c.requires.over.2.state.sized, c.requires.over.3) in
     let read : c.index.result.now ≡ label_of old node = get_or_read old node c.index.result.now low c.index.ensures None in
-    let none : label_of old node ≡ None = sym read ∙ none_from_not_some c.index.result.now (c.is_none.ensures ∙ ap not c.loop-self-test.true) in
+    let none : label_of old node ≡ None = sym read ∙ none_from_is_some c.index.result.now (c.is_none.ensures ∙ ap not c.loop-self-test.true) in
     let same = ap (λ v. v.items) (c.advance.ensures.labels c.if-not-advance.true) in
     sym (nothing_is_left roads source c.advance.new.self.labels.items c.advance.new.self.queue node now.fits now.state
     (c.advance.ensures.left c.if-not-advance.true) (ap (λ ls. label_of ls node) same ∙ none))

@@ -1,7 +1,7 @@
 -- Sums over lists.
-use Rattle.std.proofs.Common.{◌≡◌, ℕ, ◌+◌, ◌*◌, ◌≤◌, Bool, true, false, cond, List, [], ◌∷◌, length, refl, sym, ◌∙◌, ap, mul-suc, arith}
+use Rattle.std.proofs.Common.{◌≡◌, ℕ, ◌+◌, ◌*◌, ◌≤◌, List, [], ◌∷◌, length, refl, sym, ◌∙◌, ap, mul-suc, arith}
 use Rattle.std.specs.Prelude.{map}
-use Rattle.std.specs.List.{filter, sum_by, AllByRecursion}
+use Rattle.std.specs.List.{sum_by, AllByRecursion}
 use Rattle.std.proofs.lemmas.List.Sums.{sum_by-cons}
 
 -- a sum of lesser terms is less
@@ -27,12 +27,3 @@ pub sum_by-le-times : {X : Type 0} (f : X → ℕ) (m : ℕ) (xs : List X) → A
 sum_by-le-times f m [] h = omega arith
 sum_by-le-times f m (x ∷ xs) (first, rest) =
     omega (arith, first, sum_by-le-times f m xs rest, sum_by-cons f x xs, mul-suc m (length xs))
-
--- what holds of each element holds of each that a filter keeps
-pub each-filter : {X : Type 0} (P : X → Type 0) (p : X → Bool) (xs : List X) → AllByRecursion P xs → AllByRecursion P (filter p xs)
-each-filter P p [] h = tt
-each-filter P p (x ∷ xs) (first, rest) =
-    elim (p x) as (λ b. AllByRecursion P (cond b (x ∷ filter p xs) (filter p xs))) [
-      | true ↦ (first, each-filter P p xs rest)
-      | false ↦ each-filter P p xs rest
-    ]

@@ -1,0 +1,64 @@
+-- The limits of what is taken: of commands, settings, batches and maps. Times are in seconds.
+use Rattle.std.specs.Prelude.{ℕ}
+
+-- the latest time that a clock, a report or a rider may name
+abbrev pub latest_time : ℕ
+latest_time = 1000000000
+
+-- the longest that a vehicle stands at a stop, and that an idle one stays before it leaves
+abbrev pub longest_dwell : ℕ
+longest_dwell = 3600
+
+abbrev pub longest_lead : ℕ
+longest_lead = 3600
+
+-- the latest time at which a vehicle is ready: it may serve a stop that it reaches at the latest time
+abbrev pub latest_ready : ℕ
+latest_ready = 1000003600
+
+-- the longest ride that a rider allows
+abbrev pub longest_ride : ℕ
+longest_ride = 1000000
+
+-- the longest way on which an idle vehicle is sent ahead
+abbrev pub longest_reach : ℕ
+longest_reach = 1000000
+
+-- the most seats and places for wheelchairs of a request
+abbrev pub most_seats : ℕ
+most_seats = 8
+
+abbrev pub most_chairs : ℕ
+most_chairs = 4
+
+-- the most requests that a session accepts, and that a batch takes
+abbrev pub most_requests : ℕ
+most_requests = 100000
+
+abbrev pub largest_batch : ℕ
+largest_batch = 128
+
+-- the most batches that a session is asked for
+abbrev pub most_batches : ℕ
+most_batches = 2000
+
+-- more commands than a feed has lines
+abbrev pub most_commands : ℕ
+most_commands = 1000000000
+
+-- the greatest cost of turning a request away, and of a second of driving or waiting
+abbrev pub greatest_penalty : ℕ
+greatest_penalty = 1000000000000
+
+abbrev pub greatest_weight : ℕ
+greatest_weight = 1000
+
+-- the most nodes and arcs of a map, and the longest arc
+abbrev pub most_nodes : ℕ
+most_nodes = 500000
+
+abbrev pub most_arcs : ℕ
+most_arcs = 2000000
+
+abbrev pub longest_arc : ℕ
+longest_arc = 1000000000

@@ -1,0 +1,37 @@
+//! The limits of what is taken: of commands, settings and batches. Times are in seconds.
+
+/// The latest time that a clock, a report or a rider may name.
+pub const LATEST_TIME: u64 = 1_000_000_000;
+
+/// The longest that a vehicle stands at a stop.
+pub const LONGEST_DWELL: u64 = 3_600;
+
+/// The longest that an idle vehicle stays before it leaves.
+pub const LONGEST_LEAD: u64 = 3_600;
+
+/// The latest time at which a vehicle is ready: it may serve a stop that it reaches at the latest time.
+pub const LATEST_READY: u64 = 1_000_003_600;
+
+/// The longest ride that a rider allows.
+pub const LONGEST_RIDE: u64 = 1_000_000;
+
+/// The longest way on which an idle vehicle is sent ahead.
+pub const LONGEST_REACH: u64 = 1_000_000;
+
+/// The most seats of a request.
+pub const MOST_SEATS: u64 = 8;
+
+/// The most places for wheelchairs of a request.
+pub const MOST_CHAIRS: u64 = 4;
+
+/// The most requests of a batch.
+pub const LARGEST_BATCH: u64 = 128;
+
+/// The most batches that a session is asked for.
+pub const MOST_BATCHES: u64 = 2_000;
+
+/// The greatest cost of turning a request away.
+pub const GREATEST_PENALTY: u64 = 1_000_000_000_000;
+
+/// The greatest cost of a second of driving or of waiting.
+pub const GREATEST_WEIGHT: u64 = 1_000;
