@@ -27,14 +27,14 @@ use Rattle.ride_model.specs.Vehicle.{IsLawful}
 use Rattle.model_laws.proofs.Histories.{IsLegal-push, replay-push}
 use Rattle.history_laws.specs.Consistent.{HasPromised, IsWithVehicle, IsConsistent}
 use Rattle.history_laws.specs.Start.{fed_total, IsFedWithin}
+use Rattle.history_laws.proofs.EveryState.{consistent}
 use Rattle.board_core.specs.declared.desks.Desks.{Desks}
 use Rattle.board_core.specs.declared.service.Service.{Service}
 use Rattle.board_core.specs.Given.{Given}
 use Rattle.board_core.specs.Kept.{places_kept, none_yet, ending_of, is_whole_end, Mirrors, IsBoard}
 use Rattle.board_core.specs.Recorded.{Recorded, IsRecorded, state_of}
 use Rattle.board_core.specs.Service.{state_at, answered_at, HasRoomAbove, IsInOrder}
-use Rattle.board_core.proofs.Fedded.{fed_total-le, within-push, few-of_feed}
-use Rattle.board_core.proofs.Laws.{consistent}
+use Rattle.board_core.proofs.FedEntries.{fed_total-le, within-push, few-of_feed}
 
 -- vehicles of the same ids are a fleet as well
 fleet-same : (vs ws : List Vehicle) → vehicle_ids vs ≡ vehicle_ids ws → IsFleet ws → IsFleet vs

@@ -4,6 +4,8 @@ use Rattle.std.specs.Prelude.{◌==◌, Option, Some, None, option_map, find, Is
 use Rattle.std.specs.List.{filter, list_any}
 use Rattle.std.proofs.lemmas.Bool.{eqb-true, eq-eqb}
 use Rattle.std.proofs.lemmas.List.Folds.{list_any-append}
+use Rattle.std.proofs.Math.Bool.{or-true}
+use Rattle.std.proofs.lemmas.Option.{same_Some}
 use Rattle.ride_model.specs.declared.command.Actor.TheVariants.{Desk}
 use Rattle.ride_model.specs.declared.entry.Entry.{Entry}
 use Rattle.ride_model.specs.declared.entry.Event.TheVariants.{Committed, Abandoned}
@@ -16,12 +18,14 @@ use Rattle.ride_model.specs.History.{is_abandoned}
 use Rattle.ride_model.specs.Legal.{after_event, after_entry, IsLegalEntry, CommitsBatch}
 use Rattle.ride_model.specs.Seating.{BatchCopy}
 use Rattle.ride_model.specs.State.{State, is_batch, open_batch_of, open_batch_numbered}
-use Rattle.model_laws.proofs.Among.{Among}
+use Rattle.plain_lemmas.proofs.Among.{Among}
+use Rattle.plain_lemmas.proofs.Each.{of_all}
 use Rattle.model_laws.proofs.Certificates.{found_among}
 use Rattle.model_laws.proofs.Histories.{replay-push}
 use Rattle.history_laws.specs.Consistent.{IsOpenBatch}
 use Rattle.history_laws.specs.Start.{is_fed, IsFedSpelled}
-use Rattle.history_laws.proofs.Lookups.{of_all, found_by}
+use Rattle.history_laws.proofs.Lookups.{found_by}
+use Rattle.history_laws.proofs.OpenedBatches.{committed-state, abandoned-state}
 use Rattle.board_core.specs.declared.desks.Desks.{Desks}
 use Rattle.board_core.specs.declared.service.Service.{Service}
 use Rattle.board_core.specs.Given.{Given}
@@ -29,7 +33,7 @@ use Rattle.board_core.specs.Kept.{places_kept, with_closed, with_given_up, Mirro
 use Rattle.board_core.specs.Numbers.{at_number, one_if_some}
 use Rattle.board_core.specs.Recorded.{Recorded, state_of, abandoned_entry}
 use Rattle.board_core.specs.Service.{state_at}
-use Rattle.board_core.proofs.Fedded.{within-push, none-of_others}
+use Rattle.board_core.proofs.FedEntries.{within-push, none-of_others}
 use Rattle.board_core.proofs.Numbering.{at_number-with, count-with}
 use Rattle.board_core.proofs.Boards.{board-consistent, pushed, recorded-push, abandoned-push}
 
@@ -145,7 +149,7 @@ board-closed setup service after kept given_up capacity room board batch entry i
           (λ feed. omega (arith, none-of_others entry not_fed feed, is.recorded.fed_within.few feed)));
       mirrors = mirrors-closed setup service after kept given_up board.desks s (state_of (pushed board entry board.spare)) batch board.history
           (board.history ++ entry ∷ []) is.mirrors is.recorded.desks_fit.1 facts
-          (λ b there here. same_number b (same_some b batch (sym (found_by (λ (x : BatchCopy). x.desk) s.batches b c.desks_differ there)
+          (λ b there here. same_number b (same_Some b batch (sym (found_by (λ (x : BatchCopy). x.desk) s.batches b c.desks_differ there)
           ∙ ap (open_batch_of s) (eqb-true b.desk batch.desk here) ∙ facts.of_desk)))
           (replay-push board.start board.history entry ∙ stepped) given;
       room = omega (
@@ -157,16 +161,8 @@ board-closed setup service after kept given_up capacity room board batch entry i
       );
     }
   where
-    same_some : (x y : BatchCopy) → Some x ≡ Some y → x ≡ y
-    same_some x y e = cc e
-
     same_number : (b : BatchCopy) → b ≡ batch → eqb b.number batch.number ≡ true
     same_number b equal = eq-eqb b.number batch.number (ap (λ (x : BatchCopy). x.number) equal)
-
--- the state after a batch was given up
-after-abandoned : (s : State) (batch : BatchCopy) → open_batch_numbered s batch.desk batch.number ≡ Some batch
-    → after_event s (Desk batch.desk) (Abandoned batch.number) ≡ after_abandon batch s
-after-abandoned s batch is = rw is refl
 
 -- a board goes on by a batch that is given up
 pub board-abandoned : (setup : Given) (service after : Service) (kept : Desks) (capacity room : ℕ) (board : Recorded) (batch : BatchCopy)
@@ -179,21 +175,11 @@ pub board-abandoned : (setup : Given) (service after : Service) (kept : Desks) (
 board-abandoned setup service after kept capacity room board batch is open_is released rises =
     let s : State = state_of board in
     board-closed setup service after kept true capacity room board batch (abandoned_entry batch) is open_is
-    (after-abandoned s batch open_is
+    (abandoned-state s batch open_is
     ∙ ap (without_batch batch) (ap (λ t. with_request_states Waiting (standing_rides batch t) t) is.mirrors.state_is ∙ released))
     (subst IsSome (sym open_is) refl) refl tt
     (sym (list_any-append (λ (e : Entry). is_abandoned e.event) board.history (abandoned_entry batch ∷ [])
-    ∙ or_true (list_any (λ (e : Entry). is_abandoned e.event) board.history))) rises
-  where
-    or_true : (b : Bool) → (b || true) ≡ true
-    or_true true = refl
-    or_true false = refl
-
--- the state after a batch was committed
-after-committed : (s : State) (batch : BatchCopy) (cost : ℕ) (seats : List Seat) (prices pays : List (ℕ × ℕ)) (outcomes : List (ℕ × Outcome))
-    → open_batch_numbered s batch.desk batch.number ≡ Some batch
-    → after_event s (Desk batch.desk) (Committed batch.number cost seats prices pays outcomes) ≡ after_commit batch seats s
-after-committed s batch cost seats prices pays outcomes is = rw is refl
+    ∙ or-true (list_any (λ (e : Entry). is_abandoned e.event) board.history))) rises
 
 -- a board goes on by a commit
 pub board-committed : (setup : Given) (service after : Service) (kept : Desks) (capacity room : ℕ) (board : Recorded) (batch : BatchCopy)
@@ -209,7 +195,7 @@ board-committed setup service after kept capacity room board batch cost seats pr
     let s : State = state_of board in
     let entry : Entry = record { actor = Desk batch.desk; event = Committed batch.number cost seats prices pays outcomes } in
     board-closed setup service after kept kept.given_up capacity room board batch entry is open_is
-    (after-committed s batch cost seats prices pays outcomes open_is
+    (committed-state s batch cost seats prices pays outcomes open_is
     ∙ ap (without_batch batch) (ap (after_outcomes batch seats s batch.requests) is.mirrors.state_is ∙ settled))
     (subst (λ o. IsSomeAnd o (λ b. CommitsBatch s b cost seats prices pays outcomes)) (sym open_is) commits) refl tt
     (is.mirrors.given_up_is ∙ sym (abandoned-push board.history entry refl)) rises

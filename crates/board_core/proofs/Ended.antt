@@ -4,6 +4,7 @@ use Rattle.std.specs.Prelude.{Option, Some, None, is_some, option_map}
 use Rattle.std.specs.List.{list_any}
 use Rattle.std.proofs.lemmas.Bool.{eqb-true}
 use Rattle.std.proofs.lemmas.List.Folds.{list_any-append}
+use Rattle.std.proofs.Math.Bool.{or-true, or-false}
 use Rattle.ride_model.specs.declared.command.Actor.{Actor}
 use Rattle.ride_model.specs.declared.command.Actor.TheVariants.{Feed, Desk}
 use Rattle.ride_model.specs.declared.entry.Ending.{Ending}
@@ -21,7 +22,7 @@ use Rattle.board_core.specs.Given.{Given}
 use Rattle.board_core.specs.Kept.{ending_of, is_whole_end, places_kept, with_ending, Mirrors, IsBoard}
 use Rattle.board_core.specs.Numbers.{at_number, with_number, one_if_some}
 use Rattle.board_core.specs.Recorded.{Recorded, state_of}
-use Rattle.board_core.proofs.Fedded.{within-push, none-of_others}
+use Rattle.board_core.proofs.FedEntries.{within-push, none-of_others}
 use Rattle.board_core.proofs.Numbering.{at_number-with, count-with, count-le}
 use Rattle.board_core.proofs.Boards.{pushed, recorded-push, abandoned-push}
 
@@ -100,21 +101,13 @@ mirrors-ended setup service kept s old new actor ending m fits lives given_up = 
     same_given_up (Feed n) = given_up
     same_given_up (Desk n) = given_up
 
-    or_true : (b : Bool) → (b || true) ≡ true
-    or_true true = refl
-    or_true false = refl
-
-    or_false : (b : Bool) → (b || false) ≡ b
-    or_false true = refl
-    or_false false = refl
-
     ended : (other : Actor) (b : Bool) → is_actor actor other ≡ b
         → (has_ended s other || (is_actor actor other || false)) ≡ is_some (ending_of (with_ending actor ending kept) other)
     ended other true is =
-        ap (λ b. has_ended s other || (b || false)) is ∙ or_true (has_ended s other)
+        ap (λ b. has_ended s other || (b || false)) is ∙ or-true (has_ended s other)
         ∙ sym (ap is_some (ending_of-with kept actor other ending fits ∙ ap (λ b. cond b (Some ending) (ending_of kept other)) is))
     ended other false is =
-        ap (λ b. has_ended s other || (b || false)) is ∙ or_false (has_ended s other) ∙ m.ended_are other
+        ap (λ b. has_ended s other || (b || false)) is ∙ or-false (has_ended s other) ∙ m.ended_are other
         ∙ sym (ap is_some (ending_of-with kept actor other ending fits ∙ ap (λ b. cond b (Some ending) (ending_of kept other)) is))
 
     not_whole : (o : Option Ending) → is_some o ≡ false → is_whole_end o ≡ false
@@ -128,10 +121,10 @@ mirrors-ended setup service kept s old new actor ending m fits lives given_up = 
         = sym (m.ended_are other) ∙ ap (has_ended s) (sym (is_actor-same actor other is)) ∙ lives in
         ap (λ b. ended_whole s other || ((b && is_whole ending) || false)) is
         ∙ ap (λ b. b || (is_whole ending || false)) (m.whole_are other ∙ not_whole (ending_of kept other) lived)
-        ∙ or_false (is_whole ending)
+        ∙ or-false (is_whole ending)
         ∙ sym (ap is_whole_end (ending_of-with kept actor other ending fits ∙ ap (λ b. cond b (Some ending) (ending_of kept other)) is))
     whole other false is =
-        ap (λ b. ended_whole s other || ((b && is_whole ending) || false)) is ∙ or_false (ended_whole s other) ∙ m.whole_are other
+        ap (λ b. ended_whole s other || ((b && is_whole ending) || false)) is ∙ or-false (ended_whole s other) ∙ m.whole_are other
         ∙ sym (ap is_whole_end (ending_of-with kept actor other ending fits ∙ ap (λ b. cond b (Some ending) (ending_of kept other)) is))
 
 -- an actor that may end is one of two, and has not ended

@@ -2,17 +2,16 @@
 use Rattle.std.proofs.Common.{◌≡◌, ℕ, ◌≤◌, Bool, true, false, not, ◌&&◌, cond, inl, inr, List, [], ◌∷◌, eqb, refl, sym, ◌∙◌, ap, subst, arith}
 use Rattle.std.specs.Prelude.{◌==◌, Option, Some, None, option_map, find, All, IsTrue, ◌↔◌}
 use Rattle.std.specs.List.{list_all, range_with_len}
-use Rattle.std.proofs.lemmas.Bool.{eqb-true, eq-eqb}
+use Rattle.std.proofs.lemmas.Bool.{eqb-true, eq-eqb, not-true, and_from, and_parts}
 use Rattle.ride_model.specs.declared.command.Actor.TheVariants.{Feed, Desk}
 use Rattle.ride_model.specs.History.{ended_whole, IsFinished}
-use Rattle.model_laws.proofs.Among.{Among}
+use Rattle.plain_lemmas.proofs.Among.{Among}
+use Rattle.plain_lemmas.proofs.Each.{of_all}
 use Rattle.ride_model.specs.Seating.{BatchCopy}
 use Rattle.ride_model.specs.State.{State, open_batch_of}
 use Rattle.ride_model.specs.Text.{IsOneOrTwo}
-use Rattle.model_laws.proofs.AboardLoads.{and-true, true-and}
 use Rattle.history_laws.specs.Consistent.{IsConsistent, IsOpenBatch}
 use Rattle.history_laws.specs.Start.{fed_total}
-use Rattle.history_laws.proofs.Lookups.{of_all}
 use Rattle.board_core.specs.declared.desks.Desks.{Desks}
 use Rattle.board_core.specs.declared.numbered.Numbered.{Numbered}
 use Rattle.board_core.specs.declared.service.Service.{Service}
@@ -60,27 +59,27 @@ pub finished-is : (setup : Given) (service : Service) (kept : Desks) (capacity :
     → IsTrue (is_finished kept board.feeds board.desks service.asked) ↔ IsFinished board.feeds board.desks board.start board.history
 finished-is setup service kept capacity board is = (
   (λ whole.
-      let (four, not_given) = and-true (all_whole kept.feeds_ended board.feeds && all_whole kept.desks_ended board.desks && eqb kept.opened service.asked
+      let (four, not_given) = and_parts (all_whole kept.feeds_ended board.feeds && all_whole kept.desks_ended board.desks && eqb kept.opened service.asked
       && eqb (count_in kept.batches) 0) (not kept.given_up) whole in
-      let (three, none) = and-true (all_whole kept.feeds_ended board.feeds && all_whole kept.desks_ended board.desks && eqb kept.opened service.asked)
+      let (three, none) = and_parts (all_whole kept.feeds_ended board.feeds && all_whole kept.desks_ended board.desks && eqb kept.opened service.asked)
       (eqb (count_in kept.batches) 0) four in
-      let (two, opened) = and-true (all_whole kept.feeds_ended board.feeds && all_whole kept.desks_ended board.desks) (eqb kept.opened service.asked) three in
-      let (feeds, desks) = and-true (all_whole kept.feeds_ended board.feeds) (all_whole kept.desks_ended board.desks) two in
+      let (two, opened) = and_parts (all_whole kept.feeds_ended board.feeds && all_whole kept.desks_ended board.desks) (eqb kept.opened service.asked) three in
+      let (feeds, desks) = and_parts (all_whole kept.feeds_ended board.feeds) (all_whole kept.desks_ended board.desks) two in
       record {
         feeds_whole = feeds_are ∙ feeds;
         desks_whole = desks_are ∙ desks;
         all_opened = sym m.opened_is ∙ eqb-true kept.opened service.asked opened ∙ sym asked_is;
         none_open = none-open board.desks kept.batches s s.batches is.recorded.desks_fit.1 refl c.batches_fit m.open_are
             (eqb-true (count_in kept.batches) 0 none);
-        none_given_up = sym m.given_up_is ∙ not_true kept.given_up not_given;
+        none_given_up = sym m.given_up_is ∙ not-true kept.given_up not_given;
       }),
   (λ f.
-      true-and (all_whole kept.feeds_ended board.feeds && all_whole kept.desks_ended board.desks && eqb kept.opened service.asked
+      and_from (all_whole kept.feeds_ended board.feeds && all_whole kept.desks_ended board.desks && eqb kept.opened service.asked
       && eqb (count_in kept.batches) 0) (not kept.given_up)
-      (true-and (all_whole kept.feeds_ended board.feeds && all_whole kept.desks_ended board.desks && eqb kept.opened service.asked)
+      (and_from (all_whole kept.feeds_ended board.feeds && all_whole kept.desks_ended board.desks && eqb kept.opened service.asked)
       (eqb (count_in kept.batches) 0)
-      (true-and (all_whole kept.feeds_ended board.feeds && all_whole kept.desks_ended board.desks) (eqb kept.opened service.asked)
-      (true-and (all_whole kept.feeds_ended board.feeds) (all_whole kept.desks_ended board.desks)
+      (and_from (all_whole kept.feeds_ended board.feeds && all_whole kept.desks_ended board.desks) (eqb kept.opened service.asked)
+      (and_from (all_whole kept.feeds_ended board.feeds) (all_whole kept.desks_ended board.desks)
       (sym feeds_are ∙ f.feeds_whole) (sym desks_are ∙ f.desks_whole))
       (eq-eqb kept.opened service.asked (m.opened_is ∙ f.all_opened ∙ asked_is)))
       (eq-eqb (count_in kept.batches) 0 (none-counted kept.batches (nothing 1 f.none_open) (nothing 2 f.none_open))))
@@ -104,10 +103,6 @@ finished-is setup service kept capacity board is = (
 
     desks_are : list_all (λ n. ended_whole s (Desk n)) (range_with_len 1 board.desks) ≡ all_whole kept.desks_ended board.desks
     desks_are = λ i. list_all (λ n. m.whole_are (Desk n) i) (range_with_len 1 board.desks)
-
-    not_true : (b : Bool) → not b ≡ true → b ≡ false
-    not_true true h = absurd (cc h)
-    not_true false h = refl
 
     nothing : (desk : ℕ) → s.batches ≡ [] → at_number kept.batches desk ≡ None
     nothing desk none = sym (m.open_are desk)

@@ -15,8 +15,9 @@ use Rattle.model_laws.proofs.Removal.{route_without, without_ride-is}
 use Rattle.stop_plans.specs.Change.{RemovesFrom}
 use Rattle.stop_plans.specs.First.{IsFirst, is_visit}
 use Rattle.stop_plans.proofs.RemovedLegs.{removal_places}
-use Rattle.history_laws.proofs.Lookups.{of_all}
-use Rattle.model_laws.proofs.Among.{among_from_contains}
+use Rattle.plain_lemmas.proofs.Among.{among_from_contains}
+use Rattle.plain_lemmas.proofs.Each.{of_all}
+use Rattle.plain_lemmas.proofs.Lists.{same-head, same-tail}
 use Rattle.board_core.specs.Legs.{nodes_without, leg_along, HasWaiting}
 use Rattle.board_core.proofs.LegLaws.{leg-of_route}
 
@@ -42,8 +43,8 @@ first-of id (s ∷ stops) visit visits is =
         rest = stops;
         stops_are = refl;
         ride_is = eqb-true s.ride id here;
-        visit_is = head (visit_of s) visit (map visit_of (stops_of id stops)) visits is;
-        rest_are = tail (visit_of s) visit (map visit_of (stops_of id stops)) visits is;
+        visit_is = same-head (visit_of s) visit (map visit_of (stops_of id stops)) visits is;
+        rest_are = same-tail (visit_of s) visit (map visit_of (stops_of id stops)) visits is;
       }
       | false ↦ λ other is.
           let later = first-of id stops visit visits is in
@@ -57,12 +58,6 @@ first-of id (s ∷ stops) visit visits is =
             rest_are = later.rest_are;
           }
     ] refl is
-  where
-    head : (a b : Kind × ℕ) (xs ys : List (Kind × ℕ)) → a ∷ xs ≡ b ∷ ys → a ≡ b
-    head a b xs ys e = cc e
-
-    tail : (a b : Kind × ℕ) (xs ys : List (Kind × ℕ)) → a ∷ xs ≡ b ∷ ys → xs ≡ ys
-    tail a b xs ys e = cc e
 
 -- what is taken out, with the legs that are left
 canonical : (roads : RoadMap) (v : Vehicle) (id : ℕ) → IsRoadMap roads → IsLawful roads v → HasWaiting v id

@@ -10,12 +10,13 @@ use Rattle.ride_model.specs.Road.{RoadMap, IsNode, travel}
 use Rattle.ride_model.specs.Vehicle.{IsRide, IsLawful, visit_of, visits_due, stops_of, ride_ids}
 use Rattle.ride_model.specs.Insertion.{routed, stops_without}
 use Rattle.ride_model.specs.Offers.{leg_at}
-use Rattle.model_laws.proofs.Among.{Among, among_from_contains, among_map, among_map_back, among_filter}
+use Rattle.plain_lemmas.proofs.Among.{Among, among_from_contains, among_map, among_map_back, among_filter}
+use Rattle.plain_lemmas.proofs.Each.{of_all, all_of}
 use Rattle.stop_plans.proofs.InsertedLegs.{route_head}
-use Rattle.history_laws.proofs.Lookups.{of_all, all_of}
 use Rattle.history_laws.proofs.Raised.{length-filter-le}
 use Rattle.std.proofs.lemmas.List.{length-map}
 use Rattle.std.proofs.lemmas.Bool.{eq-eqb}
+use Rattle.std.proofs.lemmas.Option.{same_Some}
 use Rattle.board_core.specs.Legs.{nodes_without, leg_along}
 
 -- past the last but one node there is no leg
@@ -40,10 +41,7 @@ leg-within roads nodes place next_place d e is h =
 -- the legs of a route are those along its nodes
 pub leg-of_route : (roads : RoadMap) (at : ℕ) (stops out : List Stop) (place : ℕ) → routed roads at stops ≡ Some out
     → leg_at out place ≡ leg_along roads (at ∷ map (λ (stop : Stop). stop.node) stops) place
-leg-of_route roads at [] out place is = ap (λ xs. leg_at xs place) (same out [] (sym is))
-  where
-    same : (a b : List Stop) → Some a ≡ Some b → a ≡ b
-    same a b e = cc e
+leg-of_route roads at [] out place is = ap (λ xs. leg_at xs place) (same_Some out [] (sym is))
 leg-of_route roads at (stop ∷ stops) out zero is =
     let head = route_head roads at stop stops out is in
     ap (λ xs. leg_at xs 0) head.out_is ∙ ap (λ o. unwrap_or o 0) (sym head.there)

@@ -4,10 +4,9 @@ pub mod Freed
 pub mod Placed
 pub mod Moved
 pub mod Promised
-pub mod Wished
+pub mod WishSteps
 pub mod Served
-pub mod Laws
-pub mod Fedded
+pub mod FedEntries
 pub mod Boards
 pub mod Numbering
 pub mod Ended

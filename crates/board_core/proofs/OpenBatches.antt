@@ -6,6 +6,8 @@ use Rattle.std.specs.Option.{option_or}
 use Rattle.std.specs.declared.alloc.AllocError.{AllocError}
 use Rattle.std.proofs.lemmas.Bool.{eqb-true, ne_eqb}
 use Rattle.std.proofs.lemmas.List.Folds.{find-append}
+use Rattle.plain_lemmas.proofs.Each.{of_all}
+use Rattle.plain_lemmas.proofs.Lists.{length-filter_map-le}
 use Rattle.ride_model.specs.declared.command.Actor.{Actor}
 use Rattle.ride_model.specs.declared.command.Actor.TheVariants.{Feed}
 use Rattle.ride_model.specs.declared.command.Command.{Command}
@@ -27,7 +29,6 @@ use Rattle.history_laws.specs.Consistent.{IsOpenBatch}
 use Rattle.history_laws.specs.Start.{IsStart}
 use Rattle.history_laws.proofs.EveryState.{consistent}
 use Rattle.history_laws.proofs.Leaving.{is_batch-own}
-use Rattle.history_laws.proofs.Lookups.{of_all}
 use Rattle.history_laws.proofs.Raised.{length-filter-le}
 use Rattle.history_laws.proofs.Untouched.{leaves-step, stays-outcomes}
 use Rattle.board_core.specs.declared.opening.Opening.{Opening}
@@ -56,7 +57,7 @@ open-more s t batch more b held =
     ∙ ap (λ o. option_or o (find (is_batch b.desk b.number) (batch ∷ []))) held
 
 -- no batch of a desk has a number
-none-numbered : (desk number : ℕ) (batches : List BatchCopy) → find (λ (b : BatchCopy). b.desk == desk) batches ≡ None
+pub none-numbered : (desk number : ℕ) (batches : List BatchCopy) → find (λ (b : BatchCopy). b.desk == desk) batches ≡ None
     → find (is_batch desk number) batches ≡ None
 none-numbered desk number [] none = refl
 none-numbered desk number (b ∷ batches) none = by_test (none-numbered desk number batches) (eqb b.desk desk) refl
@@ -249,22 +250,13 @@ pub still-kept : (desk : ℕ) (s t : State) (kept : Option BatchCopy) → ((b : 
 still-kept desk s t None stays is = tt
 still-kept desk s t (Some b) stays (desk_is, held) = (desk_is, stays b held)
 
--- no more elements are made than there are
-pub length-filter_map : {X Y : Type 0} (f : X → Option Y) (xs : List X) → length (filter_map f xs) ≤ length xs
-length-filter_map f [] = omega arith
-length-filter_map {X} {Y} f (x ∷ xs) = by_option (length-filter_map f xs) (f x)
-  where
-    by_option : length (filter_map f xs) ≤ length xs → (o : Option Y) → length (cons_option o (filter_map f xs)) ≤ suc (length xs)
-    by_option later None = omega (arith, later)
-    by_option later (Some y) = omega (arith, later)
-
 -- a feed has given no more commands than there are entries
 pub fed-le : (feed : ℕ) (entries : List Entry) → length (fed_commands feed entries) ≤ length entries
 unfolding entries_of
 fed-le feed entries =
     omega (
       arith,
-      length-filter_map (λ (entry : Entry). command_of entry.event) (filter (λ (entry : Entry). is_actor entry.actor (Feed feed)) entries),
+      length-filter_map-le (λ (entry : Entry). command_of entry.event) (filter (λ (entry : Entry). is_actor entry.actor (Feed feed)) entries),
       length-filter-le (λ (entry : Entry). is_actor entry.actor (Feed feed)) entries,
     )
 

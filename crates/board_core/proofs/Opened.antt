@@ -2,7 +2,7 @@
 use Rattle.std.proofs.Common.{◌≡◌, ℕ, ◌+◌, ◌<◌, ◌≤◌, Bool, true, false, not, ◌&&◌, cond, List, [], ◌∷◌, ◌++◌, length, eqb, ltb, refl, sym, ◌∙◌, ap, subst, length-append, arith}
 use Rattle.std.specs.Prelude.{◌==◌, Option, Some, None, option_map, is_some, find, All, IsTrue, IsFalse, IsNone}
 use Rattle.std.specs.Option.{option_or}
-use Rattle.std.proofs.lemmas.Bool.{eqb-true, lt-ltb}
+use Rattle.std.proofs.lemmas.Bool.{eqb-true, lt-ltb, and_from}
 use Rattle.std.proofs.lemmas.List.Elements.{Contains-push, All-contains}
 use Rattle.std.proofs.lemmas.List.Folds.{find-append}
 use Rattle.ride_model.specs.declared.command.Actor.TheVariants.{Desk}
@@ -14,7 +14,6 @@ use Rattle.ride_model.specs.Seating.{BatchCopy}
 use Rattle.ride_model.specs.State.{State, has_ended, open_batch_of}
 use Rattle.ride_model.specs.Text.{IsOneOrTwo}
 use Rattle.ride_model.specs.Vehicle.{ride_ids}
-use Rattle.model_laws.proofs.AboardLoads.{true-and}
 use Rattle.model_laws.proofs.Histories.{replay-push}
 use Rattle.history_laws.specs.Consistent.{IsOpenBatch}
 use Rattle.board_core.specs.declared.desks.Desks.{Desks}
@@ -24,7 +23,7 @@ use Rattle.board_core.specs.Kept.{places_kept, with_opened, Mirrors, IsBoard}
 use Rattle.board_core.specs.Marking.{marked_in}
 use Rattle.board_core.specs.Recorded.{Recorded, state_of, opened_entry}
 use Rattle.board_core.specs.Service.{state_at, batch_at}
-use Rattle.board_core.proofs.Fedded.{within-push, none-of_others}
+use Rattle.board_core.proofs.FedEntries.{within-push, none-of_others}
 use Rattle.board_core.proofs.Marked.{with_states-marked}
 use Rattle.board_core.proofs.Numbering.{at_number-with, count-with}
 use Rattle.board_core.proofs.Boards.{board-consistent, pushed, recorded-push, abandoned-push}
@@ -119,8 +118,8 @@ board-opened setup service after kept capacity room board desk batch is numbered
         ∙ opened-state setup service after s batch is.mirrors.state_is after_is
 
     may : may_open s desk ≡ true
-    may = true-and (not (has_ended s (Desk desk)) && not (is_some (open_batch_of s desk))) (ltb s.opened s.asked)
-        (true-and (not (has_ended s (Desk desk))) (not (is_some (open_batch_of s desk))) (ap not lives) (ap (λ o. not (is_some o)) none))
+    may = and_from (not (has_ended s (Desk desk)) && not (is_some (open_batch_of s desk))) (ltb s.opened s.asked)
+        (and_from (not (has_ended s (Desk desk))) (not (is_some (open_batch_of s desk))) (ap not lives) (ap (λ o. not (is_some o)) none))
         (lt-ltb s.opened s.asked (omega (arith, more, is.mirrors.opened_is, ap (λ (t : State). t.asked) is.mirrors.state_is)))
 
     legal : IsLegalEntry board.feeds board.desks s entry

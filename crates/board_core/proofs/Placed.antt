@@ -10,10 +10,11 @@ use Rattle.std.proofs.lemmas.List.Folds.{find_at}
 use Rattle.std.proofs.lemmas.List.FromFn.{length-enumerate_from, get_or-enumerate_from}
 use Rattle.std.proofs.lemmas.Map.Keys.{IsDistinct-head, IsDistinct-tail}
 use Rattle.std.proofs.lemmas.Option.{slice_get-get_or, slice_get_past}
+use Rattle.plain_lemmas.proofs.Numbers.{eqb-comm}
+use Rattle.plain_lemmas.proofs.Lists.{any-default}
 use Rattle.indexmap.specs.IndexSet.{insert_key}
 use Rattle.ride_model.specs.declared.vehicle.Vehicle.{Vehicle}
 use Rattle.ride_model.specs.Seating.{find_vehicle, vehicle_ids}
-use Rattle.history_laws.proofs.Served.{eqb-comm}
 use Rattle.board_core.specs.Service.{placed_in}
 
 -- the first element with a key stands where the key stands first
@@ -115,12 +116,6 @@ ids-pushed vehicles i v distinct low is =
     ∙ ap (λ w. so_far ++ id_of w ∷ []) is
     ∙ sym (ap (map id_of) (take_more vehicles i v low) ∙ map-append id_of (take i vehicles) (get_or vehicles i v ∷ []))
 
--- an element that is there does not depend on the default
-pub same-element : {X : Type 0} (xs : List X) (place : ℕ) (d e : X) → place < length xs → get_or xs place d ≡ get_or xs place e
-same-element [] place d e low = absurd (omega arith)
-same-element (x ∷ xs) zero d e low = refl
-same-element (x ∷ xs) (suc place) d e low = same-element xs place d e (omega arith)
-
 -- the vehicle that was read at its place
 pub placed-at : (vehicles : List Vehicle) (id place : ℕ) (v : Vehicle) → ((d : Vehicle) → placed_in vehicles id ≡ Some (place, get_or vehicles place d))
     → v ≡ get_or vehicles place v → placed_in vehicles id ≡ Some (place, v)
@@ -128,7 +123,7 @@ placed-at vehicles id place v placed is = placed v ∙ ap (λ w. Some (place, w)
 
 -- two reads of one element
 pub same-read : {X : Type 0} (xs : List X) (place : ℕ) (x y : X) → place < length xs → x ≡ get_or xs place x → y ≡ get_or xs place y → x ≡ y
-same-read xs place x y low x_is y_is = x_is ∙ same-element xs place x y low ∙ sym y_is
+same-read xs place x y low x_is y_is = x_is ∙ any-default xs place x y low ∙ sym y_is
 
 -- an element put where it stands
 pub set-same : {X : Type 0} (xs : List X) (place : ℕ) (x : X) → place < length xs → x ≡ get_or xs place x → slice_set xs place x ≡ xs

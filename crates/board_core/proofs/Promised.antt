@@ -2,6 +2,7 @@
 use Rattle.std.proofs.Common.{◌≡◌, ℕ, eqb, refl, sym, ◌∙◌, ap, subst}
 use Rattle.std.specs.Prelude.{Option, Some, None, option_map, All, Contains, IfSome, IsSomeAnd}
 use Rattle.std.proofs.lemmas.Bool.{eqb-true}
+use Rattle.std.proofs.lemmas.Option.{same_Some}
 use Rattle.ride_model.specs.declared.reply.RequestState.TheVariants.{Confirmed}
 use Rattle.ride_model.specs.declared.vehicle.Ride.{Ride}
 use Rattle.ride_model.specs.declared.vehicle.Vehicle.{Vehicle}
@@ -9,14 +10,12 @@ use Rattle.ride_model.specs.Fleet.{IsFleet}
 use Rattle.ride_model.specs.Seating.{find_vehicle}
 use Rattle.ride_model.specs.State.{State, AcceptedRequest, accepted_request, request_state, placed_vehicle}
 use Rattle.ride_model.specs.Vehicle.{ride_ids}
-use Rattle.model_laws.proofs.Among.{among_from_contains, contains_from_among, among_map_back}
+use Rattle.plain_lemmas.proofs.Among.{among_from_contains, contains_from_among, among_map_back}
+use Rattle.plain_lemmas.proofs.Each.{of_all}
 use Rattle.model_laws.proofs.Certificates.{found_among}
 use Rattle.history_laws.specs.Consistent.{HasPromised, IsWithVehicle, promised_as, promised_state, vehicle_of_request}
-use Rattle.history_laws.proofs.Lookups.{of_all, placed_is}
+use Rattle.history_laws.proofs.Lookups.{placed_is}
 use Rattle.board_core.specs.Legs.{HasWaiting}
-
-same_some : {X : Type 0} (x y : X) → Some x ≡ Some y → x ≡ y
-same_some x y e = cc e
 
 -- a ride whose request is confirmed waits
 waits-by_state : (vehicle other : ℕ) (picked : Option ℕ) → promised_state other picked ≡ Confirmed vehicle → picked ≡ None
@@ -31,7 +30,7 @@ confirmed-waits s id vehicle place v fleet promised with_vehicles confirmed plac
     elim (accepted_request s id)
     as (λ o. accepted_request s id ≡ o → option_map (λ (r : AcceptedRequest). r.state) o ≡ Some (Confirmed vehicle) → HasWaiting v id) [
       | None ↦ λ _ none. absurd (cc none)
-      | Some r ↦ λ accepted state. waiting r accepted (same_some r.state (Confirmed vehicle) state)
+      | Some r ↦ λ accepted state. waiting r accepted (same_Some r.state (Confirmed vehicle) state)
     ] refl confirmed
   where
     found : find_vehicle s.vehicles vehicle ≡ Some v
@@ -52,7 +51,7 @@ confirmed-waits s id vehicle place v fleet promised with_vehicles confirmed plac
         let known = of_all (λ (q : Ride). accepted_request s q.id ≡ Some (promised_as v.id q)) v.rides.items ride
         (of_all (HasPromised s) s.vehicles v promised v_there) ride_there in
         let same : r ≡ promised_as v.id ride
-        = same_some r (promised_as v.id ride) (sym accepted ∙ ap (accepted_request s) (sym ride_id) ∙ known) in
+        = same_Some r (promised_as v.id ride) (sym accepted ∙ ap (accepted_request s) (sym ride_id) ∙ known) in
         record {
           ride = ride;
           there = contains_from_among v.rides.items ride ride_there;

@@ -1,12 +1,12 @@
 -- A commit, request by request.
-use Rattle.std.proofs.Common.{◌≡◌, ℕ, zero, suc, ◌+◌, ◌<◌, ◌≤◌, ◌^◌, Bool, true, false, not, ◌&&◌, cond, inl, inr, List, [], ◌∷◌, ◌++◌, length, drop, get_or, eqb, leb, leb-true, refl, sym, ◌∙◌, ap, subst, arith}
+use Rattle.std.proofs.Common.{◌≡◌, ℕ, zero, suc, ◌+◌, ◌<◌, ◌≤◌, ◌^◌, Bool, true, false, not, ◌&&◌, cond, inl, inr, List, [], ◌∷◌, ◌++◌, length, drop, get_or, eqb, leb, leb-true, refl, sym, ◌∙◌, ap, subst, arith, add-one}
 use Rattle.std.specs.Prelude.{◌==◌, map, max, Some, None, option_map, unwrap_or, find, slice_set, All, Contains, IsSomeAnd, MatchOption, IfSome}
 use Rattle.std.specs.List.{IsDistinct, list_all, enumerate_from}
 use Rattle.std.proofs.lemmas.Map.Keys.{IsDistinct-head, IsDistinct-tail}
-use Rattle.std.proofs.lemmas.Bool.{eqb-true, eq-eqb, ne_eqb}
+use Rattle.std.proofs.lemmas.Bool.{eqb-true, eq-eqb, ne_eqb, and_parts}
 use Rattle.std.proofs.lemmas.List.{length-map, get_or-map}
 use Rattle.std.proofs.lemmas.List.Elements.{All-weaker, Contains-get_or}
-use Rattle.std.proofs.lemmas.Option.{IfSome_then}
+use Rattle.std.proofs.lemmas.Option.{IfSome_then, same_Some}
 use Rattle.ride_model.specs.declared.entry.Outcome.{Outcome}
 use Rattle.ride_model.specs.declared.entry.Outcome.TheVariants.{Confirmed, Moved}
 use Rattle.ride_model.specs.declared.offer.Offer.{Offer}
@@ -23,30 +23,29 @@ use Rattle.ride_model.specs.Seating.{BatchCopy, find_vehicle, vehicle_ids}
 use Rattle.ride_model.specs.State.{State}
 use Rattle.ride_model.specs.Step.{raised}
 use Rattle.ride_model.specs.Vehicle.{IsLawful, IsRide, IsFresh, ride_ids}
-use Rattle.model_laws.proofs.Among.{Among, among_from_contains, contains_from_among}
+use Rattle.plain_lemmas.proofs.Among.{Among, among_from_contains, contains_from_among}
+use Rattle.plain_lemmas.proofs.Each.{of_each, of_all}
 use Rattle.model_laws.proofs.Certificates.{found_among}
 use Rattle.model_laws.proofs.Costs.{OfferPlan, offer_plan}
 use Rattle.model_laws.proofs.Insertions.{InsertedFacts, inserted_facts, length-stops_with}
 use Rattle.model_laws.proofs.PlanStops.{unlegged-routed}
-use Rattle.model_laws.proofs.AboardLoads.{and-true, length-same}
+use Rattle.model_laws.proofs.AboardLoads.{length-same}
+use Rattle.model_laws.proofs.Starts.{start-later}
+use Rattle.model_laws.proofs.FewRides.{few-rides}
 use Rattle.batch_commit.specs.Solved.{SolvedBatch}
 use Rattle.batch_commit.specs.Table.{cell_at, IsLeastOffer}
 use Rattle.dual_check.proofs.DifferentIds.{same-place, find-id, element}
 use Rattle.dual_check.proofs.SeatPlaces.{HasPlaces, places-of}
 use Rattle.stop_plans.specs.Change.{InsertsInto}
 use Rattle.history_laws.specs.Consistent.{IsEarlier, AreEarlier}
-use Rattle.history_laws.proofs.Lookups.{of_all, of_each, found_by, ids-map, placed_is, put, put-id}
+use Rattle.history_laws.proofs.Lookups.{found_by, ids-map, placed_is, put, put-id}
 use Rattle.history_laws.proofs.Earlier.{later_of}
 use Rattle.history_laws.proofs.Confirming.{ready_at, start-fits, version_of-found, priced_start-found}
 use Rattle.history_laws.proofs.Committing.{put_elsewhere}
-use Rattle.history_laws.proofs.RideCounts.{few_rides}
 use Rattle.board_core.specs.declared.service.Service.{Service}
 use Rattle.board_core.specs.Given.{Given}
 use Rattle.board_core.specs.Service.{placed_in, HasRoomAbove}
 use Rattle.board_core.specs.Settling.{started, IsCommitted, IsSettledTo, IsToConfirm}
-
-same_some : {X : Type 0} → (x y : X) → Some x ≡ Some y → x ≡ y
-same_some x y e = cc e
 
 -- earlier records have the same ids
 pub earlier-ids : (earliers laters : List Vehicle) → AreEarlier earliers laters → vehicle_ids earliers ≡ vehicle_ids laters
@@ -102,11 +101,8 @@ settled-same moment solved reached old new settled same = record {
         contains_from_among (ride_ids (drop place rides)) id
         (subst (Among id) (sym (ids-drop rides place))
         (among-drop (ride_ids rides) place id
-        (subst (λ n. Among id (drop n (ride_ids rides))) (one place)
+        (subst (λ n. Among id (drop n (ride_ids rides))) (add-one place)
         (subst (Among id) (ids-drop rides (place + 1)) (among_from_contains (ride_ids (drop (place + 1) rides)) id later)))))
-      where
-        one : (n : ℕ) → n + 1 ≡ suc n
-        one n = omega arith
 
 -- the seat of a request, with the places of its cell
 pub record Seated (solved : SolvedBatch) (r : ℕ) (seat : Seat) : Type 0 where
@@ -231,14 +227,6 @@ lawful-ready roads v start lawful later fits =
       loads = lawful.loads;
     }
 
--- the start for a batch is not before the vehicle is ready
-start-not_before : (v : Vehicle) (lead time : ℕ) → v.ready ≤ start_of v lead time
-start-not_before v lead time = by_test (is_idle v)
-  where
-    by_test : (b : Bool) → v.ready ≤ cond b (max v.ready (time + lead)) v.ready
-    by_test true = omega arith
-    by_test false = omega arith
-
 -- a vehicle that starts for a batch
 started-is : (v : Vehicle) (lead time : ℕ) → started v (start_of v lead time) ≡ ready_at (start_of v lead time) v
 started-is v lead time = ap (λ n. record v { ready = n }) (by_test (is_idle v))
@@ -318,7 +306,7 @@ confirms setup moment solved r ride service seat w offer h low ride_is seat_is s
     found_moment = sym (h.settled.unreached seat (contains_from_among solved.answer.seating seat s.there) yet_to_come) ∙ found
 
     w_is : w ≡ v
-    w_is = same_some w v (sym found_moment ∙ later.1 ∙ ap Some (sym (later.2.same versions)))
+    w_is = same_Some w v (sym found_moment ∙ later.1 ∙ ap Some (sym (later.2.same versions)))
 
     found_copy : find_vehicle batch.vehicles seat.vehicle ≡ Some w
     found_copy = found_v ∙ ap Some (sym w_is)
@@ -368,9 +356,9 @@ confirms setup moment solved r ride service seat w offer h low ride_is seat_is s
 
     room : length w.stops.items ≤ 14
     room =
-        let (two, _) = and-true (leb (length plan.new.stops.items) 16 && list_all (keeps_ride plan.new start batch.settings.dwell) plan.new.rides.items)
+        let (two, _) = and_parts (leb (length plan.new.stops.items) 16 && list_all (keeps_ride plan.new start batch.settings.dwell) plan.new.rides.items)
         (loads_fit plan.new) plan.plan.kept in
-        let (few, _) = and-true (leb (length plan.new.stops.items) 16) (list_all (keeps_ride plan.new start batch.settings.dwell) plan.new.rides.items) two in
+        let (few, _) = and_parts (leb (length plan.new.stops.items) 16) (list_all (keeps_ride plan.new start batch.settings.dwell) plan.new.rides.items) two in
         omega (
           arith,
           leb-true (length plan.new.stops.items) 16 few,
@@ -383,14 +371,14 @@ confirms setup moment solved r ride service seat w offer h low ride_is seat_is s
     inserts : InsertsInto setup.roads (ready_at start w) ride offer (ready_at start plan.new)
     inserts = record {
       map_fits = k.map_fits;
-      lawful = lawful-ready setup.roads w start lawful (start-not_before w batch.settings.lead batch.time) start_fits;
+      lawful = lawful-ready setup.roads w start lawful (start-later w batch.settings.lead batch.time) start_fits;
       ride_fits = of_all (IsRide setup.roads) batch.requests ride k.over_map.rides_fit ride_there;
       waits = of_all (λ (x : Ride). x.picked ≡ None) batch.requests ride k.over_map.rides_wait ride_there;
       fresh = of_all (λ (x : Vehicle). IsFresh x.rides.items ride.id) batch.vehicles w
           (of_all (λ (x : Ride). All (λ (y : Vehicle). IsFresh y.rides.items x.id) batch.vehicles) batch.requests ride k.over_map.rides_fresh ride_there)
           w_there;
       stops_room = room;
-      rides_room = omega (arith, room, few_rides w.rides.items w.stops.items lawful.routed.planned);
+      rides_room = omega (arith, room, few-rides w.rides.items w.stops.items lawful.routed.planned);
       in_order = plan.in_order;
       in_range = plan.in_range;
       inserted_is = inserted-ready setup.roads w ride start offer.i offer.j plan.new plan.inserted_is;
@@ -428,16 +416,13 @@ settled-confirmed setup moment solved r old new seat place w nv k settled low s 
     behind : (other : Seat) → Contains (ride_ids (drop (r + 1) solved.batch.requests)) other.request
         → Among other.request (drop (suc r) (ride_ids solved.batch.requests))
     behind other later =
-        subst (λ n. Among other.request (drop n (ride_ids solved.batch.requests))) (one r)
+        subst (λ n. Among other.request (drop n (ride_ids solved.batch.requests))) (add-one r)
         (subst (Among other.request) (ids-drop solved.batch.requests (r + 1))
         (among_from_contains (ride_ids (drop (r + 1) solved.batch.requests)) other.request later))
-      where
-        one : (n : ℕ) → n + 1 ≡ suc n
-        one n = omega arith
 
     one_seat : (other : Seat) → Contains solved.answer.seating other → seat.vehicle ≡ other.vehicle → other ≡ seat
     one_seat other there same =
-        same_some other seat
+        same_Some other seat
         (sym (found_by (λ (x : Seat). x.vehicle) solved.answer.seating other k.certified.seating.vehicles_differ
         (among_from_contains solved.answer.seating other there))
         ∙ ap (λ n. find (λ (x : Seat). x.vehicle == n) solved.answer.seating) (sym same)

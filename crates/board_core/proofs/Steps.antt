@@ -2,9 +2,10 @@
 use Rattle.std.proofs.Common.{◌≡◌, ℕ, ◌+◌, ◌<◌, ◌≤◌, Bool, true, false, not, cond, List, [], ◌∷◌, length, eqb, leb, ltb, le-ltb, refl, ◌∙◌, ap}
 use Rattle.std.specs.Prelude.{Some, None, is_some, option_map}
 use Rattle.std.proofs.lemmas.Bool.{lt-ltb}
+use Rattle.std.proofs.lemmas.Option.{same_Some}
 use Rattle.ride_model.specs.declared.reply.Reply.TheVariants.{Waiting, Freed, Duty}
 use Rattle.ride_model.specs.declared.reply.RequestState.{RequestState}
-use Rattle.ride_model.specs.declared.reply.RequestState.TheVariants.{Confirmed, Cancelled as IsCancelled}
+use Rattle.ride_model.specs.declared.reply.RequestState.TheVariants.{Confirmed, Cancelled as CancelledState}
 use Rattle.ride_model.specs.declared.vehicle.Stop.{Stop}
 use Rattle.ride_model.specs.declared.vehicle.Vehicle.{Vehicle}
 use Rattle.ride_model.specs.Insertion.{without_ride}
@@ -126,17 +127,14 @@ unfolding cancel_step
 cancel-by_state s id state is =
     elim (accepted_request s id) as (λ o. option_map (λ (r : AcceptedRequest). r.state) o ≡ Some state → cancel_found s id o ≡ cancel_by_state s id state) [
       | None ↦ λ none. absurd (cc none)
-      | Some r ↦ λ some. ap (cancel_by_state s id) (same r.state state some)
+      | Some r ↦ λ some. ap (cancel_by_state s id) (same_Some r.state state some)
     ] is
-  where
-    same : (a b : RequestState) → Some a ≡ Some b → a ≡ b
-    same a b e = cc e
 
 -- a ride that a vehicle has promised is freed
 pub cancel-freed : (s : State) (id vehicle : ℕ) (placed : ℕ × Vehicle) → request_state s id ≡ Some (Confirmed vehicle)
     → placed_vehicle s vehicle ≡ Some placed
     → cancel_step s id ≡ record {
-      state = with_request_state id IsCancelled (with_vehicle s placed.0 (raised (without_ride s.roads placed.1 id)));
+      state = with_request_state id CancelledState (with_vehicle s placed.0 (raised (without_ride s.roads placed.1 id)));
       reply = Freed vehicle;
     }
 cancel-freed s id vehicle placed is there =

@@ -3,7 +3,7 @@ use Rattle.std.specs.Prelude.{◌≡◌, ◌↔◌, ℕ, List, length, IsTrue}
 use Rattle.ride_model.specs.declared.entry.Entry.{Entry}
 use Rattle.ride_model.specs.History.{confirmed_total, away_total, picked_total, dropped_total, IsFinished}
 use Rattle.ride_model.specs.State.{State}
-use Rattle.board_core.specs.declared.totals.Totals.{Totals}
+use Rattle.board_core.specs.declared.board.totals.Totals.{Totals}
 
 -- the totals of a history of so many feeds and desks
 pub record AreTotalsOf (feeds desks : ℕ) (start : State) (entries : List Entry) (totals : Totals) : Type 0 where

@@ -4,6 +4,7 @@ use Rattle.ride_model.specs.declared.vehicle.Ride.{Ride}
 use Rattle.ride_model.specs.Road.{RoadMap}
 use Rattle.ride_model.specs.State.{State, AcceptedRequest}
 use Rattle.ride_model.specs.Step.{Answered, is_node, request_step}
+use Rattle.ride_model.specs.Limits.{latest_time, longest_ride, most_chairs, most_requests, most_seats}
 use Rattle.request_book.specs.Book.{request_of}
 use Rattle.board_core.specs.declared.wishes.Wish.{Wish}
 
@@ -28,9 +29,9 @@ wish_step s wish = request_step s wish.id wish.from wish.to wish.seats wish.late
 pub record MayBeAccepted (requests : List AcceptedRequest) (wish : Wish) : Type 0 where
   pub from_limit : wish.from < 2 ^ 32
   pub to_limit : wish.to < 2 ^ 32
-  pub seats_limit : wish.seats ≤ 8
-  pub chairs_limit : wish.chairs ≤ 4
-  pub room : length requests < 100000
+  pub seats_limit : wish.seats ≤ most_seats
+  pub chairs_limit : wish.chairs ≤ most_chairs
+  pub room : length requests < most_requests
   pub fresh : request_of requests wish.id ≡ None
 
 -- whether it joins two nodes of the map
@@ -39,8 +40,8 @@ joins_nodes roads wish = is_node roads wish.from && is_node roads wish.to
 
 -- whether there are too many seats or chairs, or none
 abbrev pub has_odd_load : Wish → Bool
-has_odd_load wish = nat_lt 8 wish.seats || nat_lt 4 wish.chairs || wish.seats + wish.chairs == 0
+has_odd_load wish = nat_lt most_seats wish.seats || nat_lt most_chairs wish.chairs || wish.seats + wish.chairs == 0
 
 -- whether a limit is out of its range
 abbrev pub has_odd_limits : Wish → Bool
-has_odd_limits wish = nat_lt 1000000000 wish.latest || wish.longest == 0 || nat_lt 1000000 wish.longest
+has_odd_limits wish = nat_lt latest_time wish.latest || wish.longest == 0 || nat_lt longest_ride wish.longest

@@ -10,12 +10,18 @@ ghost use Rattle.ride_model.specs.Legal.{IsLegal};
 ghost use Rattle.ride_model.specs.History.{IsFinished};
 ghost use Rattle.ride_model.specs.Text.{IsOneOrTwo, HasText};
 ghost use Rattle.history_laws.specs.Start.{IsStart};
+ghost use Rattle.adaptive_roads.specs.Shared.{IsMadeOf};
 ghost use Rattle.board_core.specs.Recorded.{Recorded, state_of};
+
+mod batches;
+pub(crate) mod feeds;
+pub(crate) mod totals;
 
 use crate::desks::Desks;
 use crate::service::Service;
 use crate::setup::Setup;
 use ride_model::{Actor, Entry, Fleet, NoMemory, RequestState, Settings, Vehicle};
+use road_hierarchy::Hierarchy;
 use road_times::Roads;
 use std::alloc::Global;
 use std::marker::Model;
@@ -110,6 +116,15 @@ impl<'r> Board<'r> {
             .reserve(spare as usize + self.kept.places_kept())?;
         self.spare = spare;
         Ok(())
+    }
+
+    /// Goes on by a hierarchy of the roads, by which the board finds travel times sooner. Where memory is wanting it searches, as
+    /// before.
+    pub fn climb_by(&mut self, alloc: Global, hierarchy: &'r Hierarchy)
+        requires { IsMadeOf self.old.start.roads hierarchy.now }
+        ensures { self.new ≡ self.old }
+    {
+        self.setup.climb_by(alloc, hierarchy);
     }
 
     /// The history: legal, and with a text.

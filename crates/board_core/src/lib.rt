@@ -6,23 +6,16 @@
 
 ghost use Rattle.std.specs.Prelude.{◌≡◌};
 
-mod batches;
 mod board;
 mod desks;
-mod feeds;
 mod numbered;
 mod opening;
 mod places;
 mod plans;
-mod reports;
-mod requests;
 mod service;
-mod settling;
 mod setup;
-mod totals;
-mod waiting;
 mod wishes;
 
 pub use board::Board;
+pub use board::totals::Totals;
 pub use opening::Opening;
-pub use totals::Totals;

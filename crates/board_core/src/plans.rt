@@ -5,6 +5,7 @@ ghost use Rattle.ride_model.specs.Road.{IsRoadMap, IsNode};
 ghost use Rattle.ride_model.specs.Vehicle.{IsLawful, IsLawfulSomewhere};
 ghost use Rattle.ride_model.specs.Insertion.{without_ride, stops_without};
 ghost use Rattle.ride_model.specs.Step.{raised, served, served_reply};
+ghost use Rattle.ride_model.specs.Limits.{latest_ready, longest_dwell};
 ghost use Rattle.stop_plans.specs.Change.{HasFirstStopAt};
 ghost use Rattle.stop_plans.specs.First.{IsFirst, is_visit};
 ghost use Rattle.stop_plans.specs.Legged.{relegged};
@@ -118,8 +119,8 @@ pub(crate) fn serve(vehicle: &mut Vehicle, dwell: u64) -> Reply
     requires lawful { IsLawfulSomewhere vehicle.old }
     requires version { vehicle.old.version < 2 ^ 63 }
     requires at_stop { HasFirstStopAt vehicle.old }
-    requires dwell_limit { dwell ≤ 3600 }
-    requires in_the_day { vehicle.old.ready + dwell ≤ 1000003600 }
+    requires dwell_limit { dwell ≤ longest_dwell }
+    requires in_the_day { vehicle.old.ready + dwell ≤ latest_ready }
     ensures vehicle { (stop : Stop) (rest : List Stop) → vehicle.old.stops.items ≡ stop ∷ rest
         → vehicle.new ≡ raised (served dwell vehicle.old stop rest stop.kind) }
     ensures reply { (stop : Stop) (rest : List Stop) → vehicle.old.stops.items ≡ stop ∷ rest

@@ -8,17 +8,19 @@ ghost use Rattle.board_core.specs.Given.{Given};
 ghost use Rattle.board_core.specs.Opening.{IsRequest};
 ghost use Rattle.board_core.specs.Service.{state_at, answered_at, placed_in, IsInOrder};
 
+mod reports;
+mod requests;
+mod settling;
+mod waiting;
+
 use crate::places::Places;
 use crate::setup::Setup;
 use crate::wishes::Wish;
 use request_book::RequestBook;
+use ride_model::limits::{LATEST_TIME, MOST_BATCHES};
+use ride_model::refusals::{BATCHES_FULL, ODD_TIME};
 use ride_model::{Command, NoMemory, Reply, Vehicle};
 use std::alloc::Global;
-
-/// The latest time of a clock.
-pub(crate) const LAST_TIME: u64 = 1_000_000_000;
-/// The most batches that are asked for.
-const MOST_ASKS: u64 = 2_000;
 
 /// The clock, the vehicles in fleet order, the requests, and how many batches were asked for.
 #[derive(Drop)]
@@ -109,8 +111,8 @@ impl Service {
         ensures { (setup : Given) (rest : State)
             → clock_step (state_at setup self.old rest) time ≡ answered_at setup self.new rest result }
     {
-        if time > LAST_TIME {
-            return Reply::Refused { code: 5 };
+        if time > LATEST_TIME {
+            return Reply::Refused { code: ODD_TIME };
         }
         self.clock = self.clock.max(time);
         Reply::Now { time: self.clock }
@@ -122,8 +124,8 @@ impl Service {
         ensures { (setup : Given) (rest : State)
             → ask_step (state_at setup self.old rest) ≡ answered_at setup self.new rest result }
     {
-        if self.asked >= MOST_ASKS {
-            return Reply::Refused { code: 16 };
+        if self.asked >= MOST_BATCHES {
+            return Reply::Refused { code: BATCHES_FULL };
         }
         self.asked += 1;
         Reply::Asked { count: self.asked }

@@ -4,31 +4,30 @@ ghost use Rattle.ride_model.specs.Fleet.{IsFleet};
 ghost use Rattle.ride_model.specs.Seating.{vehicle_ids};
 ghost use Rattle.ride_model.specs.Road.{IsRoadMap, IsNode, travel};
 ghost use Rattle.ride_model.specs.Step.{is_node};
+ghost use Rattle.adaptive_roads.specs.Shared.{IsMadeOf};
 
 use crate::places::Places;
+use adaptive_roads::TravelTimes;
 use ride_model::{NoMemory, Settings, Vehicle};
-use road_times::{Roads, Scratch};
+use road_hierarchy::Hierarchy;
+use road_times::Roads;
 use std::alloc::Global;
 use std::marker::Model;
 
-/// What never changes while a board stands, and what its searches on the roads need.
+/// What never changes while a board stands, with travel times over its roads.
 #[derive(Drop)]
 pub(crate) struct Setup<'r> {
-    roads: &'r Roads,
-    scratch: Scratch,
+    times: TravelTimes<'r>,
     settings: Settings,
     places: Places,
 }
 
 impl<'r> Model for Setup<'r> {
-    ghost use Rattle.std.specs.Prelude.{◌≡◌};
     ghost use Rattle.board_core.specs.Given.{Given};
 
     ghost Value = { Given };
 
-    ghost view = { λ setup. record { roads = setup.roads.now; settings = setup.settings; ids = setup.places } };
-
-    ghost invariant = { λ setup. setup.scratch.nodes ≡ setup.roads.now.nodes };
+    ghost view = { λ setup. record { roads = setup.times; settings = setup.settings; ids = setup.places } };
 }
 
 impl<'r> Setup<'r> {
@@ -42,13 +41,10 @@ impl<'r> Setup<'r> {
         ensures setup { IfOk result (λ setup. setup ≡ record { roads = roads.now; settings = settings; ids = vehicle_ids fleet.now }) }
         ensures fits { IsRoadMap roads.now }
     {
-        // This call tells that the map is within its limits.
-        let _nodes = roads.nodes();
-        let scratch = Scratch::new(alloc, roads)?;
+        let times = TravelTimes::new(alloc, roads)?;
         let places = Places::new(alloc, fleet)?;
         Ok(Setup {
-            roads,
-            scratch,
+            times,
             settings,
             places,
         })
@@ -71,7 +67,15 @@ impl<'r> Setup<'r> {
     pub(crate) fn is_node(&self, number: u64) -> bool
         ensures { result ≡ is_node self.now.roads number }
     {
-        1 <= number && number <= u64::from(self.roads.nodes())
+        1 <= number && number <= u64::from(self.times.roads().nodes())
+    }
+
+    /// Goes on by a hierarchy of the roads. Where memory is wanting travel times come as before.
+    pub(crate) fn climb_by(&mut self, alloc: Global, hierarchy: &'r Hierarchy)
+        requires { IsMadeOf self.old.roads hierarchy.now }
+        ensures { self.new ≡ self.old }
+    {
+        self.times.climb_by(alloc, hierarchy);
     }
 
     /// The travel time between two nodes, None where there is no way. Takes no memory.
@@ -81,6 +85,6 @@ impl<'r> Setup<'r> {
         ensures time { result ≡ travel self.old.roads from to }
         ensures kept { self.new ≡ self.old }
     {
-        self.roads.time(&mut self.scratch, from, to)
+        self.times.time(from, to)
     }
 }

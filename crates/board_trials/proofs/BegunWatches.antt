@@ -1,11 +1,11 @@
 -- A watch over a board on which nothing happened yet.
 use Rattle.std.proofs.Common.{◌≡◌, ◌+◌, ◌≤◌, List, [], ◌∷◌, ◌++◌, length, take, sym, ap, ◌∙◌, arith, length-append}
 use Rattle.std.proofs.lemmas.List.Elements.{filter_map-append}
+use Rattle.plain_lemmas.proofs.Lists.{length-filter_map-le}
 use Rattle.ride_model.specs.declared.entry.Entry.{Entry}
 use Rattle.ride_model.specs.History.{command_of}
 use Rattle.ride_model.specs.Legal.{replay, versions_of}
 use Rattle.board_core.specs.Recorded.{Recorded}
-use Rattle.board_core.proofs.OpenBatches.{length-filter_map}
 use Rattle.fleet_board.specs.Passes.{Known, commands_in, root_of}
 use Rattle.idle_moves.specs.Watch.{Watched, Watches}
 
@@ -17,7 +17,7 @@ one-more old new entry made =
       ap (λ (own : List Entry). length (commands_in own)) made,
       ap length (filter_map-append (λ (e : Entry). command_of e.event) old (entry ∷ [])),
       length-append (commands_in old) (commands_in (entry ∷ [])),
-      length-filter_map (λ (e : Entry). command_of e.event) (entry ∷ []),
+      length-filter_map-le (λ (e : Entry). command_of e.event) (entry ∷ []),
     )
 
 -- a new pass has seen nothing, and a watch over its board has the versions of the start

@@ -3,10 +3,11 @@ use Rattle.std.proofs.Common.{◌≡◌, ℕ, ◌<◌, ◌≤◌, Bool, true, fa
 use Rattle.std.specs.Prelude.{filter, map, not, ◌&&◌}
 use Rattle.std.specs.List.{AllByRecursion}
 use Rattle.std.proofs.lemmas.List.{length-map, map-append}
+use Rattle.std.proofs.Math.Bool.{and-false}
 use Rattle.ride_model.specs.declared.command.Command.{Command}
 use Rattle.booking_desk.specs.Desk.{Booking, DeskState, after_book, after_unbook, is_booked, put_in, request_id, without}
 use Rattle.booking_desk.specs.Released.{DeskCall, book, unbook, clock, call_id, clock_of, desk_after, made_of, released_at, sorted, standing}
-use Rattle.booking_desk.proofs.Filtered.{filter-and, filter-filter, filter-same}
+use Rattle.plain_lemmas.proofs.Filters.{filter-and, filter-filter, filter-same}
 use Rattle.booking_desk.proofs.BookingOrder.{all_put_in-push, filter-put_in, later-put_in, order-filter, order-sorted, sorted-without, split-time}
 use Rattle.booking_desk.proofs.Bookings.{refused-late, refused-again, refused-full, made-now, made-held, after-refusal, after-now, after-held}
 use Rattle.booking_desk.proofs.Made.{call_for, clock-append}
@@ -151,10 +152,6 @@ module _ (most : ℕ) (calls : List DeskCall) where
             one : (x : Bool) → ltb now b.release ≡ x → (ltb c b.release && ltb now b.release) ≡ ltb now b.release
             one true at = let later : ltb c b.release ≡ true = grind arith in rw (later, at) refl
             one false at = rw at (and-false (ltb c b.release))
-              where
-                and-false : (y : Bool) → (y && false) ≡ false
-                and-false true = refl
-                and-false false = refl
 
     pub ids-are : map call_id (made_of most (calls ++ clock time ∷ [])) ≡ map call_id (made_of most calls)
     ids-are = ap (map call_id) (made-clock most calls time)

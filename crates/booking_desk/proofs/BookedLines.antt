@@ -13,13 +13,13 @@ use Rattle.text_page.proofs.OutputLemmas.{put-nothing, put-two}
 use Rattle.booking_desk.specs.declared.replies.BookReply.{BookReply}
 use Rattle.booking_desk.specs.declared.replies.BookReply.TheVariants.{Held, Now, Refused}
 use Rattle.booking_desk.specs.BookLines.{call_of, call_of_fields, calls_in}
-use Rattle.booking_desk.specs.BookText.{asked_text, most_bookings, over_long_line, part_of, parts_after, refusal_line, released_text, reply_text, request_line, text_of_lines, with_lf}
-use Rattle.booking_desk.specs.Desk.{Booking, DeskState, IsRequest, after_book, after_reply, after_unbook, is_before, is_held, reply_to_book}
+use Rattle.booking_desk.specs.BookText.{asked_text, over_long_line, part_of, parts_after, refusal_line, released_text, reply_text, request_line, text_of_lines, with_lf}
+use Rattle.booking_desk.specs.Desk.{Booking, DeskState, IsRequest, after_book, after_reply, after_unbook, is_before, is_held, reply_to_book, most_bookings}
 use Rattle.booking_desk.specs.declared.feed_desk.FeedDesk.{FeedDesk}
 use Rattle.booking_desk.specs.FeedDesk.{AreSpelled, HasBooked, IsNew, IsSpelledBooking}
 use Rattle.booking_desk.specs.Released.{DeskCall, book, unbook, clock, desk_after, released_at}
 use Rattle.booking_desk.proofs.AfterCalls.{booked-is, unbooked-is}
-use Rattle.booking_desk.proofs.Filtered.{all-append, all-filter}
+use Rattle.plain_lemmas.proofs.Each.{each-append, each-filter}
 
 pub begins-take : (line : List ℕ) → begins_with 35 (take 200 line) ≡ begins_with 35 line
 begins-take [] = refl
@@ -37,9 +37,9 @@ spelled-book desk release request is spelled held = by (reply_to_book desk relea
     by Now = held
     by (Refused code) = held
     by Held =
-        all-append IsSpelledBooking (filter (λ other. is_before other booking) desk.held) (booking ∷ filter (λ other. is_before booking other) desk.held)
-        (all-filter IsSpelledBooking (λ other. is_before other booking) desk.held held)
-        (record { request = is; spelled = spelled }, all-filter IsSpelledBooking (λ other. is_before booking other) desk.held held)
+        each-append IsSpelledBooking (filter (λ other. is_before other booking) desk.held) (booking ∷ filter (λ other. is_before booking other) desk.held)
+        (each-filter IsSpelledBooking (λ other. is_before other booking) desk.held held)
+        (record { request = is; spelled = spelled }, each-filter IsSpelledBooking (λ other. is_before booking other) desk.held held)
 
 -- what lines give, and one more
 parts-push : (before lines : List (List ℕ)) (line : List ℕ) → parts_after before (lines ++ line ∷ [])

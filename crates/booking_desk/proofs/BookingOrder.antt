@@ -10,7 +10,8 @@ use Rattle.booking_desk.specs.Desk.{Booking, id_of, is_before, put_in, without}
 use Rattle.booking_desk.specs.Kept.{key_cmp}
 use Rattle.booking_desk.specs.Released.{all_put_in, sorted}
 use Rattle.booking_desk.proofs.Keys.{key_total, Equal-ids, Less-releases, early-Less}
-use Rattle.booking_desk.proofs.Filtered.{filter-filter, filter-all, filter-none, all-filter, all-weaker, all-append}
+use Rattle.plain_lemmas.proofs.Filters.{filter-filter, filter-all, filter-none}
+use Rattle.plain_lemmas.proofs.Each.{each-filter, each-weaker, each-append}
 
 abbrev key_of : Booking → ℕ × ℕ
 key_of b = (b.release, id_of b)
@@ -62,7 +63,7 @@ order-filter p [] h = tt
 order-filter p (b ∷ bs) (later, rest) = by (order-filter p bs rest) (p b) refl
   where
     by : IsInOrder (filter p bs) → (x : Bool) → p b ≡ x → IsInOrder (filter p (b ∷ bs))
-    by ih true at = rw at (all-filter (λ c. is_before b c ≡ true) p bs later, ih)
+    by ih true at = rw at (each-filter (λ c. is_before b c ≡ true) p bs later, ih)
     by ih false at = rw at ih
 
 order-append : (xs ys : List Booking) → IsInOrder xs → IsInOrder ys → AllByRecursion (λ x. AllByRecursion (λ y. is_before x y ≡ true) ys) xs
@@ -70,7 +71,7 @@ order-append : (xs ys : List Booking) → IsInOrder xs → IsInOrder ys → AllB
 unfolding IsInOrder
 order-append [] ys h k all = k
 order-append (x ∷ xs) ys (later, h) k (here, all) =
-    (all-append (λ c. is_before x c ≡ true) xs ys later here, order-append xs ys h k all)
+    (each-append (λ c. is_before x c ≡ true) xs ys later here, order-append xs ys h k all)
 
 pub passing : (p : Booking → Bool) (bs : List Booking) → AllByRecursion (λ b. p b ≡ true) (filter p bs)
 passing p [] = tt
@@ -85,8 +86,8 @@ unfolding IsInOrder
 order-put_in b bs h =
     order-append (filter (λ x. is_before x b) bs) (b ∷ filter (λ x. is_before b x) bs) (order-filter (λ x. is_before x b) bs h)
     (after, order-filter (λ x. is_before b x) bs h)
-    (all-weaker (λ x. is_before x b ≡ true) (λ x. AllByRecursion (λ y. is_before x y ≡ true) (b ∷ filter (λ x. is_before b x) bs))
-    (λ x here. (here, all-weaker (λ y. is_before b y ≡ true) (λ y. is_before x y ≡ true) (λ y there. before-trans x b y here there) (filter (λ x. is_before b x) bs) after))
+    (each-weaker (λ x. is_before x b ≡ true) (λ x. AllByRecursion (λ y. is_before x y ≡ true) (b ∷ filter (λ x. is_before b x) bs))
+    (λ x here. (here, each-weaker (λ y. is_before b y ≡ true) (λ y. is_before x y ≡ true) (λ y there. before-trans x b y here there) (filter (λ x. is_before b x) bs) after))
     (filter (λ x. is_before x b) bs) (passing (λ x. is_before x b) bs))
   where
     after : AllByRecursion (λ y. is_before b y ≡ true) (filter (λ x. is_before b x) bs)
@@ -123,8 +124,8 @@ split-order b (x ∷ bs) (later, h) (other, others) = by (split-order b bs h oth
     by ih true at = rw (at, before-not_after x b at) (ap (λ rest. x ∷ rest) ih)
     by ih false at =
         let on : is_before b x ≡ true = before-or_after x b other at in
-        let all = all-weaker (λ y. is_before x y ≡ true) (λ y. is_before b y ≡ true) (λ y k. before-trans b x y on k) bs later in
-        let none = all-weaker (λ y. is_before b y ≡ true) (λ y. is_before y b ≡ false) (λ y k. before-not_after b y k) bs all in
+        let all = each-weaker (λ y. is_before x y ≡ true) (λ y. is_before b y ≡ true) (λ y k. before-trans b x y on k) bs later in
+        let none = each-weaker (λ y. is_before b y ≡ true) (λ y. is_before y b ≡ false) (λ y k. before-not_after b y k) bs all in
         rw (at, on, filter-none (λ x. is_before x b) bs none, filter-all (λ x. is_before b x) bs all) refl
 
 -- a booking of the id that is left out may as well not be put in
@@ -134,7 +135,7 @@ without-put_in id b bs same h =
     ∙ rw same (ap (λ xs. xs ++ filter out (filter (λ x. is_before b x) bs)) (filter-filter out (λ x. is_before x b) bs)
     ∙ ap (λ ys. filter (λ x. is_before x b) (without id bs) ++ ys) (filter-filter out (λ x. is_before b x) bs)
     ∙ split-order b (without id bs) (order-filter out bs h)
-    (all-weaker (λ x. out x ≡ true) (λ x. eqb (id_of x) (id_of b) ≡ false) apart (without id bs) (passing out bs)))
+    (each-weaker (λ x. out x ≡ true) (λ x. eqb (id_of x) (id_of b) ≡ false) apart (without id bs) (passing out bs)))
   where
     out : Booking → Bool
     out x = not (eqb (id_of x) id)
@@ -171,14 +172,14 @@ later-put_in time b bs past =
 
     none : (xs : List Booking) → filter (λ (x : Booking). ltb time x.release) (filter (λ x. is_before x b) xs) ≡ []
     none xs = filter-none (λ (x : Booking). ltb time x.release) (filter (λ x. is_before x b) xs)
-        (all-weaker (λ x. is_before x b ≡ true) (λ (x : Booking). ltb time x.release ≡ false)
+        (each-weaker (λ x. is_before x b ≡ true) (λ (x : Booking). ltb time x.release ≡ false)
         (λ x h. let early : x.release ≤ b.release = before-release x b h in grind arith) (filter (λ x. is_before x b) xs) (passing (λ x. is_before x b) xs))
 
     all : (xs : List Booking) → filter (λ (x : Booking). ltb time x.release) (filter (λ x. is_before b x) xs)
         ≡ filter (λ (x : Booking). ltb time x.release) xs
     all xs = filter-filter (λ (x : Booking). ltb time x.release) (λ x. is_before b x) xs
         ∙ filter-all (λ x. is_before b x) (filter (λ (x : Booking). ltb time x.release) xs)
-        (all-weaker (λ (x : Booking). ltb time x.release ≡ true) (λ x. is_before b x ≡ true)
+        (each-weaker (λ (x : Booking). ltb time x.release ≡ true) (λ x. is_before b x ≡ true)
         (λ x h. let late : b.release < x.release = grind arith in earlier-before b x late)
         (filter (λ (x : Booking). ltb time x.release) xs) (passing (λ (x : Booking). ltb time x.release) xs))
 
@@ -196,7 +197,7 @@ split-time time (b ∷ bs) (later, h) = by (split-time time bs h) (leb b.release
         rw (at, not_late) (ap (λ rest. b ∷ rest) ih)
     by ih false at =
         let late : ltb time b.release ≡ true = grind arith in
-        let after : AllByRecursion (λ (x : Booking). b.release ≤ x.release) bs = all-weaker (λ x. is_before b x ≡ true) (λ (x : Booking). b.release ≤ x.release) (λ x k. before-release b x k) bs later in
-        let none = all-weaker (λ (x : Booking). b.release ≤ x.release) (λ (x : Booking). leb x.release time ≡ false) (λ x k. grind arith) bs after in
-        let all = all-weaker (λ (x : Booking). b.release ≤ x.release) (λ (x : Booking). ltb time x.release ≡ true) (λ x k. grind arith) bs after in
+        let after : AllByRecursion (λ (x : Booking). b.release ≤ x.release) bs = each-weaker (λ x. is_before b x ≡ true) (λ (x : Booking). b.release ≤ x.release) (λ x k. before-release b x k) bs later in
+        let none = each-weaker (λ (x : Booking). b.release ≤ x.release) (λ (x : Booking). leb x.release time ≡ false) (λ x k. grind arith) bs after in
+        let all = each-weaker (λ (x : Booking). b.release ≤ x.release) (λ (x : Booking). ltb time x.release ≡ true) (λ x k. grind arith) bs after in
         rw (at, late, filter-none (λ (x : Booking). leb x.release time) bs none, filter-all (λ (x : Booking). ltb time x.release) bs all) refl

@@ -9,14 +9,11 @@ use Rattle.std.specs.Map.{keys_of, lookup}
 use Rattle.std.specs.BTreeMap.{insert_entry, is_at}
 use Rattle.std.proofs.lemmas.List.{map-append, length-append}
 use Rattle.std.proofs.Math.Seq.{take-append_seam}
+use Rattle.plain_lemmas.proofs.Options.{none_from_is_some}
 use Rattle.booking_desk.specs.Desk.{Booking, is_due, request_id, without}
 use Rattle.booking_desk.specs.Kept.{booking_in, bookings_in, key_cmp, IsHeldEntry}
 use Rattle.booking_desk.proofs.Keys.{Entry, IsKeyed}
 use Rattle.booking_desk.proofs.HeldEntries.{HaveOtherIds, later-others, none-due, not-at, others-stay}
-
-pub none-from-is_some : {X : Type 0} (o : Option X) → is_some o ≡ false → o ≡ None
-none-from-is_some None h = refl
-none-from-is_some (Some x) h = absurd (cc h)
 
 -- no entry is at the key of another id
 pub others-absent : (id release : ℕ) (entries : List Entry) → HaveOtherIds id entries → AllByRecursion IsKeyed entries

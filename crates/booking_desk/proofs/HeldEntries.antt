@@ -8,7 +8,7 @@ use Rattle.std.specs.List.Sorted.{IsStrictlySortedBy}
 use Rattle.std.specs.Map.{keys_of, lookup, remove_entry}
 use Rattle.std.specs.BTreeMap.{insert_entry, is_at}
 use Rattle.std.specs.Ordering.{is_lt, is_eq}
-use Rattle.std.proofs.lemmas.Bool.{eqb-true}
+use Rattle.std.proofs.lemmas.Bool.{eqb-true, false_from_ne_true}
 use Rattle.booking_desk.specs.Desk.{is_before, is_due, is_held, put_in, request_id, without}
 use Rattle.booking_desk.specs.Kept.{booking_in, bookings_in, key_cmp, IsHeldEntry}
 use Rattle.booking_desk.proofs.Keys.{Entry, IsKeyed, key_total, key_cmp-same, Equal-ids, Less-releases, before-keys}
@@ -25,16 +25,12 @@ pub others-stay : (id : ℕ) (entries : List Entry) → HaveOtherIds id entries 
 others-stay id [] h = refl
 others-stay id (e ∷ entries) (other, others) = rw other (ap (λ rest. booking_in e ∷ rest) (others-stay id entries others))
 
-not-true : (b : Bool) → (b ≡ true → ⊥) → b ≡ false
-not-true true h = absurd (h refl)
-not-true false h = refl
-
 -- an id that was never booked is not held
 pub unbooked-others : (booked : List (ℕ × ℕ)) (id : ℕ) → lookup (eqb id) booked ≡ None → (entries : List Entry)
     → AllByRecursion (IsHeldEntry booked) entries → HaveOtherIds id entries
 unbooked-others booked id none [] h = tt
 unbooked-others booked id none (e ∷ entries) (kept, rest) =
-    (not-true (eqb (request_id e.1) id) here, unbooked-others booked id none entries rest)
+    (false_from_ne_true (eqb (request_id e.1) id) here, unbooked-others booked id none entries rest)
   where
     here : eqb (request_id e.1) id ≡ true → ⊥
     here same =
@@ -58,7 +54,7 @@ pub later-others : (booked : List (ℕ × ℕ)) (id release : ℕ) → lookup (e
     → AllByRecursion (IsHeldEntry booked) entries → HaveOtherIds id entries
 later-others booked id release found first at of [] later h = tt
 later-others booked id release found first at of (e ∷ entries) (less, later) (kept, rest) =
-    (not-true (eqb (request_id e.1) id) here, later-others booked id release found first at of entries later rest)
+    (false_from_ne_true (eqb (request_id e.1) id) here, later-others booked id release found first at of entries later rest)
   where
     here : eqb (request_id e.1) id ≡ true → ⊥
     here same =
@@ -68,7 +64,7 @@ later-others booked id release found first at of (e ∷ entries) (less, later) (
 
 -- an entry of another id is not at the key
 pub not-at : (id release : ℕ) (key : ℕ × ℕ) → eqb key.1 id ≡ false → is_at (key_cmp (release, id)) key ≡ false
-not-at id release key other = not-true (is_at (key_cmp (release, id)) key) (λ at. no (key_cmp (release, id) key) refl at)
+not-at id release key other = false_from_ne_true (is_at (key_cmp (release, id)) key) (λ at. no (key_cmp (release, id) key) refl at)
   where
     no : (o : Ordering) → key_cmp (release, id) key ≡ o → is_eq o ≡ true → ⊥
     no Less is e = cc e

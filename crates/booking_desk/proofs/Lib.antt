@@ -3,7 +3,6 @@ pub mod HeldEntries
 pub mod Bookings
 pub mod Entered
 pub mod Shown
-pub mod Filtered
 pub mod BookingOrder
 pub mod Made
 pub mod Standing

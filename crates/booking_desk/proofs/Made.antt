@@ -7,7 +7,7 @@ use Rattle.std.proofs.lemmas.List.Elements.{filter-append}
 use Rattle.ride_model.specs.declared.command.Command.{Command}
 use Rattle.booking_desk.specs.Desk.{is_booked}
 use Rattle.booking_desk.specs.Released.{DeskCall, book, unbook, clock, BookCall, book_calls, call_id, first_of_each_id, greatest_clock, made_of}
-use Rattle.booking_desk.proofs.Filtered.{all-filter}
+use Rattle.plain_lemmas.proofs.Each.{each-filter, each-take}
 
 -- the call of a booking
 abbrev pub call_for : ℕ → ℕ → Command → BookCall
@@ -48,20 +48,11 @@ places-below place most (clock time ∷ xs) h = places-below (place + 1) most xs
 
 all-first : (P : BookCall → Type 0) (xs : List BookCall) → AllByRecursion P xs → AllByRecursion P (first_of_each_id xs)
 all-first P [] h = tt
-all-first P (x ∷ xs) (here, rest) = (here, all-filter P (λ other. not (eqb (call_id other) (call_id x))) (first_of_each_id xs) (all-first P xs rest))
-
-all-take : {X : Type 0} (P : X → Type 0) (n : ℕ) (xs : List X) → AllByRecursion P xs → AllByRecursion P (take n xs)
-all-take P n [] h = all-take-nil n
-  where
-    all-take-nil : (n : ℕ) → AllByRecursion P (take n [])
-    all-take-nil zero = tt
-    all-take-nil (suc n) = tt
-all-take P zero (x ∷ xs) h = tt
-all-take P (suc n) (x ∷ xs) (here, rest) = (here, all-take P n xs rest)
+all-first P (x ∷ xs) (here, rest) = (here, each-filter P (λ other. not (eqb (call_id other) (call_id x))) (first_of_each_id xs) (all-first P xs rest))
 
 pub made-places : (most : ℕ) (calls : List DeskCall) → AllByRecursion (λ (c : BookCall). c.place ≤ length calls) (made_of most calls)
 made-places most calls =
-    all-take (λ (c : BookCall). c.place ≤ length calls) most (first_of_each_id (book_calls 0 calls))
+    each-take (λ (c : BookCall). c.place ≤ length calls) most (first_of_each_id (book_calls 0 calls))
     (all-first (λ (c : BookCall). c.place ≤ length calls) (book_calls 0 calls) (places-below 0 (length calls) calls (omega arith)))
 
 abbrev has : ℕ → List BookCall → Bool

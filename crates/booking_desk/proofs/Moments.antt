@@ -8,7 +8,7 @@ use Rattle.booking_desk.specs.Desk.{Booking, DeskState, after_take, after_unbook
 use Rattle.booking_desk.specs.Released.{DeskCall, book, unbook, clock, call_id, clock_of, desk_after, made_of, released_after, released_at, released_of, sorted, standing}
 use Rattle.booking_desk.specs.Steps.{DeskStep, call, take_due, after_call, after_steps, before, calls_of, taken_by, TakesAllDue}
 use Rattle.booking_desk.proofs.AfterCalls.{booked-is, clock-is, held-is, ids-are, unbooked-is}
-use Rattle.booking_desk.proofs.Filtered.{all-weaker}
+use Rattle.plain_lemmas.proofs.Each.{each-weaker}
 use Rattle.booking_desk.proofs.BookingOrder.{passing}
 use Rattle.booking_desk.proofs.Sound.{IsSound, sound-call, sound-new, sound-take, times, without-none}
 
@@ -33,7 +33,7 @@ find-none p (b ∷ bs) (fails, rest) = rw fails (find-none p bs rest)
 pub none-else : (most : ℕ) (calls : List DeskCall) → due_of (desk_after most calls) ≡ None
 none-else most calls =
     find-none (is_due (clock_of calls)) (desk_after most calls).held
-    (all-weaker (λ (b : Booking). ltb (clock_of calls) b.release ≡ true) (λ (b : Booking). leb b.release (clock_of calls) ≡ false)
+    (each-weaker (λ (b : Booking). ltb (clock_of calls) b.release ≡ true) (λ (b : Booking). leb b.release (clock_of calls) ≡ false)
     (λ b late. grind arith) (desk_after most calls).held (passing (λ (b : Booking). ltb (clock_of calls) b.release) (sorted (standing most calls))))
 
 pub due-first : (most : ℕ) (calls : List DeskCall) (b : Booking) (due : List Booking) → leb b.release (clock_of calls) ≡ true
@@ -57,7 +57,7 @@ first-is_taken most calls b due is sound =
 pub released-due : (most : ℕ) (calls : List DeskCall) (time : ℕ) → AreDue (clock_of (calls ++ clock time ∷ [])) (released_at most calls time)
 released-due most calls time =
     subst (λ now. AreDue now (released_at most calls time)) (sym (clock-is most calls time))
-    (all-weaker (λ (b : Booking). (ltb (clock_of calls) b.release && leb b.release (max (clock_of calls) time)) ≡ true)
+    (each-weaker (λ (b : Booking). (ltb (clock_of calls) b.release && leb b.release (max (clock_of calls) time)) ≡ true)
     (λ (b : Booking). leb b.release (max (clock_of calls) time) ≡ true) (λ b h. second (ltb (clock_of calls) b.release) (leb b.release (max (clock_of calls) time)) h)
     (released_at most calls time) (passing (λ (b : Booking). (ltb (clock_of calls) b.release && leb b.release (max (clock_of calls) time))) (sorted (standing most calls))))
   where

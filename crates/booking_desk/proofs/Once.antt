@@ -10,7 +10,8 @@ use Rattle.booking_desk.specs.declared.replies.BookReply.TheVariants.{Held, Now,
 use Rattle.booking_desk.specs.Desk.{Booking, DeskState, after_book, after_take, after_unbook, due_of, id_of, is_before, is_booked, is_due, is_held, new_desk, put_in, reply_to_book, request_id}
 use Rattle.booking_desk.specs.Released.{DeskCall, book, unbook, clock, clock_of, greatest_clock}
 use Rattle.booking_desk.specs.Steps.{DeskStep, call, take_due, after_call, after_steps, calls_of, taken_by}
-use Rattle.booking_desk.proofs.Filtered.{all-append, all-filter, all-weaker, any-append}
+use Rattle.plain_lemmas.proofs.Filters.{any-append}
+use Rattle.plain_lemmas.proofs.Each.{each-append, each-filter, each-weaker}
 use Rattle.booking_desk.proofs.Sound.{IsSound, found-times, held-new, sound-call, sound-new, times, times-filter, times-put_in, times-without}
 
 -- an id that was booked and is not held
@@ -167,7 +168,7 @@ WereBooked calls bs = AllByRecursion (λ (b : Booking). Contains calls (book b.r
 
 were-on : (calls more : List DeskCall) (bs : List Booking) → WereBooked calls bs → WereBooked (calls ++ more) bs
 were-on calls more bs h =
-    all-weaker (λ (b : Booking). Contains calls (book b.release b.request)) (λ (b : Booking). Contains (calls ++ more) (book b.release b.request))
+    each-weaker (λ (b : Booking). Contains calls (book b.release b.request)) (λ (b : Booking). Contains (calls ++ more) (book b.release b.request))
     (λ b here. Contains-append_left calls more (book b.release b.request) here) bs h
 
 were-call : (calls : List DeskCall) (desk : DeskState) (c : DeskCall) → WereBooked calls desk.held → WereBooked (calls ++ c ∷ []) (after_call desk c).held
@@ -183,13 +184,13 @@ were-call calls desk (book release request) h = by (reply_to_book desk release r
     new = record { release = release; request = request }
 
     by : (reply : BookReply) → reply_to_book desk release request ≡ reply → WereBooked (calls ++ book release request ∷ []) (after_book desk release request).held
-    by Held at = rw at (all-append (λ (b : Booking). Contains (calls ++ book release request ∷ []) (book b.release b.request)) (filter (λ x. is_before x new) desk.held) (new ∷ filter (λ x. is_before new x) desk.held)
-        (all-filter (λ (b : Booking). Contains (calls ++ book release request ∷ []) (book b.release b.request)) (λ x. is_before x new) desk.held on)
-        (Contains-push calls (book release request), all-filter (λ (b : Booking). Contains (calls ++ book release request ∷ []) (book b.release b.request)) (λ x. is_before new x) desk.held on))
+    by Held at = rw at (each-append (λ (b : Booking). Contains (calls ++ book release request ∷ []) (book b.release b.request)) (filter (λ x. is_before x new) desk.held) (new ∷ filter (λ x. is_before new x) desk.held)
+        (each-filter (λ (b : Booking). Contains (calls ++ book release request ∷ []) (book b.release b.request)) (λ x. is_before x new) desk.held on)
+        (Contains-push calls (book release request), each-filter (λ (b : Booking). Contains (calls ++ book release request ∷ []) (book b.release b.request)) (λ x. is_before new x) desk.held on))
     by Now at = rw at on
     by (Refused code) at = rw at on
 were-call calls desk (unbook id) h =
-    all-filter (λ (b : Booking). Contains (calls ++ unbook id ∷ []) (book b.release b.request)) (λ b. not (eqb (id_of b) id)) desk.held
+    each-filter (λ (b : Booking). Contains (calls ++ unbook id ∷ []) (book b.release b.request)) (λ b. not (eqb (id_of b) id)) desk.held
     (were-on calls (unbook id ∷ []) desk.held h)
 were-call calls desk (clock time) h = were-on calls (clock time ∷ []) desk.held h
 
@@ -198,7 +199,7 @@ were-take calls desk h = by (due_of desk) refl
   where
     by : (o : Option Booking) → due_of desk ≡ o → WereBooked calls (after_take desk).held
     by None at = rw at h
-    by (Some b) at = rw at (all-filter (λ (x : Booking). Contains calls (book x.release x.request)) (λ x. not (eqb (id_of x) (id_of b))) desk.held h)
+    by (Some b) at = rw at (each-filter (λ (x : Booking). Contains calls (book x.release x.request)) (λ x. not (eqb (id_of x) (id_of b))) desk.held h)
 
 were-steps : (steps : List DeskStep) (calls : List DeskCall) (desk : DeskState) → WereBooked calls desk.held
     → WereBooked (calls ++ calls_of steps) (after_steps desk steps).held

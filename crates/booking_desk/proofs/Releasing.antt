@@ -15,7 +15,8 @@ use Rattle.fleet_board.specs.Passes.{Known, AddsEntry, AddsNone, commands_in, ro
 use Rattle.booking_desk.specs.Desk.{Booking, DeskState, after_take, due_of, is_due}
 use Rattle.booking_desk.specs.Releases.{HasSubmitted, IsAnswerTo, all_due}
 use Rattle.booking_desk.proofs.Due.{taken-rest}
-use Rattle.booking_desk.proofs.Filtered.{all-append, filter-all}
+use Rattle.plain_lemmas.proofs.Filters.{filter-all}
+use Rattle.plain_lemmas.proofs.Each.{each-append}
 
 -- these bookings were due and are submitted, and few enough are left
 pub record ReleasesSoFar (desk new_desk : DeskState) (pass new_pass : Known) (count : ℕ) : Type 0 where
@@ -119,7 +120,7 @@ module _ (desk now : DeskState) (pass seen : Known) (count : ℕ) (so_far : Rele
           held_were = so_far.submitted.held_were ∙ ap (λ bs. done ++ bs) stood ∙ sym (append_assoc done (b ∷ []) next.held);
           desk_rest = taken-rest now next b due taken ∙ ap (λ (d : DeskState). record d { held = next.held }) so_far.submitted.desk_rest;
         };
-        due = all-append (λ (x : Booking). leb x.release desk.clock ≡ true) done (b ∷ []) so_far.due
+        due = each-append (λ (x : Booking). leb x.release desk.clock ≡ true) done (b ∷ []) so_far.due
             (subst (λ n. leb b.release n ≡ true) clock-is (found-passes (is_due now.clock) now.held b due), tt);
         counted = ap (λ n. n + 1) so_far.counted ∙ sym (length-append done (b ∷ []));
         spelled = subst (λ (k : Known). All (λ (x : Booking). IsSpelledCommand (root_of k).start.settings.log x.request) next.held) (sym adds.rest)

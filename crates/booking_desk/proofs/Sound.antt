@@ -2,13 +2,15 @@
 use Rattle.std.proofs.Common.{◌≡◌, ℕ, ◌≤◌, ◌+◌, Bool, true, false, cond, eqb, ltb, List, [], ◌∷◌, ◌++◌, Option, Some, None, refl, sym, ap, subst, ◌∙◌, arith}
 use Rattle.std.specs.Prelude.{filter, find, not, ◌||◌}
 use Rattle.std.proofs.lemmas.Bool.{eqb-true}
+use Rattle.std.proofs.Math.Bool.{or-false}
 use Rattle.ride_model.specs.declared.command.Command.{Command}
 use Rattle.booking_desk.specs.declared.replies.BookReply.{BookReply}
 use Rattle.booking_desk.specs.declared.replies.BookReply.TheVariants.{Held, Now, Refused}
 use Rattle.booking_desk.specs.Desk.{Booking, DeskState, after_book, after_take, due_of, id_of, is_before, is_booked, new_desk, put_in, reply_to_book, request_id, without}
 use Rattle.booking_desk.specs.Released.{DeskCall, book, unbook, clock}
 use Rattle.booking_desk.specs.Steps.{after_call}
-use Rattle.booking_desk.proofs.Filtered.{any-append}
+use Rattle.plain_lemmas.proofs.Filters.{any-append}
+use Rattle.plain_lemmas.proofs.Numbers.{eqb-flip}
 use Rattle.booking_desk.proofs.BookingOrder.{before-not_after}
 
 -- how many bookings have an id
@@ -119,10 +121,6 @@ sound-filter desk p sound = record {
   were_booked = λ id none. omega (arith, times-filter id p desk.held, sound.were_booked id none);
 }
 
-or-false : (b : Bool) → (b || false) ≡ b
-or-false true = refl
-or-false false = refl
-
 -- an id that was not booked was not booked before one more
 pub not-booked : (id new : ℕ) (booked : List ℕ) → is_booked id (booked ++ new ∷ []) ≡ false → (is_booked id booked ≡ false) × (eqb id new ≡ false)
 not-booked id new booked none = by (is_booked id booked) (eqb id new) refl refl
@@ -148,9 +146,6 @@ held-new desk release request reply = by (ltb 1000000000 release) (is_booked (re
 sound-book : (desk : DeskState) (release : ℕ) (request : Command) → IsSound desk → IsSound (after_book desk release request)
 sound-book desk release request sound = by (reply_to_book desk release request) refl
   where
-    flip : (id new : ℕ) → eqb id new ≡ false → eqb new id ≡ false
-    flip id new h = grind arith
-
     one : (id : ℕ) (x : Bool) → eqb (request_id request) id ≡ x → is_booked (request_id request) desk.booked ≡ false
         → times id (put_in (record { release = release; request = request }) desk.held) ≤ 1
     one id true at new =
@@ -168,7 +163,7 @@ sound-book desk release request sound = by (reply_to_book desk release request) 
         → times id (put_in (record { release = release; request = request }) desk.held) ≡ 0
     none-of id none =
         let parts = not-booked id (request_id request) desk.booked none in
-        let apart : eqb (request_id request) id ≡ false = flip id (request_id request) parts.1 in
+        let apart : eqb (request_id request) id ≡ false = eqb-flip id (request_id request) parts.1 in
         let most : times id (put_in (record { release = release; request = request }) desk.held) ≤ times id desk.held + 0 =
         rw apart at (times-put_in id (record { release = release; request = request }) desk.held) in
         omega (arith, sound.were_booked id parts.0)

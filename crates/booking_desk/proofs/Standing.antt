@@ -5,15 +5,13 @@ use Rattle.std.specs.List.{AllByRecursion, list_any}
 use Rattle.std.proofs.lemmas.List.{map-append, append-nil, drop-append-le}
 use Rattle.std.proofs.lemmas.List.Elements.{filter-append}
 use Rattle.std.proofs.Math.Seq.{drop-append_seam}
+use Rattle.std.proofs.Math.Bool.{or-false}
 use Rattle.ride_model.specs.declared.command.Command.{Command}
 use Rattle.booking_desk.specs.Desk.{is_booked, request_id, without}
 use Rattle.booking_desk.specs.Released.{DeskCall, book, unbook, clock, BookCall, book_calls, call_id, first_of_each_id, is_unbook, is_unbooked, made_of, standing}
-use Rattle.booking_desk.proofs.Filtered.{all-weaker, any-append, filter-same}
+use Rattle.plain_lemmas.proofs.Filters.{any-append, filter-same}
+use Rattle.plain_lemmas.proofs.Each.{each-weaker}
 use Rattle.booking_desk.proofs.Made.{call_for, calls-append, made-places, taken-again, taken-full, taken-new}
-
-or-false : (b : Bool) → (b || false) ≡ b
-or-false true = refl
-or-false false = refl
 
 -- one more call unbooks a booking where it is an unbook of its id
 unbooked-push : (calls : List DeskCall) (c : DeskCall) (call : BookCall) → call.place ≤ length calls
@@ -29,7 +27,7 @@ stands-on : (calls : List DeskCall) (c : DeskCall) → ((id : ℕ) → is_unbook
     → filter (λ call. not (is_unbooked (calls ++ c ∷ []) call)) made ≡ filter (λ call. not (is_unbooked calls call)) made
 stands-on calls c none made places =
     filter-same (λ call. not (is_unbooked (calls ++ c ∷ []) call)) (λ call. not (is_unbooked calls call)) made
-    (all-weaker (λ (call : BookCall). call.place ≤ length calls)
+    (each-weaker (λ (call : BookCall). call.place ≤ length calls)
     (λ call. not (is_unbooked (calls ++ c ∷ []) call) ≡ not (is_unbooked calls call))
     (λ call within. ap not (unbooked-push calls c call within ∙ ap (λ b. is_unbooked calls call || b) (none (call_id call)) ∙ or-false (is_unbooked calls call)))
     made places)

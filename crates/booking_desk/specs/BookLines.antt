@@ -4,6 +4,7 @@ use Rattle.std.specs.Str.{bytes_eq}
 use Rattle.line_text.specs.Fields.{fields_of, is_over_long, numbers_of}
 use Rattle.command_lines.specs.declared.verbs.Verb.TheVariants.{Request as ToRequest}
 use Rattle.command_lines.specs.Commands.{command_from}
+use Rattle.ride_model.specs.Limits.{latest_time}
 use Rattle.booking_desk.specs.Released.{DeskCall, book, unbook, clock}
 
 -- a booking: its release, and the six or seven numbers of its request
@@ -17,7 +18,7 @@ unbooking_of _ = None
 
 -- a moment: a time of at most 10^9
 abbrev pub moment_of : List ℕ → Option DeskCall
-moment_of (time ∷ []) = if nat_lt 1000000000 time then None else Some (clock time)
+moment_of (time ∷ []) = if nat_lt latest_time time then None else Some (clock time)
 moment_of _ = None
 
 -- what fields ask of a desk

@@ -9,12 +9,8 @@ use Rattle.command_lines.specs.Commands.{spelling_of}
 use Rattle.booking_desk.specs.declared.replies.BookReply.{BookReply}
 use Rattle.booking_desk.specs.declared.replies.BookReply.TheVariants.{Held, Now, Refused}
 use Rattle.booking_desk.specs.BookLines.{call_of, calls_in}
-use Rattle.booking_desk.specs.Desk.{Booking, is_held, reply_to_book}
+use Rattle.booking_desk.specs.Desk.{Booking, is_held, most_bookings, not_held, reply_to_book}
 use Rattle.booking_desk.specs.Released.{DeskCall, book, unbook, clock, desk_after, released_at}
-
--- the most bookings of a feed
-abbrev pub most_bookings : ℕ
-most_bookings = 100000
 
 -- bytes as a line
 abbrev pub with_lf : List ℕ → List ℕ
@@ -55,7 +51,7 @@ abbrev pub call_text : List DeskCall → ℕ → List ℕ → DeskCall → List 
 call_text calls number line (book release request) =
     reply_text (reply_to_book (desk_after most_bookings calls) release request) number request
 call_text calls number line (unbook id) =
-    if is_held id (desk_after most_bookings calls).held then [] else refusal_line 21 number
+    if is_held id (desk_after most_bookings calls).held then [] else refusal_line not_held number
 call_text calls number line (clock time) = with_lf line ++ released_text (released_at most_bookings calls time)
 
 -- what a line gives by what it asks of a desk: a line that asks nothing stands as it is

@@ -5,6 +5,7 @@ use Rattle.std.specs.Option.{option_map_or}
 use Rattle.std.specs.Ordering.{is_lt, nat_cmp, ordering_then}
 use Rattle.ride_model.specs.declared.command.Command.{Command}
 use Rattle.ride_model.specs.declared.command.Command.TheVariants.{Request}
+use Rattle.ride_model.specs.Limits.{latest_time}
 use Rattle.booking_desk.specs.declared.replies.BookReply.{BookReply}
 use Rattle.booking_desk.specs.declared.replies.BookReply.TheVariants.{Held, Now, Refused}
 
@@ -56,12 +57,29 @@ is_held id bookings = list_any (λ booking. id_of booking == id) bookings
 abbrev pub is_booked : ℕ → List ℕ → Bool
 is_booked id booked = list_any (λ other. id == other) booked
 
--- how a booking is answered: the release is at most 10^9, the id was never booked, and the desk is not full
+-- the most bookings of a feed
+abbrev pub most_bookings : ℕ
+most_bookings = 100000
+
+-- why a booking is refused, or not given up
+abbrev pub booked_before : ℕ
+booked_before = 19
+
+abbrev pub late_release : ℕ
+late_release = 20
+
+abbrev pub not_held : ℕ
+not_held = 21
+
+abbrev pub desk_full : ℕ
+desk_full = 22
+
+-- how a booking is answered: the release is not after the latest time, the id was never booked, and the desk is not full
 abbrev pub reply_to_book : DeskState → ℕ → Command → BookReply
 reply_to_book desk release request =
-    if nat_lt 1000000000 release then Refused 20
-    else (if is_booked (request_id request) desk.booked then Refused 19
-    else (if nat_le desk.most (length desk.booked) then Refused 22
+    if nat_lt latest_time release then Refused late_release
+    else (if is_booked (request_id request) desk.booked then Refused booked_before
+    else (if nat_le desk.most (length desk.booked) then Refused desk_full
     else (if nat_le release desk.clock then Now
     else Held)))
 
@@ -96,7 +114,7 @@ after_take desk = option_map_or (λ booking. after_unbook desk (id_of booking)) 
 -- a desk of at most 100,000 bookings: what is held are requests that were booked, of distinct ids and in order
 pub record IsDesk (desk : DeskState) : Type 0 where
   pub few : length desk.booked ≤ desk.most
-  pub most_few : desk.most ≤ 100000
+  pub most_few : desk.most ≤ most_bookings
   pub few_held : length desk.held ≤ length desk.booked
   pub requests : All (λ (booking : Booking). IsRequest booking.request) desk.held
   pub were_booked : All (λ (booking : Booking). Contains desk.booked (id_of booking)) desk.held

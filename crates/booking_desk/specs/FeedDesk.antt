@@ -6,8 +6,8 @@ use Rattle.ride_model.specs.Text.{IsSpelledCommand}
 use Rattle.text_page.specs.Output.{HasPut, IsFresh}
 use Rattle.booking_desk.specs.declared.feed_desk.FeedDesk.{FeedDesk}
 use Rattle.booking_desk.specs.BookLines.{calls_in}
-use Rattle.booking_desk.specs.BookText.{last_line_after, most_bookings, text_of_lines}
-use Rattle.booking_desk.specs.Desk.{Booking, DeskState, IsRequest, is_due, new_desk}
+use Rattle.booking_desk.specs.BookText.{last_line_after, text_of_lines}
+use Rattle.booking_desk.specs.Desk.{Booking, DeskState, IsRequest, is_due, most_bookings, new_desk}
 use Rattle.booking_desk.specs.Released.{DeskCall, call_id, clock_of, desk_after, made_of}
 
 -- each booking is of a request that has a text

@@ -5,7 +5,7 @@ use Rattle.std.specs.Map.{keys_of, lookup}
 use Rattle.std.specs.Ordering.{nat_cmp, ordering_then}
 use Rattle.std.specs.declared.cmp.Ordering.{Ordering}
 use Rattle.ride_model.specs.declared.command.Command.{Command}
-use Rattle.booking_desk.specs.Desk.{Booking, IsRequest, request_id}
+use Rattle.booking_desk.specs.Desk.{Booking, IsRequest, most_bookings, request_id}
 
 -- the booking that an entry keeps under its release and its id
 abbrev pub booking_in : (ℕ × ℕ) × Command → Booking
@@ -27,7 +27,7 @@ pub record IsHeldEntry (booked : List (ℕ × ℕ)) (entry : (ℕ × ℕ) × Com
 -- at most so many bookings, and at most as many are held
 pub record IsKept (most : ℕ) (booked : List (ℕ × ℕ)) (held : List ((ℕ × ℕ) × Command)) : Type 0 where
   pub few : length booked ≤ most
-  pub most_few : most ≤ 100000
+  pub most_few : most ≤ most_bookings
   pub few_held : length held ≤ length booked
   pub in_order : IsStrictlySortedBy key_cmp (keys_of held)
   pub entries : All (IsHeldEntry booked) held

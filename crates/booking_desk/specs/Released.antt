@@ -2,6 +2,7 @@
 use Rattle.std.specs.Prelude.{ℕ, ◌+◌, ◌==◌, ◌&&◌, not, nat_lt, nat_le, max, Bool, false, if◌then◌else◌, List, [], ◌∷◌, ◌++◌, filter, map, take, drop}
 use Rattle.std.specs.List.{list_any}
 use Rattle.ride_model.specs.declared.command.Command.{Command}
+use Rattle.ride_model.specs.Limits.{latest_time}
 use Rattle.booking_desk.specs.Desk.{Booking, DeskState, put_in, request_id}
 
 -- a call of a desk
@@ -32,7 +33,7 @@ clock_of calls = greatest_clock 0 calls
 abbrev pub book_calls : ℕ → List DeskCall → List BookCall
 book_calls place [] = []
 book_calls place (book release request ∷ calls) =
-    if nat_lt 1000000000 release
+    if nat_lt latest_time release
     then book_calls (place + 1) calls
     else record { place = place; booking = record { release = release; request = request } } ∷ book_calls (place + 1) calls
 book_calls place (unbook id ∷ calls) = book_calls (place + 1) calls

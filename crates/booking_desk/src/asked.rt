@@ -7,9 +7,7 @@ ghost use Rattle.booking_desk.specs.BookLines.{booking_of, call_of_fields, momen
 
 use line_text::Fields;
 use ride_model::Command;
-
-/// The latest time of a clock, in seconds.
-const LATEST_TIME: u64 = 1_000_000_000;
+use ride_model::limits::LATEST_TIME;
 
 /// What a line asks of a desk.
 #[derive(Clone, Copy, Debug)]

@@ -1,16 +1,14 @@
 //! The booking desk.
 ghost use Rattle.std.specs.Prelude.{◌≡◌, ◌≤◌, ◌∷◌, IsSome, IfOk, IfSome, OnErr, length, option_map};
-ghost use Rattle.booking_desk.specs.Desk.{Booking, IsDesk, IsRequest, after_book, after_clock, after_take, after_unbook, due_of, is_held, new_desk, reply_to_book, request_id};
+ghost use Rattle.booking_desk.specs.Desk.{Booking, IsDesk, IsRequest, after_book, after_clock, after_take, after_unbook, due_of, is_held, most_bookings, new_desk, reply_to_book, request_id};
 
 use crate::{BookReply, NoMemory};
 use indexmap::IndexMap;
 use ride_model::Command;
+use ride_model::limits::LATEST_TIME;
 use std::alloc::Global;
 use std::collections::BTreeMap;
 use std::marker::Model;
-
-/// The latest release of a booking, in seconds.
-const LATEST_RELEASE: u64 = 1_000_000_000;
 
 /// The codes of refused bookings: the id was booked before, the release is too late, and the desk is full.
 const BOOKED_BEFORE: u8 = 19;
@@ -51,7 +49,7 @@ impl BookingDesk {
 
     /// A desk that takes at most so many bookings, with its clock at 0.
     pub fn new(alloc: Global, most: u32) -> Result<BookingDesk, NoMemory>
-        requires { most ≤ 100000 }
+        requires { most ≤ most_bookings }
         ensures { IfOk result (λ desk. desk ≡ new_desk most) }
     {
         let booked = IndexMap::with_capacity(alloc, most as usize)?;
@@ -71,7 +69,7 @@ impl BookingDesk {
         ensures no_memory { OnErr result (self.new ≡ self.old) }
     {
         let id = request_id(request);
-        if release > LATEST_RELEASE {
+        if release > LATEST_TIME {
             return Ok(BookReply::Refused { code: LATE_RELEASE });
         }
         if self.booked.contains_key(&id) {

@@ -3,8 +3,9 @@ ghost use Rattle.std.specs.Prelude.{◌≡◌, ◌<◌, ◌∷◌, ◌++◌, ℕ
 ghost use Rattle.line_text.specs.Fields.{begins_with, is_over_long};
 ghost use Rattle.ride_model.specs.Text.{IsSpelledCommand};
 ghost use Rattle.text_page.specs.Output.{HasPut};
-ghost use Rattle.booking_desk.specs.BookText.{held_line, most_bookings, over_long_line, refusal_line, released_text, reply_text, text_of_lines};
-ghost use Rattle.booking_desk.specs.Desk.{IsRequest, after_book, after_unbook, is_held, reply_to_book};
+ghost use Rattle.command_lines.specs.Limits.{most_lines};
+ghost use Rattle.booking_desk.specs.BookText.{held_line, over_long_line, refusal_line, released_text, reply_text, text_of_lines};
+ghost use Rattle.booking_desk.specs.Desk.{after_book, after_unbook, is_held, IsRequest, most_bookings, reply_to_book};
 ghost use Rattle.booking_desk.specs.FeedDesk.{AreDue, AreSpelled, HasBooked, IsNew, with_due};
 ghost use Rattle.booking_desk.specs.Released.{DeskCall, clock, clock_of, desk_after, released_at};
 ghost use Rattle.booking_desk.specs.Desk.{Booking};
@@ -55,7 +56,7 @@ impl FeedDesk {
         line: &[u8],
         over: bool,
     ) -> Result<(), NoMemory>
-        requires few { self.old.lines < 1000000 }
+        requires few { self.old.lines < most_lines }
         requires spelled { AreSpelled self.old.desk.held }
         ensures booked { (before : Option (List ℕ)) (faults : ℕ) (lines : List (List ℕ)) (whole : List ℕ)
             → HasBooked before (K.written out.old) faults (K.faults out.old) self.old lines

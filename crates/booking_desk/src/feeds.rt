@@ -8,23 +8,19 @@ ghost use Rattle.line_reader.specs.Reader.{HasGiven};
 ghost use Rattle.command_lines.specs.Limits.{feed_limits};
 ghost use Rattle.text_page.specs.Output.{HasPut};
 ghost use Rattle.booking_desk.specs.BookLines.{calls_in};
-ghost use Rattle.booking_desk.specs.BookText.{most_bookings, text_of_lines};
+ghost use Rattle.booking_desk.specs.BookText.{text_of_lines};
 ghost use Rattle.booking_desk.specs.Booked.{IsBooked};
 ghost use Rattle.booking_desk.specs.FeedDesk.{IsNew, run_text};
 ghost use Rattle.booking_desk.specs.Released.{desk_after};
+ghost use Rattle.booking_desk.specs.Desk.{most_bookings};
 
 use crate::NoMemory;
 use crate::feed_desk::FeedDesk;
+use command_lines::limits::{MOST_BYTES, MOST_LINES};
 use line_reader::{Limits, LineReader, NextLine, Stop, ran_of};
 use line_text::MOST_LINE;
 use ride_ports::{Ran, Sink, Source};
 use std::alloc::Global;
-
-/// The most bytes of a feed.
-const MOST_BYTES: usize = 1 << 26;
-
-/// The most lines of a feed.
-const MOST_LINES: u32 = 1_000_000;
 
 /// Books a feed at a desk of 100,000 bookings, and writes the plain feed that it gives: each request at the moment at which it
 /// is released, a line for each refusal, every other line as it is, and at the end how many bookings are held.

@@ -1,7 +1,7 @@
 -- Feeds and desks that have not ended, what a turn finds of them, and what others leave of a desk's batch.
 use Rattle.std.proofs.Common.{◌≡◌, ℕ, ◌+◌, ◌-◌, ◌≤◌, true, false, List, [], ◌++◌, sym, ap, subst, ◌∙◌, arith}
 use Rattle.std.specs.Prelude.{All, filter_map, ◌==◌}
-use Rattle.std.proofs.lemmas.Bool.{eqb-true}
+use Rattle.std.proofs.lemmas.Bool.{eqb-true, and_parts}
 use Rattle.std.proofs.lemmas.List.{append-nil}
 use Rattle.std.proofs.lemmas.List.Elements.{filter-append}
 use Rattle.ride_model.specs.declared.command.Actor.{Actor}
@@ -12,9 +12,9 @@ use Rattle.ride_model.specs.Legal.{IsNumbered}
 use Rattle.ride_model.specs.Seating.{BatchCopy}
 use Rattle.ride_model.specs.State.{State, has_ended, is_batch, open_batch_of, open_batch_numbered}
 use Rattle.ride_model.specs.Text.{IsOneOrTwo, HasLine}
-use Rattle.model_laws.proofs.AboardLoads.{and-true}
 use Rattle.history_laws.proofs.Effects.{ends_in}
 use Rattle.history_laws.proofs.Others.{ended-same, ended-others, found-others, open_batch-others}
+use Rattle.history_laws.proofs.HistoryTexts.{one_or_two}
 use Rattle.board_core.specs.Recorded.{Recorded, state_of}
 use Rattle.turn_lock.specs.History.{items_of}
 use Rattle.fleet_board.specs.Passes.{Known, maker_of, commands_in, root_of, seen_state, desk_of, IsPoint, IsFeed, IsDesk}
@@ -57,10 +57,6 @@ actor-lives k board f actor found lives =
     ap (λ (s : State). has_ended s actor) (found-state k board f)
     ∙ ended-others actor (seen_state k) f.between found.none_between ∙ lives
 
--- one of so many, of which there are at most two
-pub few : (many n : ℕ) → IsOneOrTwo many → IsNumbered many n → IsOneOrTwo n
-few many n (low, high) (from, to) = (from, omega (arith, high, to))
-
 -- what a turn of a feed finds
 pub record FeedFound (k : Known) (board : Recorded) : Type 0 where
   pub numbered : IsNumbered board.feeds k.number
@@ -70,7 +66,7 @@ pub record FeedFound (k : Known) (board : Recorded) : Type 0 where
 
 pub feed-found : (k : Known) (board : Recorded) → IsPoint k → IsFeed k → Finds k board → FeedFound k board
 feed-found k board point feed f =
-    let fits : IsOneOrTwo k.number = few (root_of k).feeds k.number point.text.feeds_number feed.numbered in
+    let fits : IsOneOrTwo k.number = one_or_two (root_of k).feeds k.number point.text.feeds_number feed.numbered in
     let found = actor-found k board f (Feed k.number) point (λ log entries lines. items-feed log k.number entries lines fits) in
     record {
       numbered = subst (λ (r : Recorded). IsNumbered r.feeds k.number) f.began feed.numbered;
@@ -90,7 +86,7 @@ pub record DeskFound (k : Known) (board : Recorded) : Type 0 where
 
 pub desk-found : (k : Known) (board : Recorded) → IsPoint k → IsDesk k → Finds k board → DeskFound k board
 desk-found k board point desk f =
-    let fits : IsOneOrTwo (desk_of k) = few (root_of k).desks (desk_of k) point.text.desks_number desk.numbered in
+    let fits : IsOneOrTwo (desk_of k) = one_or_two (root_of k).desks (desk_of k) point.text.desks_number desk.numbered in
     let is : desk_of k + 2 ≡ k.number = above k.number desk.above_feeds in
     let found = actor-found k board f (Desk (desk_of k)) point (λ log entries lines.
     ap (λ n. items_of maker_of n entries) (sym is) ∙ items-desk log (desk_of k) entries lines fits) in
@@ -109,7 +105,7 @@ desk-found k board point desk f =
     above n low = omega (arith, low)
 
     of_desk : (d number : ℕ) (b : BatchCopy) → is_batch d number b ≡ true → b.desk ≡ d
-    of_desk d number b passes = eqb-true b.desk d (and-true (b.desk == d) (b.number == number) passes).0
+    of_desk d number b passes = eqb-true b.desk d (and_parts (b.desk == d) (b.number == number) passes).0
 
 -- a feed that has not ended has not, after an entry that is no end
 pub feed-added : (k after : Known) (old new : Recorded) (entry : Entry) → Added k after old new entry → IsPoint k → IsFeed k

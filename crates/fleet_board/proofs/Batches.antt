@@ -4,12 +4,13 @@ use Rattle.std.specs.Prelude.{find, ◌==◌, is_some, IsNone, IsSomeAnd, IfOk, 
 use Rattle.std.specs.List.{filter}
 use Rattle.std.proofs.lemmas.Bool.{eqb-true}
 use Rattle.std.specs.declared.alloc.AllocError.{AllocError}
+use Rattle.std.proofs.lemmas.Option.{same_Some}
 use Rattle.ride_model.specs.declared.entry.Entry.{Entry}
 use Rattle.ride_model.specs.Batch.{next_batch, outcomes_of, after_commit}
 use Rattle.ride_model.specs.Legal.{after_entry, replay, IsLegal, CommitsBatch}
 use Rattle.ride_model.specs.Seating.{BatchCopy, seating_cost}
 use Rattle.ride_model.specs.State.{State, is_batch, open_batch_of, open_batch_numbered}
-use Rattle.model_laws.proofs.Among.{Among}
+use Rattle.plain_lemmas.proofs.Among.{Among}
 use Rattle.model_laws.proofs.Certificates.{found_among}
 use Rattle.model_laws.proofs.Histories.{IsLegal-parts}
 use Rattle.batch_commit.specs.Solved.{SolvedBatch}
@@ -60,15 +61,12 @@ closed-none old batch after told held batches =
     s : State
     s = state_of old
 
-    same : (a b : BatchCopy) → Some a ≡ Some b → a ≡ b
-    same a b e = cc e
-
     its : (b : BatchCopy) → Among b s.batches → eqb b.desk batch.desk ≡ true → not (is_batch batch.desk batch.number b) ≡ false
     its b there of_desk =
         let differ = (consistent old.feeds old.desks old.start old.history told.start_fits told.legal).desks_differ in
         let batch_there = (found_among (is_batch batch.desk batch.number) s.batches batch held).0 in
         let one : b ≡ batch
-        = same b batch (sym (found_by (λ (x : BatchCopy). x.desk) s.batches b differ there)
+        = same_Some b batch (sym (found_by (λ (x : BatchCopy). x.desk) s.batches b differ there)
         ∙ ap (λ d. find (λ (x : BatchCopy). x.desk == d) s.batches) (eqb-true b.desk batch.desk of_desk)
         ∙ found_by (λ (x : BatchCopy). x.desk) s.batches batch differ batch_there) in
         ap not (ap (is_batch batch.desk batch.number) one ∙ is_batch-own batch)

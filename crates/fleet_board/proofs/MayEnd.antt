@@ -11,12 +11,13 @@ use Rattle.ride_model.specs.State.{State}
 use Rattle.model_laws.proofs.Histories.{IsLegal-parts}
 use Rattle.history_laws.proofs.EveryState.{consistent}
 use Rattle.history_laws.proofs.Others.{NoneToCome, none_to_come}
+use Rattle.history_laws.proofs.HistoryTexts.{one_or_two}
 use Rattle.board_core.specs.declared.opening.Opening.TheVariants.{Batch, Idle, Ended}
 use Rattle.board_core.specs.Recorded.{Recorded, state_of}
 use Rattle.fleet_board.specs.Openings.{HasNoneOpen, OpensNone}
 use Rattle.fleet_board.specs.Passes.{Known, pass_number, actor_of, root_of, seen_state, desk_of, IsPoint, IsFeed, IsDesk}
 use Rattle.fleet_board.specs.Turns.{Finds}
-use Rattle.fleet_board.proofs.Actors.{few, feed-found, desk-found}
+use Rattle.fleet_board.proofs.Actors.{feed-found, desk-found}
 use Rattle.fleet_board.proofs.Points.{found-state}
 
 -- the end of a pass's actor at a state
@@ -38,7 +39,7 @@ at_most_four k ending point may = by_test (nat_le k.number 2) refl may
         → k.number ≤ 4
     by_test true is legal = omega (arith, at_most_two k.number is)
     by_test false is (numbered, lives, may) =
-        omega (arith, (few (root_of k).desks (k.number - 2) point.text.desks_number numbered).1, above_two k.number is)
+        omega (arith, (one_or_two (root_of k).desks (k.number - 2) point.text.desks_number numbered).1, above_two k.number is)
 
 -- the entry of its end is of its number
 pub end-made : (n : ℕ) → pass_number (actor_of n) ≡ n
@@ -102,7 +103,7 @@ desk-actor n high = by_test (nat_le n 2) refl
 pub feed-may_end : (k : Known) (ending : Ending) → IsPoint k → IsFeed k → MayFinish k ending
 feed-may_end k ending point feed =
     subst (λ actor. IsLegalEvent (root_of k).feeds (root_of k).desks (seen_state k) actor (Finish ending))
-    (sym (feed-actor k.number (few (root_of k).feeds k.number point.text.feeds_number feed.numbered).1))
+    (sym (feed-actor k.number (one_or_two (root_of k).feeds k.number point.text.feeds_number feed.numbered).1))
     (feed.numbered, feed.not_ended)
 
 -- a desk without an open batch may be cut

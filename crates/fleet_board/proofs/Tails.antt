@@ -2,19 +2,17 @@
 use Rattle.std.proofs.Common.{◌≡◌, ℕ, ◌+◌, ◌-◌, ◌≤◌, ◌<◌, List, length, take, drop, sym, ap, ◌∙◌, ◌⊎◌, inl, inr, arith, length-drop}
 use Rattle.std.specs.Prelude.{min}
 use Rattle.std.proofs.lemmas.List.{take_min, drop_all}
+use Rattle.plain_lemmas.proofs.Numbers.{le_or_lt}
 
 -- the elements of a list between a place within it and one as far behind as may be
 pub slice-tail : {X : Type 0} (from most start many : ℕ) (xs : List X) → start ≡ min from (length xs) → many ≡ min most (length xs - start)
     → take (start + many - start) (drop start xs) ≡ take most (drop from xs)
 slice-tail from most start many xs start_is many_is =
     ap (λ n. take n (drop start xs)) (size start many) ∙ ap (λ n. take n (drop start xs)) (many_is ∙ ap (min most) (sym (length-drop start xs)))
-    ∙ take_min most (drop start xs) ∙ by_place (within from (length xs))
+    ∙ take_min most (drop start xs) ∙ by_place (le_or_lt from (length xs))
   where
     size : (a b : ℕ) → a + b - a ≡ b
     size a b = omega arith
-
-    within : (a b : ℕ) → (a ≤ b) ⊎ (b < a)
-    within a b = grind arith
 
     by_place : ((from ≤ length xs) ⊎ (length xs < from)) → take most (drop start xs) ≡ take most (drop from xs)
     by_place (inl low) = ap (λ n. take most (drop n xs)) (omega (arith, start_is, low))

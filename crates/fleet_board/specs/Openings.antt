@@ -5,6 +5,7 @@ use Rattle.ride_model.specs.Road.{RoadMap}
 use Rattle.ride_model.specs.Seating.{BatchCopy, IsBatchOver}
 use Rattle.ride_model.specs.State.{open_batch_of, open_batch_numbered}
 use Rattle.ride_model.specs.Vehicle.{IsLawful}
+use Rattle.ride_model.specs.Limits.{latest_time}
 use Rattle.board_core.specs.declared.opening.Opening.{Opening}
 use Rattle.board_core.specs.declared.opening.Opening.TheVariants.{Batch, Idle, Ended}
 use Rattle.board_core.specs.Opening.{opening_at}
@@ -22,7 +23,7 @@ pub record HasOpen (k : Known) (batch : BatchCopy) : Type 0 where
 
 -- what pricing over a map asks of a batch
 pub record IsPriceable (roads : RoadMap) (batch : BatchCopy) : Type 0 where
-  pub in_time : batch.time ≤ 1000000000
+  pub in_time : batch.time ≤ latest_time
   pub over_map : IsBatchOver roads batch
   pub lawful : All (IsLawful roads) batch.vehicles
 

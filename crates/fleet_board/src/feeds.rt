@@ -4,6 +4,7 @@ ghost use Rattle.ride_model.specs.declared.command.Actor.TheVariants.{Feed};
 ghost use Rattle.ride_model.specs.declared.entry.Event.TheVariants.{Fed};
 ghost use Rattle.ride_model.specs.Step.{step};
 ghost use Rattle.ride_model.specs.Text.{IsSpelledCommand};
+ghost use Rattle.ride_model.specs.Limits.{most_commands};
 ghost use Rattle.turn_lock.specs.Passes.{knowledge};
 ghost use Rattle.fleet_board.specs.Passes.{IsPoint, IsFeed, AddsNone, AddsEntry, commands_in, root_of, state_before};
 ghost use Rattle.fleet_board.specs.Sharing.{MayUse};
@@ -23,7 +24,7 @@ impl<'r> SharedBoard<'r> {
         requires pass { MayUse self.now pass.old }
         requires point { IsPoint (knowledge pass.old) }
         requires feed { IsFeed (knowledge pass.old) }
-        requires few { length (commands_in (knowledge pass.old).own) < 1000000000 }
+        requires few { length (commands_in (knowledge pass.old).own) < most_commands }
         requires spelled { IsSpelledCommand (root_of (knowledge pass.old)).start.settings.log command.now }
         ensures pass { MayUse self.now pass.new }
         ensures point { IsPoint (knowledge pass.new) }

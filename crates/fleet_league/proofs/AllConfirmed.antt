@@ -2,12 +2,12 @@
 use Rattle.std.proofs.Common.{◌≡◌, ℕ, ◌+◌, ◌≤◌, inl, inr, Bool, true, false, not, cond, List, [], ◌∷◌, length, Option, Some, None, eqb, ltb, leb-true, refl, sym, ap, ◌∙◌, arith}
 use Rattle.std.specs.Prelude.{map, max, nat_le, nat_eq, ◌||◌, ◌==◌, All, IsSome}
 use Rattle.std.specs.List.{IsDistinct}
-use Rattle.std.proofs.lemmas.Bool.{eq-eqb}
+use Rattle.std.proofs.lemmas.Bool.{eq-eqb, and_parts, le-ltb}
 use Rattle.std.proofs.lemmas.List.{length-map}
 use Rattle.ride_model.specs.declared.entry.Outcome.{Outcome}
 use Rattle.ride_model.specs.declared.entry.Outcome.TheVariants.{Confirmed}
 use Rattle.ride_model.specs.declared.offer.Seat.{Seat}
-use Rattle.ride_model.specs.declared.reply.RequestState.TheVariants.{Confirmed as IsConfirmed}
+use Rattle.ride_model.specs.declared.reply.RequestState.TheVariants.{Confirmed as ConfirmedState}
 use Rattle.ride_model.specs.declared.vehicle.Ride.{Ride}
 use Rattle.ride_model.specs.declared.vehicle.Vehicle.{Vehicle}
 use Rattle.ride_model.specs.Batch.{version_of, priced_start, was_cancelled, seat_of, outcome_by, outcome_of, confirm, after_outcome, after_outcomes}
@@ -15,13 +15,14 @@ use Rattle.ride_model.specs.Offers.{is_idle, is_open, start_of}
 use Rattle.ride_model.specs.Seating.{BatchCopy, find_vehicle, vehicle_ids, seat_offer}
 use Rattle.ride_model.specs.State.{State, placed_vehicle}
 use Rattle.ride_model.specs.Vehicle.{ride_ids}
-use Rattle.model_laws.proofs.AboardLoads.{and-true}
-use Rattle.model_laws.proofs.Among.{Among}
+use Rattle.plain_lemmas.proofs.Among.{Among}
+use Rattle.plain_lemmas.proofs.Each.{of_all}
 use Rattle.model_laws.proofs.Certificates.{found_among, seat_facts}
 use Rattle.model_laws.proofs.Costs.{offer_plan}
 use Rattle.model_laws.proofs.RequestStates.{marked}
+use Rattle.model_laws.proofs.Starts.{start-not_before}
 use Rattle.history_laws.proofs.Confirming.{priced_start-found}
-use Rattle.history_laws.proofs.Lookups.{of_all, found_by}
+use Rattle.history_laws.proofs.Lookups.{found_by}
 use Rattle.fleet_league.specs.declared.briefs.Win.{Win}
 use Rattle.fleet_league.specs.Awards.{won_rides, AreSeatsOf}
 use Rattle.fleet_league.proofs.Reports.{NoneWaits, none-marked}
@@ -51,14 +52,6 @@ seat-of-win (first ∷ wins) (seat ∷ seats) win are there =
         let (s, found) = later there in
         (s, ap (λ b. cond b (Some seat) (seat_of seats win.ride.id)) is ∙ found)
 
--- an open vehicle does not start before the time
-start-not_before : (v : Vehicle) (lead time : ℕ) → is_open v time ≡ true → time ≤ start_of v lead time
-start-not_before v lead time open_then = by_test (is_idle v) (and-true v.duty (is_idle v || nat_le time v.ready) open_then).1
-  where
-    by_test : (b : Bool) → (b || nat_le time v.ready) ≡ true → time ≤ cond b (max v.ready (time + lead)) v.ready
-    by_test true h = omega arith
-    by_test false h = leb-true time v.ready h
-
 -- a pair that stands is confirmed
 stands : (a b : Bool) (x y : Outcome) → a ≡ false → b ≡ false → cond a x (cond b y Confirmed) ≡ Confirmed
 stands true b x y h k = absurd (cc h)
@@ -85,13 +78,10 @@ module _ (s : State) (batch : BatchCopy) (seats : List Seat) (vehicles_stand : b
       = priced_start-found batch seat.vehicle facts.vehicle found in
       let not_behind : ltb (priced_start batch seat.vehicle) s.clock ≡ false
       = ap (λ n. ltb n s.clock) start ∙ ap (λ n. ltb (start_of facts.vehicle batch.settings.lead batch.time) n) (sym time_is)
-      ∙ le_not_ltb batch.time (start_of facts.vehicle batch.settings.lead batch.time) later in
+      ∙ le-ltb (start_of facts.vehicle batch.settings.lead batch.time) batch.time later in
       ap (λ b. outcome_by batch s b (seat_of seats id)) not_cancelled ∙ ap (outcome_by batch s false) seated
       ∙ stands (not (eqb (version_of batch.vehicles seat.vehicle) (version_of s.vehicles seat.vehicle)))
       (ltb (priced_start batch seat.vehicle) s.clock) _ _ (ap not same) not_behind
-    where
-      le_not_ltb : (a b : ℕ) → a ≤ b → ltb b a ≡ false
-      le_not_ltb a b h = grind arith
 
 -- the outcomes of requests
 abbrev pub outcomes_by : BatchCopy → List Seat → State → List ℕ → List (ℕ × Outcome)
@@ -117,8 +107,8 @@ one-confirmed batch ride (Some seat) s = by_place (placed_vehicle s seat.vehicle
     by_place : (placed : Option (ℕ × Vehicle)) → LeavesNone s (confirm batch ride seat placed s)
     by_place None = record { none_wait = λ none. none; as_many = refl }
     by_place (Some p) = record {
-      none_wait = none-marked (λ q. q == ride.id) (IsConfirmed seat.vehicle) s.requests refl;
-      as_many = length-map s.requests (marked (λ q. q == ride.id) (IsConfirmed seat.vehicle));
+      none_wait = none-marked (λ q. q == ride.id) (ConfirmedState seat.vehicle) s.requests refl;
+      as_many = length-map s.requests (marked (λ q. q == ride.id) (ConfirmedState seat.vehicle));
     }
 
 pub all-confirmed : (batch : BatchCopy) (seats : List Seat) (moment : State) (rides : List Ride) (s : State)

@@ -14,7 +14,7 @@ use Rattle.ride_model.specs.declared.entry.Outcome.TheVariants.{Confirmed}
 use Rattle.ride_model.specs.declared.offer.Seat.{Seat}
 use Rattle.ride_model.specs.declared.reply.Reply.{Reply}
 use Rattle.ride_model.specs.declared.reply.Reply.TheVariants.{Asked}
-use Rattle.ride_model.specs.declared.reply.RequestState.TheVariants.{InBatch, Waiting as IsWaiting}
+use Rattle.ride_model.specs.declared.reply.RequestState.TheVariants.{InBatch, Waiting as WaitingState}
 use Rattle.ride_model.specs.declared.vehicle.Ride.{Ride}
 use Rattle.ride_model.specs.Batch.{was_cancelled, waiting_rides, next_batch, after_opening, outcome_of, outcomes_of, after_outcomes, after_commit, after_abandon}
 use Rattle.ride_model.specs.Fleet.{IsFleet}
@@ -29,11 +29,12 @@ use Rattle.batch_commit.specs.Solved.{SolvedBatch}
 use Rattle.batch_commit.specs.Table.{Table, IsTableOf}
 use Rattle.model_laws.specs.Requests.{is_of}
 use Rattle.model_laws.proofs.Histories.{replay-append}
-use Rattle.model_laws.proofs.Among.{Among, among_map, among_map_back}
-use Rattle.model_laws.proofs.Sums.{sum_by-map}
+use Rattle.plain_lemmas.proofs.Among.{Among, among_map, among_map_back}
+use Rattle.plain_lemmas.proofs.Sums.{sum_by-map}
 use Rattle.model_laws.proofs.RequestStates.{marked, opening-is, others-opening, abandon-is}
 use Rattle.history_laws.proofs.Leaving.{is_batch-own}
 use Rattle.history_laws.proofs.Untouched.{leaves-step, stays-outcomes}
+use Rattle.history_laws.proofs.OpenedBatches.{opened-not_cancelled, none-left, committed-state, abandoned-state, open-found}
 use Rattle.dual_check.specs.Grid.{pairing_cost}
 use Rattle.dual_check.proofs.OverMaps.{certified-over-map}
 use Rattle.dual_check.proofs.SeatCosts.{sum-amounts-over}
@@ -42,7 +43,7 @@ use Rattle.board_core.specs.declared.opening.Opening.{Opening}
 use Rattle.board_core.specs.declared.opening.Opening.TheVariants.{Batch, Idle, Ended}
 use Rattle.board_core.specs.Opening.{opening_at}
 use Rattle.board_core.specs.Recorded.{Recorded, state_of, opened_entry, committed_entry, abandoned_entry}
-use Rattle.board_core.proofs.Fedded.{fed_commands-append}
+use Rattle.board_core.proofs.FedEntries.{fed_commands-append}
 use Rattle.board_core.proofs.OpenBatches.{state-push}
 use Rattle.fleet_league.specs.declared.briefs.Brief.{Brief}
 use Rattle.fleet_league.specs.declared.briefs.Win.{Win}
@@ -52,7 +53,7 @@ use Rattle.fleet_league.specs.Awards.{won_rides, won_columns, price_list, reques
 use Rattle.fleet_league.specs.Awarding.{MayConfirm, IsWonBatch, asked_state, won_batch, requests_of}
 use Rattle.fleet_league.specs.Quoting.{quoting_batch}
 use Rattle.fleet_league.proofs.AllConfirmed.{seat-of-win, outcome-confirmed, outcomes-are, all-confirmed}
-use Rattle.fleet_league.proofs.BatchOpened.{opened-none, opened-not_cancelled}
+use Rattle.fleet_league.proofs.BatchOpened.{opened-none}
 use Rattle.fleet_league.proofs.Legality.{IsLegalBoard, board-fleet, board-roads}
 use Rattle.fleet_league.proofs.Reports.{NoneWaits, none-rides, rides-none}
 use Rattle.fleet_league.proofs.Requested.{waiting-are}
@@ -115,25 +116,6 @@ pub one-open : (s : State) (wins : List Win) → s.batches ≡ [] → (awarding_
 one-open s wins none =
     ap (λ (t : State). t.batches) (others-opening (asked_state s wins) (won_batch s wins))
     ∙ ap (λ bs. bs ++ won_batch s wins ∷ []) none
-
-pub open-found : (batch : BatchCopy) (t : State) → t.batches ≡ batch ∷ [] → open_batch_numbered t batch.desk batch.number ≡ Some batch
-open-found batch t one =
-    ap (find (is_batch batch.desk batch.number)) one ∙ ap (λ b. cond b (Some batch) None) (is_batch-own batch)
-
-pub none-left : (batch : BatchCopy) (batches : List BatchCopy) → batches ≡ batch ∷ []
-    → filter (λ other. not (is_batch batch.desk batch.number other)) batches ≡ []
-none-left batch batches one =
-    ap (filter (λ other. not (is_batch batch.desk batch.number other))) one ∙ ap (λ b. cond (not b) (batch ∷ []) []) (is_batch-own batch)
-
--- the states after its commit, and after it was given up
-committed-state : (t : State) (batch : BatchCopy) (cost : ℕ) (seats : List Seat) (prices pays : List (ℕ × ℕ)) (outcomes : List (ℕ × Outcome))
-    → open_batch_numbered t batch.desk batch.number ≡ Some batch
-    → after_event t (Desk batch.desk) (Committed batch.number cost seats prices pays outcomes) ≡ after_commit batch seats t
-committed-state t batch cost seats prices pays outcomes found = rw found refl
-
-pub abandoned-state : (t : State) (batch : BatchCopy) → open_batch_numbered t batch.desk batch.number ≡ Some batch
-    → after_event t (Desk batch.desk) (Abandoned batch.number) ≡ after_abandon batch t
-abandoned-state t batch found = rw found refl
 
 -- as many requests are there after an opening
 opened-as-many : (t : State) (batch : BatchCopy) → length (after_opening t batch).requests ≡ length t.requests
@@ -316,7 +298,7 @@ module _ (old now new : Recorded) (roads : RoadMap) (brief : Brief) (solved : So
       let requests : length (state_of new).requests ≡ length begun.requests + length won
       = ap (λ (x : State). length x.requests) state_is ∙ leaves.as_many ∙ ap (λ (x : State). length x.requests) opened_is
       ∙ opened-as-many (asked_state begun won) won_together ∙ length-append begun.requests (requests_of won)
-      ∙ ap (λ n. length begun.requests + n) (length-map won (λ (w : Win). record { ride = w.ride; state = IsWaiting })) in
+      ∙ ap (λ n. length begun.requests + n) (length-map won (λ (w : Win). record { ride = w.ride; state = WaitingState })) in
       let fed : length (fed_commands 1 new.history) ≡ length (fed_commands 1 old.history) + (length won + 1)
       = ap length (fed-award begun won old.history new.history (confirming_entry begun brief its_seats) refl grows_now)
       ∙ length-append (fed_commands 1 old.history) (map (λ (w : Win). request_of w.ride) won ++ Ask ∷ [])

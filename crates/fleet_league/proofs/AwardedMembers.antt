@@ -6,9 +6,9 @@ use Rattle.ride_model.specs.declared.vehicle.Ride.{Ride}
 use Rattle.ride_model.specs.Legal.{replay}
 use Rattle.ride_model.specs.State.{State, accepted_request}
 use Rattle.ride_model.specs.Text.{IsSpelled, IsSpelledCommand}
-use Rattle.model_laws.proofs.Among.{among_from_contains}
+use Rattle.plain_lemmas.proofs.Among.{among_from_contains}
+use Rattle.plain_lemmas.proofs.Each.{of_all, all_of}
 use Rattle.model_laws.proofs.Histories.{replay-append}
-use Rattle.history_laws.proofs.Lookups.{all_of, of_all}
 use Rattle.board_core.specs.Recorded.{state_of}
 use Rattle.fleet_league.specs.declared.briefs.Brief.{Brief}
 use Rattle.fleet_league.specs.declared.briefs.Win.{Win}

@@ -9,9 +9,10 @@ use Rattle.ride_model.specs.Batch.{is_cancelled, is_waiting, was_cancelled, wait
 use Rattle.ride_model.specs.Seating.{BatchCopy}
 use Rattle.ride_model.specs.State.{State, AcceptedRequest, request_state}
 use Rattle.model_laws.specs.Requests.{is_of}
-use Rattle.model_laws.proofs.Among.{Among, among_map, among_filter}
+use Rattle.plain_lemmas.proofs.Among.{Among, among_map, among_filter}
 use Rattle.model_laws.proofs.RequestStates.{marked, opening-is, request_state-opening}
 use Rattle.history_laws.proofs.Opening.{is_of-among}
+use Rattle.history_laws.proofs.OpenedBatches.{opened-not_cancelled}
 use Rattle.fleet_league.proofs.Reports.{NoneWaits}
 
 -- none waits where each that waited was marked
@@ -37,29 +38,3 @@ opened-none s batch all =
     (is_of-among (waiting_rides s) r.ride
     (among_map (λ (q : AcceptedRequest). q.ride) (filter (λ (q : AcceptedRequest). is_waiting q.state) s.requests) r
     (among_filter (λ (q : AcceptedRequest). is_waiting q.state) s.requests r there waits)))))
-
--- whether a request's state is that of a cancelled one
-cancelled_in : Option RequestState → Bool
-cancelled_in None = false
-cancelled_in (Some state) = is_cancelled state
-
-was-cancelled : (s : State) (id : ℕ) → was_cancelled s id ≡ cancelled_in (request_state s id)
-unfolding cancelled_in
-was-cancelled s id = by_state (request_state s id) refl
-  where
-    by_state : (o : Option RequestState) → request_state s id ≡ o → was_cancelled s id ≡ cancelled_in o
-    by_state None is = rw is refl
-    by_state (Some state) is = rw is refl
-
--- no request of a batch that was just opened is cancelled
-pub opened-not_cancelled : (s : State) (batch : BatchCopy) (ride : Ride) → Among ride batch.requests
-    → was_cancelled (after_opening s batch) ride.id ≡ false
-unfolding cancelled_in
-opened-not_cancelled s batch ride there =
-    was-cancelled (after_opening s batch) ride.id ∙ ap cancelled_in (request_state-opening s batch ride.id
-    ∙ ap (λ b. cond b (option_map (λ _. InBatch batch.number) (request_state s ride.id)) (request_state s ride.id))
-    (is_of-among batch.requests ride there)) ∙ in_batch (request_state s ride.id)
-  where
-    in_batch : (o : Option RequestState) → cancelled_in (option_map (λ _. InBatch batch.number) o) ≡ false
-    in_batch None = refl
-    in_batch (Some state) = refl

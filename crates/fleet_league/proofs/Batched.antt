@@ -8,10 +8,10 @@ use Rattle.ride_model.specs.Seating.{IsBatchOver}
 use Rattle.ride_model.specs.Settings.{IsSettings}
 use Rattle.ride_model.specs.State.{State, accepted_request}
 use Rattle.ride_model.specs.Vehicle.{IsRide, IsFresh, IsRouted, IsLawful, ride_ids}
-use Rattle.model_laws.proofs.Among.{among_from_contains, among_map_back}
+use Rattle.plain_lemmas.proofs.Among.{among_from_contains, among_map_back}
+use Rattle.plain_lemmas.proofs.Each.{of_all, all_of}
 use Rattle.history_laws.specs.Consistent.{HasPromised, promised_as}
 use Rattle.history_laws.proofs.EveryState.{consistent}
-use Rattle.history_laws.proofs.Lookups.{of_all, all_of}
 use Rattle.board_core.specs.Recorded.{Recorded, state_of}
 use Rattle.fleet_league.specs.Prices.{IsNewRide}
 use Rattle.fleet_league.proofs.Legality.{IsLegalBoard}

@@ -8,6 +8,7 @@ use Rattle.std.proofs.lemmas.Bool.{eqb-true, eq-eqb, ne_eqb}
 use Rattle.std.proofs.lemmas.List.{length-map}
 use Rattle.std.proofs.lemmas.Map.Keys.{IsDistinct-head, IsDistinct-tail}
 use Rattle.std.proofs.lemmas.Map.Made.{length-le_from_is_member}
+use Rattle.std.proofs.Math.Bool.{or-true}
 use Rattle.ride_model.specs.declared.command.Command.{Command}
 use Rattle.ride_model.specs.declared.reply.RequestState.{RequestState}
 use Rattle.ride_model.specs.declared.reply.RequestState.TheVariants.{Waiting, InBatch, Confirmed, Aboard, Done, Away, Cancelled}
@@ -20,13 +21,14 @@ use Rattle.ride_model.specs.Step.{step}
 use Rattle.ride_model.specs.Text.{IsSpelledCommand}
 use Rattle.ride_model.specs.Vehicle.{IsRide, ride_ids}
 use Rattle.model_laws.specs.Requests.{is_of}
-use Rattle.model_laws.proofs.Among.{Among, among_map_back}
+use Rattle.plain_lemmas.proofs.Among.{Among, among_map_back}
+use Rattle.plain_lemmas.proofs.Numbers.{eqb-comm}
+use Rattle.plain_lemmas.proofs.Each.{of_each, of_all, all_of}
 use Rattle.model_laws.proofs.RequestStates.{request_state-marked, state_if_there, state_in, with_request_states-is}
 use Rattle.history_laws.specs.Consistent.{request_ids}
 use Rattle.history_laws.proofs.Asked.{distinct-push}
-use Rattle.history_laws.proofs.Lookups.{all_of, found_by, of_all, of_each}
+use Rattle.history_laws.proofs.Lookups.{found_by}
 use Rattle.history_laws.proofs.Opening.{of_rides, waits_in}
-use Rattle.history_laws.proofs.Served.{eqb-comm}
 use Rattle.board_core.specs.Recorded.{Recorded, state_of}
 use Rattle.fleet_league.specs.Awards.{request_of}
 use Rattle.fleet_league.specs.Companies.{CompanyState, is_report}
@@ -108,11 +110,7 @@ member-among (x ∷ xs) q is = by_test (member-among xs q) (eqb q x) refl is
 among-member : (xs : List ℕ) (q : ℕ) → Among q xs → is_member eqb xs q ≡ true
 among-member [] q there = absurd there
 among-member (x ∷ xs) q (inl is) = ap (λ b. b || is_member eqb xs q) (eq-eqb q x (sym is))
-among-member (x ∷ xs) q (inr there) = ap (λ b. eqb q x || b) (among-member xs q there) ∙ either (eqb q x)
-  where
-    either : (b : Bool) → (b || true) ≡ true
-    either true = refl
-    either false = refl
+among-member (x ∷ xs) q (inr there) = ap (λ b. eqb q x || b) (among-member xs q there) ∙ or-true (eqb q x)
 
 -- different numbers, and after them others
 distinct-append : (xs ys : List ℕ) → IsDistinct eqb xs → IsDistinct eqb ys → ((y : ℕ) → Among y xs → Among y ys → ⊥)

@@ -14,8 +14,10 @@ use Rattle.ride_model.specs.Offers.{price}
 use Rattle.ride_model.specs.Seating.{vehicle_ids}
 use Rattle.ride_model.specs.State.{State}
 use Rattle.ride_model.specs.Vehicle.{ride_ids}
-use Rattle.model_laws.proofs.Among.{Among, among_filter_back, among_from_contains, among_map_back}
-use Rattle.history_laws.proofs.Lookups.{all_of, distinct-filter_by}
+use Rattle.plain_lemmas.proofs.Among.{Among, among_filter_back, among_from_contains, among_map_back}
+use Rattle.plain_lemmas.proofs.Each.{all_of}
+use Rattle.plain_lemmas.proofs.Lists.{any-default}
+use Rattle.history_laws.proofs.Lookups.{distinct-filter_by}
 use Rattle.history_laws.proofs.Raised.{length-filter-le}
 use Rattle.dual_check.specs.declared.paired.Paired.{Paired}
 use Rattle.dual_check.specs.Cells.{GridCells, cell_at}
@@ -27,6 +29,7 @@ use Rattle.dual_check.proofs.ItemOrders.{map-map}
 use Rattle.dual_check.proofs.PairingParts.{row-of-column}
 use Rattle.hungarian.specs.Seats.{pay_at}
 use Rattle.hungarian.proofs.Gathering.{each-gathered, gathered-in_order}
+use Rattle.hungarian.proofs.BatchCertificates.{pay-cases, pay-amount}
 use Rattle.fleet_league.specs.declared.briefs.Win.{Win}
 use Rattle.fleet_league.specs.declared.broker.rows.RoundColumn.{RoundColumn}
 use Rattle.fleet_league.specs.declared.broker.rows.RoundRow.{RoundRow}
@@ -79,24 +82,10 @@ no_ride = record { id = 0; from = 0; to = 0; seats = 0; chairs = 0; latest = 0; 
 pub no_column : RoundColumn
 no_column = record { company = 0; vehicle = 0; version = 0 }
 
--- what a column pays, as its vehicle's payment
-pay-cases : (vehicle amount : ℕ) → ((amount ≡ 0) × (pay_at vehicle amount ≡ None))
-    ⊎ ((1 ≤ amount) × (pay_at vehicle amount ≡ Some (vehicle, amount)))
-pay-cases vehicle amount = elim (cases_eq amount 0) [
-  | inl none ↦ inl (none, rw (eq-eqb amount 0 none) refl)
-  | inr some ↦ inr (omega (arith, some), rw (ne_eqb amount 0 some) refl)
-]
-
 pay-of : (P : ℕ × ℕ → Type 0) (vehicle amount : ℕ) → (1 ≤ amount → P (vehicle, amount)) → IfSome (pay_at vehicle amount) P
 pay-of P vehicle amount h = elim (pay-cases vehicle amount) [
   | inl none ↦ subst (λ o. IfSome o P) (sym none.1) tt
   | inr some ↦ subst (λ o. IfSome o P) (sym some.1) (h some.0)
-]
-
-pay-amount : (vehicle amount : ℕ) → amount_alone (pay_at vehicle amount) ≡ amount
-pay-amount vehicle amount = elim (pay-cases vehicle amount) [
-  | inl none ↦ ap amount_alone none.1 ∙ sym none.0
-  | inr some ↦ ap amount_alone some.1
 ]
 
 module _ (s : State) (columns : List RoundColumn) (company before : ℕ) (rides : List Ride) (round : Paired) (grid : GridCells)
@@ -370,9 +359,6 @@ module _ (s : State) (columns : List RoundColumn) (company before : ℕ) (rides 
           ap gives start
           ∙ ap (own_pay_of company) (sym (get_or-zip columns round.pays k (no_column, 0) in_columns in_pays))
           ∙ ap (own_pay_of company) (any-default (zip columns round.pays) k (no_column, 0) d low)
-        where
-          any-default : {A : Type 0} (xs : List A) (i : ℕ) (c e : A) → i < length xs → get_or xs i c ≡ get_or xs i e
-          any-default xs i c e within = grind (arith, slice_get-get_or xs i c within, slice_get-get_or xs i e within)
 
       others : (j : ℕ) → j < length columns → (j < before) ⊎ (before + many ≤ j) → gives j ≡ None
       others j low out =

@@ -16,7 +16,7 @@ use Rattle.ride_model.specs.State.{State, AcceptedRequest, is_batch, request_sta
 use Rattle.ride_model.specs.Step.{Answered, cancel_step, cancelled}
 use Rattle.ride_model.specs.Vehicle.{ride_ids}
 use Rattle.model_laws.specs.Requests.{is_in, is_of}
-use Rattle.model_laws.proofs.Among.{Among, contains_from_among}
+use Rattle.plain_lemmas.proofs.Among.{Among, contains_from_among}
 use Rattle.model_laws.proofs.RequestStates.{abandon-is, marked, opening-is, request_state-marked, state_if_there, with_request_states-is}
 use Rattle.history_laws.proofs.Opening.{is_of-among, of_rides}
 use Rattle.dual_check.proofs.DifferentIds.{same-place}

@@ -10,7 +10,7 @@ use Rattle.ride_model.specs.declared.command.Command.TheVariants.{Request, Cance
 use Rattle.ride_model.specs.declared.reply.Reply.{Reply}
 use Rattle.ride_model.specs.declared.reply.Reply.TheVariants.{Refused}
 use Rattle.ride_model.specs.declared.reply.RequestState.{RequestState}
-use Rattle.ride_model.specs.declared.reply.RequestState.TheVariants.{Waiting, InBatch, Confirmed, Aboard, Done as IsDone, Away, Cancelled}
+use Rattle.ride_model.specs.declared.reply.RequestState.TheVariants.{Waiting, InBatch, Confirmed, Aboard, Done as DoneState, Away, Cancelled}
 use Rattle.ride_model.specs.declared.settings.Settings.{Settings}
 use Rattle.ride_model.specs.declared.vehicle.Ride.{Ride}
 use Rattle.ride_model.specs.declared.vehicle.Vehicle.{Vehicle}
@@ -21,9 +21,9 @@ use Rattle.ride_model.specs.Road.{RoadMap}
 use Rattle.ride_model.specs.State.{State, AcceptedRequest, accepted_request, placed_vehicle, start_state}
 use Rattle.ride_model.specs.Step.{Answered, cancel_by_state, cancel_found, cancel_step, freed, is_node, request_step, step, with_accepted}
 use Rattle.ride_model.specs.Text.{IsSpelledCommand}
-use Rattle.model_laws.proofs.Among.{among_map_back}
+use Rattle.plain_lemmas.proofs.Among.{among_map_back}
+use Rattle.plain_lemmas.proofs.Each.{of_all, all_of}
 use Rattle.model_laws.proofs.RequestStates.{marked, request_state-marked, state_if_there, state_in}
-use Rattle.history_laws.proofs.Lookups.{all_of, of_all}
 use Rattle.history_laws.proofs.Untouched.{leaves-step}
 use Rattle.board_core.specs.Recorded.{Recorded, state_of, fed_entry}
 use Rattle.board_core.proofs.OpenBatches.{state-push}
@@ -129,7 +129,7 @@ of_freed log s id vehicle (Some p) = record {
 
 of_state : (log : ℕ) (s : State) (id : ℕ) (state : RequestState) → Tame log s (cancel_by_state s id state)
 of_state log s id (Aboard v) = refuses log s 8
-of_state log s id IsDone = refuses log s 9
+of_state log s id DoneState = refuses log s 9
 of_state log s id (Away n) = refuses log s 9
 of_state log s id Cancelled = refuses log s 9
 of_state log s id Waiting = record {

@@ -19,21 +19,22 @@ use Rattle.ride_model.specs.State.{State, AcceptedRequest, open_batch_numbered, 
 use Rattle.ride_model.specs.Step.{Answered}
 use Rattle.ride_model.specs.Text.{IsSpelled, IsSpelledCommand}
 use Rattle.model_laws.specs.Requests.{is_of}
-use Rattle.model_laws.proofs.Among.{among_filter_back, among_map_back}
+use Rattle.plain_lemmas.proofs.Among.{among_filter_back, among_map_back}
+use Rattle.plain_lemmas.proofs.Each.{of_all, all_of}
 use Rattle.model_laws.proofs.RequestStates.{marked, others-opening, request_state-opening, with_request_states-is}
 use Rattle.history_laws.specs.Consistent.{IsInBatch, IsOpenBatch}
-use Rattle.history_laws.proofs.Lookups.{all_of, among_take, of_all}
+use Rattle.history_laws.proofs.Lookups.{among_take}
 use Rattle.history_laws.proofs.Opening.{is_of-among}
+use Rattle.history_laws.proofs.OpenedBatches.{none-left, abandoned-state, open-found}
 use Rattle.board_core.specs.declared.opening.Opening.TheVariants.{Batch, Ended, Idle}
 use Rattle.board_core.specs.Opening.{opening_at}
 use Rattle.board_core.specs.Recorded.{Recorded, state_of, abandoned_entry, fed_entry, opened_entry}
-use Rattle.board_core.proofs.Fedded.{fed_commands-append}
+use Rattle.board_core.proofs.FedEntries.{fed_commands-append}
 use Rattle.board_core.proofs.OpenBatches.{state-push}
 use Rattle.fleet_league.specs.Awards.{request_of}
 use Rattle.fleet_league.specs.League.{after_round}
 use Rattle.fleet_league.specs.LeagueBoards.{HasOpened, IsDesk}
 use Rattle.fleet_league.proofs.AwardedMembers.{id-spelled}
-use Rattle.fleet_league.proofs.Awarded.{abandoned-state, none-left, open-found}
 use Rattle.fleet_league.proofs.Cancelling.{closed-state}
 use Rattle.fleet_league.proofs.Desks.{AreSpelled, spelled-marked}
 use Rattle.fleet_league.proofs.WinsAsked.{asked-now}

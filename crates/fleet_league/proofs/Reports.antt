@@ -11,7 +11,7 @@ use Rattle.ride_model.specs.declared.entry.Entry.{Entry}
 use Rattle.ride_model.specs.declared.reply.Reply.{Reply}
 use Rattle.ride_model.specs.declared.reply.Reply.TheVariants.{Refused}
 use Rattle.ride_model.specs.declared.reply.RequestState.{RequestState}
-use Rattle.ride_model.specs.declared.reply.RequestState.TheVariants.{Waiting, InBatch, Confirmed, Aboard, Done as IsDone, Away, Cancelled}
+use Rattle.ride_model.specs.declared.reply.RequestState.TheVariants.{Waiting, InBatch, Confirmed, Aboard, Done as DoneState, Away, Cancelled}
 use Rattle.ride_model.specs.declared.vehicle.Kind.{Kind}
 use Rattle.ride_model.specs.declared.vehicle.Kind.TheVariants.{Pickup, Dropoff}
 use Rattle.ride_model.specs.declared.vehicle.Stop.{Stop}
@@ -31,7 +31,7 @@ use Rattle.history_laws.proofs.Marks.{marked-ride}
 use Rattle.history_laws.proofs.Others.{keeps_none}
 use Rattle.history_laws.proofs.Untouched.{leaves-step}
 use Rattle.board_core.specs.Recorded.{Recorded, state_of, fed_entry}
-use Rattle.board_core.proofs.Fedded.{fed_commands-append}
+use Rattle.board_core.proofs.FedEntries.{fed_commands-append}
 use Rattle.board_core.proofs.OpenBatches.{state-push}
 use Rattle.fleet_league.specs.Companies.{is_report, report_count, most_reports, IsIdle, IsCompany}
 use Rattle.fleet_league.proofs.Legality.{IsLegalBoard}
@@ -97,7 +97,7 @@ of_freed s id vehicle (Some p) = record {
 
 of_state : (s : State) (id : ℕ) (state : RequestState) → Quiet s (cancel_by_state s id state)
 of_state s id (Aboard v) = refuses s 8
-of_state s id IsDone = refuses s 9
+of_state s id DoneState = refuses s 9
 of_state s id (Away n) = refuses s 9
 of_state s id Cancelled = refuses s 9
 of_state s id Waiting = record {

@@ -8,7 +8,7 @@ use Rattle.std.proofs.lemmas.List.Elements.{filter-append}
 use Rattle.std.proofs.lemmas.List.Folds.{find-append}
 use Rattle.std.proofs.lemmas.Map.Keys.{IsDistinct-head, IsDistinct-tail}
 use Rattle.ride_model.specs.declared.reply.Reply.TheVariants.{Waiting}
-use Rattle.ride_model.specs.declared.reply.RequestState.TheVariants.{Waiting as IsWaiting}
+use Rattle.ride_model.specs.declared.reply.RequestState.TheVariants.{Waiting as WaitingState}
 use Rattle.ride_model.specs.declared.vehicle.Ride.{Ride}
 use Rattle.ride_model.specs.Batch.{is_waiting}
 use Rattle.ride_model.specs.Legal.{replay}
@@ -16,8 +16,8 @@ use Rattle.ride_model.specs.Road.{RoadMap, IsNode}
 use Rattle.ride_model.specs.State.{State, AcceptedRequest, accepted_request}
 use Rattle.ride_model.specs.Step.{Answered, is_node, with_accepted, request_step, step}
 use Rattle.ride_model.specs.Vehicle.{ride_ids}
-use Rattle.history_laws.proofs.Lookups.{of_all, all_of}
-use Rattle.model_laws.proofs.Among.{Among, among_map}
+use Rattle.plain_lemmas.proofs.Among.{Among, among_map}
+use Rattle.plain_lemmas.proofs.Each.{of_all, all_of}
 use Rattle.fleet_league.specs.declared.briefs.Win.{Win}
 use Rattle.fleet_league.specs.Prices.{IsNewRide}
 use Rattle.fleet_league.specs.Awards.{won_rides, request_of, request_entries}
@@ -59,10 +59,10 @@ new-after : (s : State) (ride other : Ride) → eqb ride.id other.id ≡ false �
 new-after s ride other differs new = record {
   fits = new.fits;
   waits = new.waits;
-  not_accepted = find-append (λ (r : AcceptedRequest). r.ride.id == other.id) s.requests (record { ride = ride; state = IsWaiting } ∷ [])
-      ∙ ap (λ o. option_or o (find (λ (r : AcceptedRequest). r.ride.id == other.id) (record { ride = ride; state = IsWaiting } ∷ [])))
+  not_accepted = find-append (λ (r : AcceptedRequest). r.ride.id == other.id) s.requests (record { ride = ride; state = WaitingState } ∷ [])
+      ∙ ap (λ o. option_or o (find (λ (r : AcceptedRequest). r.ride.id == other.id) (record { ride = ride; state = WaitingState } ∷ [])))
       new.not_accepted
-      ∙ ap (λ b. cond b (Some (record { ride = ride; state = IsWaiting })) None) differs;
+      ∙ ap (λ b. cond b (Some (record { ride = ride; state = WaitingState })) None) differs;
 }
 
 -- of each by recursion to one of them
@@ -86,7 +86,7 @@ new-rest s ride rides new = record {
       (among_map (λ (r : Ride). r.id) rides other there))
       (of_all (IsNewRide s) (ride ∷ rides) other new.each (inr there)));
   differ = IsDistinct-tail eqb ride.id (ride_ids rides) new.differ;
-  room = omega (arith, new.room, length-append s.requests (record { ride = ride; state = IsWaiting } ∷ []));
+  room = omega (arith, new.room, length-append s.requests (record { ride = ride; state = WaitingState } ∷ []));
 }
 
 -- the state after the rides of wins were requested
@@ -98,12 +98,12 @@ requested s (win ∷ wins) new =
     let taken = request-taken s win.ride (new-first s win.ride (won_rides wins) new) (new-room s win.ride (won_rides wins) new) in
     ap (λ (a : Answered). replay a.state (request_entries wins)) taken
     ∙ requested (with_accepted s win.ride) wins (new-rest s win.ride (won_rides wins) new)
-    ∙ ap (λ rs. record s { requests = rs }) (append_assoc s.requests (record { ride = win.ride; state = IsWaiting } ∷ []) (requests_of wins))
+    ∙ ap (λ rs. record s { requests = rs }) (append_assoc s.requests (record { ride = win.ride; state = WaitingState } ∷ []) (requests_of wins))
 
 -- the requests of wins wait
 all-wait : (wins : List Win) → filter (λ (r : AcceptedRequest). is_waiting r.state) (requests_of wins) ≡ requests_of wins
 all-wait [] = refl
-all-wait (win ∷ wins) = ap (λ rest. record { ride = win.ride; state = IsWaiting } ∷ rest) (all-wait wins)
+all-wait (win ∷ wins) = ap (λ rest. record { ride = win.ride; state = WaitingState } ∷ rest) (all-wait wins)
 
 rides-of : (wins : List Win) → map (λ (r : AcceptedRequest). r.ride) (requests_of wins) ≡ won_rides wins
 rides-of [] = refl

@@ -23,7 +23,7 @@ use Rattle.ride_model.specs.Step.{Answered, with_accepted, ask_step, step}
 use Rattle.model_laws.proofs.Histories.{replay-append, replay-push}
 use Rattle.history_laws.proofs.Asked.{map-push}
 use Rattle.board_core.specs.Recorded.{Recorded, state_of, fed_entry}
-use Rattle.board_core.proofs.Fedded.{fed_commands-append}
+use Rattle.board_core.proofs.FedEntries.{fed_commands-append}
 use Rattle.board_core.proofs.OpenBatches.{state-push}
 use Rattle.fleet_league.specs.declared.briefs.Win.{Win}
 use Rattle.fleet_league.specs.Awards.{won_rides, request_of, request_entries, asking_entries}

@@ -3,6 +3,7 @@ use Rattle.std.proofs.Common.{◌≡◌, ℕ, ◌+◌, ◌≤◌, Bool, true, fa
 use Rattle.std.specs.Prelude.{◌==◌, ◌&&◌, ◌||◌, map, nat_le, nat_lt, length, find, is_some}
 use Rattle.std.specs.Option.{option_or}
 use Rattle.std.proofs.lemmas.List.Folds.{find-append}
+use Rattle.std.proofs.lemmas.Bool.{or_parts}
 use Rattle.ride_model.specs.declared.command.Actor.TheVariants.{Feed, Desk}
 use Rattle.ride_model.specs.declared.command.Command.TheVariants.{Ask}
 use Rattle.ride_model.specs.declared.entry.Entry.{Entry}
@@ -11,7 +12,7 @@ use Rattle.ride_model.specs.declared.entry.Outcome.{Outcome}
 use Rattle.ride_model.specs.declared.entry.Outcome.TheVariants.{Confirmed, Away, Gone, Moved, Behind}
 use Rattle.ride_model.specs.declared.offer.Seat.{Seat}
 use Rattle.ride_model.specs.declared.reply.Reply.{Reply}
-use Rattle.ride_model.specs.declared.reply.RequestState.TheVariants.{Waiting as IsWaiting, InBatch, Confirmed as IsConfirmed, Away as IsAway}
+use Rattle.ride_model.specs.declared.reply.RequestState.TheVariants.{Waiting as WaitingState, InBatch, Confirmed as ConfirmedState, Away as AwayState}
 use Rattle.ride_model.specs.declared.vehicle.Ride.{Ride}
 use Rattle.ride_model.specs.declared.vehicle.Vehicle.{Vehicle}
 use Rattle.ride_model.specs.Batch.{after_opening, after_outcome, after_outcomes, confirm, next_batch, outcome_of, seat_of}
@@ -52,7 +53,7 @@ either P id s asks false x y h k = k
 -- the request of another ride
 accepted : (P : Type 0) (id : ℕ) (s : State) (ride : Ride) → (P → eqb ride.id id ≡ false) → Grows P id s (with_accepted s ride) 0
 accepted P id s ride other =
-    let new : AcceptedRequest = record { ride = ride; state = IsWaiting } in
+    let new : AcceptedRequest = record { ride = ride; state = WaitingState } in
     record {
       no_other = λ is_other none. find-append (λ (r : AcceptedRequest). r.ride.id == id) s.requests (new ∷ [])
           ∙ ap (λ o. option_or o (find (λ (r : AcceptedRequest). r.ride.id == id) (new ∷ []))) none
@@ -84,13 +85,9 @@ unfolding replay
 asking P id s [] reply others = asked P id s
 asking P id s (win ∷ wins) reply others =
     let after : State = (step s (request_of win.ride)).state in
-    let each : P → (eqb win.ride.id id ≡ false) × (is_of (won_rides wins) id ≡ false) = λ other. neither (eqb win.ride.id id) (is_of (won_rides wins) id) (others other) in
+    let each : P → (eqb win.ride.id id ≡ false) × (is_of (won_rides wins) id ≡ false) = λ other. or_parts (eqb win.ride.id id) (is_of (won_rides wins) id) (others other) in
     then P id s after (replay after (request_entries wins ++ record { actor = Feed 1; event = Fed Ask reply } ∷ [])) 0 1
     (requested P id s win.ride (λ other. (each other).0)) (asking P id after wins reply (λ other. (each other).1))
-  where
-    neither : (a b : Bool) → (a || b) ≡ false → (a ≡ false) × (b ≡ false)
-    neither true b is = absurd (cc is)
-    neither false b is = (refl, is)
 
 opened : (P : Type 0) (id : ℕ) (s : State) (batch : BatchCopy) → Grows P id s (after_opening s batch) 0
 opened P id s batch =
@@ -105,14 +102,14 @@ opened P id s batch =
 placed : (id : ℕ) (s : State) (batch : BatchCopy) (ride : Ride) (seat : Seat) (vehicle : Option (ℕ × Vehicle))
     → accepted_request s id ≡ None → accepted_request (confirm batch ride seat vehicle s) id ≡ None
 placed id s batch ride seat None none = none
-placed id s batch ride seat (Some p) none = none-found (λ q. q == ride.id) (IsConfirmed seat.vehicle) s.requests id none
+placed id s batch ride seat (Some p) none = none-found (λ q. q == ride.id) (ConfirmedState seat.vehicle) s.requests id none
 
 outcome : (id : ℕ) (s : State) (batch : BatchCopy) (ride : Ride) (seat : Option Seat) (o : Outcome)
     → accepted_request s id ≡ None → accepted_request (after_outcome batch ride seat o s) id ≡ None
 outcome id s batch ride seat Gone none = none
-outcome id s batch ride seat Away none = none-found (λ q. q == ride.id) (IsAway batch.number) s.requests id none
-outcome id s batch ride seat (Moved n m) none = none-found (λ q. q == ride.id) IsWaiting s.requests id none
-outcome id s batch ride seat (Behind n m) none = none-found (λ q. q == ride.id) IsWaiting s.requests id none
+outcome id s batch ride seat Away none = none-found (λ q. q == ride.id) (AwayState batch.number) s.requests id none
+outcome id s batch ride seat (Moved n m) none = none-found (λ q. q == ride.id) WaitingState s.requests id none
+outcome id s batch ride seat (Behind n m) none = none-found (λ q. q == ride.id) WaitingState s.requests id none
 outcome id s batch ride None Confirmed none = none
 outcome id s batch ride (Some seat) Confirmed none = placed id s batch ride seat (placed_vehicle s seat.vehicle) none
 

@@ -1,7 +1,7 @@
 -- A board during an award.
 use Rattle.std.specs.Prelude.{◌≡◌, ◌+◌, ◌≤◌, List, [], ◌++◌, length, map, All, nat_eq}
 use Rattle.std.specs.List.{IsDistinct}
-use Rattle.ride_model.specs.declared.reply.RequestState.TheVariants.{Waiting as IsWaiting}
+use Rattle.ride_model.specs.declared.reply.RequestState.TheVariants.{Waiting as WaitingState}
 use Rattle.ride_model.specs.declared.vehicle.Ride.{Ride}
 use Rattle.ride_model.specs.History.{fed_commands}
 use Rattle.ride_model.specs.Road.{RoadMap}
@@ -9,6 +9,7 @@ use Rattle.ride_model.specs.Seating.{BatchCopy}
 use Rattle.ride_model.specs.State.{State, AcceptedRequest}
 use Rattle.ride_model.specs.Text.{IsSpelledCommand}
 use Rattle.ride_model.specs.Vehicle.{ride_ids}
+use Rattle.ride_model.specs.Limits.{most_batches, most_commands, most_requests}
 use Rattle.board_core.specs.Recorded.{Recorded, state_of}
 use Rattle.fleet_league.specs.declared.briefs.Brief.{Brief}
 use Rattle.fleet_league.specs.declared.briefs.Win.{Win}
@@ -20,19 +21,19 @@ use Rattle.fleet_league.specs.Awards.{won_rides, request_of, IsCertifiedBy, IsCe
 pub record AreNew (s : State) (rides : List Ride) : Type 0 where
   pub each : All (IsNewRide s) rides
   pub differ : IsDistinct nat_eq (ride_ids rides)
-  pub room : length s.requests + length rides ≤ 100000
+  pub room : length s.requests + length rides ≤ most_requests
 
 -- a board of one feed takes the rides of wins as requests, and an ask after them
 pub record MayAsk (board : Recorded) (rides : List Ride) : Type 0 where
   pub one_feed : board.feeds ≡ 1
   pub none_ended : (state_of board).ended ≡ []
-  pub few : length (fed_commands 1 board.history) + length rides + 1 ≤ 1000000000
+  pub few : length (fed_commands 1 board.history) + length rides + 1 ≤ most_commands
   pub new : AreNew (state_of board) rides
   pub spelled : All (λ ride. IsSpelledCommand board.start.settings.log (request_of ride)) rides
 
 -- the requests of wins, as they wait
 abbrev pub requests_of : List Win → List AcceptedRequest
-requests_of wins = map (λ (win : Win). record { ride = win.ride; state = IsWaiting }) wins
+requests_of wins = map (λ (win : Win). record { ride = win.ride; state = WaitingState }) wins
 
 -- the state after wins were requested, and a batch of them was asked for
 abbrev pub requested_state : State → List Win → State
@@ -63,6 +64,6 @@ pub record MayConfirm (board : Recorded) (brief : Brief) : Type 0 where
   pub one_desk : board.desks ≡ 1
   pub idle : IsIdle board
   pub asks : MayAsk board (won_rides brief.wins)
-  pub few_asked : (state_of board).asked + 1 ≤ 2000
+  pub few_asked : (state_of board).asked + 1 ≤ most_batches
   pub few_wins : length brief.wins ≤ (state_of board).settings.batch
   pub certified : IsCertifiedOver (state_of board) brief

@@ -6,7 +6,7 @@ use Rattle.ride_model.specs.declared.command.Command.{Command}
 use Rattle.ride_model.specs.declared.command.Command.TheVariants.{Request, Ask}
 use Rattle.ride_model.specs.declared.entry.Entry.{Entry}
 use Rattle.ride_model.specs.declared.entry.Event.TheVariants.{Fed, Opened, Committed, Abandoned}
-use Rattle.ride_model.specs.declared.entry.Outcome.TheVariants.{Confirmed as IsConfirmed}
+use Rattle.ride_model.specs.declared.entry.Outcome.TheVariants.{Confirmed as ConfirmedState}
 use Rattle.ride_model.specs.declared.offer.Seat.{Seat}
 use Rattle.ride_model.specs.declared.reply.Reply.TheVariants.{Waiting, Asked}
 use Rattle.ride_model.specs.declared.vehicle.Ride.{Ride}
@@ -104,7 +104,7 @@ confirming_entry s brief seats = record {
   event = Committed (s.opened + 1)
       (pairing_cost (prices_of s (won_rides brief.wins)) s.settings.penalty (won_columns s.vehicles brief.wins)) seats
       (price_list brief.wins) brief.pays
-      (map (λ (win : Win). (win.ride.id, IsConfirmed)) brief.wins);
+      (map (λ (win : Win). (win.ride.id, ConfirmedState)) brief.wins);
 }
 
 abbrev pub giving_up_entry : State → Entry

@@ -14,6 +14,7 @@ use Rattle.ride_model.specs.State.{State, AcceptedRequest, accepted_request, req
 use Rattle.ride_model.specs.Step.{step}
 use Rattle.ride_model.specs.Text.{IsSpelled, IsSpelledCommand}
 use Rattle.ride_model.specs.Vehicle.{ride_ids}
+use Rattle.ride_model.specs.Limits.{largest_batch, most_batches, most_requests}
 use Rattle.model_laws.specs.Requests.{is_of}
 use Rattle.board_core.specs.Recorded.{Recorded, state_of}
 use Rattle.fleet_league.specs.declared.briefs.Brief.{Brief}
@@ -47,7 +48,7 @@ pub record HasOpened (before : State) (batch : BatchCopy) (desk : Recorded) : Ty
   pub all_opened : before.opened ≡ before.asked
   pub number_is : batch.number ≡ before.opened + 1
   pub desk_is : batch.desk ≡ 1
-  pub few : length batch.requests ≤ 128
+  pub few : length batch.requests ≤ largest_batch
   pub differ : IsDistinct nat_eq (ride_ids batch.requests)
   pub in_batch : All (λ (ride : Ride). request_state (state_of desk) ride.id ≡ Some (InBatch batch.number)) batch.requests
   pub ids_spelled : All (λ (ride : Ride). IsSpelled ride.id) batch.requests
@@ -106,8 +107,8 @@ pub record MayPlay (company : CompanyState) (rides : List Ride) : Type 0 where
   pub differ : IsDistinct nat_eq (ride_ids rides)
   pub spelled : All (λ (ride : Ride). IsSpelledCommand company.board.start.settings.log (request_of ride)) rides
   pub few : length rides ≤ company.board.start.settings.batch
-  pub room : length (state_of company.board).requests + length rides ≤ 100000
-  pub few_asked : (state_of company.board).asked < 2000
+  pub room : length (state_of company.board).requests + length rides ≤ most_requests
+  pub few_asked : (state_of company.board).asked < most_batches
 
 -- a company after a report: its board has answered it
 pub record IsReported (command : Command) (old new : CompanyState) : Type 0 where

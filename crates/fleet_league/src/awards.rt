@@ -4,6 +4,7 @@ ghost use Rattle.std.specs.List.{IsDistinct};
 ghost use Rattle.ride_model.specs.declared.vehicle.Ride.{Ride};
 ghost use Rattle.ride_model.specs.Text.{IsSpelled};
 ghost use Rattle.ride_model.specs.Vehicle.{ride_ids};
+ghost use Rattle.ride_model.specs.Limits.{most_batches, most_requests};
 ghost use Rattle.batch_commit.specs.Table.{IsTableOf};
 ghost use Rattle.board_core.specs.Recorded.{state_of};
 ghost use Rattle.fleet_league.specs.declared.briefs.Settled.TheVariants.{Confirmed};
@@ -40,8 +41,8 @@ impl<'r> Company<'r> {
         requires ids_spelled { All (λ (ride : Ride). IsSpelled ride.id) (won_rides brief.now.wins) }
         requires chairs { self.old.board.start.settings.log ≡ 1 → All (λ (ride : Ride). ride.chairs ≡ 0) (won_rides brief.now.wins) }
         requires few { length brief.now.wins ≤ self.old.board.start.settings.batch }
-        requires room { length (state_of self.old.board).requests + length brief.now.wins ≤ 100000 }
-        requires few_asked { (state_of self.old.board).asked < 2000 }
+        requires room { length (state_of self.old.board).requests + length brief.now.wins ≤ most_requests }
+        requires few_asked { (state_of self.old.board).asked < most_batches }
         ensures settled { IfOk result (λ settled. settled
             ≡ settled_at (state_of self.old.board).clock (state_of self.old.board).vehicles quote.now) }
         ensures unsettled { result ≢ Ok Confirmed → OnOk result (self.new ≡ self.old) }

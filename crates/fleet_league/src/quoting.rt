@@ -5,6 +5,7 @@ ghost use Rattle.ride_model.specs.Legal.{versions_of};
 ghost use Rattle.ride_model.specs.Road.{RoadMap};
 ghost use Rattle.ride_model.specs.Seating.{IsBatchOver};
 ghost use Rattle.ride_model.specs.Vehicle.{IsLawful, ride_ids};
+ghost use Rattle.ride_model.specs.Limits.{largest_batch, latest_time};
 ghost use Rattle.batch_commit.specs.Table.{cell_at, FitsBatch, IsTableOf};
 ghost use Rattle.board_core.specs.Recorded.{state_of};
 ghost use Rattle.fleet_league.specs.Awards.{won_rides};
@@ -13,9 +14,8 @@ ghost use Rattle.fleet_league.specs.Quoting.{quoting_batch, cost_in, cost_row};
 ghost use Rattle.fleet_league.specs.Round.{IsPriced};
 
 use crate::{Company, PriceRows, Quote, Win};
-use adaptive_roads::AdaptiveRoads;
 use batch_commit::{Batch, PriceTable};
-use pricing_workers::{Search, price_batch, price_batch_adapting};
+use pricing_workers::{Pricer, Search, price_batch, price_batch_adapting};
 use ride_model::{Fleet, NoMemory, Ride, Vehicle, VersionList};
 use ride_ports::OpenGate;
 use road_times::Scratch;
@@ -40,7 +40,7 @@ impl<'r> Company<'r> {
     ) -> Result<Quote, NoMemory>
         requires is_open { IsTrue self.now.is_open }
         requires scratch { scratch.old.nodes ≡ self.now.board.start.roads.nodes }
-        requires few { length rides.now ≤ 128 }
+        requires few { length rides.now ≤ largest_batch }
         requires rides { All (IsNewRide (state_of self.now.board)) rides.now }
         requires ids_differ { IsDistinct nat_eq (ride_ids rides.now) }
         ensures time { IfOk result (λ quote. quote.time ≡ (state_of self.now.board).clock) }
@@ -49,23 +49,23 @@ impl<'r> Company<'r> {
         ensures priced { IfOk result (λ quote. IsPriced quote.prices) }
         ensures scratch { scratch.new ≡ scratch.old }
     {
-        let mut roads = AdaptiveRoads::new(self.roads);
-        let priced = self.quote_adapting(rt, &mut roads, scratch, rides)?;
+        let mut pricer = Pricer::new(self.roads);
+        let priced = self.quote_adapting(rt, &mut pricer, scratch, rides)?;
         Ok(priced.quote)
     }
 
-    /// The same over roads that adapt to how much is asked of them, with the table of the rides.
+    /// The same by a pricer, with the table of the rides.
     pub(crate) fn quote_adapting<R: Threads + Sync>(
         &self,
         rt: &R,
-        roads: &mut AdaptiveRoads<'_>,
+        pricer: &mut Pricer<'_>,
         scratch: &mut Scratch,
         rides: &[Ride],
     ) -> Result<PricedQuote, NoMemory>
         requires is_open { IsTrue self.now.is_open }
-        requires roads { roads.old ≡ self.now.board.start.roads }
+        requires roads { pricer.old ≡ self.now.board.start.roads }
         requires scratch { scratch.old.nodes ≡ self.now.board.start.roads.nodes }
-        requires few { length rides.now ≤ 128 }
+        requires few { length rides.now ≤ largest_batch }
         requires rides { All (IsNewRide (state_of self.now.board)) rides.now }
         requires ids_differ { IsDistinct nat_eq (ride_ids rides.now) }
         ensures time { IfOk result (λ priced. priced.quote.time ≡ (state_of self.now.board).clock) }
@@ -75,7 +75,7 @@ impl<'r> Company<'r> {
         ensures table { IfOk result (λ priced. IsTableOf self.now.board.start.roads
             (quoting_batch (state_of self.now.board) rides.now) priced.table) }
         ensures scratch { scratch.new ≡ scratch.old }
-        ensures roads { roads.new ≡ roads.old }
+        ensures pricer { pricer.new ≡ pricer.old }
     {
         // This call tells that the history is legal.
         let _history = self.board.entries();
@@ -86,7 +86,7 @@ impl<'r> Company<'r> {
             self.alloc,
             Search::BySlack,
             &batch,
-            roads,
+            pricer,
             scratches,
             &OpenGate,
         )?;
@@ -109,7 +109,7 @@ impl<'r> Company<'r> {
     ) -> Result<PriceTable, NoMemory>
         requires some_scratch { 1 ≤ length scratches.old }
         requires scratches { All (λ scratch. scratch.nodes ≡ self.now.board.start.roads.nodes) scratches.old }
-        requires few { length wins.now ≤ 128 }
+        requires few { length wins.now ≤ largest_batch }
         requires rides { All (IsNewRide (state_of self.now.board)) (won_rides wins.now) }
         requires ids_differ { IsDistinct nat_eq (ride_ids (won_rides wins.now)) }
         ensures table { IfOk result (IsTableOf self.now.board.start.roads
@@ -125,11 +125,11 @@ impl<'r> Company<'r> {
 
     // Rides as the requests of a batch that no desk has opened, over the vehicles as they stand.
     fn batch_of(&self, rides: &[Ride]) -> Result<Batch, NoMemory>
-        requires few { length rides.now ≤ 128 }
+        requires few { length rides.now ≤ largest_batch }
         requires rides { All (IsNewRide (state_of self.now.board)) rides.now }
         requires ids_differ { IsDistinct nat_eq (ride_ids rides.now) }
         ensures batch { IfOk result (λ batch. batch ≡ quoting_batch (state_of self.now.board) rides.now) }
-        ensures time { IfOk result (λ batch. batch.time ≤ 1000000000) }
+        ensures time { IfOk result (λ batch. batch.time ≤ latest_time) }
         ensures over_map { IfOk result (IsBatchOver self.now.board.start.roads) }
         ensures lawful { IfOk result (λ batch. All (IsLawful self.now.board.start.roads) batch.vehicles) }
     {

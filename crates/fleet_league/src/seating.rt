@@ -4,6 +4,7 @@ ghost use Rattle.ride_model.specs.declared.vehicle.Vehicle.{Vehicle};
 ghost use Rattle.ride_model.specs.Road.{RoadMap};
 ghost use Rattle.ride_model.specs.Seating.{vehicle_ids};
 ghost use Rattle.ride_model.specs.Vehicle.{ride_ids};
+ghost use Rattle.ride_model.specs.Limits.{largest_batch};
 ghost use Rattle.batch_commit.specs.Answer.{CertifiesOverCells, undecided};
 ghost use Rattle.batch_commit.specs.Table.{FitsBatch, IsTableOf};
 ghost use Rattle.hungarian.specs.Seats.{seat_at, seats_by};
@@ -72,7 +73,7 @@ fn seats_of(
     vehicles: &[Vehicle],
     wins: &[Win],
 ) -> Result<SeatList, NoMemory>
-    requires few { length wins.now ≤ 128 }
+    requires few { length wins.now ≤ largest_batch }
     requires rows_are { table.now.rows ≡ length wins.now }
     requires columns_are { table.now.columns ≡ length vehicles.now }
     requires few_vehicles { length vehicles.now ≤ 1000 }

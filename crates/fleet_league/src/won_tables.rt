@@ -5,6 +5,7 @@ ghost use Rattle.ride_model.specs.declared.vehicle.Ride.{Ride};
 ghost use Rattle.ride_model.specs.Road.{RoadMap};
 ghost use Rattle.ride_model.specs.State.{State};
 ghost use Rattle.ride_model.specs.Vehicle.{ride_ids};
+ghost use Rattle.ride_model.specs.Limits.{largest_batch};
 ghost use Rattle.batch_commit.specs.Table.{IsTableOf};
 ghost use Rattle.fleet_league.specs.Awards.{won_rides};
 ghost use Rattle.fleet_league.specs.Quoting.{offer_row, place_of, quoting_batch};
@@ -24,8 +25,8 @@ pub(crate) fn table_of_won(
 ) -> Result<PriceTable, NoMemory>
     requires rows_are { table.now.rows ≡ length rides.now }
     requires vehicles_are { vehicles ≡ table.now.columns }
-    requires few_rides { length rides.now ≤ 128 }
-    requires few_wins { length wins.now ≤ 128 }
+    requires few_rides { length rides.now ≤ largest_batch }
+    requires few_wins { length wins.now ≤ largest_batch }
     requires differ { IsDistinct nat_eq (ride_ids rides.now) }
     requires of_them { All (Contains rides.now) (won_rides wins.now) }
     ensures { (roads : RoadMap) (s : State) → IsTableOf roads (quoting_batch s rides.now) table.now

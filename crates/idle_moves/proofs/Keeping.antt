@@ -7,11 +7,12 @@ use Rattle.std.proofs.lemmas.Bool.{eqb-true}
 use Rattle.std.proofs.lemmas.List.{get_or-map, length-map}
 use Rattle.std.proofs.lemmas.List.Elements.{All-from_recursion, recursion_from_All}
 use Rattle.std.proofs.lemmas.Map.Keys.{IsDistinct-head, IsDistinct-tail}
+use Rattle.std.proofs.lemmas.Option.{same_Some}
+use Rattle.plain_lemmas.proofs.Numbers.{eqb-comm}
 use Rattle.indexmap.specs.IndexMap.{insert_entry, set_value_at}
 use Rattle.ride_model.specs.declared.vehicle.Vehicle.{Vehicle}
 use Rattle.ride_model.specs.Legal.{versions_of}
 use Rattle.ride_model.specs.Seating.{amount_of, vehicle_ids}
-use Rattle.history_laws.proofs.Served.{eqb-comm}
 use Rattle.idle_moves.specs.Raises.{HasRoom, raised}
 
 -- nothing rises under an id that is no key
@@ -61,10 +62,7 @@ raised-at (suc i) id (e ∷ entries) old found key (apart, distinct) =
 room-each : (i : ℕ) (entries : List (ℕ × ℕ)) (old : ℕ) → slice_get (values_of entries) i ≡ Some old
     → AllByRecursion (λ (item : ℕ × ℕ). item.1 + 1 < 2 ^ 64) entries → old + 1 < 2 ^ 64
 room-each i [] old found room = absurd (cc found)
-room-each zero (e ∷ entries) old found (here, room) = subst (λ n. n + 1 < 2 ^ 64) (same e.1 old found) here
-  where
-    same : (a b : ℕ) → Some a ≡ Some b → a ≡ b
-    same a b e = cc e
+room-each zero (e ∷ entries) old found (here, room) = subst (λ n. n + 1 < 2 ^ 64) (same_Some e.1 old found) here
 room-each (suc i) (e ∷ entries) old found (here, room) = room-each i entries old found room
 
 pub room-at : (i : ℕ) (entries : List (ℕ × ℕ)) (old : ℕ) → slice_get (values_of entries) i ≡ Some old → HasRoom 1 entries

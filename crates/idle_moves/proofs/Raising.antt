@@ -4,6 +4,7 @@ use Rattle.std.specs.Prelude.{map, find, ◌==◌}
 use Rattle.std.specs.List.{IsDistinct, enumerate_from}
 use Rattle.std.proofs.lemmas.Bool.{eqb-true}
 use Rattle.std.proofs.lemmas.List.Elements.{All-map, All-weaker}
+use Rattle.std.proofs.lemmas.Option.{same_Some}
 use Rattle.ride_model.specs.declared.entry.Entry.{Entry}
 use Rattle.ride_model.specs.declared.entry.Event.{Event}
 use Rattle.ride_model.specs.declared.entry.Event.TheVariants.{Fed, Finish, Opened, Committed, Abandoned}
@@ -13,7 +14,7 @@ use Rattle.ride_model.specs.declared.vehicle.Vehicle.{Vehicle}
 use Rattle.ride_model.specs.Legal.{versions_of}
 use Rattle.ride_model.specs.Seating.{find_vehicle, vehicle_ids}
 use Rattle.ride_model.specs.State.{State, placed_vehicle, with_vehicle}
-use Rattle.model_laws.proofs.Among.{Among}
+use Rattle.plain_lemmas.proofs.Among.{Among}
 use Rattle.model_laws.proofs.Certificates.{found_among}
 use Rattle.history_laws.proofs.Lookups.{found_by, put, placed_is}
 use Rattle.idle_moves.specs.Raises.{HasRoom, after_entries, after_event, after_outcomes, raised, raised_if, vehicle_changed, vehicle_confirmed}
@@ -101,12 +102,9 @@ versions-set s id place v new distinct placed_at same higher =
     let v_is : v.id ≡ id = eqb-true v.id id (found_among (λ (u : Vehicle). u.id == id) s.vehicles v placed.found).1 in
     let new_is : new.id ≡ id = same ∙ v_is in
     ap versions_of (placed.set_is new new_is)
-    ∙ set-each id v new new_is higher s.vehicles (λ w there here. equal w v (
+    ∙ set-each id v new new_is higher s.vehicles (λ w there here. same_Some w v (
     sym (found_by (λ (u : Vehicle). u.id) s.vehicles w distinct there) ∙ ap (find_vehicle s.vehicles) here ∙ placed.found
     ))
-  where
-    equal : (a b : Vehicle) → Some a ≡ Some b → a ≡ b
-    equal a b e = cc e
 
 -- no version rises under an id that no vehicle has
 none-from : (id n : ℕ) (vehicles : List Vehicle)

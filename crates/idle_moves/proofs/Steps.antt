@@ -6,7 +6,7 @@ use Rattle.ride_model.specs.declared.command.Command.{Command}
 use Rattle.ride_model.specs.declared.command.Command.TheVariants.{Request, Cancel, At, Done, On, Off, Clock, Ask, Bad}
 use Rattle.ride_model.specs.declared.reply.Reply.TheVariants.{OnMap, Late}
 use Rattle.ride_model.specs.declared.reply.RequestState.{RequestState}
-use Rattle.ride_model.specs.declared.reply.RequestState.TheVariants.{Waiting, InBatch, Confirmed, Aboard, Done as IsDone, Away, Cancelled}
+use Rattle.ride_model.specs.declared.reply.RequestState.TheVariants.{Waiting, InBatch, Confirmed, Aboard, Done as DoneState, Away, Cancelled}
 use Rattle.ride_model.specs.declared.vehicle.Kind.{Kind}
 use Rattle.ride_model.specs.declared.vehicle.Kind.TheVariants.{Pickup, Dropoff}
 use Rattle.ride_model.specs.declared.vehicle.Stop.{Stop}
@@ -42,7 +42,7 @@ module _ (s : State) (distinct : IsDistinct eqb (vehicle_ids s.vehicles)) where
 
   of_state : (id : ℕ) (state : RequestState) → Rises s (Cancel id) (cancel_by_state s id state)
   of_state id (Aboard v) = refl
-  of_state id IsDone = refl
+  of_state id DoneState = refl
   of_state id (Away n) = refl
   of_state id Cancelled = refl
   of_state id Waiting = refl

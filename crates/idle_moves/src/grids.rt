@@ -3,6 +3,7 @@ ghost use Rattle.std.specs.Prelude.{◌≡◌, ◌≢◌, ℕ, ◌+◌, ◌*◌,
 ghost use Rattle.std.specs.List.{flat_map};
 ghost use Rattle.ride_model.specs.declared.vehicle.Ride.{Ride};
 ghost use Rattle.ride_model.specs.Road.{IsNode};
+ghost use Rattle.ride_model.specs.Limits.{largest_batch, longest_reach};
 ghost use Rattle.idle_moves.specs.Sheet.{within};
 ghost use Rattle.idle_moves.specs.Standby.{cells_of};
 ghost use Rattle.idle_moves.specs.Filling.{BeginsWith, with_cell};
@@ -39,7 +40,7 @@ fn write_cell(grid: &mut Grid, row: u32, column: u32, amount: Option<u64>)
 fn fill_row(grid: &mut Grid, row: u32, reach: u64, times: &[Option<u64>])
     requires row_in { row < grid.old.rows }
     requires columns { length times.now ≡ grid.old.columns }
-    requires reach_limit { reach ≤ 1000000 }
+    requires reach_limit { reach ≤ longest_reach }
     ensures rows_stay { grid.new.rows ≡ grid.old.rows }
     ensures columns_stay { grid.new.columns ≡ grid.old.columns }
     ensures filled { (before : List (Option ℕ)) → length before ≡ row * grid.old.columns → BeginsWith before grid.old
@@ -60,11 +61,11 @@ fn fill_rows(
     scratch: &mut Scratch,
     times: &mut [Option<u64>],
 )
-    requires few { length requests.now ≤ 128 }
+    requires few { length requests.now ≤ largest_batch }
     requires rows { length requests.now ≡ grid.old.rows }
     requires columns { length nodes.now ≡ grid.old.columns }
     requires places { length nodes.now ≡ length times.old }
-    requires reach_limit { reach ≤ 1000000 }
+    requires reach_limit { reach ≤ longest_reach }
     requires pickups { All (λ (ride : Ride). IsNode roads.now ride.from) requests.now }
     requires stands { All (IsNode roads.now) nodes.now }
     requires scratch { scratch.old.nodes ≡ roads.now.nodes }
@@ -89,9 +90,9 @@ pub(crate) fn times_grid(
     roads: &Roads,
     scratch: &mut Scratch,
 ) -> Result<Grid, NoMemory>
-    requires few_rows { length requests.now ≤ 128 }
+    requires few_rows { length requests.now ≤ largest_batch }
     requires few_columns { length nodes.now ≤ 1000 }
-    requires reach_limit { reach ≤ 1000000 }
+    requires reach_limit { reach ≤ longest_reach }
     requires pickups { All (λ (ride : Ride). IsNode roads.now ride.from) requests.now }
     requires stands { All (IsNode roads.now) nodes.now }
     requires scratch { scratch.old.nodes ≡ roads.now.nodes }

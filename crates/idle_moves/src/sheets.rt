@@ -3,6 +3,7 @@ ghost use Rattle.std.specs.Prelude.{◌≡◌, ◌≤◌, ◌-◌, ◌<◌, ◌^
 ghost use Rattle.ride_model.specs.declared.vehicle.Ride.{Ride};
 ghost use Rattle.ride_model.specs.declared.vehicle.Vehicle.{Vehicle};
 ghost use Rattle.ride_model.specs.Road.{IsNode};
+ghost use Rattle.ride_model.specs.Limits.{largest_batch, longest_reach};
 ghost use Rattle.dual_check.specs.Grid.{CertifiesPairing};
 ghost use Rattle.idle_moves.specs.declared.standby.Standby.{Standby};
 ghost use Rattle.idle_moves.specs.Sheet.{IsSheet, IsSheetOver, Shows};
@@ -32,7 +33,7 @@ pub fn plan_moves(
     roads: &Roads,
     scratch: &mut Scratch,
 ) -> Result<MoveSheet, NoMemory>
-    requires reach_limit { reach ≤ 1000000 }
+    requires reach_limit { reach ≤ longest_reach }
     requires pickups { All (λ (ride : Ride). IsNode roads.now ride.from) batch.now.requests }
     requires stands { All (λ (v : Vehicle). IsNode roads.now v.at) batch.now.vehicles }
     requires scratch { scratch.old.nodes ≡ roads.now.nodes }
@@ -65,9 +66,9 @@ fn plan_over(
     roads: &Roads,
     scratch: &mut Scratch,
 ) -> Result<MoveSheet, NoMemory>
-    requires few_requests { length requests.now ≤ 128 }
+    requires few_requests { length requests.now ≤ largest_batch }
     requires few_vehicles { length vehicles.now ≤ 1000 }
-    requires reach_limit { reach ≤ 1000000 }
+    requires reach_limit { reach ≤ longest_reach }
     requires pickups { All (λ (ride : Ride). IsNode roads.now ride.from) requests.now }
     requires stands { All (λ (vehicle : Standby). IsNode roads.now vehicle.node) vehicles.now }
     requires scratch { scratch.old.nodes ≡ roads.now.nodes }
@@ -92,10 +93,10 @@ fn sheet_of(
     vehicles: &[Standby],
     paired: &Paired,
 ) -> Result<MoveSheet, NoMemory>
-    requires few { length requests.now ≤ 128 }
+    requires few { length requests.now ≤ largest_batch }
     requires rows_are { grid.now.rows ≡ length requests.now }
     requires columns_are { grid.now.columns ≡ length vehicles.now }
-    requires reach_limit { reach ≤ 1000000 }
+    requires reach_limit { reach ≤ longest_reach }
     requires certified { CertifiesPairing grid.now reach paired.now.columns paired.now.prices paired.now.pays }
     ensures number { IfOk result (λ sheet. sheet.batch ≡ number) }
     ensures shown { (fleet : List Vehicle) → AreStandbys vehicles.now fleet → IfOk result

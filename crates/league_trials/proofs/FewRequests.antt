@@ -12,7 +12,7 @@ use Rattle.ride_model.specs.declared.entry.Event.TheVariants.{Fed, Opened, Commi
 use Rattle.ride_model.specs.declared.entry.Outcome.{Outcome}
 use Rattle.ride_model.specs.declared.entry.Outcome.TheVariants.{Confirmed, Away, Gone, Moved, Behind}
 use Rattle.ride_model.specs.declared.offer.Seat.{Seat}
-use Rattle.ride_model.specs.declared.reply.RequestState.TheVariants.{Waiting as IsWaiting, InBatch, Confirmed as IsConfirmed, Away as IsAway}
+use Rattle.ride_model.specs.declared.reply.RequestState.TheVariants.{Waiting as WaitingState, InBatch, Confirmed as ConfirmedState, Away as AwayState}
 use Rattle.ride_model.specs.declared.vehicle.Ride.{Ride}
 use Rattle.ride_model.specs.declared.vehicle.Vehicle.{Vehicle}
 use Rattle.ride_model.specs.Batch.{after_outcome, after_outcomes, confirm, next_batch, outcome_of, seat_of, standing_rides}
@@ -37,7 +37,7 @@ either s false x y h k = k
 
 accepted : (s : State) (ride : Ride) → Few s (with_accepted s ride)
 accepted s ride =
-    let new : AcceptedRequest = record { ride = ride; state = IsWaiting } in
+    let new : AcceptedRequest = record { ride = ride; state = WaitingState } in
     omega (arith, length-append s.requests (new ∷ []))
 
 -- after a command
@@ -64,14 +64,14 @@ few-step s (Bad line) = same s
 confirmed : (batch : BatchCopy) (ride : Ride) (seat : Seat) (placed : Option (ℕ × Vehicle)) (s : State)
     → length (confirm batch ride seat placed s).requests ≡ length s.requests
 confirmed batch ride seat None s = refl
-confirmed batch ride seat (Some p) s = length-map s.requests (marked (λ q. q == ride.id) (IsConfirmed seat.vehicle))
+confirmed batch ride seat (Some p) s = length-map s.requests (marked (λ q. q == ride.id) (ConfirmedState seat.vehicle))
 
 outcome : (batch : BatchCopy) (ride : Ride) (seat : Option Seat) (o : Outcome) (s : State)
     → length (after_outcome batch ride seat o s).requests ≡ length s.requests
 outcome batch ride seat Gone s = refl
-outcome batch ride seat Away s = length-map s.requests (marked (λ q. q == ride.id) (IsAway batch.number))
-outcome batch ride seat (Moved n m) s = length-map s.requests (marked (λ q. q == ride.id) IsWaiting)
-outcome batch ride seat (Behind n m) s = length-map s.requests (marked (λ q. q == ride.id) IsWaiting)
+outcome batch ride seat Away s = length-map s.requests (marked (λ q. q == ride.id) (AwayState batch.number))
+outcome batch ride seat (Moved n m) s = length-map s.requests (marked (λ q. q == ride.id) WaitingState)
+outcome batch ride seat (Behind n m) s = length-map s.requests (marked (λ q. q == ride.id) WaitingState)
 outcome batch ride None Confirmed s = refl
 outcome batch ride (Some seat) Confirmed s = confirmed batch ride seat (placed_vehicle s seat.vehicle) s
 
@@ -106,7 +106,7 @@ few-event s (Desk desk) (Abandoned number) = by_found (open_batch_numbered s des
     by_found (Some batch) is = rw is (omega (
       arith,
       ap (λ (t : State). length t.requests) (abandon-is s batch),
-      length-map s.requests (marked (is_of (standing_rides batch s)) IsWaiting),
+      length-map s.requests (marked (is_of (standing_rides batch s)) WaitingState),
     ))
 few-event s (Feed feed) (Opened number time requests plans) = same s
 few-event s (Feed feed) (Committed number cost seats prices pays list) = same s

@@ -10,9 +10,9 @@ use Rattle.ride_model.specs.Fleet.{IsFleet}
 use Rattle.ride_model.specs.Road.{RoadMap}
 use Rattle.ride_model.specs.Seating.{vehicle_ids}
 use Rattle.ride_model.specs.Vehicle.{IsLawful}
-use Rattle.model_laws.proofs.Among.{among_filter_back}
-use Rattle.history_laws.proofs.Lookups.{all_of, of_all}
-use Rattle.dual_check.proofs.DifferentIds.{IsDistinct-filter}
+use Rattle.plain_lemmas.proofs.Among.{among_filter_back}
+use Rattle.plain_lemmas.proofs.Each.{of_all, all_of}
+use Rattle.plain_lemmas.proofs.Lists.{distinct-filter}
 use Rattle.league_trials.specs.Sides.{has_rest, IsNewFleet, half_of}
 
 -- what holds of each vehicle holds of the half
@@ -42,7 +42,7 @@ half-few rest (v ∷ vehicles) = by_test (has_rest rest v.id) (half-few rest veh
 pub half-fleet : (rest : ℕ) (vehicles : List Vehicle) → IsFleet vehicles → IsFleet (half_of rest vehicles)
 half-fleet rest vehicles is = record {
   few = omega (arith, is.few, half-few rest vehicles);
-  ids_differ = subst (IsDistinct nat_eq) (sym (half-ids rest vehicles)) (IsDistinct-filter (has_rest rest) (vehicle_ids vehicles) is.ids_differ);
+  ids_differ = subst (IsDistinct nat_eq) (sym (half-ids rest vehicles)) (distinct-filter (has_rest rest) (vehicle_ids vehicles) is.ids_differ);
   ids_fit = half-each (λ (v : Vehicle). v.id < 10 ^ 18) rest vehicles is.ids_fit;
 }
 

@@ -14,11 +14,11 @@ use Rattle.ride_model.specs.Road.{RoadMap}
 use Rattle.ride_model.specs.Offers.{offer_of, price}
 use Rattle.ride_model.specs.Vehicle.{ride_ids}
 use Rattle.ride_model.specs.Seating.{BatchCopy, find_ride, find_vehicle, has_seat, seat_offer, seat_cost, amount_of, IsCovered, Certifies}
-use Rattle.model_laws.proofs.Among.{contains_from_among}
-use Rattle.model_laws.proofs.Certificates.{amount-le, found_among, sum-amounts, sum-amounts-le}
+use Rattle.plain_lemmas.proofs.Among.{contains_from_among}
+use Rattle.model_laws.proofs.Certificates.{amount-le, found_among, sum-amounts, sum-amounts-le, each_capped}
 use Rattle.model_laws.proofs.CoveredPairs.{prices-le-cost}
 use Rattle.model_laws.proofs.OfferPrices.{price-le-cost}
-use Rattle.model_laws.proofs.Sums.{sum_by-map}
+use Rattle.plain_lemmas.proofs.Sums.{sum_by-map}
 
 -- the price of a seat's pair
 abbrev pub pair_price : RoadMap → BatchCopy → Seat → ℕ
@@ -134,11 +134,6 @@ each-cheap roads batch prices pays (seat ∷ seats) (first, rest) below =
       each-cheap roads batch prices pays seats rest (omega (arith, one, other, first.no_dearer, below)),
     )
 
-capped-each : (m : ℕ) (amounts : List (ℕ × ℕ)) (ids : List ℕ) → AllByRecursion (λ (item : ℕ × ℕ). item.1 ≤ m) amounts
-    → AllByRecursion (λ r. amount_of amounts r ≤ m) ids
-capped-each m amounts [] h = tt
-capped-each m amounts (q ∷ qs) h = (amount-le m amounts q h, capped-each m amounts qs h)
-
 -- where prices certify a seating, no seat is dearer than its pair's price
 pub seats-at-price : (roads : RoadMap) (batch : BatchCopy) (seats : List Seat) (prices pays : List (ℕ × ℕ))
     → IsDistinct nat_eq (ride_ids batch.requests) → Certifies roads batch seats prices pays
@@ -152,7 +147,7 @@ seats-at-price roads batch seats prices pays distinct certified =
     let dual = prices-le-cost (λ (seat : Seat). seat.request) (pair_price roads batch) (λ (seat : Seat). amount_of pays seat.vehicle)
     (amount_of prices) batch.settings.penalty (sum_by (λ (item : ℕ × ℕ). item.1) pays) (has_seat seats)
     (ride_ids batch.requests) seats certified.seating.in_order
-    (capped-each batch.settings.penalty prices (ride_ids batch.requests)
+    (each_capped batch.settings.penalty prices (ride_ids batch.requests)
     (recursion_from_All (λ (item : ℕ × ℕ). item.1 ≤ batch.settings.penalty) prices certified.capped))
     (each-covered roads batch prices pays seats each) paid in
     let by_requests = subst

@@ -14,7 +14,7 @@ use Rattle.trip_log.proofs.TextLemmas.{lines-go_on, texts-go_on, texts-same}
 use Rattle.board_core.proofs.FewOutcomes.{first-legal}
 use Rattle.log_audit.specs.declared.verdict.AuditFault.{AuditFault}
 use Rattle.log_audit.specs.declared.verdict.AuditFault.TheVariants.{ReadFault, TooLong, NoMemory}
-use Rattle.board_core.specs.declared.totals.Totals.{Totals}
+use Rattle.board_core.specs.declared.board.totals.Totals.{Totals}
 use Rattle.log_audit.specs.declared.verdict.Verdict.{Verdict}
 use Rattle.log_audit.specs.declared.verdict.Verdict.TheVariants.{Yes, No}
 use Rattle.log_audit.specs.declared.verdict.Why.{Why}

@@ -4,6 +4,7 @@ use Rattle.std.specs.Prelude.{◌==◌, ◌&&◌, map, find, filter, nat_lt, is_
 use Rattle.std.specs.List.{AllByRecursion, IsDistinct}
 use Rattle.std.proofs.lemmas.Bool.{eqb-true, eqb-false, eq-eqb, ne_eqb, and_parts}
 use Rattle.std.proofs.lemmas.Map.Keys.{IsDistinct-head, IsDistinct-tail}
+use Rattle.std.proofs.lemmas.Option.{same_Some}
 use Rattle.ride_model.specs.declared.command.Actor.{Actor}
 use Rattle.ride_model.specs.declared.command.Actor.TheVariants.{Desk}
 use Rattle.ride_model.specs.declared.command.Command.{Command}
@@ -17,7 +18,8 @@ use Rattle.ride_model.specs.State.{State, has_ended, is_batch, open_batch_of, op
 use Rattle.ride_model.specs.Text.{IsOneOrTwo}
 use Rattle.ride_model.specs.Vehicle.{IsLawful}
 use Rattle.batch_commit.specs.Solved.{SolvedBatch}
-use Rattle.model_laws.proofs.Among.{Among}
+use Rattle.plain_lemmas.proofs.Among.{Among}
+use Rattle.plain_lemmas.proofs.Each.{of_all}
 use Rattle.model_laws.proofs.Certificates.{found_among}
 use Rattle.model_laws.proofs.Histories.{replay-push}
 use Rattle.model_laws.proofs.RequestStates.{others-opening, abandon-is}
@@ -25,7 +27,7 @@ use Rattle.history_laws.proofs.Untouched.{leaves-step, stays-outcomes}
 use Rattle.history_laws.specs.Consistent.{IsOpenBatch}
 use Rattle.history_laws.specs.Start.{IsStart}
 use Rattle.history_laws.proofs.EveryState.{consistent}
-use Rattle.history_laws.proofs.Lookups.{of_all, found_by}
+use Rattle.history_laws.proofs.Lookups.{found_by}
 use Rattle.trip_log.proofs.ReadLemmas.{for_one_or_two}
 use Rattle.board_core.specs.declared.opening.Opening.{Opening}
 use Rattle.board_core.specs.declared.opening.Opening.TheVariants.{Batch, Idle, Ended}
@@ -33,13 +35,9 @@ use Rattle.board_core.specs.Opening.{opening_at}
 use Rattle.board_core.specs.Recorded.{Recorded, state_of, fed_entry, end_entry, opened_entry, committed_entry, abandoned_entry}
 use Rattle.board_core.proofs.Closed.{find-without}
 use Rattle.board_core.proofs.Opened.{open-with}
+use Rattle.board_core.proofs.OpenBatches.{state-push, none-numbered, got-next}
 use Rattle.log_audit.specs.declared.open_batches.OpenBatches.{OpenBatches}
 use Rattle.log_audit.specs.OpenBatches.{batch_of, with_batch, AreOpen}
-
--- the state of a board that went on by an entry
-pub state-push : (old new : Recorded) (entry : Entry) → new.start ≡ old.start → new.history ≡ old.history ++ entry ∷ []
-    → state_of new ≡ after_entry (state_of old) entry
-state-push old new entry start history = (λ i. replay (start i) (history i)) ∙ replay-push old.start old.history entry
 
 -- the batch of a desk after that of one was put in or taken out
 pub batch-with : (desk other : ℕ) (batch : Option BatchCopy) (batches : OpenBatches) → IsOneOrTwo desk → IsOneOrTwo other
@@ -88,18 +86,6 @@ open-opened old new desk batch batches start fits none is history held other two
     ∙ sym (open-with desk other batch s.batches desk_is none)
     ∙ sym (ap (find (λ (b : BatchCopy). b.desk == other)) more)
 
--- where a desk has no batch, it has none of any number
-pub none-numbered : (desk number : ℕ) (batches : List BatchCopy) → find (λ (b : BatchCopy). b.desk == desk) batches ≡ None
-    → find (is_batch desk number) batches ≡ None
-none-numbered desk number [] none = refl
-none-numbered desk number (b ∷ batches) none = by_test (none-numbered desk number batches) (eqb b.desk desk) refl
-  where
-    by_test : (find (λ (x : BatchCopy). x.desk == desk) batches ≡ None → find (is_batch desk number) batches ≡ None)
-        → (t : Bool) → eqb b.desk desk ≡ t → find (is_batch desk number) (b ∷ batches) ≡ None
-    by_test later true is = absurd (cc (none, is))
-    by_test later false is =
-        rw is (later (sym (ap (λ t. cond t (Some b) (find (λ (x : BatchCopy). x.desk == desk) batches)) is) ∙ none))
-
 -- no other batch is of the first one's desk
 no-other : (desk other : ℕ) (batches : List BatchCopy) → AllByRecursion (λ k. eqb desk k ≡ false) (map (λ (b : BatchCopy). b.desk) batches)
     → desk ≡ other → find (λ (b : BatchCopy). b.desk == other) batches ≡ None
@@ -124,14 +110,11 @@ numbered-of desk number (b ∷ batches) batch differ found =
         rw is (none-numbered desk number batches (no-other b.desk desk batches
         (IsDistinct-head eqb b.desk (map (λ (x : BatchCopy). x.desk) batches) differ) (eqb-true b.desk desk here)))
 
-    some_same : (x y : BatchCopy) → Some x ≡ Some y → x ≡ y
-    some_same x y e = cc e
-
     by_test : (eqb b.desk desk ≡ false → find (is_batch desk number) batches ≡ cond (eqb batch.number number) (Some batch) None)
         → (t : Bool) → eqb b.desk desk ≡ t → find (is_batch desk number) (b ∷ batches) ≡ cond (eqb batch.number number) (Some batch) None
     by_test later true here =
         let same : b ≡ batch
-        = some_same b batch (sym (ap (λ t. cond t (Some b) (find (λ (x : BatchCopy). x.desk == desk) batches)) here) ∙ found) in
+        = same_Some b batch (sym (ap (λ t. cond t (Some b) (find (λ (x : BatchCopy). x.desk == desk) batches)) here) ∙ found) in
         rw here (by_number same here (eqb b.number number) refl ∙ ap (λ (x : BatchCopy). cond (eqb x.number number) (Some batch) None) same)
     by_test later false other = rw other (later other)
 
@@ -181,12 +164,9 @@ open-closed s t batch batches fits differ found less held other two =
     ∙ sym (find-without batch.desk batch.number other s.batches same)
     ∙ sym (ap (find (λ (b : BatchCopy). b.desk == other)) less)
   where
-    some_same : (x y : BatchCopy) → Some x ≡ Some y → x ≡ y
-    some_same x y e = cc e
-
     same : (b : BatchCopy) → Among b s.batches → eqb b.desk batch.desk ≡ true → eqb b.number batch.number ≡ true
     same b there here =
-        let is : b ≡ batch = some_same b batch (sym (found_by (λ (x : BatchCopy). x.desk) s.batches b differ there)
+        let is : b ≡ batch = same_Some b batch (sym (found_by (λ (x : BatchCopy). x.desk) s.batches b differ there)
         ∙ ap (open_batch_of s) (eqb-true b.desk batch.desk here) ∙ found) in
         eq-eqb b.number batch.number (ap (λ (x : BatchCopy). x.number) is)
 
@@ -233,16 +213,6 @@ open-nothing start batches none is desk fits = by_desk (eqb desk 1) (eqb desk 2)
     by_desk true u = ap (λ (o : OpenBatches). o.first) is ∙ sym (ap (find (λ (b : BatchCopy). b.desk == desk)) none)
     by_desk false true = ap (λ (o : OpenBatches). o.second) is ∙ sym (ap (find (λ (b : BatchCopy). b.desk == desk)) none)
     by_desk false false = sym (ap (find (λ (b : BatchCopy). b.desk == desk)) none)
-
--- the batch that a desk gets
-pub got-next : (s : State) (feeds desk : ℕ) (o : Opening) (batch : BatchCopy) → o ≡ opening_at feeds s desk → o ≡ Batch batch
-    → batch ≡ next_batch s desk
-got-next s feeds desk o batch is got = by_test (nat_lt s.opened s.asked) (all_feeds_ended feeds s) (sym got ∙ is)
-  where
-    by_test : (t u : Bool) → Batch batch ≡ cond t (Batch (next_batch s desk)) (cond u Ended Idle) → batch ≡ next_batch s desk
-    by_test true u e = cc e
-    by_test false true e = absurd (cc e)
-    by_test false false e = absurd (cc e)
 
 -- a desk that may open a batch has none open
 pub none-open : (s : State) (desk : ℕ) → IsTrue (may_open s desk) → open_batch_of s desk ≡ None

@@ -6,6 +6,7 @@ use Rattle.std.proofs.lemmas.Bool.{cases_eq}
 use Rattle.std.proofs.lemmas.List.{get_or-set_same, get_or-set_other, get_or_default, get_or-map, length-map}
 use Rattle.std.proofs.lemmas.List.Elements.{All-from_recursion}
 use Rattle.std.proofs.lemmas.Nat.{same_from_place}
+use Rattle.std.proofs.lemmas.Option.{same_Some}
 use Rattle.ride_model.specs.declared.offer.Offer.{Offer}
 use Rattle.ride_model.specs.declared.offer.Seat.{Seat}
 use Rattle.ride_model.specs.declared.vehicle.Ride.{Ride}
@@ -60,9 +61,6 @@ record CellFacts (roads : RoadMap) (batch : BatchCopy) (seat : Seat) (placed : P
   priced : (d : Ride) (e : Vehicle) → price roads batch.settings (get_or batch.vehicles placed.vehicle e) (get_or batch.requests placed.request d) batch.time
       ≡ Some least.cost
 
-some-same : (a b : ℕ) → Some a ≡ Some b → a ≡ b
-some-same a b e = cc e
-
 cell-facts : (roads : RoadMap) (batch : BatchCopy) (table : Table) (seat : Seat) (placed : Placed) (least : Offer)
     → IsTableOf roads batch table → IsPlaced roads batch seat placed → OfSeat roads batch seat placed
     → cell_at table placed.request placed.vehicle ≡ Some least → CellFacts roads batch seat placed least
@@ -76,7 +74,7 @@ cell-facts roads batch table seat placed least of_map is h cell =
     let here : price roads batch.settings h.vehicle h.ride batch.time ≡ Some least.cost
     = sym (λ k. price roads batch.settings (h.vehicle_at h.vehicle k) (h.ride_at h.ride k) batch.time) ∙ at_pair h.ride h.vehicle in
     let (cost, price_is, below) = price-le-cost roads batch.settings h.vehicle h.ride batch.time seat.i seat.j placed.offer h.offered in
-    let same : least.cost ≡ cost = some-same least.cost cost (sym here ∙ price_is) in
+    let same : least.cost ≡ cost = same_Some least.cost cost (sym here ∙ price_is) in
     record {
       is_price = by_price h least.cost here;
       no_dearer = omega (arith, same, below);

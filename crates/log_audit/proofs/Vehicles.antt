@@ -5,7 +5,7 @@ use Rattle.std.specs.List.{AllByRecursion, IsDistinct, list_any}
 use Rattle.std.proofs.lemmas.List.{drop_more, map-append, take-append-drop, take_more}
 use Rattle.std.proofs.lemmas.Map.Keys.{IsDistinct-head, IsDistinct-tail}
 use Rattle.ride_model.specs.declared.offer.Seat.{Seat}
-use Rattle.model_laws.proofs.Among.{Among, among_map, among_map_back}
+use Rattle.plain_lemmas.proofs.Among.{Among, among_map, among_map_back}
 use Rattle.history_laws.proofs.Asked.{distinct-push}
 
 abbrev pub vehicles_of : List Seat → List ℕ

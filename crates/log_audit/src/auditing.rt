@@ -8,19 +8,20 @@ ghost use Rattle.ride_model.specs.Vehicle.{IsLawful};
 ghost use Rattle.ride_ports.specs.Count.{Rose};
 ghost use Rattle.log_audit.specs.declared.verdict.AuditFault.{AuditFault};
 ghost use Rattle.log_audit.specs.declared.verdict.AuditFault.TheVariants.{NoMemory, ReadFault};
-ghost use Rattle.board_core.specs.declared.totals.Totals.{Totals};
+ghost use Rattle.board_core.specs.declared.board.totals.Totals.{Totals};
 ghost use Rattle.log_audit.specs.declared.verdict.Verdict.{Verdict};
 ghost use Rattle.log_audit.specs.declared.verdict.Verdict.TheVariants.{Yes};
 ghost use Rattle.log_audit.specs.Audit.{IsAnswer};
 ghost use Rattle.log_audit.specs.Audited.{FailsAfter, HasReadHead, HasReadNoHead, IsWrongLineAfter, text_so_far};
 ghost use Rattle.log_audit.specs.Auditing.{GoesOn, IsAuditing};
-ghost use Rattle.log_audit.specs.Limits.{most_line};
+ghost use Rattle.log_audit.specs.Limits.{most_line, most_lines};
 ghost use Rattle.line_reader.specs.Reader.{HasNoLf};
 ghost use Rattle.log_audit.specs.LogLines.{HasRead, IsStop, TakesSome};
 
 use crate::auditor::Auditor;
 use crate::lines::{log_reader, next_line};
 use crate::{AuditFault, Verdict, Why};
+use adaptive_roads::SharedHierarchy;
 use line_reader::{LineReader, NextLine};
 use ride_model::{Fleet, NoMemory, Settings};
 use ride_ports::Source;
@@ -68,7 +69,8 @@ pub fn audit<R: Threads + Sync, S: Source>(
             why: Why::Spelling,
         });
     };
-    let mut auditor = Auditor::new(rt, alloc, roads, settings, fleet, head)?;
+    let shared = SharedHierarchy::new(roads);
+    let mut auditor = Auditor::new(rt, alloc, roads, &shared, settings, fleet, head)?;
     further_lines(&mut auditor, &mut lines, rt, alloc, log)
 }
 
@@ -125,7 +127,7 @@ fn head_of(line: &[u8], version: u8) -> Option<Head>
 
 // Judges the lines after the head.
 fn further_lines<R: Threads + Sync, S: Source>(
-    auditor: &mut Auditor<'_>,
+    auditor: &mut Auditor<'_, '_>,
     lines: &mut LineReader,
     rt: &R,
     alloc: Global,
@@ -163,13 +165,13 @@ fn further_lines<R: Threads + Sync, S: Source>(
 
 // Judges the line that was read last.
 fn judge_line<R: Threads + Sync>(
-    auditor: &mut Auditor<'_>,
+    auditor: &mut Auditor<'_, '_>,
     rt: &R,
     alloc: Global,
     lines: &LineReader,
 ) -> Result<Option<Why>, NoMemory>
     requires auditing { IsAuditing auditor.old }
-    requires few { length auditor.old.board.history < 2100000 }
+    requires few { length auditor.old.board.history < most_lines }
     ensures { (line : List ℕ) → HasNoLf line → lines.now.cutter.shown ≡ take most_line line
         → lines.now.cutter.over ≡ nat_lt most_line (length line) → IfOk result (λ why. MatchOption why
         (IsAuditing auditor.new × (auditor.new.board.start ≡ auditor.old.board.start)

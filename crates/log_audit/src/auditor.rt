@@ -7,11 +7,13 @@ ghost use Rattle.ride_model.specs.State.{start_state};
 ghost use Rattle.ride_model.specs.Text.{IsOneOrTwo, entry_line};
 ghost use Rattle.ride_model.specs.Vehicle.{IsLawful};
 ghost use Rattle.log_audit.specs.Auditing.{IsAuditing, IsJudged, IsLineOf};
+ghost use Rattle.log_audit.specs.Limits.{most_lines};
 
 use crate::Why;
 use crate::commits::Commit;
 use crate::open_batches::OpenBatches;
 use crate::pricing::Pricing;
+use adaptive_roads::SharedHierarchy;
 use board_core::Board;
 use pricing_workers::workers_at_hand;
 use ride_model::{Actor, Entry, Event, Fleet, NoMemory, Settings};
@@ -22,24 +24,26 @@ use trip_log::{Head, spells};
 
 /// The history so far, replayed on a board, with the batches that are open and what prices them.
 #[derive(Drop)]
-pub(crate) struct Auditor<'r> {
+pub(crate) struct Auditor<'r, 'q> {
     pub(crate) board: Board<'r>,
     pub(crate) batches: OpenBatches,
-    pub(crate) pricing: Pricing<'r>,
+    pub(crate) pricing: Pricing<'r, 'q>,
     /// The version of the log.
     pub(crate) log: u8,
 }
 
-impl<'r> Auditor<'r> {
+impl<'r, 'q> Auditor<'r, 'q> {
     /// An audit of which no entry is judged.
     pub(crate) fn new(
         rt: &impl Threads,
         alloc: Global,
         roads: &'r Roads,
+        shared: &'r SharedHierarchy<'q>,
         settings: Settings,
         fleet: Fleet,
         head: Head,
-    ) -> Result<Auditor<'r>, NoMemory>
+    ) -> Result<Auditor<'r, 'q>, NoMemory>
+        requires shared { shared.now ≡ roads.now }
         requires settings { IsSettings settings }
         requires feeds { IsOneOrTwo head.feeds }
         requires desks { IsOneOrTwo head.desks }
@@ -52,7 +56,7 @@ impl<'r> Auditor<'r> {
         ensures history { IfOk result (λ auditor. auditor.board.history ≡ []) }
         ensures auditing { IfOk result IsAuditing }
     {
-        let pricing = Pricing::new(alloc, roads, workers_at_hand(rt))?;
+        let pricing = Pricing::new(alloc, roads, shared, workers_at_hand(rt))?;
         let log = settings.log;
         let board = Board::new(alloc, roads, settings, fleet, head.feeds, head.desks)?;
         Ok(Auditor {
@@ -71,7 +75,7 @@ impl<'r> Auditor<'r> {
         line: &[u8],
     ) -> Result<Option<Why>, NoMemory>
         requires auditing { IsAuditing self.old }
-        requires few { length self.old.board.history < 2100000 }
+        requires few { length self.old.board.history < most_lines }
         requires line { IsLineOf self.old.board.start.settings.log entry line.now }
         ensures { IfOk result (IsJudged self.old self.new entry) }
     {
@@ -102,7 +106,10 @@ impl<'r> Auditor<'r> {
                     pays,
                 };
                 match actor {
-                    Actor::Desk(desk) => self.judge_committed(rt, desk, commit, line),
+                    Actor::Desk(desk) => {
+                        self.share_hierarchy();
+                        self.judge_committed(rt, desk, commit, line)
+                    }
                     Actor::Feed(_) => Ok(Some(Why::Actor)),
                 }
             }

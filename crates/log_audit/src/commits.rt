@@ -7,6 +7,7 @@ ghost use Rattle.ride_model.specs.Road.{RoadMap};
 ghost use Rattle.ride_model.specs.Seating.{Certifies, IsBatchOver, IsSeating};
 ghost use Rattle.ride_model.specs.Text.{IsOneOrTwo};
 ghost use Rattle.ride_model.specs.Vehicle.{IsLawful};
+ghost use Rattle.ride_model.specs.Limits.{latest_time};
 ghost use Rattle.batch_commit.specs.Answer.{IsSeatAt};
 ghost use Rattle.batch_commit.specs.Table.{IsTableOf};
 ghost use Rattle.log_audit.specs.Auditing.{IsAuditing, IsJudged, IsLineOf};
@@ -30,7 +31,15 @@ pub(crate) struct Commit {
     pub(crate) pays: AmountList,
 }
 
-impl<'r> Auditor<'r> {
+impl<'r, 'q> Auditor<'r, 'q> {
+    /// Lets the pricer and the board share a hierarchy of the roads.
+    pub(crate) fn share_hierarchy(&mut self)
+        requires { IsAuditing self.old }
+        ensures { self.new ≡ self.old }
+    {
+        self.pricing.meet(&mut self.board);
+    }
+
     /// Judges the line of a commit.
     pub(crate) fn judge_committed<R: Threads + Sync>(
         &mut self,
@@ -79,7 +88,7 @@ impl<'r> Auditor<'r> {
         commit: Commit,
         placed: &[Placed],
     ) -> Result<Option<Solved>, NoMemory>
-        requires time { batch.time ≤ 1000000000 }
+        requires time { batch.time ≤ latest_time }
         requires over_map { IsBatchOver self.old.pricing batch }
         requires lawful { All (IsLawful self.old.pricing) batch.vehicles }
         requires seating { IsSeating self.old.pricing batch commit.seats }

@@ -16,7 +16,7 @@ use batch_commit::Batch;
 use board_core::Opening;
 use ride_model::{Actor, Ending, NoMemory};
 
-impl<'r> Auditor<'r> {
+impl<'r, 'q> Auditor<'r, 'q> {
     /// Judges the line of an opening.
     pub(crate) fn judge_opened(&mut self, desk: u8, line: &[u8]) -> Result<Option<Why>, NoMemory>
         requires auditing { IsAuditing self.old }

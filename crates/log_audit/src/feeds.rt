@@ -7,12 +7,13 @@ ghost use Rattle.ride_model.specs.Legal.{IsNumbered, IsLegalEvent};
 ghost use Rattle.ride_model.specs.State.{has_ended};
 ghost use Rattle.board_core.specs.Recorded.{state_of, end_entry};
 ghost use Rattle.log_audit.specs.Auditing.{IsAuditing, IsJudged, IsLineOf};
+ghost use Rattle.log_audit.specs.Limits.{most_lines};
 
 use crate::Why;
 use crate::auditor::Auditor;
 use ride_model::{Actor, Command, Ending, NoMemory};
 
-impl<'r> Auditor<'r> {
+impl<'r, 'q> Auditor<'r, 'q> {
     /// Judges the line of a feed's command with its reply.
     pub(crate) fn judge_fed(
         &mut self,
@@ -21,7 +22,7 @@ impl<'r> Auditor<'r> {
         line: &[u8],
     ) -> Result<Option<Why>, NoMemory>
         requires auditing { IsAuditing self.old }
-        requires few { length self.old.board.history < 2100000 }
+        requires few { length self.old.board.history < most_lines }
         requires line { (reply : Reply) × IsLineOf self.old.log (record { actor = Feed feed; event = Fed command.now reply }) line.now }
         ensures { (reply : Reply) → IsLineOf self.old.log (record { actor = Feed feed; event = Fed command.now reply }) line.now
             → IfOk result (IsJudged self.old self.new (record { actor = Feed feed; event = Fed command.now reply })) }

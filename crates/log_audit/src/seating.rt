@@ -6,6 +6,7 @@ ghost use Rattle.ride_model.specs.declared.vehicle.Ride.{Ride};
 ghost use Rattle.ride_model.specs.declared.vehicle.Vehicle.{Vehicle};
 ghost use Rattle.ride_model.specs.Seating.{IsBatchOver, has_seat, seat_offer};
 ghost use Rattle.ride_model.specs.Vehicle.{IsLawful, ride_ids};
+ghost use Rattle.ride_model.specs.Limits.{largest_batch, latest_time};
 ghost use Rattle.log_audit.specs.declared.seating.Placed.{Placed};
 ghost use Rattle.log_audit.specs.Seated.{ArePlaced, IsPlaced, IsSeatedAt};
 
@@ -25,12 +26,12 @@ pub(crate) struct Placed {
 
 /// The places and offers of seats, where they are a seating of the batch of this cost.
 pub(crate) fn seated(
-    pricing: &mut Pricing<'_>,
+    pricing: &mut Pricing<'_, '_>,
     batch: &Batch,
     seats: &[Seat],
     cost: u64,
 ) -> Result<Option<Vec<Placed>>, NoMemory>
-    requires time { batch.now.time ≤ 1000000000 }
+    requires time { batch.now.time ≤ latest_time }
     requires over_map { IsBatchOver pricing.old batch.now }
     requires lawful { All (IsLawful pricing.old) batch.now.vehicles }
     ensures seated { IfOk result (λ placed. MatchOption placed
@@ -111,11 +112,11 @@ fn drives(seats: &[Seat], vehicle: u64) -> bool
 
 // The places and offers of seats, where each has an offer.
 fn placed_of(
-    pricing: &mut Pricing<'_>,
+    pricing: &mut Pricing<'_, '_>,
     batch: &Batch,
     seats: &[Seat],
 ) -> Result<Option<Vec<Placed>>, NoMemory>
-    requires time { batch.now.time ≤ 1000000000 }
+    requires time { batch.now.time ≤ latest_time }
     requires over_map { IsBatchOver pricing.old batch.now }
     requires lawful { All (IsLawful pricing.old) batch.now.vehicles }
     ensures placed { IfOk result (λ placed. MatchOption placed
@@ -135,11 +136,11 @@ fn placed_of(
 
 // The places and the offer of a seat, where it has one.
 fn placed_seat(
-    pricing: &mut Pricing<'_>,
+    pricing: &mut Pricing<'_, '_>,
     batch: &Batch,
     seat: &Seat,
 ) -> Result<Option<Placed>, NoMemory>
-    requires time { batch.now.time ≤ 1000000000 }
+    requires time { batch.now.time ≤ latest_time }
     requires over_map { IsBatchOver pricing.old batch.now }
     requires lawful { All (IsLawful pricing.old) batch.now.vehicles }
     ensures placed { IfOk result (λ placed. MatchOption placed
@@ -185,7 +186,7 @@ fn place_of_vehicle(vehicles: &[Vehicle], id: u64) -> Option<usize>
 
 // What the seats cost by their offers, with the penalty for each request without a seat.
 fn cost_of(batch: &Batch, placed: &[Placed]) -> u128
-    requires { length placed.now ≤ 128 }
+    requires { length placed.now ≤ largest_batch }
     ensures { result ≡ sum_by (λ (one : Placed). one.offer.cost) placed.now
         + batch.now.settings.penalty * (length batch.now.requests - length placed.now) }
 {
@@ -196,7 +197,7 @@ fn cost_of(batch: &Batch, placed: &[Placed]) -> u128
 
 // What the offers cost in all.
 fn total(placed: &[Placed]) -> u128
-    requires { length placed.now ≤ 128 }
+    requires { length placed.now ≤ largest_batch }
     ensures cost { result ≡ sum_by (λ (one : Placed). one.offer.cost) placed.now }
     ensures limit { result ≤ 128 * 2 ^ 64 }
 {

@@ -14,8 +14,9 @@ use Rattle.ride_model.specs.Step.{step}
 use Rattle.ride_model.specs.Text.{text_of}
 use Rattle.command_lines.specs.Limits.{AreFirst}
 use Rattle.board_core.specs.Recorded.{Recorded, state_of, fed_entry}
+use Rattle.board_core.proofs.OpenBatches.{state-push}
 use Rattle.session_run.specs.Running.{GoesOn, IsSession, IsAsked, RunsBatch, Answers, Stops, gave_up}
-use Rattle.session_run.proofs.Going.{state-push, settled-push, awaited-push, gave_up-push, fed-feed, fed-other, goes-then}
+use Rattle.session_run.proofs.OneMoreEntry.{settled-push, awaited-push, gave_up-push, fed-feed, fed-other, goes-then}
 use Rattle.history_laws.proofs.Untouched.{is_asked, leaves-step}
 
 -- what is awaited after an answer

@@ -3,6 +3,8 @@ use Rattle.std.proofs.Common.{◌≡◌, ℕ, Bool, true, false, ◌||◌, ◌&&
 use Rattle.std.specs.Prelude.{IsSome}
 use Rattle.std.specs.List.{list_any}
 use Rattle.std.proofs.lemmas.List.Folds.{list_any-append}
+use Rattle.std.proofs.Math.Bool.{or-true, or-false, and-false}
+use Rattle.std.proofs.lemmas.Bool.{or_from}
 use Rattle.ride_model.specs.declared.command.Actor.{Actor}
 use Rattle.ride_model.specs.declared.command.Actor.TheVariants.{Feed, Desk}
 use Rattle.ride_model.specs.declared.entry.Ending.{Ending}
@@ -14,7 +16,8 @@ use Rattle.ride_model.specs.Legal.{after_entry, replay, IsLegal, IsLegalEvent, I
 use Rattle.ride_model.specs.Seating.{BatchCopy}
 use Rattle.ride_model.specs.State.{State, is_actor, open_batch_numbered}
 use Rattle.ride_ports.specs.declared.outcome.Ran.{Ran}
-use Rattle.model_laws.proofs.Among.{Among}
+use Rattle.plain_lemmas.proofs.Among.{Among}
+use Rattle.plain_lemmas.proofs.Each.{of_all}
 use Rattle.model_laws.proofs.Histories.{IsLegal-parts}
 use Rattle.history_laws.specs.Consistent.{IsConsistent, IsOpenBatch}
 use Rattle.history_laws.specs.Finishing.{gives_up, has_whole_end, is_whole_end}
@@ -22,8 +25,6 @@ use Rattle.history_laws.specs.Start.{IsStart, fed_total}
 use Rattle.history_laws.proofs.Effects.{effect, ends_in}
 use Rattle.history_laws.proofs.EveryState.{consistent}
 use Rattle.history_laws.proofs.Leaving.{open_batch}
-use Rattle.history_laws.proofs.Lookups.{of_all}
-use Rattle.history_laws.proofs.Others.{or_false}
 use Rattle.board_core.specs.Recorded.{Recorded, end_entry}
 use Rattle.fleet_board.specs.Passes.{Known, actor_of}
 use Rattle.fleet_board.specs.Sets.{IsPartOf, newcomer}
@@ -42,7 +43,7 @@ desk-of desk ran root old new history number fresh runs its memory = record {
   whole = ap has_whole_end part ∙ ends-whole runs.batches (actor_of number) runs.ending (runs.whole memory).0;
   none_given_up = ap gives_up part
       ∙ list_any-append (λ (entry : Entry). is_abandoned entry.event) runs.batches (end_entry (actor_of number) runs.ending ∷ [])
-      ∙ or_false (gives_up runs.batches) ∙ (runs.whole memory).1;
+      ∙ or-false (gives_up runs.batches) ∙ (runs.whole memory).1;
 }
   where
     part : entries_of (Desk desk) history ≡ runs.batches ++ end_entry (actor_of number) runs.ending ∷ []
@@ -61,16 +62,12 @@ still-whole s entry actor =
     test : Actor × Ending → Bool
     test end = is_actor end.0 actor && is_whole end.1
 
-    never : (b : Bool) → (b && false) ≡ false
-    never true = refl
-    never false = refl
-
     by_event : (event : Event) → list_any test (ends_in entry.actor event) ≡ (is_actor entry.actor actor && is_whole_end event)
-    by_event (Finish ending) = or_false (is_actor entry.actor actor && is_whole ending)
-    by_event (Fed command reply) = sym (never (is_actor entry.actor actor))
-    by_event (Opened number time requests plans) = sym (never (is_actor entry.actor actor))
-    by_event (Committed number cost seats prices pays outcomes) = sym (never (is_actor entry.actor actor))
-    by_event (Abandoned number) = sym (never (is_actor entry.actor actor))
+    by_event (Finish ending) = or-false (is_actor entry.actor actor && is_whole ending)
+    by_event (Fed command reply) = sym (and-false (is_actor entry.actor actor))
+    by_event (Opened number time requests plans) = sym (and-false (is_actor entry.actor actor))
+    by_event (Committed number cost seats prices pays outcomes) = sym (and-false (is_actor entry.actor actor))
+    by_event (Abandoned number) = sym (and-false (is_actor entry.actor actor))
 
 -- who has ended whole stays so
 stays-whole : (s : State) (entries : List Entry) (actor : Actor) → ended_whole s actor ≡ true → ended_whole (replay s entries) actor ≡ true
@@ -88,10 +85,6 @@ part-whole s [] actor has = absurd (cc has)
 part-whole s (entry ∷ entries) actor has =
     by_actor (λ rest. part-whole (after_entry s entry) entries actor rest) (is_actor entry.actor actor) refl (is_whole_end entry.event) refl has
   where
-    or_true : (b : Bool) → (b || true) ≡ true
-    or_true true = refl
-    or_true false = refl
-
     by_actor : (has_whole_end (entries_of actor entries) ≡ true → ended_whole (replay (after_entry s entry) entries) actor ≡ true)
         → (own : Bool) → is_actor entry.actor actor ≡ own → (ends : Bool) → is_whole_end entry.event ≡ ends
         → has_whole_end (cond own (entry ∷ entries_of actor entries) (entries_of actor entries)) ≡ true
@@ -99,7 +92,7 @@ part-whole s (entry ∷ entries) actor has =
     by_actor later false other ends end rest = later rest
     by_actor later true own true end rest =
         stays-whole (after_entry s entry) entries actor
-        (still-whole s entry actor ∙ (λ i. ended_whole s actor || (own i && end i)) ∙ or_true (ended_whole s actor))
+        (still-whole s entry actor ∙ (λ i. ended_whole s actor || (own i && end i)) ∙ or-true (ended_whole s actor))
     by_actor later true own false end rest =
         later (sym (ap (λ b. b || has_whole_end (entries_of actor entries)) end) ∙ rest)
 
@@ -153,14 +146,10 @@ pub none-given_up : (feeds desks : ℕ) (start : State) (before entries : List E
 unfolding IsLegal
 none-given_up feeds desks start before [] begins legal none = refl
 none-given_up feeds desks start before (entry ∷ entries) begins legal none =
-    none_of (is_abandoned entry.event) (list_any given entries) first
+    or_from (is_abandoned entry.event) (list_any given entries) first
     (none-given_up feeds desks start (before ++ entry ∷ []) entries begins (subst (IsLegal feeds desks start) (joined before) legal)
     (λ desk fits. any-later given (Desk desk) entry entries (none desk fits)))
   where
-    none_of : (a b : Bool) → a ≡ false → b ≡ false → (a || b) ≡ false
-    none_of true b h k = absurd (cc h)
-    none_of false b h k = k
-
     s : State
     s = replay start before
 

@@ -15,12 +15,13 @@ use Rattle.ride_model.specs.Seating.{BatchCopy}
 use Rattle.ride_model.specs.State.{State, has_ended, is_actor, start_state}
 use Rattle.history_laws.specs.Start.{IsStart}
 use Rattle.board_core.specs.Recorded.{Recorded, end_entry, state_of}
+use Rattle.board_core.proofs.OpenBatches.{state-push}
 use Rattle.city_maker.specs.Steps.{last_steps}
 use Rattle.session_run.specs.Drills.{IsDrilling}
 use Rattle.session_run.specs.Running.{IsPrompt}
 use Rattle.session_run.specs.Settled.{IsSettled}
 use Rattle.session_run.proofs.DrillSteps.{follows-then}
-use Rattle.session_run.proofs.Going.{awaited-push, gave_up-push, state-push}
+use Rattle.session_run.proofs.OneMoreEntry.{awaited-push, gave_up-push}
 
 -- an actor ends whole
 abbrev whole_end : Actor → Entry

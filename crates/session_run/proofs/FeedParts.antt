@@ -3,6 +3,8 @@ use Rattle.std.proofs.Common.{◌≡◌, ℕ, ◌≤◌, ◌-◌, Bool, true, fa
 use Rattle.std.specs.Prelude.{IsTrue, nat_le}
 use Rattle.std.proofs.lemmas.List.Elements.{filter_map-append}
 use Rattle.std.proofs.lemmas.List.Folds.{list_any-append}
+use Rattle.std.proofs.Math.Bool.{or-true}
+use Rattle.std.proofs.lemmas.Bool.{cases_Bool}
 use Rattle.ride_model.specs.declared.command.Actor.{Actor}
 use Rattle.ride_model.specs.declared.command.Actor.TheVariants.{Feed, Desk}
 use Rattle.ride_model.specs.declared.command.Command.{Command}
@@ -24,16 +26,11 @@ use Rattle.session_run.specs.Reading.{AreFirstOf}
 use Rattle.session_run.specs.Replay.{IsReadWhole}
 use Rattle.session_run.specs.Serving.{FeedRun, IsFeedOf}
 
--- one or the other
-pub true_or_false : (b : Bool) → (b ≡ true) ⊎ (b ≡ false)
-true_or_false true = inl refl
-true_or_false false = inr refl
-
 -- a feed was read whole, or something of it kept it from that
 read_whole : (ran : Ran) → IsReadWhole ran ⊎ ((ran.source_failed ≡ true) ⊎ (ran.too_long ≡ true))
-read_whole ran = elim (true_or_false ran.source_failed) [
+read_whole ran = elim (cases_Bool ran.source_failed) [
   | inl failed ↦ inr (inl failed)
-  | inr sound ↦ elim (true_or_false ran.too_long) [
+  | inr sound ↦ elim (cases_Bool ran.too_long) [
     | inl long ↦ inr (inr long)
     | inr short ↦ inl (sound, short)
   ]
@@ -53,11 +50,7 @@ commands-ended answers actor ending =
 pub ends-whole : (made : List Entry) (actor : Actor) (ending : Ending) → ending ≡ Whole → has_whole_end (made ++ end_entry actor ending ∷ []) ≡ true
 ends-whole made actor ending whole =
     list_any-append (λ (entry : Entry). is_whole_end entry.event) made (end_entry actor ending ∷ [])
-    ∙ ap (λ (e : Ending). has_whole_end made || has_whole_end (end_entry actor e ∷ [])) whole ∙ or_true (has_whole_end made)
-  where
-    or_true : (b : Bool) → (b || true) ≡ true
-    or_true true = refl
-    or_true false = refl
+    ∙ ap (λ (e : Ending). has_whole_end made || has_whole_end (end_entry actor e ∷ [])) whole ∙ or-true (has_whole_end made)
 
 -- a feed's actor
 feed-actor : (n : ℕ) → IsOneOrTwo n → actor_of n ≡ Feed n
@@ -77,7 +70,7 @@ module _ (log : ℕ) (run : FeedRun) (own : Ran) (taken : List ℕ) (answers : L
     (fed : HasFed log run.bytes run.left own taken answers ending) where
   -- a feed that ended whole was read whole, and memory was not wanting
   whole-read : ending ≡ Whole → (own.no_memory ≡ false) × IsReadWhole own
-  whole-read whole = elim (true_or_false own.no_memory) [
+  whole-read whole = elim (cases_Bool own.no_memory) [
     | inl wanting ↦ absurd (cc (fed.wanting wanting, whole))
     | inr memory ↦ elim (read_whole own) [
       | inl read ↦ (memory, read)

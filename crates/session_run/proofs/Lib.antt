@@ -1,6 +1,6 @@
 pub mod LogLemmas
 pub mod Settling
-pub mod Going
+pub mod OneMoreEntry
 pub mod Opening
 pub mod Answering
 pub mod FeedRuns

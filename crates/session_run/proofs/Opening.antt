@@ -19,50 +19,26 @@ use Rattle.ride_model.specs.Seating.{BatchCopy, IsBatchOver, seat_offer, seating
 use Rattle.ride_model.specs.Vehicle.{IsLawful}
 use Rattle.ride_model.specs.State.{State, request_state, open_batch_numbered, is_batch}
 use Rattle.batch_commit.specs.Solved.{SolvedBatch}
-use Rattle.model_laws.proofs.Among.{Among}
+use Rattle.plain_lemmas.proofs.Among.{Among}
+use Rattle.plain_lemmas.proofs.Each.{of_all, all_of}
 use Rattle.model_laws.proofs.Histories.{IsLegal-parts}
 use Rattle.model_laws.proofs.RequestStates.{others-opening, request_state-opening, abandon-is}
 use Rattle.history_laws.specs.Consistent.{IsOpenBatch}
 use Rattle.history_laws.specs.Start.{IsStart}
 use Rattle.history_laws.proofs.EveryState.{consistent}
 use Rattle.history_laws.proofs.Leaving.{is_batch-own}
-use Rattle.history_laws.proofs.Lookups.{all_of, of_all}
 use Rattle.history_laws.proofs.Opening.{is_of-among}
 use Rattle.board_core.specs.declared.opening.Opening.{Opening}
 use Rattle.board_core.specs.declared.opening.Opening.TheVariants.{Batch, Idle, Ended}
 use Rattle.board_core.specs.Opening.{opening_at}
 use Rattle.board_core.specs.Recorded.{Recorded, state_of, opened_entry, committed_entry, abandoned_entry}
+use Rattle.board_core.proofs.OpenBatches.{state-push}
 use Rattle.session_run.specs.Running.{IsAsked, IsOpened, RunsBatch, Closes}
 use Rattle.session_run.specs.Settled.{settles}
-use Rattle.session_run.proofs.Going.{state-push, settled-push, awaited-push, gave_up-push, fed-desk, goes-then}
+use Rattle.session_run.proofs.OneMoreEntry.{settled-push, awaited-push, gave_up-push, fed-desk, goes-then}
 use Rattle.history_laws.proofs.Untouched.{stays-outcomes}
+use Rattle.history_laws.proofs.OpenedBatches.{opened-not_cancelled, open-found, none-left, committed-state, abandoned-state}
 use Rattle.session_run.proofs.Settling.{outcomes-settled}
-
--- whether a request's state is that of a cancelled one
-cancelled_in : Option RequestState → Bool
-cancelled_in None = false
-cancelled_in (Some state) = is_cancelled state
-
-was-cancelled : (s : State) (id : ℕ) → was_cancelled s id ≡ cancelled_in (request_state s id)
-unfolding cancelled_in
-was-cancelled s id = by_state (request_state s id) refl
-  where
-    by_state : (o : Option RequestState) → request_state s id ≡ o → was_cancelled s id ≡ cancelled_in o
-    by_state None is = rw is refl
-    by_state (Some state) is = rw is refl
-
--- no request of a batch that was just opened is cancelled
-opened-not_cancelled : (s : State) (batch : BatchCopy) (ride : Ride) → Among ride batch.requests
-    → was_cancelled (after_opening s batch) ride.id ≡ false
-unfolding cancelled_in
-opened-not_cancelled s batch ride there =
-    was-cancelled (after_opening s batch) ride.id ∙ ap cancelled_in (request_state-opening s batch ride.id
-    ∙ ap (λ b. cond b (option_map (λ _. InBatch batch.number) (request_state s ride.id)) (request_state s ride.id))
-    (is_of-among batch.requests ride there)) ∙ marked (request_state s ride.id)
-  where
-    marked : (o : Option RequestState) → cancelled_in (option_map (λ _. InBatch batch.number) o) ≡ false
-    marked None = refl
-    marked (Some state) = refl
 
 -- a board after an opening
 pub opens : (old new : Recorded) → IsAsked old → new.start ≡ old.start → new.feeds ≡ old.feeds → new.desks ≡ old.desks
@@ -86,27 +62,6 @@ opens old new asked start feeds desks history open_now =
       not_cancelled = all_of (λ (ride : Ride). was_cancelled (state_of new) ride.id ≡ false) batch.requests
           (λ ride there. ap (λ t. was_cancelled t ride.id) is ∙ opened-not_cancelled s batch ride there);
     }
-
--- the open batch is found
-pub open-found : (batch : BatchCopy) (s : State) → s.batches ≡ batch ∷ [] → open_batch_numbered s batch.desk batch.number ≡ Some batch
-open-found batch s one =
-    ap (find (is_batch batch.desk batch.number)) one ∙ ap (λ b. cond b (Some batch) None) (is_batch-own batch)
-
--- no other batch is left
-none-left : (batch : BatchCopy) (batches : List BatchCopy) → batches ≡ batch ∷ []
-    → filter (λ other. not (is_batch batch.desk batch.number other)) batches ≡ []
-none-left batch batches one =
-    ap (filter (λ other. not (is_batch batch.desk batch.number other))) one ∙ ap (λ b. cond (not b) (batch ∷ []) []) (is_batch-own batch)
-
--- the state after a commit of an open batch
-committed-state : (s : State) (batch : BatchCopy) (cost : ℕ) (seats : List Seat) (prices pays : List (ℕ × ℕ)) (outcomes : List (ℕ × Outcome))
-    → open_batch_numbered s batch.desk batch.number ≡ Some batch
-    → after_event s (Desk batch.desk) (Committed batch.number cost seats prices pays outcomes) ≡ after_commit batch seats s
-committed-state s batch cost seats prices pays outcomes found = rw found refl
-
-abandoned-state : (s : State) (batch : BatchCopy) → open_batch_numbered s batch.desk batch.number ≡ Some batch
-    → after_event s (Desk batch.desk) (Abandoned batch.number) ≡ after_abandon batch s
-abandoned-state s batch found = rw found refl
 
 -- the last entry of a legal history is legal
 last-legal : (feeds desks : ℕ) (start : State) (entries : List Entry) (entry : Entry) → IsLegal feeds desks start (entries ++ entry ∷ [])

@@ -25,6 +25,8 @@ use Rattle.command_lines.specs.Limits.{AreFirst, IsTooLong, IsWithinLimits, ende
 use Rattle.history_laws.specs.Start.{IsStart}
 use Rattle.history_laws.proofs.KeptHistory.{keeps_promises}
 use Rattle.board_core.specs.Recorded.{Recorded, state_of, end_entry}
+use Rattle.board_core.proofs.OpenBatches.{state-push}
+use Rattle.board_core.proofs.FedEntries.{fed_commands-append}
 use Rattle.text_page.specs.Output.{HasPut, OutputState}
 use Rattle.text_page.proofs.OutputLemmas.{written-prefix, written-whole}
 use Rattle.session_run.specs.declared.stops.Stop.{Stop}
@@ -35,7 +37,7 @@ use Rattle.session_run.specs.Replay.{IsReadWhole, IsReplay}
 use Rattle.session_run.specs.Running.{IsPrompt, IsSession, IsRunning}
 use Rattle.session_run.specs.Settled.{IsSettled}
 use Rattle.session_run.proofs.Ends.{ends-prompt}
-use Rattle.session_run.proofs.Going.{state-push, settled-push, fed-append}
+use Rattle.session_run.proofs.OneMoreEntry.{settled-push}
 
 -- where a session starts
 pub is-start : (roads : RoadMap) (settings : Settings) (fleet : List Vehicle) → IsRoadMap roads → IsSettings settings → IsFleet fleet
@@ -65,7 +67,7 @@ record EndsSo (old new : Recorded) (ending desk_ending : Ending) : Type 0 where
 fed-end : (entries : List Entry) (actor : Actor) (ending : Ending) → fed_commands 1 (entries ++ end_entry actor ending ∷ []) ≡ fed_commands 1 entries
 unfolding entries_of
 fed-end entries actor ending =
-    fed-append 1 entries (end_entry actor ending ∷ [])
+    fed_commands-append 1 entries (end_entry actor ending ∷ [])
     ∙ ap (λ cs. fed_commands 1 entries ++ cs) (none (is_actor actor (Feed 1)))
     ∙ append-nil (fed_commands 1 entries)
   where

@@ -1,6 +1,7 @@
 -- A session that was begun: all that its contract says, by what its actors left and its log says.
 use Rattle.std.proofs.Common.{◌≡◌, ℕ, Bool, true, false, ◌||◌, ◌⊎◌, inl, inr, List, [], ◌++◌, take, drop, Option, Result, Ok, Err, sym, ap, subst}
 use Rattle.std.specs.Prelude.{IfOk, is_err}
+use Rattle.std.proofs.lemmas.Bool.{or_parts, or_cases}
 use Rattle.ride_model.specs.declared.entry.Entry.{Entry}
 use Rattle.ride_model.specs.declared.command.Actor.TheVariants.{Feed}
 use Rattle.ride_model.specs.History.{entries_of}
@@ -26,7 +27,7 @@ use Rattle.session_run.specs.Replay.{IsReadWhole}
 use Rattle.session_run.specs.Serving.{FeedRun, HasServed, IsFeedOf, IsServed, IsWrittenOut}
 use Rattle.session_run.specs.Stages.{IsClosed, IsReady, LeavesActors, is_cut_short, ran_of, root_at}
 use Rattle.session_run.proofs.FeedParts.{FeedOf}
-use Rattle.session_run.proofs.Sessions.{first-or-second, neither, one_of, served, text-joined, written-out}
+use Rattle.session_run.proofs.Sessions.{first-or-second, served, text-joined, written-out}
 use Rattle.session_run.proofs.StageLemmas.{began, desks-whole, drivers-of, riders-of}
 
 -- what kept a session from running whole, by its parts
@@ -42,36 +43,36 @@ module _ (answers : Answers) (sink_failed : Bool) where
 
   pub none-wanted : session.no_memory ≡ false → NoneWanted
   none-wanted memory =
-      let (feeds, others) = neither (answers.riders.no_memory || answers.drivers.no_memory)
+      let (feeds, others) = or_parts (answers.riders.no_memory || answers.drivers.no_memory)
       (answers.desks.no_memory || is_cut_short answers.scribed) memory in
-      let (riders, drivers) = neither answers.riders.no_memory answers.drivers.no_memory feeds in
-      record { riders = riders; drivers = drivers; desks = (neither answers.desks.no_memory (is_cut_short answers.scribed) others).0 }
+      let (riders, drivers) = or_parts answers.riders.no_memory answers.drivers.no_memory feeds in
+      record { riders = riders; drivers = drivers; desks = (or_parts answers.desks.no_memory (is_cut_short answers.scribed) others).0 }
 
   -- no source failed, and one did
   pub sources-sound : session.source_failed ≡ false → (answers.riders.source_failed ≡ false) × (answers.drivers.source_failed ≡ false)
   sources-sound sound =
-      neither answers.riders.source_failed answers.drivers.source_failed
-      (neither (answers.riders.source_failed || answers.drivers.source_failed) (answers.desks.source_failed || false) sound).0
+      or_parts answers.riders.source_failed answers.drivers.source_failed
+      (or_parts (answers.riders.source_failed || answers.drivers.source_failed) (answers.desks.source_failed || false) sound).0
 
   pub source-failed : answers.desks.source_failed ≡ false → session.source_failed ≡ true
       → (answers.riders.source_failed ≡ true) ⊎ (answers.drivers.source_failed ≡ true)
   source-failed desks failed =
-      elim (one_of (answers.riders.source_failed || answers.drivers.source_failed) (answers.desks.source_failed || false) failed) [
-        | inl feed ↦ one_of answers.riders.source_failed answers.drivers.source_failed feed
+      elim (or_cases (answers.riders.source_failed || answers.drivers.source_failed) (answers.desks.source_failed || false) failed) [
+        | inl feed ↦ or_cases answers.riders.source_failed answers.drivers.source_failed feed
         | inr other ↦ absurd (cc (other, ap (λ b. b || false) desks))
       ]
 
   -- no feed was too long, and one was
   pub lengths-fit : session.too_long ≡ false → (answers.riders.too_long ≡ false) × (answers.drivers.too_long ≡ false)
   lengths-fit fits =
-      neither answers.riders.too_long answers.drivers.too_long
-      (neither (answers.riders.too_long || answers.drivers.too_long) (answers.desks.too_long || false) fits).0
+      or_parts answers.riders.too_long answers.drivers.too_long
+      (or_parts (answers.riders.too_long || answers.drivers.too_long) (answers.desks.too_long || false) fits).0
 
   pub length-passed : answers.desks.too_long ≡ false → session.too_long ≡ true
       → (answers.riders.too_long ≡ true) ⊎ (answers.drivers.too_long ≡ true)
   length-passed desks long =
-      elim (one_of (answers.riders.too_long || answers.drivers.too_long) (answers.desks.too_long || false) long) [
-        | inl feed ↦ one_of answers.riders.too_long answers.drivers.too_long feed
+      elim (or_cases (answers.riders.too_long || answers.drivers.too_long) (answers.desks.too_long || false) long) [
+        | inl feed ↦ or_cases answers.riders.too_long answers.drivers.too_long feed
         | inr other ↦ absurd (cc (other, ap (λ b. b || false) desks))
       ]
 

@@ -1,6 +1,8 @@
 -- What a session gives, by what its actors' loops and its log say.
 use Rattle.std.proofs.Common.{◌≡◌, ℕ, ◌≤◌, Bool, true, false, ◌||◌, ◌⊎◌, inl, inr, List, [], ◌++◌, length, take, drop, Option, refl, sym, ap, subst, ◌∙◌, take-append-drop, arith}
 use Rattle.std.proofs.lemmas.List.{take-append-le}
+use Rattle.std.proofs.lemmas.Bool.{or_parts, or_cases}
+use Rattle.plain_lemmas.proofs.Numbers.{one_of_two}
 use mathlib.Core.List.{IsPrefix}
 use Rattle.ride_model.specs.declared.command.Actor.TheVariants.{Feed, Desk}
 use Rattle.ride_model.specs.declared.entry.Entry.{Entry}
@@ -20,24 +22,12 @@ use Rattle.session_run.specs.Serving.{HasServed, IsWrittenOut}
 use Rattle.session_run.proofs.DeskParts.{DeskWhole, none-given_up, part-whole}
 use Rattle.session_run.proofs.LogLemmas.{text_of-append}
 
--- neither of two, and one of two
-pub neither : (a b : Bool) → (a || b) ≡ false → (a ≡ false) × (b ≡ false)
-neither true b h = absurd (cc h)
-neither false b h = (refl, h)
-
-pub one_of : (a b : Bool) → (a || b) ≡ true → (a ≡ true) ⊎ (b ≡ true)
-one_of true b h = inl refl
-one_of false b h = inr h
-
 -- one of at most two is the first or the second
 pub first-or-second : (P : ℕ → Type 0) (n : ℕ) → P 1 → P 2 → 1 ≤ n → n ≤ 2 → P n
-first-or-second P n first second low high = elim (which n low high) [
+first-or-second P n first second low high = elim (one_of_two n low high) [
   | inl is ↦ subst P (sym is) first
   | inr is ↦ subst P (sym is) second
 ]
-  where
-    which : (m : ℕ) → 1 ≤ m → m ≤ 2 → (m ≡ 1) ⊎ (m ≡ 2)
-    which m from to = grind arith
 
 -- a session's history keeps its promises, and is finished where nothing was wanting
 pub served : (start : State) (desks : ℕ) (ran : Ran) (entries : List Entry) → IsStart start → IsLegal 2 desks start entries

@@ -2,7 +2,7 @@
 use Rattle.std.proofs.Common.{◌≡◌, ℕ, ◌+◌, ◌≤◌, inl, inr, Bool, true, false, cond, List, [], ◌∷◌, Option, Some, None, eqb, ltb, leb-true, refl, sym, ap, ◌∙◌, arith}
 use Rattle.std.specs.Prelude.{map, max, not, nat_le, nat_eq, ◌||◌, ◌==◌, All, IsSome}
 use Rattle.std.specs.List.{list_all, IsDistinct}
-use Rattle.std.proofs.lemmas.Bool.{eq-eqb}
+use Rattle.std.proofs.lemmas.Bool.{eq-eqb, and_from, and_parts, le-ltb}
 use Rattle.ride_model.specs.declared.entry.Outcome.{Outcome}
 use Rattle.ride_model.specs.declared.entry.Outcome.TheVariants.{Confirmed}
 use Rattle.ride_model.specs.declared.offer.Seat.{Seat}
@@ -13,21 +13,14 @@ use Rattle.ride_model.specs.Offers.{is_idle, is_open, start_of}
 use Rattle.ride_model.specs.Seating.{BatchCopy, find_vehicle, vehicle_ids, seat_offer}
 use Rattle.ride_model.specs.State.{State}
 use Rattle.ride_model.specs.Vehicle.{ride_ids}
-use Rattle.model_laws.proofs.AboardLoads.{and-true, true-and}
-use Rattle.model_laws.proofs.Among.{Among}
+use Rattle.plain_lemmas.proofs.Among.{Among}
+use Rattle.plain_lemmas.proofs.Each.{of_all}
 use Rattle.model_laws.proofs.Certificates.{found_among, seat_facts}
 use Rattle.model_laws.proofs.Costs.{offer_plan}
+use Rattle.model_laws.proofs.Starts.{start-not_before}
 use Rattle.history_laws.proofs.Confirming.{priced_start-found}
-use Rattle.history_laws.proofs.Lookups.{of_all, found_by}
+use Rattle.history_laws.proofs.Lookups.{found_by}
 use Rattle.session_run.specs.Settled.{is_settled}
-
--- an open vehicle does not start before the time
-start-not_before : (v : Vehicle) (lead time : ℕ) → is_open v time ≡ true → time ≤ start_of v lead time
-start-not_before v lead time open_then = by_test (is_idle v) (and-true v.duty (is_idle v || nat_le time v.ready) open_then).1
-  where
-    by_test : (b : Bool) → (b || nat_le time v.ready) ≡ true → time ≤ cond b (max v.ready (time + lead)) v.ready
-    by_test true h = omega arith
-    by_test false h = leb-true time v.ready h
 
 -- a pair that stands is confirmed
 stands : (a b : Bool) (x y : Outcome) → a ≡ false → b ≡ false → is_settled (cond a x (cond b y Confirmed)) ≡ true
@@ -53,12 +46,9 @@ module _ (s : State) (batch : BatchCopy) (seats : List Seat) (vehicles_stand : b
       = priced_start-found batch seat.vehicle facts.vehicle found in
       let not_behind : ltb (priced_start batch seat.vehicle) s.clock ≡ false
       = ap (λ n. ltb n s.clock) start ∙ ap (λ n. ltb (start_of facts.vehicle batch.settings.lead batch.time) n) (sym time_is)
-      ∙ le_not_ltb batch.time (start_of facts.vehicle batch.settings.lead batch.time) later in
+      ∙ le-ltb (start_of facts.vehicle batch.settings.lead batch.time) batch.time later in
       stands (not (eqb (version_of batch.vehicles seat.vehicle) (version_of s.vehicles seat.vehicle)))
       (ltb (priced_start batch seat.vehicle) s.clock) _ _ (ap not same) not_behind
-    where
-      le_not_ltb : (a b : ℕ) → a ≤ b → ltb b a ≡ false
-      le_not_ltb a b h = grind arith
 
   -- a request that was not cancelled is confirmed or away
   outcome-settled : (id : ℕ) → was_cancelled s id ≡ false → is_settled (outcome_of batch seats s id) ≡ true
@@ -74,6 +64,6 @@ module _ (s : State) (batch : BatchCopy) (seats : List Seat) (vehicles_stand : b
       → list_all (λ (item : ℕ × Outcome). is_settled item.1) (map (λ id. (id, outcome_of batch seats s id)) (ride_ids rides)) ≡ true
   outcomes-settled [] none = refl
   outcomes-settled (ride ∷ rides) none =
-      true-and (is_settled (outcome_of batch seats s ride.id))
+      and_from (is_settled (outcome_of batch seats s ride.id))
       (list_all (λ (item : ℕ × Outcome). is_settled item.1) (map (λ id. (id, outcome_of batch seats s id)) (ride_ids rides)))
       (outcome-settled ride.id (none ride (inl refl))) (outcomes-settled rides (λ r there. none r (inr there)))

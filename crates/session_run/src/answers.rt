@@ -3,6 +3,7 @@ ghost use Rattle.std.specs.Prelude.{◌≡◌, ◌<◌, ◌≤◌, ℕ, length, 
 ghost use Rattle.std.specs.Option.{ForSome};
 ghost use Rattle.ride_model.specs.History.{fed_commands};
 ghost use Rattle.ride_model.specs.Text.{IsSpelledCommand};
+ghost use Rattle.ride_model.specs.Limits.{longest_reach, most_commands};
 ghost use Rattle.board_core.specs.Recorded.{state_of};
 ghost use Rattle.session_run.specs.Planning.{AddsSheets, is_whole, sheets_in};
 ghost use Rattle.session_run.specs.Running.{Answers, IsSession, Stops};
@@ -14,9 +15,9 @@ use ride_model::{Command, NoMemory, Reply};
 use std::thread::Threads;
 
 /// Answers a command, and runs a batch after an accepted ask, for which moves of idle vehicles are planned where a reach is given.
-pub(crate) fn answer<R: Threads + Sync>(
-    board: &mut Board<'_>,
-    tools: &mut DeskTools<'_>,
+pub(crate) fn answer<'r, 'q, R: Threads + Sync>(
+    board: &mut Board<'r>,
+    tools: &mut DeskTools<'r, 'q>,
     rt: &R,
     command: &Command,
     reach: Option<u64>,
@@ -24,9 +25,9 @@ pub(crate) fn answer<R: Threads + Sync>(
     requires session { IsSession board.old }
     requires all_opened { (state_of board.old).opened ≡ (state_of board.old).asked }
     requires roads { tools.old ≡ board.old.start.roads }
-    requires few { length (fed_commands 1 board.old.history) < 1000000000 }
+    requires few { length (fed_commands 1 board.old.history) < most_commands }
     requires spelled { IsSpelledCommand board.old.start.settings.log command.now }
-    requires reach_limit { ForSome reach (λ r. r ≤ 1000000) }
+    requires reach_limit { ForSome reach (λ r. r ≤ longest_reach) }
     ensures answered { IfOk result (λ answered. Answers (is_whole answered) command.now board.old board.new) }
     ensures sheets { IfOk result (λ answered. is_whole answered ≡ true
         → (r : ℕ) → reach ≡ Some r → AddsSheets r (sheets_in answered) board.old board.new) }
@@ -37,6 +38,7 @@ pub(crate) fn answer<R: Threads + Sync>(
     let _entries = board.entries();
     let reply = board.apply(1, command)?;
     if matches!(reply, Reply::Asked { .. }) {
+        tools.meet(board);
         return run_batch(board, tools, rt, reach);
     }
     Ok(Answered::Whole(None))

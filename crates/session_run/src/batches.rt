@@ -3,6 +3,7 @@ ghost use Rattle.std.specs.Prelude.{◌≡◌, ◌≤◌, ◌++◌, ◌∷◌, [
 ghost use Rattle.std.specs.Option.{ForSome};
 ghost use Rattle.ride_model.specs.Seating.{IsBatchOver};
 ghost use Rattle.ride_model.specs.Vehicle.{IsLawful};
+ghost use Rattle.ride_model.specs.Limits.{longest_reach};
 ghost use Rattle.batch_commit.specs.Table.{IsTableOf};
 ghost use Rattle.board_core.specs.Recorded.{committed_entry, state_of};
 ghost use Rattle.session_run.specs.Planning.{AddsSheets, CommitsPlanned, IsPlanned, is_whole, sheets_in};
@@ -48,15 +49,15 @@ impl Answered {
 
 /// Opens the next batch and commits it at once, or gives it up where memory is wanting. Where a reach is given, moves of idle
 /// vehicles are planned before the commit.
-pub(crate) fn run_batch<R: Threads + Sync>(
-    board: &mut Board<'_>,
-    tools: &mut DeskTools<'_>,
+pub(crate) fn run_batch<'r, 'q, R: Threads + Sync>(
+    board: &mut Board<'r>,
+    tools: &mut DeskTools<'r, 'q>,
     rt: &R,
     reach: Option<u64>,
 ) -> Result<Answered, NoMemory>
     requires asked { IsAsked board.old }
     requires roads { tools.old ≡ board.old.start.roads }
-    requires reach_limit { ForSome reach (λ r. r ≤ 1000000) }
+    requires reach_limit { ForSome reach (λ r. r ≤ longest_reach) }
     ensures ran { IfOk result (λ answered. RunsBatch (is_whole answered) board.old board.new) }
     ensures sheets { IfOk result (λ answered. is_whole answered ≡ true
         → (r : ℕ) → reach ≡ Some r → AddsSheets r (sheets_in answered) board.old board.new) }
@@ -72,14 +73,14 @@ pub(crate) fn run_batch<R: Threads + Sync>(
 /// Commits an open batch, or gives it up where memory is wanting.
 fn close_batch<R: Threads + Sync>(
     board: &mut Board<'_>,
-    tools: &mut DeskTools<'_>,
+    tools: &mut DeskTools<'_, '_>,
     rt: &R,
     batch: Batch,
     reach: Option<u64>,
 ) -> Answered
     requires opened { IsOpened batch board.old }
     requires roads { tools.old ≡ board.old.start.roads }
-    requires reach_limit { ForSome reach (λ r. r ≤ 1000000) }
+    requires reach_limit { ForSome reach (λ r. r ≤ longest_reach) }
     ensures closed { Closes (is_whole result) board.old board.new }
     ensures planned { is_whole result ≡ true → CommitsPlanned reach batch result board.old board.new }
     ensures tools { tools.new ≡ tools.old }
@@ -100,8 +101,8 @@ fn close_batch<R: Threads + Sync>(
 }
 
 /// Plans the moves of a solved batch, where a reach is given.
-fn plan(tools: &mut DeskTools<'_>, solved: &Solved, reach: Option<u64>) -> Answered
-    requires reach_limit { ForSome reach (λ r. r ≤ 1000000) }
+fn plan(tools: &mut DeskTools<'_, '_>, solved: &Solved, reach: Option<u64>) -> Answered
+    requires reach_limit { ForSome reach (λ r. r ≤ longest_reach) }
     requires over_map { IsBatchOver tools.old solved.now.batch }
     requires lawful { All (IsLawful tools.old) solved.now.batch.vehicles }
     ensures planned { IsPlanned tools.old reach solved.now result }

@@ -4,6 +4,7 @@ ghost use Rattle.std.specs.List.{flat_map};
 ghost use Rattle.ride_model.specs.declared.entry.Entry.{Entry};
 ghost use Rattle.ride_model.specs.Drill.{IsDrilled};
 ghost use Rattle.ride_model.specs.Text.{IsSpelledCommand};
+ghost use Rattle.ride_model.specs.Limits.{most_commands};
 ghost use Rattle.ride_ports.specs.Count.{Rose};
 ghost use Rattle.city_maker.specs.Plan.{IsPlan};
 ghost use Rattle.city_maker.specs.Steps.{Drilled, last_steps, steps_with};
@@ -14,7 +15,9 @@ mod reports;
 mod summary;
 mod walk;
 
+use crate::sharing::SessionRoads;
 use crate::tools::DeskTools;
+use adaptive_roads::SharedHierarchy;
 use board_core::Board;
 use city_maker::{City, CityPlan, make_city};
 use pricing_workers::workers_at_hand;
@@ -69,7 +72,9 @@ fn line_of<R: Threads + Sync>(rt: &R, alloc: Global, plan: &CityPlan) -> Result<
         commands,
     } = make_city(alloc, plan)?;
     let roads = Roads::new(alloc, &network)?;
-    let mut board = Board::new(alloc, &roads, settings, fleet, 2, 1)?;
+    let shared = SharedHierarchy::new(&roads);
+    let roads = SessionRoads::new(&roads, &shared);
+    let mut board = Board::new(alloc, roads.roads(), settings, fleet, 2, 1)?;
     run(
         rt,
         alloc,
@@ -82,11 +87,11 @@ fn line_of<R: Threads + Sync>(rt: &R, alloc: Global, plan: &CityPlan) -> Result<
 }
 
 // Goes through all steps of a drill.
-fn run<R: Threads + Sync>(
+fn run<'r, 'q, R: Threads + Sync>(
     rt: &R,
     alloc: Global,
-    roads: &Roads,
-    board: &mut Board<'_>,
+    roads: &SessionRoads<'r, 'q>,
+    board: &mut Board<'r>,
     commands: &[Command],
     vehicles: u32,
 ) -> Result<(), NoMemory>
@@ -95,14 +100,14 @@ fn run<R: Threads + Sync>(
     requires desks { board.old.desks ≡ 1 }
     requires roads { roads.now ≡ board.old.start.roads }
     requires vehicles { length board.old.start.vehicles ≡ vehicles }
-    requires few { length commands.now < 1000000000 }
+    requires few { length commands.now < most_commands }
     requires spelled { All (IsSpelledCommand board.old.start.settings.log) commands.now }
     ensures drilled { OnOk result (IsDrilled board.new.start (flat_map (steps_with vehicles) commands.now ++ last_steps) board.new.history) }
     ensures start { OnOk result (board.new.start ≡ board.old.start) }
 {
     // This call tells how boards start.
     let _history = board.entries();
-    let mut tools = DeskTools::new(alloc, roads, workers_at_hand(rt))?;
+    let mut tools = DeskTools::sharing(alloc, roads, workers_at_hand(rt))?;
     run_commands(board, &mut tools, rt, commands, vehicles)?;
     end_all(board);
     Ok(())

@@ -12,6 +12,7 @@ mod one_feed;
 mod replaying;
 mod sending;
 mod session;
+mod sharing;
 mod stops;
 mod tools;
 

@@ -7,6 +7,7 @@ ghost use Rattle.ride_model.specs.History.{fed_commands};
 ghost use Rattle.ride_model.specs.Settings.{IsSettings};
 ghost use Rattle.ride_model.specs.State.{start_state};
 ghost use Rattle.ride_model.specs.Vehicle.{IsLawful};
+ghost use Rattle.ride_model.specs.Limits.{longest_reach};
 ghost use Rattle.ride_ports.specs.Bytes.{Reads};
 ghost use Rattle.ride_ports.specs.Count.{Rose};
 ghost use Rattle.command_lines.specs.Feeds.{HasGiven};
@@ -17,7 +18,9 @@ ghost use Rattle.session_run.specs.Replay.{IsReadWhole, IsReplay};
 ghost use Rattle.session_run.specs.Running.{IsRunning};
 
 use crate::session::Session;
+use crate::sharing::SessionRoads;
 use crate::stops::{Stop, ending_of, is_source_failed, is_too_long};
+use adaptive_roads::SharedHierarchy;
 use command_lines::FeedReader;
 use pricing_workers::workers_at_hand;
 use ride_model::{Fleet, NoMemory, Settings};
@@ -42,7 +45,7 @@ pub(crate) fn run_one_feed<R: Threads + Sync, S: Source, K: Sink>(
     requires lawful { All (IsLawful roads.now) fleet }
     requires idle { All (λ (v : Vehicle). v.stops.items ≡ []) fleet }
     requires first_versions { All (λ (v : Vehicle). v.version ≡ 0) fleet }
-    requires reach_limit { ForSome reach (λ r. r ≤ 1000000) }
+    requires reach_limit { ForSome reach (λ r. r ≤ longest_reach) }
     ensures session { (taken : List ℕ) × (entries : List Entry) × Reads (S.left feed.old) (S.left feed.new) taken
         × IsReplay (start_state roads.now settings fleet) result (S.left feed.old) taken entries
         × IsWrittenBy reach (start_state roads.now settings fleet) result entries (K.written out.old) (K.written out.new) }
@@ -57,7 +60,9 @@ pub(crate) fn run_one_feed<R: Threads + Sync, S: Source, K: Sink>(
     // These calls tell that the map and the fleet are within their limits.
     let _nodes = roads.nodes();
     let _vehicles = fleet.vehicles();
-    let Ok((mut session, mut reader)) = begun(rt, alloc, roads, settings, fleet, reach) else {
+    let shared = SharedHierarchy::new(roads);
+    let roads = SessionRoads::new(roads, &shared);
+    let Ok((mut session, mut reader)) = begun(rt, alloc, &roads, settings, fleet, reach) else {
         return Ran {
             sink_failed: false,
             no_memory: true,
@@ -79,19 +84,19 @@ pub(crate) fn run_one_feed<R: Threads + Sync, S: Source, K: Sink>(
 }
 
 // A session at its start, and the reader of its feed.
-fn begun<'r>(
+fn begun<'r, 'q>(
     rt: &impl Threads,
     alloc: Global,
-    roads: &'r Roads,
+    roads: &SessionRoads<'r, 'q>,
     settings: Settings,
     fleet: Fleet,
     reach: Option<u64>,
-) -> Result<(Session<'r>, FeedReader), NoMemory>
+) -> Result<(Session<'r, 'q>, FeedReader), NoMemory>
     requires settings { IsSettings settings }
     requires lawful { All (IsLawful roads.now) fleet }
     requires idle { All (λ (v : Vehicle). v.stops.items ≡ []) fleet }
     requires first_versions { All (λ (v : Vehicle). v.version ≡ 0) fleet }
-    requires reach_limit { ForSome reach (λ r. r ≤ 1000000) }
+    requires reach_limit { ForSome reach (λ r. r ≤ longest_reach) }
     ensures start { IfOk result (λ made. made.0.board.start ≡ start_state roads.now settings fleet) }
     ensures history { IfOk result (λ made. made.0.board.history ≡ []) }
     ensures running { IfOk result (λ made. IsRunning made.0.board made.0.no_memory) }
@@ -108,7 +113,7 @@ fn begun<'r>(
 
 // Answers a feed to its end, or until something stops it.
 fn run_feed<R: Threads + Sync, S: Source, K: Sink>(
-    session: &mut Session<'_>,
+    session: &mut Session<'_, '_>,
     reader: &mut FeedReader,
     rt: &R,
     feed: &mut S,

@@ -5,6 +5,7 @@ ghost use Rattle.ride_model.specs.declared.vehicle.Vehicle.{Vehicle};
 ghost use Rattle.ride_model.specs.Settings.{IsSettings};
 ghost use Rattle.ride_model.specs.State.{start_state};
 ghost use Rattle.ride_model.specs.Vehicle.{IsLawful};
+ghost use Rattle.ride_model.specs.Limits.{longest_reach};
 ghost use Rattle.ride_ports.specs.Bytes.{Reads};
 ghost use Rattle.ride_ports.specs.Count.{Rose};
 ghost use Rattle.session_run.specs.Ahead.{TellsAhead};
@@ -34,7 +35,7 @@ pub fn ahead<R: Threads + Sync, S: Source, K: Sink>(
     requires lawful { All (IsLawful roads.now) fleet }
     requires idle { All (λ (v : Vehicle). v.stops.items ≡ []) fleet }
     requires first_versions { All (λ (v : Vehicle). v.version ≡ 0) fleet }
-    requires reach_limit { (1 ≤ reach) × (reach ≤ 1000000) }
+    requires reach_limit { (1 ≤ reach) × (reach ≤ longest_reach) }
 
     // What is written are the sheets of a history that answers the feed.
     ensures sheets { (taken : List ℕ) × (entries : List Entry) × Reads (S.left feed.old) (S.left feed.new) taken

@@ -10,6 +10,7 @@ ghost use Rattle.ride_model.specs.Settings.{IsSettings};
 ghost use Rattle.ride_model.specs.State.{start_state};
 ghost use Rattle.ride_model.specs.Text.{HasText, IsOneOrTwo, IsSpelledCommand, head_line, text_of};
 ghost use Rattle.ride_model.specs.Vehicle.{IsLawful};
+ghost use Rattle.ride_model.specs.Limits.{longest_reach, most_commands};
 ghost use Rattle.board_core.specs.Recorded.{Recorded, end_entry, state_of};
 ghost use Rattle.idle_moves.specs.AheadText.{last_line, sheet_lines};
 ghost use Rattle.text_page.specs.Output.{HasPut, IsFresh};
@@ -21,11 +22,11 @@ ghost use Rattle.session_run.specs.Running.{IsRunning, IsSession, Stops};
 use crate::answers::answer;
 use crate::batches::Answered;
 use crate::logging::{put_all, put_end, put_head, put_reach, put_sheet};
+use crate::sharing::SessionRoads;
 use crate::tools::DeskTools;
 use board_core::Board;
 use ride_model::{Actor, Command, Ending, Entry, Fleet, NoMemory, Settings};
 use ride_ports::Sink;
-use road_times::Roads;
 use std::alloc::Global;
 use std::marker::Model;
 use std::thread::Threads;
@@ -33,9 +34,9 @@ use text_page::Output;
 
 /// A board of one feed and one desk, what its desk works with, and what is written of it: its log, or the sheets of its batches.
 #[derive(Drop)]
-pub(crate) struct Session<'r> {
+pub(crate) struct Session<'r, 'q> {
     board: Board<'r>,
-    tools: DeskTools<'r>,
+    tools: DeskTools<'r, 'q>,
     log: Output,
     /// The version of the log.
     version: u8,
@@ -44,7 +45,7 @@ pub(crate) struct Session<'r> {
     no_memory: bool,
 }
 
-impl<'r> Model for Session<'r> {
+impl<'r, 'q> Model for Session<'r, 'q> {
     ghost use Rattle.std.specs.Prelude.{◌≡◌, ◌≤◌};
     ghost use Rattle.std.specs.Option.{ForSome};
     ghost use Rattle.session_run.specs.SessionState.{SessionState};
@@ -53,21 +54,23 @@ impl<'r> Model for Session<'r> {
 
     ghost view = { λ s. record { board = s.board; log = s.log; reach = s.reach; no_memory = s.no_memory } };
 
-    ghost invariant = { λ s. (s.tools ≡ s.board.start.roads) × (s.version ≡ s.board.start.settings.log) × ForSome s.reach (λ r. r ≤ 1000000) };
+    ghost use Rattle.ride_model.specs.Limits.{longest_reach};
+
+    ghost invariant = { λ s. (s.tools ≡ s.board.start.roads) × (s.version ≡ s.board.start.settings.log) × ForSome s.reach (λ r. r ≤ longest_reach) };
 }
 
-impl<'r> Session<'r> {
+impl<'r, 'q> Session<'r, 'q> {
     /// A session at its start, of which nothing is written.
     pub(crate) fn new(
         alloc: Global,
-        roads: &'r Roads,
+        roads: &SessionRoads<'r, 'q>,
         settings: Settings,
         fleet: Fleet,
         workers: usize,
         reach: Option<u64>,
-    ) -> Result<Session<'r>, NoMemory>
+    ) -> Result<Session<'r, 'q>, NoMemory>
         requires workers { 1 ≤ workers }
-        requires reach_limit { ForSome reach (λ r. r ≤ 1000000) }
+        requires reach_limit { ForSome reach (λ r. r ≤ longest_reach) }
         requires settings { IsSettings settings }
         requires lawful { All (IsLawful roads.now) fleet }
         requires idle { All (λ (v : Vehicle). v.stops.items ≡ []) fleet }
@@ -79,10 +82,10 @@ impl<'r> Session<'r> {
         ensures reach { IfOk result (λ session. session.reach ≡ reach) }
         ensures memory { IfOk result (λ session. session.no_memory ≡ false) }
     {
-        let tools = DeskTools::new(alloc, roads, workers)?;
+        let tools = DeskTools::sharing(alloc, roads, workers)?;
         let log = Output::new(alloc)?;
         let version = settings.log;
-        let board = Board::new(alloc, roads, settings, fleet, 1, 1)?;
+        let board = Board::new(alloc, roads.roads(), settings, fleet, 1, 1)?;
         Ok(Session {
             board,
             tools,
@@ -139,7 +142,7 @@ impl<'r> Session<'r> {
         command: &Command,
     ) -> Result<(), NoMemory>
         requires running { IsRunning self.old.board self.old.no_memory }
-        requires few { length (fed_commands 1 self.old.board.history) < 1000000000 }
+        requires few { length (fed_commands 1 self.old.board.history) < most_commands }
         requires spelled { IsSpelledCommand self.old.board.start.settings.log command.now }
         ensures running { OnOk result (IsRunning self.new.board self.new.no_memory) }
         ensures commands { OnOk result (fed_commands 1 self.new.board.history

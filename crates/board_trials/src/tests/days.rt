@@ -51,7 +51,7 @@ pub(super) enum Step {
 #[derive(Drop)]
 pub(super) struct Day<'r> {
     board: Board<'r>,
-    tools: DeskTools<'r>,
+    tools: DeskTools<'r, 'r>,
     /// The version of the log.
     log: u8,
     first: Option<Batch>,
@@ -256,7 +256,7 @@ pub(super) fn open(rt: &impl Abort, board: &mut Board<'_>, desk: u8) -> Result<O
 fn commit<R: Threads + Sync + Abort>(
     rt: &R,
     board: &mut Board<'_>,
-    tools: &mut DeskTools<'_>,
+    tools: &mut DeskTools<'_, '_>,
     kept: &mut Option<Batch>,
 )
     requires held { IfSome kept.old (λ (b : BatchCopy). open_batch_numbered (state_of board.old) b.desk b.number ≡ Some b) }
@@ -279,7 +279,7 @@ fn commit<R: Threads + Sync + Abort>(
 fn close<R: Threads + Sync>(
     rt: &R,
     board: &mut Board<'_>,
-    tools: &mut DeskTools<'_>,
+    tools: &mut DeskTools<'_, '_>,
     batch: Batch,
 ) -> bool
     requires held { open_batch_numbered (state_of board.old) batch.desk batch.number ≡ Some batch }

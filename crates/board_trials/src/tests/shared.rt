@@ -65,7 +65,7 @@ pub(super) fn commit<'r, R: Threads + Wait + Sync + Abort>(
     rt: &R,
     board: &SharedBoard<'r>,
     desk: &mut ActorPass<'r>,
-    tools: &mut DeskTools<'_>,
+    tools: &mut DeskTools<'_, '_>,
     batch: Batch,
 )
     requires desk { MayCommit board.now desk.old batch }
@@ -101,7 +101,7 @@ fn open_and_commit<'r, R: Threads + Wait + Sync + Abort>(
     board: &SharedBoard<'r>,
     first: &mut ActorPass<'r>,
     second: &mut ActorPass<'r>,
-    tools: &mut DeskTools<'_>,
+    tools: &mut DeskTools<'_, '_>,
 )
     requires first { MayOpen board.now first.old }
     requires second { MayOpen board.now second.old }
@@ -167,7 +167,7 @@ fn cancel_in_an_open_batch<'r, R: Threads + Wait + Sync + Abort>(
     board: &SharedBoard<'r>,
     feed: &mut ActorPass<'r>,
     desk: &mut ActorPass<'r>,
-    tools: &mut DeskTools<'_>,
+    tools: &mut DeskTools<'_, '_>,
 )
     requires feed { MayFeed board.now feed.old }
     requires version { (root_of (knowledge feed.old)).start.settings.log ≡ 1 }
@@ -196,7 +196,7 @@ enum Play {
 fn run<R: Threads + Wait + Sync + Abort + AllocGlobal>(
     rt: &R,
     roads: &Roads,
-    tools: &mut DeskTools<'_>,
+    tools: &mut DeskTools<'_, '_>,
     play: Play,
 ) -> Result<(), NoMemory>
     requires nodes { roads.now.nodes ≡ 4 }

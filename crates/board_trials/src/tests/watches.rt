@@ -61,7 +61,7 @@ fn confirm<'r, R: Threads + Wait + Sync + Abort>(
     board: &SharedBoard<'r>,
     feed: &mut ActorPass<'r>,
     desk: &mut ActorPass<'r>,
-    tools: &mut DeskTools<'_>,
+    tools: &mut DeskTools<'_, '_>,
 )
     requires feed { MayFeed board.now feed.old }
     requires version { (root_of (knowledge feed.old)).start.settings.log ≡ 1 }
@@ -99,7 +99,7 @@ fn expect_stale<'r, R: Wait + Abort + AllocGlobal>(
 fn run<R: Threads + Wait + Sync + Abort + AllocGlobal>(
     rt: &R,
     roads: &Roads,
-    tools: &mut DeskTools<'_>,
+    tools: &mut DeskTools<'_, '_>,
 ) -> Result<(), NoMemory>
     requires nodes { roads.now.nodes ≡ 4 }
     requires tools { tools.old ≡ roads.now }

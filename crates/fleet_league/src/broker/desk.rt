@@ -11,6 +11,7 @@ ghost use Rattle.ride_model.specs.State.{State, request_state, start_state};
 ghost use Rattle.ride_model.specs.Step.{step};
 ghost use Rattle.ride_model.specs.Text.{IsSpelled, IsSpelledCommand};
 ghost use Rattle.ride_model.specs.Vehicle.{ride_ids};
+ghost use Rattle.ride_model.specs.Limits.{most_batches, most_commands};
 ghost use Rattle.history_laws.specs.Consistent.{IsOpenBatch};
 ghost use Rattle.board_core.specs.Recorded.{state_of};
 ghost use Rattle.fleet_league.specs.League.{after_round};
@@ -19,13 +20,11 @@ ghost use Rattle.fleet_league.specs.LeagueBoards.{HasOpened, IsDesk, is_riders};
 use crate::NoMemory;
 use batch_commit::Batch;
 use board_core::{Board, Opening};
+use ride_model::limits::MOST_BATCHES;
 use ride_model::{Command, Fleet, Reply, Ride, Settings};
 use road_times::Roads;
 use std::alloc::Global;
 use std::marker::Model;
-
-/// The most rounds of a league.
-const MOST_ROUNDS: u64 = 2_000;
 
 /// The requests of a league, on a board without vehicles. A round takes the first that wait, and closes them.
 #[derive(Drop)]
@@ -69,7 +68,7 @@ impl<'r> RequestDesk<'r> {
     pub(crate) fn answer(&mut self, command: &Command) -> Result<Reply, NoMemory>
         requires fits { IsDesk self.old }
         requires riders { IsTrue (is_riders command.now) }
-        requires few { length (fed_commands 1 self.old.history) < 1000000000 }
+        requires few { length (fed_commands 1 self.old.history) < most_commands }
         requires spelled { IsSpelledCommand self.old.start.settings.log command.now }
         ensures reply { IfOk result (λ reply. reply ≡ (step (state_of self.old) command.now).reply) }
         ensures state { OnOk result (state_of self.new ≡ (step (state_of self.old) command.now).state) }
@@ -83,10 +82,10 @@ impl<'r> RequestDesk<'r> {
     /// Opens a round, which takes the first requests that wait; None where all rounds were made.
     pub(crate) fn open_round(&mut self) -> Result<Option<Batch>, NoMemory>
         requires fits { IsDesk self.old }
-        requires few { length (fed_commands 1 self.old.history) < 1000000000 }
-        ensures none_left { IfOk result (λ opened. opened ≡ None → (2000 ≤ (state_of self.old).asked) × (self.new ≡ self.old)) }
+        requires few { length (fed_commands 1 self.old.history) < most_commands }
+        ensures none_left { IfOk result (λ opened. opened ≡ None → (most_batches ≤ (state_of self.old).asked) × (self.new ≡ self.old)) }
         ensures opened { (batch : BatchCopy) → IfOk result (λ opened. opened ≡ Some batch
-            → ((state_of self.old).asked < 2000) × HasOpened (state_of self.old) batch self.new) }
+            → ((state_of self.old).asked < most_batches) × HasOpened (state_of self.old) batch self.new) }
         ensures rides { (batch : BatchCopy) → IfOk result (λ opened. opened ≡ Some batch
             → batch.requests ≡ take (state_of self.old).settings.batch (waiting_rides (state_of self.old))) }
         ensures open_now { (batch : BatchCopy) → IfOk result (λ opened. opened ≡ Some batch
@@ -96,7 +95,7 @@ impl<'r> RequestDesk<'r> {
     {
         // This call tells that the history is legal.
         let _history = self.board.entries();
-        if self.board.asked() >= MOST_ROUNDS {
+        if self.board.asked() >= MOST_BATCHES {
             return Ok(None);
         }
         self.board.apply(1, &Command::Ask)?;
@@ -111,7 +110,7 @@ impl<'r> RequestDesk<'r> {
     /// Closes the requests of an open round.
     pub(crate) fn close_round(&mut self, batch: Batch) -> Result<(), NoMemory>
         requires opened { (before : State) × HasOpened before batch self.old }
-        requires few { length (fed_commands 1 self.old.history) + 128 < 1000000000 }
+        requires few { length (fed_commands 1 self.old.history) + 128 < most_commands }
         ensures state { (before : State) → HasOpened before batch self.old → OnOk result (state_of self.new ≡ after_round before batch.requests) }
         ensures fits { OnOk result (IsDesk self.new) }
         ensures some_more { OnOk result (length (fed_commands 1 self.new.history) ≤ length (fed_commands 1 self.old.history) + 128) }
@@ -129,7 +128,7 @@ fn cancel_all(board: &mut Board<'_>, rides: &[Ride]) -> Result<(), NoMemory>
     requires none_ended { (state_of board.old).ended ≡ [] }
     requires in_batch { (number : ℕ) × All (λ (ride : Ride). request_state (state_of board.old) ride.id ≡ Some (InBatch number)) rides.now }
     requires differ { IsDistinct nat_eq (ride_ids rides.now) }
-    requires few { length (fed_commands 1 board.old.history) + length rides.now < 1000000000 }
+    requires few { length (fed_commands 1 board.old.history) + length rides.now < most_commands }
     requires spelled { All (λ (ride : Ride). IsSpelled ride.id) rides.now }
     ensures cancelled { OnOk result (state_of board.new ≡ with_request_states Cancelled rides.now (state_of board.old)) }
     ensures counted { OnOk result (length (fed_commands 1 board.new.history)

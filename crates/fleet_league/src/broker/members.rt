@@ -18,20 +18,20 @@ ghost use Rattle.fleet_league.specs.Round.{IsPriced};
 use crate::quoting::PricedQuote;
 use crate::won_tables::table_of_won;
 use crate::{Brief, Company, NoMemory};
-use adaptive_roads::AdaptiveRoads;
 use batch_commit::PriceTable;
 use board_core::Board;
+use pricing_workers::Pricer;
 use ride_model::{Command, Fleet, Reply, Ride, Settings};
 use road_times::{Roads, Scratch};
 use std::alloc::Global;
 use std::marker::Model;
 use std::thread::Threads;
 
-/// A company of a league, with what it prices its vehicles with: roads that adapt to how much is asked of them, and a scratch.
+/// A company of a league, with what it prices its vehicles with: a pricer and a scratch.
 #[derive(Drop)]
 pub(crate) struct Member<'r> {
     company: Company<'r>,
-    roads: Box<AdaptiveRoads<'r>>,
+    pricer: Box<Pricer<'r>>,
     scratch: Scratch,
 }
 
@@ -43,7 +43,7 @@ impl<'r> Model for Member<'r> {
 
     ghost view = { λ m. m.company };
 
-    ghost invariant = { λ m. (m.roads.value ≡ m.company.board.start.roads) × (m.scratch.nodes ≡ m.company.board.start.roads.nodes) };
+    ghost invariant = { λ m. (m.pricer.value ≡ m.company.board.start.roads) × (m.scratch.nodes ≡ m.company.board.start.roads.nodes) };
 }
 
 impl<'r> Member<'r> {
@@ -63,11 +63,11 @@ impl<'r> Member<'r> {
         ensures open { IfOk result (λ member. IsTrue member.is_open) }
     {
         let scratch = Scratch::new(alloc, roads)?;
-        let adapting = Box::new(alloc, AdaptiveRoads::new(roads))?;
+        let pricer = Box::new(alloc, Pricer::new(roads))?;
         let company = Company::new(alloc, roads, settings, fleet)?;
         Ok(Member {
             company,
-            roads: adapting,
+            pricer,
             scratch,
         })
     }
@@ -115,7 +115,7 @@ impl<'r> Member<'r> {
         // This call tells that the history is legal.
         let _history = self.company.board().entries();
         self.company
-            .quote_adapting(rt, &mut self.roads, &mut self.scratch, rides)
+            .quote_adapting(rt, &mut self.pricer, &mut self.scratch, rides)
     }
 
     /// Awards the company its part of a round of rides, by the table of the rides over its vehicles as they stand.

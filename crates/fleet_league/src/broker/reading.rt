@@ -2,6 +2,7 @@
 ghost use Rattle.std.specs.Prelude.{◌≡◌, ◌≤◌, ◌∷◌, ℕ, List, take, IfSome};
 ghost use Rattle.line_text.specs.Fields.{is_over_long};
 ghost use Rattle.ride_model.specs.Text.{IsOneOrTwo};
+ghost use Rattle.command_lines.specs.Limits.{most_lines};
 ghost use Rattle.fleet_league.specs.Feed.{IsSpelledLine, company_line_of, is_driver_report, is_league_command, league_line_of, line_of_fields, said_by};
 
 use crate::broker::lines::FeedLine;
@@ -13,7 +14,7 @@ use ride_model::Command;
 /// bytes is handed in as its first 200 and `over`.
 pub(crate) fn read_line(line: &[u8], over: bool, number: u64, log: u8) -> Option<FeedLine>
     requires log { IsOneOrTwo log }
-    requires number { number ≤ 1000000 }
+    requires number { number ≤ most_lines }
     ensures said { (whole : List ℕ) → line.now ≡ take 200 whole → over ≡ is_over_long whole → result ≡ said_by log number whole }
     ensures spelled { IfSome result (IsSpelledLine log) }
 {

@@ -6,6 +6,7 @@ ghost use Rattle.ride_model.specs.Settings.{IsSettings};
 ghost use Rattle.ride_model.specs.Text.{IsOneOrTwo};
 ghost use Rattle.ride_model.specs.Vehicle.{IsLawful};
 ghost use Rattle.text_page.specs.Output.{HasPut, OutputState, Puts};
+ghost use Rattle.command_lines.specs.Limits.{most_lines};
 ghost use Rattle.fleet_league.specs.Feed.{IsSpelledLine};
 ghost use Rattle.fleet_league.specs.League.{LeagueState, league_start};
 ghost use Rattle.fleet_league.specs.LeagueBoards.{league_of};
@@ -80,7 +81,7 @@ impl<'r> Scribe<'r> {
         line: &[u8],
         over: bool,
     ) -> Result<(), NoMemory>
-        requires few { self.old.lines < 1000000 }
+        requires few { self.old.lines < most_lines }
         requires fits { IsScribe self.old }
         ensures told { (start : LeagueState) (was : Option (List ℕ)) (faults_was : ℕ) (fresh : OutputState) (lines : List (List ℕ)) (whole : List ℕ)
             → HasTold start was faults_was fresh (K.written out.old) (K.faults out.old) self.old lines

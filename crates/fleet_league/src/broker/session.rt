@@ -17,6 +17,7 @@ ghost use Rattle.fleet_league.specs.Leagued.{IsLeagueText, IsLeagued};
 
 use crate::NoMemory;
 use crate::broker::scribe::Scribe;
+use command_lines::limits::{MOST_BYTES, MOST_LINES};
 use line_reader::{Limits, LineReader, NextLine, Stop, ran_of};
 use line_text::MOST_LINE;
 use ride_model::{Fleet, Settings};
@@ -24,12 +25,6 @@ use ride_ports::{Ran, Sink, Source};
 use road_times::Roads;
 use std::alloc::Global;
 use std::thread::Threads;
-
-/// The most bytes of a feed.
-const MOST_BYTES: usize = 1 << 26;
-
-/// The most lines of a feed.
-const MOST_LINES: u32 = 1_000_000;
 
 /// Runs a league of two companies, whose fleets share a map and settings: takes its feed line by line, and writes a first line, a line
 /// for each that is neither blank nor a comment, and at last `end`, or `cut` where the feed was not read whole.

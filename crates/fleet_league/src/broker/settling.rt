@@ -2,6 +2,7 @@
 ghost use Rattle.std.specs.Prelude.{◌≡◌, ◌^◌, ◌<◌, ◌≤◌, ℕ, length, sum, All, IfOk};
 ghost use Rattle.dual_check.specs.Cells.{GridCells};
 ghost use Rattle.dual_check.specs.Grid.{CertifiesPairing, pairing_cost};
+ghost use Rattle.ride_model.specs.Limits.{largest_batch};
 ghost use Rattle.fleet_league.specs.declared.quotes.Quote.{Quote};
 ghost use Rattle.fleet_league.specs.League.{IsRoundOf, round_columns, round_rows};
 ghost use Rattle.fleet_league.specs.Round.{IsPriced};
@@ -65,7 +66,7 @@ pub fn part_of(
 
 // What a certified pairing costs: what the rows are priced at less what the columns pay.
 fn cost_of(round: &Paired) -> u64
-    requires { (grid : GridCells) × (penalty : ℕ) × (grid.rows ≤ 128) × (penalty ≤ 1000000000000)
+    requires { (grid : GridCells) × (penalty : ℕ) × (grid.rows ≤ largest_batch) × (penalty ≤ 1000000000000)
         × CertifiesPairing grid penalty round.now.columns round.now.prices round.now.pays }
     ensures { (grid : GridCells) (penalty : ℕ) → CertifiesPairing grid penalty round.now.columns round.now.prices round.now.pays
         → result ≡ pairing_cost grid penalty round.now.columns }

@@ -6,6 +6,7 @@ ghost use Rattle.ride_model.specs.Settings.{IsSettings};
 ghost use Rattle.ride_model.specs.State.{start_state};
 ghost use Rattle.ride_model.specs.Text.{IsSpelled, IsSpelledCommand};
 ghost use Rattle.ride_model.specs.Vehicle.{IsLawful};
+ghost use Rattle.command_lines.specs.Limits.{most_lines};
 ghost use Rattle.fleet_league.specs.declared.broker.lines.FeedLine.TheVariants.{League as OfLeague};
 ghost use Rattle.fleet_league.specs.Feed.{IsSpelledLine, is_driver_report};
 ghost use Rattle.fleet_league.specs.League.{TakesLine, cancel_answer, clock_answer, league_answer, league_start, report_answer};
@@ -17,14 +18,12 @@ use crate::broker::lines::FeedLine;
 use crate::broker::members::Member;
 use crate::broker::playing::play;
 use crate::broker::sheets::Told;
+use ride_model::refusals::BATCHES_FULL;
 use ride_model::{Command, Fleet, Reply, Settings};
 use road_times::Roads;
 use std::alloc::Global;
 use std::marker::Model;
 use std::thread::Threads;
-
-/// The refusal of a batch where all rounds were made.
-const ASKS_FULL: u8 = 16;
 
 /// The refusal of a report to a company that is none.
 const NO_COMPANY: u8 = 18;
@@ -89,7 +88,7 @@ impl<'r> League<'r> {
         rt: &R,
         line: &FeedLine,
     ) -> Result<Told, NoMemory>
-        requires fits { (lines : ℕ) × (lines < 1000000) × IsLeague lines self.old }
+        requires fits { (lines : ℕ) × (lines < most_lines) × IsLeague lines self.old }
         requires spelled { IsSpelledLine self.old.desk.start.settings.log line.now }
         ensures told { IfOk result (TakesLine (league_of self.old) (league_of self.new) line.now) }
         ensures fits { (lines : ℕ) → IsLeague lines self.old → OnOk result (IsLeague (lines + 1) self.new) }
@@ -106,7 +105,7 @@ impl<'r> League<'r> {
 
     // Answers a command to the league that makes no round.
     fn answer(&mut self, command: &Command) -> Result<Reply, NoMemory>
-        requires fits { (lines : ℕ) × (lines < 1000000) × IsLeague lines self.old }
+        requires fits { (lines : ℕ) × (lines < most_lines) × IsLeague lines self.old }
         requires spelled { IsSpelledCommand self.old.desk.start.settings.log command.now }
         requires no_batch { command.now ≢ Ask }
         ensures answered { IfOk result (HasAnswered self.old self.new (league_answer (league_of self.old) (OfLeague command.now))) }
@@ -123,7 +122,7 @@ impl<'r> League<'r> {
 
     // Cancels a request: by the company that it is with, and else at the desk.
     fn cancel(&mut self, id: u64) -> Result<Reply, NoMemory>
-        requires fits { (lines : ℕ) × (lines < 1000000) × IsLeague lines self.old }
+        requires fits { (lines : ℕ) × (lines < most_lines) × IsLeague lines self.old }
         requires spelled { IsSpelled id }
         ensures answered { IfOk result (HasAnswered self.old self.new (cancel_answer (league_of self.old) id)) }
         ensures fits { (lines : ℕ) → IsLeague lines self.old → OnOk result (IsLeague (lines + 1) self.new) }
@@ -141,7 +140,7 @@ impl<'r> League<'r> {
 
     // Sets the clock of every company.
     fn set_clock(&mut self, time: u64) -> Result<Reply, NoMemory>
-        requires fits { (lines : ℕ) × (lines < 1000000) × IsLeague lines self.old }
+        requires fits { (lines : ℕ) × (lines < most_lines) × IsLeague lines self.old }
         requires spelled { IsSpelled time }
         ensures answered { IfOk result (HasAnswered self.old self.new (clock_answer (league_of self.old) time)) }
         ensures fits { (lines : ℕ) → IsLeague lines self.old → OnOk result (IsLeague (lines + 1) self.new) }
@@ -155,7 +154,7 @@ impl<'r> League<'r> {
 
     // Answers a report to the company of a number.
     fn report(&mut self, company: u64, command: &Command) -> Result<Reply, NoMemory>
-        requires fits { (lines : ℕ) × (lines < 1000000) × IsLeague lines self.old }
+        requires fits { (lines : ℕ) × (lines < most_lines) × IsLeague lines self.old }
         requires spelled { IsSpelledCommand self.old.desk.start.settings.log command.now }
         requires a_report { IsTrue (is_driver_report command.now) }
         ensures answered { IfOk result (HasAnswered self.old self.new (report_answer (league_of self.old) company command.now)) }
@@ -171,7 +170,7 @@ impl<'r> League<'r> {
 
     // Makes a round of the first requests that wait.
     fn make_round<R: Threads + Sync>(&mut self, rt: &R) -> Result<Told, NoMemory>
-        requires fits { (lines : ℕ) × (lines < 1000000) × IsLeague lines self.old }
+        requires fits { (lines : ℕ) × (lines < most_lines) × IsLeague lines self.old }
         ensures told { IfOk result (TakesLine (league_of self.old) (league_of self.new) (OfLeague Ask)) }
         ensures fits { (lines : ℕ) → IsLeague lines self.old → OnOk result (IsLeague (lines + 1) self.new) }
         ensures start { self.new.desk.start ≡ self.old.desk.start }
@@ -181,7 +180,7 @@ impl<'r> League<'r> {
         let _first = self.first.board().entries();
         let _second = self.second.board().entries();
         let Some(batch) = self.desk.open_round()? else {
-            return Ok(Told::Answer(Reply::Refused { code: ASKS_FULL }));
+            return Ok(Told::Answer(Reply::Refused { code: BATCHES_FULL }));
         };
         let number = batch.number();
         let sheet = play(

@@ -5,6 +5,7 @@ ghost use Rattle.ride_model.specs.declared.vehicle.Vehicle.{Vehicle};
 ghost use Rattle.ride_model.specs.Drill.{drive, next_report};
 ghost use Rattle.ride_model.specs.History.{fed_commands};
 ghost use Rattle.ride_model.specs.Text.{IsSpelledCommand};
+ghost use Rattle.ride_model.specs.Limits.{most_commands};
 ghost use Rattle.board_core.specs.Recorded.{state_of};
 ghost use Rattle.session_run.specs.Drills.{GoesBy, IsDrilling};
 
@@ -22,7 +23,7 @@ pub(super) fn drive_all(
 ) -> Result<(), NoMemory>
     requires drilling { IsDrilling board.old }
     requires vehicles { length board.old.start.vehicles ≡ vehicles }
-    requires few { length (fed_commands 2 board.old.history) + left.old < 1000000000 }
+    requires few { length (fed_commands 2 board.old.history) + left.old < most_commands }
     ensures { OnOk result (GoesBy (map drive (range_with_len 0 vehicles)) 0 left.old left.new board.old board.new) }
 {
     for place in 0..vehicles {
@@ -35,7 +36,7 @@ pub(super) fn drive_all(
 fn drive(board: &mut Board<'_>, place: usize, left: &mut u32) -> Result<(), NoMemory>
     requires drilling { IsDrilling board.old }
     requires place { place < length board.old.start.vehicles }
-    requires few { length (fed_commands 2 board.old.history) + left.old < 1000000000 }
+    requires few { length (fed_commands 2 board.old.history) + left.old < most_commands }
     ensures { OnOk result (GoesBy (drive place ∷ []) 0 left.old left.new board.old board.new) }
 {
     for _ in 0..*left {

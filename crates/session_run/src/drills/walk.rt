@@ -4,6 +4,7 @@ ghost use Rattle.std.specs.List.{flat_map};
 ghost use Rattle.ride_model.specs.Drill.{DrillStep, Follows, IsDrilled, give};
 ghost use Rattle.ride_model.specs.History.{fed_commands};
 ghost use Rattle.ride_model.specs.Text.{IsSpelledCommand};
+ghost use Rattle.ride_model.specs.Limits.{most_commands};
 ghost use Rattle.city_maker.specs.Steps.{last_steps, steps_with};
 ghost use Rattle.session_run.specs.Drills.{GoesBy, IsDrilling};
 
@@ -19,9 +20,9 @@ use std::thread::Threads;
 const MOST_REPORTS: u32 = 999_999_999;
 
 /// Gives all commands of the first feed, and lets all drivers report after each clock.
-pub(super) fn run_commands<R: Threads + Sync>(
-    board: &mut Board<'_>,
-    tools: &mut DeskTools<'_>,
+pub(super) fn run_commands<'r, 'q, R: Threads + Sync>(
+    board: &mut Board<'r>,
+    tools: &mut DeskTools<'r, 'q>,
     rt: &R,
     commands: &[Command],
     vehicles: u32,
@@ -30,7 +31,7 @@ pub(super) fn run_commands<R: Threads + Sync>(
     requires fresh { board.old.history ≡ [] }
     requires roads { tools.old ≡ board.old.start.roads }
     requires vehicles { length board.old.start.vehicles ≡ vehicles }
-    requires few { length commands.now < 1000000000 }
+    requires few { length commands.now < most_commands }
     requires spelled { All (IsSpelledCommand board.old.start.settings.log) commands.now }
     ensures drilling { OnOk result (IsDrilling board.new) }
     ensures follows { OnOk result (Follows board.new.start (flat_map (steps_with vehicles) commands.now) board.new.history) }
@@ -44,9 +45,9 @@ pub(super) fn run_commands<R: Threads + Sync>(
 }
 
 // Gives a command, after which all drivers report where it is a clock.
-fn take_steps<R: Threads + Sync>(
-    board: &mut Board<'_>,
-    tools: &mut DeskTools<'_>,
+fn take_steps<'r, 'q, R: Threads + Sync>(
+    board: &mut Board<'r>,
+    tools: &mut DeskTools<'r, 'q>,
     rt: &R,
     command: &Command,
     vehicles: u32,
@@ -55,8 +56,8 @@ fn take_steps<R: Threads + Sync>(
     requires drilling { IsDrilling board.old }
     requires roads { tools.old ≡ board.old.start.roads }
     requires vehicles { length board.old.start.vehicles ≡ vehicles }
-    requires given { length (fed_commands 1 board.old.history) < 1000000000 }
-    requires reported { length (fed_commands 2 board.old.history) + left.old < 1000000000 }
+    requires given { length (fed_commands 1 board.old.history) < most_commands }
+    requires reported { length (fed_commands 2 board.old.history) + left.old < most_commands }
     requires spelled { IsSpelledCommand board.old.start.settings.log command.now }
     ensures goes { OnOk result (GoesBy (steps_with vehicles command.now) 1 left.old left.new board.old board.new) }
     ensures tools { tools.new ≡ tools.old }
@@ -69,15 +70,15 @@ fn take_steps<R: Threads + Sync>(
 }
 
 // Gives a command, and runs a batch after an accepted ask.
-fn give<R: Threads + Sync>(
-    board: &mut Board<'_>,
-    tools: &mut DeskTools<'_>,
+fn give<'r, 'q, R: Threads + Sync>(
+    board: &mut Board<'r>,
+    tools: &mut DeskTools<'r, 'q>,
     rt: &R,
     command: &Command,
 ) -> Result<(), NoMemory>
     requires drilling { IsDrilling board.old }
     requires roads { tools.old ≡ board.old.start.roads }
-    requires given { length (fed_commands 1 board.old.history) < 1000000000 }
+    requires given { length (fed_commands 1 board.old.history) < most_commands }
     requires spelled { IsSpelledCommand board.old.start.settings.log command.now }
     ensures goes { OnOk result ((left : ℕ) → GoesBy (give command.now ∷ []) 1 left left board.old board.new) }
     ensures tools { tools.new ≡ tools.old }

@@ -12,9 +12,9 @@ use super::desk_pairs::{Desk, run_desks};
 use super::feed_pairs::run_feeds;
 use super::scribe_loop;
 use super::scribes::Scribed;
+use crate::sharing::SessionRoads;
 use fleet_board::{ActorPass, SharedBoard};
 use ride_ports::{Failed, Gate, Ran, Sink, Source};
-use road_times::Roads;
 use std::alloc::Global;
 use std::sync::Wait;
 use std::thread::{Threads, join_mut};
@@ -39,12 +39,12 @@ pub(super) struct Answers {
 }
 
 /// Runs the actors to their ends. Riders are feed 1, drivers feed 2. Where the head of the log was not written, nothing is.
-pub(super) fn run_actors<'r, R: Threads + Wait + Sync, S: Source, K: Sink, G: Gate>(
+pub(super) fn run_actors<'r, 'q, R: Threads + Wait + Sync, S: Source, K: Sink, G: Gate>(
     rt: &R,
     alloc: Global,
     board: &SharedBoard<'r>,
     actors: &mut Actors<'r>,
-    roads: &Roads,
+    roads: &SessionRoads<'r, 'q>,
     riders: &mut S,
     drivers: &mut S,
     out: &mut K,
@@ -84,7 +84,7 @@ pub(super) fn run_actors<'r, R: Threads + Wait + Sync, S: Source, K: Sink, G: Ga
 }
 
 // Runs feeds and desks, and the scribe beside them.
-fn run_all<'a, 'r, R: Threads + Wait + Sync, S: Source, K: Sink, G: Gate>(
+fn run_all<'a, 'r, 'q, R: Threads + Wait + Sync, S: Source, K: Sink, G: Gate>(
     rt: &'a R,
     alloc: Global,
     board: &'a SharedBoard<'r>,
@@ -93,7 +93,7 @@ fn run_all<'a, 'r, R: Threads + Wait + Sync, S: Source, K: Sink, G: Gate>(
     desk_1: &mut Desk<'r>,
     desk_2: &mut Option<Desk<'r>>,
     scribe: &mut ActorPass<'r>,
-    roads: &'a Roads,
+    roads: &'a SessionRoads<'r, 'q>,
     riders: &mut S,
     drivers: &mut S,
     out: &mut K,
@@ -143,7 +143,7 @@ fn run_all<'a, 'r, R: Threads + Wait + Sync, S: Source, K: Sink, G: Gate>(
 }
 
 // Runs the feeds, and the desks beside them.
-fn run_orders<'a, 'r, R: Threads + Wait + Sync, S: Source, G: Gate>(
+fn run_orders<'a, 'r, 'q, R: Threads + Wait + Sync, S: Source, G: Gate>(
     rt: &'a R,
     alloc: Global,
     board: &'a SharedBoard<'r>,
@@ -151,7 +151,7 @@ fn run_orders<'a, 'r, R: Threads + Wait + Sync, S: Source, G: Gate>(
     feed_2: &mut ActorPass<'r>,
     desk_1: &mut Desk<'r>,
     desk_2: &mut Option<Desk<'r>>,
-    roads: &'a Roads,
+    roads: &'a SessionRoads<'r, 'q>,
     riders: &mut S,
     drivers: &mut S,
     gate: &'a G,

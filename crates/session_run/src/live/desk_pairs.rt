@@ -3,11 +3,12 @@ ghost use Rattle.std.specs.Prelude.{IsNone, IsSomeAnd, IfSome, MatchOption};
 ghost use Rattle.std.specs.Thread.{IsSync};
 ghost use Rattle.session_run.specs.Actors.{LeavesDesk, MayRunDesk};
 
-use super::desk_loop;
+use super::desks::desk_loop_by;
 use super::outcomes::either;
+use crate::sharing::{DeskPricer, SessionRoads};
 use fleet_board::{ActorPass, SharedBoard};
 use ride_ports::{Gate, Ran};
-use road_times::{Roads, Scratch};
+use road_times::Scratch;
 use std::alloc::Global;
 use std::sync::Wait;
 use std::thread::{Threads, join_mut};
@@ -20,36 +21,37 @@ pub(super) struct Desk<'r> {
 }
 
 // Runs a desk.
-fn run_desk<'r, R: Threads + Wait + Sync, G: Gate>(
+fn run_desk<'r, 'q, R: Threads + Wait + Sync, G: Gate>(
     rt: &R,
     alloc: Global,
     board: &SharedBoard<'r>,
     desk: &mut Desk<'r>,
-    roads: &Roads,
+    roads: &SessionRoads<'r, 'q>,
     gate: &G,
 ) -> Ran
     requires { MayRunDesk board.now roads.now desk.old.pass desk.old.scratches.items }
     ensures { LeavesDesk board.now result desk.old.pass desk.new.pass }
 {
-    desk_loop(
+    let mut pricer = DeskPricer::sharing(roads);
+    desk_loop_by(
         rt,
         alloc,
         board,
         &mut desk.pass,
-        roads,
+        &mut pricer,
         desk.scratches.as_mut_slice(),
         gate,
     )
 }
 
 // Runs two desks.
-fn run_both_desks<'a, 'r, R: Threads + Wait + Sync, G: Gate>(
+fn run_both_desks<'a, 'r, 'q, R: Threads + Wait + Sync, G: Gate>(
     rt: &'a R,
     alloc: Global,
     board: &'a SharedBoard<'r>,
     one: &mut Desk<'r>,
     two: &mut Desk<'r>,
-    roads: &'a Roads,
+    roads: &'a SessionRoads<'r, 'q>,
     gate: &'a G,
 ) -> (Ran, Ran)
     requires one { MayRunDesk board.now roads.now one.old.pass one.old.scratches.items }
@@ -71,13 +73,13 @@ fn run_both_desks<'a, 'r, R: Threads + Wait + Sync, G: Gate>(
 }
 
 /// Runs one desk, or two.
-pub(super) fn run_desks<'r, R: Threads + Wait + Sync, G: Gate>(
+pub(super) fn run_desks<'r, 'q, R: Threads + Wait + Sync, G: Gate>(
     rt: &R,
     alloc: Global,
     board: &SharedBoard<'r>,
     first: &mut Desk<'r>,
     second: &mut Option<Desk<'r>>,
-    roads: &Roads,
+    roads: &SessionRoads<'r, 'q>,
     gate: &G,
 ) -> Ran
     requires first { MayRunDesk board.now roads.now first.old.pass first.old.scratches.items }

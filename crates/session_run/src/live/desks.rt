@@ -5,14 +5,14 @@ ghost use Rattle.ride_model.specs.declared.entry.Event.TheVariants.{Finish};
 ghost use Rattle.ride_model.specs.Legal.{IsLegalEvent};
 ghost use Rattle.turn_lock.specs.Passes.{knowledge};
 ghost use Rattle.fleet_board.specs.Openings.{IsPriceable};
-ghost use Rattle.fleet_board.specs.Passes.{IsPoint, actor_of, root_of, seen_state};
+ghost use Rattle.fleet_board.specs.Passes.{AddsNone, IsPoint, actor_of, root_of, seen_state};
 ghost use Rattle.fleet_board.specs.Roles.{MayCommit, MayOpen};
 ghost use Rattle.fleet_board.specs.Sharing.{MayUse};
 ghost use Rattle.session_run.specs.Loops.{RunsDesk};
 ghost use Rattle.session_run.specs.Making.{ClosesBatch, HasRunBatches};
 
+use crate::sharing::DeskPricer;
 use crate::tools::solved;
-use adaptive_roads::AdaptiveRoads;
 use batch_commit::Batch;
 use board_core::Opening;
 use fleet_board::{ActorPass, SharedBoard};
@@ -31,7 +31,7 @@ pub fn desk_loop<'r, R: Threads + Wait + Sync, G: Gate>(
     alloc: Global,
     board: &SharedBoard<'r>,
     pass: &mut ActorPass<'r>,
-    roads: &Roads,
+    roads: &'r Roads,
     scratches: &mut [Scratch],
     gate: &G,
 ) -> Ran
@@ -47,8 +47,33 @@ pub fn desk_loop<'r, R: Threads + Wait + Sync, G: Gate>(
     ensures length { result.too_long ≡ false }
     ensures scratches { scratches.new ≡ scratches.old }
 {
-    let mut roads = AdaptiveRoads::new(roads);
-    let run = run_batches(rt, alloc, board, pass, &mut roads, scratches, gate);
+    let mut pricer = DeskPricer::new(roads);
+    desk_loop_by(rt, alloc, board, pass, &mut pricer, scratches, gate)
+}
+
+/// The same by a pricer, which may share its hierarchy with the others of a session.
+pub(super) fn desk_loop_by<'r, 'q, R: Threads + Wait + Sync, G: Gate>(
+    rt: &R,
+    alloc: Global,
+    board: &SharedBoard<'r>,
+    pass: &mut ActorPass<'r>,
+    pricer: &mut DeskPricer<'r, 'q>,
+    scratches: &mut [Scratch],
+    gate: &G,
+) -> Ran
+    requires desk { MayOpen board.now pass.old }
+    requires roads { (root_of (knowledge pass.old)).start.roads ≡ pricer.old }
+    requires some_scratch { 1 ≤ length scratches.old }
+    requires scratches { All (λ scratch. scratch.nodes ≡ pricer.old.nodes) scratches.old }
+    ensures pass { MayUse board.now pass.new }
+    ensures point { IsPoint (knowledge pass.new) }
+    ensures ran { RunsDesk result (knowledge pass.old) (knowledge pass.new) }
+    ensures sink { result.sink_failed ≡ false }
+    ensures source { result.source_failed ≡ false }
+    ensures length { result.too_long ≡ false }
+    ensures scratches { scratches.new ≡ scratches.old }
+{
+    let run = run_batches(rt, alloc, board, pass, pricer, scratches, gate);
     board.end(rt, pass, run.ending);
     Ran {
         sink_failed: false,
@@ -66,19 +91,19 @@ struct DeskRun {
 }
 
 // Opens and closes batches until no batch is to come, or until none can be opened for want of memory.
-fn run_batches<'r, R: Threads + Wait + Sync, G: Gate>(
+fn run_batches<'r, 'q, R: Threads + Wait + Sync, G: Gate>(
     rt: &R,
     alloc: Global,
     board: &SharedBoard<'r>,
     pass: &mut ActorPass<'r>,
-    roads: &mut AdaptiveRoads<'_>,
+    pricer: &mut DeskPricer<'r, 'q>,
     scratches: &mut [Scratch],
     gate: &G,
 ) -> DeskRun
     requires desk { MayOpen board.now pass.old }
-    requires roads { (root_of (knowledge pass.old)).start.roads ≡ roads.old }
+    requires roads { (root_of (knowledge pass.old)).start.roads ≡ pricer.old }
     requires some_scratch { 1 ≤ length scratches.old }
-    requires scratches { All (λ scratch. scratch.nodes ≡ roads.old.nodes) scratches.old }
+    requires scratches { All (λ scratch. scratch.nodes ≡ pricer.old.nodes) scratches.old }
     ensures desk { MayOpen board.now pass.new }
     ensures may_end { IsLegalEvent (root_of (knowledge pass.new)).feeds (root_of (knowledge pass.new)).desks
         (seen_state (knowledge pass.new)) (actor_of (knowledge pass.new).number) (Finish result.ending) }
@@ -88,9 +113,10 @@ fn run_batches<'r, R: Threads + Wait + Sync, G: Gate>(
 {
     let mut no_memory = false;
     'batches: for _ in rt.forever() {
+        meet(rt, alloc, board, pass, pricer);
         match board.open_batch(rt, pass) {
             Ok(Opening::Batch(batch)) => {
-                no_memory |= !close_batch(rt, alloc, board, pass, batch, roads, scratches, gate);
+                no_memory |= !close_batch(rt, alloc, board, pass, batch, pricer, scratches, gate);
             }
             Ok(Opening::Idle) => board.wait_for_news(rt, pass),
             Ok(Opening::Ended) => {
@@ -110,29 +136,48 @@ fn run_batches<'r, R: Threads + Wait + Sync, G: Gate>(
     unreachable!()
 }
 
+// Meets those with whom the desk shares a hierarchy, between batches. Once it is there the board goes on by it.
+fn meet<'r, 'q, R: Wait>(
+    rt: &R,
+    alloc: Global,
+    board: &SharedBoard<'r>,
+    pass: &mut ActorPass<'r>,
+    pricer: &mut DeskPricer<'r, 'q>,
+)
+    requires desk { MayOpen board.now pass.old }
+    requires roads { (root_of (knowledge pass.old)).start.roads ≡ pricer.old }
+    ensures desk { MayOpen board.now pass.new }
+    ensures none { AddsNone (knowledge pass.old) (knowledge pass.new) }
+    ensures pricer { pricer.new ≡ pricer.old }
+{
+    if let Some(hierarchy) = pricer.meet(alloc) {
+        board.climb_by(rt, pass, alloc, hierarchy);
+    }
+}
+
 // Prices and seats an open batch and commits it, or gives it up where memory is wanting; answers whether it was committed.
-fn close_batch<'r, R: Threads + Wait + Sync, G: Gate>(
+fn close_batch<'r, 'q, R: Threads + Wait + Sync, G: Gate>(
     rt: &R,
     alloc: Global,
     board: &SharedBoard<'r>,
     pass: &mut ActorPass<'r>,
     batch: Batch,
-    roads: &mut AdaptiveRoads<'_>,
+    pricer: &mut DeskPricer<'r, 'q>,
     scratches: &mut [Scratch],
     gate: &G,
 ) -> bool
     requires open_now { MayCommit board.now pass.old batch }
-    requires priceable { IsPriceable roads.old batch }
-    requires roads { (root_of (knowledge pass.old)).start.roads ≡ roads.old }
+    requires priceable { IsPriceable pricer.old batch }
+    requires roads { (root_of (knowledge pass.old)).start.roads ≡ pricer.old }
     requires some_scratch { 1 ≤ length scratches.old }
-    requires scratches { All (λ scratch. scratch.nodes ≡ roads.old.nodes) scratches.old }
+    requires scratches { All (λ scratch. scratch.nodes ≡ pricer.old.nodes) scratches.old }
     ensures desk { MayOpen board.now pass.new }
     ensures closed { ClosesBatch result batch (knowledge pass.old) (knowledge pass.new) }
-    ensures roads { roads.new ≡ roads.old }
+    ensures pricer { pricer.new ≡ pricer.old }
     ensures scratches { scratches.new ≡ scratches.old }
 {
     gate.pass(1);
-    match solved(rt, alloc, batch, roads, scratches, gate) {
+    match solved(rt, alloc, batch, pricer, scratches, gate) {
         Ok(solved) => {
             gate.pass(2);
             board.commit(rt, pass, solved);

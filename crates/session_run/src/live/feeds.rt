@@ -1,6 +1,7 @@
 //! The loop of a feed.
 ghost use Rattle.std.specs.Prelude.{◌≡◌, ◌<◌, ◌≤◌, [], length, false, IsTrue, OnErr, OnOk};
 ghost use Rattle.ride_model.specs.Text.{IsSpelledCommand};
+ghost use Rattle.ride_model.specs.Limits.{most_commands};
 ghost use Rattle.ride_ports.specs.Count.{Rose};
 ghost use Rattle.command_lines.specs.Feeds.{HasGiven};
 ghost use Rattle.turn_lock.specs.Passes.{knowledge};
@@ -118,7 +119,7 @@ fn submit<'r, R: Wait, G: Gate>(
     gate: &G,
 ) -> Result<(), NoMemory>
     requires feed { MayFeed board.now pass.old }
-    requires few { length (commands_in (knowledge pass.old).own) < 1000000000 }
+    requires few { length (commands_in (knowledge pass.old).own) < most_commands }
     requires spelled { IsSpelledCommand (root_of (knowledge pass.old)).start.settings.log command.now }
     ensures feed { MayFeed board.now pass.new }
     ensures answered { OnOk result (AddsAnswer command.now (knowledge pass.old) (knowledge pass.new)) }

@@ -19,6 +19,8 @@ use super::outcomes::ran_of;
 use super::scribes::Scribed;
 use super::stages::{Stage, begun, closed};
 use crate::logging::{put_all, put_head};
+use crate::sharing::SessionRoads;
+use adaptive_roads::SharedHierarchy;
 use ride_model::{Entry, Fleet, Settings};
 use ride_ports::{Failed, Gate, Ran, Sink, Source};
 use road_times::Roads;
@@ -74,9 +76,11 @@ pub fn serve<R: Threads + Wait + Sync, S: Source, K: Sink, G: Gate>(
     ensures sink_never_falls { K.faults out.old ≤ K.faults out.new }
 {
     let log = settings.log;
+    let shared = SharedHierarchy::new(roads);
+    let sharing = SessionRoads::new(roads, &shared);
     match begun(alloc, roads, settings, fleet, workers as usize, desks) {
         Ok(stage) => run(
-            rt, alloc, stage, roads, riders, drivers, out, gate, log, desks,
+            rt, alloc, stage, &sharing, riders, drivers, out, gate, log, desks,
         ),
         Err(_) => Ran {
             sink_failed: false,
@@ -88,11 +92,11 @@ pub fn serve<R: Threads + Wait + Sync, S: Source, K: Sink, G: Gate>(
 }
 
 // Runs a session of so many desks to its end, and writes the whole of its log.
-fn run<'r, R: Threads + Wait + Sync, S: Source, K: Sink, G: Gate>(
+fn run<'r, 'q, R: Threads + Wait + Sync, S: Source, K: Sink, G: Gate>(
     rt: &R,
     alloc: Global,
     stage: Stage<'r>,
-    roads: &Roads,
+    roads: &SessionRoads<'r, 'q>,
     riders: &mut S,
     drivers: &mut S,
     out: &mut K,

@@ -1,5 +1,6 @@
 use Rattle.std.proofs.Common.{◌≡◌, ◌++◌, ◌∷◌, [], ℕ, List, Option, Some, None, refl, sym, subst, ◌∙◌, append-nil}
 use Rattle.std.specs.Prelude.{IfSome}
+use Rattle.plain_lemmas.proofs.Options.{none_from_not_some}
 use Rattle.ride_model.specs.declared.command.Command.{Command}
 use Rattle.ride_model.specs.Text.{IsSpelledCommand}
 use Rattle.text_page.specs.Output.{HasPut}
@@ -9,10 +10,6 @@ use Rattle.booking_desk.specs.FeedDesk.{AreSpelled, IsSpelledBooking}
 use Rattle.booking_desk.proofs.BookedLines.{due-step}
 use Rattle.booking_desk.proofs.Due.{booking-of, found-holds_so, none-of, release-done, release-step}
 use Rattle.booking_desk.proofs.feed_desk.release_due.Goals as goal
-
-none-from-not_some : {X : Type 0} (o : Option X) → ((x : X) → o ≡ Some x → ⊥) → o ≡ None
-none-from-not_some None h = refl
-none-from-not_some (Some x) h = absurd (h x refl)
 
 pub loop-request-init : goal.loop-request-init
 loop-request-init g c = record {
@@ -62,10 +59,10 @@ loop-request-preserved g c =
 
 pub returns-clause-desk : goal.returns-clause-desk
 returns-clause-desk g c calls due is late =
-    let none = none-of (due_of c.loop-request.desk) (sym c.due.ensures ∙ none-from-not_some c.due.result c.in_default.not-Some) in
+    let none = none-of (due_of c.loop-request.desk) (sym c.due.ensures ∙ none_from_not_some c.due.result c.in_default.not-Some) in
     (release-done calls due c.loop-request.desk _ (c.loop-request.invariant.released calls due is late) none).0
 
 pub returns-clause-put : goal.returns-clause-put
 returns-clause-put g c calls due before faults text is late has =
-    let none = none-of (due_of c.loop-request.desk) (sym c.due.ensures ∙ none-from-not_some c.due.result c.in_default.not-Some) in
+    let none = none-of (due_of c.loop-request.desk) (sym c.due.ensures ∙ none_from_not_some c.due.result c.in_default.not-Some) in
     (release-done calls due c.loop-request.desk _ (c.loop-request.invariant.released calls due is late) none).1 before faults text has

@@ -1,11 +1,12 @@
 use Rattle.std.proofs.Common.{◌≡◌, ℕ, sym, ap, ◌∙◌}
 use Rattle.std.specs.Prelude.{Option}
+use Rattle.plain_lemmas.proofs.Options.{none_from_not_some}
 use Rattle.ride_model.specs.declared.offer.Seat.{Seat}
 use Rattle.ride_model.specs.Seating.{vehicle_ids}
 use Rattle.ride_model.specs.Vehicle.{ride_ids}
 use Rattle.dual_check.specs.Grid.{column_of}
 use Rattle.hungarian.specs.Seats.{seat_at}
-use Rattle.hungarian.proofs.Gathering.{gathered-some, gathered-none, none-from-not_some}
+use Rattle.hungarian.proofs.Gathering.{gathered-some, gathered-none}
 use Rattle.fleet_league.specs.Awards.{won_rides, won_columns}
 use Rattle.fleet_league.proofs.CertifiedWins.{row-id, row-column}
 use Rattle.fleet_league.proofs.seating.seats_of.Goals as goal
@@ -26,5 +27,5 @@ loop-row-preserved c =
       | in-Some+in_ok-push w ↦ ap (λ v. v.items) w.seats-is ∙ w.in_ok-push.ensures.items
           ∙ gathered-some f seats row w.in-Some.seat c.loop-row.invariant (sym here ∙ w.in-Some.is)
       | in_default w ↦ ap (λ v. v.items) w.seats-is
-          ∙ gathered-none f seats row c.loop-row.invariant (sym here ∙ none-from-not_some c.seat_of.result w.in_default.not-Some)
+          ∙ gathered-none f seats row c.loop-row.invariant (sym here ∙ none_from_not_some c.seat_of.result w.in_default.not-Some)
     ]

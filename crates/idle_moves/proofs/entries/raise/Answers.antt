@@ -1,18 +1,15 @@
 use Rattle.std.proofs.Common.{◌≡◌, Option, Some, None, eqb, is_some, false, refl, sym, ap, ◌∙◌, arith}
 use Rattle.std.specs.Map.{keys_of, lookup}
 use Rattle.std.proofs.lemmas.List.Quantifiers.{position-Some}
+use Rattle.plain_lemmas.proofs.Options.{none_from_is_some}
 use Rattle.idle_moves.proofs.Keeping.{raised-absent, raised-at, room-at}
 use Rattle.idle_moves.proofs.entries.raise.Goals as goal
-
-none-from-is_some : {X : Type 0} (o : Option X) → is_some o ≡ false → o ≡ None
-none-from-is_some None h = refl
-none-from-is_some (Some x) h = absurd (cc h)
 
 pub returns-in_default : goal.returns-in_default
 returns-in_default c =
     let entries = c.args.versions.now.entries in
     raised-absent c.args.vehicle entries
-    (none-from-is_some (lookup (eqb c.args.vehicle) entries) (sym c.get_index_of.ensures.found ∙ ap is_some c.in_default.is))
+    (none_from_is_some (lookup (eqb c.args.vehicle) entries) (sym c.get_index_of.ensures.found ∙ ap is_some c.in_default.is))
 
 pub overflow_add-index_mut : goal.overflow_add-index_mut
 overflow_add-index_mut c =

@@ -1,7 +1,8 @@
 use Rattle.std.proofs.Common.{◌≡◌, ℕ, sym, ap, ◌∙◌}
 use Rattle.std.specs.Prelude.{Option}
+use Rattle.plain_lemmas.proofs.Options.{none_from_not_some}
 use Rattle.dual_check.specs.Grid.{column_of}
-use Rattle.hungarian.proofs.Gathering.{gathered-some, gathered-none, none-from-not_some}
+use Rattle.hungarian.proofs.Gathering.{gathered-some, gathered-none}
 use Rattle.idle_moves.specs.declared.moves.Move.{Move}
 use Rattle.idle_moves.specs.Sheet.{order_at}
 use Rattle.idle_moves.proofs.lists.orders_by.Goals as goal
@@ -18,5 +19,5 @@ loop-row-preserved c fleet are =
           ∙ gathered-some f moves row w.in-Some.order (c.loop-row.invariant fleet are) (sym here ∙ w.in-Some.is)
       | in_default w ↦ ap (λ v. v.items) w.moves-is
           ∙ gathered-none f moves row (c.loop-row.invariant fleet are)
-          (sym here ∙ none-from-not_some c.order_at.result w.in_default.not-Some)
+          (sym here ∙ none_from_not_some c.order_at.result w.in_default.not-Some)
     ]

@@ -1,9 +1,10 @@
 use Rattle.std.proofs.Common.{◌≡◌, ℕ, sym, ap, ◌∙◌}
 use Rattle.std.specs.Prelude.{Option}
+use Rattle.plain_lemmas.proofs.Options.{none_from_not_some}
 use Rattle.ride_model.specs.Seating.{vehicle_ids}
 use Rattle.dual_check.specs.Grid.{price_at}
 use Rattle.hungarian.specs.Seats.{pay_at}
-use Rattle.hungarian.proofs.Gathering.{gathered-some, gathered-none, none-from-not_some}
+use Rattle.hungarian.proofs.Gathering.{gathered-some, gathered-none}
 use Rattle.idle_moves.proofs.Orders.{id-read}
 use Rattle.idle_moves.proofs.lists.pays_by.Goals as goal
 use Rattle.idle_moves.proofs.lists.pays_by.Goals.{in-Some+in_ok-push, in_default}
@@ -22,5 +23,5 @@ loop-column-preserved c fleet are =
           ∙ gathered-some f pays column w.in-Some.pay (c.loop-column.invariant fleet are) (sym here ∙ w.in-Some.is)
       | in_default w ↦ ap (λ v. v.items) w.pays-is
           ∙ gathered-none f pays column (c.loop-column.invariant fleet are)
-          (sym here ∙ none-from-not_some c.pay_at.result w.in_default.not-Some)
+          (sym here ∙ none_from_not_some c.pay_at.result w.in_default.not-Some)
     ]

@@ -1,9 +1,11 @@
-use Rattle.std.proofs.Common.{◌≡◌, ℕ, List, Option, None, Some, refl, ◌∙◌, ap, subst}
-use Rattle.std.specs.Prelude.{IfSome, MatchOption}
+use Rattle.std.proofs.Common.{◌≡◌, ◌≢◌, ℕ, List, Option, None, Some, Ok, refl, ◌∙◌, ap, subst}
+use Rattle.std.specs.Prelude.{Err, IfSome, MatchOption, Result}
 use Rattle.std.proofs.lemmas.Result.{err_from_is_err_and}
 use Rattle.ride_model.specs.State.{State, start_state}
 use Rattle.history_laws.specs.Start.{IsStart}
 use Rattle.trip_log.specs.declared.reading.Head.{Head}
+use Rattle.log_audit.specs.declared.verdict.AuditFault.{AuditFault}
+use Rattle.log_audit.specs.declared.verdict.AuditFault.TheVariants.{ReadFault}
 use Rattle.log_audit.specs.Audit.{IsAnswer}
 use Rattle.log_audit.specs.Audited.{FailsAfter, HasReadNoHead}
 use Rattle.log_audit.specs.LogLines.{HasRead}
@@ -149,9 +151,13 @@ returns-clause-before_fault g c = λ fault.
     moved-fault before c.in_ok-auditor.auditor.board.start (start_state c.args.roads.now c.args.settings c.args.fleet) c.in_ok-auditor.ensures.start
     (c.further_lines.ensures.before_fault before read fault)
 
+-- what was read is no fault
+not_a_fault : {T : Type 0} (read : T) → ◌≢◌ {A = Result T AuditFault} (Ok read) (Err ReadFault)
+not_a_fault read is = cc is
+
 pub returns-clause-other_counts_none : goal.returns-clause-other_counts_none
 returns-clause-other_counts_none g c = λ no_fault.
-    c.further_lines.ensures.other_counts_none no_fault ∙ c.in_ok-head.ensures.other_counts_none (λ is. (cc is))
+    c.further_lines.ensures.other_counts_none no_fault ∙ c.in_ok-head.ensures.other_counts_none (not_a_fault c.in_ok-head.field-0)
 
 pub returns-clause-taken : goal.returns-clause-taken
 returns-clause-taken g c = takes-then c.in_ok-head.ensures.taken c.further_lines.ensures.taken

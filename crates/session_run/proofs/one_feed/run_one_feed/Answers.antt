@@ -47,7 +47,9 @@ returns-clause-session g c =
     let old : Recorded = c.run_feed-stop.new.session.board in
     let no_memory : Bool = c.run_feed-stop.new.session.no_memory in
     let new : Recorded = c.end.new.self.board in
-    let before : c.begin.new.self.board.start ≡ start = ap (λ (s : SessionState). s.board.start) c.begin.ensures.others ∙ c.in-Ok.ensures.start in
+    let before : c.begin.new.self.board.start ≡ start =
+    ap (λ (s : SessionState). s.board.start) c.begin.ensures.others ∙ c.in-Ok.ensures.start
+    ∙ ap (λ roads. start_state roads c.args.settings c.args.fleet) c.new-roads.ensures in
     let old_start : old.start ≡ start = c.run_feed-stop.ensures.start ∙ before in
     let log : c.begin.new.self.board.start.settings.log ≡ old.start.settings.log =
     ap (λ (s : State). s.settings.log) (sym c.run_feed-stop.ensures.start) in

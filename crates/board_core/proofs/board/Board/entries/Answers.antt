@@ -1,7 +1,7 @@
 use Rattle.std.proofs.Common.{subst}
+use Rattle.history_laws.proofs.HistoryTexts.{has_text}
 use Rattle.ride_model.specs.Text.{HasText}
 use Rattle.board_core.specs.Recorded.{Recorded}
-use Rattle.board_core.proofs.Laws.{has_text}
 use Rattle.board_core.proofs.board.Board.entries.Goals as goal
 
 pub returns-clause-text : goal.returns-clause-text

@@ -1,5 +1,6 @@
 use Rattle.std.proofs.Common.{◌≡◌, ◌<◌, length, get_or, refl, sym, ◌∙◌, ap, arith}
 use Rattle.std.specs.Prelude.{Some, None, slice_set}
+use Rattle.plain_lemmas.proofs.Lists.{any-default}
 use Rattle.ride_model.specs.declared.vehicle.Vehicle.{Vehicle}
 use Rattle.ride_model.specs.declared.entry.Outcome.TheVariants.{Confirmed}
 use Rattle.ride_model.specs.Batch.{seat_of, after_outcome, confirm}
@@ -10,7 +11,7 @@ use Rattle.dual_check.proofs.DifferentIds.{element}
 use Rattle.board_core.specs.Given.{Given}
 use Rattle.board_core.specs.Service.{state_at, placed_in}
 use Rattle.board_core.specs.Settling.{IsToConfirm}
-use Rattle.board_core.proofs.Placed.{placed-at, same-element}
+use Rattle.board_core.proofs.Placed.{placed-at}
 use Rattle.board_core.proofs.Settled.{Seated, seated, Stands, stands, some-vehicle, some-offer, as-many, Confirms, confirms, settled-confirmed}
 use Rattle.board_core.proofs.service.Service.confirm.Goals as goal
 use Rattle.board_core.proofs.service.Service.confirm.Goals.{In-Some, In-Some-place_of, In-Some-cell, After-index_mut}
@@ -92,7 +93,7 @@ no-cell c setup moment h s none =
     let place = c.in-Some-place_of.place in
     let first = element vehicles place (within c) in
     let w : Vehicle = get_or vehicles place first in
-    let st = standing c setup moment h s w (same-element vehicles place first w (within c)) in
+    let st = standing c setup moment h s w (any-default vehicles place first w (within c)) in
     some-offer c.args.solved.now c.args.r c.in-Some.seat s (ap (λ p. cell_at c.args.solved.now.table c.args.r p) (sym st.place_is) ∙ none)
 
 pub returns-in_default-cell-clause-settled : goal.returns-in_default-cell-clause-settled

@@ -6,7 +6,7 @@ use Rattle.ride_model.specs.declared.reply.Reply.TheVariants.{Waiting}
 use Rattle.board_core.specs.Service.{state_at}
 use Rattle.board_core.specs.Wishes.{ride_of, joins_nodes, has_odd_load, has_odd_limits}
 use Rattle.board_core.proofs.Steps.{by_tests, wish-by_tests}
-use Rattle.board_core.proofs.Wished.{may-be_accepted}
+use Rattle.board_core.proofs.WishSteps.{may-be_accepted}
 use Rattle.board_core.proofs.service.Service.refusal.Goals as goal
 
 pub returns-then-is_known-clause-answered : goal.returns-then-is_known-clause-answered

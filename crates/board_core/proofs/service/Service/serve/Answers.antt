@@ -36,14 +36,14 @@ returns-then-vehicle-stop c = λ rest.
     c.in-Some-first_stop.stop more (stands (goal.at-returns-then-vehicle-stop c).After-index-vehicle) is
     (ne_eqb c.index-vehicle.result.now.at c.in-Some-first_stop.stop.node c.if-vehicle-stop.true)
 
-pub returns-then-vehicle-dwell-gt-LAST_READY : goal.returns-then-vehicle-dwell-gt-LAST_READY
-returns-then-vehicle-dwell-gt-LAST_READY c = λ rest.
+pub returns-then-vehicle-dwell-gt-LATEST_READY : goal.returns-then-vehicle-dwell-gt-LATEST_READY
+returns-then-vehicle-dwell-gt-LATEST_READY c = λ rest.
     let (more, is) = c.in-Some-first_stop.ensures in
     done-after_all (state_at c.args.setup.now c.args.self.now rest) c.args.id (c.in-Some.place, c.index-vehicle.result.now)
-    c.in-Some-first_stop.stop more (stands (goal.at-returns-then-vehicle-dwell-gt-LAST_READY c).After-index-vehicle) is
+    c.in-Some-first_stop.stop more (stands (goal.at-returns-then-vehicle-dwell-gt-LATEST_READY c).After-index-vehicle) is
     (eq-eqb c.index-vehicle.result.now.at c.in-Some-first_stop.stop.node c.if-vehicle-stop.false)
     (subst (λ (settings : Settings). 1000003600 < c.index-vehicle.result.now.ready + settings.dwell) c.settings-dwell.ensures
-    c.if-vehicle-dwell-gt-LAST_READY.true)
+    c.if-vehicle-dwell-gt-LATEST_READY.true)
 
 pub returns : goal.returns
 returns c = λ rest.
@@ -66,7 +66,7 @@ returns c = λ rest.
     (stands (goal.at-returns c).After-index-vehicle) is
     (eq-eqb c.index-vehicle.result.now.at stop.node c.if-vehicle-stop.false)
     (subst (λ (settings : Settings). c.index-vehicle.result.now.ready + settings.dwell ≤ 1000003600) c.settings-dwell.ensures
-    c.if-vehicle-dwell-gt-LAST_READY.false)
+    c.if-vehicle-dwell-gt-LATEST_READY.false)
     ∙ (λ i. record {
       state = record s {
         vehicles = slice_set c.args.self.now.vehicles.items c.in-Some.place (vehicle i);

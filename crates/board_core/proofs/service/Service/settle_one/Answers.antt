@@ -1,6 +1,6 @@
 use Rattle.std.proofs.Common.{◌≡◌, inl, inr, refl, sym, ◌∙◌, ap}
 use Rattle.ride_model.specs.declared.entry.Outcome.TheVariants.{Confirmed, Gone}
-use Rattle.ride_model.specs.declared.reply.RequestState.TheVariants.{Away as IsAway}
+use Rattle.ride_model.specs.declared.reply.RequestState.TheVariants.{Away as AwayState}
 use Rattle.ride_model.specs.Batch.{seat_of, outcome_of, after_outcome}
 use Rattle.ride_model.specs.Seating.{BatchCopy}
 use Rattle.ride_model.specs.State.{State}
@@ -43,8 +43,8 @@ returns-in-Away-clause-state c = λ setup moment rest k t.
     (sym (outcome-is setup moment solved c.args.r c.args.ride (0, Gone) k c.requires.within c.requires.ride)
     ∙ sym (c.in-Away.ensures (0, Gone)))
     ∙ ap (λ requests. record before { requests = requests })
-    (ap (λ (b : BatchCopy). with_state c.args.ride.id (IsAway b.number) c.args.self.now.requests) (sym c.batch.ensures)
-    ∙ ap (λ number. with_state c.args.ride.id (IsAway number) c.args.self.now.requests) (sym c.number-number.ensures)
+    (ap (λ (b : BatchCopy). with_state c.args.ride.id (AwayState b.number) c.args.self.now.requests) (sym c.batch.ensures)
+    ∙ ap (λ number. with_state c.args.ride.id (AwayState number) c.args.self.now.requests) (sym c.number-number.ensures)
     ∙ sym c.set_state.ensures)
 
 pub returns-in-Moved-clause-settled : goal.returns-in-Moved-clause-settled

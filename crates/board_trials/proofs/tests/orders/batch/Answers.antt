@@ -1,4 +1,4 @@
-use Rattle.dual_check.proofs.TwoOfEach.{two_requests}
+use Rattle.trial_town.proofs.TwoOfEach.{two_requests}
 use Rattle.board_trials.proofs.tests.orders.batch.Goals as goal
 
 pub of-requires-clause-ids_differ : goal.of-requires-clause-ids_differ

@@ -2,12 +2,13 @@ use Rattle.std.proofs.Common.{◌≡◌, ◌+◌, ◌≤◌, ℕ, Bool, true, fa
 use Rattle.std.specs.Map.{keys_of, lookup}
 use Rattle.std.proofs.lemmas.List.{length-append, length-map}
 use Rattle.std.proofs.lemmas.List.Elements.{recursion_from_All, All-from_recursion}
+use Rattle.plain_lemmas.proofs.Options.{none_from_is_some}
 use Rattle.indexmap.proofs.CallerLemmas.{insert_entry-new}
 use Rattle.booking_desk.specs.Desk.{DeskState, request_id, put_in}
 use Rattle.booking_desk.specs.Kept.{IsHeldEntry, bookings_in}
 use Rattle.booking_desk.proofs.Bookings.{known, refused-again, refused-full, made-now, made-held, after-refusal, after-now, after-held}
 use Rattle.booking_desk.proofs.HeldEntries.{unbooked-others, inserted}
-use Rattle.booking_desk.proofs.Entered.{none-from-is_some, others-absent, keyed-from_kept, found-new, kept-on, All-inserted, popped, ids-pushed}
+use Rattle.booking_desk.proofs.Entered.{others-absent, keyed-from_kept, found-new, kept-on, All-inserted, popped, ids-pushed}
 use Rattle.booking_desk.proofs.desk.BookingDesk.book.Goals as goal
 
 -- how many ids the desk has
@@ -70,7 +71,7 @@ returns-then-release-self-clause-booked c =
     let booked = known c.args.self.now c.self.inside.booked.entries c.args.request.now c.request_id-id.result c.contains_key.result
     keys c.request_id-id.ensures c.contains_key.ensures ∙ c.if-contains_key.false in
     let none : lookup (eqb c.request_id-id.result) c.self.inside.booked.entries ≡ None =
-    none-from-is_some (lookup (eqb c.request_id-id.result) c.self.inside.booked.entries) (sym c.contains_key.ensures ∙ c.if-contains_key.false) in
+    none_from_is_some (lookup (eqb c.request_id-id.result) c.self.inside.booked.entries) (sym c.contains_key.ensures ∙ c.if-contains_key.false) in
     let pushed = c.in_ok-insert.ensures.entries ∙ insert_entry-new eqb c.self.inside.booked c.request_id-id.result c.args.release none in
     let reply = made-now c.args.self.now c.args.release c.args.request.now (omega arith) booked (omega (arith, count, most, c.len.ensures.len)) (omega (arith, clock)) in
     after-now c.args.self.now c.args.release c.args.request.now
@@ -84,7 +85,7 @@ invariant_of-self-in-Ok c =
     let id = c.request_id-id.result in
     let entries = c.self.inside.held.entries in
     let old = c.self.inside.booked.entries in
-    let none : lookup (eqb id) old ≡ None = none-from-is_some (lookup (eqb id) old) (sym c.contains_key.ensures ∙ c.if-contains_key.false) in
+    let none : lookup (eqb id) old ≡ None = none_from_is_some (lookup (eqb id) old) (sym c.contains_key.ensures ∙ c.if-contains_key.false) in
     let pushed : c.insert.new.self.entries ≡ old ++ (id, c.args.release) ∷ [] =
     c.in_ok-insert.ensures.entries ∙ insert_entry-new eqb c.self.inside.booked id c.args.release none in
     let count : length c.insert.new.self.entries ≡ length old + 1 = ap length pushed ∙ length-append old ((id, c.args.release) ∷ []) in
@@ -106,7 +107,7 @@ pub invariant_of-self-in-Err : goal.invariant_of-self-in-Err
 invariant_of-self-in-Err c =
     let id = c.request_id-id.result in
     let old = c.self.inside.booked.entries in
-    let none : lookup (eqb id) old ≡ None = none-from-is_some (lookup (eqb id) old) (sym c.contains_key.ensures ∙ c.if-contains_key.false) in
+    let none : lookup (eqb id) old ≡ None = none_from_is_some (lookup (eqb id) old) (sym c.contains_key.ensures ∙ c.if-contains_key.false) in
     let pushed : c.insert.new.self.entries ≡ old ++ (id, c.args.release) ∷ [] =
     c.in_ok-insert.ensures.entries ∙ insert_entry-new eqb c.self.inside.booked id c.args.release none in
     let back = popped old c.pop.new.self.entries c.insert.new.self.entries (id, c.args.release) c.pop.result pushed c.pop.ensures.entries c.pop.ensures.found in
@@ -133,7 +134,7 @@ returns-in-Ok-clause-booked c =
     let count = ids-count c.args.self.now old keys in
     let booked = known c.args.self.now old c.args.request.now id c.contains_key.result
     keys c.request_id-id.ensures c.contains_key.ensures ∙ c.if-contains_key.false in
-    let none : lookup (eqb id) old ≡ None = none-from-is_some (lookup (eqb id) old) (sym c.contains_key.ensures ∙ c.if-contains_key.false) in
+    let none : lookup (eqb id) old ≡ None = none_from_is_some (lookup (eqb id) old) (sym c.contains_key.ensures ∙ c.if-contains_key.false) in
     let pushed = c.in_ok-insert.ensures.entries ∙ insert_entry-new eqb c.self.inside.booked id c.args.release none in
     let kept = recursion_from_All (IsHeldEntry old) entries c.self.invariant.entries in
     let keyed = keyed-from_kept old entries kept in
@@ -152,7 +153,7 @@ pub returns-in-Err-clause-no_memory : goal.returns-in-Err-clause-no_memory
 returns-in-Err-clause-no_memory c =
     let id = c.request_id-id.result in
     let old = c.self.inside.booked.entries in
-    let none : lookup (eqb id) old ≡ None = none-from-is_some (lookup (eqb id) old) (sym c.contains_key.ensures ∙ c.if-contains_key.false) in
+    let none : lookup (eqb id) old ≡ None = none_from_is_some (lookup (eqb id) old) (sym c.contains_key.ensures ∙ c.if-contains_key.false) in
     let pushed : c.insert.new.self.entries ≡ old ++ (id, c.args.release) ∷ [] =
     c.in_ok-insert.ensures.entries ∙ insert_entry-new eqb c.self.inside.booked id c.args.release none in
     let back = popped old c.pop.new.self.entries c.insert.new.self.entries (id, c.args.release) c.pop.result pushed c.pop.ensures.entries c.pop.ensures.found in

@@ -1,6 +1,7 @@
 use Rattle.std.proofs.Common.{◌≡◌, ◌∷◌, Option, Some, None, refl, sym, subst, ◌∙◌, arith}
 use Rattle.std.specs.Prelude.{IfSome}
 use Rattle.std.proofs.lemmas.Result.{err_from_is_err_and}
+use Rattle.plain_lemmas.proofs.Options.{none_from_not_some}
 use Rattle.ride_model.specs.declared.command.Actor.TheVariants.{Feed}
 use Rattle.ride_model.specs.declared.command.Command.{Command}
 use Rattle.ride_model.specs.declared.entry.Event.TheVariants.{Fed}
@@ -11,10 +12,6 @@ use Rattle.booking_desk.specs.Desk.{Booking, due_of, is_due}
 use Rattle.booking_desk.proofs.Due.{booking-of, none-of}
 use Rattle.booking_desk.proofs.Releasing.{all-released, found-holds, releases-more, releases-none, some-released, submitted-none}
 use Rattle.booking_desk.proofs.desk.BookingDesk.release_due.Goals as goal
-
-none-from-not_some : {X : Type 0} (o : Option X) → ((x : X) → o ≡ Some x → ⊥) → o ≡ None
-none-from-not_some None h = refl
-none-from-not_some (Some x) h = absurd (h x refl)
 
 pub loop-request-init : goal.loop-request-init
 loop-request-init g c = record {
@@ -60,7 +57,7 @@ loop-request-preserved g c =
 pub returns-clause-released : goal.returns-clause-released
 returns-clause-released g c =
     let so_far = c.loop-request.invariant.so_far in
-    let none = none-of (due_of c.loop-request.self) (sym c.due.ensures ∙ none-from-not_some c.due.result c.in_default.not-Some) in (
+    let none = none-of (due_of c.loop-request.self) (sym c.due.ensures ∙ none_from_not_some c.due.result c.in_default.not-Some) in (
       so_far.released,
       so_far.submitted,
       (all-released c.args.self.now c.loop-request.self (knowledge c.args.pass.now) (knowledge c.loop-request.pass) c.loop-request.count so_far none, so_far.counted),

@@ -1,14 +1,11 @@
 use Rattle.std.proofs.Common.{◌≡◌, ◌≤◌, Option, Some, None, eqb, length, refl, sym, ap, subst, ◌∙◌, is_some, arith}
 use Rattle.std.specs.Map.{keys_of, lookup}
 use Rattle.std.proofs.lemmas.List.Elements.{recursion_from_All, All-from_recursion}
+use Rattle.plain_lemmas.proofs.Options.{none_from_not_some}
 use Rattle.booking_desk.specs.Desk.{DeskState, after_unbook, is_held}
 use Rattle.booking_desk.specs.Kept.{IsHeldEntry}
 use Rattle.booking_desk.proofs.HeldEntries.{others-not_held, others-stay, unbooked-others, removed, left-kept}
 use Rattle.booking_desk.proofs.desk.BookingDesk.unbook.Goals as goal
-
-none-from-not_some : {X : Type 0} (o : Option X) → ((x : X) → o ≡ Some x → ⊥) → o ≡ None
-none-from-not_some None h = refl
-none-from-not_some (Some x) h = absurd (h x refl)
 
 pub returns-in_default-clause-held : goal.returns-in_default-clause-held
 returns-in_default-clause-held c =
@@ -16,7 +13,7 @@ returns-in_default-clause-held c =
     let entries = c.self.inside.held.entries in
     let kept = recursion_from_All (IsHeldEntry booked) entries c.self.invariant.entries in
     let none : lookup (eqb c.args.id) booked ≡ None =
-    sym c.get.ensures.value ∙ sym c.copied.ensures ∙ none-from-not_some c.copied.result c.in_default.not-Some in
+    sym c.get.ensures.value ∙ sym c.copied.ensures ∙ none_from_not_some c.copied.result c.in_default.not-Some in
     sym (ap (λ (d : DeskState). is_held c.args.id d.held) (sym c.self.view_is)
     ∙ others-not_held c.args.id entries (unbooked-others booked c.args.id none entries kept))
 
@@ -26,7 +23,7 @@ returns-in_default-clause-unbooked c =
     let entries = c.self.inside.held.entries in
     let kept = recursion_from_All (IsHeldEntry booked) entries c.self.invariant.entries in
     let none : lookup (eqb c.args.id) booked ≡ None =
-    sym c.get.ensures.value ∙ sym c.copied.ensures ∙ none-from-not_some c.copied.result c.in_default.not-Some in
+    sym c.get.ensures.value ∙ sym c.copied.ensures ∙ none_from_not_some c.copied.result c.in_default.not-Some in
     let stay = others-stay c.args.id entries (unbooked-others booked c.args.id none entries kept) in
     let P : DeskState → Type 0 = λ d. d ≡ after_unbook d c.args.id in
     subst P c.self.view_is (ap (λ bs. record { most = c.self.inside.most; clock = c.self.inside.clock; booked = keys_of booked; held = bs }) (sym stay))

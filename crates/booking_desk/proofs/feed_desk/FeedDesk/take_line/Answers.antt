@@ -4,10 +4,11 @@ use Rattle.text_page.specs.Output.{HasPut}
 use Rattle.booking_desk.specs.declared.asked.Asked.{Asked}
 use Rattle.booking_desk.specs.Asked.{as_call}
 use Rattle.booking_desk.specs.BookLines.{call_of_fields, calls_in}
-use Rattle.booking_desk.specs.BookText.{most_bookings, text_of_lines, with_lf}
+use Rattle.booking_desk.specs.BookText.{text_of_lines, with_lf}
 use Rattle.booking_desk.specs.Released.{DeskCall, book, clock, desk_after, unbook}
 use Rattle.booking_desk.proofs.BookedLines.{asked-next, book-next, clock-next, over-next, short-whole, unbook-next}
 use Rattle.booking_desk.proofs.feed_desk.FeedDesk.take_line.Goals as goal
+use Rattle.booking_desk.specs.Desk.{most_bookings}
 
 pub returns-then-over-clause-booked : goal.returns-then-over-clause-booked
 returns-then-over-clause-booked g c before faults lines whole has line over =

@@ -3,18 +3,18 @@ use Rattle.text_page.specs.Output.{HasPut}
 use Rattle.booking_desk.specs.BookText.{refusal_line}
 use Rattle.booking_desk.specs.Desk.{Booking, DeskState, id_of}
 use Rattle.booking_desk.specs.FeedDesk.{AreSpelled, IsSpelledBooking}
-use Rattle.booking_desk.proofs.Filtered.{all-filter}
+use Rattle.plain_lemmas.proofs.Each.{each-filter}
 use Rattle.booking_desk.proofs.feed_desk.FeedDesk.unbook.Goals as goal
 
 pub returns-then-unbook-clause-spelled : goal.returns-then-unbook-clause-spelled
 returns-then-unbook-clause-spelled g c =
     subst (λ (d : DeskState). AreSpelled d.held) (sym c.if-unbook.ensures.unbooked)
-    (all-filter IsSpelledBooking (λ (b : Booking). not (id_of b == c.args.id)) c.args.self.now.desk.held c.requires.spelled)
+    (each-filter IsSpelledBooking (λ (b : Booking). not (id_of b == c.args.id)) c.args.self.now.desk.held c.requires.spelled)
 
 pub returns-clause-spelled : goal.returns-clause-spelled
 returns-clause-spelled g c =
     subst (λ (d : DeskState). AreSpelled d.held) (sym c.if-unbook.ensures.unbooked)
-    (all-filter IsSpelledBooking (λ (b : Booking). not (id_of b == c.args.id)) c.args.self.now.desk.held c.requires.spelled)
+    (each-filter IsSpelledBooking (λ (b : Booking). not (id_of b == c.args.id)) c.args.self.now.desk.held c.requires.spelled)
 
 pub returns-clause-put : goal.returns-clause-put
 returns-clause-put g c before faults text has =

@@ -1,7 +1,7 @@
 use Rattle.std.proofs.Common.{◌≡◌, sym, subst}
+use Rattle.plain_lemmas.proofs.Each.{of_all, all_of}
 use Rattle.ride_model.specs.declared.vehicle.Ride.{Ride}
 use Rattle.ride_model.specs.Text.{IsSpelled, IsSpelledCommand}
-use Rattle.history_laws.proofs.Lookups.{all_of, of_all}
 use Rattle.board_core.specs.Recorded.{state_of}
 use Rattle.fleet_league.specs.Awards.{request_of, won_rides}
 use Rattle.fleet_league.specs.Companies.{CompanyState}

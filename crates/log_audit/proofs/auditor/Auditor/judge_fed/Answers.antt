@@ -4,15 +4,15 @@ use Rattle.ride_model.specs.declared.entry.Entry.{Entry}
 use Rattle.ride_model.specs.declared.entry.Event.TheVariants.{Fed}
 use Rattle.ride_model.specs.declared.reply.Reply.{Reply}
 use Rattle.board_core.specs.Recorded.{Recorded, state_of, fed_entry}
+use Rattle.board_core.proofs.OpenBatches.{fed-le}
 use Rattle.log_audit.specs.declared.verdict.Why.TheVariants.{Reply as ToReply}
 use Rattle.log_audit.proofs.Judged.{auditing-on, judged}
 use Rattle.log_audit.proofs.Legality.{fault-reply}
 use Rattle.log_audit.proofs.OpenOnes.{open-fed}
-use Rattle.log_audit.proofs.FedCounts.{length-fed-le}
 use Rattle.log_audit.proofs.auditor.Auditor.judge_fed.Goals as goal
 
 pub apply-requires-clause-few : goal.apply-requires-clause-few
-apply-requires-clause-few c = omega (arith, length-fed-le c.args.feed c.args.self.now.board.history, c.requires.few)
+apply-requires-clause-few c = omega (arith, fed-le c.args.feed c.args.self.now.board.history, c.requires.few)
 
 pub returns : goal.returns
 returns c = λ reply is.

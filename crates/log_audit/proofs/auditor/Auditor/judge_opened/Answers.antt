@@ -8,11 +8,12 @@ use Rattle.ride_model.specs.Seating.{BatchCopy}
 use Rattle.ride_model.specs.Vehicle.{ride_ids}
 use Rattle.board_core.specs.declared.opening.Opening.{Opening}
 use Rattle.board_core.specs.Recorded.{Recorded, state_of, opened_entry}
+use Rattle.board_core.proofs.OpenBatches.{got-next}
 use Rattle.log_audit.specs.declared.verdict.Why.TheVariants.{Batch as ToBatch}
 use Rattle.log_audit.specs.OpenBatches.{AreOpen}
 use Rattle.log_audit.proofs.Judged.{auditing-on, judged}
 use Rattle.log_audit.proofs.Legality.{fault-batch}
-use Rattle.log_audit.proofs.OpenOnes.{got-next, none-open, open-opened}
+use Rattle.log_audit.proofs.OpenOnes.{none-open, open-opened}
 use Rattle.log_audit.proofs.auditor.Auditor.judge_opened.Goals as goal
 
 pub returns : goal.returns

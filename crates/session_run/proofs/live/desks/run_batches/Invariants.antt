@@ -13,9 +13,9 @@ invariant-batches g l = record {
   goes : (goal.iterator-batches g).can_next l.iterator';
   finite : (goal.iterator-batches g).is_finite l.iterator';
   desk : MayOpen l.board l.pass;
-  roads : (root_of (knowledge l.pass)).start.roads ≡ l.roads;
+  roads : (root_of (knowledge l.pass)).start.roads ≡ l.pricer;
   kept : l.scratches ≡ l.initial.scratches;
   some_scratch : 1 ≤ length l.scratches;
-  scratches : All (λ (scratch : Room). scratch.nodes ≡ l.roads.nodes) l.scratches;
+  scratches : All (λ (scratch : Room). scratch.nodes ≡ l.pricer.nodes) l.scratches;
   ran : HasRunBatches l.no_memory (knowledge l.initial.pass) (knowledge l.pass);
 }

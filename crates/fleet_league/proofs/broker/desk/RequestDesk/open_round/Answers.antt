@@ -18,7 +18,7 @@ pub open_batch-requires-clause-not_ended : goal.open_batch-requires-clause-not_e
 open_batch-requires-clause-not_ended c =
     let old : Recorded = c.self.inside.board in
     let desk : IsDesk old = subst IsDesk (sym c.self.view_is) c.requires.fits in
-    let few : (state_of old).asked + 1 ≤ 2000 = omega (arith, c.if-asked-ge-MOST_ROUNDS.false, c.asked.ensures) in
+    let few : (state_of old).asked + 1 ≤ 2000 = omega (arith, c.if-asked-ge-MOST_BATCHES.false, c.asked.ensures) in
     none-ended (state_of c.apply.new.self) (Desk 1)
     (ap (λ (t : State). t.ended) (after-ask old c.apply.new.self few c.in_ok-apply.ensures.others c.in_ok-apply.ensures.entry) ∙ desk.none_ended)
 
@@ -26,7 +26,7 @@ pub open_batch-requires-clause-none_open : goal.open_batch-requires-clause-none_
 open_batch-requires-clause-none_open c =
     let old : Recorded = c.self.inside.board in
     let desk : IsDesk old = subst IsDesk (sym c.self.view_is) c.requires.fits in
-    let few : (state_of old).asked + 1 ≤ 2000 = omega (arith, c.if-asked-ge-MOST_ROUNDS.false, c.asked.ensures) in
+    let few : (state_of old).asked + 1 ≤ 2000 = omega (arith, c.if-asked-ge-MOST_BATCHES.false, c.asked.ensures) in
     none-open (state_of c.apply.new.self) 1
     (ap (λ (t : State). t.batches) (after-ask old c.apply.new.self few c.in_ok-apply.ensures.others c.in_ok-apply.ensures.entry) ∙ desk.none_open)
 
@@ -34,7 +34,7 @@ pub returns-in_default : goal.returns-in_default
 returns-in_default c =
     let old : Recorded = c.self.inside.board in
     let desk : IsDesk old = subst IsDesk (sym c.self.view_is) c.requires.fits in
-    let few : (state_of old).asked + 1 ≤ 2000 = omega (arith, c.if-asked-ge-MOST_ROUNDS.false, c.asked.ensures) in
+    let few : (state_of old).asked + 1 ≤ 2000 = omega (arith, c.if-asked-ge-MOST_BATCHES.false, c.asked.ensures) in
     absurd (c.in_default.not-Batch (next_batch (asked_once (state_of old)) 1)
     (c.in_ok-batch.ensures.opening
     ∙ ap (λ (t : State). opening_at c.apply.new.self.feeds t 1)
@@ -45,7 +45,7 @@ pub returns-clause-opened : goal.returns-clause-opened
 returns-clause-opened c batch same =
     let old : Recorded = c.self.inside.board in
     let desk : IsDesk old = subst IsDesk (sym c.self.view_is) c.requires.fits in
-    let few : (state_of old).asked + 1 ≤ 2000 = omega (arith, c.if-asked-ge-MOST_ROUNDS.false, c.asked.ensures) in
+    let few : (state_of old).asked + 1 ≤ 2000 = omega (arith, c.if-asked-ge-MOST_BATCHES.false, c.asked.ensures) in
     let opens : Opens old c.apply.new.self c.open_batch.new.self c.in-Batch.batch = record {
       desk = desk;
       few_asked = few;
@@ -68,7 +68,7 @@ pub returns-clause-rides : goal.returns-clause-rides
 returns-clause-rides c batch same =
     let old : Recorded = c.self.inside.board in
     let desk : IsDesk old = subst IsDesk (sym c.self.view_is) c.requires.fits in
-    let few : (state_of old).asked + 1 ≤ 2000 = omega (arith, c.if-asked-ge-MOST_ROUNDS.false, c.asked.ensures) in
+    let few : (state_of old).asked + 1 ≤ 2000 = omega (arith, c.if-asked-ge-MOST_BATCHES.false, c.asked.ensures) in
     let opens : Opens old c.apply.new.self c.open_batch.new.self c.in-Batch.batch = record {
       desk = desk;
       few_asked = few;
@@ -88,7 +88,7 @@ pub returns-clause-open_now : goal.returns-clause-open_now
 returns-clause-open_now c batch same =
     let old : Recorded = c.self.inside.board in
     let desk : IsDesk old = subst IsDesk (sym c.self.view_is) c.requires.fits in
-    let few : (state_of old).asked + 1 ≤ 2000 = omega (arith, c.if-asked-ge-MOST_ROUNDS.false, c.asked.ensures) in
+    let few : (state_of old).asked + 1 ≤ 2000 = omega (arith, c.if-asked-ge-MOST_BATCHES.false, c.asked.ensures) in
     let opens : Opens old c.apply.new.self c.open_batch.new.self c.in-Batch.batch = record {
       desk = desk;
       few_asked = few;
@@ -108,7 +108,7 @@ pub returns-clause-one_more : goal.returns-clause-one_more
 returns-clause-one_more c =
     let old : Recorded = c.self.inside.board in
     let desk : IsDesk old = subst IsDesk (sym c.self.view_is) c.requires.fits in
-    let few : (state_of old).asked + 1 ≤ 2000 = omega (arith, c.if-asked-ge-MOST_ROUNDS.false, c.asked.ensures) in
+    let few : (state_of old).asked + 1 ≤ 2000 = omega (arith, c.if-asked-ge-MOST_BATCHES.false, c.asked.ensures) in
     let opens : Opens old c.apply.new.self c.open_batch.new.self c.in-Batch.batch = record {
       desk = desk;
       few_asked = few;

@@ -1,4 +1,5 @@
 use Rattle.std.proofs.Common.{◌≡◌, ◌+◌, Option, Some, None, refl, sym, ap, subst, ◌∙◌}
+use Rattle.plain_lemmas.proofs.Options.{none_from_not_some}
 use Rattle.ride_model.specs.State.{State}
 use Rattle.fleet_league.specs.declared.broker.scribe.Scribe.{Scribe}
 use Rattle.fleet_league.specs.Feed.{said_by}
@@ -7,14 +8,10 @@ use Rattle.fleet_league.specs.LeagueBoards.{league_of}
 use Rattle.fleet_league.proofs.TextRuns.{line-blank, line-told, scribe-same}
 use Rattle.fleet_league.proofs.broker.scribe.Scribe.take_line.Goals as goal
 
-none-from-not_some : {X : Type 0} (o : Option X) → ((x : X) → o ≡ Some x → ⊥) → o ≡ None
-none-from-not_some None h = refl
-none-from-not_some (Some x) h = absurd (h x refl)
-
 pub returns-in_default-clause-told : goal.returns-in_default-clause-told
 returns-in_default-clause-told g c start was faults_was fresh lines whole has line over =
     let blank : said_by c.args.self.now.log (c.args.self.now.lines + 1) whole ≡ None
-    = sym (c.read_line.ensures.said whole line over) ∙ none-from-not_some c.read_line.result c.in_default.not-Some in
+    = sym (c.read_line.ensures.said whole line over) ∙ none_from_not_some c.read_line.result c.in_default.not-Some in
     line-blank start was _ faults_was _ fresh c.args.self.now lines whole blank has
 
 pub returns-clause-told : goal.returns-clause-told

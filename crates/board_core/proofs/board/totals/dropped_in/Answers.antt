@@ -1,0 +1,10 @@
+use Rattle.std.proofs.Common.{refl, ◌∙◌, ap, arith}
+use Rattle.std.proofs.lemmas.List.{take_all}
+use Rattle.ride_model.specs.History.{dropped_total}
+use Rattle.board_core.proofs.board.totals.dropped_in.Goals as goal
+
+pub loop-entry-init : goal.loop-entry-init
+loop-entry-init c = refl
+
+pub returns : goal.returns
+returns c = c.loop-entry.invariant ∙ ap dropped_total (take_all c.loop-entry.entry-index c.args.entries.now (omega (arith, c.loop-entry-test.false)))

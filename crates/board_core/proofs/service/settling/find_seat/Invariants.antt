@@ -1,0 +1,8 @@
+use Rattle.std.proofs.Common.{◌≡◌, drop}
+use Rattle.std.specs.Prelude.{find, ◌==◌}
+use Rattle.ride_model.specs.declared.offer.Seat.{Seat}
+use Rattle.board_core.proofs.service.settling.find_seat.Given as goal
+
+-- what is found in all is what is found in those that are left
+abbrev pub invariant-loop-seat : goal.invariant-loop-seat
+invariant-loop-seat l = find (λ (x : Seat). x.request == l.id) l.seats ≡ find (λ (x : Seat). x.request == l.id) (drop l.seat-index l.seats)

@@ -1,7 +1,0 @@
-use Rattle.std.proofs.Common.{◌≡◌, take}
-use Rattle.ride_model.specs.History.{away_total}
-use Rattle.board_core.proofs.totals.away_in.Given as goal
-
--- the entries so far are counted
-abbrev pub invariant-loop-entry : goal.invariant-loop-entry
-invariant-loop-entry l = l.sum ≡ away_total (take l.entry-index l.entries)

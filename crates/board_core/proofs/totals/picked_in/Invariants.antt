@@ -1,7 +1,0 @@
-use Rattle.std.proofs.Common.{◌≡◌, take}
-use Rattle.ride_model.specs.History.{picked_total}
-use Rattle.board_core.proofs.totals.picked_in.Given as goal
-
--- the entries so far are counted
-abbrev pub invariant-loop-entry : goal.invariant-loop-entry
-invariant-loop-entry l = l.count ≡ picked_total (take l.entry-index l.entries)

@@ -1,7 +1,0 @@
-use Rattle.std.proofs.Common.{◌≡◌, take}
-use Rattle.board_core.specs.Marking.{marked_in}
-use Rattle.board_core.proofs.waiting.mark.Given as goal
-
--- those so far are marked
-abbrev pub invariant-loop-id : goal.invariant-loop-id
-invariant-loop-id l = l.requests ≡ marked_in l.state (take l.id-index l.ids) l.initial.requests
