@@ -6,7 +6,7 @@ use Rattle.log_audit.specs.Audit.{IsAnswer}
 use Rattle.log_audit.specs.Audited.{FailsAfter}
 use Rattle.log_audit.specs.declared.verdict.AuditFault.{AuditFault}
 use Rattle.log_audit.specs.declared.verdict.AuditFault.TheVariants.{ReadFault, TooLong, NoMemory}
-use Rattle.board_core.specs.declared.totals.Totals.{Totals}
+use Rattle.board_core.specs.declared.board.totals.Totals.{Totals}
 use Rattle.log_audit.specs.declared.verdict.Verdict.{Verdict}
 use Rattle.log_audit.specs.declared.verdict.Verdict.TheVariants.{Yes, No}
 use Rattle.ride_dispatch.specs.Answers.{told_bytes}

@@ -4,6 +4,7 @@ use Rattle.std.specs.Prelude.{IsTrue}
 use Rattle.std.specs.List.{list_any}
 use Rattle.std.proofs.lemmas.List.Elements.{All-weaker}
 use Rattle.std.proofs.lemmas.List.Folds.{list_any-append, list_any_none}
+use Rattle.std.proofs.Math.Bool.{or-false, and-false}
 use Rattle.ride_model.specs.declared.command.Actor.{Actor}
 use Rattle.ride_model.specs.declared.command.Actor.TheVariants.{Feed}
 use Rattle.ride_model.specs.declared.entry.Ending.{Ending}
@@ -17,47 +18,9 @@ use Rattle.ride_model.specs.State.{State, is_actor}
 use Rattle.history_laws.specs.Finishing.{is_whole_end, has_whole_end}
 use Rattle.history_laws.specs.Start.{IsStart, is_fed}
 use Rattle.history_laws.proofs.Effects.{ends_in, effect}
-use Rattle.history_laws.proofs.Others.{or_false}
+use Rattle.history_laws.proofs.Finished.{whole-after}
 use Rattle.board_core.specs.Recorded.{end_entry}
 use Rattle.session_run.specs.Loops.{AreFed}
-
--- who has ended whole after entries, by the state before them and by his own ones
-whole-after : (actor : Actor) (s : State) (entries : List Entry)
-    → ended_whole (replay s entries) actor ≡ (ended_whole s actor || has_whole_end (entries_of actor entries))
-unfolding replay entries_of
-whole-after actor s [] = sym (or_false (ended_whole s actor))
-whole-after actor s (entry ∷ entries) =
-    whole-after actor (after_entry s entry) entries
-    ∙ ap (λ b. b || has_whole_end (entries_of actor entries)) (by_event entry.actor entry.event)
-    ∙ by_test (is_actor entry.actor actor) (ended_whole s actor)
-  where
-    and_false : (b : Bool) → (b && false) ≡ false
-    and_false true = refl
-    and_false false = refl
-
-    added : (a : Actor) (event : Event) → list_any (λ end. is_actor end.0 actor && is_whole end.1) (ends_in a event) ≡ (is_actor a actor && is_whole_end event)
-    added a (Finish ending) = or_false (is_actor a actor && is_whole ending)
-    added a (Fed command reply) = sym (and_false (is_actor a actor))
-    added a (Opened number time requests plans) = sym (and_false (is_actor a actor))
-    added a (Committed number cost seats prices pays outcomes) = sym (and_false (is_actor a actor))
-    added a (Abandoned number) = sym (and_false (is_actor a actor))
-
-    by_event : (a : Actor) (event : Event)
-        → ended_whole (after_event s a event) actor ≡ (ended_whole s actor || (is_actor a actor && is_whole_end event))
-    by_event a event =
-        ap (list_any (λ end. is_actor end.0 actor && is_whole end.1)) (effect s a event).ended
-        ∙ list_any-append (λ end. is_actor end.0 actor && is_whole end.1) s.ended (ends_in a event)
-        ∙ ap (λ b. ended_whole s actor || b) (added a event)
-
-    or_assoc : (a b c : Bool) → ((a || b) || c) ≡ (a || (b || c))
-    or_assoc true b c = refl
-    or_assoc false b c = refl
-
-    by_test : (own before : Bool)
-        → ((before || (own && is_whole_end entry.event)) || has_whole_end (entries_of actor entries))
-        ≡ (before || has_whole_end (cond own (entry ∷ entries_of actor entries) (entries_of actor entries)))
-    by_test true before = or_assoc before (is_whole_end entry.event) (has_whole_end (entries_of actor entries))
-    by_test false before = or_assoc before false (has_whole_end (entries_of actor entries))
 
 -- answers to commands are no ends
 fed-no-end : (event : Event) → IsTrue (is_fed event) → is_whole_end event ≡ false

@@ -2,6 +2,7 @@
 use Rattle.std.proofs.Common.{◌≡◌, ◌≢◌, ◌⊎◌, inl, inr, ℕ, ◌+◌, ◌<◌, ◌≤◌, List, [], ◌∷◌, ◌++◌, length, Option, Some, None, Ok, Err, IfSome, refl, ap, sym, subst, ◌∙◌, arith}
 use Rattle.std.specs.Prelude.{All}
 use Rattle.std.proofs.lemmas.List.Elements.{All-cons}
+use Rattle.plain_lemmas.proofs.Numbers.{less_or_same}
 use Rattle.ride_ports.specs.Bytes.{Reads}
 use Rattle.ride_ports.specs.Contents.{Contents, GivenBack}
 use Rattle.ride_ports.specs.Count.{Rose}
@@ -25,7 +26,7 @@ use Rattle.ride_dispatch.specs.declared.files.Texts.{Texts}
 use Rattle.ride_dispatch.proofs.LeagueSteps.{seen-from}
 use Rattle.ride_dispatch.proofs.Reaching.{read-both}
 use Rattle.ride_dispatch.proofs.Runs.{unread-run}
-use Rattle.ride_dispatch.proofs.Statuses.{below-or-at, complete-run, long-status, not-refused-fleet, not-refused-map, told-not-long, up-to-eight}
+use Rattle.ride_dispatch.proofs.Statuses.{complete-run, long-status, not-refused-fleet, not-refused-map, told-not-long, up-to-eight}
 
 -- a run that stopped over its map or its first fleet file
 pub stopped-league : (files : LeagueFiles) (s : Seen) (status : ℕ) → IsRun files.map files.first (files.second ∷ files.feed ∷ []) s status
@@ -132,7 +133,7 @@ module _ (files : LeagueFiles) (s : Seen) (asked : List (List ℕ)) (brought : �
         | inr (inr (inr (inr (inr (inl is))))) ↦ absurd (no_fault (work.shelf_fault is))
         | inr (inr (inr (inr (inr (inr (inl is)))))) ↦ absurd (no_sink (work.sink_fault is))
         | inr (inr (inr (inr (inr (inr (inr (inl is))))))) ↦ absurd (work.statuses.3 is)
-        | inr (inr (inr (inr (inr (inr (inr (inr is))))))) ↦ absurd (elim (below-or-at (length work.sources) 2 work.few) [
+        | inr (inr (inr (inr (inr (inr (inr (inr is))))))) ↦ absurd (elim (less_or_same (length work.sources) 2 work.few) [
           | inl below ↦ not-refused-second _ (told_bytes s.told files.first) _ TooLong network of_second are.map_is (work.limit_passed is below)
           | inr all ↦ not-long is all
         ])

@@ -2,12 +2,14 @@
 use Rattle.std.proofs.Common.{◌≡◌, ◌⊎◌, inl, inr, ℕ, ◌≤◌, ◌&&◌, Bool, true, false, List, [], Option, Some, None, IfSome, refl, sym, subst, ◌∙◌, arith}
 use Rattle.std.specs.Prelude.{IsTrue}
 use Rattle.std.specs.List.{list_all, range_with_len}
+use Rattle.plain_lemmas.proofs.Numbers.{less_or_same}
 use Rattle.ride_ports.specs.Bytes.{Reads}
 use Rattle.ride_ports.specs.Contents.{Contents, GivenBack, IsContentOf, bytes_at}
 use Rattle.ride_ports.specs.Count.{Rose}
 use Rattle.ride_ports.specs.Status.{status_of}
 use Rattle.ride_ports.specs.declared.outcome.Ran.{Ran}
 use Rattle.ride_ports.proofs.ByteLemmas.{Reads-none}
+use Rattle.ride_ports.proofs.CountLemmas.{Rose-then_kept, Rose-after_kept}
 use Rattle.ride_model.specs.History.{ended_whole}
 use Rattle.ride_model.specs.Legal.{replay}
 use Rattle.ride_model.specs.Road.{RoadMap}
@@ -21,7 +23,7 @@ use Rattle.ride_dispatch.specs.Answers.{told_bytes}
 use Rattle.ride_dispatch.specs.Files.{IsFeedWithin}
 use Rattle.ride_dispatch.specs.Sessions.{AreBytesOf, EndsService, IsServed, feed_of}
 use Rattle.ride_dispatch.proofs.Ends.{ending-whole}
-use Rattle.ride_dispatch.proofs.Statuses.{NoneWanting, below-or-at, long-status, told-not-long}
+use Rattle.ride_dispatch.proofs.Statuses.{NoneWanting, long-status, told-not-long}
 
 -- the bytes of a source that was brought
 pub bytes-of : (told : Option Contents) (name : List ℕ) (bytes : Option (List ℕ)) → IsContentOf told name bytes → AreBytesOf (told_bytes told name) bytes
@@ -111,16 +113,6 @@ served-of network settings vehicles desks riders_bytes riders_left drivers_bytes
     subst (λ (k : ℕ). IsServed network settings vehicles desks (feed_run riders_bytes riders_left k riders_after) (feed_run drivers_bytes drivers_left 0 drivers_after) ran before after) is
     (subst (λ (k : ℕ). IsServed network settings vehicles desks (feed_run riders_bytes riders_left riders_before riders_after) (feed_run drivers_bytes drivers_left k drivers_after) ran before after) also
     service)
-
--- a count that rose has risen later, and one that had not fallen before
-pub rose-still : (a b c : ℕ) → Rose a b → b ≤ c → Rose a c
-rose-still a b c rose more not = omega (arith, rose not, more)
-
-pub rose-later : (a b c : ℕ) → a ≤ b → Rose b c → b ≤ c → Rose a c
-rose-later a b c low rose more not = elim (below-or-at a b low) [
-  | inl below ↦ omega (arith, below, more)
-  | inr same ↦ omega (arith, same, rose (λ most. not (same ∙ most)))
-]
 
 -- one count of two rose
 pub one-of-two : {P Q R : Type 0} → (P → R) → (Q → R) → P ⊎ Q → R

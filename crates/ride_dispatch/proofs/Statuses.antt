@@ -1,5 +1,6 @@
 -- What a status tells of what was wanting.
 use Rattle.std.proofs.Common.{◌≡◌, ◌≢◌, ◌⊎◌, inl, inr, ℕ, zero, suc, ◌+◌, ◌<◌, ◌≤◌, Bool, true, false, cond, List, length, Option, Some, Ok, Err, IfSome, refl, ap, sym, subst, ◌∙◌, arith, length-append}
+use Rattle.plain_lemmas.proofs.Numbers.{less_or_same}
 use Rattle.ride_ports.specs.Bytes.{Reads}
 use Rattle.ride_ports.specs.Contents.{GivenBack}
 use Rattle.ride_ports.specs.Count.{Rose}
@@ -14,7 +15,7 @@ use Rattle.gr_reader.specs.declared.errors.MapError.{MapError}
 use Rattle.gr_reader.specs.declared.errors.MapError.TheVariants.{TooLong}
 use Rattle.fleet_file.specs.FleetText.{fleet_text}
 use Rattle.fleet_file.specs.declared.errors.FleetError.{FleetError}
-use Rattle.fleet_file.specs.declared.errors.FleetError.TheVariants.{TooLong as IsTooLongFleet}
+use Rattle.fleet_file.specs.declared.errors.FleetError.TheVariants.{TooLong as FleetTooLong}
 use Rattle.command_lines.specs.Limits.{IsTooLong, IsWithinLimits}
 use Rattle.session_run.specs.Replay.{IsReadWhole}
 use Rattle.ride_dispatch.specs.Answers.{PassesLimit, RefusesFleet, RefusesMap, told_bytes}
@@ -158,12 +159,6 @@ up-to-eight (suc (suc (suc (suc (suc (suc (suc zero))))))) few = inr (inr (inr (
 up-to-eight (suc (suc (suc (suc (suc (suc (suc (suc zero)))))))) few = inr (inr (inr (inr (inr (inr (inr (inr refl)))))))
 up-to-eight (suc (suc (suc (suc (suc (suc (suc (suc (suc n))))))))) few = absurd (omega arith)
 
-pub below-or-at : (a b : ℕ) → a ≤ b → (a < b) ⊎ (a ≡ b)
-below-or-at zero zero few = inr refl
-below-or-at zero (suc b) few = inl (omega arith)
-below-or-at (suc a) zero few = absurd (omega arith)
-below-or-at (suc a) (suc b) few = elim (below-or-at a b (omega arith)) [ inl below ↦ inl (omega (arith, below)) | inr same ↦ inr (ap suc same) ]
-
 -- a run of texts without faults, whose last sources were not too long, is whole, or memory was wanting, or its log was wrong
 pub complete-run : (m f : List ℕ) (others : List (List ℕ)) (s : Seen) (status : ℕ) → IsRun m f others s status
     → AreTexts (told_bytes s.told m) (told_bytes s.told f) → (Rose s.shelf_before s.shelf_after → ⊥) → (Rose s.sink_before s.sink_after → ⊥)
@@ -178,7 +173,7 @@ complete-run m f others s status run texts no_fault no_sink no_limit =
       | inr (inr (inr (inr (inr (inl is))))) ↦ absurd (no_fault (run.shelf_fault is))
       | inr (inr (inr (inr (inr (inr (inl is)))))) ↦ absurd (no_sink (run.sink_fault is))
       | inr (inr (inr (inr (inr (inr (inr (inl is))))))) ↦ inr (inr is)
-      | inr (inr (inr (inr (inr (inr (inr (inr is))))))) ↦ absurd (elim (below-or-at s.brought (2 + length others) run.few_brought) [
+      | inr (inr (inr (inr (inr (inr (inr (inr is))))))) ↦ absurd (elim (less_or_same s.brought (2 + length others) run.few_brought) [
         | inl below ↦ not-limit (run.limit_passed is below)
         | inr all ↦ no_limit is all
       ])
@@ -198,4 +193,4 @@ complete-run m f others s status run texts no_fault no_sink no_limit =
 
     not-limit : PassesLimit map fleet → ⊥
     not-limit (inl is) = not-refused-map map fleet TooLong texts is
-    not-limit (inr is) = not-refused-fleet map fleet IsTooLongFleet texts is
+    not-limit (inr is) = not-refused-fleet map fleet FleetTooLong texts is

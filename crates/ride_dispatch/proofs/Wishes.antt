@@ -39,130 +39,100 @@ pub asks-nothing : (words : List (List ℕ)) → bytes_eq (first_word words) (co
 unfolding wish_of
 asks-nothing words first second third fourth = rw (first, second, third, fourth) refl
 
--- words for a drill ask for no run over files
-pub asks-drill : (words : List (List ℕ)) → bytes_eq (first_word words) (codes "drill") ≡ true → drill_of words ≡ drill_wish words
+-- who says one word says no other
+says_no_other : (words : List (List ℕ)) (word other : List ℕ) → bytes_eq (first_word words) word ≡ true → bytes_eq word other ≡ false
+    → bytes_eq (first_word words) other ≡ false
+says_no_other words word other is differs =
+    let same : first_word words ≡ word = (bytes_eq-Decides (first_word words) word).0 is in
+    rw same differs
+
+-- another word asks for no run over files
+asks-no_file : (words : List (List ℕ)) (word : List ℕ) → bytes_eq (first_word words) word ≡ true
+    → bytes_eq word (codes "replay") ≡ false → bytes_eq word (codes "audit") ≡ false → bytes_eq word (codes "serve") ≡ false
+    → bytes_eq word (codes "ahead") ≡ false → wish_of words ≡ None
+asks-no_file words word is replay audit serve ahead =
+    asks-nothing words (says_no_other words word _ is replay) (says_no_other words word _ is audit) (says_no_other words word _ is serve)
+    (says_no_other words word _ is ahead)
+
+-- a drill, bookings and a league, each by its word alone
+asks-drill : (words : List (List ℕ)) → bytes_eq (first_word words) (codes "drill") ≡ true → drill_of words ≡ drill_wish words
 unfolding drill_of
 asks-drill words is = rw is refl
 
-pub asks-drill_alone : (words : List (List ℕ)) → bytes_eq (first_word words) (codes "drill") ≡ true → wish_of words ≡ None
-unfolding wish_of
-asks-drill_alone words is =
-    let word : first_word words ≡ codes "drill" = (bytes_eq-Decides (first_word words) (codes "drill")).0 is in
-    rw word refl
-
-asks-drill_no_book : (words : List (List ℕ)) → bytes_eq (first_word words) (codes "drill") ≡ true → book_of words ≡ None
-unfolding book_of
-asks-drill_no_book words is =
-    let word : first_word words ≡ codes "drill" = (bytes_eq-Decides (first_word words) (codes "drill")).0 is in
-    rw word refl
-
-asks-drill_no_league : (words : List (List ℕ)) → bytes_eq (first_word words) (codes "drill") ≡ true → league_of words ≡ None
-unfolding league_of
-asks-drill_no_league words is =
-    let word : first_word words ≡ codes "drill" = (bytes_eq-Decides (first_word words) (codes "drill")).0 is in
-    rw word refl
-
-pub asks-no_drill : (words : List (List ℕ)) → bytes_eq (first_word words) (codes "drill") ≡ false → drill_of words ≡ None
+asks-no_drill : (words : List (List ℕ)) → bytes_eq (first_word words) (codes "drill") ≡ false → drill_of words ≡ None
 unfolding drill_of
 asks-no_drill words is = rw is refl
 
-pub no-drill : {S : Type 0} (text : S → List ℕ) (words : List S) → length words ≡ 0 → drill_of (map text words) ≡ None
-unfolding drill_of
-no-drill text [] is = refl
-no-drill text (word ∷ words) is = absurd (omega arith)
-
-pub drill-or-not : (words : List (List ℕ)) (b : Bool) → b ≡ bytes_eq (first_word words) (codes "drill")
-    → MatchBool b ((wish_of words ≡ None) × (drill_of words ≡ drill_wish words) × (book_of words ≡ None) × (league_of words ≡ None))
-    (drill_of words ≡ None)
-drill-or-not words true is =
-    (asks-drill_alone words (sym is), asks-drill words (sym is), asks-drill_no_book words (sym is), asks-drill_no_league words (sym is))
-drill-or-not words false is = asks-no_drill words (sym is)
-
--- words for bookings ask for nothing else
 asks-book : (words : List (List ℕ)) → bytes_eq (first_word words) (codes "book") ≡ true
     → book_of words ≡ value_of book_command words (codes "feed")
 unfolding book_of
 asks-book words is = rw is refl
 
-asks-book_no_file : (words : List (List ℕ)) → bytes_eq (first_word words) (codes "book") ≡ true → wish_of words ≡ None
-unfolding wish_of
-asks-book_no_file words is =
-    let word : first_word words ≡ codes "book" = (bytes_eq-Decides (first_word words) (codes "book")).0 is in
-    rw word refl
-
-asks-book_no_drill : (words : List (List ℕ)) → bytes_eq (first_word words) (codes "book") ≡ true → drill_of words ≡ None
-unfolding drill_of
-asks-book_no_drill words is =
-    let word : first_word words ≡ codes "book" = (bytes_eq-Decides (first_word words) (codes "book")).0 is in
-    rw word refl
-
-asks-book_no_league : (words : List (List ℕ)) → bytes_eq (first_word words) (codes "book") ≡ true → league_of words ≡ None
-unfolding league_of
-asks-book_no_league words is =
-    let word : first_word words ≡ codes "book" = (bytes_eq-Decides (first_word words) (codes "book")).0 is in
-    rw word refl
-
 asks-no_book : (words : List (List ℕ)) → bytes_eq (first_word words) (codes "book") ≡ false → book_of words ≡ None
 unfolding book_of
 asks-no_book words is = rw is refl
 
-pub no-book : {S : Type 0} (text : S → List ℕ) (words : List S) → length words ≡ 0 → book_of (map text words) ≡ None
-unfolding book_of
-no-book text [] is = refl
-no-book text (word ∷ words) is = absurd (omega arith)
-
-pub book-or-not : (words : List (List ℕ)) (b : Bool) → b ≡ bytes_eq (first_word words) (codes "book")
-    → MatchBool b ((wish_of words ≡ None) × (drill_of words ≡ None) × (book_of words ≡ value_of book_command words (codes "feed"))
-    × (league_of words ≡ None))
-    (book_of words ≡ None)
-book-or-not words true is =
-    (asks-book_no_file words (sym is), asks-book_no_drill words (sym is), asks-book words (sym is), asks-book_no_league words (sym is))
-book-or-not words false is = asks-no_book words (sym is)
-
--- words for a league ask for nothing else
 asks-league : (words : List (List ℕ)) → bytes_eq (first_word words) (codes "league") ≡ true → league_of words ≡ league_wish words
 unfolding league_of
 asks-league words is = rw is refl
-
-asks-league_no_file : (words : List (List ℕ)) → bytes_eq (first_word words) (codes "league") ≡ true → wish_of words ≡ None
-unfolding wish_of
-asks-league_no_file words is =
-    let word : first_word words ≡ codes "league" = (bytes_eq-Decides (first_word words) (codes "league")).0 is in
-    rw word refl
-
-asks-league_no_drill : (words : List (List ℕ)) → bytes_eq (first_word words) (codes "league") ≡ true → drill_of words ≡ None
-unfolding drill_of
-asks-league_no_drill words is =
-    let word : first_word words ≡ codes "league" = (bytes_eq-Decides (first_word words) (codes "league")).0 is in
-    rw word refl
-
-asks-league_no_book : (words : List (List ℕ)) → bytes_eq (first_word words) (codes "league") ≡ true → book_of words ≡ None
-unfolding book_of
-asks-league_no_book words is =
-    let word : first_word words ≡ codes "league" = (bytes_eq-Decides (first_word words) (codes "league")).0 is in
-    rw word refl
 
 asks-no_league : (words : List (List ℕ)) → bytes_eq (first_word words) (codes "league") ≡ false → league_of words ≡ None
 unfolding league_of
 asks-no_league words is = rw is refl
 
-pub no-league : {S : Type 0} (text : S → List ℕ) (words : List S) → length words ≡ 0 → league_of (map text words) ≡ None
-unfolding league_of
-no-league text [] is = refl
-no-league text (word ∷ words) is = absurd (omega arith)
+-- each asks for nothing else
+pub drill-or-not : (words : List (List ℕ)) (b : Bool) → b ≡ bytes_eq (first_word words) (codes "drill")
+    → MatchBool b ((wish_of words ≡ None) × (drill_of words ≡ drill_wish words) × (book_of words ≡ None) × (league_of words ≡ None))
+    (drill_of words ≡ None)
+drill-or-not words true is = (
+  asks-no_file words (codes "drill") (sym is) refl refl refl refl,
+  asks-drill words (sym is),
+  asks-no_book words (says_no_other words (codes "drill") _ (sym is) refl),
+  asks-no_league words (says_no_other words (codes "drill") _ (sym is) refl),
+)
+drill-or-not words false is = asks-no_drill words (sym is)
+
+pub book-or-not : (words : List (List ℕ)) (b : Bool) → b ≡ bytes_eq (first_word words) (codes "book")
+    → MatchBool b ((wish_of words ≡ None) × (drill_of words ≡ None) × (book_of words ≡ value_of book_command words (codes "feed"))
+    × (league_of words ≡ None))
+    (book_of words ≡ None)
+book-or-not words true is = (
+  asks-no_file words (codes "book") (sym is) refl refl refl refl,
+  asks-no_drill words (says_no_other words (codes "book") _ (sym is) refl),
+  asks-book words (sym is),
+  asks-no_league words (says_no_other words (codes "book") _ (sym is) refl),
+)
+book-or-not words false is = asks-no_book words (sym is)
 
 pub league-or-not : (words : List (List ℕ)) (b : Bool) → b ≡ bytes_eq (first_word words) (codes "league")
     → MatchBool b ((wish_of words ≡ None) × (drill_of words ≡ None) × (book_of words ≡ None) × (league_of words ≡ league_wish words))
     (league_of words ≡ None)
-league-or-not words true is =
-    (asks-league_no_file words (sym is), asks-league_no_drill words (sym is), asks-league_no_book words (sym is), asks-league words (sym is))
+league-or-not words true is = (
+  asks-no_file words (codes "league") (sym is) refl refl refl refl,
+  asks-no_drill words (says_no_other words (codes "league") _ (sym is) refl),
+  asks-no_book words (says_no_other words (codes "league") _ (sym is) refl),
+  asks-league words (sym is),
+)
 league-or-not words false is = asks-no_league words (sym is)
 
 -- no words ask for nothing
+no-first_word : {S : Type 0} (text : S → List ℕ) (words : List S) → length words ≡ 0 → first_word (map text words) ≡ []
+no-first_word text [] is = refl
+no-first_word text (word ∷ words) is = absurd (omega arith)
+
 pub no-words : {S : Type 0} (text : S → List ℕ) (words : List S) → length words ≡ 0 → wish_of (map text words) ≡ None
-unfolding wish_of
-no-words text [] is = refl
-no-words text (word ∷ words) is = absurd (omega arith)
+no-words text words is =
+    let none = no-first_word text words is in
+    asks-nothing (map text words) (rw none refl) (rw none refl) (rw none refl) (rw none refl)
+
+pub no-drill : {S : Type 0} (text : S → List ℕ) (words : List S) → length words ≡ 0 → drill_of (map text words) ≡ None
+no-drill text words is = asks-no_drill (map text words) (let none = no-first_word text words is in rw none refl)
+
+pub no-book : {S : Type 0} (text : S → List ℕ) (words : List S) → length words ≡ 0 → book_of (map text words) ≡ None
+no-book text words is = asks-no_book (map text words) (let none = no-first_word text words is in rw none refl)
+
+pub no-league : {S : Type 0} (text : S → List ℕ) (words : List S) → length words ≡ 0 → league_of (map text words) ≡ None
+no-league text words is = asks-no_league (map text words) (let none = no-first_word text words is in rw none refl)
 
 -- the value of an option in words that a command takes
 value-taken : (command : App) (words : List (List ℕ)) (option : List ℕ) → fault_of command words ≡ []

@@ -1,5 +1,5 @@
 -- What follows a map and a fleet file in a run: where a name was not brought, and where all were.
-use Rattle.std.proofs.Common.{◌≡◌, ◌≢◌, inl, inr, ℕ, ◌+◌, ◌<◌, ◌≤◌, List, [], ◌∷◌, ◌++◌, length, refl, ap, arith}
+use Rattle.std.proofs.Common.{◌≡◌, ◌≢◌, inl, inr, ℕ, ◌+◌, ◌<◌, ◌≤◌, List, [], ◌∷◌, ◌++◌, length, refl, sym, ap, ◌∙◌, arith, append-nil}
 use Rattle.std.specs.Prelude.{All}
 use Rattle.std.proofs.lemmas.List.Elements.{All-cons}
 use Rattle.ride_ports.specs.Contents.{GivenBack}
@@ -9,7 +9,7 @@ use Rattle.ride_dispatch.specs.Runs.{IsWork, Seen, Untouched, files_of}
 use Rattle.ride_dispatch.specs.Words.{Begins}
 
 -- a name was not brought, which is a fault of the shelf
-pub record NotBrought (others asked : List (List ℕ)) (brought : ℕ) (back : List GivenBack) (s : Seen) : Type 0 where
+record NotBrought (others asked : List (List ℕ)) (brought : ℕ) (back : List GivenBack) (s : Seen) : Type 0 where
   pub more : List (List ℕ)
   pub sources : List GivenBack
   pub asked_is : s.asked ≡ asked ++ more
@@ -22,7 +22,7 @@ pub record NotBrought (others asked : List (List ℕ)) (brought : ℕ) (back : L
   pub untouched : Untouched s
   pub rose : Rose s.shelf_before s.shelf_after
 
-pub not-brought : (others asked : List (List ℕ)) (brought : ℕ) (back : List GivenBack) (s : Seen) → NotBrought others asked brought back s
+not-brought : (others asked : List (List ℕ)) (brought : ℕ) (back : List GivenBack) (s : Seen) → NotBrought others asked brought back s
     → IsWork others asked brought back s 5
 not-brought others asked brought back s not = record {
   more = not.more;
@@ -47,6 +47,24 @@ not-brought others asked brought back s not = record {
   sink_fault = λ is. absurd (omega arith);
   statuses = (omega arith, (λ is. omega arith), (λ is. omega arith), λ is. omega arith);
 }
+
+-- the first of the names was not brought
+pub first-missing : (name : List ℕ) (names asked : List (List ℕ)) (brought : ℕ) (back : List GivenBack) (s : Seen)
+    → s.asked ≡ asked ++ name ∷ [] → s.brought ≡ brought → s.back ≡ back → Untouched s → Rose s.shelf_before s.shelf_after
+    → IsWork (name ∷ names) asked brought back s 5
+first-missing name names asked brought back s asked_is brought_is back_is untouched rose = not-brought _ _ _ _ _ (record {
+  more = name ∷ [];
+  sources = [];
+  asked_is = asked_is;
+  some = omega arith;
+  begins = refl;
+  back_is = back_is ∙ sym (append-nil _);
+  in_order = tt;
+  brought_is = omega (arith, brought_is);
+  fewer = omega arith;
+  untouched = untouched;
+  rose = rose;
+})
 
 -- all names were brought
 pub record AllBrought (others asked : List (List ℕ)) (brought : ℕ) (back : List GivenBack) (s : Seen) (status : ℕ) : Type 0 where

@@ -8,7 +8,7 @@ use Rattle.gr_reader.specs.declared.errors.MapError.{MapError}
 use Rattle.gr_reader.specs.declared.errors.MapError.TheVariants.{TooLong, ReadFault, NoMemory as NoMemoryForMap}
 use Rattle.gr_reader.specs.MapText.{map_text}
 use Rattle.fleet_file.specs.declared.errors.FleetError.{FleetError}
-use Rattle.fleet_file.specs.declared.errors.FleetError.TheVariants.{TooLong as IsTooLong, ReadFault as IsFault, NoMemory as NoMemoryForFleet}
+use Rattle.fleet_file.specs.declared.errors.FleetError.TheVariants.{TooLong as FleetTooLong, ReadFault as FleetReadFault, NoMemory as NoMemoryForFleet}
 use Rattle.fleet_file.specs.FleetText.{fleet_text}
 use Rattle.ride_dispatch.specs.Refusals.{IsOfMap, IsOfFleet, map_refusal, fleet_refusal}
 use Rattle.ride_dispatch.specs.declared.stop.Stop.{Stop}
@@ -26,8 +26,8 @@ stop_of_map NoMemoryForMap = NoMemory
 stop_of_map e = MapRefused e
 
 abbrev pub stop_of_fleet : FleetError → Stop
-stop_of_fleet IsTooLong = LimitPassed
-stop_of_fleet IsFault = ShelfFault
+stop_of_fleet FleetTooLong = LimitPassed
+stop_of_fleet FleetReadFault = ShelfFault
 stop_of_fleet NoMemoryForFleet = NoMemory
 stop_of_fleet e = FleetRefused e
 
@@ -48,7 +48,7 @@ ReadsMap told outcome =
 abbrev pub StopsFleet : ℕ → Option (List ℕ) → Stop → Type 0
 StopsFleet nodes told NoMemory = ⊤
 StopsFleet nodes told ShelfFault = ⊤
-StopsFleet nodes told LimitPassed = IfSome told (λ bytes. fleet_text nodes bytes ≡ Err IsTooLong)
+StopsFleet nodes told LimitPassed = IfSome told (λ bytes. fleet_text nodes bytes ≡ Err FleetTooLong)
 StopsFleet nodes told (FleetRefused e) = IsOfFleet e × IfSome told (λ bytes. fleet_text nodes bytes ≡ Err e)
 StopsFleet nodes told _ = ⊥
 
@@ -72,7 +72,7 @@ abbrev pub PassesLimit : Option (List ℕ) → Option (List ℕ) → Type 0
 PassesLimit map fleet =
     IfSome map (λ bytes. map_text bytes ≡ Err TooLong)
     ⊎ IfSome map (λ bytes. (network : RoadMap) × (map_text bytes ≡ Ok network)
-    × IfSome fleet (λ text. fleet_text network.nodes text ≡ Err IsTooLong))
+    × IfSome fleet (λ text. fleet_text network.nodes text ≡ Err FleetTooLong))
 
 -- the map's bytes are this network's, and the fleet file's are these settings and these vehicles over it
 pub record AreTextsOf (network : RoadMap) (settings : Settings) (vehicles : List Vehicle) (map fleet : Option (List ℕ)) : Type 0 where

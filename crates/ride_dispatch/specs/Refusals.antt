@@ -5,7 +5,7 @@ use Rattle.ride_ports.specs.Count.{Rose}
 use Rattle.gr_reader.specs.declared.errors.MapError.{MapError}
 use Rattle.gr_reader.specs.declared.errors.MapError.TheVariants.{NoProblem, SecondProblem, BadLine, NodeOut, WeightOut, ArcCount, TooLarge, TooLong, ReadFault, NoMemory}
 use Rattle.fleet_file.specs.declared.errors.FleetError.{FleetError}
-use Rattle.fleet_file.specs.declared.errors.FleetError.TheVariants.{BadLine as IsBad, Repeat, NodeOut as IsNodeOut, ValueOut, TooMany, TooLong as IsTooLong, ReadFault as IsFault, NoMemory as HasNoMemory}
+use Rattle.fleet_file.specs.declared.errors.FleetError.TheVariants.{BadLine as FleetBadLine, Repeat, NodeOut as FleetNodeOut, ValueOut, TooMany, TooLong as FleetTooLong, ReadFault as FleetReadFault, NoMemory as HasNoMemory}
 
 -- a refusal of this number, at a line of a text
 abbrev pub at_line : List ℕ → ℕ → ℕ → List ℕ
@@ -38,19 +38,19 @@ IsOfMap _ = ⊤
 
 -- the line of a fleet file's refusal
 abbrev pub fleet_refusal : FleetError → List ℕ
-fleet_refusal (IsBad number) = at_line (codes "fleet") 1 number
+fleet_refusal (FleetBadLine number) = at_line (codes "fleet") 1 number
 fleet_refusal (Repeat number) = at_line (codes "fleet") 2 number
-fleet_refusal (IsNodeOut number) = at_line (codes "fleet") 3 number
+fleet_refusal (FleetNodeOut number) = at_line (codes "fleet") 3 number
 fleet_refusal (ValueOut number) = at_line (codes "fleet") 4 number
 fleet_refusal (TooMany number) = at_line (codes "fleet") 5 number
-fleet_refusal IsTooLong = []
-fleet_refusal IsFault = []
+fleet_refusal FleetTooLong = []
+fleet_refusal FleetReadFault = []
 fleet_refusal HasNoMemory = []
 
 -- a refusal of a fleet file's lines, and no limit or fault
 abbrev pub IsOfFleet : FleetError → Type 0
-IsOfFleet IsTooLong = ⊥
-IsOfFleet IsFault = ⊥
+IsOfFleet FleetTooLong = ⊥
+IsOfFleet FleetReadFault = ⊥
 IsOfFleet HasNoMemory = ⊥
 IsOfFleet _ = ⊤
 

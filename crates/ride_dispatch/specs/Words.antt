@@ -2,6 +2,7 @@
 use Rattle.std.specs.Prelude.{◌≡◌, ◌⊎◌, ℕ, ◌≤◌, ◌&&◌, nat_le, String, if◌then◌else◌, true, List, [], ◌∷◌, length, take, slice_index_or, codes, bytes_eq, string_bytes, Option, Some, None, option_and_then, option_map, ⊤, Result, Ok, Err, MatchResult}
 use Rattle.line_text.specs.Numbers.{number_of}
 use Rattle.ride_model.specs.Text.{IsOneOrTwo}
+use Rattle.ride_model.specs.Limits.{longest_reach}
 use Rattle.clap.specs.Walk.{Rule, first_of}
 use Rattle.clap.specs.Simple.{App, matches_of, new_app, new_rule, on_top, with_rule}
 use Rattle.clap.specs.Faults.{fault_of}
@@ -115,7 +116,7 @@ abbrev pub ahead_wish : List (List ℕ) → Option Wanted
 ahead_wish words =
     let value = value_of ahead_command words in
     option_and_then (λ map. option_and_then (λ fleet. option_and_then (λ feed. option_map (λ reach. an_ahead map fleet feed reach)
-    (option_and_then (number_within 1 1000000) (value (codes "reach"))))
+    (option_and_then (number_within 1 longest_reach) (value (codes "reach"))))
     (value (codes "feed"))) (value (codes "fleet"))) (value (codes "map"))
 
 -- what the words ask for, by the first of them; nothing where they are not in order
@@ -182,7 +183,7 @@ wanted_by (Ahead map fleet feed reach) = an_ahead (string_bytes map) (string_byt
 -- the numbers of a wish are within their ranges
 abbrev pub IsInRange : Wish → Type 0
 IsInRange (Serve map fleet riders drivers workers desks) = (1 ≤ workers) × (workers ≤ 16) × IsOneOrTwo desks
-IsInRange (Ahead map fleet feed reach) = (1 ≤ reach) × (reach ≤ 1000000)
+IsInRange (Ahead map fleet feed reach) = (1 ≤ reach) × (reach ≤ longest_reach)
 IsInRange _ = ⊤
 
 -- words that ask for this were read: the wish was found, or they were refused; or memory was wanting

@@ -8,6 +8,7 @@ ghost use Rattle.ride_model.specs.declared.vehicle.Vehicle.{Vehicle};
 ghost use Rattle.ride_model.specs.Settings.{IsSettings};
 ghost use Rattle.ride_model.specs.State.{start_state};
 ghost use Rattle.ride_model.specs.Vehicle.{IsLawful};
+ghost use Rattle.ride_model.specs.Limits.{longest_reach};
 ghost use Rattle.session_run.specs.Ahead.{IsWrittenBy};
 ghost use Rattle.session_run.specs.Replay.{IsReadWhole, IsReplay};
 ghost use Rattle.ride_dispatch.specs.Answers.{told_bytes};
@@ -33,7 +34,7 @@ pub fn replay<R: Threads + Sync, H: Shelf, K: Sink>(
     shelf: &mut H,
     out: &mut K,
 ) -> u8
-    requires reach_limits { ForSome reach (λ r. (1 ≤ r) × (r ≤ 1000000)) }
+    requires reach_limits { ForSome reach (λ r. (1 ≤ r) × (r ≤ longest_reach)) }
     requires none_asked { H.asked shelf.old ≡ [] }
     requires none_brought { H.brought shelf.old ≡ 0 }
     requires none_back { H.back shelf.old ≡ [] }
@@ -61,7 +62,7 @@ fn replay_feed<R: Threads + Sync, H: Shelf, K: Sink>(
     shelf: &mut H,
     out: &mut K,
 ) -> u8
-    requires reach_limits { ForSome reach (λ r. (1 ≤ r) × (r ≤ 1000000)) }
+    requires reach_limits { ForSome reach (λ r. (1 ≤ r) × (r ≤ longest_reach)) }
     requires asked_room { length (H.asked shelf.old) < 8 }
     requires back_room { length (H.back shelf.old) < 8 }
     requires settings { IsSettings texts.settings }
@@ -97,7 +98,7 @@ fn answer_feed<R: Threads + Sync, S: Source, K: Sink>(
     requires lawful { All (IsLawful texts.roads) texts.fleet }
     requires idle { All (λ (v : Vehicle). v.stops.items ≡ []) texts.fleet }
     requires first_versions { All (λ (v : Vehicle). v.version ≡ 0) texts.fleet }
-    requires reach_limits { ForSome reach (λ r. (1 ≤ r) × (r ≤ 1000000)) }
+    requires reach_limits { ForSome reach (λ r. (1 ≤ r) × (r ≤ longest_reach)) }
     ensures session { (taken : List ℕ) × (entries : List Entry) × Reads (S.left feed.old) (S.left feed.new) taken
         × IsReplay (start_state texts.roads texts.settings texts.fleet) result (S.left feed.old) taken entries
         × IsWrittenBy reach (start_state texts.roads texts.settings texts.fleet) result entries (K.written out.old) (K.written out.new) }

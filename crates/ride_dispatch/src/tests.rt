@@ -19,6 +19,7 @@ mod serving;
 mod sheets;
 mod stops;
 mod texts;
+mod turns;
 
 use crate::top::run;
 use gates::{Gated, Watched};
@@ -165,8 +166,28 @@ fn answer_to<R: Abort + Threads + Wait + Sync + AllocGlobal>(
     texts: &[&str],
     setup: Setup<'_>,
 ) -> Result<Answer, NoMemory> {
+    let out = MemSink::new(rt.alloc(), setup.room, &[], &[])?;
+    answer_into(rt, texts, setup, out)
+}
+
+// What a run answers to these words over a sink that takes seven bytes a write, of which some fail.
+fn answer_by_writes<R: Abort + Threads + Wait + Sync + AllocGlobal>(
+    rt: &R,
+    texts: &[&str],
+    setup: Setup<'_>,
+    failing: &[u64],
+) -> Result<Answer, NoMemory> {
+    let out = MemSink::new(rt.alloc(), setup.room, &[7], failing)?;
+    answer_into(rt, texts, setup, out)
+}
+
+fn answer_into<R: Abort + Threads + Wait + Sync + AllocGlobal>(
+    rt: &R,
+    texts: &[&str],
+    setup: Setup<'_>,
+    mut out: MemSink<'_>,
+) -> Result<Answer, NoMemory> {
     let files = files_of(rt, setup);
-    let mut out = MemSink::new(rt.alloc(), setup.room, &[], &[])?;
     let (status, faults) = run_over(rt, texts, &files, &mut out, &OpenGate)?;
     answer_of(rt.alloc(), status, faults, &out)
 }

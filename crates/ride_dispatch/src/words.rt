@@ -12,6 +12,7 @@ use commands::{
     ahead_command, audit_command, book_command, drill_command, league_command, replay_command,
     serve_command,
 };
+use ride_model::limits::LONGEST_REACH;
 use std::alloc::Global;
 use values::{number, read_by, text};
 
@@ -247,7 +248,7 @@ fn ahead_words(alloc: Global, words: &[String]) -> Result<Wish, WordsError>
     let map = text(alloc, &given, "map")?;
     let fleet = text(alloc, &given, "fleet")?;
     let feed = text(alloc, &given, "feed")?;
-    let reach = number(&given, "reach", 1, 1_000_000)?;
+    let reach = number(&given, "reach", 1, LONGEST_REACH)?;
     Ok(Wish::Ahead {
         map,
         fleet,

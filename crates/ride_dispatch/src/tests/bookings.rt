@@ -3,7 +3,7 @@ use super::texts::{Part, text_of};
 use super::{AUDIT, DEFAULTS, File, LINE, REPLAY, ROOM, Setup, answer_to};
 use std::test::Fail;
 
-const BOOK: [&str; 3] = ["book", "--feed", "r"];
+pub(super) const BOOK: [&str; 3] = ["book", "--feed", "r"];
 
 /// Three bookings, of which one is given up, twice.
 const EVENING: &str = "book 60 7 2 4 1 600 300\n\

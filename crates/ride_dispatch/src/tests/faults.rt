@@ -1,5 +1,4 @@
-//! Words that are not in order, files that are missing, reads and writes that fail, and files beyond their limits.
-use super::serving::serve_words;
+//! Words that are not in order, files that are missing, faults with the text before them, and files beyond their limits.
 use super::texts::{Part, text_of};
 use super::{AUDIT, FEED, File, LINE, LOG, ONE_BY_ONE, PIECES, REPLAY, ROOM, Setup, answer_to};
 use std::process::Abort;
@@ -418,102 +417,6 @@ fn expect<R: Abort + Threads + Wait + Sync + AllocGlobal>(
     Ok(())
 }
 
-/// Which file's read fails.
-#[derive(Clone, Copy)]
-enum Failing {
-    Map,
-    Fleet,
-    Feed,
-    Drivers,
-    Log,
-}
-
-// The files of one request and its log, one read of one of which fails.
-fn one_failing<'a>(files: Setup<'a>, which: Failing, read: &'a [u64]) -> Setup<'a> {
-    match which {
-        Failing::Map => Setup {
-            map: File::new(files.map.bytes, &[7], read),
-            ..files
-        },
-        Failing::Fleet => Setup {
-            fleet: File::new(files.fleet.bytes, &[7], read),
-            ..files
-        },
-        Failing::Feed => Setup {
-            feed: File::new(files.feed.bytes, &[7], read),
-            ..files
-        },
-        Failing::Drivers => Setup {
-            drivers: File::new(files.drivers.bytes, &[7], read),
-            ..files
-        },
-        Failing::Log => Setup {
-            log: File::new(files.log.bytes, &[7], read),
-            ..files
-        },
-    }
-}
-
-#[test]
-fn each_read_fails_in_turn(rt: HostRuntime) -> Result<(), Fail> {
-    let map = text_of(rt.alloc(), LINE)?;
-    let fleet = text_of(rt.alloc(), ONE_BY_ONE)?;
-    let files = Setup::whole(
-        map.as_bytes(),
-        fleet.as_bytes(),
-        FEED.as_bytes(),
-        LOG.as_bytes(),
-    )
-    .with_drivers(File::whole(b"clock 0\n"));
-    let serve = serve_words("1", "1");
-    // A file of n bytes is read n / 7 times, and once more at its end.
-    for (words, which, reads) in [
-        (REPLAY.as_slice(), Failing::Map, 10),
-        (REPLAY.as_slice(), Failing::Fleet, 5),
-        (REPLAY.as_slice(), Failing::Feed, 6),
-        (AUDIT.as_slice(), Failing::Map, 10),
-        (AUDIT.as_slice(), Failing::Fleet, 5),
-        (AUDIT.as_slice(), Failing::Log, 30),
-        (serve.as_slice(), Failing::Map, 10),
-        (serve.as_slice(), Failing::Fleet, 5),
-        (serve.as_slice(), Failing::Feed, 6),
-        (serve.as_slice(), Failing::Drivers, 3),
-    ] {
-        for read in 1..=reads {
-            let answer = answer_to(&rt, words, one_failing(files, which, &[read]))?;
-            assert_eq!(rt; (answer.status, answer.faults), (5, 1), "read {read}");
-        }
-        let answer = answer_to(&rt, words, one_failing(files, which, &[reads + 1]))?;
-        assert_eq!(rt; (answer.status, answer.faults), (0, 0));
-    }
-    Ok(())
-}
-
-#[test]
-fn a_sink_that_fails_has_the_first_bytes(rt: HostRuntime) -> Result<(), Fail> {
-    let map = text_of(rt.alloc(), LINE)?;
-    let fleet = text_of(rt.alloc(), ONE_BY_ONE)?;
-    let files = Setup::whole(
-        map.as_bytes(),
-        fleet.as_bytes(),
-        FEED.as_bytes(),
-        LOG.as_bytes(),
-    );
-    let line = "yes entries 6 confirmed 1 away 0 picked 0 dropped 0 finished yes\n";
-    for (words, text) in [(&REPLAY, LOG), (&AUDIT, line)] {
-        for room in 0..text.len() {
-            let answer = answer_to(&rt, words, files.with_room(room))?;
-            assert_eq!(rt; answer.written.as_slice(), &text.as_bytes()[..room]);
-            assert_eq!(rt; (answer.status, answer.faults), (6, 0));
-        }
-        let room = text.len();
-        let answer = answer_to(&rt, words, files.with_room(room))?;
-        assert_eq!(rt; answer.text(), text);
-        assert_eq!(rt; answer.status, 0);
-    }
-    Ok(())
-}
-
 #[test]
 fn a_replay_in_pieces_of_any_length(rt: HostRuntime) -> Result<(), Fail> {
     let map = text_of(rt.alloc(), LINE)?;
@@ -529,22 +432,5 @@ fn a_replay_in_pieces_of_any_length(rt: HostRuntime) -> Result<(), Fail> {
         assert_eq!(rt; answer.text(), LOG);
         assert_eq!(rt; answer.status, 0);
     }
-    Ok(())
-}
-
-// The lines of a session have no one order, but one length together.
-#[test]
-fn a_sink_of_a_session_that_fails_is_full(rt: HostRuntime) -> Result<(), Fail> {
-    let map = text_of(rt.alloc(), LINE)?;
-    let fleet = text_of(rt.alloc(), ONE_BY_ONE)?;
-    let files = Setup::whole(map.as_bytes(), fleet.as_bytes(), FEED.as_bytes(), b"");
-    let words = serve_words("1", "1");
-    let all = LOG.len() + "f2 end\n".len();
-    for room in 0..all {
-        let answer = answer_to(&rt, &words, files.with_room(room))?;
-        assert_eq!(rt; (answer.status, answer.written.len()), (6, room));
-    }
-    let answer = answer_to(&rt, &words, files.with_room(all))?;
-    assert_eq!(rt; (answer.status, answer.written.len()), (0, all));
     Ok(())
 }

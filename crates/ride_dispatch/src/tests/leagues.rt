@@ -6,17 +6,17 @@ use std::sync::Wait;
 use std::test::Fail;
 use std::thread::Threads;
 
-const LEAGUE: [&str; 9] = [
+pub(super) const LEAGUE: [&str; 9] = [
     "league", "--map", "m", "--fleet", "f", "--second", "d", "--feed", "r",
 ];
 
 /// One vehicle of two seats at node 1, and one at node 4.
-const FIRST: &str = "vehicle 1 2 1 0\n";
+pub(super) const FIRST: &str = "vehicle 1 2 1 0\n";
 
-const SECOND: &str = "vehicle 1 2 4 0\n";
+pub(super) const SECOND: &str = "vehicle 1 2 4 0\n";
 
 /// Two requests that both companies can serve, and a round of them.
-const FEED: &str = "request 5 2 1 1 600 300\nrequest 6 1 2 1 600 300\nbatch\n";
+pub(super) const FEED: &str = "request 5 2 1 1 600 300\nrequest 6 1 2 1 600 300\nbatch\n";
 
 /// Two lines, of which a read may fail in the second.
 const CLOCKS: &str = "clock 1\nclock 2\n";

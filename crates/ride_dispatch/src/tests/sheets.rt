@@ -3,12 +3,12 @@ use super::texts::{is_like, text_of};
 use super::{DEFAULTS, File, LINE, ROOM, Setup, answer_to};
 use std::test::Fail;
 
-const AHEAD: [&str; 9] = [
+pub(super) const AHEAD: [&str; 9] = [
     "ahead", "--map", "m", "--fleet", "f", "--feed", "r", "--reach", "600",
 ];
 
 /// A request that no vehicle reaches in time, and a batch of it.
-const LEFT_OUT: &str = "request 7 3 4 1 100 300\nbatch\n";
+pub(super) const LEFT_OUT: &str = "request 7 3 4 1 100 300\nbatch\n";
 
 /// A feed over one vehicle at node 1 of four in a line, or over another fleet, how it is read and written out, and how it ends. In
 /// what is written `*` is any part of a line.

@@ -1,27 +1,17 @@
-use Rattle.std.proofs.Common.{ℕ, ◌∷◌, ◌++◌, [], refl, ap, sym, subst, ◌∙◌, arith, append-nil}
+use Rattle.std.proofs.Common.{ℕ, ◌∷◌, ◌++◌, [], refl, ap, sym, subst, ◌∙◌, arith}
 use Rattle.std.specs.Prelude.{string_bytes}
 use Rattle.ride_ports.specs.Contents.{given_back}
 use Rattle.ride_ports.specs.Count.{Rose}
 use Rattle.ride_dispatch.proofs.Bringing.{left-of, left-of-content}
 use Rattle.ride_dispatch.proofs.Statuses.{ran-possible, sink-status, source-status, whole-status}
 use Rattle.ride_dispatch.proofs.Told.{replay-of-content, told-taken}
-use Rattle.ride_dispatch.proofs.Works.{all-brought, not-brought, rose-above, spent-alone}
+use Rattle.ride_dispatch.proofs.Works.{all-brought, first-missing, rose-above, spent-alone}
 use Rattle.ride_dispatch.proofs.replaying.replay_feed.Goals as goal
 
 pub returns-in_default-clause-work : goal.returns-in_default-clause-work
-returns-in_default-clause-work g c = not-brought _ _ _ _ _ (record {
-  more = string_bytes c.args.name ∷ [];
-  sources = [];
-  asked_is = c.in_default.ensures.asked;
-  some = omega arith;
-  begins = refl;
-  back_is = c.in_default.ensures.back_stays ∙ sym (append-nil _);
-  in_order = tt;
-  brought_is = omega (arith, c.in_default.ensures.failed_counts_none);
-  fewer = omega arith;
-  untouched = refl;
-  rose = c.in_default.ensures.failed_only_at_fault;
-})
+returns-in_default-clause-work g c =
+    first-missing _ _ _ _ _ _ c.in_default.ensures.asked c.in_default.ensures.failed_counts_none c.in_default.ensures.back_stays refl
+    c.in_default.ensures.failed_only_at_fault
 
 pub returns-clause-work : goal.returns-clause-work
 returns-clause-work g c =

@@ -1,29 +1,20 @@
-use Rattle.std.proofs.Common.{ℕ, Option, ◌∷◌, ◌++◌, [], refl, ap, sym, subst, ◌∙◌, arith, append-nil}
+use Rattle.std.proofs.Common.{ℕ, Option, ◌∷◌, ◌++◌, [], refl, ap, sym, subst, ◌∙◌, arith}
 use Rattle.std.specs.Prelude.{string_bytes}
 use Rattle.std.proofs.lemmas.List.{append_assoc}
 use Rattle.ride_ports.specs.Contents.{Contents, IsContentOf, given_back}
 use Rattle.ride_ports.specs.Count.{Rose}
+use Rattle.ride_ports.proofs.CountLemmas.{Rose-then_kept, Rose-after_kept}
 use Rattle.ride_dispatch.specs.Sessions.{IsServed, feed_of}
 use Rattle.ride_dispatch.proofs.Bringing.{left-of, left-of-content}
-use Rattle.ride_dispatch.proofs.Services.{bytes-of, drivers-taken, one-of-two, riders-taken, rose-later, rose-still, served-of, to-ends}
+use Rattle.ride_dispatch.proofs.Services.{bytes-of, drivers-taken, one-of-two, riders-taken, served-of, to-ends}
 use Rattle.ride_dispatch.proofs.Statuses.{ran-possible, sink-status, source-status, whole-status}
-use Rattle.ride_dispatch.proofs.Works.{all-brought, not-brought, rose-above, spent-both}
+use Rattle.ride_dispatch.proofs.Works.{all-brought, first-missing, rose-above, spent-both}
 use Rattle.ride_dispatch.proofs.serving.serve_feeds.Goals as goal
 
 pub returns-in_default-clause-work : goal.returns-in_default-clause-work
-returns-in_default-clause-work g c = not-brought _ _ _ _ _ (record {
-  more = string_bytes c.args.riders_name ∷ [];
-  sources = [];
-  asked_is = c.in_default.ensures.asked;
-  some = omega arith;
-  begins = refl;
-  back_is = c.in_default.ensures.back_stays ∙ sym (append-nil _);
-  in_order = tt;
-  brought_is = omega (arith, c.in_default.ensures.failed_counts_none);
-  fewer = omega arith;
-  untouched = refl;
-  rose = c.in_default.ensures.failed_only_at_fault;
-})
+returns-in_default-clause-work g c =
+    first-missing _ _ _ _ _ _ c.in_default.ensures.asked c.in_default.ensures.failed_counts_none c.in_default.ensures.back_stays refl
+    c.in_default.ensures.failed_only_at_fault
 
 pub returns-clause-work : goal.returns-clause-work
 returns-clause-work g c =
@@ -79,8 +70,8 @@ returns-clause-work g c =
           );
       shelf_fault = λ five. subst (λ (k : ℕ). Rose k (g.H.Shelf.faults c.give_back-3.new.self)) (c.in-Ok-bring.ensures.ok_counts_none ∙ c.in-Ok.ensures.ok_counts_none)
           (one-of-two
-          (λ rose. rose-still _ _ _ (c.give_back-2.ensures.fault_rises (rose-above _ _ c.in-Ok.ensures.unharmed rose)) c.give_back-3.ensures.count_never_falls)
-          (λ rose. rose-later _ _ _ c.give_back-2.ensures.count_never_falls
+          (λ rose. Rose-then_kept _ _ _ (c.give_back-2.ensures.fault_rises (rose-above _ _ c.in-Ok.ensures.unharmed rose)) c.give_back-3.ensures.count_never_falls)
+          (λ rose. Rose-after_kept _ _ _ c.give_back-2.ensures.count_never_falls
           (c.give_back-3.ensures.fault_rises (rose-above _ _ c.in-Ok-bring.ensures.unharmed rose)) c.give_back-3.ensures.count_never_falls)
           (c.serve-ran.ensures.source_fault (source-status ran (sym c.status.ensures ∙ five))));
       sink_fault = λ six. c.serve-ran.ensures.sink_fault (sink-status ran (sym c.status.ensures ∙ six));
