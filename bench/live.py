@@ -223,7 +223,8 @@ def report(session, drivers, lines):
 
 
 def grow(program, folder, processors):
-    """Gives each vehicle 7 rides, by batches of those that have fewer, and then times batches over all of them."""
+    """Gives each vehicle 7 rides, by batches of those that have fewer, and then times batches over all of them. A few stand where no way
+    leads, and never get a ride."""
     draw = random.Random(1)
     nodes, vehicles, full = 264_346, range(1, 1001), 7
     fleet = "".join(f"vehicle {v} 16 {draw.randint(1, nodes)} 0\n" for v in vehicles)
@@ -238,14 +239,18 @@ def grow(program, folder, processors):
         seats, seconds = one_batch(session, riders, draw, nodes, number, count, len(batches) + 1)
         batches.append(seconds)
         number += count
+        if not seats:
+            break
         for vehicle in seats:
             rides[vehicle] += 1
         leaving = [vehicle for vehicle in seats if rides[vehicle] == full]
         report(session, drivers, [f"off {vehicle}" for vehicle in leaving])
     report(session, drivers, [f"on {vehicle}" for vehicle in vehicles])
     last = [one_batch(session, riders, draw, nodes, number + 128 * place, 128, len(batches) + 1 + place)[1] for place in range(3)]
-    print(f"{processors} processors: {len(batches)} batches until each plan has 14 stops, the first {batches[0]:.2f} s, the longest "
-          f"{max(batches):.2f} s, the last {batches[-1]:.2f} s; then of 128 over 1,000 full plans " + ", ".join(f"{s:.2f} s" for s in last))
+    grown = sum(count == full for count in rides.values())
+    print(f"{processors} processors: {len(batches)} batches until {grown} plans have 14 stops, the first {batches[0]:.2f} s, the longest "
+          f"{max(batches):.2f} s, the longest of the later half {max(batches[len(batches) // 2:]):.2f} s; then of 128 over all "
+          + ", ".join(f"{s:.2f} s" for s in last))
     session.kill()
 
 
