@@ -3,13 +3,13 @@ use Rattle.std.proofs.Common.{◌≡◌, ℕ, ◌<◌, ◌^◌, true, false, Boo
 use Rattle.std.specs.Prelude.{All, None}
 use Rattle.std.specs.List.{IsDistinct}
 use Rattle.std.proofs.lemmas.List.Elements.{All-from_recursion}
+use Rattle.std.proofs.lemmas.Bool.{and_parts}
 use Rattle.ride_model.specs.declared.vehicle.Ride.{Ride}
 use Rattle.ride_model.specs.declared.vehicle.Vehicle.{Vehicle}
 use Rattle.ride_model.specs.Fleet.{IsFleet}
 use Rattle.ride_model.specs.Seating.{IsBatchOver}
 use Rattle.ride_model.specs.Vehicle.{IsFresh, IsLawful, IsRide, ride_ids}
-use Rattle.model_laws.proofs.AboardLoads.{and-true}
-use Rattle.model_laws.proofs.Among.{among_from_contains}
+use Rattle.plain_lemmas.proofs.Among.{among_from_contains}
 use Rattle.plan_trials.specs.SmallPlans.{four_nodes, ride_of}
 use Rattle.plan_trials.specs.LineRoad.{is_lawful, is_new}
 use Rattle.plan_trials.proofs.LineRoad.{a_ride, fresh, lawful}
@@ -28,9 +28,9 @@ record Drives (v : Vehicle) : Type 0 where
 drives : (v : Vehicle) → may_drive v ≡ true → Drives v
 drives v h =
     let ids = ride_ids v.rides.items in
-    let (h3, eight) = and-true _ (is_new 8 ids) h in
-    let (h2, nine) = and-true _ (is_new 9 ids) h3 in
-    let (is, first) = and-true (is_lawful v) (eqb v.id 1) h2 in
+    let (h3, eight) = and_parts _ (is_new 8 ids) h in
+    let (h2, nine) = and_parts _ (is_new 9 ids) h3 in
+    let (is, first) = and_parts (is_lawful v) (eqb v.id 1) h2 in
     record { lawful = lawful v is; first = eqb-true v.id 1 first; nine = fresh ids 9 nine; eight = fresh ids 8 eight }
 
 idle-lawful : IsLawful four_nodes (idle 2 4 true)
