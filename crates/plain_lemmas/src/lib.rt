@@ -1,2 +1,2 @@
-//! Plain lemmas that the kit has not: of options, numbers and lists. They speak of no word of ride dispatch.
+//! Plain lemmas that several crates cite: of options, numbers and lists. They speak of no word of ride dispatch.
 #![tactic(auto)]
