@@ -1,15 +1,12 @@
 -- What is found first.
-use Rattle.std.proofs.Common.{◌≡◌, ℕ, zero, suc, ◌+◌, ◌<◌, ◌≤◌, Bool, true, false, cond, List, [], ◌∷◌, length, drop, get_or, refl, sym, ◌∙◌, ap, arith}
+use Rattle.std.proofs.Common.{◌≡◌, ℕ, zero, suc, ◌+◌, ◌<◌, ◌≤◌, Bool, true, false, cond, List, [], ◌∷◌, length, drop, get_or, refl, sym, ◌∙◌, ap, arith, add-one}
 use Rattle.std.specs.Prelude.{Option, Some, None, find}
 
 -- what is found from a place on is the element there, or what is found from the next place on
 pub find-drop : {X : Type 0} (p : X → Bool) (xs : List X) (i : ℕ) (d : X) → i < length xs
     → find p (drop i xs) ≡ cond (p (get_or xs i d)) (Some (get_or xs i d)) (find p (drop (i + 1) xs))
-find-drop p xs i d h = step p xs i d h ∙ ap (λ n. cond (p (get_or xs i d)) (Some (get_or xs i d)) (find p (drop n xs))) (one i)
+find-drop p xs i d h = step p xs i d h ∙ ap (λ n. cond (p (get_or xs i d)) (Some (get_or xs i d)) (find p (drop n xs))) (sym (add-one i))
   where
-    one : (k : ℕ) → suc k ≡ k + 1
-    one k = omega arith
-
     step : {X : Type 0} (p : X → Bool) (xs : List X) (i : ℕ) (d : X) → i < length xs
         → find p (drop i xs) ≡ cond (p (get_or xs i d)) (Some (get_or xs i d)) (find p (drop (suc i) xs))
     step p [] i d h = absurd (omega arith)

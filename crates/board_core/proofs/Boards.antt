@@ -168,14 +168,6 @@ board-fed setup service after kept capacity room board feed command reply spare 
       room = omega (arith, fits, length-append board.history (entry ∷ []));
     }
 
--- what a board answers
-pub reply-is : (setup : Given) (service after : Service) (kept : Desks) (capacity : ℕ) (board : Recorded) (command : Command) (reply : Reply)
-    → IsBoard setup service kept capacity board
-    → step (state_at setup service (state_of board)) command ≡ answered_at setup after (state_of board) reply
-    → reply ≡ (step (state_of board) command).reply
-reply-is setup service after kept capacity board command reply is stepped =
-    sym (ap (λ t. (step t command).reply) is.mirrors.state_is ∙ ap (λ (a : Answered). a.reply) stepped)
-
 -- a board on which nothing happened yet
 pub board-new : (roads : RoadMap) (settings : Settings) (fleet : List Vehicle) (feeds desks : ℕ) (service : Service) (capacity : ℕ)
     → IsRoadMap roads → IsSettings settings → IsFleet fleet → All (IsLawful roads) fleet → All (λ (v : Vehicle). v.stops.items ≡ []) fleet

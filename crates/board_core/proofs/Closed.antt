@@ -18,9 +18,8 @@ use Rattle.ride_model.specs.History.{is_abandoned}
 use Rattle.ride_model.specs.Legal.{after_event, after_entry, IsLegalEntry, CommitsBatch}
 use Rattle.ride_model.specs.Seating.{BatchCopy}
 use Rattle.ride_model.specs.State.{State, is_batch, open_batch_of, open_batch_numbered}
-use Rattle.plain_lemmas.proofs.Among.{Among}
+use Rattle.plain_lemmas.proofs.Among.{Among, found_among}
 use Rattle.plain_lemmas.proofs.Each.{of_all}
-use Rattle.model_laws.proofs.Certificates.{found_among}
 use Rattle.model_laws.proofs.Histories.{replay-push}
 use Rattle.history_laws.specs.Consistent.{IsOpenBatch}
 use Rattle.history_laws.specs.Start.{is_fed, IsFedSpelled}

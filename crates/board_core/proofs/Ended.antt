@@ -46,6 +46,11 @@ ending_of-with kept (Desk a) (Desk b) ending fits = at_number-with a b (Some end
 ending_of-with kept (Feed a) (Desk b) ending fits = refl
 ending_of-with kept (Desk a) (Feed b) ending fits = refl
 
+-- no place is counted for one that has not ended
+no-place : (o : Option Ending) → is_some o ≡ false → one_if_some o ≡ 0
+no-place None h = refl
+no-place (Some e) h = absurd (cc h)
+
 -- one place less is kept for it
 pub places-with : (kept : Desks) (actor : Actor) (ending : Ending) → IsOneOrTwo (number_of actor) → is_some (ending_of kept actor) ≡ false
     → places_kept (with_ending actor ending kept) + 1 ≡ places_kept kept
@@ -53,26 +58,18 @@ places-with kept (Feed number) ending fits lives =
     omega (
       arith,
       count-with number (Some ending) kept.feeds_ended fits,
-      none (at_number kept.feeds_ended number) lives,
+      no-place (at_number kept.feeds_ended number) lives,
       count-le (with_number number (Some ending) kept.feeds_ended),
       count-le kept.desks_ended,
     )
-  where
-    none : (o : Option Ending) → is_some o ≡ false → one_if_some o ≡ 0
-    none None h = refl
-    none (Some e) h = absurd (cc h)
 places-with kept (Desk number) ending fits lives =
     omega (
       arith,
       count-with number (Some ending) kept.desks_ended fits,
-      none (at_number kept.desks_ended number) lives,
+      no-place (at_number kept.desks_ended number) lives,
       count-le (with_number number (Some ending) kept.desks_ended),
       count-le kept.feeds_ended,
     )
-  where
-    none : (o : Option Ending) → is_some o ≡ false → one_if_some o ≡ 0
-    none None h = refl
-    none (Some e) h = absurd (cc h)
 
 -- what is kept mirrors the state after an end
 mirrors-ended : (setup : Given) (service : Service) (kept : Desks) (s : State) (old new : List Entry) (actor : Actor) (ending : Ending)

@@ -1,5 +1,5 @@
 -- Requests whose states are set one after another.
-use Rattle.std.proofs.Common.{◌≡◌, ℕ, zero, suc, ◌+◌, ◌<◌, Bool, List, [], ◌∷◌, ◌++◌, length, map, take, get_or, refl, ◌∙◌, ap, arith}
+use Rattle.std.proofs.Common.{◌≡◌, ℕ, zero, suc, ◌+◌, ◌<◌, Bool, List, [], ◌∷◌, ◌++◌, length, map, take, get_or, refl, ◌∙◌, ap, arith, sym, add-one}
 use Rattle.ride_model.specs.declared.reply.RequestState.{RequestState}
 use Rattle.ride_model.specs.declared.vehicle.Ride.{Ride}
 use Rattle.ride_model.specs.Batch.{with_request_states, standing_rides}
@@ -14,21 +14,14 @@ pub with_states-marked : (state : RequestState) (rides : List Ride) (s : State)
 with_states-marked state [] s = refl
 with_states-marked state (ride ∷ rides) s = with_states-marked state rides (with_request_state ride.id state s)
 
--- the standing rides are those whose requests are still in the batch
-pub standing-is : (batch : BatchCopy) (s : State) → standing_rides batch s ≡ still_in s.requests batch.number batch.requests
-standing-is batch s = refl
-
 -- one flag more
 pub flags-more : (f : ℕ → Bool) (rides : List Ride) (place : ℕ) (d : Ride) (flag : Bool) (old new : List Bool) → place < length rides
     → old ≡ map f (ride_ids (take place rides)) → new ≡ old ++ flag ∷ [] → flag ≡ f (get_or rides place d).id
     → new ≡ map f (ride_ids (take (place + 1) rides))
 flags-more f rides place d flag old new low old_is new_is flag_is =
     new_is ∙ ap (λ flags. flags ++ flag ∷ []) old_is ∙ ap (λ b. map f (ride_ids (take place rides)) ++ b ∷ []) flag_is
-    ∙ step rides place low ∙ ap (λ n. map f (ride_ids (take n rides))) (one place)
+    ∙ step rides place low ∙ ap (λ n. map f (ride_ids (take n rides))) (sym (add-one place))
   where
-    one : (n : ℕ) → suc n ≡ n + 1
-    one n = omega arith
-
     step : (rs : List Ride) (n : ℕ) → n < length rs
         → map f (ride_ids (take n rs)) ++ f (get_or rs n d).id ∷ [] ≡ map f (ride_ids (take (suc n) rs))
     step [] n h = absurd (omega arith)

@@ -21,23 +21,6 @@ use Rattle.board_core.specs.Reports.{lateness_of, IsMoved}
 abbrev pub put_before : Vehicle → ℕ → ℕ → ℕ → Vehicle
 put_before v node time leg = raised (record v { at = node; ready = time; stops = record { items = relegged 0 leg v.stops.items } })
 
--- a vehicle without stops is at the node
-pub moved-idle : (setup : Given) (v : Vehicle) (node time : ℕ) → v.stops.items ≡ []
-    → IsMoved setup v node time OnMap (raised (record v { at = node; ready = time }))
-moved-idle setup v node time none = λ s place roads_are settings_are stays.
-    ap (report s place v (reported s node time v)) none
-    ∙ ap (λ after. record { state = with_vehicle s place after; reply = OnMap })
-    (reported-is s node time v [] (ap (routed s.roads node) none)
-    ∙ ap (λ stops. raised (record v { at = node; ready = time; stops = record { items = stops } })) (sym none))
-
--- a vehicle stays where there is no way
-pub moved-nowhere : (setup : Given) (v : Vehicle) (node time : ℕ) (first : Stop) (rest : List Stop) → v.stops.items ≡ first ∷ rest
-    → travel setup.roads node first.node ≡ None → IsMoved setup v node time (Refused 13) v
-moved-nowhere setup v node time first rest is no_way = λ s place roads_are settings_are stays.
-    ap (report s place v (reported s node time v)) is
-    ∙ ap (report_driving s place v (reported s node time v) (v.ready + first.leg)) (ap (λ roads. travel roads node first.node) roads_are ∙ no_way)
-    ∙ ap (λ vehicles. record { state = record s { vehicles = vehicles }; reply = Refused 13 }) (sym stays)
-
 -- a vehicle is put before its first stop
 pub put-is : (s : State) (v : Vehicle) (node time leg : ℕ) (first : Stop) (rest : List Stop) → IsLawful s.roads v → v.stops.items ≡ first ∷ rest
     → travel s.roads node first.node ≡ Some leg → reported s node time v ≡ put_before v node time leg

@@ -8,21 +8,22 @@ use Rattle.std.proofs.lemmas.Bool.{eqb-true, ne_eqb}
 use Rattle.std.proofs.lemmas.List.Folds.{find-append}
 use Rattle.plain_lemmas.proofs.Each.{of_all}
 use Rattle.plain_lemmas.proofs.Lists.{length-filter_map-le}
+use Rattle.plain_lemmas.proofs.Options.{none_from_is_some}
+use Rattle.plain_lemmas.proofs.Among.{found_among}
 use Rattle.ride_model.specs.declared.command.Actor.{Actor}
 use Rattle.ride_model.specs.declared.command.Actor.TheVariants.{Feed}
 use Rattle.ride_model.specs.declared.command.Command.{Command}
 use Rattle.ride_model.specs.declared.entry.Ending.{Ending}
 use Rattle.ride_model.specs.declared.entry.Entry.{Entry}
 use Rattle.ride_model.specs.declared.reply.Reply.{Reply}
-use Rattle.ride_model.specs.Batch.{next_batch, after_opening, after_commit, after_abandon}
+use Rattle.ride_model.specs.Batch.{next_batch, after_opening, after_commit, after_abandon, outcomes_of}
 use Rattle.ride_model.specs.History.{entries_of, command_of, fed_commands}
 use Rattle.ride_model.specs.Legal.{after_entry, replay, IsLegal, all_feeds_ended}
 use Rattle.ride_model.specs.Road.{RoadMap}
-use Rattle.ride_model.specs.Seating.{BatchCopy, IsBatchOver}
+use Rattle.ride_model.specs.Seating.{BatchCopy, IsBatchOver, seating_cost}
 use Rattle.ride_model.specs.State.{State, is_actor, is_batch, open_batch_of, open_batch_numbered}
 use Rattle.ride_model.specs.Vehicle.{IsLawful}
 use Rattle.batch_commit.specs.Solved.{SolvedBatch}
-use Rattle.model_laws.proofs.Certificates.{found_among}
 use Rattle.model_laws.proofs.Histories.{replay-push}
 use Rattle.model_laws.proofs.RequestStates.{others-opening, abandon-is}
 use Rattle.history_laws.specs.Consistent.{IsOpenBatch}
@@ -31,6 +32,7 @@ use Rattle.history_laws.proofs.EveryState.{consistent}
 use Rattle.history_laws.proofs.Leaving.{is_batch-own}
 use Rattle.history_laws.proofs.Raised.{length-filter-le}
 use Rattle.history_laws.proofs.Untouched.{leaves-step, stays-outcomes}
+use Rattle.history_laws.proofs.OpenedBatches.{committed-state, abandoned-state}
 use Rattle.board_core.specs.declared.opening.Opening.{Opening}
 use Rattle.board_core.specs.declared.opening.Opening.TheVariants.{Batch, Idle, Ended}
 use Rattle.board_core.specs.Opening.{opening_at}
@@ -40,6 +42,13 @@ use Rattle.board_core.specs.Recorded.{Recorded, state_of, fed_entry, end_entry, 
 pub state-push : (old new : Recorded) (entry : Entry) → new.start ≡ old.start → new.history ≡ old.history ++ entry ∷ []
     → state_of new ≡ after_entry (state_of old) entry
 state-push old new entry start history = (λ i. replay (start i) (history i)) ∙ replay-push old.start old.history entry
+
+-- what was opened is one batch
+pub same_batch : (a b : BatchCopy) → Batch a ≡ Batch b → a ≡ b
+same_batch a b e = cc e
+
+pub same_got : (a b : BatchCopy) → ◌≡◌ {A = Result Opening AllocError} (Ok (Batch a)) (Ok (Batch b)) → a ≡ b
+same_got a b e = cc e
 
 -- a batch is open, found by its desk and number
 abbrev pub IsOpen : State → BatchCopy → Type 0
@@ -74,12 +83,8 @@ open-last s t batch more none =
     ap (find (is_batch batch.desk batch.number)) more
     ∙ find-append (is_batch batch.desk batch.number) s.batches (batch ∷ [])
     ∙ ap (λ o. option_or o (find (is_batch batch.desk batch.number) (batch ∷ [])))
-    (none-numbered batch.desk batch.number s.batches (is_none (open_batch_of s batch.desk) none))
+    (none-numbered batch.desk batch.number s.batches (none_from_is_some (open_batch_of s batch.desk) none))
     ∙ ap (λ t. cond t (Some batch) None) (is_batch-own batch)
-  where
-    is_none : (o : Option BatchCopy) → IsNone o → o ≡ None
-    is_none None h = refl
-    is_none (Some b) h = absurd (cc h)
 
 -- a batch of another desk stays open where one is closed
 pub open-other : (s t : State) (closed : BatchCopy) → t.batches ≡ filter (λ other. not (is_batch closed.desk closed.number other)) s.batches
@@ -179,17 +184,20 @@ gets old new desk r start none opening entry no_entry = by_kind r refl
         let more : (state_of new).batches ≡ (state_of old).batches ++ batch ∷ [] = batches-opened old new desk batch start next (entry batch is) in
         record {
           held = open-more (state_of old) (state_of new) batch more;
-          opened = λ b is_b. subst (λ (x : BatchCopy). (x.desk ≡ desk) × IsOpen (state_of new) x) (same batch b (sym is ∙ is_b)) (
+          opened = λ b is_b. subst (λ (x : BatchCopy). (x.desk ≡ desk) × IsOpen (state_of new) x) (same_got batch b (sym is ∙ is_b)) (
             desk_is,
             open-last (state_of old) (state_of new) batch more (subst (λ d. IsNone (open_batch_of (state_of old) d)) (sym desk_is) none),
           );
         }
-      where
-        same : (a b : BatchCopy) → ◌≡◌ {A = Result Opening AllocError} (Ok (Batch a)) (Ok (Batch b)) → a ≡ b
-        same a b e = cc e
     by_kind (Ok Idle) is = stays (λ b e. absurd (cc (is, e)))
     by_kind (Ok Ended) is = stays (λ b e. absurd (cc (is, e)))
     by_kind (Err e) is = stays (λ b got. absurd (cc (is, got)))
+
+-- the state after a commit of an open batch
+pub after-committed : (s : State) (solved : SolvedBatch) → IsOpen s solved.batch
+    → after_entry s (committed_entry s solved) ≡ after_commit solved.batch solved.answer.seating s
+after-committed s solved = committed-state s solved.batch (seating_cost s.roads solved.batch solved.answer.seating) solved.answer.seating
+    solved.answer.prices solved.answer.pays (outcomes_of solved.batch solved.answer.seating s)
 
 -- the open batches of a board that closed one
 pub batches-committed : (old new : Recorded) (solved : SolvedBatch) → new.start ≡ old.start → IsOpen (state_of old) solved.batch
@@ -198,22 +206,15 @@ pub batches-committed : (old new : Recorded) (solved : SolvedBatch) → new.star
 batches-committed old new solved start held history =
     let s : State = state_of old in
     let batch : BatchCopy = solved.batch in
-    ap (λ (t : State). t.batches) (state-push old new (committed_entry s solved) start history ∙ committed held)
+    ap (λ (t : State). t.batches) (state-push old new (committed_entry s solved) start history ∙ after-committed s solved held)
     ∙ ap (filter (λ other. not (is_batch batch.desk batch.number other)))
     (stays-outcomes batch solved.answer.seating s batch.requests s).batches
-  where
-    committed : IsOpen (state_of old) solved.batch
-        → after_entry (state_of old) (committed_entry (state_of old) solved) ≡ after_commit solved.batch solved.answer.seating (state_of old)
-    committed found = rw found refl
 
 pub batches-abandoned : (old new : Recorded) (batch : BatchCopy) → new.start ≡ old.start → IsOpen (state_of old) batch
     → new.history ≡ old.history ++ abandoned_entry batch ∷ []
     → (state_of new).batches ≡ filter (λ other. not (is_batch batch.desk batch.number other)) (state_of old).batches
 batches-abandoned old new batch start held history =
-    ap (λ (t : State). t.batches) (state-push old new (abandoned_entry batch) start history ∙ abandoned held ∙ abandon-is (state_of old) batch)
-  where
-    abandoned : IsOpen (state_of old) batch → after_entry (state_of old) (abandoned_entry batch) ≡ after_abandon batch (state_of old)
-    abandoned found = rw found refl
+    ap (λ (t : State). t.batches) (state-push old new (abandoned_entry batch) start history ∙ abandoned-state (state_of old) batch held ∙ abandon-is (state_of old) batch)
 
 -- batches of other desks are open after a commit, and after a batch was given up
 pub open-committed : (old new : Recorded) (solved : SolvedBatch) → new.start ≡ old.start → IsOpen (state_of old) solved.batch

@@ -27,6 +27,7 @@ use Rattle.board_core.proofs.FedEntries.{within-push, none-of_others}
 use Rattle.board_core.proofs.Marked.{with_states-marked}
 use Rattle.board_core.proofs.Numbering.{at_number-with, count-with}
 use Rattle.board_core.proofs.Boards.{board-consistent, pushed, recorded-push, abandoned-push}
+use Rattle.plain_lemmas.proofs.Options.{none_from_is_some}
 
 -- the next batch by what is kept
 pub next-is : (setup : Given) (service : Service) (kept : Desks) (capacity : ℕ) (board : Recorded) (desk : ℕ) → IsBoard setup service kept capacity board
@@ -101,11 +102,7 @@ board-opened setup service after kept capacity room board desk batch is numbered
     number_is = ap (λ (b : BatchCopy). b.number) batch_is
 
     none : open_batch_of s desk ≡ None
-    none = is_none (open_batch_of s desk) none_open
-      where
-        is_none : (o : Option BatchCopy) → IsNone o → o ≡ None
-        is_none None h = refl
-        is_none (Some b) h = absurd (cc h)
+    none = none_from_is_some (open_batch_of s desk) none_open
 
     two : IsOneOrTwo desk
     two = (numbered.0, omega (arith, numbered.1, is.recorded.desks_fit.1))

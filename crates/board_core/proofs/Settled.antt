@@ -23,9 +23,8 @@ use Rattle.ride_model.specs.Seating.{BatchCopy, find_vehicle, vehicle_ids}
 use Rattle.ride_model.specs.State.{State}
 use Rattle.ride_model.specs.Step.{raised}
 use Rattle.ride_model.specs.Vehicle.{IsLawful, IsRide, IsFresh, ride_ids}
-use Rattle.plain_lemmas.proofs.Among.{Among, among_from_contains, contains_from_among}
+use Rattle.plain_lemmas.proofs.Among.{Among, among_from_contains, contains_from_among, found_among}
 use Rattle.plain_lemmas.proofs.Each.{of_each, of_all}
-use Rattle.model_laws.proofs.Certificates.{found_among}
 use Rattle.model_laws.proofs.Costs.{OfferPlan, offer_plan}
 use Rattle.model_laws.proofs.Insertions.{InsertedFacts, inserted_facts, length-stops_with}
 use Rattle.model_laws.proofs.PlanStops.{unlegged-routed}
@@ -40,7 +39,7 @@ use Rattle.stop_plans.specs.Change.{InsertsInto}
 use Rattle.history_laws.specs.Consistent.{IsEarlier, AreEarlier}
 use Rattle.history_laws.proofs.Lookups.{found_by, ids-map, placed_is, put, put-id}
 use Rattle.history_laws.proofs.Earlier.{later_of}
-use Rattle.history_laws.proofs.Confirming.{ready_at, start-fits, version_of-found, priced_start-found}
+use Rattle.history_laws.proofs.Confirming.{ready_at, start-fits, version_of-found, priced_start-found, routed-ready}
 use Rattle.history_laws.proofs.Committing.{put_elsewhere}
 use Rattle.board_core.specs.declared.service.Service.{Service}
 use Rattle.board_core.specs.Given.{Given}
@@ -208,24 +207,7 @@ confirmed-version batch moment seats id seat confirmed found =
 -- a vehicle is lawful when it is ready later
 lawful-ready : (roads : RoadMap) (v : Vehicle) (start : ℕ) → IsLawful roads v → v.ready ≤ start → start ≤ 1000003600
     → IsLawful roads (ready_at start v)
-lawful-ready roads v start lawful later fits =
-    let r = lawful.routed in
-    record {
-      routed = record {
-        some_seat = r.some_seat;
-        seats_limit = r.seats_limit;
-        chairs_limit = r.chairs_limit;
-        at_node = r.at_node;
-        ready_limit = fits;
-        rides_fit = r.rides_fit;
-        picked_before = All-weaker (λ (ride : Ride). IfSome ride.picked (λ picked. picked ≤ v.ready))
-            (λ (ride : Ride). IfSome ride.picked (λ picked. picked ≤ start))
-            (λ ride before. IfSome_then ride.picked before (λ at h. omega (arith, h, later))) v.rides.items r.picked_before;
-        planned = r.planned;
-        legs = r.legs;
-      };
-      loads = lawful.loads;
-    }
+lawful-ready roads v start lawful later fits = record { routed = routed-ready roads v start lawful.routed later fits; loads = lawful.loads }
 
 -- a vehicle that starts for a batch
 started-is : (v : Vehicle) (lead time : ℕ) → started v (start_of v lead time) ≡ ready_at (start_of v lead time) v
@@ -465,11 +447,8 @@ settle-step batch seats moment rides r ride d low is s =
     ∙ ap (λ (x : Ride). after_outcomes batch seats moment (drop (suc r) rides) (after_outcome batch x (seat_of seats x.id) (outcome_of batch seats moment x.id) s))
     (sym is)
     ∙ ap (λ n. after_outcomes batch seats moment (drop n rides) (after_outcome batch ride (seat_of seats ride.id) (outcome_of batch seats moment ride.id) s))
-    (one r)
+    (sym (add-one r))
   where
-    one : (n : ℕ) → suc n ≡ n + 1
-    one n = omega arith
-
     step : (rs : List Ride) (n : ℕ) → n < length rs
         → after_outcomes batch seats moment (drop n rs) s
         ≡ after_outcomes batch seats moment (drop (suc n) rs)

@@ -26,18 +26,6 @@ taken-rest desk new b due is =
     is ∙ ap (λ (o : Option Booking). option_map_or (λ (x : Booking). after_unbook desk (id_of x)) o desk) due in
     taken ∙ ap (λ bs. record desk { held = bs }) (sym (ap (λ (d : DeskState). d.held) taken))
 
--- what holds of each booking holds of the one that is found
-pub found-holds_so : (P : Booking → Type 0) (p : Booking → Bool) (bs : List Booking) (b : Booking) → AllByRecursion P bs → find p bs ≡ Some b → P b
-found-holds_so P p [] b all h = absurd (cc h)
-found-holds_so P p (x ∷ bs) b (first, all) h = by (found-holds_so P p bs b all) (p x) refl
-  where
-    by : (find p bs ≡ Some b → P b) → (y : Bool) → p x ≡ y → P b
-    by ih true at =
-        let is : Some x ≡ Some b = rw at at h in
-        let same : x ≡ b = cc in
-        subst P same first
-    by ih false at = ih (rw at at h)
-
 -- the first booking that is due is taken
 pub first-taken_due : (calls : List DeskCall) (b : Booking) (due : List Booking) (desk new : DeskState) → desk ≡ with_due calls (b ∷ due)
     → leb b.release (clock_of calls) ≡ true → new ≡ after_take desk → IfSome (due_of desk) (λ (x : Booking). desk.held ≡ x ∷ new.held)

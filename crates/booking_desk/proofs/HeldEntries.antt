@@ -175,7 +175,3 @@ first-not_due clock (e ∷ entries) first at late (later, sorted) =
     let after : clock < e.0.0 = subst (λ (f : Entry). clock < f.0.0) (sym is) late in
     let no : leb e.0.0 clock ≡ false = grind arith in
     rw no (none-due clock e.0 after entries later)
-
-pub empty-not_due : (clock : ℕ) (entries : List Entry) → length entries ≡ 0 → find (is_due clock) (bookings_in entries) ≡ None
-empty-not_due clock [] h = refl
-empty-not_due clock (e ∷ entries) h = absurd (omega arith)

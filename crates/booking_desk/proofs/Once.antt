@@ -3,7 +3,7 @@ use Rattle.std.proofs.Common.{◌≡◌, ℕ, ◌≤◌, ◌+◌, Bool, true, fa
 use Rattle.std.specs.Prelude.{Contains, IfSome, filter, find, map, not, ◌||◌}
 use Rattle.std.specs.List.{AllByRecursion, IsDistinct}
 use Rattle.std.proofs.lemmas.List.{append_assoc, append-nil}
-use Rattle.std.proofs.lemmas.List.Elements.{Contains-append_left, Contains-push}
+use Rattle.std.proofs.lemmas.List.Elements.{Contains-append_left, Contains-push, All-from_recursion}
 use Rattle.ride_model.specs.declared.command.Command.{Command}
 use Rattle.booking_desk.specs.declared.replies.BookReply.{BookReply}
 use Rattle.booking_desk.specs.declared.replies.BookReply.TheVariants.{Held, Now, Refused}
@@ -11,7 +11,7 @@ use Rattle.booking_desk.specs.Desk.{Booking, DeskState, after_book, after_take, 
 use Rattle.booking_desk.specs.Released.{DeskCall, book, unbook, clock, clock_of, greatest_clock}
 use Rattle.booking_desk.specs.Steps.{DeskStep, call, take_due, after_call, after_steps, calls_of, taken_by}
 use Rattle.plain_lemmas.proofs.Filters.{any-append}
-use Rattle.plain_lemmas.proofs.Each.{each-append, each-filter, each-weaker}
+use Rattle.plain_lemmas.proofs.Each.{each-append, each-filter, each-weaker, IfSome-find}
 use Rattle.booking_desk.proofs.Sound.{IsSound, found-times, held-new, sound-call, sound-new, times, times-filter, times-put_in, times-without}
 
 -- an id that was booked and is not held
@@ -209,16 +209,9 @@ were-steps (call c ∷ steps) calls desk h =
     (were-steps steps (calls ++ c ∷ []) (after_call desk c) (were-call calls desk c h))
 were-steps (take_due ∷ steps) calls desk h = were-steps steps calls (after_take desk) (were-take calls desk h)
 
-found-holds : (P : Booking → Type 0) (p : Booking → Bool) (bs : List Booking) → AllByRecursion P bs → IfSome (find p bs) P
-found-holds P p [] h = tt
-found-holds P p (b ∷ bs) (here, rest) = by (found-holds P p bs rest) (p b) refl
-  where
-    by : IfSome (find p bs) P → (x : Bool) → p b ≡ x → IfSome (find p (b ∷ bs)) P
-    by ih true at = rw at here
-    by ih false at = rw at ih
-
 pub due-booked : (most : ℕ) (steps : List DeskStep)
     → IfSome (due_of (after_steps (new_desk most) steps)) (λ (b : Booking). Contains (calls_of steps) (book b.release b.request))
 due-booked most steps =
     let desk = after_steps (new_desk most) steps in
-    found-holds (λ (b : Booking). Contains (calls_of steps) (book b.release b.request)) (is_due desk.clock) desk.held (were-steps steps [] (new_desk most) tt)
+    IfSome-find (λ (b : Booking). Contains (calls_of steps) (book b.release b.request)) (is_due desk.clock) desk.held
+    (All-from_recursion _ desk.held (were-steps steps [] (new_desk most) tt))

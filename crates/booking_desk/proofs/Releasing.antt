@@ -17,6 +17,7 @@ use Rattle.booking_desk.specs.Releases.{HasSubmitted, IsAnswerTo, all_due}
 use Rattle.booking_desk.proofs.Due.{taken-rest}
 use Rattle.plain_lemmas.proofs.Filters.{filter-all}
 use Rattle.plain_lemmas.proofs.Each.{each-append}
+use Rattle.plain_lemmas.proofs.Among.{found_among}
 
 -- these bookings were due and are submitted, and few enough are left
 pub record ReleasesSoFar (desk new_desk : DeskState) (pass new_pass : Known) (count : ℕ) : Type 0 where
@@ -35,17 +36,6 @@ none-due p (b ∷ bs) h = by (none-due p bs) (p b) refl
     by : (find p bs ≡ None → filter p bs ≡ []) → (x : Bool) → p b ≡ x → filter p (b ∷ bs) ≡ []
     by ih true at = absurd (let some : Some b ≡ None = rw at at h in cc)
     by ih false at = rw at (ih (rw at at h))
-
-found-passes : (p : Booking → Bool) (bs : List Booking) (b : Booking) → find p bs ≡ Some b → p b ≡ true
-found-passes p [] b h = absurd (cc h)
-found-passes p (x ∷ bs) b h = by (found-passes p bs b) (p x) refl
-  where
-    by : (find p bs ≡ Some b → p b ≡ true) → (y : Bool) → p x ≡ y → p b ≡ true
-    by ih true at =
-        let is : Some x ≡ Some b = rw at at h in
-        let same : x ≡ b = cc in
-        ap p (sym same) ∙ at
-    by ih false at = ih (rw at at h)
 
 pub releases-none : (desk : DeskState) (pass : Known) → length (commands_in pass.own) ≤ 900000000 → length desk.held ≤ 100000
     → All (λ (b : Booking). IsSpelledCommand (root_of pass).start.settings.log b.request) desk.held → ReleasesSoFar desk desk pass pass 0
@@ -73,18 +63,6 @@ zip-push R [] [] x y h here = (here, tt)
 zip-push R [] (z ∷ ys) x y h here = absurd h
 zip-push R (z ∷ xs) [] x y h here = absurd h
 zip-push R (z ∷ xs) (w ∷ ys) x y (first, h) here = (first, zip-push R xs ys x y h here)
-
--- what holds of each booking holds of the one that is found
-pub found-holds : (P : Booking → Type 0) (p : Booking → Bool) (bs : List Booking) (b : Booking) → All P bs → find p bs ≡ Some b → P b
-found-holds P p [] b all h = absurd (cc h)
-found-holds P p (x ∷ bs) b all h = by (found-holds P p bs b (All-tail P x bs all)) (p x) refl
-  where
-    by : (find p bs ≡ Some b → P b) → (y : Bool) → p x ≡ y → P b
-    by ih true at =
-        let is : Some x ≡ Some b = rw at at h in
-        let same : x ≡ b = cc in
-        subst P same (All-head P x bs all)
-    by ih false at = ih (rw at at h)
 
 module _ (desk now : DeskState) (pass seen : Known) (count : ℕ) (so_far : ReleasesSoFar desk now pass seen count) where
   clock-is : now.clock ≡ desk.clock
@@ -121,7 +99,7 @@ module _ (desk now : DeskState) (pass seen : Known) (count : ℕ) (so_far : Rele
           desk_rest = taken-rest now next b due taken ∙ ap (λ (d : DeskState). record d { held = next.held }) so_far.submitted.desk_rest;
         };
         due = each-append (λ (x : Booking). leb x.release desk.clock ≡ true) done (b ∷ []) so_far.due
-            (subst (λ n. leb b.release n ≡ true) clock-is (found-passes (is_due now.clock) now.held b due), tt);
+            (subst (λ n. leb b.release n ≡ true) clock-is (found_among (is_due now.clock) now.held b due).1, tt);
         counted = ap (λ n. n + 1) so_far.counted ∙ sym (length-append done (b ∷ []));
         spelled = subst (λ (k : Known). All (λ (x : Booking). IsSpelledCommand (root_of k).start.settings.log x.request) next.held) (sym adds.rest)
             (All-rest (λ (x : Booking). IsSpelledCommand (root_of seen).start.settings.log x.request) b next.held now.held stood so_far.spelled);

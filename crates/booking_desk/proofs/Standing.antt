@@ -80,9 +80,9 @@ module _ (most : ℕ) (calls : List DeskCall) where
       ∙ stands-but calls id (made_of most calls) (made-places most calls)
 
   module _ (release : ℕ) (request : Command) where
-    standing-made : made_of most (calls ++ book release request ∷ []) ≡ made_of most calls
+    pub standing-same : made_of most (calls ++ book release request ∷ []) ≡ made_of most calls
         → standing most (calls ++ book release request ∷ []) ≡ standing most calls
-    standing-made same =
+    standing-same same =
         ap (λ made. map (λ (call : BookCall). call.booking) (filter (λ call. not (is_unbooked (calls ++ book release request ∷ []) call)) made)) same
         ∙ ap (map (λ (call : BookCall). call.booking)) (stands-on calls (book release request) (λ id. refl) (made_of most calls) (made-places most calls))
 
@@ -116,10 +116,6 @@ module _ (most : ℕ) (calls : List DeskCall) where
     made-new in_range booked room =
         ap (λ cs. take most (first_of_each_id cs)) (pushed in_range)
         ∙ taken-new most (book_calls 0 calls) (call_for (length calls) release request) booked room
-
-    pub standing-same : made_of most (calls ++ book release request ∷ []) ≡ made_of most calls
-        → standing most (calls ++ book release request ∷ []) ≡ standing most calls
-    standing-same = standing-made
 
     pub standing-new : made_of most (calls ++ book release request ∷ []) ≡ made_of most calls ++ call_for (length calls) release request ∷ []
         → standing most (calls ++ book release request ∷ []) ≡ standing most calls ++ record { release = release; request = request } ∷ []

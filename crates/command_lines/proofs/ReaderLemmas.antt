@@ -5,10 +5,12 @@ use Rattle.std.proofs.lemmas.List.{length_push}
 use Rattle.ride_model.specs.declared.command.Command.{Command}
 use Rattle.ride_model.specs.Text.{IsOneOrTwo}
 use Rattle.line_text.specs.Lines.{ended_after, ended_lines, last_line, lines_of}
+use Rattle.line_text.proofs.LineLemmas.{last_line-some}
 use Rattle.line_reader.specs.declared.answers.ReadStop.TheVariants.{SourceFailed as ReadFailed, TooLong as ReadTooLong}
 use Rattle.line_reader.specs.declared.limits.Limits.{Limits}
 use Rattle.line_reader.specs.Limits.{IsTooLong as IsTooLongText, IsWithinLimits as IsWithin, lines_within}
 use Rattle.line_reader.specs.Reader.{ReaderState, IsAtEnd, IsNextLine, HasGiven as HasGivenLines, IsStopped as IsStoppedText}
+use Rattle.line_reader.proofs.FeedLines.{lines-at_end}
 use Rattle.command_lines.specs.declared.pieces.FeedStop.TheVariants.{SourceFailed, TooLong}
 use Rattle.command_lines.specs.Commands.{before, commands_from, commands_of, said_by}
 use Rattle.command_lines.specs.Feeds.{FeedState, HasCut, HasGiven, IsStopped, IsWhole}
@@ -29,11 +31,6 @@ given-going reader left commands bytes goes fits has = record {
 }
 
 -- and one that came to the end
-pub ended-whole : (reader : FeedState) (left : Option (List ℕ)) (commands : List Command) (bytes : List ℕ) → reader.ended ≡ true
-    → HasGiven reader left commands bytes → IsWhole reader.log left commands bytes
-ended-whole reader left commands bytes ended given =
-    subst (λ (b : Bool). MatchBool b (IsWhole reader.log left commands bytes) (HasCut reader commands bytes)) ended given.given
-
 given-whole : (reader : FeedState) (left : Option (List ℕ)) (commands : List Command) (bytes : List ℕ) → reader.ended ≡ true
     → IsOneOrTwo reader.log → IsWhole reader.log left commands bytes → HasGiven reader left commands bytes
 given-whole reader left commands bytes ended fits whole = record {
@@ -73,14 +70,6 @@ number-next reader cut came line limits next =
       length_push (ended_lines cut) line,
     )
 
-last-is : (rest : List ℕ) → rest ≢ [] → last_line rest ≡ rest ∷ []
-last-is [] some = absurd (some refl)
-last-is (b ∷ rest) some = refl
-
-lines-at_end : (left : Option (List ℕ)) (limits : Limits) (cut came : List ℕ) → IsAtEnd left limits cut came
-    → lines_of (cut ++ came) ≡ ended_lines cut ++ last_line came
-lines-at_end left limits cut came end = (λ i. end.ended_are i ++ last_line (end.rest_is i))
-
 pub number-last : (left : Option (List ℕ)) (limits : Limits) (cut came : List ℕ) → limits ≡ feed_limits → IsAtEnd left limits cut came → came ≢ []
     → length (ended_lines cut) + 1 ≤ 1000000
 number-last left limits cut came are end some =
@@ -88,7 +77,7 @@ number-last left limits cut came are end some =
       arith,
       end.within.few_lines,
       ap (λ (l : Limits). l.lines) are,
-      ap length (lines-at_end left limits cut came end ∙ ap (λ ls. ended_lines cut ++ ls) (last-is came some)),
+      ap length (lines-at_end limits left cut came end ∙ ap (λ ls. ended_lines cut ++ ls) (last_line-some came some)),
       length_push (ended_lines cut) came,
     )
 
@@ -138,8 +127,8 @@ module _ (old new : FeedState) (left : Option (List ℕ)) (commands : List Comma
       whole _ ended end
       (ap (λ cs. cs ++ before (said_by old.log (length (ended_lines has.cut) + 1) (old.lines.pending ++ more)) []) has.commands_are
       ∙ commands-then old.log (ended_lines has.cut) (old.lines.pending ++ more)
-      ∙ ap (λ ls. commands_from old.log 1 (ended_lines has.cut ++ ls)) (sym (last-is (old.lines.pending ++ more) some))
-      ∙ ap (commands_from old.log 1) (sym (lines-at_end left old.lines.limits has.cut (old.lines.pending ++ more) end)))
+      ∙ ap (λ ls. commands_from old.log 1 (ended_lines has.cut ++ ls)) (sym (last_line-some (old.lines.pending ++ more) some))
+      ∙ ap (commands_from old.log 1) (sym (lines-at_end old.lines.limits left has.cut (old.lines.pending ++ more) end)))
 
   -- with nothing more
   pub given-end : new.ended ≡ true → IsAtEnd left old.lines.limits has.cut (old.lines.pending ++ more) → old.lines.pending ++ more ≡ []
@@ -147,7 +136,7 @@ module _ (old new : FeedState) (left : Option (List ℕ)) (commands : List Comma
   given-end ended end none =
       whole (commands ++ []) ended end
       (append-nil commands ∙ has.commands_are
-      ∙ ap (commands_from old.log 1) (sym (lines-at_end left old.lines.limits has.cut (old.lines.pending ++ more) end
+      ∙ ap (commands_from old.log 1) (sym (lines-at_end old.lines.limits left has.cut (old.lines.pending ++ more) end
       ∙ ap (λ l. ended_lines has.cut ++ last_line l) none ∙ append-nil (ended_lines has.cut))))
 
   -- no line comes

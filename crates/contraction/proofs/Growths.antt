@@ -37,9 +37,6 @@ shortcuts-same node old new same = record {
   added = λ arc there. inl (subst (λ arcs. Contains arcs arc) same.arcs there);
 }
 
-pub shortcuts-none : (node : ℕ) (graph : Graph) → HasShortcuts node graph graph
-shortcuts-none node graph = shortcuts-same node graph graph (same-none graph)
-
 -- shortcuts upon shortcuts
 pub shortcuts-append : (node : ℕ) (first second third : Graph) → HasShortcuts node first second → HasShortcuts node second third
     → HasShortcuts node first third

@@ -60,24 +60,6 @@ witness-improved old new node time nodes roomy low round reached key others grap
     here = ap (λ rs. get_or rs node nothing_reached) reached
         ∙ get_or-set_same old.reached.items node _ nothing_reached (omega (arith, roomy.sized))
 
-pub roomy-improved : (old new : Witness) (node time nodes : ℕ) → IsRoomy nodes old → node ≤ nodes
-    → new.round ≡ old.round → new.reached.items ≡ set old.reached.items node (record { round = old.round; time = time })
-    → length new.queue.keys ≡ length old.queue.keys → IsRoomy nodes new
-roomy-improved old new node time nodes roomy low round reached keys = record {
-  keys = keys ∙ roomy.keys;
-  sized = ap (λ rs. length rs) reached ∙ length-set old.reached.items node _ ∙ roomy.sized;
-  rounds = λ other. elim (cases_eq other node) [
-    | inl same ↦
-        let at = ap (reached_at new) same ∙ ap (λ rs. get_or rs node nothing_reached) reached
-        ∙ get_or-set_same old.reached.items node (record { round = old.round; time = time }) nothing_reached (omega (arith, roomy.sized)) in
-        omega (arith, ap (λ (r : Reached). r.round) at, round)
-    | inr differs ↦
-        let at : reached_at new other ≡ reached_at old other
-        = ap (λ rs. get_or rs other nothing_reached) reached ∙ get_or-set_other old.reached.items node other _ nothing_reached differs in
-        omega (arith, ap (λ (r : Reached). r.round) at, roomy.rounds other, round)
-  ];
-}
-
 -- a round begins: nothing is known
 pub roomy-begun : (old new : Witness) (nodes : ℕ) → IsRoomy nodes old → new.round ≡ old.round + 1 → new.reached.items ≡ old.reached.items
     → new.queue.keys ≡ replicate (length old.queue.keys) None → IsRoomy nodes new
@@ -142,12 +124,4 @@ witness-taken old new node graph avoided source w round reached gone others = re
   timed = λ other is.
       subst (λ rs. IsFound graph avoided source other (get_or rs other nothing_reached).time) (sym reached)
       (w.timed other (ap (λ rs. (get_or rs other nothing_reached).round) (sym reached) ∙ is ∙ round));
-}
-
-pub roomy-taken : (old new : Witness) (nodes : ℕ) → IsRoomy nodes old → new.round ≡ old.round → new.reached.items ≡ old.reached.items
-    → length new.queue.keys ≡ length old.queue.keys → IsRoomy nodes new
-roomy-taken old new nodes roomy round reached keys = record {
-  keys = keys ∙ roomy.keys;
-  sized = ap (λ rs. length rs) reached ∙ roomy.sized;
-  rounds = λ node. omega (arith, ap (λ rs. (get_or rs node nothing_reached).round) reached, roomy.rounds node, round);
 }

@@ -1,5 +1,5 @@
 -- Items that are taken in the order of ids.
-use Rattle.std.proofs.Common.{◌≡◌, ℕ, zero, suc, ◌+◌, ◌<◌, ◌≤◌, Bool, true, false, cond, List, [], ◌∷◌, ◌++◌, length, drop, get_or, eqb, refl, sym, ◌∙◌, ap, subst, arith}
+use Rattle.std.proofs.Common.{◌≡◌, ℕ, zero, suc, ◌+◌, ◌<◌, ◌≤◌, Bool, true, false, cond, List, [], ◌∷◌, ◌++◌, length, drop, get_or, eqb, refl, sym, ◌∙◌, ap, subst, arith, add-one}
 use Rattle.std.specs.Prelude.{map, filter, Option, Some, None, is_some}
 use Rattle.std.specs.List.{AllByRecursion, IsDistinct}
 use Rattle.std.proofs.lemmas.Bool.{eqb-true, eqb-false, ne_eqb, eq-eqb, false≢true}
@@ -68,11 +68,8 @@ module _ {A : Type 0} (id_of : A → ℕ) where
   -- where the first item that is left is of the id, the next place is one on
   after_first-taken : (items : List A) (n id : ℕ) → is_some (first_if_of id_of (drop n items) id) ≡ true
       → (after_first (drop n items) id ≡ drop (n + 1) items) × (n < length items)
-  after_first-taken items n id h = let (is, low) = step items n h in (is ∙ ap (λ m. drop m items) (one n), low)
+  after_first-taken items n id h = let (is, low) = step items n h in (is ∙ ap (λ m. drop m items) (sym (add-one n)), low)
     where
-      one : (m : ℕ) → suc m ≡ m + 1
-      one m = omega arith
-
       step : (xs : List A) (m : ℕ) → is_some (first_if_of id_of (drop m xs) id) ≡ true
           → (after_first (drop m xs) id ≡ drop (suc m) xs) × (m < length xs)
       step [] zero k = absurd (false≢true k)

@@ -10,8 +10,7 @@ use Rattle.ride_model.specs.Batch.{next_batch, outcomes_of, after_commit}
 use Rattle.ride_model.specs.Legal.{after_entry, replay, IsLegal, CommitsBatch}
 use Rattle.ride_model.specs.Seating.{BatchCopy, seating_cost}
 use Rattle.ride_model.specs.State.{State, is_batch, open_batch_of, open_batch_numbered}
-use Rattle.plain_lemmas.proofs.Among.{Among}
-use Rattle.model_laws.proofs.Certificates.{found_among}
+use Rattle.plain_lemmas.proofs.Among.{Among, found_among}
 use Rattle.model_laws.proofs.Histories.{IsLegal-parts}
 use Rattle.batch_commit.specs.Solved.{SolvedBatch}
 use Rattle.history_laws.proofs.EveryState.{consistent}
@@ -22,7 +21,7 @@ use Rattle.board_core.specs.declared.opening.Opening.{Opening}
 use Rattle.board_core.specs.declared.opening.Opening.TheVariants.{Batch}
 use Rattle.board_core.specs.Opening.{opening_at}
 use Rattle.board_core.specs.Recorded.{Recorded, state_of, opened_entry, committed_entry, abandoned_entry}
-use Rattle.board_core.proofs.OpenBatches.{IsOpen, Gets, gets, got-next, open-fits, batches-committed, batches-abandoned}
+use Rattle.board_core.proofs.OpenBatches.{IsOpen, Gets, gets, got-next, open-fits, batches-committed, batches-abandoned, after-committed}
 use Rattle.fleet_board.specs.Commits.{CommitsSolved, ChangesOnlyStanding}
 use Rattle.fleet_board.specs.Openings.{HasNoneOpen, HasOpen, IsPriceable, OpensBatch, OpensNone}
 use Rattle.fleet_board.specs.Passes.{Known, root_of, seen_state, state_before, desk_of, IsPoint, IsDesk}
@@ -115,13 +114,9 @@ standing k after old new solved a found held =
     let s : State = state_of old in
     let entry : Entry = committed_entry s solved in
     subst (λ (t : State). ChangesOnlyStanding t solved.batch (seen_state after)) (sym (before-added k after old new entry a))
-    (subst (λ (t : State). ChangesOnlyStanding s solved.batch t) (sym (state-added k after old new entry a ∙ committed (still-open k old solved.batch found held)))
+    (subst (λ (t : State). ChangesOnlyStanding s solved.batch t) (sym (state-added k after old new entry a ∙ after-committed s solved (still-open k old solved.batch found held)))
     (λ id differs. unmoved s solved.batch solved.answer.seating id
     (vehicles_differ old.feeds old.desks old.start old.history a.found.told.start_fits a.found.told.legal) differs))
-  where
-    committed : IsOpen (state_of old) solved.batch
-        → after_entry (state_of old) (committed_entry (state_of old) solved) ≡ after_commit solved.batch solved.answer.seating (state_of old)
-    committed held = rw held refl
 
 -- a batch that the desk got
 pub opens : (k after : Known) (old new : Recorded) (batch : BatchCopy) → Added k after old new (opened_entry batch)

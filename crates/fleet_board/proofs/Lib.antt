@@ -1,5 +1,6 @@
 pub mod Parts
 pub mod Points
+pub mod Looking
 pub mod Actors
 pub mod Batches
 pub mod MayEnd

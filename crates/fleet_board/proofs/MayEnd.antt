@@ -30,17 +30,6 @@ above_two n above = grind arith
 at_most_two : (n : ℕ) → nat_le n 2 ≡ true → n ≤ 2
 at_most_two n below = grind arith
 
--- an actor that may end has one of four numbers
-pub at_most_four : (k : Known) (ending : Ending) → IsPoint k → MayFinish k ending → k.number ≤ 4
-at_most_four k ending point may = by_test (nat_le k.number 2) refl may
-  where
-    by_test : (b : Bool) → nat_le k.number 2 ≡ b
-        → IsLegalEvent (root_of k).feeds (root_of k).desks (seen_state k) (cond b (Feed k.number) (Desk (k.number - 2))) (Finish ending)
-        → k.number ≤ 4
-    by_test true is legal = omega (arith, at_most_two k.number is)
-    by_test false is (numbered, lives, may) =
-        omega (arith, (one_or_two (root_of k).desks (k.number - 2) point.text.desks_number numbered).1, above_two k.number is)
-
 -- the entry of its end is of its number
 pub end-made : (n : ℕ) → pass_number (actor_of n) ≡ n
 end-made n = by_test (nat_le n 2) refl
@@ -105,12 +94,6 @@ feed-may_end k ending point feed =
     subst (λ actor. IsLegalEvent (root_of k).feeds (root_of k).desks (seen_state k) actor (Finish ending))
     (sym (feed-actor k.number (one_or_two (root_of k).feeds k.number point.text.feeds_number feed.numbered).1))
     (feed.numbered, feed.not_ended)
-
--- a desk without an open batch may be cut
-pub desk-may_cut : (k : Known) → IsPoint k → IsDesk k → HasNoneOpen k → MayFinish k Cut
-desk-may_cut k point desk none =
-    subst (λ actor. IsLegalEvent (root_of k).feeds (root_of k).desks (seen_state k) actor (Finish Cut)) (sym (desk-actor k.number desk.above_feeds))
-    (desk.numbered, desk.not_ended, record { none_open = none; whole = λ is. absurd (cc is) })
 
 -- a desk that was told that no batch is to come may end whole
 pub desk-may_end : (k after : Known) → IsPoint after → IsDesk after → OpensNone k after Ended → MayFinish after Whole

@@ -36,12 +36,6 @@ GoesOn old new = new ≡ record old { history = new.history; spare = new.spare }
 same_began : (old new : Recorded) → GoesOn old new → as_began old ≡ as_began new
 same_began old new goes = sym (ap as_began goes)
 
--- the value that is handed back has the root of the pass
-pub same_root : (k entered : Known) (old new : Recorded) → entered ≡ after_enter k old.history → k.root ≡ as_began old ∷ [] → GoesOn old new
-    → entered.root ≡ as_began new ∷ []
-same_root k entered old new enters root goes =
-    ap (λ (x : Known). x.root) enters ∙ root ∙ ap (λ (r : Recorded). r ∷ []) (same_began old new goes)
-
 -- the history grew by one entry of the pass
 pub grown : (k entered : Known) (old new : Recorded) (entry : Entry) → entered ≡ after_enter k old.history → maker_of entry ≡ k.number
     → new.history ≡ old.history ++ entry ∷ [] → GrowsByOne maker_of entered.number entered.seen new.history
@@ -160,11 +154,6 @@ looked k entered after old found free enters leaves = record {
   found = found;
   knows = leaves ∙ ap after_leave enters ∙ (λ i. record k { has_turn = sym free i; seen = old.history });
 }
-
--- the value is handed back as it was found
-pub same_history : (k entered : Known) (old new : Recorded) → entered ≡ after_enter k old.history → new.history ≡ old.history
-    → new.history ≡ entered.seen
-same_history k entered old new enters same = same ∙ sym (ap (λ (x : Known). x.seen) enters)
 
 module _ (k after : Known) (old : Recorded) (l : Looked k after old) where
   -- the pass has seen the history as it stood

@@ -15,14 +15,15 @@ use Rattle.ride_model.specs.Offers.{is_idle, is_open, start_of}
 use Rattle.ride_model.specs.Seating.{BatchCopy, find_vehicle, vehicle_ids, seat_offer}
 use Rattle.ride_model.specs.State.{State, placed_vehicle}
 use Rattle.ride_model.specs.Vehicle.{ride_ids}
-use Rattle.plain_lemmas.proofs.Among.{Among}
+use Rattle.plain_lemmas.proofs.Among.{Among, found_among}
 use Rattle.plain_lemmas.proofs.Each.{of_all}
-use Rattle.model_laws.proofs.Certificates.{found_among, seat_facts}
+use Rattle.model_laws.proofs.Certificates.{seat_facts}
 use Rattle.model_laws.proofs.Costs.{offer_plan}
 use Rattle.model_laws.proofs.RequestStates.{marked}
 use Rattle.model_laws.proofs.Starts.{start-not_before}
 use Rattle.history_laws.proofs.Confirming.{priced_start-found}
 use Rattle.history_laws.proofs.Lookups.{found_by}
+use Rattle.history_laws.proofs.StandingSeats.{seated-confirmed}
 use Rattle.fleet_league.specs.declared.briefs.Win.{Win}
 use Rattle.fleet_league.specs.Awards.{won_rides, AreSeatsOf}
 use Rattle.fleet_league.proofs.Reports.{NoneWaits, none-marked}
@@ -52,36 +53,14 @@ seat-of-win (first ∷ wins) (seat ∷ seats) win are there =
         let (s, found) = later there in
         (s, ap (λ b. cond b (Some seat) (seat_of seats win.ride.id)) is ∙ found)
 
--- a pair that stands is confirmed
-stands : (a b : Bool) (x y : Outcome) → a ≡ false → b ≡ false → cond a x (cond b y Confirmed) ≡ Confirmed
-stands true b x y h k = absurd (cc h)
-stands false true x y h k = absurd (cc k)
-stands false false x y h k = refl
-
 module _ (s : State) (batch : BatchCopy) (seats : List Seat) (vehicles_stand : batch.vehicles ≡ s.vehicles) (time_is : batch.time ≡ s.clock)
     (differ : IsDistinct nat_eq (vehicle_ids batch.vehicles)) (offered : All (λ seat. IsSome (seat_offer s.roads batch seat)) seats) where
   -- a request with a seat is confirmed, unless it was cancelled
   pub outcome-confirmed : (id : ℕ) (seat : Seat) → was_cancelled s id ≡ false → seat_of seats id ≡ Some seat
       → outcome_of batch seats s id ≡ Confirmed
   outcome-confirmed id seat not_cancelled seated =
-      let there : Among seat seats = (found_among (λ (x : Seat). x.request == id) seats seat seated).0 in
-      let facts = seat_facts s.roads batch seat (of_all (λ (x : Seat). IsSome (seat_offer s.roads batch x)) seats seat offered there) in
-      let plan = offer_plan s.roads batch.settings facts.vehicle facts.ride batch.time seat.i seat.j facts.offer facts.offered in
-      let found : find_vehicle batch.vehicles seat.vehicle ≡ Some facts.vehicle
-      = ap (find_vehicle batch.vehicles) (sym facts.vehicle_id)
-      ∙ found_by (λ (v : Vehicle). v.id) batch.vehicles facts.vehicle differ facts.vehicle_there in
-      let later : batch.time ≤ start_of facts.vehicle batch.settings.lead batch.time
-      = start-not_before facts.vehicle batch.settings.lead batch.time plan.is_open_then in
-      let same : eqb (version_of batch.vehicles seat.vehicle) (version_of s.vehicles seat.vehicle) ≡ true
-      = eq-eqb (version_of batch.vehicles seat.vehicle) (version_of s.vehicles seat.vehicle) (ap (λ vs. version_of vs seat.vehicle) vehicles_stand) in
-      let start : priced_start batch seat.vehicle ≡ start_of facts.vehicle batch.settings.lead batch.time
-      = priced_start-found batch seat.vehicle facts.vehicle found in
-      let not_behind : ltb (priced_start batch seat.vehicle) s.clock ≡ false
-      = ap (λ n. ltb n s.clock) start ∙ ap (λ n. ltb (start_of facts.vehicle batch.settings.lead batch.time) n) (sym time_is)
-      ∙ le-ltb (start_of facts.vehicle batch.settings.lead batch.time) batch.time later in
       ap (λ b. outcome_by batch s b (seat_of seats id)) not_cancelled ∙ ap (outcome_by batch s false) seated
-      ∙ stands (not (eqb (version_of batch.vehicles seat.vehicle) (version_of s.vehicles seat.vehicle)))
-      (ltb (priced_start batch seat.vehicle) s.clock) _ _ (ap not same) not_behind
+      ∙ seated-confirmed s batch seats vehicles_stand time_is differ offered seat (found_among (λ (x : Seat). x.request == id) seats seat seated).0
 
 -- the outcomes of requests
 abbrev pub outcomes_by : BatchCopy → List Seat → State → List ℕ → List (ℕ × Outcome)

@@ -44,7 +44,7 @@ use Rattle.board_core.specs.declared.opening.Opening.TheVariants.{Batch, Idle, E
 use Rattle.board_core.specs.Opening.{opening_at}
 use Rattle.board_core.specs.Recorded.{Recorded, state_of, opened_entry, committed_entry, abandoned_entry}
 use Rattle.board_core.proofs.FedEntries.{fed_commands-append}
-use Rattle.board_core.proofs.OpenBatches.{state-push}
+use Rattle.board_core.proofs.OpenBatches.{state-push, same_batch}
 use Rattle.fleet_league.specs.declared.briefs.Brief.{Brief}
 use Rattle.fleet_league.specs.declared.briefs.Win.{Win}
 use Rattle.fleet_league.specs.Prices.{prices_by, prices_of}
@@ -350,15 +350,12 @@ opened-award old asked now brief wins got batch may wins_are first asking openin
     let gets : Batch batch ≡ Batch (won_batch s brief.wins)
     = sym is ∙ opening ∙ ap (λ t. opening_at asked.feeds t 1) asked_is
     ∙ opening-won s brief.wins asked.feeds may.idle.none_wait may.few_wins may.idle.all_opened in
-    let batch_is : batch ≡ won_batch s brief.wins = same batch (won_batch s brief.wins) gets in
+    let batch_is : batch ≡ won_batch s brief.wins = same_batch batch (won_batch s brief.wins) gets in
     record {
       batch_is = batch_is;
       awarding = awards old asked now brief may start (ap (λ (b : Recorded). b.start) second) asking_is
           (history ∙ ap (λ b. asked.history ++ opened_entry b ∷ []) batch_is);
     }
-  where
-    same : (a b : BatchCopy) → Batch a ≡ Batch b → a ≡ b
-    same a b e = cc e
 
 -- the desk does not get nothing
 pub opens-some : (old asked : Recorded) (brief : Brief) (wins : List Win) (got : Opening) → MayConfirm old brief → wins ≡ brief.wins

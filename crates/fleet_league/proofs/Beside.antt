@@ -24,9 +24,9 @@ use Rattle.model_laws.specs.Requests.{is_of}
 use Rattle.plain_lemmas.proofs.Among.{Among, among_map_back}
 use Rattle.plain_lemmas.proofs.Numbers.{eqb-comm}
 use Rattle.plain_lemmas.proofs.Each.{of_each, of_all, all_of}
+use Rattle.plain_lemmas.proofs.Lists.{distinct-push}
 use Rattle.model_laws.proofs.RequestStates.{request_state-marked, state_if_there, state_in, with_request_states-is}
 use Rattle.history_laws.specs.Consistent.{request_ids}
-use Rattle.history_laws.proofs.Asked.{distinct-push}
 use Rattle.history_laws.proofs.Lookups.{found_by}
 use Rattle.history_laws.proofs.Opening.{of_rides, waits_in}
 use Rattle.board_core.specs.Recorded.{Recorded, state_of}

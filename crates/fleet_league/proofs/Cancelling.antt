@@ -35,9 +35,6 @@ pub record AreCancelled (old now : Recorded) (rides : List Ride) : Type 0 where
 abbrev pub AreInBatch : State → ℕ → List Ride → Type 0
 AreInBatch s number rides = All (λ (ride : Ride). request_state s ride.id ≡ Some (InBatch number)) rides
 
-pub cancelled-none : (old : Recorded) → AreCancelled old old []
-cancelled-none old = record { state_is = refl; counted = omega arith; others = refl }
-
 -- a ride is not of those before it
 not-before : (rides : List Ride) (k : ℕ) (d : Ride) → IsDistinct eqb (ride_ids rides) → k < length rides
     → is_of (take k rides) (get_or rides k d).id ≡ false

@@ -79,15 +79,6 @@ member-played old new company after lines rides member waiting played start stat
   few_reports = omega (arith, played.reports, member.few_reports);
 }
 
--- a league of which a line has asked nothing
-pub league-later : (boards : LeagueBoards) (lines : ℕ) → IsLeague lines boards → IsLeague (lines + 1) boards
-league-later boards lines league = record {
-  desk_fits = league.desk_fits;
-  few_commands = omega (arith, league.few_commands);
-  first_fits = member-later boards.desk boards.first lines league.first_fits;
-  second_fits = member-later boards.desk boards.second lines league.second_fits;
-}
-
 -- one whose companies have answered
 pub league-reported : (boards : LeagueBoards) (first second : CompanyState) (lines : ℕ) → IsLeague lines boards
     → IsMember boards.desk first (lines + 1) → IsMember boards.desk second (lines + 1)

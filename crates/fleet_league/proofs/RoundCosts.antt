@@ -19,12 +19,6 @@ prices-small grid penalty columns prices pays few small certified =
     let most : length prices * penalty ≤ 128 * 1000000000000 = mul-le-mul {n₁ = length prices} {m₁ = penalty} {n₂ = 128} {m₂ = 1000000000000} (omega (arith, certified.prices_each, few)) small in
     omega (arith, sum-is prices, below, most)
 
--- and so are pays
-pub pays-small : (grid : GridCells) (penalty : ℕ) (columns : List (Option ℕ)) (prices pays : List ℕ) → grid.rows ≤ 128
-    → penalty ≤ 1000000000000 → CertifiesPairing grid penalty columns prices pays → sum pays < 2 ^ 64
-pays-small grid penalty columns prices pays few small certified =
-    omega (arith, prices-small grid penalty columns prices pays few small certified, certified.balanced)
-
 -- two quotes are those at both places
 pub two-of : {A : Type 0} (xs : List A) (a b : A) → length xs ≡ 2 → xs ≡ get_or xs 0 a ∷ get_or xs 1 b ∷ []
 two-of [] a b two = absurd (omega (arith, two))

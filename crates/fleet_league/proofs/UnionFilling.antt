@@ -24,35 +24,9 @@ changes-cell grid row column amount low = record {
       (λ same. differs (same_from_place other place row column grid.columns place_low low same));
 }
 
--- nothing has changed
-pub changes-none : (IsChanged : ℕ → ℕ → Type 0) (grid : GridCells) → ChangesOnly IsChanged grid grid
-changes-none IsChanged grid = record { rows_same = refl; columns_same = refl; others_same = λ row column low same. refl }
-
--- what changes first in some cells and then in others changes in both alone
-pub changes-both : (P Q R : ℕ → ℕ → Type 0) (one two three : GridCells) → ChangesOnly P one two → ChangesOnly Q two three
-    → ((row column : ℕ) → P row column → R row column) → ((row column : ℕ) → Q row column → R row column)
-    → ChangesOnly R one three
-changes-both P Q R one two three first second of_first of_second = record {
-  rows_same = second.rows_same ∙ first.rows_same;
-  columns_same = second.columns_same ∙ first.columns_same;
-  others_same = λ row column low not.
-      second.others_same row column (omega (arith, low, first.columns_same)) (λ is. not (of_second row column is))
-      ∙ first.others_same row column low (λ is. not (of_first row column is));
-}
-
 -- a row's cells from a column on are those of a list of prices, up to a place
 abbrev pub HasPrices : GridCells → GridCells → ℕ → ℕ → ℕ → Type 0
 HasPrices own grid first row count = (column : ℕ) → column < count → cell_at grid row (first + column) ≡ cell_at own row column
-
--- one more cell of a row is written
-pub prices-more : (own old now : GridCells) (first row count : ℕ) → first + count < old.columns → HasPrices own old first row count
-    → ChangesOnly (λ other place. (other ≡ row) × (place ≡ first + count)) old now
-    → cell_at now row (first + count) ≡ cell_at own row count → HasPrices own now first row (count + 1)
-prices-more own old now first row count low has changes cell = λ column before. elim (cases_eq column count) [
-  | inl same ↦ subst (λ c. cell_at now row (first + c) ≡ cell_at own row c) (sym same) cell
-  | inr differs ↦ changes.others_same row (first + column) (omega (arith, before, low))
-      (λ same. differs (omega (arith, same.1))) ∙ has column (omega (arith, before, differs))
-]
 
 -- the cells of some rows are written
 abbrev pub HasRows : GridCells → GridCells → ℕ → ℕ → Type 0

@@ -3,7 +3,7 @@ use Rattle.std.proofs.Common.{◌≡◌, ℕ, ◌+◌, ◌<◌, ◌≤◌, inl, 
 use Rattle.std.specs.Prelude.{map, find, nat_le, ◌==◌, IsNone}
 use Rattle.std.specs.List.{list_any}
 use Rattle.std.proofs.lemmas.Bool.{cases_lt}
-use Rattle.std.proofs.lemmas.List.{length-map, get_or-map, take_more, drop_more, take_all, take-map, take-append-le}
+use Rattle.std.proofs.lemmas.List.{length-map, get_or-map, take_more, drop_more, take_all, take-map, take-append-le, map-append}
 use Rattle.std.proofs.Math.Seq.{take-append_seam}
 use Rattle.ride_model.specs.declared.command.Actor.{Actor}
 use Rattle.ride_model.specs.declared.command.Actor.TheVariants.{Feed}
@@ -21,7 +21,6 @@ use Rattle.ride_model.specs.Legal.{after_entry, replay}
 use Rattle.ride_model.specs.State.{State, has_ended, is_actor, open_batch_of}
 use Rattle.ride_model.specs.Step.{Answered, with_accepted, ask_step, step}
 use Rattle.model_laws.proofs.Histories.{replay-append, replay-push}
-use Rattle.history_laws.proofs.Asked.{map-push}
 use Rattle.board_core.specs.Recorded.{Recorded, state_of, fed_entry}
 use Rattle.board_core.proofs.FedEntries.{fed_commands-append}
 use Rattle.board_core.proofs.OpenBatches.{state-push}
@@ -47,16 +46,6 @@ pub record IsRequestedTo (old : Recorded) (wins : List Win) (reached : ℕ) (now
   pub fed : length (fed_commands 1 now.history) ≡ length (fed_commands 1 old.history) + reached
   pub new : AreNew (state_of now) (won_rides (drop reached wins))
 
--- none at first
-pub requested-none : (old : Recorded) (wins : List Win) → MayAsk old (won_rides wins) → IsRequestedTo old wins 0 old
-requested-none old wins may = record {
-  others = refl;
-  history = sym (append-nil old.history);
-  none_ended = may.none_ended;
-  fed = omega arith;
-  new = may.new;
-}
-
 -- one more
 pub requested-more : (old now after : Recorded) (wins : List Win) (reached : ℕ) (d : Win) → IsRequestedTo old wins reached now
     → reached < length wins → after ≡ record now { history = after.history; spare = after.spare }
@@ -79,7 +68,7 @@ requested-more old now after wins reached d to low others history =
     = ap (λ (a : Answered). record { actor = Feed 1; event = Fed command a.reply }) taken in
     let more : request_entries (take (reached + 1) wins) ≡ request_entries (take reached wins) ++ entry ∷ []
     = ap request_entries (take_more wins reached d low)
-    ∙ map-push (λ (w : Win). record { actor = Feed 1; event = Fed (request_of w.ride) Waiting }) (take reached wins) win in
+    ∙ map-append (λ (w : Win). record { actor = Feed 1; event = Fed (request_of w.ride) Waiting }) (take reached wins) (win ∷ []) in
     record {
       others = others ∙ ap (λ (b : Recorded). record b { history = after.history; spare = after.spare }) to.others;
       history = history ∙ (λ i. to.history i ++ entry_is i ∷ [])

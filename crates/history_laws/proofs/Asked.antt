@@ -4,6 +4,7 @@ use Rattle.std.specs.Prelude.{map, max, Some, None, is_some, find, ◌==◌, nat
 use Rattle.std.specs.List.{IsDistinct, AllByRecursion}
 use Rattle.std.proofs.lemmas.Bool.{eqb-false, leb-false, or_parts, not-false, and_parts}
 use Rattle.std.proofs.lemmas.Map.Keys.{IsDistinct-head, IsDistinct-tail, IsDistinct-cons}
+use Rattle.std.proofs.lemmas.List.{map-append}
 use Rattle.ride_model.specs.declared.command.Command.{Command}
 use Rattle.ride_model.specs.declared.command.Command.TheVariants.{Request, Cancel, At, Done, On, Off, Clock, Ask, Bad}
 use Rattle.ride_model.specs.declared.reply.RequestState.TheVariants.{Waiting as WaitingState}
@@ -15,7 +16,8 @@ use Rattle.ride_model.specs.Step.{is_node, with_accepted, request_step, cancel_s
 use Rattle.ride_model.specs.Vehicle.{IsRide, ride_ids}
 use Rattle.history_laws.specs.Start.{IsStart}
 use Rattle.history_laws.specs.Consistent.{request_ids, promised_as, vehicle_of_request}
-use Rattle.plain_lemmas.proofs.Among.{Among}
+use Rattle.plain_lemmas.proofs.Among.{Among, among_push_back}
+use Rattle.plain_lemmas.proofs.Lists.{distinct-push}
 use Rattle.history_laws.proofs.Lookups.{fresh_by}
 use Rattle.history_laws.proofs.Earlier.{all_earlier-same}
 use Rattle.history_laws.proofs.Invariant.{find_request, Inv, Goes}
@@ -32,34 +34,6 @@ find-push {X} p (z ∷ xs) x y h = by_test (λ later. find-push p xs x y later) 
         → cond b (Some z) (find p (xs ++ x ∷ [])) ≡ Some y
     by_test later true is = is
     by_test later false is = later is
-
--- an element of a list with one more is that one or one of the others
-pub among-push : {X : Type 0} (xs : List X) (x y : X) → Among y (xs ++ x ∷ []) → Among y xs ⊎ (x ≡ y)
-among-push [] x y (inl is) = inr is
-among-push [] x y (inr none) = absurd none
-among-push (z ∷ xs) x y (inl is) = inl (inl is)
-among-push {X} (z ∷ xs) x y (inr there) = later (among-push xs x y there)
-  where
-    later : Among y xs ⊎ (x ≡ y) → Among y (z ∷ xs) ⊎ (x ≡ y)
-    later (inl h) = inl (inr h)
-    later (inr h) = inr h
-
--- different numbers and another one
-pub distinct-push : (xs : List ℕ) (x : ℕ) → IsDistinct eqb xs → ((y : ℕ) → Among y xs → eqb y x ≡ false)
-    → IsDistinct eqb (xs ++ x ∷ [])
-distinct-push [] x distinct fresh = IsDistinct-cons eqb x [] tt distinct
-distinct-push (y ∷ ys) x distinct fresh =
-    IsDistinct-cons eqb y (ys ++ x ∷ []) (pushed ys (IsDistinct-head eqb y ys distinct))
-    (distinct-push ys x (IsDistinct-tail eqb y ys distinct) (λ z there. fresh z (inr there)))
-  where
-    pushed : (zs : List ℕ) → AllByRecursion (λ z. eqb y z ≡ false) zs → AllByRecursion (λ z. eqb y z ≡ false) (zs ++ x ∷ [])
-    pushed [] h = (fresh y (inl refl), tt)
-    pushed (z ∷ zs) (first, rest) = (first, pushed zs rest)
-
--- a map of a list with one more
-pub map-push : {X Y : Type 0} (f : X → Y) (xs : List X) (x : X) → map f (xs ++ x ∷ []) ≡ map f xs ++ f x ∷ []
-map-push f [] x = refl
-map-push f (y ∷ xs) x = ap (λ rest. f y ∷ rest) (map-push f xs x)
 
 -- a request is accepted
 pub accepted_goes : (desks fed : ℕ) (ok : ℕ → Type 0) (start s : State) (ride : Ride) → Inv desks fed ok start s
@@ -79,7 +53,7 @@ accepted_goes desks fed ok start s ride inv none few fits waits fine =
         few_asked = inv.few_asked;
         few_opened = inv.few_opened;
         few_requests = omega (arith, few, length-append s.requests (new ∷ []));
-        requests_differ = subst (IsDistinct nat_eq) (sym (map-push (λ (r : AcceptedRequest). r.ride.id) s.requests new))
+        requests_differ = subst (IsDistinct nat_eq) (sym (map-append (λ (r : AcceptedRequest). r.ride.id) s.requests (new ∷ [])))
             (distinct-push (request_ids s.requests) ride.id inv.requests_differ
             (fresh_by (λ (r : AcceptedRequest). r.ride.id) s.requests ride.id none));
         requests_fit = λ r there. of_push (λ (q : AcceptedRequest). IsRide s.roads q.ride) inv.requests_fit fits r there;
@@ -112,7 +86,7 @@ accepted_goes desks fed ok start s ride inv none few fits waits fine =
     of_push : (P : AcceptedRequest → Type 0) → ((r : AcceptedRequest) → Among r s.requests → P r) → P new
         → (r : AcceptedRequest)
         → Among r (s.requests ++ new ∷ []) → P r
-    of_push P each last r there = by_place (among-push s.requests new r there)
+    of_push P each last r there = by_place (among_push_back s.requests new r there)
       where
         by_place : Among r s.requests ⊎ (new ≡ r) → P r
         by_place (inl h) = each r h

@@ -23,10 +23,10 @@ use Rattle.ride_model.specs.Text.{IsSpelled, IsSpelledSeat, IsSpelledPair, IsSpe
 use Rattle.ride_model.specs.Vehicle.{IsLawful, ride_ids}
 use Rattle.history_laws.specs.Start.{IsStart}
 use Rattle.history_laws.specs.Consistent.{IsInBatch, IsOpenBatch}
-use Rattle.plain_lemmas.proofs.Among.{Among, among_map, among_map_back, among_filter_back}
+use Rattle.plain_lemmas.proofs.Among.{Among, among_map, among_map_back, among_filter_back, found_among}
 use Rattle.model_laws.proofs.AboardLoads.{length-same}
 use Rattle.model_laws.proofs.BatchSums.{seating_cost-lt}
-use Rattle.model_laws.proofs.Certificates.{found_among, seat_facts}
+use Rattle.model_laws.proofs.Certificates.{seat_facts}
 use Rattle.model_laws.proofs.Costs.{offer_plan}
 use Rattle.model_laws.proofs.Insertions.{length-stops_with, inserted_facts}
 use Rattle.model_laws.proofs.PlanStops.{unlegged-routed}

@@ -12,9 +12,8 @@ use Rattle.ride_model.specs.State.{State, AcceptedRequest}
 use Rattle.ride_model.specs.Vehicle.{IsRide, IsLawful, ride_ids}
 use Rattle.history_laws.specs.Closing.{is_closed}
 use Rattle.history_laws.specs.Consistent.{promised_as, vehicle_of_request, IsInBatch, IsEarlier, AreEarlier, IsOpenBatch}
-use Rattle.plain_lemmas.proofs.Among.{Among, among_map_back}
+use Rattle.plain_lemmas.proofs.Among.{Among, among_map_back, found_among}
 use Rattle.plain_lemmas.proofs.Each.{of_all, all_of}
-use Rattle.model_laws.proofs.Certificates.{found_among}
 use Rattle.history_laws.proofs.Lookups.{find-map, ids-map}
 use Rattle.history_laws.proofs.Earlier.{earlier-map, all_earlier-then}
 use Rattle.history_laws.proofs.Invariant.{find_request, Inv, Goes}

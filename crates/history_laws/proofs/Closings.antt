@@ -5,6 +5,7 @@ use Rattle.std.specs.List.{AllByRecursion, IsDistinct}
 use Rattle.std.proofs.lemmas.Bool.{eqb-true}
 use Rattle.std.proofs.lemmas.List.Sums.{sum_by-cons}
 use Rattle.std.proofs.lemmas.Map.Keys.{IsDistinct-head, IsDistinct-tail}
+use Rattle.std.proofs.Math.Bool.{or-false}
 use Rattle.ride_model.specs.declared.command.Actor.{Actor}
 use Rattle.ride_model.specs.declared.command.Actor.TheVariants.{Feed, Desk}
 use Rattle.ride_model.specs.declared.command.Command.{Command}
@@ -301,12 +302,8 @@ committed_closes desks fed start s q batch cost seats prices pays outcomes begin
         held state true was same within away =
             let gone : outcome_of batch seats s ride.id ≡ Gone = ap (λ c. outcome_by batch s c (seat_of seats ride.id)) was in
             absurd (cc (away, gone))
-        held state false was same within away = by_test (is_in_batch batch.number state)
-            (ap (λ b. is_in_batch batch.number state || b) (sym was ∙ same) ∙ within)
-          where
-            by_test : (b : Bool) → (b || false) ≡ true → b ≡ true
-            by_test true h = refl
-            by_test false h = h
+        held state false was same within away =
+            sym (or-false (is_in_batch batch.number state)) ∙ ap (λ b. is_in_batch batch.number state || b) (sym was ∙ same) ∙ within
 
     by_count : (count_by (λ (item : ℕ × Outcome). item.0 == q && is_away item.1) (outcomes_of batch seats s) ≡ 0)
         ⊎ ((count_by (λ (item : ℕ × Outcome). item.0 == q && is_away item.1) (outcomes_of batch seats s) ≡ 1)

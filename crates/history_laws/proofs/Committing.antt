@@ -21,24 +21,25 @@ use Rattle.ride_model.specs.Vehicle.{IsRide, IsFresh, ride_ids}
 use Rattle.history_laws.specs.Start.{IsStart}
 use Rattle.history_laws.specs.Closing.{is_closed}
 use Rattle.history_laws.specs.Consistent.{promised_state, promised_as, vehicle_of_request, IsInBatch, IsOpenBatch}
-use Rattle.plain_lemmas.proofs.Among.{Among, among_map, contains_from_among}
+use Rattle.plain_lemmas.proofs.Among.{Among, among_map, contains_from_among, among_push_back, found_among}
 use Rattle.plain_lemmas.proofs.Numbers.{eqb-comm}
 use Rattle.plain_lemmas.proofs.Each.{of_each, of_all}
 use Rattle.model_laws.proofs.OfferPrices.{among_append}
 use Rattle.std.proofs.lemmas.Map.Keys.{IsDistinct-head, IsDistinct-tail}
 use Rattle.std.proofs.lemmas.Option.{same_Some}
-use Rattle.model_laws.proofs.Certificates.{found_among, seat_facts}
-use Rattle.model_laws.proofs.RequestStates.{marked}
+use Rattle.std.proofs.Math.Bool.{or-false}
+use Rattle.std.proofs.lemmas.List.{map-append}
+use Rattle.model_laws.proofs.Certificates.{seat_facts}
+use Rattle.model_laws.proofs.RequestStates.{marked, marked-ride}
 use Rattle.history_laws.proofs.Lookups.{find-map, found_by, put, put-id, Placed}
 use Rattle.history_laws.proofs.Changes.{stays_in, find_request-map}
-use Rattle.history_laws.proofs.Marks.{marked-ride, marked-passing, marked-other, marks_go}
+use Rattle.history_laws.proofs.Marks.{marked-passing, marked-other, marks_go}
 use Rattle.history_laws.proofs.Moves.{only_request, move_goes}
 use Rattle.history_laws.proofs.Leaving.{without_inv, fewer-filter, others_of, is_batch-own, other_number, in_batch-none, in_batch-stays}
 use Rattle.history_laws.proofs.Confirming.{ready_at, Confirming, confirming, version_of-found, with_confirmed-is}
 use Rattle.history_laws.proofs.Kept.{Keeping, AllKeep, all_keep-placed, keeping-kept}
 use Rattle.history_laws.proofs.Raised.{lawful-raised}
 use Rattle.history_laws.proofs.Fed.{found_at}
-use Rattle.history_laws.proofs.Asked.{among-push, map-push}
 use Rattle.history_laws.proofs.Earlier.{all_earlier-same, all_earlier-then, later_of}
 use Rattle.history_laws.proofs.Invariant.{find_request, Inv, Goes}
 
@@ -245,12 +246,12 @@ module _ (desks fed : ℕ) (ok : ℕ → Type 0) (start s : State) (begins : IsS
           lawful = lawful-raised t.roads (with_plan (ready_at (start_of v batch.settings.lead batch.time) v)
               (v.rides.items ++ ride ∷ []) c.out) c.lawful;
           few_stops = c.few_stops;
-          rides_back = λ other other_there. back fresh waits id_is other (among-push v.rides.items ride other other_there);
-          rides_kept = λ q differs q_there. subst (Among q) (sym (map-push (λ (r : Ride). r.id) v.rides.items ride))
+          rides_back = λ other other_there. back fresh waits id_is other (among_push_back v.rides.items ride other other_there);
+          rides_kept = λ q differs q_there. subst (Among q) (sym (map-append (λ (r : Ride). r.id) v.rides.items (ride ∷ [])))
               (among_append (ride_ids v.rides.items) (ride.id ∷ []) q (inl q_there));
           is_with = λ k some. (
             id_is ∙ same_Some seat.vehicle k some,
-            subst (Among ride.id) (sym (map-push (λ (r : Ride). r.id) v.rides.items ride))
+            subst (Among ride.id) (sym (map-append (λ (r : Ride). r.id) v.rides.items (ride ∷ [])))
                 (among_append (ride_ids v.rides.items) (ride.id ∷ []) ride.id (inr (inl refl))),
           );
           in_batches = λ b b_there was_in. absurd (cc (was_in, not_held t rides was part within b b_there));
@@ -351,12 +352,8 @@ module _ (desks fed : ℕ) (ok : ℕ → Type 0) (start s : State) (begins : IsS
   -- what became of a request of the batch, by whether it was cancelled
   held_or_cancelled : (state : RequestState) → stays_in batch.number state ≡ true → is_cancelled state ≡ false
       → is_in_batch batch.number state ≡ true
-  held_or_cancelled state stays_is not_cancelled = by_test (is_in_batch batch.number state)
-      (sym (ap (λ b. is_in_batch batch.number state || b) not_cancelled) ∙ stays_is)
-    where
-      by_test : (b : Bool) → (b || false) ≡ true → b ≡ true
-      by_test true h = refl
-      by_test false h = h
+  held_or_cancelled state stays_is not_cancelled =
+      sym (ap (λ b. is_in_batch batch.number state || b) not_cancelled ∙ or-false (is_in_batch batch.number state)) ∙ stays_is
 
   -- the outcome of a ride with a seat
   seated_step : (t : State) (rides : List Ride) (ride : Ride) (state : RequestState) (seat : Seat) → Partway t (ride ∷ rides)

@@ -33,7 +33,7 @@ abbrev pub ready_at : ℕ → Vehicle → Vehicle
 ready_at start v = record v { ready = start }
 
 -- a vehicle in order stays so when it is ready later
-routed-ready : (roads : RoadMap) (v : Vehicle) (start : ℕ) → IsRouted roads v → v.ready ≤ start → start ≤ 1000003600
+pub routed-ready : (roads : RoadMap) (v : Vehicle) (start : ℕ) → IsRouted roads v → v.ready ≤ start → start ≤ 1000003600
     → IsRouted roads (ready_at start v)
 routed-ready roads v start r later fits = record {
   some_seat = r.some_seat;

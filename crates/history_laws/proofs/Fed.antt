@@ -18,9 +18,8 @@ use Rattle.ride_model.specs.Vehicle.{IsPlanFor, ride_ids}
 use Rattle.history_laws.specs.Start.{IsStart}
 use Rattle.history_laws.specs.Closing.{is_closed}
 use Rattle.history_laws.specs.Consistent.{promised_state, promised_as, vehicle_of_request}
-use Rattle.plain_lemmas.proofs.Among.{Among, among_from_contains, among_map, among_map_back, among_filter, among_filter_back}
+use Rattle.plain_lemmas.proofs.Among.{Among, among_from_contains, among_map, among_map_back, among_filter, among_filter_back, found_among}
 use Rattle.plain_lemmas.proofs.Each.{of_all}
-use Rattle.model_laws.proofs.Certificates.{found_among}
 use Rattle.model_laws.proofs.PlanStops.{ids-without}
 use Rattle.model_laws.proofs.Removal.{lawful-without}
 use Rattle.model_laws.proofs.Routes.{with_leg}

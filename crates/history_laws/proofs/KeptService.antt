@@ -19,10 +19,9 @@ use Rattle.ride_model.specs.State.{State, placed_vehicle}
 use Rattle.ride_model.specs.Step.{Answered, raised, served, served_reply, done_at_stop, done_found}
 use Rattle.ride_model.specs.Vehicle.{IsPlanFor, IsRouted, HasLegs, visits_due, visit_of, stops_of}
 use Rattle.history_laws.specs.Start.{IsStart}
-use Rattle.plain_lemmas.proofs.Among.{Among, among_map_back, among_filter_back}
+use Rattle.plain_lemmas.proofs.Among.{Among, among_map_back, among_filter_back, found_among}
 use Rattle.plain_lemmas.proofs.Numbers.{eqb-comm}
 use Rattle.model_laws.proofs.AboardLoads.{filter-kept, filter-skipped}
-use Rattle.model_laws.proofs.Certificates.{found_among}
 use Rattle.model_laws.proofs.Routes.{visits_from}
 use Rattle.model_laws.proofs.TravelTimes.{travel-same}
 use Rattle.history_laws.proofs.Invariant.{Inv}

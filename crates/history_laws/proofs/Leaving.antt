@@ -13,9 +13,8 @@ use Rattle.ride_model.specs.State.{State, AcceptedRequest, is_batch, request_sta
 use Rattle.history_laws.specs.Closing.{is_closed}
 use Rattle.history_laws.specs.Consistent.{vehicle_of_request}
 use Rattle.model_laws.specs.Requests.{is_of, is_in}
-use Rattle.plain_lemmas.proofs.Among.{Among, among_filter_back}
+use Rattle.plain_lemmas.proofs.Among.{Among, among_filter_back, found_among}
 use Rattle.model_laws.proofs.AboardLoads.{filter-skipped}
-use Rattle.model_laws.proofs.Certificates.{found_among}
 use Rattle.model_laws.proofs.RequestStates.{abandon-is}
 use Rattle.history_laws.proofs.Lookups.{found_by, distinct-filter_by}
 use Rattle.history_laws.proofs.Earlier.{all_earlier-same}

@@ -31,3 +31,4 @@ pub mod Standing
 pub mod Finished
 pub mod Unmoved
 pub mod OpenedBatches
+pub mod StandingSeats

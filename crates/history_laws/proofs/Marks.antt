@@ -12,21 +12,12 @@ use Rattle.ride_model.specs.Vehicle.{IsLawful, ride_ids}
 use Rattle.history_laws.specs.Closing.{is_closed}
 use Rattle.history_laws.specs.Consistent.{IsEarlier, promised_state, promised_as, vehicle_of_request}
 use Rattle.history_laws.specs.Start.{IsStart}
-use Rattle.plain_lemmas.proofs.Among.{Among}
-use Rattle.model_laws.proofs.Certificates.{found_among}
-use Rattle.model_laws.proofs.RequestStates.{marked}
+use Rattle.plain_lemmas.proofs.Among.{Among, found_among}
+use Rattle.model_laws.proofs.RequestStates.{marked, marked-ride}
 use Rattle.history_laws.proofs.Lookups.{map-same, found_by, put, put-id, Placed}
 use Rattle.history_laws.proofs.Earlier.{earlier-same, earlier-raised}
 use Rattle.history_laws.proofs.Invariant.{find_request, Inv, Goes, fleet_of}
 use Rattle.history_laws.proofs.Changes.{stays_in, Change, find_request-map, changed}
-
--- marking changes no ride
-pub marked-ride : (test : ℕ → Bool) (state : RequestState) (r : AcceptedRequest) → (marked test state r).ride ≡ r.ride
-marked-ride test state r = by_test (test r.ride.id)
-  where
-    by_test : (b : Bool) → (cond b (record r { state = state }) r).ride ≡ r.ride
-    by_test true = refl
-    by_test false = refl
 
 -- a request that passes is marked
 pub marked-passing : (test : ℕ → Bool) (state : RequestState) (r : AcceptedRequest) → test r.ride.id ≡ true

@@ -12,14 +12,13 @@ use Rattle.ride_model.specs.Vehicle.{IsLawful, ride_ids}
 use Rattle.history_laws.specs.Closing.{is_closed}
 use Rattle.history_laws.specs.Consistent.{IsEarlier, promised_as, vehicle_of_request}
 use Rattle.history_laws.specs.Start.{IsStart}
-use Rattle.plain_lemmas.proofs.Among.{Among}
-use Rattle.model_laws.proofs.Certificates.{found_among}
-use Rattle.model_laws.proofs.RequestStates.{marked}
+use Rattle.plain_lemmas.proofs.Among.{Among, found_among}
+use Rattle.model_laws.proofs.RequestStates.{marked, marked-ride}
 use Rattle.history_laws.proofs.Lookups.{found_by, put, put-id, Placed}
 use Rattle.history_laws.proofs.Earlier.{earlier-same, earlier-raised}
 use Rattle.history_laws.proofs.Invariant.{find_request, Inv, Goes}
 use Rattle.history_laws.proofs.Changes.{stays_in, Change, find_request-map, changed}
-use Rattle.history_laws.proofs.Marks.{marked-ride, marked-passing, marked-other, vehicle_of-promised, put_cases}
+use Rattle.history_laws.proofs.Marks.{marked-passing, marked-other, vehicle_of-promised, put_cases}
 
 -- a vehicle is changed together with the request of this id, which was with no vehicle or with this one: the rides of other
 -- ids stay as they are, and where the vehicle has a ride of this id the request is the one of that ride

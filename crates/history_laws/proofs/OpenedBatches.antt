@@ -2,6 +2,7 @@
 use Rattle.std.proofs.Common.{◌≡◌, ℕ, Bool, true, false, not, cond, List, [], ◌∷◌, Option, Some, None, refl, ap, ◌∙◌}
 use Rattle.std.specs.Prelude.{option_map, find}
 use Rattle.std.specs.List.{filter}
+use Rattle.std.specs.Option.{option_map_or}
 use Rattle.plain_lemmas.proofs.Among.{Among}
 use Rattle.ride_model.specs.declared.command.Actor.TheVariants.{Desk}
 use Rattle.ride_model.specs.declared.entry.Event.TheVariants.{Committed, Abandoned}
@@ -18,29 +19,23 @@ use Rattle.model_laws.proofs.RequestStates.{request_state-opening}
 use Rattle.history_laws.proofs.Leaving.{is_batch-own}
 use Rattle.history_laws.proofs.Opening.{is_of-among}
 
--- whether a request's state is that of a cancelled one
-cancelled_in : Option RequestState → Bool
-cancelled_in None = false
-cancelled_in (Some state) = is_cancelled state
-
-was-cancelled : (s : State) (id : ℕ) → was_cancelled s id ≡ cancelled_in (request_state s id)
-unfolding cancelled_in
+-- whether a request was cancelled, by its state
+was-cancelled : (s : State) (id : ℕ) → was_cancelled s id ≡ option_map_or is_cancelled (request_state s id) false
 was-cancelled s id = by_state (request_state s id) refl
   where
-    by_state : (o : Option RequestState) → request_state s id ≡ o → was_cancelled s id ≡ cancelled_in o
+    by_state : (o : Option RequestState) → request_state s id ≡ o → was_cancelled s id ≡ option_map_or is_cancelled o false
     by_state None is = rw is refl
     by_state (Some state) is = rw is refl
 
 -- no request of a batch that was just opened is cancelled
 pub opened-not_cancelled : (s : State) (batch : BatchCopy) (ride : Ride) → Among ride batch.requests
     → was_cancelled (after_opening s batch) ride.id ≡ false
-unfolding cancelled_in
 opened-not_cancelled s batch ride there =
-    was-cancelled (after_opening s batch) ride.id ∙ ap cancelled_in (request_state-opening s batch ride.id
+    was-cancelled (after_opening s batch) ride.id ∙ ap (λ o. option_map_or is_cancelled o false) (request_state-opening s batch ride.id
     ∙ ap (λ b. cond b (option_map (λ _. InBatch batch.number) (request_state s ride.id)) (request_state s ride.id))
     (is_of-among batch.requests ride there)) ∙ marked (request_state s ride.id)
   where
-    marked : (o : Option RequestState) → cancelled_in (option_map (λ _. InBatch batch.number) o) ≡ false
+    marked : (o : Option RequestState) → option_map_or is_cancelled (option_map (λ _. InBatch batch.number) o) false ≡ false
     marked None = refl
     marked (Some state) = refl
 

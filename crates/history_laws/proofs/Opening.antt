@@ -4,6 +4,7 @@ use Rattle.std.specs.Prelude.{map, Some, None, option_map, is_some, nat_lt, nat_
 use Rattle.std.specs.List.{filter, IsDistinct}
 use Rattle.std.proofs.lemmas.Bool.{eqb-true, eq-eqb, ne_eqb, not-true, and_parts}
 use Rattle.std.proofs.lemmas.Option.{same_Some}
+use Rattle.std.proofs.lemmas.List.{map-append}
 use Rattle.ride_model.specs.declared.command.Actor.TheVariants.{Desk}
 use Rattle.ride_model.specs.declared.reply.RequestState.{RequestState}
 use Rattle.ride_model.specs.declared.reply.RequestState.TheVariants.{Waiting, InBatch, Confirmed, Aboard, Done, Away, Cancelled}
@@ -18,15 +19,15 @@ use Rattle.history_laws.specs.Start.{IsStart}
 use Rattle.history_laws.specs.Closing.{is_closed}
 use Rattle.history_laws.specs.Consistent.{promised_as, vehicle_of_request, IsInBatch, IsOpenBatch}
 use Rattle.model_laws.specs.Requests.{is_of}
-use Rattle.plain_lemmas.proofs.Among.{Among, among_from_contains, among_map_back, among_filter_back}
+use Rattle.plain_lemmas.proofs.Among.{Among, among_from_contains, among_map_back, among_filter_back, among_push_back}
 use Rattle.plain_lemmas.proofs.Each.{all_of}
-use Rattle.model_laws.proofs.RequestStates.{marked, opening-is}
+use Rattle.plain_lemmas.proofs.Lists.{distinct-push}
+use Rattle.model_laws.proofs.RequestStates.{marked, opening-is, marked-ride}
 use Rattle.history_laws.proofs.Lookups.{found_by, fresh_by, distinct-filter_by, distinct-take_by, among_take}
 use Rattle.history_laws.proofs.Earlier.{all_earlier-same}
 use Rattle.history_laws.proofs.Invariant.{find_request, Inv, Goes, settings_of, fleet_of}
 use Rattle.history_laws.proofs.Changes.{stays_in, find_request-map, open_batch-later}
-use Rattle.history_laws.proofs.Marks.{marked-ride, marked-passing, Marks, marks_go, vehicle_of-promised}
-use Rattle.history_laws.proofs.Asked.{among-push, distinct-push, map-push}
+use Rattle.history_laws.proofs.Marks.{marked-passing, Marks, marks_go, vehicle_of-promised}
 
 -- a waiting request is with no vehicle, and open
 waiting-none : (state : RequestState) → is_waiting state ≡ true → (vehicle_of_request state ≡ None) × (is_closed state ≡ false)
@@ -225,11 +226,11 @@ module _ (desks fed : ℕ) (ok : ℕ → Type 0) (start s : State) (begins : IsS
           promised = kept.promised;
           with_vehicles = kept.with_vehicles;
           versions_fit = λ v there. omega (arith, kept.versions_fit v there, length-append s.batches (next_batch s desk ∷ []));
-          batches_fit = λ b there. by_place b kept desk_in (among-push s.batches (next_batch s desk) b there);
-          numbers_differ = subst (IsDistinct nat_eq) (sym (map-push (λ (b : BatchCopy). b.number) s.batches (next_batch s desk)))
+          batches_fit = λ b there. by_place b kept desk_in (among_push_back s.batches (next_batch s desk) b there);
+          numbers_differ = subst (IsDistinct nat_eq) (sym (map-append (λ (b : BatchCopy). b.number) s.batches (next_batch s desk ∷ [])))
               (distinct-push (map (λ (b : BatchCopy). b.number) s.batches) (s.opened + 1) inv.numbers_differ (λ n there. lower n
               (among_map_back (λ (b : BatchCopy). b.number) s.batches n there)));
-          desks_differ = subst (IsDistinct nat_eq) (sym (map-push (λ (b : BatchCopy). b.desk) s.batches (next_batch s desk)))
+          desks_differ = subst (IsDistinct nat_eq) (sym (map-append (λ (b : BatchCopy). b.desk) s.batches (next_batch s desk ∷ [])))
               (distinct-push (map (λ (b : BatchCopy). b.desk) s.batches) desk inv.desks_differ
               (fresh_by (λ (b : BatchCopy). b.desk) s.batches desk (not-true (is_some (open_batch_of s desk)) none_open)));
         };

@@ -20,9 +20,8 @@ use Rattle.ride_model.specs.State.{State, AcceptedRequest, accepted_request, pla
 use Rattle.ride_model.specs.Step.{Answered, is_node, freed, cancel_by_state, cancel_found, cancel_step, reported, report, report_driving, at_found, at_step, served_reply, done_at_stop, done_found, done_step, duty_found, duty_step, clock_step, ask_step, request_step, step}
 use Rattle.ride_model.specs.Text.{IsSpelled, IsSpelledReply, IsNotedIfBad}
 use Rattle.history_laws.specs.Start.{IsStart}
-use Rattle.plain_lemmas.proofs.Among.{Among, among_map_back, among_filter_back}
+use Rattle.plain_lemmas.proofs.Among.{Among, among_map_back, among_filter_back, found_among}
 use Rattle.plain_lemmas.proofs.Each.{of_all, all_of}
-use Rattle.model_laws.proofs.Certificates.{found_among}
 use Rattle.model_laws.proofs.TravelTimes.{travel-le}
 use Rattle.model_laws.proofs.FewRides.{few-rides}
 use Rattle.history_laws.proofs.Invariant.{Inv, map_of, fleet_of}

@@ -19,12 +19,12 @@ use Rattle.ride_model.specs.Offers.{is_idle}
 use Rattle.ride_model.specs.Seating.{BatchCopy, find_vehicle, vehicle_ids}
 use Rattle.ride_model.specs.State.{State, placed_vehicle, open_batch_numbered}
 use Rattle.ride_model.specs.Step.{raised}
-use Rattle.model_laws.proofs.Certificates.{found_among}
 use Rattle.model_laws.proofs.Histories.{replay-push}
 use Rattle.history_laws.specs.Start.{IsStart}
 use Rattle.history_laws.proofs.Committing.{put_elsewhere}
 use Rattle.history_laws.proofs.EveryState.{consistent}
 use Rattle.history_laws.proofs.Lookups.{ids-map, put, put-id, Placed, placed_is}
+use Rattle.plain_lemmas.proofs.Among.{found_among}
 
 -- a vehicle is found as before, and the vehicles have the ids that they had
 record Unmoved (id : ℕ) (vehicles after : List Vehicle) : Type 0 where

@@ -17,4 +17,5 @@ mod seating;
 mod solving;
 
 pub use batch::solve;
+pub use seating::{pay_at, prices_by};
 pub use solving::solve_grid;

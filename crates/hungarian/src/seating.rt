@@ -61,11 +61,7 @@ pub(crate) fn seats_by(
 }
 
 /// Each request with its row's price.
-pub(crate) fn prices_by(
-    alloc: Global,
-    requests: &[Ride],
-    amounts: &[u64],
-) -> Result<AmountList, NoMemory>
+pub fn prices_by(alloc: Global, requests: &[Ride], amounts: &[u64]) -> Result<AmountList, NoMemory>
     requires { length amounts.now ≡ length requests.now }
     ensures { IfOk result (λ prices. prices ≡ prices_by (ride_ids requests.now) amounts.now (length requests.now)) }
 {
@@ -76,14 +72,14 @@ pub(crate) fn prices_by(
     Ok(AmountList::of(prices))
 }
 
-/// A vehicle with what its column pays, if that is anything.
-fn pay_at(vehicle: &Vehicle, amount: u64) -> Option<(u64, u64)>
-    ensures { result ≡ pay_at vehicle.now.id amount }
+/// The vehicle of this id with what its column pays, if that is anything.
+pub fn pay_at(vehicle: u64, amount: u64) -> Option<(u64, u64)>
+    ensures { result ≡ pay_at vehicle amount }
 {
     if amount == 0 {
         None
     } else {
-        Some((vehicle.id, amount))
+        Some((vehicle, amount))
     }
 }
 
@@ -98,7 +94,7 @@ pub(crate) fn pays_by(
 {
     let mut pays = Vec::new(alloc);
     for column in 0..vehicles.len() {
-        if let Some(pay) = pay_at(&vehicles[column], amounts[column]) {
+        if let Some(pay) = pay_at(vehicles[column].id, amounts[column]) {
             pays.push(pay)?;
         }
     }

@@ -1,5 +1,5 @@
 -- Versions that a map keeps by the ids of their vehicles.
-use Rattle.std.proofs.Common.{◌≡◌, ℕ, zero, suc, ◌+◌, ◌<◌, ◌^◌, Bool, true, false, cond, List, [], ◌∷◌, Some, None, slice_get, get_or, length, take, eqb, refl, sym, ap, subst, ◌∙◌, arith}
+use Rattle.std.proofs.Common.{◌≡◌, ℕ, zero, suc, ◌+◌, ◌<◌, ◌^◌, Bool, true, false, cond, List, [], ◌∷◌, Some, None, slice_get, get_or, length, take, eqb, refl, sym, ap, subst, ◌∙◌, arith, add-one}
 use Rattle.std.specs.Prelude.{slice_index_or, unwrap_or}
 use Rattle.std.specs.List.{AllByRecursion, IsDistinct}
 use Rattle.std.specs.Map.{lookup, keys_of, values_of}
@@ -95,10 +95,7 @@ pub versions-pushed : (vehicles : List Vehicle) (i : ℕ) (v : Vehicle) → IsDi
     → v ≡ get_or vehicles i v
     → insert_entry eqb (versions_of (take i vehicles)) v.id v.version ≡ versions_of (take (i + 1) vehicles)
 versions-pushed vehicles i v distinct low is =
-    pushed vehicles i v distinct low is ∙ ap (λ n. versions_of (take n vehicles)) (one i)
-  where
-    one : (n : ℕ) → suc n ≡ n + 1
-    one n = omega arith
+    pushed vehicles i v distinct low is ∙ ap (λ n. versions_of (take n vehicles)) (sym (add-one i))
 
 -- the value of a key is the amount of an id
 pub looked-up : (id : ℕ) (entries : List (ℕ × ℕ)) → unwrap_or (lookup (eqb id) entries) 0 ≡ amount_of entries id

@@ -15,9 +15,6 @@ use Rattle.idle_moves.specs.Standby.{AreStandbys, standby_of}
 
 -- what is read of a vehicle that stands by is what the fleet has at its place
 module _ (standbys : List Standby) (fleet : List Vehicle) (are : AreStandbys standbys fleet) where
-  pub same-many : length standbys ≡ length fleet
-  same-many = ap length are ∙ length-map fleet standby_of
-
   read : (part : Standby → ℕ) (place : ℕ) (d : Standby) → place < length standbys
       → part (get_or standbys place d) ≡ get_or (map (λ (v : Vehicle). part (standby_of v)) fleet) place 0
   read part place d low =

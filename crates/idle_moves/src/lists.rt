@@ -5,13 +5,14 @@ ghost use Rattle.ride_model.specs.Seating.{vehicle_ids};
 ghost use Rattle.ride_model.specs.Vehicle.{ride_ids};
 ghost use Rattle.ride_model.specs.Limits.{largest_batch};
 ghost use Rattle.dual_check.specs.Grid.{column_of};
-ghost use Rattle.hungarian.specs.Seats.{pay_at, pays_by, prices_by};
+ghost use Rattle.hungarian.specs.Seats.{pays_by};
 ghost use Rattle.idle_moves.specs.Sheet.{order_at, orders_by};
 ghost use Rattle.idle_moves.specs.Standby.{AreStandbys};
 
 use crate::standby::Standby;
 use crate::{Move, MoveList};
 use dual_check::Grid;
+use hungarian::pay_at;
 use ride_model::{AmountList, NoMemory, Ride};
 use std::alloc::Global;
 
@@ -66,33 +67,6 @@ pub(crate) fn orders_by(
         }
     }
     Ok(MoveList::of(moves))
-}
-
-/// Each request with its row's price.
-pub(crate) fn prices_by(
-    alloc: Global,
-    requests: &[Ride],
-    amounts: &[u64],
-) -> Result<AmountList, NoMemory>
-    requires { length amounts.now ≡ length requests.now }
-    ensures { IfOk result (λ prices. prices ≡ prices_by (ride_ids requests.now) amounts.now (length requests.now)) }
-{
-    let mut prices = Vec::with_capacity(alloc, requests.len())?;
-    for row in 0..requests.len() {
-        prices.push((requests[row].id, amounts[row]))?;
-    }
-    Ok(AmountList::of(prices))
-}
-
-// A vehicle with what its column pays, if that is anything.
-fn pay_at(vehicle: u64, amount: u64) -> Option<(u64, u64)>
-    ensures { result ≡ pay_at vehicle amount }
-{
-    if amount == 0 {
-        None
-    } else {
-        Some((vehicle, amount))
-    }
 }
 
 /// Each vehicle whose column pays, with what it pays.

@@ -11,11 +11,11 @@ ghost use Rattle.idle_moves.specs.Standby.{AreStandbys};
 
 use crate::MoveSheet;
 use crate::grids::times_grid;
-use crate::lists::{orders_by, pays_by, prices_by};
+use crate::lists::{orders_by, pays_by};
 use crate::standby::{Standby, left_out, nodes_of, standing_by};
 use batch_commit::{Answer, Batch};
 use dual_check::{Grid, Paired};
-use hungarian::solve_grid;
+use hungarian::{prices_by, solve_grid};
 use ride_model::{NoMemory, Ride};
 use road_times::{Roads, Scratch};
 use std::alloc::Global;

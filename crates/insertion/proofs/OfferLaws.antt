@@ -1,5 +1,6 @@
 -- Offers, from the times near a ride and the plan with it.
-use Rattle.std.proofs.Common.{◌≡◌, ℕ, suc, ◌+◌, ◌<◌, ◌≤◌, ◌⊎◌, inl, inr, Bool, true, false, cond, ◌&&◌, List, [], ◌∷◌, ◌++◌, length, eqb, leb, leb-true, refl, sym, ◌∙◌, ap, subst, arith}
+use Rattle.std.proofs.Common.{◌≡◌, ℕ, suc, ◌+◌, ◌<◌, ◌≤◌, ◌⊎◌, inl, inr, Bool, true, false, cond, ◌&&◌, List, [], ◌∷◌, ◌++◌, length, eqb, leb, leb-true, refl, sym, ◌∙◌, ap, subst, arith, add-one}
+use native.Mathlib.Numerals.{add-two}
 use Rattle.std.specs.Prelude.{Option, Some, None, option_map, option_and_then}
 use Rattle.std.specs.List.{list_all}
 use Rattle.std.proofs.lemmas.Bool.{eqb-true, eq-eqb, and_parts}
@@ -89,20 +90,14 @@ joins-law roads v ride near i j legs holds in_order within =
         (after_place roads ride.to v.stops.items j)) to_dropoff
         ∙ sym (two-joined-apart roads v.at i j ride v.stops.items legs less within)
 
-    one : (n : ℕ) → suc n ≡ n + 1
-    one n = omega arith
-
-    two : (n : ℕ) → suc (suc n) ≡ n + 2
-    two n = omega arith
-
     as_joins : (o : Option (List Stop)) → option_map (legs_of_two i j) o
         ≡ option_map (λ new. joins_of new i j) (option_map (with_plan v (v.rides.items ++ ride ∷ [])) o)
     as_joins None = refl
     as_joins (Some out) = ap Some (λ k. record {
       to_pickup = leg_at out i;
-      after_pickup = leg_at out (one i k);
-      to_dropoff = leg_at out (one j k);
-      after_dropoff = leg_at out (two j k);
+      after_pickup = leg_at out (sym (add-one i) k);
+      to_dropoff = leg_at out (sym (add-one j) k);
+      after_dropoff = leg_at out (sym (add-two j) k);
     })
 
 -- no offer of a vehicle that is not open, or at other places
@@ -179,6 +174,24 @@ no-legs roads settings v ride near time i j asked may none =
     ] law
     ∙ at-places roads settings v ride time i j may
 
+-- what is asked for goes into a plan with room for it
+pub goes-into : (roads : RoadMap) (settings : Settings) (v : Vehicle) (ride : Ride) (near : Near) (time : ℕ) (offer : Offer) (new : Vehicle)
+    → IsAsked roads v ride time settings near → ArePlaces v offer.i offer.j → length v.stops.items ≤ 14
+    → inserted roads v ride offer.i offer.j ≡ Some new → offer.joins ≡ joins_of new offer.i offer.j → InsertsInto roads v ride offer new
+goes-into roads settings v ride near time offer new asked places room is joins = record {
+  map_fits = asked.map_fits;
+  lawful = asked.lawful;
+  ride_fits = asked.ride_fits;
+  waits = asked.waits;
+  fresh = asked.fresh;
+  stops_room = room;
+  rides_room = omega (arith, room, few-rides v.rides.items v.stops.items asked.lawful.routed.planned);
+  in_order = places.in_order;
+  in_range = places.in_range;
+  inserted_is = is;
+  joins_are = joins;
+}
+
 -- the plan with the ride, where all legs are there
 pub inserts : (roads : RoadMap) (settings : Settings) (v : Vehicle) (ride : Ride) (near : Near) (time : ℕ) (offer : Offer) → IsAsked roads v ride time settings near
     → (is_open v time && leb offer.i offer.j && leb offer.j (length v.stops.items)) ≡ true → length v.stops.items ≤ 14
@@ -192,19 +205,7 @@ inserts roads settings v ride near time offer asked may room some =
       | None ↦ λ _ none. absurd (cc (some, none))
       | Some new ↦ λ is joins. (
         new,
-        record {
-          map_fits = asked.map_fits;
-          lawful = asked.lawful;
-          ride_fits = asked.ride_fits;
-          waits = asked.waits;
-          fresh = asked.fresh;
-          stops_room = room;
-          rides_room = omega (arith, room, few-rides v.rides.items v.stops.items asked.lawful.routed.planned);
-          in_order = places.in_order;
-          in_range = places.in_range;
-          inserted_is = is;
-          joins_are = same_Some _ _ (sym some ∙ joins);
-        },
+        goes-into roads settings v ride near time offer new asked places room is (same_Some _ _ (sym some ∙ joins)),
       )
     ] refl law
 

@@ -4,6 +4,7 @@ use Rattle.std.specs.Prelude.{IfSome, MatchResult}
 use Rattle.std.proofs.lemmas.Bool.{false_from_ne_true}
 use mathlib.Core.List.{IsPrefix}
 use Rattle.line_text.specs.Lines.{ended_lines, last_line, lines_of, rest_of}
+use Rattle.line_text.proofs.LineLemmas.{last_line-some}
 use Rattle.ride_ports.specs.Bytes.{Reads}
 use Rattle.ride_ports.specs.declared.outcome.Ran.{Ran}
 use Rattle.ride_ports.proofs.ByteLemmas.{Reads-none, Reads-then, Reads-to_end, Reads-told}
@@ -79,13 +80,9 @@ reads-line feed left reader bytes came line reads next =
     ∙ ap (λ l. l ++ reader.pending) (sym (append_assoc bytes line (10 ∷ [])))) reads
 
 -- the lines of whole lines and a rest
-lines-at_end : (limits : Limits) (left : Option (List ℕ)) (bytes rest : List ℕ) → IsAtEnd left limits bytes rest
+pub lines-at_end : (limits : Limits) (left : Option (List ℕ)) (bytes rest : List ℕ) → IsAtEnd left limits bytes rest
     → lines_of (bytes ++ rest) ≡ ended_lines bytes ++ last_line rest
 lines-at_end limits left bytes rest end = (λ i. end.ended_are i ++ last_line (end.rest_is i))
-
-last-is : (rest : List ℕ) → rest ≢ [] → last_line rest ≡ rest ∷ []
-last-is [] some = absurd (some refl)
-last-is (b ∷ rest) some = refl
 
 -- a feed that was stopped in its midst
 run-cut : (limits : Limits) (feed left : Option (List ℕ)) (stop : Stop) (failed : Bool) (bytes more : List ℕ) → rest_of bytes ≡ []
@@ -135,7 +132,7 @@ few-last limits left bytes rest end some =
       end.within.few_lines,
       ap length (lines-at_end limits left bytes rest end),
       length-append (ended_lines bytes) (last_line rest),
-      ap length (last-is rest some),
+      ap length (last_line-some rest some),
     )
 
 -- a line that came after the lines of some bytes, each of which was taken: one more may be, the reader shows it, and where memory is
@@ -180,7 +177,7 @@ each-follows limits feed left reader bytes came (Ok Unfinished) are whole reads 
     let end : IsAtEnd left limits bytes came = subst (λ (l : Limits). IsAtEnd left l bytes came) are at_end in (
       has-come limits feed left reader _ bytes came came are whole reads (few-last limits left bytes came end some) shown,
       λ failed. run-whole limits feed left failed bytes came (ended_lines bytes ++ came ∷ []) reads end
-          (ap (λ ls. ended_lines bytes ++ ls) (sym (last-is came some))),
+          (ap (λ ls. ended_lines bytes ++ ls) (sym (last_line-some came some))),
     )
 each-follows limits feed left reader bytes came (Ok End) are whole reads (at_end, none) =
     let end : IsAtEnd left limits bytes came = subst (λ (l : Limits). IsAtEnd left l bytes came) are at_end in

@@ -252,15 +252,6 @@ at-end left reader after bytes part next read begins end same last =
     )
     by_next End h = (is_end, sym begins.is_rest ∙ h)
 
--- the last line is shown
-pub last-shown : (reader : ReaderState) (bytes : List ℕ) → HasRead reader bytes → ShowsRest reader.cutter bytes
-    → IsShown reader (length (ended_lines bytes) + 1) (rest_of bytes)
-last-shown reader bytes read shows = record {
-  numbered = shows.numbered;
-  bytes = shows.kept ∙ ap (λ n. take n (rest_of bytes)) read.most;
-  over = shows.more ∙ ap (λ n. nat_lt n (length (rest_of bytes))) read.most;
-}
-
 -- no more lines may begin
 pub stops-lines : (reader : ReaderState) (bytes part : List ℕ) → HasRead reader (bytes ++ part)
     → Begins bytes part → reader.pending ≢ [] → reader.lines_left ≡ 0 → IsStopped reader.limits bytes (part ++ reader.pending) TooLong

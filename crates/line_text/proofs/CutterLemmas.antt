@@ -56,18 +56,6 @@ begun-shows cutter bytes =
       | false ↦ λ has. has
     ]
 
-begun-ended : (cutter : CutterState) → (begun cutter).ended ≡ false
-begun-ended cutter = elim (cutter.ended) as (λ v. cutter.ended ≡ v → (cond v (record { most = cutter.most; number = min (cutter.number + 1) (2 ^ 64 - 1); shown = []; over = false; ended = false }) cutter).ended ≡ false) [
-  | true ↦ λ is. refl
-  | false ↦ λ is. is
-] refl
-
-pub begun-most : (cutter : CutterState) → (begun cutter).most ≡ cutter.most
-begun-most cutter = elim (cutter.ended) as (λ v. (cond v (record { most = cutter.most; number = min (cutter.number + 1) (2 ^ 64 - 1); shown = []; over = false; ended = false }) cutter).most ≡ cutter.most) [
-  | true ↦ refl
-  | false ↦ refl
-]
-
 -- the first bytes of a line whose bytes come in two parts
 take-both : (most : ℕ) (line more : List ℕ) → take most (take most line ++ more) ≡ take most (line ++ more)
 take-both most line more =

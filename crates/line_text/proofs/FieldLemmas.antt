@@ -38,9 +38,6 @@ pub runs_of-blank : (b : ℕ) (bytes : List ℕ) → is_blank b ≡ true → run
 unfolding runs_of
 runs_of-blank b bytes is = rw is refl
 
-pub begins_field-not_blank : (b : ℕ) (bytes : List ℕ) → is_blank b ≡ false → begins_field (b ∷ bytes) ≡ true
-begins_field-not_blank b bytes is = rw is refl
-
 -- a run of bytes that are not blank, up to a blank or the end
 pub runs_of-first : (text : List ℕ) (n : ℕ) → n ≤ length text → 0 < n → ((k : ℕ) → k < n → is_blank (get_or text k 0) ≡ false) →
     begins_field (drop n text) ≡ false → runs_of text ≡ take n text ∷ runs_of (drop n text)
@@ -86,10 +83,6 @@ begins_with-take comment (b ∷ line) = refl
 
 pub words_of-comment : (comment : ℕ) (line whole : List ℕ) → line ≡ take 200 whole → is_over_long whole ≡ true → begins_with comment line ≡ true → words_of comment whole ≡ Some []
 words_of-comment comment line whole is long begins =
-    rw (long, sym (begins_with-take comment whole) ∙ ap (begins_with comment) (sym is) ∙ begins) refl
-
-pub words_of-over_long : (comment : ℕ) (line whole : List ℕ) → line ≡ take 200 whole → is_over_long whole ≡ true → begins_with comment line ≡ false → words_of comment whole ≡ None
-words_of-over_long comment line whole is long begins =
     rw (long, sym (begins_with-take comment whole) ∙ ap (begins_with comment) (sym is) ∙ begins) refl
 
 -- a line that is not over-long, from its text without blanks in front

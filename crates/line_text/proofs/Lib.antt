@@ -5,3 +5,4 @@ mod NumberLemmas
 mod ReadingLemmas
 pub mod TextLemmas
 pub mod PrintedLemmas
+pub mod NamedRefusals

@@ -1,11 +1,16 @@
 -- Lines of bytes that come in parts.
-use Rattle.std.proofs.Common.{◌≡◌, ℕ, zero, ◌<◌, get_or, ◌+◌, ◌≤◌, suc, Bool, true, false, cond, ◌==◌, ◌||◌, List, [], ◌∷◌, ◌++◌, length, take, refl, ap, ◌∙◌, append_assoc, append-nil, length-append, sym, arith, eqb-true, add-one}
+use Rattle.std.proofs.Common.{◌≡◌, ℕ, zero, ◌<◌, get_or, ◌+◌, ◌≤◌, suc, Bool, true, false, cond, ◌==◌, ◌||◌, List, [], ◌∷◌, ◌++◌, length, take, refl, ap, ◌∙◌, append_assoc, append-nil, length-append, arith, eqb-true, add-one, ◌≢◌}
 use Rattle.std.specs.List.{list_any, AllByRecursion}
 use Rattle.line_text.specs.Lines.{ended_after, rest_after, first_line, ended_lines, last_line, lines_of, rest_of}
 
 -- no byte is an LF
 abbrev pub HasNoEnd : List ℕ → Type 0
 HasNoEnd bytes = AllByRecursion (λ b. (b == 10) ≡ false) bytes
+
+-- the last line of bytes that no LF ends
+pub last_line-some : (rest : List ℕ) → rest ≢ [] → last_line rest ≡ rest ∷ []
+last_line-some [] some = absurd (some refl)
+last_line-some (b ∷ rest) some = refl
 
 -- lines of two parts
 pub ended_after-append : (line xs ys : List ℕ) → ended_after line (xs ++ ys) ≡ ended_after line xs ++ ended_after (rest_after line xs) ys

@@ -1,5 +1,5 @@
 -- Numbers whose digits are read one by one.
-use Rattle.std.proofs.Common.{◌≡◌, ℕ, ◌+◌, ◌*◌, ◌^◌, ◌<◌, ◌≤◌, Bool, true, false, ◌&&◌, List, length, Some, None, refl, arith, le-leb}
+use Rattle.std.proofs.Common.{◌≡◌, ℕ, ◌+◌, ◌*◌, ◌^◌, ◌<◌, ◌≤◌, Bool, true, false, ◌&&◌, List, length, Some, refl, arith, le-leb}
 use Rattle.std.proofs.Math.Nat.{pow-le-pow_right}
 use Rattle.std.specs.Str.{all_ascii_digits}
 use Rattle.std.specs.Str.Parse.{digits_value}
@@ -13,9 +13,6 @@ and-false true true = refl
 and-false true false = refl
 and-false false true = refl
 and-false false false = refl
-
-pub number_of-no_digit : (text : List ℕ) → all_ascii_digits text ≡ false → number_of text ≡ None
-number_of-no_digit text not = rw (not, and-false) refl
 
 -- ten times a number of at most 17 digits, and one more digit, fit 64 bits
 pub digit-room : (value place : ℕ) → value < 10 ^ place → place < 18 → value * 10 + 9 < 2 ^ 64

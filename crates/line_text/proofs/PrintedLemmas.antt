@@ -99,32 +99,30 @@ fields_of-joined field fields plain =
     ap runs_of (without_end-joined field fields plain) ∙ runs_of-joined field fields plain
 
 -- digits are plain
+plain-digit : (b : ℕ) → IsInRange 48 57 b → is_dropped b ≡ false
+plain-digit b digit = grind arith
+
 plain-from_digits : (digits : List ℕ) → all_ascii_digits digits ≡ true → 0 < length digits → IsPlain digits
 plain-from_digits [] digits some = absurd (omega arith)
 plain-from_digits (b ∷ []) digits some =
-    let (digit, _) = (tells_all_ascii_digits).parts b [] digits in plain b digit
-  where
-    plain : (b : ℕ) → IsInRange 48 57 b → is_dropped b ≡ false
-    plain b digit = grind arith
+    let (digit, _) = (tells_all_ascii_digits).parts b [] digits in plain-digit b digit
 plain-from_digits (b ∷ c ∷ bytes) digits some =
     let (digit, rest) = (tells_all_ascii_digits).parts b (c ∷ bytes) digits in
-    (plain b digit, plain-from_digits (c ∷ bytes) rest (omega arith))
-  where
-    plain : (b : ℕ) → IsInRange 48 57 b → is_dropped b ≡ false
-    plain b digit = grind arith
+    (plain-digit b digit, plain-from_digits (c ∷ bytes) rest (omega arith))
 
-own : IsNumeralModel (λ ds. all_ascii_digits ds ≡ true) (digits_value 10)
-own = numerals_by_value (λ ds. all_ascii_digits ds ≡ true) tells_all_ascii_digits
+-- what texts of digits say
+pub digit_texts : IsNumeralModel (λ ds. all_ascii_digits ds ≡ true) (digits_value 10)
+digit_texts = numerals_by_value (λ ds. all_ascii_digits ds ≡ true) tells_all_ascii_digits
 
 -- a printed number
 pub plain-decimal : (n : ℕ) → n < 10 ^ 18 → IsPlain (decimal n)
-plain-decimal n small = plain-from_digits (decimal n) (digits_decimal own n (omega arith)) (decimal_nonempty n (omega arith))
+plain-decimal n small = plain-from_digits (decimal n) (digits_decimal digit_texts n (omega arith)) (decimal_nonempty n (omega arith))
 
 -- a printed number reads back
 pub number_of-decimal : (n : ℕ) → n < 10 ^ 18 → number_of (decimal n) ≡ Some n
 number_of-decimal n small =
-    number_of-some (decimal n) (decimal_nonempty n (omega arith)) (length-decimal-le 18 n (omega arith) small (omega arith)) (digits_decimal own n (omega arith))
-    ∙ ap Some (digits_value-decimal own n (omega arith))
+    number_of-some (decimal n) (decimal_nonempty n (omega arith)) (length-decimal-le 18 n (omega arith) small (omega arith)) (digits_decimal digit_texts n (omega arith))
+    ∙ ap Some (digits_value-decimal digit_texts n (omega arith))
 
 -- printed numbers
 pub plain-decimals : (ns : List ℕ) → AllByRecursion (λ n. n < 10 ^ 18) ns → AllByRecursion IsPlain (map decimal ns)
@@ -140,7 +138,7 @@ numbers_of-decimals (n ∷ ns) (first, rest) = rw (number_of-decimal n first, nu
 pub number_of-small : (text : List ℕ) (n : ℕ) → number_of text ≡ Some n → n < 10 ^ 18
 number_of-small text n is =
     let (short, digits, value) = parts (nat_le 1 (length text)) (nat_le (length text) 18) (all_ascii_digits text) is in
-    let below : digits_value 10 text < 10 ^ length text = digits_value-lt 10 text ((own).to text digits) in
+    let below : digits_value 10 text < 10 ^ length text = digits_value-lt 10 text (digit_texts.to text digits) in
     let most : 10 ^ length text ≤ 10 ^ 18 = pow-le-pow_right {n = 10} (omega arith) {i = length text} {j = 18} (leb-true (length text) 18 short) in
     omega (arith, below, most, value)
   where

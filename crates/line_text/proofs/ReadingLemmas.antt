@@ -8,7 +8,7 @@ use Rattle.line_text.specs.Cutter.{CutterState, HasTaken, EndsLine, ShowsRest}
 use Rattle.line_text.specs.Fields.{is_over_long}
 use Rattle.line_text.specs.Lines.{ended_after, ended_lines, last_line, lines_of, rest_of}
 use Rattle.line_text.specs.Reading.{AreFirst, GoesOn, HasRead, IsRefused, counted_lines}
-use Rattle.line_text.proofs.LineLemmas.{ended_lines-append, length-ended_after-le}
+use Rattle.line_text.proofs.LineLemmas.{ended_lines-append, length-ended_after-le, last_line-some}
 
 -- the number of a line of a text whose bytes can be counted
 line_number : (bytes : List ℕ) (number : ℕ) → length bytes < 2 ^ 32 → number ≡ min (length (ended_lines bytes) + 1) (2 ^ 64 - 1) →
@@ -59,13 +59,9 @@ pub read-last : {L E T : Type 0} (takes : L → List (List ℕ) → L → Type 0
     MatchResult outcome (λ _. takes first (lines_of bytes) new) (refuses first (lines_of bytes))
 read-last {L} {E} {T} takes refuses outcome first old new cutter bytes number shown over read short some shows number-is shown-is over-is says =
     let count : number ≡ length (ended_lines bytes) + 1 = line_number bytes number short (number-is ∙ shows.numbered) in
-    subst (λ (last : List (List ℕ)). MatchResult outcome (λ _. takes first (ended_lines bytes ++ last) new) (λ e. refuses first (ended_lines bytes ++ last) e)) (sym (one (rest_of bytes) some))
+    subst (λ (last : List (List ℕ)). MatchResult outcome (λ _. takes first (ended_lines bytes ++ last) new) (λ e. refuses first (ended_lines bytes ++ last) e)) (sym (last_line-some (rest_of bytes) some))
     (says first (ended_lines bytes) (rest_of bytes) read.lines count
     (shown-is ∙ shows.kept ∙ ap (λ n. take n (rest_of bytes)) read.most) (over-is ∙ shows.more ∙ ap (λ n. nat_lt n (length (rest_of bytes))) read.most))
-  where
-    one : (rest : List ℕ) → rest ≢ [] → last_line rest ≡ rest ∷ []
-    one [] some = absurd (some refl)
-    one (b ∷ rest) some = refl
 
 -- the rest of a piece
 rest-is : (done : ℕ) (piece : List ℕ) → take (length piece - done) (drop done piece) ≡ drop done piece

@@ -151,9 +151,6 @@ inserted-keeps t u f lists a x k new long a_in x_in out count paths a_held kept 
 
 -- ---- a list with other nodes
 
-set-here : (lists : List (List ℕ)) (l : ℕ) (xs : List ℕ) (m : ℕ) → l < length lists → m ≡ l → get_or (set lists l xs) m [] ≡ xs
-set-here lists l xs m low e = ap (λ i. get_or (set lists l xs) i []) e ∙ get_or-set_same lists l xs [] low
-
 pub can-insert : (t : List Link) (f : Family) (a x : ℕ) → Keeps t f → a < length t → x < f.nodes → (IsHeld f x → ⊥) → CanInsert t a x
 can-insert t f a x k a_in x_in out =
     let size = k.size in

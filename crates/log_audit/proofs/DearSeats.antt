@@ -14,8 +14,8 @@ use Rattle.ride_model.specs.Road.{RoadMap}
 use Rattle.ride_model.specs.Offers.{offer_of, price}
 use Rattle.ride_model.specs.Vehicle.{ride_ids}
 use Rattle.ride_model.specs.Seating.{BatchCopy, find_ride, find_vehicle, has_seat, seat_offer, seat_cost, amount_of, IsCovered, Certifies}
-use Rattle.plain_lemmas.proofs.Among.{contains_from_among}
-use Rattle.model_laws.proofs.Certificates.{amount-le, found_among, sum-amounts, sum-amounts-le, each_capped}
+use Rattle.plain_lemmas.proofs.Among.{contains_from_among, found_among}
+use Rattle.model_laws.proofs.Certificates.{amount-le, sum-amounts, sum-amounts-le, each_capped, seat_facts}
 use Rattle.model_laws.proofs.CoveredPairs.{prices-le-cost}
 use Rattle.model_laws.proofs.OfferPrices.{price-le-cost}
 use Rattle.plain_lemmas.proofs.Sums.{sum_by-map}
@@ -26,44 +26,6 @@ pair_price roads batch seat =
     unwrap_or (option_and_then (λ ride. option_and_then (λ v. price roads batch.settings v ride batch.time)
     (find_vehicle batch.vehicles seat.vehicle)) (find_ride batch.requests seat.request)) 0
 
--- a seat with an offer: its request, its vehicle, and the offer
-record Found (roads : RoadMap) (batch : BatchCopy) (seat : Seat) : Type 0 where
-  ride : Ride
-  vehicle : Vehicle
-  offer : Offer
-  ride_is : find_ride batch.requests seat.request ≡ Some ride
-  vehicle_is : find_vehicle batch.vehicles seat.vehicle ≡ Some vehicle
-  offered : offer_of roads batch.settings vehicle ride batch.time seat.i seat.j ≡ Some offer
-
-found-of : (roads : RoadMap) (batch : BatchCopy) (seat : Seat) → IsSome (seat_offer roads batch seat) → Found roads batch seat
-found-of roads batch seat h =
-    elim (find_ride batch.requests seat.request)
-    as (λ o. find_ride batch.requests seat.request ≡ o
-    → IsSome (option_and_then (λ ride. option_and_then (λ v. offer_of roads batch.settings v ride batch.time seat.i seat.j) (find_vehicle batch.vehicles seat.vehicle)) o)
-    → Found roads batch seat) [
-      | None ↦ λ _ none. absurd (cc none)
-      | Some ride ↦ λ ride_is some.
-          elim (find_vehicle batch.vehicles seat.vehicle)
-          as (λ o. find_vehicle batch.vehicles seat.vehicle ≡ o
-          → IsSome (option_and_then (λ v. offer_of roads batch.settings v ride batch.time seat.i seat.j) o)
-          → Found roads batch seat) [
-            | None ↦ λ _ none. absurd (cc none)
-            | Some v ↦ λ v_is offer_there.
-                elim (offer_of roads batch.settings v ride batch.time seat.i seat.j)
-                as (λ o. offer_of roads batch.settings v ride batch.time seat.i seat.j ≡ o → IsSome o → Found roads batch seat) [
-                  | None ↦ λ _ none. absurd (cc none)
-                  | Some offer ↦ λ offer_is _. record {
-                    ride = ride;
-                    vehicle = v;
-                    offer = offer;
-                    ride_is = ride_is;
-                    vehicle_is = v_is;
-                    offered = offer_is;
-                  }
-                ] refl offer_there
-          ] refl some
-    ] refl h
-
 -- a seated request's price is at most its pair's price and its vehicle's payment, and that price at most its cost
 record IsBetween (roads : RoadMap) (batch : BatchCopy) (prices pays : List (ℕ × ℕ)) (seat : Seat) : Type 0 where
   covered : amount_of prices seat.request ≤ pair_price roads batch seat + amount_of pays seat.vehicle
@@ -73,32 +35,24 @@ between : (roads : RoadMap) (batch : BatchCopy) (prices pays : List (ℕ × ℕ)
     → All (λ ride. All (IsCovered roads batch prices pays ride) batch.vehicles) batch.requests
     → IsSome (seat_offer roads batch seat) → IsBetween roads batch prices pays seat
 between roads batch prices pays seat covered offered =
-    let found = found-of roads batch seat offered in
-    let (ride_there, ride_at) = found_among (λ (r : Ride). r.id == seat.request) batch.requests found.ride found.ride_is in
-    let (vehicle_there, vehicle_at) = found_among (λ (w : Vehicle). w.id == seat.vehicle) batch.vehicles found.vehicle found.vehicle_is in
-    let ride_id : found.ride.id ≡ seat.request = eqb-true found.ride.id seat.request ride_at in
-    let vehicle_id : found.vehicle.id ≡ seat.vehicle = eqb-true found.vehicle.id seat.vehicle vehicle_at in
+    let found = seat_facts roads batch seat offered in
     let of_ride = All-contains (λ ride. All (IsCovered roads batch prices pays ride) batch.vehicles) batch.requests found.ride covered
-    (contains_from_among batch.requests found.ride ride_there) in
+    (contains_from_among batch.requests found.ride found.ride_there) in
     let of_pair = All-contains (IsCovered roads batch prices pays found.ride) batch.vehicles found.vehicle of_ride
-    (contains_from_among batch.vehicles found.vehicle vehicle_there) in
+    (contains_from_among batch.vehicles found.vehicle found.vehicle_there) in
     let (cost, price_is, below) = price-le-cost roads batch.settings found.vehicle found.ride batch.time seat.i seat.j found.offer found.offered in
     let at_price : amount_of prices found.ride.id ≤ cost + amount_of pays found.vehicle.id
     = subst (λ o. IfSome o (λ c. amount_of prices found.ride.id ≤ c + amount_of pays found.vehicle.id)) price_is of_pair in
     let priced : pair_price roads batch seat ≡ cost = by_found found.ride found.vehicle cost found.ride_is found.vehicle_is price_is in
-    let costs : seat_cost roads batch seat ≡ found.offer.cost = by_offer found in
     record {
-      covered = omega (arith, at_price, priced, ap (amount_of prices) ride_id, ap (amount_of pays) vehicle_id);
-      no_dearer = omega (arith, below, priced, costs);
+      covered = omega (arith, at_price, priced, ap (amount_of prices) found.ride_id, ap (amount_of pays) found.vehicle_id);
+      no_dearer = omega (arith, below, priced, found.cost_is);
     }
   where
     by_found : (ride : Ride) (v : Vehicle) (cost : ℕ) → find_ride batch.requests seat.request ≡ Some ride
         → find_vehicle batch.vehicles seat.vehicle ≡ Some v → price roads batch.settings v ride batch.time ≡ Some cost
         → pair_price roads batch seat ≡ cost
     by_found ride v cost ride_is v_is price_is = rw (ride_is, v_is, price_is) refl
-
-    by_offer : (found : Found roads batch seat) → seat_cost roads batch seat ≡ found.offer.cost
-    by_offer found = rw (found.ride_is, found.vehicle_is, found.offered) refl
 
 each-between : (roads : RoadMap) (batch : BatchCopy) (prices pays : List (ℕ × ℕ)) (seats : List Seat)
     → All (λ ride. All (IsCovered roads batch prices pays ride) batch.vehicles) batch.requests

@@ -55,20 +55,6 @@ one-fault a b feeds desks s actor event one other = elim (cases_order (rank a) (
   ]
 ]
 
--- the actor may not do it
-pub fault-actor : (feeds desks : ℕ) (s : State) (actor : Actor) (event : Event) → (MayAct feeds desks s actor event → ⊥)
-    → IsFault ToActor feeds desks s actor event
-fault-actor feeds desks s actor event never = record { before = before; fault = never }
-  where
-    before : (e : Why) → rank e < 1 → Meets e feeds desks s actor event
-    before Spelling low = tt
-    before ToActor low = absurd (omega arith)
-    before ToReply low = absurd (omega arith)
-    before ToBatch low = absurd (omega arith)
-    before ToSeating low = absurd (omega arith)
-    before ToPrices low = absurd (omega arith)
-    before ToOutcomes low = absurd (omega arith)
-
 -- the reply is another
 pub fault-reply : (feeds desks : ℕ) (s : State) (actor : Actor) (event : Event) → MayAct feeds desks s actor event
     → (IsAnswered s event → ⊥) → IsFault ToReply feeds desks s actor event
@@ -96,10 +82,6 @@ fault-batch feeds desks s actor event may answered never = record { before = bef
     before ToSeating low = absurd (omega arith)
     before ToPrices low = absurd (omega arith)
     before ToOutcomes low = absurd (omega arith)
-
--- an event of a commit
-abbrev pub commit_event : ℕ → ℕ → List Seat → List (ℕ × ℕ) → List (ℕ × ℕ) → List (ℕ × Outcome) → Event
-commit_event number cost seats prices pays outcomes = Committed number cost seats prices pays outcomes
 
 module _ (feeds desks : ℕ) (s : State) (desk number cost : ℕ) (seats : List Seat) (prices pays : List (ℕ × ℕ)) (outcomes : List (ℕ × Outcome))
     (batch : BatchCopy) (found : open_batch_numbered s desk number ≡ Some batch) where

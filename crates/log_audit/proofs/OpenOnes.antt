@@ -18,9 +18,8 @@ use Rattle.ride_model.specs.State.{State, has_ended, is_batch, open_batch_of, op
 use Rattle.ride_model.specs.Text.{IsOneOrTwo}
 use Rattle.ride_model.specs.Vehicle.{IsLawful}
 use Rattle.batch_commit.specs.Solved.{SolvedBatch}
-use Rattle.plain_lemmas.proofs.Among.{Among}
+use Rattle.plain_lemmas.proofs.Among.{Among, found_among}
 use Rattle.plain_lemmas.proofs.Each.{of_all}
-use Rattle.model_laws.proofs.Certificates.{found_among}
 use Rattle.model_laws.proofs.Histories.{replay-push}
 use Rattle.model_laws.proofs.RequestStates.{others-opening, abandon-is}
 use Rattle.history_laws.proofs.Untouched.{leaves-step, stays-outcomes}

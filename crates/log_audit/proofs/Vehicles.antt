@@ -4,9 +4,10 @@ use Rattle.std.specs.Prelude.{◌==◌, map}
 use Rattle.std.specs.List.{AllByRecursion, IsDistinct, list_any}
 use Rattle.std.proofs.lemmas.List.{drop_more, map-append, take-append-drop, take_more}
 use Rattle.std.proofs.lemmas.Map.Keys.{IsDistinct-head, IsDistinct-tail}
+use Rattle.std.proofs.lemmas.Bool.{or_parts}
 use Rattle.ride_model.specs.declared.offer.Seat.{Seat}
 use Rattle.plain_lemmas.proofs.Among.{Among, among_map, among_map_back}
-use Rattle.history_laws.proofs.Asked.{distinct-push}
+use Rattle.plain_lemmas.proofs.Lists.{distinct-push}
 
 abbrev pub vehicles_of : List Seat → List ℕ
 vehicles_of seats = map (λ (seat : Seat). seat.vehicle) seats
@@ -18,16 +19,8 @@ once-none = tt
 -- a test that none passes
 none-passes : {X : Type 0} (p : X → Bool) (xs : List X) → list_any p xs ≡ false → (x : X) → Among x xs → p x ≡ false
 none-passes p [] none x there = absurd there
-none-passes p (y ∷ xs) none x (inl is) = ap p (sym is) ∙ first (p y) (list_any p xs) none
-  where
-    first : (a b : Bool) → (a || b) ≡ false → a ≡ false
-    first true b h = absurd (cc h)
-    first false b h = refl
-none-passes p (y ∷ xs) none x (inr there) = none-passes p xs (second (p y) (list_any p xs) none) x there
-  where
-    second : (a b : Bool) → (a || b) ≡ false → b ≡ false
-    second true b h = absurd (cc h)
-    second false b h = h
+none-passes p (y ∷ xs) none x (inl is) = ap p (sym is) ∙ (or_parts (p y) (list_any p xs) none).0
+none-passes p (y ∷ xs) none x (inr there) = none-passes p xs (or_parts (p y) (list_any p xs) none).1 x there
 
 passes-none : {X : Type 0} (p : X → Bool) (xs : List X) → ((x : X) → Among x xs → p x ≡ false) → list_any p xs ≡ false
 passes-none p [] each = refl

@@ -5,7 +5,7 @@ use Rattle.std.specs.List.{filter, AllByRecursion, list_all, range_with_len, sum
 use Rattle.std.proofs.lemmas.Bool.{eqb-true, eq-eqb, and_from, and_parts}
 use Rattle.std.proofs.lemmas.List.Sums.{sum_by-cons}
 use Rattle.std.proofs.lemmas.List.{take-map, length-map}
-use Rattle.plain_lemmas.proofs.Numbers.{same_or_less}
+use Rattle.plain_lemmas.proofs.Numbers.{same_or_less, eqb-other}
 use Rattle.ride_model.specs.declared.vehicle.Load.{Load}
 use Rattle.ride_model.specs.declared.vehicle.Ride.{Ride}
 use Rattle.ride_model.specs.declared.vehicle.Stop.{Stop}
@@ -124,16 +124,9 @@ aboard-without aboard id other [] differ = refl
 aboard-without aboard id other (stop ∷ stops) differ =
     elim (eqb stop.ride id) as (λ b. eqb stop.ride id ≡ b
     → is_aboard_from aboard other (cond (not b) (stop ∷ stops_without id stops) (stops_without id stops)) ≡ is_aboard_from aboard other (stop ∷ stops)) [
-      | true ↦ λ is. rw (not_other (eqb-true stop.ride id is)) (aboard-without aboard id other stops differ)
+      | true ↦ λ is. rw (eqb-other stop.ride id other (eqb-true stop.ride id is) differ) (aboard-without aboard id other stops differ)
       | false ↦ λ is. aboard-without (cond (eqb stop.ride other) (is_pickup stop.kind) aboard) id other stops differ
     ] refl
-  where
-    not_other : stop.ride ≡ id → eqb stop.ride other ≡ false
-    not_other same = by_cases (eqb stop.ride other) refl
-      where
-        by_cases : (b : Bool) → eqb stop.ride other ≡ b → b ≡ false
-        by_cases true is = absurd (cc (differ, eq-eqb other id (sym (eqb-true stop.ride other is) ∙ same)))
-        by_cases false is = refl
 
 pub load-without : (id : ℕ) (rides : List Ride) (stops : List Stop)
     → load_after (rides_without id rides) (stops_without id stops) ≡ load_after (rides_without id rides) stops

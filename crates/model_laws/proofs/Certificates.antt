@@ -16,19 +16,10 @@ use Rattle.ride_model.specs.Road.{RoadMap}
 use Rattle.ride_model.specs.Vehicle.{ride_ids}
 use Rattle.ride_model.specs.Offers.{offer_of}
 use Rattle.ride_model.specs.Seating.{BatchCopy, find_ride, find_vehicle, seat_offer, has_seat, IsSeating, seat_cost, IsLeastSeating, amount_ids, amount_of, IsCovered, Certifies}
-use Rattle.plain_lemmas.proofs.Among.{Among, contains_from_among}
+use Rattle.plain_lemmas.proofs.Among.{Among, contains_from_among, found_among}
 use Rattle.model_laws.proofs.OfferPrices.{price-le-cost}
 use Rattle.model_laws.proofs.CoveredPairs.{prices-le-cost}
 use Rattle.plain_lemmas.proofs.Sums.{sum_by-map}
-
--- what is found passes, and is one of the elements
-pub found_among : {X : Type 0} (p : X → Bool) (xs : List X) (x : X) → find p xs ≡ Some x → Among x xs × (p x ≡ true)
-found_among p [] x h = absurd (cc h)
-found_among p (y ∷ ys) x h =
-    elim (p y) as (λ b. p y ≡ b → cond b (Some y) (find p ys) ≡ Some x → Among x (y ∷ ys) × (p x ≡ true)) [
-      | true ↦ λ passes is. (inl (same_Some y x is), ap p (sym (same_Some y x is)) ∙ passes)
-      | false ↦ λ _ is. let (among, passes) = found_among p ys x is in (inr among, passes)
-    ] refl h
 
 -- the amount of an id, by the first item
 pub amount-cons : (id amount : ℕ) (amounts : List (ℕ × ℕ)) (q : ℕ)
@@ -117,6 +108,8 @@ pub record SeatFacts (roads : RoadMap) (batch : BatchCopy) (seat : Seat) : Type 
   pub ride : Ride
   pub vehicle : Vehicle
   pub offer : Offer
+  pub ride_is : find_ride batch.requests seat.request ≡ Some ride
+  pub vehicle_is : find_vehicle batch.vehicles seat.vehicle ≡ Some vehicle
   pub ride_there : Among ride batch.requests
   pub ride_id : ride.id ≡ seat.request
   pub vehicle_there : Among vehicle batch.vehicles
@@ -148,6 +141,8 @@ seat_facts roads batch seat h =
                         ride = ride;
                         vehicle = v;
                         offer = offer;
+                        ride_is = ride_is;
+                        vehicle_is = v_is;
                         ride_there = ride_there;
                         ride_id = eqb-true ride.id seat.request ride_id;
                         vehicle_there = vehicle_there;

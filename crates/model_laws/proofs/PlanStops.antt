@@ -9,12 +9,14 @@ use Rattle.std.proofs.lemmas.Option.{same_Some}
 use Rattle.ride_model.specs.declared.vehicle.Kind.{Kind}
 use Rattle.ride_model.specs.declared.vehicle.Ride.{Ride}
 use Rattle.ride_model.specs.declared.vehicle.Stop.{Stop}
-use Rattle.ride_model.specs.Road.{RoadMap, travel}
-use Rattle.ride_model.specs.Vehicle.{visits_due, visit_of, stops_of, ride_ids, IsPlanFor}
+use Rattle.ride_model.specs.Road.{RoadMap, travel, IsNode}
+use Rattle.ride_model.specs.Vehicle.{visits_due, visit_of, stops_of, ride_ids, IsPlanFor, IsRide, IsLawful}
 use Rattle.ride_model.specs.Insertion.{routed, stops_without, rides_without}
+use Rattle.ride_model.specs.declared.vehicle.Vehicle.{Vehicle}
 use Rattle.plain_lemmas.proofs.Among.{Among, among_from_contains, contains_from_among, among_map, among_map_back, among_filter}
 use Rattle.plain_lemmas.proofs.Each.{of_all}
 use Rattle.plain_lemmas.proofs.Lists.{distinct-filter}
+use Rattle.plain_lemmas.proofs.Numbers.{eqb-other}
 use Rattle.model_laws.proofs.Routes.{with_leg}
 
 -- stops without their legs
@@ -96,7 +98,7 @@ stops-without id other (stop ∷ stops) differ =
     elim (eqb stop.ride id) as (λ b. eqb stop.ride id ≡ b
     → stops_of other (cond (not b) (stop ∷ stops_without id stops) (stops_without id stops)) ≡ stops_of other (stop ∷ stops)) [
       | true ↦ λ is.
-          let not_other : eqb stop.ride other ≡ false = differs (eqb-true stop.ride id is) in
+          let not_other : eqb stop.ride other ≡ false = eqb-other stop.ride id other (eqb-true stop.ride id is) differ in
           rw not_other (stops-without id other stops differ)
       | false ↦ λ is.
           elim (eqb stop.ride other) as (λ b. cond b (stop ∷ stops_of other (stops_without id stops)) (stops_of other (stops_without id stops))
@@ -105,13 +107,6 @@ stops-without id other (stop ∷ stops) differ =
             | false ↦ stops-without id other stops differ
           ]
     ] refl
-  where
-    differs : stop.ride ≡ id → eqb stop.ride other ≡ false
-    differs same = not_true (eqb stop.ride other) refl
-      where
-        not_true : (b : Bool) → eqb stop.ride other ≡ b → b ≡ false
-        not_true true is = absurd (cc (differ, eq-eqb other id (sym (eqb-true stop.ride other is) ∙ same)))
-        not_true false is = refl
 
 -- the rides that are left
 each_left : (P : Ride → Type 0) (id : ℕ) (rides : List Ride) → ((ride : Ride) → eqb ride.id id ≡ false → P ride → P ride)
@@ -181,3 +176,13 @@ stop-of-ride rides stops stop plan there =
     node_of ride None (inr (inr none)) = absurd none
     node_of ride (Some at) (inl is) = inr (sym (ap (λ (v : Kind × ℕ). v.1) is))
     node_of ride (Some at) (inr none) = absurd none
+
+-- the stops of a lawful vehicle are at nodes
+pub stop-at-node : (roads : RoadMap) (v : Vehicle) (stop : Stop) → IsLawful roads v → Among stop v.stops.items → IsNode roads stop.node
+stop-at-node roads v stop lawful there =
+    let (ride, among, node) = stop-of-ride v.rides.items v.stops.items stop lawful.routed.planned there in
+    let fits = of_all (IsRide roads) v.rides.items ride lawful.routed.rides_fit among in
+    elim node [
+      | inl from ↦ subst (IsNode roads) (sym from) fits.from_node
+      | inr to ↦ subst (IsNode roads) (sym to) fits.to_node
+    ]

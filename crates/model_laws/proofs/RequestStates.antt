@@ -151,16 +151,19 @@ request_state-abandon s batch id =
         ]
 
 -- marking changes no ride
+pub marked-ride : (test : ℕ → Bool) (state : RequestState) (r : AcceptedRequest) → (marked test state r).ride ≡ r.ride
+marked-ride test state r = by_test (test r.ride.id)
+  where
+    by_test : (b : Bool) → (cond b (record r { state = state }) r).ride ≡ r.ride
+    by_test true = refl
+    by_test false = refl
+
 rides-marked : (test : ℕ → Bool) (state : RequestState) (requests : List AcceptedRequest)
     → map (λ (r : AcceptedRequest). r.ride) (map (marked test state) requests) ≡ map (λ (r : AcceptedRequest). r.ride) requests
 rides-marked test state [] = refl
 rides-marked test state (r ∷ requests) =
     ap (λ rest. (marked test state r).ride ∷ rest) (rides-marked test state requests)
-    ∙ ap (λ (ride : Ride). ride ∷ map (λ (q : AcceptedRequest). q.ride) requests) (same_ride (test r.ride.id))
-  where
-    same_ride : (b : Bool) → (cond b (record r { state = state }) r).ride ≡ r.ride
-    same_ride true = refl
-    same_ride false = refl
+    ∙ ap (λ (ride : Ride). ride ∷ map (λ (q : AcceptedRequest). q.ride) requests) (marked-ride test state r)
 
 pub rides-opening : (s : State) (batch : BatchCopy)
     → map (λ (r : AcceptedRequest). r.ride) (after_opening s batch).requests ≡ map (λ (r : AcceptedRequest). r.ride) s.requests

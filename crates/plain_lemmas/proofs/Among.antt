@@ -1,7 +1,8 @@
 -- Membership by recursion on the list.
-use Rattle.std.proofs.Common.{◌≡◌, zero, suc, ◌⊎◌, inl, inr, Bool, true, false, cond, List, [], ◌∷◌, refl, sym, ◌∙◌, ap, arith}
+use Rattle.std.proofs.Common.{◌≡◌, zero, suc, ◌⊎◌, inl, inr, Bool, true, false, cond, List, [], ◌∷◌, refl, sym, ◌∙◌, ap, arith, ◌++◌}
 use Rattle.std.specs.List.{Contains, filter}
-use Rattle.std.specs.Prelude.{map}
+use Rattle.std.specs.Prelude.{map, Some, find}
+use Rattle.std.proofs.lemmas.Option.{same_Some}
 
 -- x is one of the elements
 abbrev pub Among : {X : Type 0} → X → List X → Type 0
@@ -34,6 +35,17 @@ among_map f (y ∷ ys) x (inl is) = inl (ap f is)
 among_map f (y ∷ ys) x (inr later) = inr (among_map f ys x later)
 
 -- a filter keeps the elements that pass
+-- an element of a list with one more is that one or one of the others
+pub among_push_back : {X : Type 0} (xs : List X) (x y : X) → Among y (xs ++ x ∷ []) → Among y xs ⊎ (x ≡ y)
+among_push_back [] x y (inl is) = inr is
+among_push_back [] x y (inr none) = absurd none
+among_push_back (z ∷ xs) x y (inl is) = inl (inl is)
+among_push_back {X} (z ∷ xs) x y (inr there) = later (among_push_back xs x y there)
+  where
+    later : Among y xs ⊎ (x ≡ y) → Among y (z ∷ xs) ⊎ (x ≡ y)
+    later (inl h) = inl (inr h)
+    later (inr h) = inr h
+
 pub among_filter_back : {X : Type 0} (p : X → Bool) (xs : List X) (x : X) → Among x (filter p xs) → Among x xs × (p x ≡ true)
 among_filter_back p [] x h = absurd h
 among_filter_back {X} p (y ∷ ys) x h =
@@ -57,3 +69,12 @@ among_filter p (y ∷ ys) x (inr later) passes =
       | true ↦ inr (among_filter p ys x later passes)
       | false ↦ among_filter p ys x later passes
     ]
+
+-- what is found passes, and is one of the elements
+pub found_among : {X : Type 0} (p : X → Bool) (xs : List X) (x : X) → find p xs ≡ Some x → Among x xs × (p x ≡ true)
+found_among p [] x h = absurd (cc h)
+found_among p (y ∷ ys) x h =
+    elim (p y) as (λ b. p y ≡ b → cond b (Some y) (find p ys) ≡ Some x → Among x (y ∷ ys) × (p x ≡ true)) [
+      | true ↦ λ passes is. (inl (same_Some y x is), ap p (sym (same_Some y x is)) ∙ passes)
+      | false ↦ λ _ is. let (among, passes) = found_among p ys x is in (inr among, passes)
+    ] refl h

@@ -1,8 +1,8 @@
 -- What holds of each element of a list.
-use Rattle.std.proofs.Common.{ℕ, zero, suc, Bool, true, false, cond, inl, inr, List, [], ◌∷◌, ◌++◌, refl, subst}
-use Rattle.std.specs.Prelude.{take, drop, All}
+use Rattle.std.proofs.Common.{ℕ, zero, suc, Bool, true, false, cond, inl, inr, List, [], ◌∷◌, ◌++◌, refl, subst, rules}
+use Rattle.std.specs.Prelude.{take, drop, All, IfSome, find, Some}
 use Rattle.std.specs.List.{filter, AllByRecursion}
-use Rattle.std.proofs.lemmas.List.Elements.{All-contains, All-from_recursion}
+use Rattle.std.proofs.lemmas.List.Elements.{All-contains, All-from_recursion, All-tail}
 use Rattle.plain_lemmas.proofs.Among.{Among, contains_from_among}
 
 -- of one that is among them
@@ -59,3 +59,12 @@ each-drop P (suc n) (x ∷ xs) (first, rest) = each-drop P n xs rest
 pub each-weaker : {X : Type 0} (P Q : X → Type 0) → ((x : X) → P x → Q x) → (xs : List X) → AllByRecursion P xs → AllByRecursion Q xs
 each-weaker P Q f [] h = tt
 each-weaker P Q f (x ∷ xs) (here, rest) = (f x here, each-weaker P Q f xs rest)
+
+-- what holds of each element holds of the first that passes
+pub IfSome-find : {A : Type 0} (P : A → Type 0) (p : A → Bool) (xs : List A) → All P xs → IfSome (find p xs) P
+IfSome-find P p [] all = tt
+IfSome-find P p (x ∷ xs) all =
+    elim (p x) as (λ b. IfSome (cond b (Some x) (find p xs)) P) [
+      | true ↦ all 0 x (search rules)
+      | false ↦ IfSome-find P p xs (All-tail P x xs all)
+    ]

@@ -1,11 +1,12 @@
 -- Lists, whatever their elements.
-use Rattle.std.proofs.Common.{◌≡◌, ◌≢◌, ℕ, suc, ◌<◌, ◌≤◌, List, [], ◌∷◌, length, get_or, eqb, refl, arith}
+use Rattle.std.proofs.Common.{◌≡◌, ◌≢◌, ℕ, suc, ◌<◌, ◌≤◌, List, [], ◌∷◌, length, get_or, eqb, refl, arith, ◌++◌, inl, inr}
 use Rattle.std.specs.Prelude.{Option, Some, None}
 use Rattle.std.specs.List.{cons_option, filter, filter_map, IsDistinct}
 use Rattle.std.specs.Prelude.{Bool, true, false, cond}
 use Rattle.std.proofs.lemmas.Map.Keys.{IsDistinct-head, IsDistinct-tail, IsDistinct-cons}
 use Rattle.std.proofs.lemmas.Option.{slice_get-get_or}
-use Rattle.plain_lemmas.proofs.Each.{each-filter}
+use Rattle.plain_lemmas.proofs.Each.{each-filter, each-append}
+use Rattle.plain_lemmas.proofs.Among.{Among}
 
 -- within a list the default is never read
 pub any-default : {A : Type 0} (xs : List A) (i : ℕ) (c e : A) → i < length xs → get_or xs i c ≡ get_or xs i e
@@ -29,6 +30,13 @@ length-filter_map-le {X} {Y} f (x ∷ xs) = by_case (f x) (length-filter_map-le 
     by_case : (o : Option Y) → length (filter_map f xs) ≤ length xs → length (cons_option o (filter_map f xs)) ≤ suc (length xs)
     by_case None few = omega arith
     by_case (Some y) few = omega arith
+
+-- different numbers and another one
+pub distinct-push : (xs : List ℕ) (x : ℕ) → IsDistinct eqb xs → ((y : ℕ) → Among y xs → eqb y x ≡ false) → IsDistinct eqb (xs ++ x ∷ [])
+distinct-push [] x distinct fresh = IsDistinct-cons eqb x [] tt distinct
+distinct-push (y ∷ ys) x distinct fresh =
+    IsDistinct-cons eqb y (ys ++ x ∷ []) (each-append (λ z. eqb y z ≡ false) ys (x ∷ []) (IsDistinct-head eqb y ys distinct) (fresh y (inl refl), tt))
+    (distinct-push ys x (IsDistinct-tail eqb y ys distinct) (λ z there. fresh z (inr there)))
 
 -- some of different numbers are different
 pub distinct-filter : (p : ℕ → Bool) (xs : List ℕ) → IsDistinct eqb xs → IsDistinct eqb (filter p xs)

@@ -1,5 +1,5 @@
 -- Numbers, and tests of them.
-use Rattle.std.proofs.Common.{◌≡◌, ℕ, suc, ◌+◌, ◌-◌, ◌<◌, ◌≤◌, ◌⊎◌, false, eqb, sym, arith}
+use Rattle.std.proofs.Common.{◌≡◌, ℕ, suc, ◌+◌, ◌-◌, ◌<◌, ◌≤◌, ◌⊎◌, false, eqb, sym, arith, ◌∙◌}
 use Rattle.std.proofs.lemmas.Bool.{eqb-false, ne_eqb}
 
 pub eqb-comm : (a b : ℕ) → eqb a b ≡ eqb b a
@@ -7,6 +7,9 @@ eqb-comm a b = grind arith
 
 pub eqb-flip : (a b : ℕ) → eqb a b ≡ false → eqb b a ≡ false
 eqb-flip a b h = ne_eqb b a (λ same. eqb-false a b h (sym same))
+
+pub eqb-other : (n id other : ℕ) → n ≡ id → eqb other id ≡ false → eqb n other ≡ false
+eqb-other n id other same differs = ne_eqb n other (λ is. eqb-false other id differs (sym is ∙ same))
 
 pub eqb-less : (a b : ℕ) → a < b → eqb a b ≡ false
 eqb-less a b h = ne_eqb a b (λ same. omega (arith, h, same))

@@ -12,10 +12,6 @@ use Rattle.ride_model.specs.Road.{RoadMap}
 use Rattle.ride_model.specs.Seating.{BatchCopy}
 use Rattle.pricing_workers.specs.Cells.{IsCellOf, IsRowOf, AreRowsOf}
 
--- rows of no requests
-pub rows-none : (roads : RoadMap) (batch : BatchCopy) → AreRowsOf roads batch [] []
-rows-none roads batch = record { count = omega arith; cells_are = λ r c ride v low. absurd (omega (arith, low)) }
-
 -- the rows of one request
 pub rows-one : (roads : RoadMap) (batch : BatchCopy) (ride : Ride) (cells : List (Option Offer)) → IsRowOf roads batch ride cells
     → AreRowsOf roads batch (ride ∷ []) cells
@@ -71,10 +67,6 @@ rows-step roads batch requests i k w d cells row low wide h new =
     (sym (take_more requests i d low))
     (subst (AreRowsOf roads batch (take i requests ++ ride ∷ [])) (sym (take-put_mid (i * w) k cells row ((i + 1) * w) next long))
     (rows-append roads batch (take i requests) (ride ∷ []) (take (i * w) cells) row h (rows-one roads batch ride row new)))
-
--- the cells of the other half
-pub other-half : (n m w x y : ℕ) (all : ℕ) → all ≡ n + m → x ≡ n * w → x + y ≡ all * w → y ≡ m * w
-other-half n m w x y all parts front whole = grind (arith, front, whole, parts)
 
 -- a row that is written into the cells leaves them as many
 pub length-put : (cells row : List (Option Offer)) (start k w rows : ℕ) → length row ≡ w → k ≡ w → start + w ≤ length cells

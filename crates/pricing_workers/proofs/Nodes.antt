@@ -9,18 +9,8 @@ use Rattle.ride_model.specs.Road.{RoadMap, IsNode}
 use Rattle.ride_model.specs.Vehicle.{IsRide, IsLawful}
 use Rattle.plain_lemmas.proofs.Among.{Among}
 use Rattle.plain_lemmas.proofs.Each.{of_each, each-among}
-use Rattle.model_laws.proofs.PlanStops.{stop-of-ride}
+use Rattle.model_laws.proofs.PlanStops.{stop-of-ride, stop-at-node}
 use Rattle.pricing_workers.specs.Wanted.{nodes_of, all_nodes}
-
--- the stops of a lawful vehicle are at nodes
-stop-at-node : (roads : RoadMap) (v : Vehicle) (stop : Stop) → IsLawful roads v → Among stop v.stops.items → IsNode roads stop.node
-stop-at-node roads v stop lawful there =
-    let (ride, among, node) = stop-of-ride v.rides.items v.stops.items stop lawful.routed.planned there in
-    let fits = of_each (IsRide roads) v.rides.items ride (recursion_from_All (IsRide roads) v.rides.items lawful.routed.rides_fit) among in
-    elim node [
-      | inl from ↦ subst (IsNode roads) (sym from) fits.from_node
-      | inr to ↦ subst (IsNode roads) (sym to) fits.to_node
-    ]
 
 -- the nodes of a lawful vehicle
 nodes-of-on-map : (roads : RoadMap) (v : Vehicle) → IsLawful roads v → All (IsNode roads) (nodes_of v)

@@ -12,14 +12,6 @@ use Rattle.pricing_workers.specs.declared.wanted.Plan.{Plan}
 use Rattle.pricing_workers.specs.declared.wanted.Wanted.{Wanted}
 use Rattle.pricing_workers.specs.Wanted.{IsWanted, all_nodes, nodes_of, plan_at}
 
--- no node is wanted for no vehicle
-pub wanted-none : (settings : Settings) (time : ℕ) (wanted : Wanted) → wanted.nodes.items ≡ [] → IsWanted settings time [] wanted
-wanted-none settings time wanted no_nodes = record {
-  nodes_are = no_nodes;
-  plan_count = omega arith;
-  plans_are = λ c v plan low. absurd (omega (arith, low));
-}
-
 -- one vehicle more: its nodes are added, and its plan follows those before it
 pub wanted-more : (settings : Settings) (time : ℕ) (vehicles : List Vehicle) (vehicle : Vehicle) (old new : Wanted)
     → IsWanted settings time vehicles old

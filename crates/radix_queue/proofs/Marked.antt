@@ -23,21 +23,6 @@ marked-none buckets empty = record {
   some = λ p low bit nil. absurd (omega (arith, bit, bit_at-zero p));
 }
 
-pub marked-put : (old new : Family) (filled marks bucket x : ℕ) → IsMarked old filled → list_at new bucket ≡ x ∷ list_at old bucket → ((other : ℕ) → other ≢ bucket → list_at new other ≡ list_at old other) → (0 < bucket → bit_at marks (bucket - 1) ≡ 1) → ((place : ℕ) → place < 64 → place + 1 ≢ bucket → bit_at marks place ≡ bit_at filled place) → IsMarked new marks
-marked-put old new filled marks bucket x m added others set kept = record {
-  none = λ p low bit. elim (cases_eq (suc p) bucket) [
-    | inl e ↦ absurd (
-        let at : bucket - 1 ≡ p = omega arith in
-        let one : bit_at marks p ≡ 1 = subst (λ i. bit_at marks i ≡ 1) at (set (omega arith)) in
-        omega (arith, one, bit))
-    | inr n ↦ others (suc p) n ∙ m.none p low (sym (kept p low (omega arith)) ∙ bit)
-  ];
-  some = λ p low bit nil. elim (cases_eq (suc p) bucket) [
-    | inl e ↦ let full : x ∷ list_at old bucket ≡ [] = sym added ∙ ap (list_at new) (sym e) ∙ nil in cc
-    | inr n ↦ m.some p low (sym (kept p low (omega arith)) ∙ bit) (sym (others (suc p) n) ∙ nil)
-  ];
-}
-
 -- the buckets without the node are as they were
 others-kept : (old new : Family) (bucket x : ℕ) → IsFamily old → Contains (list_at old bucket) x → ((other : ℕ) → list_at new other ≡ without x (list_at old other)) → (other : ℕ) → other ≢ bucket → list_at new other ≡ list_at old other
 others-kept old new bucket x family here taken other differs =

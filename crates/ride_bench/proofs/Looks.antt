@@ -4,12 +4,7 @@ use Rattle.std.specs.Prelude.{min}
 use Rattle.std.proofs.lemmas.List.{length-take}
 use Rattle.ride_model.specs.declared.entry.Entry.{Entry}
 use Rattle.fleet_board.specs.Passes.{AddsNone, Known}
-
--- what a pass has seen only grows
-seen-grows : (old new : Known) → AddsNone old new → length old.seen ≤ length new.seen
-seen-grows old new none =
-    let (more, is) = none.sees.goes_on in
-    omega (arith, ap (λ (seen : List Entry). length seen) is, length-append old.seen more)
+use Rattle.fleet_board.proofs.Looking.{seen-grows}
 
 -- the place behind the entries of a look was seen
 pub look-within : (old new : Known) (from most next : ℕ) (entries : List Entry) → AddsNone old new → from ≤ length old.seen

@@ -120,13 +120,6 @@ unread-run m f others s asked brought back untouched = record {
 pub of-some : (o : Option Wanted) (P : Wanted → Type 0) (wanted : Wanted) → o ≡ Some wanted → P wanted → IfSome o P
 of-some o P wanted is p = subst (λ (x : Option Wanted). IfSome x P) (sym is) p
 
-pub of-none : (o : Option Wanted) (P : Wanted → Type 0) → o ≡ None → IfSome o P
-of-none o P is = subst (λ (x : Option Wanted). IfSome x P) (sym is) tt
-
-pub of-any : (o : Option Wanted) (P : Wanted → Type 0) → ((wanted : Wanted) → P wanted) → IfSome o P
-of-any None P all = tt
-of-any (Some wanted) P all = all wanted
-
 pub weaker : (o : Option Wanted) (P Q : Wanted → Type 0) → IfSome o P → ((wanted : Wanted) → P wanted → Q wanted) → IfSome o Q
 weaker None P Q p more = tt
 weaker (Some wanted) P Q p more = more wanted p

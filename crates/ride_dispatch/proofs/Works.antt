@@ -1,12 +1,14 @@
 -- What follows a map and a fleet file in a run: where a name was not brought, and where all were.
 use Rattle.std.proofs.Common.{◌≡◌, ◌≢◌, inl, inr, ℕ, ◌+◌, ◌<◌, ◌≤◌, List, [], ◌∷◌, ◌++◌, length, refl, sym, ap, ◌∙◌, arith, append-nil}
-use Rattle.std.specs.Prelude.{All}
+use Rattle.std.specs.Prelude.{All, Option, IfSome}
 use Rattle.std.proofs.lemmas.List.Elements.{All-cons}
-use Rattle.ride_ports.specs.Contents.{GivenBack}
+use Rattle.ride_ports.specs.Contents.{GivenBack, IsContentOf}
 use Rattle.ride_ports.specs.Count.{Rose}
+use Rattle.ride_ports.specs.Bytes.{Reads}
 use Rattle.ride_dispatch.specs.Files.{AreGivenBack, IsSpent}
 use Rattle.ride_dispatch.specs.Runs.{IsWork, Seen, Untouched, files_of}
 use Rattle.ride_dispatch.specs.Words.{Begins}
+use Rattle.ride_dispatch.proofs.Bringing.{left-of, left-of-content}
 
 -- a name was not brought, which is a fault of the shelf
 record NotBrought (others asked : List (List ℕ)) (brought : ℕ) (back : List GivenBack) (s : Seen) : Type 0 where
@@ -115,3 +117,42 @@ spent-both first second is also = All-cons IsSpent first (second ∷ []) is (spe
 -- a count that was 0 and rose is above it
 pub rose-above : (before after : ℕ) → before ≡ 0 → Rose before after → 0 < after
 rose-above before after is rose = omega (arith, is, rose (λ most. omega (arith, is, most)))
+
+-- one source was brought for a name, used, and given back
+pub record OneBrought (name : List ℕ) (asked : List (List ℕ)) (brought : ℕ) (back : List GivenBack) (source : GivenBack) (s : Seen)
+    (status : ℕ) : Type 0 where
+  pub asked_is : s.asked ≡ asked ++ name ∷ []
+  pub back_is : s.back ≡ back ++ source ∷ []
+  pub brought_is : s.brought ≡ brought + 1
+  pub came : Option (List ℕ)
+  pub content : IsContentOf s.told name came
+  pub taken : List ℕ
+  pub reads : Reads came source.left taken
+  pub kept : source.faults ≡ 0 → s.shelf_after ≡ s.shelf_before
+  pub rises : 0 < source.faults → Rose s.shelf_before s.shelf_after
+  pub sound : status ≡ 0 → source.faults ≡ 0
+  pub to_end : status ≡ 0 → IfSome source.left (λ rest. rest ≡ [])
+  pub sink_kept : status ≡ 0 → s.sink_after ≡ s.sink_before
+  pub failed : status ≡ 5 → 0 < source.faults
+  pub sink_fault : status ≡ 6 → Rose s.sink_before s.sink_after
+  pub statuses : (status ≤ 8) × (status ≢ 2) × (status ≢ 3) × (status ≢ 4)
+
+pub one-brought : (name : List ℕ) (asked : List (List ℕ)) (brought : ℕ) (back : List GivenBack) (source : GivenBack) (s : Seen) (status : ℕ)
+    → OneBrought name asked brought back source s status → IsWork (name ∷ []) asked brought back s status
+one-brought name asked brought back source s status one =
+    all-brought (name ∷ []) asked brought back s status (omega arith) (record {
+      sources = source ∷ [];
+      asked_is = one.asked_is;
+      back_is = one.back_is;
+      in_order = (
+        (one.taken, left-of-content s.told name one.came source one.taken one.content (left-of one.came source one.taken one.reads)),
+        tt,
+      );
+      brought_is = one.brought_is;
+      all = refl;
+      all_read = λ zero. spent-alone source (record { no_fault = one.sound zero; to_end = one.to_end zero });
+      counts_none = λ zero. (one.kept (one.sound zero), one.sink_kept zero);
+      shelf_fault = λ five. one.rises (one.failed five);
+      sink_fault = one.sink_fault;
+      statuses = one.statuses;
+    })

@@ -49,10 +49,6 @@ Writes-then {a} {b} {c} {xs} {ys} first second = record {
 pub WritesPrefix-whole : {a b : Option (List ℕ)} {xs : List ℕ} → Writes a b xs → WritesPrefix a b xs
 WritesPrefix-whole {a} {b} {xs} all = record { done = xs; rest = []; whole = sym (append-nil xs); written = all }
 
--- nothing written is a prefix of any piece
-pub WritesPrefix-none : (known : Option (List ℕ)) (xs : List ℕ) → WritesPrefix known known xs
-WritesPrefix-none known xs = record { done = []; rest = xs; whole = refl; written = Writes-none known }
-
 -- a prefix of the first piece is one of both
 pub WritesPrefix-of_first : {a b : Option (List ℕ)} {xs : List ℕ} (ys : List ℕ) → WritesPrefix a b xs → WritesPrefix a b (xs ++ ys)
 WritesPrefix-of_first {a} {b} {xs} ys part = record {

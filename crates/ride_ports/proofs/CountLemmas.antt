@@ -10,18 +10,6 @@ Rose-then_kept a b c rose kept = grind arith
 pub Rose-after_kept : (a b c : ℕ) → a ≤ b → Rose b c → b ≤ c → Rose a c
 Rose-after_kept a b c kept rose falls = grind arith
 
--- one more fault makes a count rise
-pub Rose-raised : (a : ℕ) → a ≤ most_count → Rose a (raised a)
-Rose-raised a below = omega arith
-
--- a count of 64 bits does not fall at one more fault
-pub raised-kept : (a : ℕ) → a ≤ most_count → a ≤ raised a
-raised-kept a fits = omega arith
-
--- a count below its end that stayed did not rise
-pub Rose-same : (a : ℕ) → a < most_count → Rose a a → ⊥
-Rose-same a room rose = grind arith
-
 -- a count that rose from 0 is above it
 pub Rose-from_zero : (a : ℕ) → Rose 0 a → 0 < a
 Rose-from_zero a rose = grind arith

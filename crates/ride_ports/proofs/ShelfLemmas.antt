@@ -34,15 +34,6 @@ left-source_of : (found : Option FileState) →
 left-source_of None = refl
 left-source_of (Some f) = refl
 
--- what holds of each element holds of the first that passes
-pub IfSome-find : {A : Type 0} (P : A → Type 0) (p : A → Bool) (xs : List A) → All P xs → IfSome (find p xs) P
-IfSome-find P p [] all = tt
-IfSome-find P p (x ∷ xs) all =
-    elim (p x) as (λ b. IfSome (cond b (Some x) (find p xs)) P) [
-      | true ↦ all 0 x (search rules)
-      | false ↦ IfSome-find P p xs (All-tail P x xs all)
-    ]
-
 pub bytes_at-of_source : (files : List FileState) (name : List ℕ) (source : SourceState) →
     Some source ≡ option_map source_of (file_named files name) → IsContentOf (Some (contents_of files)) name (Some source.left)
 bytes_at-of_source files name source named =

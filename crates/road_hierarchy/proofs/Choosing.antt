@@ -21,6 +21,7 @@ use Rattle.road_hierarchy.specs.Packed.{IsWhole}
 use Rattle.road_hierarchy.proofs.Parts.{slice-at, length-slice, parts-none}
 use Rattle.road_hierarchy.proofs.Marking.{node-of_level, link-inside, upper-higher}
 use Rattle.road_hierarchy.proofs.Selecting.{AreNewSteps, same-arc, selecting-added, steps-kept, selecting-few}
+use Rattle.road_hierarchy.proofs.LevelParts.{IsPart, part-of}
 
 -- the same lists
 selecting-same : (Link : RoadArc → Type 0) (level : ℕ → ℕ) (count : ℕ) (marks : List Bool) (IsDone : ℕ → Type 0)
@@ -60,34 +61,12 @@ selecting-none side h marks s whole nodes starts steps places =
       done = λ node free from. (let below = free.1 in let low = whole node free.0 (omega arith) in absurd (omega arith));
     }
 
--- the upper ends of one level, as a part of all
-record IsPart (side : Side) (h : Contracted) (starts : List ℕ) (uppers part : List Upper) (level : ℕ) : Type 0 where
-  long : length part ≡ start_at starts (level + 1) - start_at starts level
-  entry : (k : ℕ) → k < length part → upper_at part k ≡ upper_at uppers (start_at starts level + k)
-  at : (k : ℕ) → k < length part → IsIn starts level (start_at starts level + k)
-
-part-of : (side : Side) (h : Contracted) (starts : List ℕ) (uppers part : List Upper) (level : ℕ)
-    → AreDescents (IsLinkBy side h.arcs) h.levels (length h.order) starts uppers → level < length h.order
-    → part ≡ slice_range uppers (start_at starts level) (start_at starts (level + 1)) → IsPart side h starts uppers part level
-part-of side h starts uppers part level d low is = record {
-  long = long;
-  entry = λ k k_low.
-      ap (λ us. upper_at us k) is
-      ∙ slice-at uppers (start_at starts level) (start_at starts (level + 1)) k no_upper (omega (arith, long));
-  at = λ k k_low. record { from = omega arith; to = omega (arith, long) };
-}
-  where
-    long : length part ≡ start_at starts (level + 1) - start_at starts level
-    long =
-        ap (λ (us : List Upper). length us) is
-        ∙ length-slice uppers (start_at starts level) (start_at starts (level + 1)) (d.parts.rises level low) (d.parts.within (level + 1) (omega arith))
-
 pub part-inside : (side : Side) (h : Contracted) (starts : List ℕ) (uppers part : List Upper) (level : ℕ) → IsFitContraction h
     → AreDescents (IsLinkBy side h.arcs) h.levels (length h.order) starts uppers → level < length h.order
     → part ≡ slice_range uppers (start_at starts level) (start_at starts (level + 1))
     → (k : ℕ) → k < length part → (upper_at part k).node < h.nodes + 1
 part-inside side h starts uppers part level fit d low is k k_low =
-    let p = part-of side h starts uppers part level d low is in
+    let p = part-of (length h.order) level starts uppers part d.parts low is in
     let up = upper-higher side h starts uppers fit d level (start_at starts level + k) low (p.at k k_low) in
     omega (arith, up.0, ap (λ (u : Upper). u.node) (p.entry k k_low))
 
@@ -124,8 +103,8 @@ contracted-added side h marks starts uppers part level s t fit d closed is low p
     listed : (1 ≤ node_at h.order level) × (node_at h.order level ≤ h.nodes) × (level_in h.levels (node_at h.order level) ≡ level)
     listed = fit.ordered.listed level low
 
-    p : IsPart side h starts uppers part level
-    p = part-of side h starts uppers part level d low part_is
+    p : IsPart starts uppers part level
+    p = part-of (length h.order) level starts uppers part d.parts low part_is
 
     longer : length t.steps.items ≡ length s.steps.items + length part
     longer =

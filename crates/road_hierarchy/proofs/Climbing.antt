@@ -83,51 +83,6 @@ pub record IsClimbing (levels starts : List ℕ) (uppers : List Upper) (first bo
   pub attained : (level : ℕ) → node_at labels level < never → level < length labels
       → (level ≡ first) ⊎ IsStep levels starts uppers labels bound level
 
--- the climb begins
-pub climbing-begun : (levels starts : List ℕ) (uppers : List Upper) (first : ℕ) (labels : List ℕ)
-    → ((level : ℕ) → level < length labels → node_at labels level ≡ never) → first < length labels
-    → IsClimbing levels starts uppers first first (set labels first 0)
-climbing-begun levels starts uppers first labels cleared inside = record {
-  low = λ level. elim (cases_eq level first) [
-    | inl same ↦ omega (arith, ap (node_at (set labels first 0)) same, its)
-    | inr apart ↦ elim (cases_lt level (length labels)) [
-      | inl low ↦ omega (arith, others level apart, cleared level low)
-      | inr past ↦ omega (arith, others level apart, get_or_past labels level 0 past)
-    ]
-  ];
-  begun = its;
-  before = λ level less. (let apart : level ≢ first = omega arith in others level apart ∙ cleared level (omega arith));
-  stepped = λ level place less from at. absurd (omega arith);
-  attained = λ level low within. elim (cases_eq level first) [
-    | inl same ↦ inl same
-    | inr apart ↦ absurd (omega (arith, others level apart, cleared level (omega (arith, length-set labels first 0))))
-  ];
-}
-  where
-    its : node_at (set labels first 0) first ≡ 0
-    its = get_or-set_same labels first 0 0 inside
-
-    others : (level : ℕ) → level ≢ first → node_at (set labels first 0) level ≡ node_at labels level
-    others level apart = get_or-set_other labels first level 0 0 apart
-
--- a level that was not reached is done
-pub climbing-passed : (levels starts : List ℕ) (uppers : List Upper) (first bound : ℕ) (labels : List ℕ)
-    → IsClimbing levels starts uppers first bound labels → never ≤ node_at labels bound
-    → IsClimbing levels starts uppers first (bound + 1) labels
-climbing-passed levels starts uppers first bound labels c high = record {
-  low = c.low;
-  begun = c.begun;
-  before = c.before;
-  stepped = λ level place less from at. elim (cases_eq level bound) [
-    | inl same ↦ (let top = c.low (level_of levels uppers place) in omega (arith, ap (node_at labels) same))
-    | inr earlier ↦ c.stepped level place (omega arith) from at
-  ];
-  attained = λ level low within. elim (c.attained level low within) [
-    | inl is ↦ inl is
-    | inr s ↦ inr (record { from = s.from; place = s.place; earlier = omega (arith, s.earlier); lower = s.lower; within = s.within; leads = s.leads; weighs = s.weighs })
-  ];
-}
-
 -- a level that was reached is done once the arcs of its part are relaxed
 pub climbing-more : (levels starts : List ℕ) (uppers part : List Upper) (count first bound : ℕ) (old new : List ℕ)
     → AreParts count starts (length uppers) → bound < count → first ≤ bound

@@ -1,4 +1,5 @@
 pub mod Parts
+pub mod LevelParts
 pub mod Turning
 pub mod Tallies
 pub mod Placing

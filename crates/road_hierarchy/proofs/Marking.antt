@@ -17,6 +17,7 @@ use Rattle.road_hierarchy.specs.Parts.{start_at, IsIn, AreParts}
 use Rattle.road_hierarchy.specs.Descents.{no_upper, upper_at, AreDescents}
 use Rattle.road_hierarchy.specs.Marks.{IsMarked, node_at, AreClosedBelow, AreClosed}
 use Rattle.road_hierarchy.proofs.Parts.{slice-at, length-slice}
+use Rattle.road_hierarchy.proofs.LevelParts.{IsPart, part-of}
 
 -- levels end with that of the core
 pub level-le : (nodes : ℕ) (levels order : List ℕ) → IsOrdered nodes levels order → (node : ℕ) → level_in levels node ≤ 4294967295
@@ -80,27 +81,19 @@ closed-more starts uppers part order levels level old new parts low is ordered h
           let here : IsIn starts level place = subst (λ n. IsIn starts n place) same at in
           let k = place - start_at starts level in
           let at_k : start_at starts level + k ≡ place = (let from = here.from in omega arith) in
-          let k_low : k < length part = (let from = here.from in let to = here.to in omega (arith, long)) in
+          let k_low : k < length part = (let from = here.from in let to = here.to in omega (arith, p.long)) in
           subst (λ p. IsMarked new (upper_at uppers p).node) at_k
-          (subst (λ (u : Upper). IsMarked new u.node) (entry k k_low) (marked k k_low))
+          (subst (λ (u : Upper). IsMarked new u.node) (p.entry k k_low) (marked k k_low))
     ]
   where
-    long : length part ≡ start_at starts (level + 1) - start_at starts level
-    long =
-        ap (λ (us : List Upper). length us) is
-        ∙ length-slice uppers (start_at starts level) (start_at starts (level + 1)) (parts.rises level low) (parts.within (level + 1) (omega arith))
-
-    entry : (k : ℕ) → k < length part → upper_at part k ≡ upper_at uppers (start_at starts level + k)
-    entry k k_low =
-        ap (λ us. upper_at us k) is
-        ∙ slice-at uppers (start_at starts level) (start_at starts (level + 1)) k no_upper (omega (arith, long))
+    p : IsPart starts uppers part level
+    p = part-of (length order) level starts uppers part parts low is
 
     apart : (number : ℕ) → number < level → (k : ℕ) → k < length part → (upper_at part k).node ≢ node_at order number
     apart number earlier k k_low e =
-        let at : IsIn starts level (start_at starts level + k) = record { from = omega arith; to = omega (arith, long) } in
-        let up = higher (start_at starts level + k) at in
+        let up = higher (start_at starts level + k) (p.at k k_low) in
         let node_is : (upper_at uppers (start_at starts level + k)).node ≡ node_at order number
-        = sym (ap (λ (u : Upper). u.node) (entry k k_low)) ∙ e in
+        = sym (ap (λ (u : Upper). u.node) (p.entry k k_low)) ∙ e in
         absurd (omega (arith, up, ap (level_in levels) node_is, ordered number (omega arith)))
 
 -- marks that are closed level by level are closed under the arcs that lead down

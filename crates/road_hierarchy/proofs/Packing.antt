@@ -149,13 +149,6 @@ descents-at side arcs others levels more core count starts uppers same_arcs same
     (subst (λ ls. AreDescents (IsLinkBy side arcs) ls count starts uppers) same_levels
     (subst (λ n. AreDescents (IsLinkBy side arcs) levels n starts uppers) same_core d))
 
--- arcs that join nodes of a map have levels
-pub have-levels : (contraction : Contracted) → IsFitContraction contraction → HaveLevels contraction.arcs contraction.levels
-have-levels contraction fit arc there =
-    let fits = All-contains (IsArc (record { nodes = contraction.nodes; arcs = contraction.arcs })) contraction.arcs arc fit.arcs_fit there in
-    let sized = fit.sized in
-    (let (_, high) = fits.0 in omega arith, let (_, high) = fits.1 in omega arith)
-
 -- where so many nodes are in order as there are, each is contracted: one more would be one too many
 ordered-whole : (nodes : ℕ) (levels order : List ℕ) → IsOrdered nodes levels order → length order ≡ nodes
     → (node : ℕ) → 1 ≤ node → node ≤ nodes → level_in levels node < length order

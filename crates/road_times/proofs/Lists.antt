@@ -96,34 +96,6 @@ pub record IsLeft (labels : List (Option ℕ)) (settled : List ℕ) (count : ℕ
   pub listed : (node label : ℕ) → label_of labels node ≡ Some label
       → (place : ℕ) × (place < count) × (get_or settled place 0 ≡ node)
 
-pub left-all : (labels : List (Option ℕ)) (settled : List ℕ) (count : ℕ) → IsListed labels settled count → IsLeft labels settled count
-left-all labels settled count listed = record {
-  sized = listed.sized;
-  room = omega (arith, listed.sized, listed.counted, count_by-le-length is_some labels);
-  inside = listed.inside;
-  listed = listed.listed;
-}
-
-pub left-fewer : (labels : List (Option ℕ)) (settled : List ℕ) (count fewer : ℕ) → fewer + 1 ≡ count → IsLeft labels settled count
-    → IsLeft (set labels (get_or settled fewer 0) None) settled fewer
-left-fewer labels settled count fewer is left = record {
-  sized = left.sized ∙ sym (length-set labels node None);
-  room = omega (arith, left.room);
-  inside = λ place before. omega (arith, left.inside place (omega arith), length-set labels node None);
-  listed = λ other label has. elim (set_cases labels node other None (left.inside fewer (omega arith))) [
-    | inl (same, now) ↦ (let both : Some label ≡ None = sym has ∙ now in absurd (cc both))
-    | inr (differs, now) ↦
-        let (place, before, stands) = left.listed other label (sym now ∙ has) in
-        elim (cases_eq place fewer) [
-          | inl last ↦ absurd (differs (sym stands ∙ ap (λ p. get_or settled p 0) last))
-          | inr earlier ↦ (place, omega arith, stands)
-        ]
-  ];
-}
-  where
-    node : ℕ
-    node = get_or settled fewer 0
-
 -- at the end no label is left
 pub left-none : (labels : List (Option ℕ)) (settled : List ℕ) → IsLeft labels settled 0 → (node : ℕ) → label_of labels node ≡ None
 left-none labels settled left node =

@@ -19,18 +19,6 @@ offered-more labels neighbors count label node key o = record {
   unsettled = o.unsettled;
 }
 
--- before the first arc
-pub relaxed-none : (labels : List (Option ℕ)) (neighbors : List Neighbor) (label : ℕ) (old : Queue) → IsAboveFloor old
-    → IsRelaxed labels neighbors 0 label old old
-relaxed-none labels neighbors label old above = record {
-  reached = λ place neighbor before here. absurd (omega arith);
-  lowered = λ node key is. (key, is, omega arith);
-  given = λ node key is. inl is;
-  floor = refl;
-  rooms = refl;
-  above = above;
-}
-
 -- an arc to a node that is settled
 pub relaxed-settled : (labels : List (Option ℕ)) (neighbors : List Neighbor) (count label : ℕ) (old now : Queue) (neighbor : Neighbor)
     → IsRelaxed labels neighbors count label old now → slice_get neighbors count ≡ Some neighbor → (had : ℕ)

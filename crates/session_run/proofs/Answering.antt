@@ -154,14 +154,6 @@ module _ (old new : Recorded) (command : Command) (session : IsSession old) (sta
     };
   }
 
--- memory was wanting for the answer
-pub apply-stops : (board : Recorded) (command : Command) → IsSession board → Stops command board board
-apply-stops board command session = record {
-  goes_on = record { start = refl; feeds = refl; more = []; grows = sym (append-nil board.history) };
-  session = session;
-  commands = inl refl;
-}
-
 -- a reply that is not to an accepted ask
 pub not_asked : (reply : Reply) → ((count : ℕ) → reply ≡ Asked count → ⊥) → is_asked reply ≡ false
 not_asked reply others = by_test (is_asked reply) refl
@@ -183,24 +175,6 @@ not_asked reply others = by_test (is_asked reply) refl
     by_test : (b : Bool) → is_asked reply ≡ b → b ≡ false
     by_test false is = refl
     by_test true is = let (count, asked) = count-of reply is in absurd (others count asked)
-
--- a board goes on, whatever the answer
-pub goes-of : {E : Type 0} (r : Result Bool E) (command : Command) (old new : Recorded) → IfOk r (λ whole. Answers whole command old new)
-    → OnErr r (Stops command old new) → GoesOn old new
-goes-of (Ok whole) command old new answered stopped = answered.goes_on
-goes-of (Err e) command old new answered stopped = stopped.goes_on
-
--- the text of a board's history before it went on
-pub told-before : (old new : Recorded) (told : ℕ) → GoesOn old new → told ≡ length old.history
-    → text_of new.start.settings.log 1 1 (take told new.history) ≡ text_of old.start.settings.log 1 1 old.history
-told-before old new told goes_on all =
-    ap (λ (start : State). text_of start.settings.log 1 1 (take told new.history)) goes_on.start
-    ∙ ap (text_of old.start.settings.log 1 1) (ap (λ n. take n new.history) all ∙ ap (take (length old.history)) goes_on.grows
-    ∙ take-append old.history goes_on.more)
-  where
-    take-append : (xs ys : List Entry) → take (length xs) (xs ++ ys) ≡ xs
-    take-append [] ys = refl
-    take-append (x ∷ xs) ys = ap (λ l. x ∷ l) (take-append xs ys)
 
 -- a board that stopped at a command has answered the first commands
 pub stops-first : (command : Command) (old new : Recorded) → Stops command old new

@@ -4,7 +4,7 @@ use Rattle.std.specs.Prelude.{IsSome}
 use Rattle.std.specs.List.{list_any}
 use Rattle.std.proofs.lemmas.List.Folds.{list_any-append}
 use Rattle.std.proofs.Math.Bool.{or-true, or-false, and-false}
-use Rattle.std.proofs.lemmas.Bool.{or_from}
+use Rattle.std.proofs.lemmas.Bool.{or_from, or_parts}
 use Rattle.ride_model.specs.declared.command.Actor.{Actor}
 use Rattle.ride_model.specs.declared.command.Actor.TheVariants.{Feed, Desk}
 use Rattle.ride_model.specs.declared.entry.Ending.{Ending}
@@ -130,13 +130,9 @@ any-later : (p : Entry → Bool) (actor : Actor) (entry : Entry) (entries : List
 unfolding entries_of
 any-later p actor entry entries none = by_actor (is_actor entry.actor actor) none
   where
-    later : (a b : Bool) → (a || b) ≡ false → b ≡ false
-    later true b h = absurd (cc h)
-    later false b h = h
-
     by_actor : (own : Bool) → list_any p (cond own (entry ∷ entries_of actor entries) (entries_of actor entries)) ≡ false
         → list_any p (entries_of actor entries) ≡ false
-    by_actor true h = later (p entry) (list_any p (entries_of actor entries)) h
+    by_actor true h = (or_parts (p entry) (list_any p (entries_of actor entries)) h).1
     by_actor false h = h
 
 -- no batch was given up, where none of the desks' parts gives one up

@@ -27,10 +27,6 @@ use Rattle.session_run.proofs.OneMoreEntry.{awaited-push, gave_up-push}
 abbrev whole_end : Actor → Entry
 whole_end actor = end_entry actor Whole
 
--- the first feed has not ended
-pub first-not_ended : (old : Recorded) → IsDrilling old → IsFalse (has_ended (state_of old) (Feed 1))
-first-not_ended old drilling = ap (list_any (λ (end : Actor × Ending). is_actor end.0 (Feed 1))) drilling.session.none_ended
-
 -- who has ended after the first feed, and after the second
 ended-first : (old first : Recorded) → IsDrilling old → first.start ≡ old.start → first.history ≡ old.history ++ whole_end (Feed 1) ∷ []
     → (state_of first).ended ≡ (Feed 1, Whole) ∷ []

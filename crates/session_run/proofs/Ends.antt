@@ -31,10 +31,6 @@ ends-prompt old new ending desk_ending history prompt =
       none_given_up = gave_up-push middle new last grows refl (gave_up-push old middle first refl refl prompt.none_given_up);
     }
 
--- a board goes on by entries
-pub goes-by : (old new : Recorded) (more : List Entry) → new.start ≡ old.start → new.feeds ≡ old.feeds → new.history ≡ old.history ++ more → GoesOn old new
-goes-by old new more start feeds grows = record { start = start; feeds = feeds; more = more; grows = grows }
-
 -- the desk may end after the feed
 pub desk-may_end : (old new : Recorded) (ending desk_ending : Ending) → IsSession old → old.feeds ≡ 1 → new.start ≡ old.start → new.feeds ≡ old.feeds
     → new.desks ≡ old.desks → new.history ≡ old.history ++ end_entry (Feed 1) ending ∷ []

@@ -53,6 +53,3 @@ made-end a b c made ending has adds = record {
 -- the board as it began is that of the pass still
 pub root-added : (b c : Known) (entry : Entry) → AddsEntry b c entry → root_of c ≡ root_of b
 root-added b c entry adds = ap root_of adds.rest
-
-pub root-same : (b c : Known) → AddsNone b c → root_of c ≡ root_of b
-root-same b c adds = ap root_of adds.rest

@@ -32,7 +32,7 @@ use Rattle.board_core.specs.declared.opening.Opening.{Opening}
 use Rattle.board_core.specs.declared.opening.Opening.TheVariants.{Batch, Idle, Ended}
 use Rattle.board_core.specs.Opening.{opening_at}
 use Rattle.board_core.specs.Recorded.{Recorded, state_of, opened_entry, committed_entry, abandoned_entry}
-use Rattle.board_core.proofs.OpenBatches.{state-push}
+use Rattle.board_core.proofs.OpenBatches.{state-push, same_batch}
 use Rattle.session_run.specs.Running.{IsAsked, IsOpened, RunsBatch, Closes}
 use Rattle.session_run.specs.Settled.{settles}
 use Rattle.session_run.proofs.OneMoreEntry.{settled-push, awaited-push, gave_up-push, fed-desk, goes-then}
@@ -191,10 +191,7 @@ opened-fits board batch opened begins legal =
 pub next-opened : (s : State) (feeds : ℕ) (batch : BatchCopy) (o : Opening) → o ≡ opening_at feeds s 1 → o ≡ Batch batch
     → s.asked ≡ s.opened + 1 → batch ≡ next_batch s 1
 next-opened s feeds batch o is got one_more =
-    same batch (next_batch s 1) (sym got ∙ is ∙ ap (λ b. cond b (Batch (next_batch s 1)) (cond (all_feeds_ended feeds s) Ended Idle)) below)
+    same_batch batch (next_batch s 1) (sym got ∙ is ∙ ap (λ b. cond b (Batch (next_batch s 1)) (cond (all_feeds_ended feeds s) Ended Idle)) below)
   where
     below : nat_lt s.opened s.asked ≡ true
     below = lt-ltb s.opened s.asked (omega (arith, one_more))
-
-    same : (a b : BatchCopy) → Batch a ≡ Batch b → a ≡ b
-    same a b e = cc e

@@ -13,42 +13,22 @@ use Rattle.ride_model.specs.Offers.{is_idle, is_open, start_of}
 use Rattle.ride_model.specs.Seating.{BatchCopy, find_vehicle, vehicle_ids, seat_offer}
 use Rattle.ride_model.specs.State.{State}
 use Rattle.ride_model.specs.Vehicle.{ride_ids}
-use Rattle.plain_lemmas.proofs.Among.{Among}
+use Rattle.plain_lemmas.proofs.Among.{Among, found_among}
 use Rattle.plain_lemmas.proofs.Each.{of_all}
-use Rattle.model_laws.proofs.Certificates.{found_among, seat_facts}
+use Rattle.model_laws.proofs.Certificates.{seat_facts}
 use Rattle.model_laws.proofs.Costs.{offer_plan}
 use Rattle.model_laws.proofs.Starts.{start-not_before}
 use Rattle.history_laws.proofs.Confirming.{priced_start-found}
 use Rattle.history_laws.proofs.Lookups.{found_by}
+use Rattle.history_laws.proofs.StandingSeats.{seated-confirmed}
 use Rattle.session_run.specs.Settled.{is_settled}
-
--- a pair that stands is confirmed
-stands : (a b : Bool) (x y : Outcome) → a ≡ false → b ≡ false → is_settled (cond a x (cond b y Confirmed)) ≡ true
-stands true b x y h k = absurd (cc h)
-stands false true x y h k = absurd (cc k)
-stands false false x y h k = refl
 
 module _ (s : State) (batch : BatchCopy) (seats : List Seat) (vehicles_stand : batch.vehicles ≡ s.vehicles) (time_is : batch.time ≡ s.clock)
     (differ : IsDistinct nat_eq (vehicle_ids batch.vehicles)) (offered : All (λ seat. IsSome (seat_offer s.roads batch seat)) seats) where
   -- a seated request is confirmed
   seated-settled : (seat : Seat) → Among seat seats → is_settled (seated_outcome batch s seat) ≡ true
   seated-settled seat there =
-      let facts = seat_facts s.roads batch seat (of_all (λ (x : Seat). IsSome (seat_offer s.roads batch x)) seats seat offered there) in
-      let plan = offer_plan s.roads batch.settings facts.vehicle facts.ride batch.time seat.i seat.j facts.offer facts.offered in
-      let found : find_vehicle batch.vehicles seat.vehicle ≡ Some facts.vehicle
-      = ap (find_vehicle batch.vehicles) (sym facts.vehicle_id)
-      ∙ found_by (λ (v : Vehicle). v.id) batch.vehicles facts.vehicle differ facts.vehicle_there in
-      let later : batch.time ≤ start_of facts.vehicle batch.settings.lead batch.time
-      = start-not_before facts.vehicle batch.settings.lead batch.time plan.is_open_then in
-      let same : eqb (version_of batch.vehicles seat.vehicle) (version_of s.vehicles seat.vehicle) ≡ true
-      = eq-eqb (version_of batch.vehicles seat.vehicle) (version_of s.vehicles seat.vehicle) (ap (λ vs. version_of vs seat.vehicle) vehicles_stand) in
-      let start : priced_start batch seat.vehicle ≡ start_of facts.vehicle batch.settings.lead batch.time
-      = priced_start-found batch seat.vehicle facts.vehicle found in
-      let not_behind : ltb (priced_start batch seat.vehicle) s.clock ≡ false
-      = ap (λ n. ltb n s.clock) start ∙ ap (λ n. ltb (start_of facts.vehicle batch.settings.lead batch.time) n) (sym time_is)
-      ∙ le-ltb (start_of facts.vehicle batch.settings.lead batch.time) batch.time later in
-      stands (not (eqb (version_of batch.vehicles seat.vehicle) (version_of s.vehicles seat.vehicle)))
-      (ltb (priced_start batch seat.vehicle) s.clock) _ _ (ap not same) not_behind
+      ap is_settled (seated-confirmed s batch seats vehicles_stand time_is differ offered seat there)
 
   -- a request that was not cancelled is confirmed or away
   outcome-settled : (id : ℕ) → was_cancelled s id ≡ false → is_settled (outcome_of batch seats s id) ≡ true

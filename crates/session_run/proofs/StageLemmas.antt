@@ -11,6 +11,7 @@ use Rattle.turn_lock.specs.Passes.{knowledge}
 use Rattle.fleet_board.specs.Passes.{root_of}
 use Rattle.fleet_board.specs.Sets.{IsNewDesk, IsPartOf, one_if_some}
 use Rattle.fleet_board.specs.Turns.{as_began}
+use Rattle.fleet_board.proofs.Looking.{root-stays}
 use Rattle.session_run.specs.declared.live.actors.Actors.{Actors}
 use Rattle.session_run.specs.declared.live.actors.Answers.{Answers}
 use Rattle.session_run.specs.declared.live.desk_pairs.Desk.{Desk}
@@ -20,7 +21,6 @@ use Rattle.session_run.specs.Serving.{FeedRun}
 use Rattle.session_run.specs.Stages.{HasScratches, IsClosed, IsReady, LeavesActors, root_at}
 use Rattle.session_run.proofs.DeskParts.{DeskWhole, desk-of}
 use Rattle.session_run.proofs.FeedParts.{FeedOf, feed-of}
-use Rattle.session_run.proofs.Scribing.{root-stays}
 use Rattle.session_run.proofs.Sessions.{first-or-second}
 
 -- what is said of an option, at its value

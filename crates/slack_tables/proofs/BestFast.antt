@@ -33,7 +33,7 @@ use Rattle.slack_tables.specs.Search.{terms_of, cost_at, least_at, least_from, I
 use Rattle.slack_tables.proofs.NearTimes.{is_search}
 use Rattle.slack_tables.proofs.Ranges.{least-same, least-none}
 use Rattle.slack_tables.proofs.WithRide.{with_ride, IsWith, kept_fits}
-use Rattle.slack_tables.proofs.FastCosts.{legs-apart, legs-together, with-apart, with-together, fast-costs}
+use Rattle.slack_tables.proofs.FastCosts.{legs-apart, legs-together, with-apart, with-together, fast-costs, may-take}
 
 -- a plan with a ride more has some arrivals with delays
 record SomeWith (roads : RoadMap) (v : Vehicle) (ride : Ride) (i j : ℕ) (joins : Joins) (start dwell : ℕ) : Type 0 where
@@ -89,8 +89,7 @@ late-no-offer roads settings v ride near time i j asked open_now room late_now i
     start = start_of v settings.lead time
 
     may : (is_open v time && leb i j && leb j (length v.stops.items)) ≡ true
-    may = and_from _ (leb j (length v.stops.items)) (and_from (is_open v time) (leb i j) open_now (le-leb i j in_order))
-        (le-leb j (length v.stops.items) within)
+    may = may-take v time i j open_now in_order within
 
     broken : (joins : Joins) → SomeWith roads v ride i j joins start settings.dwell
         → None ≡ cost_if_any (offer_of_plan settings v i j time (with_ride v ride i j joins))
@@ -133,12 +132,6 @@ pub no-price : (roads : RoadMap) (settings : Settings) (v : Vehicle) (ride : Rid
     → None ≡ price roads settings v ride time
 no-price roads settings v ride near time asked may_not = price-none roads settings v ride time by_cause
   where
-    open_at : (i j : ℕ) → i ≤ j → j ≤ length v.stops.items → is_open v time ≡ true →
-        (is_open v time && leb i j && leb j (length v.stops.items)) ≡ true
-    open_at i j in_order within open_now =
-        and_from _ (leb j (length v.stops.items)) (and_from (is_open v time) (leb i j) open_now (le-leb i j in_order))
-        (le-leb j (length v.stops.items) within)
-
     late : (b : Bool) → keeps v (start_of v settings.lead time) settings.dwell ≡ b → is_open v time ≡ true → length v.stops.items ≤ 14
         → keeps v (start_of v settings.lead time) settings.dwell ≡ false
     late false is open_now few = is
@@ -158,7 +151,7 @@ no-price roads settings v ride near time asked may_not = price-none roads settin
         by_open true open_now = elim (le_or_lt (length v.stops.items) 14) [
           | inl few ↦ late-no-offer roads settings v ride near time i j asked open_now few
               (late (keeps v (start_of v settings.lead time) settings.dwell) refl open_now few) in_order within
-          | inr many ↦ ap cost_if_any (no-room roads settings v ride time i j (open_at i j in_order within open_now) many)
+          | inr many ↦ ap cost_if_any (no-room roads settings v ride time i j (may-take v time i j open_now in_order within) many)
         ]
 
 -- what a vehicle that may have an offer is

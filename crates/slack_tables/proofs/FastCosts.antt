@@ -261,6 +261,13 @@ with-together roads settings v ride near time i joins asked room within legs rou
     plus_zero : (n : ℕ) → n ≡ 0 + n
     plus_zero n = omega arith
 
+-- a vehicle that is open may take a ride at two places of its plan
+pub may-take : (v : Vehicle) (time i j : ℕ) → is_open v time ≡ true → i ≤ j → j ≤ length v.stops.items
+    → (is_open v time && leb i j && leb j (length v.stops.items)) ≡ true
+may-take v time i j open_now in_order within =
+    and_from _ (leb j (length v.stops.items)) (and_from (is_open v time) (leb i j) open_now (le-leb i j in_order))
+    (le-leb j (length v.stops.items) within)
+
 -- an open vehicle of few stops that keeps its promises is offered at each pair of places for what the tables say
 pub fast-costs : (roads : RoadMap) (settings : Settings) (v : Vehicle) (ride : Ride) (near : Near) (time i j : ℕ)
     → IsAsked roads v ride time settings near
@@ -293,8 +300,7 @@ fast-costs roads settings v ride near time i j asked open_now room on_time in_or
     slack = slack_of v (start_of v settings.lead time) settings.dwell
 
     may : (is_open v time && leb i j && leb j (length v.stops.items)) ≡ true
-    may = and_from _ (leb j (length v.stops.items)) (and_from (is_open v time) (leb i j) open_now (le-leb i j in_order))
-        (le-leb j (length v.stops.items) within)
+    may = may-take v time i j open_now in_order within
 
     many : length slack.times ≡ length v.stops.items
     many = length-times settings.dwell (start_of v settings.lead time) v.stops.items

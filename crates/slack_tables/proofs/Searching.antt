@@ -1,7 +1,7 @@
 -- A search for the cheapest pair of places, place after place.
 use Rattle.std.proofs.Common.{◌≡◌, ℕ, ◌+◌, ◌-◌, ◌<◌, ◌≤◌, ◌⊎◌, inl, inr, Bool, true, false, cond, length, eqb, refl, sym, ◌∙◌, ap, subst, arith}
 use Rattle.std.specs.Prelude.{Option, Some, None, IfSome, option_map, option_and_then}
-use Rattle.std.proofs.lemmas.Bool.{eqb-true, eq-eqb}
+use Rattle.std.proofs.lemmas.Bool.{eqb-true, eq-eqb, cond_both}
 use Rattle.plain_lemmas.proofs.Numbers.{less_or_same, eqb-less}
 use Rattle.ride_model.specs.Road.{lesser}
 use Rattle.model_laws.proofs.AboardLoads.{range_passes, passes_range}
@@ -53,12 +53,8 @@ no-room-cost terms slack near i j k full low high = by_cases (has_room_between t
 pub no-pickup-cost : (terms : Terms) (slack : PlanSlack) (near : Near) (i k : ℕ) → pickup_at terms slack near i ≡ None
     → cost_at terms slack near i k ≡ None
 no-pickup-cost terms slack near i k none =
-    ap (λ o. cond (has_room_between terms slack i k) (option_and_then (after terms slack near i k) o) None) none ∙ either
-    (has_room_between terms slack i k)
-  where
-    either : (b : Bool) → cond {A = Option ℕ} b None None ≡ None
-    either true = refl
-    either false = refl
+    ap (λ o. cond (has_room_between terms slack i k) (option_and_then (after terms slack near i k) o) None) none
+    ∙ cond_both (has_room_between terms slack i k) None None (λ o. o ≡ None) (λ _. refl) (λ _. refl)
 
 pub no-lateness-cost : (terms : Terms) (slack : PlanSlack) (near : Near) (i k pickup : ℕ) → pickup_at terms slack near i ≡ Some pickup
     → lateness terms slack near i pickup ≡ None → i < k → cost_at terms slack near i k ≡ None
@@ -69,11 +65,7 @@ no-lateness-cost terms slack near i k pickup some none less =
     (option_and_then (λ l. cost_apart terms slack near i k l pickup) (lateness terms slack near i pickup))) None)
     (eqb-less i k less)
     ∙ ap (λ o. cond (has_room_between terms slack i k) (option_and_then (λ l. cost_apart terms slack near i k l pickup) o) None) none
-    ∙ either (has_room_between terms slack i k)
-  where
-    either : (b : Bool) → cond {A = Option ℕ} b None None ≡ None
-    either true = refl
-    either false = refl
+    ∙ cond_both (has_room_between terms slack i k) None None (λ o. o ≡ None) (λ _. refl) (λ _. refl)
 
 -- the cost with the drop-off at a later place
 pub apart-cost : (terms : Terms) (slack : PlanSlack) (near : Near) (i j late pickup : ℕ) → HasRoom terms slack i (j + 1)

@@ -133,11 +133,6 @@ all-same : {X : Type 0} (f g : X → Bool) (xs : List X) → AllByRecursion (λ 
 all-same f g [] h = refl
 all-same f g (x ∷ xs) (here, rest) = ap (λ b. b && list_all f xs) here ∙ ap (λ b. g x && b) (all-same f g xs rest)
 
--- one visit more that is not of a ride
-skipped : (id other : ℕ) (kind now : Kind) (leg : ℕ) (stop : Stop) → eqb stop.ride other ≡ false → is_visit other kind
-    (with_leg leg stop) ≡ false
-skipped id other kind now leg stop differs = ap (λ b. b && is_kind stop.kind kind) differs
-
 -- the arrivals at another ride's visits
 arrival-other : (id : ℕ) (kind : Kind) (stops : List Stop) (ride : Ride) (i j late pickup more dropoff : ℕ) (joins : Joins)
     (times : List ℕ)

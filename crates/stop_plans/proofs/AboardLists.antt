@@ -1,5 +1,5 @@
 -- Lists of who is aboard.
-use Rattle.std.proofs.Common.{◌≡◌, ℕ, zero, suc, ◌+◌, ◌<◌, Bool, cond, List, [], ◌∷◌, ◌++◌, length, take, drop, get_or, eqb, refl, sym, ◌∙◌, ap, append_assoc, arith}
+use Rattle.std.proofs.Common.{◌≡◌, ℕ, zero, suc, ◌+◌, ◌<◌, Bool, cond, List, [], ◌∷◌, ◌++◌, length, take, drop, get_or, eqb, refl, sym, ◌∙◌, ap, append_assoc, arith, add-one}
 use Rattle.std.specs.Prelude.{map, is_some, ◌==◌, if◌then◌else◌}
 use Rattle.std.specs.List.{range_with_len}
 use Rattle.std.proofs.lemmas.List.Sums.{sum_by-cons}
@@ -86,11 +86,8 @@ loads-after rides before (s ∷ stops) =
     shifted : (from many : ℕ) (f g : ℕ → Load) → ((n : ℕ) → f n ≡ g (suc n)) → map f (range_with_len from many) ≡ map g (range_with_len (from + 1) many)
     shifted from zero f g same = refl
     shifted from (suc many) f g same =
-        ap (λ load. load ∷ map f (range_with_len (from + 1) many)) (same from ∙ ap g (one_more from))
+        ap (λ load. load ∷ map f (range_with_len (from + 1) many)) (same from ∙ ap g (sym (add-one from)))
         ∙ ap (λ rest. g (from + 1) ∷ rest) (shifted (from + 1) many f g same)
-      where
-        one_more : (n : ℕ) → suc n ≡ n + 1
-        one_more n = omega arith
 
 pub loads_behind-is : (v : Vehicle) → loads_behind v.rides.items (map (λ (ride : Ride). is_some ride.picked) v.rides.items) v.stops.items ≡ loads_of v
 loads_behind-is v = loads-after v.rides.items [] v.stops.items

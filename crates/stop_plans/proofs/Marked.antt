@@ -1,5 +1,5 @@
 -- A list whose first elements were changed.
-use Rattle.std.proofs.Common.{◌≡◌, ℕ, zero, suc, ◌+◌, ◌<◌, List, [], ◌∷◌, ◌++◌, length, take, drop, get_or, refl, ◌∙◌, ap, arith}
+use Rattle.std.proofs.Common.{◌≡◌, ℕ, zero, suc, ◌+◌, ◌<◌, List, [], ◌∷◌, ◌++◌, length, take, drop, get_or, refl, ◌∙◌, ap, arith, sym, add-one}
 use Rattle.std.specs.Prelude.{map, slice_set}
 
 -- the next element is the one that was there
@@ -12,11 +12,8 @@ next-of-changed f (x ∷ xs) (suc n) d h = next-of-changed f xs n d (omega arith
 -- one more is changed
 pub one-more-changed : {X : Type 0} (f : X → X) (xs : List X) (n : ℕ) (d : X) → n < length xs
     → slice_set (map f (take n xs) ++ drop n xs) n (f (get_or xs n d)) ≡ map f (take (n + 1) xs) ++ drop (n + 1) xs
-one-more-changed f xs n d h = step f xs n d h ∙ ap (λ k. map f (take k xs) ++ drop k xs) (one n)
+one-more-changed f xs n d h = step f xs n d h ∙ ap (λ k. map f (take k xs) ++ drop k xs) (sym (add-one n))
   where
-    one : (k : ℕ) → suc k ≡ k + 1
-    one k = omega arith
-
     step : {X : Type 0} (f : X → X) (xs : List X) (n : ℕ) (d : X) → n < length xs
         → slice_set (map f (take n xs) ++ drop n xs) n (f (get_or xs n d)) ≡ map f (take (suc n) xs) ++ drop (suc n) xs
     step f [] n d h = absurd (omega arith)

@@ -6,15 +6,6 @@ use Rattle.ride_ports.specs.Count.{Rose}
 use Rattle.ride_ports.proofs.ByteLemmas.{Writes-none, Writes-then, WritesPrefix-of_first, WritesPrefix-of_second}
 use Rattle.text_page.specs.Output.{HasPut, IsFresh, OutputState, Puts}
 
--- what holds on a result's one side, by the test
-pub of_ok : {T E : Type 0} (P : Type 0) (r : Result T E) → is_err r ≡ false → OnOk r P → P
-of_ok P (Ok x) h p = p
-of_ok P (Err e) h p = absurd (cc h)
-
-pub of_err : {T E : Type 0} (P : Type 0) (r : Result T E) → is_err r ≡ true → OnErr r P → P
-of_err P (Ok x) h p = absurd (cc h)
-of_err P (Err e) h p = p
-
 -- what was put, where the sink has not failed
 record Standing (before now : Option (List ℕ)) (faults n : ℕ) (page text : List ℕ) : Type 0 where
   done : List ℕ

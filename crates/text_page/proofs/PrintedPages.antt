@@ -23,13 +23,6 @@ take-first : (xs ys : List ℕ) → take (length xs) (xs ++ ys) ≡ xs
 take-first [] ys = refl
 take-first (x ∷ xs) ys = ap (λ l. x ∷ l) (take-first xs ys)
 
--- a text that was printed whole was put
-pub printed-whole : (before now : Option (List ℕ)) (faults n : ℕ) (old new : OutputState) (earlier text : List ℕ) → old.failed ≡ false
-    → Writes (told_page old) (told_page new) text → HasPut before now faults n old earlier → HasPut before now faults n new (earlier ++ text)
-printed-whole before now faults n old new earlier text stands writes has =
-    let (still, page) = told-page new (old.page ++ text) (Writes-told old.page writes (tells-page old stands)) in
-    put-added before now faults n old new earlier text stands still page has
-
 -- of one that was not, nothing was put once it is taken off the page
 printed-part : (before now : Option (List ℕ)) (faults n : ℕ) (old new : OutputState) (earlier text : List ℕ) → old.failed ≡ false
     → WritesPrefix (told_page old) (told_page new) text → HasPut before now faults n old earlier

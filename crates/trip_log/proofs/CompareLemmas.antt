@@ -30,31 +30,6 @@ seen-more line taken more bytes are = record {
       ∙ ap (λ (xs : List ℕ). Some (length line ∷ xs)) (sym (append_assoc line taken bytes));
 }
 
--- a byte that is another than the first that was awaited
-pub differs-first : (byte : ℕ) (awaited rest : List ℕ) → take (length awaited) rest ≡ awaited → (awaited ≡ [] → rest ≡ [])
-    → (0 < length awaited → byte ≢ get_or awaited 0 0) → differs (Some byte) rest ≡ true
-differs-first byte [] rest front none other = rw (none refl) refl
-differs-first byte (a ∷ awaited) [] front none other = absurd (cc front)
-differs-first byte (a ∷ awaited) (r ∷ rest) front none other =
-    let first : r ≡ a = cc in
-    let ne : r ≢ byte = λ is. other (omega arith) (sym is ∙ first) in
-    rw (ne_eqb r byte ne) refl
-
--- bytes with another byte are at the front of no text of the line
-pub other-differs : (line : List ℕ) (place : ℕ) (other : Option ℕ) (rest : List ℕ) → place ≤ length line + 1
-    → differs other (drop place (whole_line line)) ≡ true → is_some other ≡ true
-    → whole_line line ≢ (take place (whole_line line) ++ as_bytes other) ++ rest
-other-differs line place None rest within another some is = true≢false (sym some)
-other-differs line place (Some byte) rest within another some is =
-    let after : drop place (whole_line line) ≡ byte ∷ rest =
-    append_cancel_left (take place (whole_line line)) (drop place (whole_line line)) (byte ∷ rest)
-    (take-append-drop place (whole_line line) ∙ is ∙ append_assoc (take place (whole_line line)) (byte ∷ []) rest) in
-    never (byte == byte) (eq-eqb byte byte refl) (ap (λ bytes. not (begins_with byte bytes)) (sym after) ∙ another)
-  where
-    never : (v : Bool) → v ≡ true → not v ≡ true → ⊥
-    never true is not_is = cc
-    never false is not_is = cc
-
 -- the line and its length tell where the bytes that were taken begin
 pub seen-apart : (line other taken text : List ℕ) → length other ∷ (other ++ taken) ≡ (length line ∷ (line ++ [])) ++ text
     → (other ≡ line) × (taken ≡ text)

@@ -11,7 +11,7 @@ use Rattle.std.proofs.lemmas.List.Elements.{All-head, All-tail}
 use Rattle.std.proofs.lemmas.List.Folds.{list_all-append}
 use Rattle.std.proofs.lemmas.Str.Parse.{IsNumeralModel, tells_all_ascii_digits, numerals_by_value}
 use Rattle.line_text.specs.Fields.{is_dropped}
-use Rattle.line_text.proofs.PrintedLemmas.{IsPlain}
+use Rattle.line_text.proofs.PrintedLemmas.{IsPlain, digit_texts}
 use Rattle.ride_model.specs.declared.command.Actor.{Actor}
 use Rattle.ride_model.specs.declared.command.Actor.TheVariants.{Feed, Desk}
 use Rattle.ride_model.specs.declared.command.Command.{Command}
@@ -32,9 +32,6 @@ use Rattle.ride_model.specs.Text.{HasLine, IsSpelled, IsSpelledActor, IsSpelledC
 use Rattle.ride_model.specs.Text.{IsSpelledPair, IsSpelledSeat}
 use Rattle.trip_log.proofs.CutLemmas.{Avoids, all-joined, all-weaken}
 
-own : IsNumeralModel (λ ds. all_ascii_digits ds ≡ true) (digits_value 10)
-own = numerals_by_value (λ ds. all_ascii_digits ds ≡ true) tells_all_ascii_digits
-
 all-digits : (test : ℕ → Bool) → ((d : ℕ) → 48 ≤ d → d ≤ 57 → test d ≡ true) → (digits : List ℕ) → all_ascii_digits digits ≡ true
     → list_all test digits ≡ true
 all-digits test each [] digits = refl
@@ -45,7 +42,7 @@ all-digits test each (b ∷ bytes) digits =
 -- what a test says of printed numbers that it says of each digit
 pub all-decimal : (test : ℕ → Bool) → ((d : ℕ) → 48 ≤ d → d ≤ 57 → test d ≡ true) → (n : ℕ) → n < 2 ^ 64
     → list_all test (decimal n) ≡ true
-all-decimal test each n small = all-digits test each (decimal n) (digits_decimal own n (omega arith))
+all-decimal test each n small = all-digits test each (decimal n) (digits_decimal digit_texts n (omega arith))
 
 -- the digits of a number have no such byte
 pub avoids-decimal : (byte n : ℕ) → (byte < 48) ⊎ (57 < byte) → n < 2 ^ 64 → Avoids byte (decimal n)

@@ -15,10 +15,6 @@ pub record IsWalk (places : List ℕ) (place : ℕ) (last current : Option ℕ) 
   pub ends : EndsWith front last
   pub here : current ≡ slice_get back 0
 
-pub walk-start : (places : List ℕ) (place : ℕ) (current : Option ℕ) → current ≡ slice_get places 0 → IsWalk places place None current
-walk-start places place current h =
-    record { front = []; back = places; whole = refl; below = tt; ends = refl; here = h }
-
 -- the current place splits what is left
 pub record IsNext (back : List ℕ) (other : ℕ) : Type 0 where
   pub rest : List ℕ

@@ -1,6 +1,8 @@
 use Rattle.std.proofs.Common.{◌≡◌, ◌++◌, ◌∷◌, [], ℕ, List, Option, Some, None, refl, sym, subst, ◌∙◌, append-nil}
 use Rattle.std.specs.Prelude.{IfSome}
 use Rattle.plain_lemmas.proofs.Options.{none_from_not_some}
+use Rattle.plain_lemmas.proofs.Among.{found_among}
+use Rattle.plain_lemmas.proofs.Each.{of_each}
 use Rattle.ride_model.specs.declared.command.Command.{Command}
 use Rattle.ride_model.specs.Text.{IsSpelledCommand}
 use Rattle.text_page.specs.Output.{HasPut}
@@ -8,7 +10,7 @@ use Rattle.booking_desk.specs.BookText.{request_line, released_text}
 use Rattle.booking_desk.specs.Desk.{Booking, IsRequest, due_of, is_due}
 use Rattle.booking_desk.specs.FeedDesk.{AreSpelled, IsSpelledBooking}
 use Rattle.booking_desk.proofs.BookedLines.{due-step}
-use Rattle.booking_desk.proofs.Due.{booking-of, found-holds_so, none-of, release-done, release-step}
+use Rattle.booking_desk.proofs.Due.{booking-of, none-of, release-done, release-step}
 use Rattle.booking_desk.proofs.feed_desk.release_due.Goals as goal
 
 pub loop-request-init : goal.loop-request-init
@@ -30,13 +32,15 @@ pub put_request-requires-clause-request : goal.put_request-requires-clause-reque
 put_request-requires-clause-request g c κs longer =
     let (b, due, is) = booking-of (due_of c.loop-request.desk) c.in-Some.request (sym c.due.ensures ∙ c.in-Some.is) in
     subst IsRequest is
-    (found-holds_so IsSpelledBooking (is_due c.loop-request.desk.clock) c.loop-request.desk.held b c.loop-request.invariant.spelled due).request
+    (of_each IsSpelledBooking c.loop-request.desk.held b c.loop-request.invariant.spelled
+    (found_among (is_due c.loop-request.desk.clock) c.loop-request.desk.held b due).0).request
 
 pub put_request-requires-clause-spelled : goal.put_request-requires-clause-spelled
 put_request-requires-clause-spelled g c κs longer =
     let (b, due, is) = booking-of (due_of c.loop-request.desk) c.in-Some.request (sym c.due.ensures ∙ c.in-Some.is) in
     subst (λ (r : Command). IsSpelledCommand 2 r) is
-    (found-holds_so IsSpelledBooking (is_due c.loop-request.desk.clock) c.loop-request.desk.held b c.loop-request.invariant.spelled due).spelled
+    (of_each IsSpelledBooking c.loop-request.desk.held b c.loop-request.invariant.spelled
+    (found_among (is_due c.loop-request.desk.clock) c.loop-request.desk.held b due).0).spelled
 
 pub loop-request-preserved : goal.loop-request-preserved
 loop-request-preserved g c =

@@ -1,11 +1,12 @@
 use Rattle.std.proofs.Common.{◌≡◌, ℕ, sym, ap, ◌∙◌}
 use Rattle.std.specs.Prelude.{Option}
+use Rattle.std.proofs.lemmas.List.{get_or-map}
 use Rattle.plain_lemmas.proofs.Options.{none_from_not_some}
 use Rattle.ride_model.specs.declared.vehicle.Vehicle.{Vehicle}
 use Rattle.ride_model.specs.Seating.{vehicle_ids}
 use Rattle.dual_check.specs.Grid.{price_at}
 use Rattle.hungarian.specs.Seats.{pay_at}
-use Rattle.hungarian.proofs.Gathering.{gathered-some, gathered-none, id-read}
+use Rattle.hungarian.proofs.Gathering.{gathered-some, gathered-none}
 use Rattle.hungarian.proofs.seating.pays_by.Goals as goal
 use Rattle.hungarian.proofs.seating.pays_by.Goals.{in-Some+in_ok-push, in_default}
 
@@ -16,8 +17,7 @@ loop-column-preserved c =
     let ids = vehicle_ids c.args.vehicles.now in
     let amounts = c.args.amounts.now in
     let f : ℕ → Option (ℕ × ℕ) = λ k. pay_at (price_at ids k) (price_at amounts k) in
-    let id_is = id-read (λ (v : Vehicle). v.id) c.args.vehicles.now column c.index-vehicles-column.result
-    c.loop-column-test.true c.index-vehicles-column.is in
+    let id_is = sym (get_or-map (λ (v : Vehicle). v.id) c.args.vehicles.now column c.index-vehicles-column.result 0 c.loop-column-test.true) in
     let here : c.pay_at.result ≡ f column = c.pay_at.ensures ∙ ap (λ id. pay_at id (price_at amounts column)) id_is in
     elim c.match-pay_at.branch [
       | in-Some+in_ok-push w ↦ ap (λ v. v.items) w.pays-is ∙ w.in_ok-push.ensures.items

@@ -2,10 +2,9 @@ use Rattle.std.proofs.Common.{ℕ, ◌∷◌, ◌++◌, [], refl, ap, sym, subst
 use Rattle.std.specs.Prelude.{string_bytes}
 use Rattle.ride_ports.specs.Contents.{given_back}
 use Rattle.ride_ports.specs.Count.{Rose}
-use Rattle.ride_dispatch.proofs.Bringing.{left-of, left-of-content}
 use Rattle.ride_dispatch.proofs.Statuses.{ran-possible, sink-status, source-status, whole-status}
 use Rattle.ride_dispatch.proofs.Told.{replay-of-content, told-taken}
-use Rattle.ride_dispatch.proofs.Works.{all-brought, first-missing, rose-above, spent-alone}
+use Rattle.ride_dispatch.proofs.Works.{first-missing, rose-above, one-brought}
 use Rattle.ride_dispatch.proofs.replaying.replay_feed.Goals as goal
 
 pub returns-in_default-clause-work : goal.returns-in_default-clause-work
@@ -19,34 +18,20 @@ returns-clause-work g c =
     let ran = c.answer_feed-ran.result in
     let possible = ran-possible ran in
     let source = given_back (g.H.Src.Source.faults c.answer_feed-ran.new.feed) (g.H.Src.Source.left c.answer_feed-ran.new.feed) in
-    all-brought (string_bytes c.args.name ∷ []) _ _ _ _ c.status.result (omega arith) (record {
-      sources = source ∷ [];
+    one-brought (string_bytes c.args.name) _ _ _ source _ c.status.result (record {
       asked_is = c.give_back.ensures.asked_stays ∙ c.in-Ok.ensures.asked;
       back_is = c.give_back.ensures.kept ∙ ap (λ back. back ++ source ∷ []) c.in-Ok.ensures.back_stays;
-      in_order = (
-        (
-          log.0,
-          left-of-content (g.H.Shelf.contents c.args.shelf.now) (string_bytes c.args.name) (g.H.Src.Source.left c.in-Ok.feed) source log.0 c.in-Ok.ensures.bytes
-              (left-of (g.H.Src.Source.left c.in-Ok.feed) source log.0 log.2),
-        ),
-        tt,
-      );
       brought_is = c.give_back.ensures.brought_stays ∙ c.in-Ok.ensures.counted;
-      all = refl;
-      all_read = λ zero.
-          let whole = whole-status ran (sym c.status.ensures ∙ zero) in
-          spent-alone source (record {
-            no_fault = c.answer_feed-ran.ensures.source_counts_none whole.read.0 ∙ c.in-Ok.ensures.unharmed;
-            to_end = c.answer_feed-ran.ensures.to_end whole.memory whole.read;
-          });
-      counts_none = λ zero.
-          let whole = whole-status ran (sym c.status.ensures ∙ zero) in (
-            c.give_back.ensures.sound_counts_none (c.answer_feed-ran.ensures.source_counts_none whole.read.0 ∙ c.in-Ok.ensures.unharmed) ∙ c.in-Ok.ensures.ok_counts_none,
-            c.answer_feed-ran.ensures.sink_counts_none whole.sink,
-          );
-      shelf_fault = λ five. subst (λ (k : ℕ). Rose k (g.H.Shelf.faults c.give_back.new.self)) c.in-Ok.ensures.ok_counts_none
-          (c.give_back.ensures.fault_rises (rose-above _ _ c.in-Ok.ensures.unharmed
-          (c.answer_feed-ran.ensures.source_fault (source-status ran (sym c.status.ensures ∙ five)))));
+      came = g.H.Src.Source.left c.in-Ok.feed;
+      content = c.in-Ok.ensures.bytes;
+      taken = log.0;
+      reads = log.2;
+      kept = λ none. c.give_back.ensures.sound_counts_none none ∙ c.in-Ok.ensures.ok_counts_none;
+      rises = λ some. subst (λ (k : ℕ). Rose k (g.H.Shelf.faults c.give_back.new.self)) c.in-Ok.ensures.ok_counts_none (c.give_back.ensures.fault_rises some);
+      sound = λ zero. c.answer_feed-ran.ensures.source_counts_none (whole-status ran (sym c.status.ensures ∙ zero)).read.0 ∙ c.in-Ok.ensures.unharmed;
+      to_end = λ zero. let whole = whole-status ran (sym c.status.ensures ∙ zero) in c.answer_feed-ran.ensures.to_end whole.memory whole.read;
+      sink_kept = λ zero. c.answer_feed-ran.ensures.sink_counts_none (whole-status ran (sym c.status.ensures ∙ zero)).sink;
+      failed = λ five. rose-above _ _ c.in-Ok.ensures.unharmed (c.answer_feed-ran.ensures.source_fault (source-status ran (sym c.status.ensures ∙ five)));
       sink_fault = λ six. c.answer_feed-ran.ensures.sink_fault (sink-status ran (sym c.status.ensures ∙ six));
       statuses = rw c.status.ensures (possible.0, possible.2, possible.3, possible.4);
     })

@@ -20,6 +20,7 @@ use Rattle.board_core.proofs.Boards.{board-in_order, few-opened}
 use Rattle.board_core.proofs.Opened.{Opens, board-opened}
 use Rattle.board_core.proofs.board.Board.open_batch.Goals as goal
 use Rattle.board_core.proofs.board.Board.open_batch.Goals.{After-append}
+use Rattle.board_core.proofs.OpenBatches.{same_got}
 
 pub batch-requires-clause-fleet : goal.batch-requires-clause-fleet
 batch-requires-clause-fleet c = (board-in_order _ _ _ _ _ c.self.invariant).fleet_fits
@@ -93,9 +94,6 @@ returns-clause-no_entry c = λ none. absurd (none c.in_ok-batch.batch refl)
 
 pub returns-clause-open_now : goal.returns-clause-open_now
 returns-clause-open_now c = λ batch is.
-    subst (λ b. IsOpenBatch c.args.self.now.desks (state_of (with_items c c.append.new.history.items)) b) (same_batch c.in_ok-batch.batch batch is)
+    subst (λ b. IsOpenBatch c.args.self.now.desks (state_of (with_items c c.append.new.history.items)) b) (same_got c.in_ok-batch.batch batch is)
     (subst (λ (b : Recorded). IsOpenBatch b.desks (state_of (with_items c c.append.new.history.items)) c.in_ok-batch.batch) c.self.view_is
     (subst (λ items. IsOpenBatch c.self.inside.desks (state_of (with_items c items)) c.in_ok-batch.batch) (items-are c) (opens c).open_now))
-  where
-    same_batch : (a b : BatchCopy) → ◌≡◌ {A = Result Opening AllocError} (Ok (Batch a)) (Ok (Batch b)) → a ≡ b
-    same_batch a b e = cc e

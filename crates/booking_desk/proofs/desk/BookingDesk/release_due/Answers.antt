@@ -2,6 +2,8 @@ use Rattle.std.proofs.Common.{◌≡◌, ◌∷◌, Option, Some, None, refl, sy
 use Rattle.std.specs.Prelude.{IfSome}
 use Rattle.std.proofs.lemmas.Result.{err_from_is_err_and}
 use Rattle.plain_lemmas.proofs.Options.{none_from_not_some}
+use Rattle.plain_lemmas.proofs.Among.{found_among}
+use Rattle.plain_lemmas.proofs.Each.{of_all}
 use Rattle.ride_model.specs.declared.command.Actor.TheVariants.{Feed}
 use Rattle.ride_model.specs.declared.command.Command.{Command}
 use Rattle.ride_model.specs.declared.entry.Event.TheVariants.{Fed}
@@ -10,7 +12,7 @@ use Rattle.turn_lock.specs.Passes.{knowledge}
 use Rattle.fleet_board.specs.Passes.{AddsEntry, Known, root_of}
 use Rattle.booking_desk.specs.Desk.{Booking, due_of, is_due}
 use Rattle.booking_desk.proofs.Due.{booking-of, none-of}
-use Rattle.booking_desk.proofs.Releasing.{all-released, found-holds, releases-more, releases-none, some-released, submitted-none}
+use Rattle.booking_desk.proofs.Releasing.{all-released, releases-more, releases-none, some-released, submitted-none}
 use Rattle.booking_desk.proofs.desk.BookingDesk.release_due.Goals as goal
 
 pub loop-request-init : goal.loop-request-init
@@ -25,7 +27,7 @@ submit-requires-clause-spelled g c =
     let (b, due, is) = booking-of (due_of c.loop-request.self) c.in-Some.request (sym c.due.ensures ∙ c.in-Some.is) in
     let P : Booking → Type 0 = λ x. IsSpelledCommand (root_of (knowledge c.loop-request.pass)).start.settings.log x.request in
     subst (λ (r : Command). IsSpelledCommand (root_of (knowledge c.loop-request.pass)).start.settings.log r) is
-    (found-holds P (is_due c.loop-request.self.clock) c.loop-request.self.held b so_far.spelled due)
+    (of_all P c.loop-request.self.held b so_far.spelled (found_among (is_due c.loop-request.self.clock) c.loop-request.self.held b due).0)
 
 pub returns-in_err-submit-clause-released : goal.returns-in_err-submit-clause-released
 returns-in_err-submit-clause-released g c =

@@ -1,8 +1,8 @@
 use Rattle.std.proofs.Common.{Bool, Err, sym, subst}
 use Rattle.turn_lock.specs.Passes.{knowledge}
-use Rattle.session_run.proofs.Scribing.{adds_none-same}
 use Rattle.session_run.proofs.ScribeRuns.{Told, told, untold}
 use Rattle.session_run.proofs.live.actors.run_scribe.Goals as goal
+use Rattle.fleet_board.proofs.Looking.{adds_none-same}
 
 pub returns-then-head_failed : goal.returns-then-head_failed
 returns-then-head_failed g c =

@@ -8,8 +8,9 @@ use Rattle.board_core.specs.declared.opening.Opening.TheVariants.{Idle}
 use Rattle.fleet_board.specs.Openings.{OpensBatch, OpensNone}
 use Rattle.fleet_board.specs.Passes.{Known}
 use Rattle.fleet_board.proofs.MayEnd.{desk-may_end}
+use Rattle.fleet_board.proofs.Looking.{root-stays}
 use Rattle.session_run.proofs.BatchRuns.{batches-none, batch-then, batches-same, batches-wanting}
-use Rattle.session_run.proofs.MadeEntries.{root-added, root-same}
+use Rattle.session_run.proofs.MadeEntries.{root-added}
 use Rattle.session_run.proofs.live.desks.run_batches.Goals as goal
 
 -- none was opened yet
@@ -39,7 +40,7 @@ batches-preserved-in-Ok-Batch g c =
       finite = tt;
       desk = c.close_batch.ensures.desk;
       roads = ap (λ (r : Recorded). r.start.roads) (root-added opened after closes.entry closes.adds ∙ root-added met opened _ opens.entry
-          ∙ root-same before met c.meet.ensures.none)
+          ∙ root-stays before met c.meet.ensures.none)
           ∙ c.batches.invariant.roads ∙ sym (c.close_batch.ensures.pricer ∙ c.meet.ensures.pricer);
       kept = c.close_batch.ensures.scratches ∙ c.batches.invariant.kept;
       some_scratch = subst (λ (s : List Room). 1 ≤ length s) (sym c.close_batch.ensures.scratches) c.batches.invariant.some_scratch;
@@ -67,7 +68,7 @@ batches-preserved g c =
         desk = c.open_batch.ensures.desk;
         none_open = none.none_open;
       };
-      roads = ap (λ (r : Recorded). r.start.roads) (root-same met looked none.none ∙ root-same before met c.meet.ensures.none)
+      roads = ap (λ (r : Recorded). r.start.roads) (root-stays met looked none.none ∙ root-stays before met c.meet.ensures.none)
           ∙ c.batches.invariant.roads ∙ sym c.meet.ensures.pricer;
       kept = c.batches.invariant.kept;
       some_scratch = c.batches.invariant.some_scratch;

@@ -5,8 +5,9 @@ use Rattle.ride_model.specs.declared.entry.Entry.{Entry}
 use Rattle.ride_model.specs.Text.{entry_lines}
 use Rattle.turn_lock.specs.Passes.{knowledge}
 use Rattle.text_page.proofs.OutputLemmas.{rose-where-failed, same-where-sound}
-use Rattle.session_run.proofs.Scribing.{adds_none-then, cut-short, has-scribed, has-scribed-some, looks-of, never_whole, next-lines, next-within, none-next, scribing-on, scribing-still, scribing-told}
+use Rattle.session_run.proofs.Scribing.{cut-short, has-scribed, has-scribed-some, looks-of, never_whole, next-lines, next-within, none-next, scribing-on, scribing-still, scribing-told}
 use Rattle.session_run.proofs.live.scribes.scribe_loop.Goals as goal
+use Rattle.fleet_board.proofs.Looking.{adds_none-then}
 
 pub put_tail-requires-clause-have_lines : goal.put_tail-requires-clause-have_lines
 put_tail-requires-clause-have_lines g c κs within =
