@@ -24,26 +24,6 @@ use Rattle.fleet_league.specs.declared.quotes.Quote.{Quote}
 use Rattle.fleet_league.specs.Prices.{IsNewRide, prices_of}
 use Rattle.league_trials.specs.OneVehicle.{IsNewCompany, IsOneVehicle, IsOneVehicleFleet, IsQuoteOf, IsTownNode, IsTownRide, one_price, won_alone}
 
--- a ride of one rider between two nodes of the town
-pub town-ride : (id from to : ℕ) → IsSpelled id → IsTownNode from → IsTownNode to → from ≢ to
-    → IsTownRide (record { id = id; from = from; to = to; seats = 1; chairs = 0; latest = 600; longest = 300; picked = None })
-town-ride id from to spelled starts ends differ = record {
-  fits = λ roads nodes. record {
-    from_node = (starts.0, omega (arith, starts.1, nodes));
-    to_node = (ends.0, omega (arith, ends.1, nodes));
-    nodes_differ = differ;
-    seats_limit = omega arith;
-    chairs_limit = omega arith;
-    some_load = omega arith;
-    latest_limit = omega arith;
-    some_seconds = omega arith;
-    longest_limit = omega arith;
-  };
-  waits = refl;
-  spelled = spelled;
-  no_chairs = refl;
-}
-
 -- the one cell of a grid
 pub one-cell : (price : ℕ) (prices : GridCells) → prices.rows ≡ 1 → prices.columns ≡ 1 → length prices.cells ≡ 1
     → cell_at prices 0 0 ≡ Some price → prices ≡ one_price price

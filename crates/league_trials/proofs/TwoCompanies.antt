@@ -18,15 +18,3 @@ part-is = record {
     same zero zero _ _ = refl
     same zero (suc column) _ low = absurd (omega (arith, low))
     same (suc row) column low _ = absurd (omega (arith, low))
-
-pub own-is : IsRestrictedTo first_company round.columns round.prices round.pays own.columns own.prices own.pays
-own-is = record {
-  columns_kept = record { one_each = refl; same_column = same };
-  prices_kept = refl;
-  pays_kept = refl;
-}
-  where
-    same : (row : ℕ) → row < 1 → (column : ℕ) × (column < 1) × (column_of own.columns row ≡ Some column)
-        × (column_of round.columns (slice_index (1 ∷ []) row) ≡ Some (slice_index (0 ∷ []) column))
-    same zero _ = (0, omega arith, refl, refl)
-    same (suc row) low = absurd (omega (arith, low))

@@ -18,7 +18,7 @@ use Rattle.ride_model.specs.Vehicle.{IsRide, IsFresh, IsLawful, HasLegs, ride_id
 use Rattle.plain_lemmas.proofs.Among.{Among, among_from_contains, among_map_back}
 use Rattle.plain_lemmas.proofs.Each.{of_each, of_all}
 use Rattle.model_laws.proofs.Insertions.{inserted_facts}
-use Rattle.model_laws.proofs.PlanStops.{stop-of-ride}
+use Rattle.model_laws.proofs.PlanStops.{stop-of-ride, stop-at-node}
 use Rattle.stop_plans.specs.Change.{InsertsInto}
 use Rattle.plan_trials.specs.SmallPlans.{four_nodes}
 use Rattle.plan_trials.proofs.SmallPlans.{map_fits}
@@ -27,7 +27,7 @@ use Rattle.plan_trials.proofs.LineRoad.{travel-in-line, a_ride}
 use Rattle.insertion.specs.Asked.{near_stop, IsAsked}
 use Rattle.plan_trials.specs.NearInLine.{near_stop_in_line, near_in_line, are_settings}
 use Rattle.model_laws.proofs.FewRides.{few-rides}
-use Rattle.insertion.proofs.OfferLaws.{ArePlaces, are-places, length-inserted, new-routed}
+use Rattle.insertion.proofs.OfferLaws.{ArePlaces, are-places, length-inserted, new-routed, goes-into}
 use Rattle.plan_trials.proofs.NearInLine.{settings_fit}
 
 -- what is known of a vehicle with a ride more
@@ -63,19 +63,8 @@ takes-ride roads settings v ride near time offer asked is =
         let (few, loads) = keeps-parts new (start_of v settings.lead time) settings.dwell kept in
         let more = length-inserted roads v ride offer.i offer.j new places made in
         let room : length v.stops.items ≤ 14 = omega (arith, few, more) in
-        let into : InsertsInto roads v ride offer new = record {
-          map_fits = asked.map_fits;
-          lawful = asked.lawful;
-          ride_fits = asked.ride_fits;
-          waits = asked.waits;
-          fresh = asked.fresh;
-          stops_room = room;
-          rides_room = omega (arith, room, few-rides v.rides.items v.stops.items asked.lawful.routed.planned);
-          in_order = places.in_order;
-          in_range = places.in_range;
-          inserted_is = made;
-          joins_are = same_joins _ _ some;
-        } in
+        let into : InsertsInto roads v ride offer new
+        = goes-into roads settings v ride near time offer new asked places room made (same_joins _ _ some) in
         let facts = inserted_facts roads v ride offer.i offer.j new made in
         record {
           new = new;
@@ -95,16 +84,6 @@ takes-ride roads settings v ride near time offer asked is =
     by_places false may none = absurd (cc none)
     by_places true may some =
         by_new (are-places v time offer.i offer.j may) (inserted roads v ride offer.i offer.j) refl some
-
--- the stops of a lawful vehicle are at nodes
-stop-at-node : (roads : RoadMap) (v : Vehicle) (stop : Stop) → IsLawful roads v → Among stop v.stops.items → IsNode roads stop.node
-stop-at-node roads v stop lawful there =
-    let (ride, among, node) = stop-of-ride v.rides.items v.stops.items stop lawful.routed.planned there in
-    let fits = of_all (IsRide roads) v.rides.items ride lawful.routed.rides_fit among in
-    elim node [
-      | inl from ↦ subst (IsNode roads) (sym from) fits.from_node
-      | inr to ↦ subst (IsNode roads) (sym to) fits.to_node
-    ]
 
 near-stops : (ride : Ride) (stops : List Stop) → IsNode four_nodes ride.from → IsNode four_nodes ride.to
     → ((stop : Stop) → Among stop stops → IsNode four_nodes stop.node)
@@ -157,29 +136,3 @@ pub earlier-next : (rides : List Ride) (ride : Ride) (next : ℕ) → All (λ (r
 earlier-next rides ride next earlier is =
     All-append (λ (r : Ride). r.id < next + 1) rides (ride ∷ []) (earlier-more rides next earlier)
     (All-from_recursion (λ (r : Ride). r.id < next + 1) (ride ∷ []) (omega (arith, is), tt))
-
--- an idle vehicle at a node is lawful
-pub idle-lawful : (v : Vehicle) → v.rides.items ≡ [] → v.stops.items ≡ [] → 1 ≤ v.seats → v.seats ≤ 16 → v.chairs ≤ 4 → 1 ≤ v.at → v.at ≤ 4
-    → v.ready ≤ 1000003600 → IsLawful four_nodes v
-unfolding IsDistinct
-idle-lawful v no_rides no_stops some seats chairs first last ready = record {
-  routed = record {
-    some_seat = some;
-    seats_limit = seats;
-    chairs_limit = chairs;
-    at_node = (first, last);
-    ready_limit = ready;
-    rides_fit = subst (All (IsRide four_nodes)) (sym no_rides) (All-nil (IsRide four_nodes));
-    picked_before = subst (All (λ (ride : Ride). IfSome ride.picked (λ picked. picked ≤ v.ready))) (sym no_rides) (All-nil _);
-    planned = rw (no_rides, no_stops) (record {
-      ids_differ = tt;
-      each_ride = All-nil _;
-      each_stop = All-nil _;
-    });
-    legs = subst (HasLegs four_nodes v.at) (sym no_stops) tt;
-  };
-  loads = rw (no_rides, no_stops) (leb-and v.seats v.chairs);
-}
-  where
-    leb-and : (seats chairs : ℕ) → ((leb 0 seats && leb 0 chairs) && true) ≡ true
-    leb-and seats chairs = rw (le-leb 0 seats (omega arith), le-leb 0 chairs (omega arith)) refl

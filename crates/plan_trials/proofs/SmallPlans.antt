@@ -162,6 +162,3 @@ pooling_is_undone = record {
   first_is = refl;
   second_is = refl;
 }
-
-pub somewhere : {v : Vehicle} → IsLawful four_nodes v → IsLawfulSomewhere v
-somewhere lawful = (four_nodes, map_fits, lawful)

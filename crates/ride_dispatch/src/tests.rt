@@ -31,21 +31,25 @@ use std::thread::Threads;
 use texts::Part;
 
 /// Four nodes in a line, a minute between neighbors.
-const LINE: &[Part] = &[Part::Text(
-    "p sp 4 6\n\
+const LINE_TEXT: &str = "p sp 4 6\n\
 a 1 2 60\n\
 a 2 1 60\n\
 a 2 3 60\n\
 a 3 2 60\n\
 a 3 4 60\n\
-a 4 3 60\n",
-)];
+a 4 3 60\n";
+
+const LINE: &[Part] = &[Part::Text(LINE_TEXT)];
 
 /// The defaults, and one vehicle of two seats at node 1.
-const DEFAULTS: &[Part] = &[Part::Text("vehicle 1 2 1 0\n")];
+const DEFAULTS_TEXT: &str = "vehicle 1 2 1 0\n";
+
+const DEFAULTS: &[Part] = &[Part::Text(DEFAULTS_TEXT)];
 
 /// The same with batches of one request.
-const ONE_BY_ONE: &[Part] = &[Part::Text("set batch 1\nvehicle 1 2 1 0\n")];
+const ONE_BY_ONE_TEXT: &str = "set batch 1\nvehicle 1 2 1 0\n";
+
+const ONE_BY_ONE: &[Part] = &[Part::Text(ONE_BY_ONE_TEXT)];
 
 /// One request, and a batch of it.
 const FEED: &str = "request 7 2 4 1 600 300\nbatch\n";
@@ -126,6 +130,16 @@ impl<'a> Setup<'a> {
             ROOM,
         )
         .with_log(File::whole(log))
+    }
+
+    /// The files of the worked request, and its log.
+    fn worked() -> Setup<'a> {
+        Setup::whole(
+            LINE_TEXT.as_bytes(),
+            ONE_BY_ONE_TEXT.as_bytes(),
+            FEED.as_bytes(),
+            LOG.as_bytes(),
+        )
     }
 
     fn with_drivers(self, drivers: File<'a>) -> Setup<'a> {

@@ -1,8 +1,8 @@
 // Maps that are contracted to the last node.
 ghost use Rattle.std.specs.Prelude.{◌≡◌};
 
+use super::maps::network;
 use contraction::*;
-use ride_model::{Network, RoadArc};
 use std::alloc::Global;
 use std::process::Abort;
 use std::test::Fail;
@@ -30,28 +30,6 @@ const TANGLE: [(u32, u32, u32); 9] = [
     (2, 1, 6),
 ];
 
-fn network(
-    rt: &impl Abort,
-    alloc: Global,
-    nodes: u32,
-    arcs: &[(u32, u32, u32)],
-) -> Result<Network, NoMemory> {
-    assert!(rt; 1 <= nodes && nodes <= Network::MOST_NODES);
-    assert!(rt; arcs.len() <= 2_000_000);
-    let mut list = Vec::new(alloc);
-    for (tail, head, seconds) in arcs {
-        assert!(rt; 1 <= *tail && *tail <= nodes);
-        assert!(rt; 1 <= *head && *head <= nodes);
-        assert!(rt; *seconds <= Network::MOST_SECONDS);
-        list.push(RoadArc {
-            tail: *tail,
-            head: *head,
-            seconds: *seconds,
-        })?;
-    }
-    Ok(Network::new(nodes, list))
-}
-
 // Contracts little by little, until nothing is left.
 fn contract_by_steps(contraction: &mut Contraction) -> Result<bool, NoMemory> {
     for _ in 0..1000 {
@@ -60,6 +38,18 @@ fn contract_by_steps(contraction: &mut Contraction) -> Result<bool, NoMemory> {
         }
     }
     Ok(false)
+}
+
+// Nothing is left of a contraction, which has a level for each node and the arcs at least.
+fn expect_spent(rt: &impl Abort, contraction: &Contraction, nodes: u32, arcs: usize) {
+    assert!(rt; contraction.is_spent());
+    assert_eq!(rt; contraction.order().len(), nodes as usize);
+    assert_eq!(rt; contraction.nodes(), nodes);
+    assert_eq!(rt; contraction.levels().len(), nodes as usize + 1);
+    let links = contraction.links();
+    assert!(rt; links > 0 && links >= arcs);
+    let last = contraction.link(links - 1);
+    assert!(rt; last.tail <= nodes && last.head <= nodes);
 }
 
 fn expect_contracted(
@@ -71,15 +61,9 @@ fn expect_contracted(
     let map = network(rt, alloc, nodes, arcs)?;
     let mut contraction = Contraction::new(alloc, &map)?;
     assert!(rt; contraction.order().is_empty() && !contraction.is_spent());
-    assert!(rt; contract_by_steps(&mut contraction)?);
-    assert!(rt; contraction.is_spent());
-    assert_eq!(rt; contraction.order().len(), nodes as usize);
-    assert_eq!(rt; contraction.nodes(), nodes);
-    assert_eq!(rt; contraction.levels().len(), nodes as usize + 1);
-    let links = contraction.links();
-    assert!(rt; links > 0 && links >= arcs.len());
-    let last = contraction.link(links - 1);
-    assert!(rt; last.tail <= nodes && last.head <= nodes);
+    let is_over = contract_by_steps(&mut contraction)?;
+    assert!(rt; is_over);
+    expect_spent(rt, &contraction, nodes, arcs.len());
     Ok(())
 }
 

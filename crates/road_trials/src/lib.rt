@@ -15,6 +15,8 @@ mod links;
 #[cfg(test)]
 mod locks;
 #[cfg(test)]
+mod maps;
+#[cfg(test)]
 mod queues;
 #[cfg(test)]
 mod requests;

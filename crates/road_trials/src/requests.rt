@@ -6,6 +6,7 @@ ghost use Rattle.road_trials.specs.SmallRequests.{row_ride, row_request};
 use request_book::RequestBook;
 use ride_model::{NoMemory, RequestState, Ride};
 use std::alloc::Global;
+use std::process::Abort;
 use std::test::Fail;
 
 fn ride(id: u64) -> Ride
@@ -33,13 +34,20 @@ fn three_requests(alloc: Global) -> Result<RequestBook, NoMemory>
     Ok(book)
 }
 
-// The ids of the first requests that wait.
-fn first_ids(alloc: Global, book: &RequestBook, most: usize) -> Result<Vec<u64>, NoMemory> {
-    let mut ids = Vec::new(alloc);
-    for ride in book.first_waiting(alloc, most)?.as_slice() {
-        ids.push(ride.id)?;
+// The first requests that wait, or fewer, have these ids.
+fn expect_first(
+    rt: &impl Abort,
+    alloc: Global,
+    book: &RequestBook,
+    most: usize,
+    ids: &[u64],
+) -> Result<(), Fail> {
+    let waiting = book.first_waiting(alloc, most)?;
+    assert_eq!(rt; waiting.len(), ids.len(), "{ids:?}");
+    for (ride, id) in waiting.as_slice().iter().zip(ids) {
+        assert_eq!(rt; ride.id, *id, "{ids:?}");
     }
-    Ok(ids)
+    Ok(())
 }
 
 #[test]
@@ -49,13 +57,9 @@ fn requests_wait_in_order_of_acceptance(rt: HostRuntime) -> Result<(), Fail> {
     assert_eq!(rt; book.len(), 3);
     assert_eq!(rt; book.state(7), Some(RequestState::Waiting));
     assert_eq!(rt; book.state(4), None);
-    assert_eq!(rt; first_ids(alloc, &book, 2)?.as_slice(), [5, 7].as_slice());
-    assert_eq!(rt;
-        first_ids(alloc, &book, 9)?.as_slice(),
-        [5, 7, 3].as_slice()
-    );
-    assert_eq!(rt; first_ids(alloc, &book, 0)?.len(), 0);
-    Ok(())
+    expect_first(&rt, alloc, &book, 2, &[5, 7])?;
+    expect_first(&rt, alloc, &book, 9, &[5, 7, 3])?;
+    expect_first(&rt, alloc, &book, 0, &[])
 }
 
 #[test]
@@ -64,15 +68,11 @@ fn a_request_that_waits_again_keeps_its_place(rt: HostRuntime) -> Result<(), Fai
     let mut book = three_requests(alloc)?;
     book.set_state(5, RequestState::InBatch(1));
     book.set_state(7, RequestState::InBatch(1));
-    assert_eq!(rt; first_ids(alloc, &book, 9)?.as_slice(), [3].as_slice());
+    expect_first(&rt, alloc, &book, 9, &[3])?;
     book.set_state(7, RequestState::Waiting);
-    assert_eq!(rt; first_ids(alloc, &book, 9)?.as_slice(), [7, 3].as_slice());
+    expect_first(&rt, alloc, &book, 9, &[7, 3])?;
     book.set_state(5, RequestState::Waiting);
-    assert_eq!(rt;
-        first_ids(alloc, &book, 9)?.as_slice(),
-        [5, 7, 3].as_slice()
-    );
-    Ok(())
+    expect_first(&rt, alloc, &book, 9, &[5, 7, 3])
 }
 
 #[test]
@@ -88,10 +88,7 @@ fn what_becomes_of_a_request(rt: HostRuntime) -> Result<(), Fail> {
         book.set_state(7, state);
         assert_eq!(rt; book.state(7), Some(state));
         assert_eq!(rt; book.state(5), Some(RequestState::Waiting));
-        assert_eq!(rt;
-            first_ids(rt.alloc(), &book, 9)?.as_slice(),
-            [5, 3].as_slice()
-        );
+        expect_first(&rt, rt.alloc(), &book, 9, &[5, 3])?;
     }
     book.set_state(8, RequestState::Done);
     assert_eq!(rt; book.state(8), None);

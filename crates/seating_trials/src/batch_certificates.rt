@@ -188,32 +188,20 @@ fn one_vehicle_and_two_requests(rt: HostRuntime) -> Result<(), Fail> {
 
 #[test]
 fn each_request_has_a_price_and_no_vehicle_pays_nothing(rt: HostRuntime) -> Result<(), Fail> {
-    let alloc = rt.alloc();
-    let costs = [Some(180), None, None, None];
+    // The first pair's cost, the seated places, the prices and what vehicles pay.
     let seated = [(0, 0)].as_slice();
-    let prices = [(7, 180), (8, 3600)].as_slice();
-    assert!(rt; answer(alloc, 7, costs, seated, prices, [].as_slice())?);
-    assert!(rt; !answer(alloc, 7, costs, seated, prices, [(1, 0)].as_slice())?);
-    assert!(rt;
-        !answer(
-            alloc,
-            7,
-            costs,
-            seated,
-            [(7, 180)].as_slice(),
-            [].as_slice()
-        )?
-    );
-    assert!(rt;
-        answer(
-            alloc,
-            7,
-            [None; 4],
-            [].as_slice(),
-            [(7, 3600), (8, 3600)].as_slice(),
-            [].as_slice()
-        )?
-    );
+    let both = [(7, 180), (8, 3600)].as_slice();
+    let cases = [
+        (Some(180), seated, both, [].as_slice(), true),
+        (Some(180), seated, both, &[(1, 0)], false),
+        (Some(180), seated, &both[..1], &[], false),
+        (None, &seated[..0], &[(7, 3600), (8, 3600)], &[], true),
+    ];
+    for (cost, places, prices, pays, certified) in cases {
+        let costs = [cost, None, None, None];
+        let is_certified = answer(rt.alloc(), 7, costs, places, prices, pays)?;
+        assert_eq!(rt; is_certified, certified, "{prices:?} {pays:?}");
+    }
     Ok(())
 }
 

@@ -114,88 +114,52 @@ fn greedy_is_dearer(rt: HostRuntime) -> Result<(), Fail> {
 
 #[test]
 fn a_price_is_at_most_the_penalty(rt: HostRuntime) -> Result<(), Fail> {
-    let mut grid = Grid::new(rt.alloc(), 1, 1)?;
-    let alloc = rt.alloc();
-    let none = [None].as_slice();
-    let first = [Some(0)].as_slice();
-    assert!(rt; answer(alloc, &grid, 100, none, [100].as_slice(), [0].as_slice())?);
-    assert!(rt; !answer(alloc, &grid, 100, first, [0].as_slice(), [0].as_slice())?);
-    grid.set(0, 0, 180);
-    assert!(rt; !answer(alloc, &grid, 100, none, [180].as_slice(), [80].as_slice())?);
-    grid.set(0, 0, MOST);
-    assert!(rt; answer(alloc, &grid, MOST, first, [MOST].as_slice(), [0].as_slice())?);
-    let greatest = [u64::MAX].as_slice();
-    assert!(rt;
-        answer(
-            alloc,
-            &grid,
+    // The cell's amount, the penalty, the row's column and its price, what the column pays.
+    let cases = [
+        (None, 100, None, 100, 0, true),
+        (None, 100, Some(0), 0, 0, false),
+        (Some(180), 100, None, 180, 80, false),
+        (Some(MOST), MOST, Some(0), MOST, 0, true),
+        (
+            Some(MOST),
             u64::MAX,
-            first,
-            greatest,
-            [u64::MAX - MOST].as_slice()
-        )?
-    );
-    assert!(rt; !answer(alloc, &grid, u64::MAX, none, greatest, greatest)?);
+            Some(0),
+            u64::MAX,
+            u64::MAX - MOST,
+            true,
+        ),
+        (Some(MOST), u64::MAX, None, u64::MAX, u64::MAX, false),
+    ];
+    for (amount, penalty, column, price, pay, certified) in cases {
+        let mut grid = Grid::new(rt.alloc(), 1, 1)?;
+        if let Some(amount) = amount {
+            assert!(rt; amount <= MOST);
+            grid.set(0, 0, amount);
+        }
+        let is_certified = answer(rt.alloc(), &grid, penalty, &[column], &[price], &[pay])?;
+        assert_eq!(rt; is_certified, certified, "{amount:?} {price}");
+    }
     Ok(())
 }
 
 #[test]
 fn empty_grids_and_lists_of_other_lengths(rt: HostRuntime) -> Result<(), Fail> {
-    let alloc = rt.alloc();
-    let nobody = Grid::new(alloc, 0, 2)?;
-    assert!(rt;
-        answer(
-            alloc,
-            &nobody,
-            0,
-            [].as_slice(),
-            [].as_slice(),
-            [0, 0].as_slice()
-        )?
-    );
-    assert!(rt;
-        !answer(
-            alloc,
-            &nobody,
-            0,
-            [].as_slice(),
-            [].as_slice(),
-            [1, 0].as_slice()
-        )?
-    );
-    assert!(rt;
-        !answer(
-            alloc,
-            &nobody,
-            0,
-            [].as_slice(),
-            [].as_slice(),
-            [0].as_slice()
-        )?
-    );
-    let nothing = Grid::new(alloc, 2, 0)?;
+    // The rows and columns of a grid without amounts, the penalty, the columns, prices and payments.
     let none = [None, None].as_slice();
-    assert!(rt; answer(alloc, &nothing, 7, none, [7, 7].as_slice(), [].as_slice())?);
-    assert!(rt; answer(alloc, &nothing, 0, none, [0, 0].as_slice(), [].as_slice())?);
-    assert!(rt;
-        !answer(
-            alloc,
-            &nothing,
-            7,
-            none,
-            [7, 7, 0].as_slice(),
-            [].as_slice()
-        )?
-    );
-    assert!(rt;
-        !answer(
-            alloc,
-            &nothing,
-            7,
-            [None].as_slice(),
-            [7, 7].as_slice(),
-            [].as_slice()
-        )?
-    );
+    let cases = [
+        (0, 2, 0, &none[..0], [].as_slice(), [0, 0].as_slice(), true),
+        (0, 2, 0, &none[..0], &[], &[1, 0], false),
+        (0, 2, 0, &none[..0], &[], &[0], false),
+        (2, 0, 7, none, &[7, 7], &[], true),
+        (2, 0, 0, none, &[0, 0], &[], true),
+        (2, 0, 7, none, &[7, 7, 0], &[], false),
+        (2, 0, 7, &none[..1], &[7, 7], &[], false),
+    ];
+    for (rows, columns, penalty, pairs, prices, pays, certified) in cases {
+        assert!(rt; rows <= 2 && columns <= 2);
+        let grid = Grid::new(rt.alloc(), rows, columns)?;
+        let is_certified = answer(rt.alloc(), &grid, penalty, pairs, prices, pays)?;
+        assert_eq!(rt; is_certified, certified, "{prices:?} {pays:?}");
+    }
     Ok(())
 }

@@ -9,6 +9,7 @@ use ride_model::{
     AmountList, Fleet, Joins, NoMemory, Offer, Outcome, Ride, Seat, SeatList, Settings, Vehicle,
 };
 use std::alloc::Global;
+use std::process::Abort;
 use std::test::Fail;
 
 fn offer(cost: u64) -> Offer
@@ -38,7 +39,7 @@ fn a_cell_is_replaced_and_no_other(rt: HostRuntime) -> Result<(), Fail> {
 }
 
 #[test]
-fn an_answer_is_undecided_and_a_batch_shows_its_parts(rt: HostRuntime) -> Result<(), Fail> {
+fn a_batch_shows_its_parts(rt: HostRuntime) {
     let settings = Settings {
         batch: 32,
         penalty: 3600,
@@ -56,7 +57,10 @@ fn an_answer_is_undecided_and_a_batch_shows_its_parts(rt: HostRuntime) -> Result
     assert_eq!(rt; batch.settings().penalty, 3600);
     assert!(rt; batch.requests().is_empty());
     assert!(rt; batch.vehicles().vehicles().is_empty());
+}
 
+#[test]
+fn an_answer_is_undecided(rt: HostRuntime) -> Result<(), Fail> {
     let prices = AmountList::of([(7, 180), (8, 240)].to_vec(rt.alloc())?);
     let seating = SeatList::of(Vec::new(rt.alloc()));
     let pays = AmountList::of(Vec::new(rt.alloc()));
@@ -169,21 +173,27 @@ fn outcome(mut solved: Solved, now: u64, version: u64, cancelled: bool) -> Optio
     Some(*outcome)
 }
 
+// This is the outcome then.
+fn expect(rt: &impl Abort, solved: Solved, now: u64, version: u64, cancelled: bool, wanted: Outcome)
+    requires vehicles { vehicle_ids solved.batch.vehicles ≡ 1 ∷ [] }
+    requires requests { length solved.batch.requests ≡ 1 }
+{
+    let found = outcome(solved, now, version, cancelled);
+    assert_eq!(rt; found, Some(wanted));
+}
+
 #[test]
 fn each_outcome_comes_for_its_cause(rt: HostRuntime) -> Result<(), Fail> {
     let alloc = rt.alloc();
-    assert_eq!(rt;
-        outcome(seated(alloc, 0)?, 0, 0, false),
-        Some(Outcome::Confirmed)
-    );
     let moved = Outcome::Moved {
         named: 0,
         stands: 1,
     };
-    assert_eq!(rt; outcome(seated(alloc, 0)?, 0, 1, false), Some(moved));
-    assert_eq!(rt; outcome(seated(alloc, 0)?, 0, 0, true), Some(Outcome::Gone));
     let behind = Outcome::Behind { start: 10, now: 20 };
-    assert_eq!(rt; outcome(seated(alloc, 10)?, 20, 0, false), Some(behind));
-    assert_eq!(rt; outcome(left_out(alloc)?, 0, 0, false), Some(Outcome::Away));
+    expect(&rt, seated(alloc, 0)?, 0, 0, false, Outcome::Confirmed);
+    expect(&rt, seated(alloc, 0)?, 0, 1, false, moved);
+    expect(&rt, seated(alloc, 0)?, 0, 0, true, Outcome::Gone);
+    expect(&rt, seated(alloc, 10)?, 20, 0, false, behind);
+    expect(&rt, left_out(alloc)?, 0, 0, false, Outcome::Away);
     Ok(())
 }

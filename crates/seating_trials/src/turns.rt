@@ -11,6 +11,7 @@ use pricing_workers::{Pricer, Search, price_batch, price_batch_adapting, scratch
 use ride_model::{Fleet, Kind, NoMemory, Ride, Stop, Vehicle};
 use ride_ports::OpenGate;
 use std::alloc::Global;
+use std::process::Abort;
 use std::test::Fail;
 use std::thread::Threads;
 
@@ -123,6 +124,29 @@ fn costs(
     Ok((costs_in(&kept, more), costs_in(&fresh, more)))
 }
 
+// Both give these costs.
+fn expect(
+    rt: &(impl Threads + Sync + Abort),
+    alloc: Global,
+    pricer: &mut Pricer,
+    time: u64,
+    plan: (Car, &[Ride], &[Stop]),
+    more: bool,
+    wanted: [Option<u64>; 4],
+) -> Result<(), NoMemory>
+    requires line { pricer.old ≡ four_nodes }
+    requires soon { time ≤ 1000000000 }
+    requires few_rides { length plan.1.now ≤ 16 }
+    requires few_stops { length plan.2.now ≤ 16 }
+    requires drives { IsTrue (may_drive (vehicle_with plan.0.at plan.0.ready plan.0.seats plan.0.chairs plan.1.now plan.2.now)) }
+    ensures { pricer.new ≡ pricer.old }
+{
+    let (kept, fresh) = costs(rt, alloc, pricer, time, plan, more)?;
+    assert_eq!(rt; kept, wanted, "at {time}");
+    assert_eq!(rt; fresh, wanted, "at {time}");
+    Ok(())
+}
+
 // On its way to ride 7, with room for both others; at its pickup; with the rider at the drop-off.
 const CAR: Car = Car {
     at: 1,
@@ -150,10 +174,8 @@ fn a_pricer_keeps_nothing_that_has_changed(rt: HostRuntime) -> Result<(), Fail> 
     let mut pricer = Pricer::new(&roads);
     let stops = [stop!(Pickup, 2, 60), stop!(Dropoff, 4, 120)];
     let plan = (CAR, [SEVEN].as_slice(), stops.as_slice());
-    let found = costs(&rt, alloc, &mut pricer, 0, plan, true)?;
-    assert_eq!(rt; found, (ON_THE_WAY, ON_THE_WAY));
-    let found = costs(&rt, alloc, &mut pricer, 0, plan, true)?;
-    assert_eq!(rt; found, (ON_THE_WAY, ON_THE_WAY));
+    expect(&rt, alloc, &mut pricer, 0, plan, true, ON_THE_WAY)?;
+    expect(&rt, alloc, &mut pricer, 0, plan, true, ON_THE_WAY)?;
 
     let car = Car {
         at: 2,
@@ -162,8 +184,7 @@ fn a_pricer_keeps_nothing_that_has_changed(rt: HostRuntime) -> Result<(), Fail> 
     };
     let stops = [stop!(Pickup, 2, 0), stop!(Dropoff, 4, 120)];
     let plan = (car, [SEVEN].as_slice(), stops.as_slice());
-    let found = costs(&rt, alloc, &mut pricer, 30, plan, false)?;
-    assert_eq!(rt; found, (AT_THE_PICKUP, AT_THE_PICKUP));
+    expect(&rt, alloc, &mut pricer, 30, plan, false, AT_THE_PICKUP)?;
 
     let car = Car {
         at: 4,
@@ -172,7 +193,6 @@ fn a_pricer_keeps_nothing_that_has_changed(rt: HostRuntime) -> Result<(), Fail> 
     };
     let stops = [stop!(Dropoff, 4, 0)];
     let plan = (car, [ride!(7, 2, 4, Some(60))].as_slice(), stops.as_slice());
-    let found = costs(&rt, alloc, &mut pricer, 200, plan, true)?;
-    assert_eq!(rt; found, (AT_THE_DROPOFF, AT_THE_DROPOFF));
+    expect(&rt, alloc, &mut pricer, 200, plan, true, AT_THE_DROPOFF)?;
     Ok(())
 }

@@ -93,27 +93,23 @@ fn a_shelf_brings_two_files_and_counts_its_faults(rt: HostRuntime) -> Result<(),
             failing: &[2],
         },
     ];
+    let feed = name(rt.alloc(), "feed")?;
+    let map = name(rt.alloc(), "map")?;
+    let missing = name(rt.alloc(), "fleet")?;
+    let again = name(rt.alloc(), "map")?;
     let mut shelf = MemShelf::new(rt.alloc(), &files, &[4]);
     let mut buffer = [0; 8];
 
-    let mut feed = shelf
-        .bring(name(rt.alloc(), "feed")?)
-        .expect(&rt, "the feed");
+    let mut feed = shelf.bring(feed).expect(&rt, "the feed");
     assert_eq!(rt; feed.read(&mut buffer), Ok(2));
     assert_eq!(rt; buffer[..2], b"ba"[..]);
     assert_eq!(rt; feed.read(&mut buffer), Err(Failed));
-    let mut map = shelf.bring(name(rt.alloc(), "map")?).expect(&rt, "the map");
+    let mut map = shelf.bring(map).expect(&rt, "the map");
     assert_eq!(rt; map.read(&mut buffer), Ok(8));
     assert_eq!(rt; buffer, *b"p sp 2 1");
 
-    assert!(rt;
-        shelf.bring(name(rt.alloc(), "fleet")?).is_err(),
-        "a missing name"
-    );
-    assert!(rt;
-        shelf.bring(name(rt.alloc(), "map")?).is_err(),
-        "a call that fails"
-    );
+    assert!(rt; shelf.bring(missing).is_err(), "a missing name");
+    assert!(rt; shelf.bring(again).is_err(), "a call that fails");
     assert_eq!(rt; shelf.faults(), 2);
     shelf.give_back(map);
     assert_eq!(rt; shelf.faults(), 2);

@@ -11,6 +11,7 @@ use ride_model::{
 };
 use ride_ports::{MemSink, NoMemory};
 use std::alloc::Global;
+use std::process::Abort;
 use std::test::Fail;
 use trip_log::{print_entry, print_head};
 
@@ -124,14 +125,44 @@ fn finish(actor: Actor, ending: Ending) -> Entry
     }
 }
 
-// Whether this is the line of an entry, as a sink takes it a byte at a time.
-fn is_line(alloc: Global, entry: &Entry, log: u8, line: &[u8]) -> Result<bool, Fail>
+// This is the line of an entry, as a sink takes it a byte at a time.
+fn expect_line(
+    rt: &impl Abort,
+    alloc: Global,
+    entry: Entry,
+    log: u8,
+    line: &[u8],
+) -> Result<(), Fail>
     requires log { IsOneOrTwo log }
-    requires has_line { HasLine log entry.now }
+    requires has_line { HasLine log entry }
 {
     let mut sink = MemSink::new(alloc, 160, &[1], &[])?;
-    let printed = print_entry(entry, log, &mut sink);
-    Ok(printed.is_ok() && sink.written() == line)
+    assert!(rt; print_entry(&entry, log, &mut sink).is_ok());
+    assert_eq!(rt; sink.written(), line);
+    Ok(())
+}
+
+// The entry of a command and its reply has this line.
+fn expect_fed(
+    rt: &impl Abort,
+    alloc: Global,
+    feed: u8,
+    command: Command,
+    reply: Reply,
+    log: u8,
+    line: &[u8],
+) -> Result<(), Fail>
+    requires log { IsOneOrTwo log }
+    requires has_line { HasLine log (record { actor = Feed feed; event = Fed command reply }) }
+{
+    expect_line(rt, alloc, fed(feed, command, reply), log, line)
+}
+
+// The next entry of a log in version 1 is printed.
+fn print_next(rt: &impl Abort, sink: &mut MemSink<'_>, entry: Entry)
+    requires { HasLine 1 entry }
+{
+    assert!(rt; print_entry(&entry, 1, sink).is_ok());
 }
 
 #[test]
@@ -139,13 +170,16 @@ fn the_log_of_the_plain_path(rt: HostRuntime) -> Result<(), Fail> {
     let alloc = rt.alloc();
     let mut sink = MemSink::new(alloc, 300, &[1], &[])?;
     assert!(rt; print_head(1, 1, 1, &mut sink).is_ok());
-    assert!(rt; print_entry(&fed(1, request(0), Reply::Waiting), 1, &mut sink).is_ok());
-    let asked = Reply::Asked { count: 1 };
-    assert!(rt; print_entry(&fed(1, Command::Ask, asked), 1, &mut sink).is_ok());
-    assert!(rt; print_entry(&opened(alloc)?, 1, &mut sink).is_ok());
-    assert!(rt; print_entry(&committed(alloc)?, 1, &mut sink).is_ok());
-    assert!(rt; print_entry(&finish(Actor::Feed(1), Ending::Whole), 1, &mut sink).is_ok());
-    assert!(rt; print_entry(&finish(Actor::Desk(1), Ending::Whole), 1, &mut sink).is_ok());
+    print_next(&rt, &mut sink, fed(1, request(0), Reply::Waiting));
+    print_next(
+        &rt,
+        &mut sink,
+        fed(1, Command::Ask, Reply::Asked { count: 1 }),
+    );
+    print_next(&rt, &mut sink, opened(alloc)?);
+    print_next(&rt, &mut sink, committed(alloc)?);
+    print_next(&rt, &mut sink, finish(Actor::Feed(1), Ending::Whole));
+    print_next(&rt, &mut sink, finish(Actor::Desk(1), Ending::Whole));
     assert_eq!(rt; sink.written(), LOG);
     assert_eq!(rt; sink.faults(), 0);
     Ok(())
@@ -161,40 +195,29 @@ fn replies_that_say_a_word(rt: HostRuntime) -> Result<(), Fail> {
         node: 2,
         time: 60,
     };
-    assert!(rt;
-        is_line(
-            alloc,
-            &fed(2, request(1), Reply::Waiting),
-            2,
-            b"f2 request 7 2 4 1 600 300 1 = waiting\n"
-        )?
-    );
-    assert!(rt;
-        is_line(
-            alloc,
-            &fed(2, cancel, Reply::Cancelled),
-            2,
-            b"f2 cancel 7 = cancelled\n"
-        )?
-    );
-    assert!(rt;
-        is_line(
-            alloc,
-            &fed(2, report, Reply::OnMap),
-            2,
-            b"f2 at 3 2 60 = onmap\n"
-        )?
-    );
-    assert!(rt; is_line(alloc, &fed(2, off, Reply::Duty), 2, b"f2 off 3 = duty\n")?);
-    assert!(rt;
-        is_line(
-            alloc,
-            &fed(1, Command::Bad { line: 4 }, Reply::Noted),
-            2,
-            b"f1 bad 4\n"
-        )?
-    );
-    Ok(())
+    let bad = Command::Bad { line: 4 };
+    let line = b"f2 request 7 2 4 1 600 300 1 = waiting\n";
+    expect_fed(&rt, alloc, 2, request(1), Reply::Waiting, 2, line)?;
+    expect_fed(
+        &rt,
+        alloc,
+        2,
+        cancel,
+        Reply::Cancelled,
+        2,
+        b"f2 cancel 7 = cancelled\n",
+    )?;
+    expect_fed(
+        &rt,
+        alloc,
+        2,
+        report,
+        Reply::OnMap,
+        2,
+        b"f2 at 3 2 60 = onmap\n",
+    )?;
+    expect_fed(&rt, alloc, 2, off, Reply::Duty, 2, b"f2 off 3 = duty\n")?;
+    expect_fed(&rt, alloc, 1, bad, Reply::Noted, 2, b"f1 bad 4\n")
 }
 
 #[test]
@@ -205,40 +228,22 @@ fn replies_that_say_a_number(rt: HostRuntime) -> Result<(), Fail> {
     let clock = Command::Clock { time: 20 };
     let on = Command::On { vehicle: 3 };
     let freed = Reply::Freed { vehicle: 3 };
-    assert!(rt; is_line(alloc, &fed(1, cancel, freed), 1, b"f1 cancel 7 = freed 3\n")?);
-    assert!(rt;
-        is_line(
-            alloc,
-            &fed(1, done, Reply::Picked { ride: 7 }),
-            1,
-            b"f1 done 3 = picked 7\n"
-        )?
-    );
-    assert!(rt;
-        is_line(
-            alloc,
-            &fed(1, done, Reply::Dropped { ride: 8 }),
-            1,
-            b"f1 done 3 = dropped 8\n"
-        )?
-    );
-    assert!(rt;
-        is_line(
-            alloc,
-            &fed(1, clock, Reply::Now { time: 20 }),
-            1,
-            b"f1 clock 20 = now 20\n"
-        )?
-    );
-    assert!(rt;
-        is_line(
-            alloc,
-            &fed(1, on, Reply::Refused { code: 10 }),
-            1,
-            b"f1 on 3 = refused 10\n"
-        )?
-    );
-    Ok(())
+    let picked = Reply::Picked { ride: 7 };
+    let dropped = Reply::Dropped { ride: 8 };
+    let refused = Reply::Refused { code: 10 };
+    expect_fed(&rt, alloc, 1, cancel, freed, 1, b"f1 cancel 7 = freed 3\n")?;
+    expect_fed(&rt, alloc, 1, done, picked, 1, b"f1 done 3 = picked 7\n")?;
+    expect_fed(&rt, alloc, 1, done, dropped, 1, b"f1 done 3 = dropped 8\n")?;
+    expect_fed(
+        &rt,
+        alloc,
+        1,
+        clock,
+        Reply::Now { time: 20 },
+        1,
+        b"f1 clock 20 = now 20\n",
+    )?;
+    expect_fed(&rt, alloc, 1, on, refused, 1, b"f1 on 3 = refused 10\n")
 }
 
 #[test]
@@ -253,14 +258,13 @@ fn late_reports_name_the_rides_that_they_break(rt: HostRuntime) -> Result<(), Fa
         seconds: 5,
         broken: Ids::new(),
     };
-    assert!(rt; is_line(alloc, &fed(2, report, none), 1, b"f2 at 3 2 60 = late 5\n")?);
+    expect_fed(&rt, alloc, 2, report, none, 1, b"f2 at 3 2 60 = late 5\n")?;
     let mut broken = Ids::new();
     broken.push(7);
     broken.push(999_999_999_999_999_999);
     let two = Reply::Late { seconds: 5, broken };
     let line = b"f2 at 3 2 60 = late 5 broken 7 999999999999999999\n";
-    assert!(rt; is_line(alloc, &fed(2, report, two), 1, line)?);
-    Ok(())
+    expect_fed(&rt, alloc, 2, report, two, 1, line)
 }
 
 #[test]
@@ -268,14 +272,19 @@ fn lines_of_desks(rt: HostRuntime) -> Result<(), Fail> {
     let alloc = rt.alloc();
     let line =
         b"d2 commit 12 cost 3780 seats 5:2:1:3 6:1:0:2 prices 5:180 6:120 pays 1:60 2:30 outcomes 5:moved:3:4 6:behind:50:60 7:away 8:gone\n";
-    assert!(rt; is_line(alloc, &mixed_commit(alloc)?, 2, line)?);
+    expect_line(&rt, alloc, mixed_commit(alloc)?, 2, line)?;
     let abandoned = Entry {
         actor: Actor::Desk(1),
         event: Event::Abandoned { batch: 3 },
     };
-    assert!(rt; is_line(alloc, &abandoned, 2, b"d1 abandon 3\n")?);
-    assert!(rt; is_line(alloc, &finish(Actor::Desk(2), Ending::Cut), 2, b"d2 cut\n")?);
-    Ok(())
+    expect_line(&rt, alloc, abandoned, 2, b"d1 abandon 3\n")?;
+    expect_line(
+        &rt,
+        alloc,
+        finish(Actor::Desk(2), Ending::Cut),
+        2,
+        b"d2 cut\n",
+    )
 }
 
 #[test]

@@ -1,6 +1,6 @@
 //! Audits of logs: each change of a legal log is found at its line.
 use super::texts::{Part, text_of};
-use super::{AUDIT, File, LINE, LOG, ONE_BY_ONE, Setup, answer_to};
+use super::{AUDIT, File, LINE_TEXT, LOG, ONE_BY_ONE, Setup, answer_to};
 use std::alloc::Global;
 use std::process::Abort;
 use std::sync::Wait;
@@ -231,13 +231,12 @@ fn expect_all<R: Abort + Threads + Wait + Sync + AllocGlobal>(
     log: &str,
     changes: &[Change],
 ) -> Result<(), Fail> {
-    let map = text_of(rt.alloc(), LINE)?;
     let fleet = text_of(rt.alloc(), fleet)?;
     for change in changes {
         let log = changed(rt.alloc(), log, change)?;
         expect(
             rt,
-            Setup::whole(map.as_bytes(), fleet.as_bytes(), b"", log.as_bytes()),
+            Setup::whole(LINE_TEXT.as_bytes(), fleet.as_bytes(), b"", log.as_bytes()),
             change.answer,
         )?;
     }
@@ -270,19 +269,16 @@ fn expect<R: Abort + Threads + Wait + Sync + AllocGlobal>(
 
 #[test]
 fn a_log_of_the_other_version_is_no_log(rt: HostRuntime) -> Result<(), Fail> {
-    let map = text_of(rt.alloc(), LINE)?;
     let fleet = b"set batch 1\nset log 2\nvehicle 1 2 1 0\n";
     expect(
         &rt,
-        Setup::whole(map.as_bytes(), fleet, b"", LOG.as_bytes()),
+        Setup::whole(LINE_TEXT.as_bytes(), fleet, b"", LOG.as_bytes()),
         "no 1 spelling\n",
     )
 }
 
 #[test]
 fn a_line_that_is_too_long_is_no_entry(rt: HostRuntime) -> Result<(), Fail> {
-    let map = text_of(rt.alloc(), LINE)?;
-    let fleet = text_of(rt.alloc(), ONE_BY_ONE)?;
     let log = text_of(
         rt.alloc(),
         &[
@@ -293,25 +289,23 @@ fn a_line_that_is_too_long_is_no_entry(rt: HostRuntime) -> Result<(), Fail> {
     )?;
     expect(
         &rt,
-        Setup::whole(map.as_bytes(), fleet.as_bytes(), b"", log.as_bytes()),
+        Setup::worked().with_log(File::whole(log.as_bytes())),
         "no 2 spelling\n",
     )
 }
 
 #[test]
 fn a_wrong_line_that_was_read_whole_comes_before_a_fault(rt: HostRuntime) -> Result<(), Fail> {
-    let map = text_of(rt.alloc(), LINE)?;
-    let fleet = text_of(rt.alloc(), ONE_BY_ONE)?;
     let wrong = changed(rt.alloc(), LOG, &PLAIN[3])?;
     // The first read gives five lines, of which the last is wrong.
     let log = File::new(wrong.as_bytes(), &[188], &[2]);
-    let files = Setup::whole(map.as_bytes(), fleet.as_bytes(), b"", b"").with_log(log);
+    let files = Setup::worked().with_log(log);
     let answer = answer_to(&rt, &AUDIT, files)?;
     assert_eq!(rt; answer.text(), "no 5 prices\n");
     assert_eq!(rt; answer.status, 7);
     // The first read gives four lines, which are right.
     let log = File::new(LOG.as_bytes(), &[114], &[2]);
-    let files = Setup::whole(map.as_bytes(), fleet.as_bytes(), b"", b"").with_log(log);
+    let files = Setup::worked().with_log(log);
     let answer = answer_to(&rt, &AUDIT, files)?;
     assert_eq!(rt; answer.text(), "");
     assert_eq!(rt; (answer.status, answer.faults), (5, 1));

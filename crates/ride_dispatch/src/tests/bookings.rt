@@ -1,6 +1,6 @@
 //! Feeds of bookings, and the plain feeds that they give.
 use super::texts::{Part, text_of};
-use super::{AUDIT, DEFAULTS, File, LINE, REPLAY, ROOM, Setup, answer_to};
+use super::{AUDIT, DEFAULTS_TEXT, File, LINE_TEXT, REPLAY, ROOM, Setup, answer_to};
 use std::test::Fail;
 
 pub(super) const BOOK: [&str; 3] = ["book", "--feed", "r"];
@@ -160,12 +160,10 @@ fn bookings_of_too_many_lines_are_cut(rt: HostRuntime) -> Result<(), Fail> {
 
 #[test]
 fn the_feed_that_bookings_give_is_replayed(rt: HostRuntime) -> Result<(), Fail> {
-    let map = text_of(rt.alloc(), LINE)?;
-    let fleet = text_of(rt.alloc(), DEFAULTS)?;
     let booked = answer_to(&rt, &BOOK, Setup::whole(b"", b"", EVENING.as_bytes(), b""))?;
     let files = Setup::whole(
-        map.as_bytes(),
-        fleet.as_bytes(),
+        LINE_TEXT.as_bytes(),
+        DEFAULTS_TEXT.as_bytes(),
         booked.written.as_slice(),
         b"",
     );

@@ -1,7 +1,6 @@
 //! Sessions over drawn feeds: whatever the two feeds hold and however the threads meet, an audit says yes to the log, in which
 //! the lines of each feed stand once and in order.
-use super::texts::text_of;
-use super::{AUDIT, File, LINE, Setup, answer_to};
+use super::{AUDIT, File, LINE_TEXT, Setup, answer_to};
 use std::alloc::Global;
 use std::process::Abort;
 use std::sync::Wait;
@@ -64,9 +63,8 @@ fn push_command(text: &mut String, draws: &mut Draws, id: u64) -> Result<(), Fai
 
 #[test]
 fn an_audit_says_yes_to_each_log_of_drawn_feeds_in_order(rt: HostRuntime) -> Result<(), Fail> {
-    let map = text_of(rt.alloc(), LINE)?;
     for seed in 0..SESSIONS {
-        expect_yes(&rt, map.as_bytes(), seed)?;
+        expect_yes(&rt, LINE_TEXT.as_bytes(), seed)?;
     }
     Ok(())
 }

@@ -1,6 +1,9 @@
 //! Words that are not in order, files that are missing, faults with the text before them, and files beyond their limits.
 use super::texts::{Part, text_of};
-use super::{AUDIT, FEED, File, LINE, LOG, ONE_BY_ONE, PIECES, REPLAY, ROOM, Setup, answer_to};
+use super::{
+    FEED, File, LINE, LINE_TEXT, LOG, ONE_BY_ONE, ONE_BY_ONE_TEXT, PIECES, REPLAY, ROOM, Setup,
+    answer_to,
+};
 use std::process::Abort;
 use std::sync::Wait;
 use std::test::Fail;
@@ -369,9 +372,7 @@ const IN_ORDER: [&[&str]; 4] = [
 
 #[test]
 fn words_are_in_order_or_refused(rt: HostRuntime) -> Result<(), Fail> {
-    let map = text_of(rt.alloc(), LINE)?;
-    let fleet = text_of(rt.alloc(), ONE_BY_ONE)?;
-    let files = Setup::whole(map.as_bytes(), fleet.as_bytes(), FEED.as_bytes(), b"");
+    let files = Setup::worked();
     for words in REFUSED {
         let answer = answer_to(&rt, words, files)?;
         assert_eq!(rt;
@@ -419,12 +420,10 @@ fn expect<R: Abort + Threads + Wait + Sync + AllocGlobal>(
 
 #[test]
 fn a_replay_in_pieces_of_any_length(rt: HostRuntime) -> Result<(), Fail> {
-    let map = text_of(rt.alloc(), LINE)?;
-    let fleet = text_of(rt.alloc(), ONE_BY_ONE)?;
     for pieces in PIECES {
         let files = Setup::new(
-            File::new(map.as_bytes(), pieces, &[]),
-            File::new(fleet.as_bytes(), pieces, &[]),
+            File::new(LINE_TEXT.as_bytes(), pieces, &[]),
+            File::new(ONE_BY_ONE_TEXT.as_bytes(), pieces, &[]),
             File::new(FEED.as_bytes(), pieces, &[]),
             ROOM,
         );

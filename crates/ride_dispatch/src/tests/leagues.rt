@@ -1,6 +1,6 @@
 //! Leagues of two companies: rounds over both, reports to each, and files that stop a league.
 use super::texts::{Part, is_like, text_of};
-use super::{File, LINE, ROOM, Setup, answer_to};
+use super::{File, LINE_TEXT, ROOM, Setup, answer_to};
 use std::process::Abort;
 use std::sync::Wait;
 use std::test::Fail;
@@ -360,10 +360,9 @@ fn play<R: Abort + Threads + Wait + Sync + AllocGlobal>(
     rt: &R,
     cases: &[Case],
 ) -> Result<(), Fail> {
-    let map = text_of(rt.alloc(), LINE)?;
     for case in cases {
         let feed = File::new(case.feed.as_bytes(), &[7], case.failing);
-        let files = files_of(map.as_str(), case.first, case.second, feed).with_room(case.room);
+        let files = files_of(LINE_TEXT, case.first, case.second, feed).with_room(case.room);
         let answer = answer_to(rt, case.words, files)?;
         assert_eq!(rt; answer.status, case.status, "{}", case.shows);
         assert!(rt;
@@ -378,10 +377,9 @@ fn play<R: Abort + Threads + Wait + Sync + AllocGlobal>(
 
 #[test]
 fn leagues_are_stopped(rt: HostRuntime) -> Result<(), Fail> {
-    let map = text_of(rt.alloc(), LINE)?;
     for case in STOPS.as_slice() {
         let feed = File::new(case.feed.as_bytes(), &[10], case.failing);
-        let files = files_of(map.as_str(), case.first, case.second, feed).with_room(case.room);
+        let files = files_of(LINE_TEXT, case.first, case.second, feed).with_room(case.room);
         let answer = answer_to(&rt, case.words, files)?;
         assert_eq!(rt; answer.status, case.status, "{}", case.shows);
         assert_eq!(rt; answer.text(), case.written, "{}", case.shows);
@@ -391,7 +389,6 @@ fn leagues_are_stopped(rt: HostRuntime) -> Result<(), Fail> {
 
 #[test]
 fn a_league_has_two_thousand_rounds(rt: HostRuntime) -> Result<(), Fail> {
-    let map = text_of(rt.alloc(), LINE)?;
     let feed = text_of(rt.alloc(), &[Part::Each(1, 2_001, "batch\n")])?;
     let written = text_of(
         rt.alloc(),
@@ -401,7 +398,7 @@ fn a_league_has_two_thousand_rounds(rt: HostRuntime) -> Result<(), Fail> {
             Part::Text("batch = refused 16\nend\n"),
         ],
     )?;
-    let files = files_of(map.as_str(), FIRST, SECOND, File::whole(feed.as_bytes()));
+    let files = files_of(LINE_TEXT, FIRST, SECOND, File::whole(feed.as_bytes()));
     let answer = answer_to(&rt, &LEAGUE, files)?;
     assert!(rt; answer.is(0, written.as_str()));
     Ok(())
@@ -409,9 +406,8 @@ fn a_league_has_two_thousand_rounds(rt: HostRuntime) -> Result<(), Fail> {
 
 #[test]
 fn a_league_of_too_many_lines_is_cut(rt: HostRuntime) -> Result<(), Fail> {
-    let map = text_of(rt.alloc(), LINE)?;
     let feed = text_of(rt.alloc(), &[Part::Each(1, 1_000_001, "\n")])?;
-    let files = files_of(map.as_str(), FIRST, SECOND, File::whole(feed.as_bytes()));
+    let files = files_of(LINE_TEXT, FIRST, SECOND, File::whole(feed.as_bytes()));
     let answer = answer_to(&rt, &LEAGUE, files)?;
     assert!(rt; answer.is(8, "league 1 companies 2\ncut\n"));
     Ok(())

@@ -1,7 +1,7 @@
 //! Sessions of two feeds: what happens while a batch is open, and what an audit says of each log.
 use super::gates::{Gated, LOGGED, Meeting};
 use super::texts::{Part, is_like, text_of};
-use super::{AUDIT, DEFAULTS, FEED, File, LINE, Setup, answer_to, answer_with};
+use super::{AUDIT, DEFAULTS, DEFAULTS_TEXT, FEED, File, LINE_TEXT, Setup, answer_to, answer_with};
 use std::alloc::Global;
 use std::process::Abort;
 use std::sync::Wait;
@@ -181,10 +181,9 @@ fn expect<R: Abort + Threads + Wait + Sync + AllocGlobal>(
     case: &Session,
 ) -> Result<(), Fail> {
     let alloc = rt.alloc();
-    let map = text_of(alloc, LINE)?;
     let fleet = text_of(alloc, case.fleet)?;
     let files = Setup::whole(
-        map.as_bytes(),
+        LINE_TEXT.as_bytes(),
         fleet.as_bytes(),
         case.riders.as_bytes(),
         b"",
@@ -232,9 +231,12 @@ fn expect_audit<'a, R: Abort + Threads + Wait + Sync + AllocGlobal>(
 
 #[test]
 fn two_desks_seat_one_request_once(rt: HostRuntime) -> Result<(), Fail> {
-    let map = text_of(rt.alloc(), LINE)?;
-    let fleet = text_of(rt.alloc(), DEFAULTS)?;
-    let files = Setup::whole(map.as_bytes(), fleet.as_bytes(), FEED.as_bytes(), b"");
+    let files = Setup::whole(
+        LINE_TEXT.as_bytes(),
+        DEFAULTS_TEXT.as_bytes(),
+        FEED.as_bytes(),
+        b"",
+    );
     let words = serve_words("2", "2");
     for _ in 0..20 {
         let answer = answer_to(&rt, &words, files)?;
@@ -271,9 +273,12 @@ static FAILING: [Failing; 2] = [
 
 #[test]
 fn a_feed_that_fails_is_cut_alone(rt: HostRuntime) -> Result<(), Fail> {
-    let map = text_of(rt.alloc(), LINE)?;
-    let fleet = text_of(rt.alloc(), DEFAULTS)?;
-    let files = Setup::whole(map.as_bytes(), fleet.as_bytes(), FEED.as_bytes(), b"");
+    let files = Setup::whole(
+        LINE_TEXT.as_bytes(),
+        DEFAULTS_TEXT.as_bytes(),
+        FEED.as_bytes(),
+        b"",
+    );
     for case in FAILING.as_slice() {
         let drivers = File::new(case.drivers, case.pieces, case.failing);
         expect_cut_alone(&rt, files.with_drivers(drivers), case.lines)?;

@@ -1,6 +1,6 @@
 //! Sheets of idle vehicles sent ahead. Costs and orders were found by hand, over all pairings.
-use super::texts::{is_like, text_of};
-use super::{DEFAULTS, File, LINE, ROOM, Setup, answer_to};
+use super::texts::is_like;
+use super::{DEFAULTS_TEXT, File, LINE_TEXT, ROOM, Setup, answer_to};
 use std::test::Fail;
 
 pub(super) const AHEAD: [&str; 9] = [
@@ -145,13 +145,11 @@ end\n",
 
 #[test]
 fn vehicles_are_sent_ahead(rt: HostRuntime) -> Result<(), Fail> {
-    let map = text_of(rt.alloc(), LINE)?;
-    let usual = text_of(rt.alloc(), DEFAULTS)?;
     for case in CASES.as_slice() {
-        let fleet = case.fleet.unwrap_or(usual.as_str());
+        let fleet = case.fleet.unwrap_or(DEFAULTS_TEXT);
         let feed = File::new(case.feed.as_bytes(), case.pieces, case.failing);
         let files = Setup::new(
-            File::whole(map.as_bytes()),
+            File::whole(LINE_TEXT.as_bytes()),
             File::whole(fleet.as_bytes()),
             feed,
             case.room,

@@ -3,8 +3,7 @@ use super::bookings::BOOK;
 use super::leagues::{FEED as RIDES, FIRST, LEAGUE, SECOND};
 use super::serving::serve_words;
 use super::sheets::{AHEAD, LEFT_OUT};
-use super::texts::text_of;
-use super::{AUDIT, FEED, File, LINE, LOG, ONE_BY_ONE, REPLAY, Setup, answer_by_writes, answer_to};
+use super::{AUDIT, File, LOG, REPLAY, Setup, answer_by_writes, answer_to};
 use std::process::Abort;
 use std::sync::Wait;
 use std::test::Fail;
@@ -139,15 +138,7 @@ fn fill_each_sink<R: Abort + Threads + Wait + Sync + AllocGlobal>(
 
 #[test]
 fn each_read_fails_in_turn(rt: HostRuntime) -> Result<(), Fail> {
-    let map = text_of(rt.alloc(), LINE)?;
-    let fleet = text_of(rt.alloc(), ONE_BY_ONE)?;
-    let files = Setup::whole(
-        map.as_bytes(),
-        fleet.as_bytes(),
-        FEED.as_bytes(),
-        LOG.as_bytes(),
-    )
-    .with_drivers(File::whole(b"clock 0\n"));
+    let files = Setup::worked().with_drivers(File::whole(b"clock 0\n"));
     let companies = files.with_drivers(File::whole(SECOND.as_bytes()));
     let serve = serve_words("1", "1");
     // A file of n bytes is read n / 7 times, and once more at its end.
@@ -177,32 +168,9 @@ fn each_read_fails_in_turn(rt: HostRuntime) -> Result<(), Fail> {
 }
 
 #[test]
-fn each_write_fails_in_turn(rt: HostRuntime) -> Result<(), Fail> {
-    let map = text_of(rt.alloc(), LINE)?;
-    let fleet = text_of(rt.alloc(), ONE_BY_ONE)?;
-    let files = Setup::whole(
-        map.as_bytes(),
-        fleet.as_bytes(),
-        FEED.as_bytes(),
-        LOG.as_bytes(),
-    );
-    for (words, files, text) in written(files) {
+fn each_write_and_each_byte_fails_in_turn(rt: HostRuntime) -> Result<(), Fail> {
+    for (words, files, text) in written(Setup::worked()) {
         fail_each_write(&rt, words, files, text)?;
-    }
-    Ok(())
-}
-
-#[test]
-fn each_byte_is_the_last_in_turn(rt: HostRuntime) -> Result<(), Fail> {
-    let map = text_of(rt.alloc(), LINE)?;
-    let fleet = text_of(rt.alloc(), ONE_BY_ONE)?;
-    let files = Setup::whole(
-        map.as_bytes(),
-        fleet.as_bytes(),
-        FEED.as_bytes(),
-        LOG.as_bytes(),
-    );
-    for (words, files, text) in written(files) {
         fill_each_sink(&rt, words, files, text)?;
     }
     Ok(())
@@ -211,9 +179,7 @@ fn each_byte_is_the_last_in_turn(rt: HostRuntime) -> Result<(), Fail> {
 // The lines of a session have no one order, but one length together.
 #[test]
 fn a_session_ends_whichever_write_fails(rt: HostRuntime) -> Result<(), Fail> {
-    let map = text_of(rt.alloc(), LINE)?;
-    let fleet = text_of(rt.alloc(), ONE_BY_ONE)?;
-    let files = Setup::whole(map.as_bytes(), fleet.as_bytes(), FEED.as_bytes(), b"");
+    let files = Setup::worked();
     let words = serve_words("1", "1");
     let all = LOG.len() + "f2 end\n".len();
     for room in 0..all {

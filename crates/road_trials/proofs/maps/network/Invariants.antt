@@ -1,7 +1,7 @@
 use Rattle.std.proofs.Common.{◌≡◌, ◌≤◌, length}
 use Rattle.std.specs.Prelude.{All}
 use Rattle.ride_model.specs.declared.network.RoadArc.{RoadArc}
-use Rattle.road_trials.proofs.hierarchies.network.Given as goal
+use Rattle.road_trials.proofs.maps.network.Given as goal
 
 abbrev pub invariant-loop-tail : goal.invariant-loop-tail
 invariant-loop-tail g l = record {

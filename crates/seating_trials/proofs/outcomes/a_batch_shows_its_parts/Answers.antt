@@ -3,7 +3,7 @@ use Rattle.std.specs.List.{IsDistinct}
 use Rattle.std.proofs.lemmas.List.Elements.{All-nil}
 use Rattle.ride_model.specs.declared.vehicle.Vehicle.{Vehicle}
 use Rattle.ride_model.specs.Fleet.{IsFleet}
-use Rattle.seating_trials.proofs.outcomes.an_answer_is_undecided_and_a_batch_shows_its_parts.Goals as goal
+use Rattle.seating_trials.proofs.outcomes.a_batch_shows_its_parts.Goals as goal
 
 no_vehicles : IsFleet []
 unfolding IsDistinct
