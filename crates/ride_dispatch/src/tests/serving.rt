@@ -1,7 +1,9 @@
 //! Sessions of two feeds: what happens while a batch is open, and what an audit says of each log.
 use super::gates::{Gated, LOGGED, Meeting};
 use super::texts::{Part, is_like, text_of};
-use super::{AUDIT, DEFAULTS, DEFAULTS_TEXT, FEED, File, LINE_TEXT, Setup, answer_to, answer_with};
+use super::{
+    AUDIT, DEFAULTS, DEFAULTS_TEXT, FEED, File, LINE, LINE_TEXT, Setup, answer_to, answer_with,
+};
 use std::alloc::Global;
 use std::process::Abort;
 use std::sync::Wait;
@@ -231,12 +233,9 @@ fn expect_audit<'a, R: Abort + Threads + Wait + Sync + AllocGlobal>(
 
 #[test]
 fn two_desks_seat_one_request_once(rt: HostRuntime) -> Result<(), Fail> {
-    let files = Setup::whole(
-        LINE_TEXT.as_bytes(),
-        DEFAULTS_TEXT.as_bytes(),
-        FEED.as_bytes(),
-        b"",
-    );
+    let map = text_of(rt.alloc(), LINE)?;
+    let fleet = text_of(rt.alloc(), DEFAULTS)?;
+    let files = Setup::whole(map.as_bytes(), fleet.as_bytes(), FEED.as_bytes(), b"");
     let words = serve_words("2", "2");
     for _ in 0..20 {
         let answer = answer_to(&rt, &words, files)?;
