@@ -34,7 +34,6 @@ among_map f [] x h = absurd h
 among_map f (y ∷ ys) x (inl is) = inl (ap f is)
 among_map f (y ∷ ys) x (inr later) = inr (among_map f ys x later)
 
--- a filter keeps the elements that pass
 -- an element of a list with one more is that one or one of the others
 pub among_push_back : {X : Type 0} (xs : List X) (x y : X) → Among y (xs ++ x ∷ []) → Among y xs ⊎ (x ≡ y)
 among_push_back [] x y (inl is) = inr is
@@ -46,6 +45,7 @@ among_push_back {X} (z ∷ xs) x y (inr there) = later (among_push_back xs x y t
     later (inl h) = inl (inr h)
     later (inr h) = inr h
 
+-- a filter keeps the elements that pass
 pub among_filter_back : {X : Type 0} (p : X → Bool) (xs : List X) (x : X) → Among x (filter p xs) → Among x xs × (p x ≡ true)
 among_filter_back p [] x h = absurd h
 among_filter_back {X} p (y ∷ ys) x h =
