@@ -28,7 +28,6 @@ use std::marker::Model;
 
 /// The one object that feeds and desks share: each call appends at most one entry to a history, which is legal, and whose
 /// replay is the board's state.
-#[derive(Drop)]
 pub struct Board<'r> {
     pub(crate) setup: Setup<'r>,
     /// The fleet as it was handed in, which contracts alone read.
@@ -65,6 +64,27 @@ impl<'r> Model for Board<'r> {
       history = b.history.items;
       spare = b.spare;
     }) };
+}
+
+impl Drop for Board<'_> {
+    // By calls, each proved once: a derived drop stands part by part in each function that lets a board go.
+    fn drop(self) {
+        let Board {
+            setup,
+            start,
+            feeds: _,
+            desks: _,
+            service,
+            kept,
+            history,
+            spare: _,
+        } = self;
+        drop(setup);
+        drop(start);
+        drop(service);
+        drop(kept);
+        drop(history);
+    }
 }
 
 impl<'r> Board<'r> {

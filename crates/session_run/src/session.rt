@@ -33,7 +33,6 @@ use std::thread::Threads;
 use text_page::Output;
 
 /// A board of one feed and one desk, what its desk works with, and what is written of it: its log, or the sheets of its batches.
-#[derive(Drop)]
 pub(crate) struct Session<'r, 'q> {
     board: Board<'r>,
     tools: DeskTools<'r, 'q>,
@@ -57,6 +56,23 @@ impl<'r, 'q> Model for Session<'r, 'q> {
     ghost use Rattle.ride_model.specs.Limits.{longest_reach};
 
     ghost invariant = { λ s. (s.tools ≡ s.board.start.roads) × (s.version ≡ s.board.start.settings.log) × ForSome s.reach (λ r. r ≤ longest_reach) };
+}
+
+impl Drop for Session<'_, '_> {
+    // By calls, each proved once: a derived drop stands part by part in each function that lets a session go.
+    fn drop(self) {
+        let Session {
+            board,
+            tools,
+            log,
+            version: _,
+            reach: _,
+            no_memory: _,
+        } = self;
+        drop(board);
+        drop(tools);
+        drop(log);
+    }
 }
 
 impl<'r, 'q> Session<'r, 'q> {

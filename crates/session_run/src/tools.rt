@@ -21,7 +21,6 @@ use std::marker::Model;
 use std::thread::Threads;
 
 /// What a desk prices and seats its batches with: a pricer, and a scratch for each of its workers.
-#[derive(Drop)]
 pub struct DeskTools<'r, 'q> {
     alloc: Global,
     pricer: DeskPricer<'r, 'q>,
@@ -37,6 +36,19 @@ impl<'r, 'q> Model for DeskTools<'r, 'q> {
     ghost view = { λ t. t.pricer };
 
     ghost invariant = { λ t. (1 ≤ length t.scratches.items) × All (λ scratch. scratch.nodes ≡ t.pricer.nodes) t.scratches.items };
+}
+
+impl Drop for DeskTools<'_, '_> {
+    // By calls, each proved once: a derived drop stands part by part in each function that lets the tools go.
+    fn drop(self) {
+        let DeskTools {
+            alloc: _,
+            pricer,
+            scratches,
+        } = self;
+        drop(pricer);
+        drop(scratches);
+    }
 }
 
 impl<'r, 'q> DeskTools<'r, 'q> {

@@ -28,7 +28,6 @@ use std::marker::Model;
 use std::thread::Threads;
 
 /// A company of a league, with what it prices its vehicles with: a pricer and a scratch.
-#[derive(Drop)]
 pub(crate) struct Member<'r> {
     company: Company<'r>,
     pricer: Box<Pricer<'r>>,
@@ -44,6 +43,20 @@ impl<'r> Model for Member<'r> {
     ghost view = { λ m. m.company };
 
     ghost invariant = { λ m. (m.pricer.value ≡ m.company.board.start.roads) × (m.scratch.nodes ≡ m.company.board.start.roads.nodes) };
+}
+
+impl Drop for Member<'_> {
+    // By calls, which are proved once: a derived drop stands part by part in each function that may end a member.
+    fn drop(self) {
+        let Member {
+            company,
+            pricer,
+            scratch,
+        } = self;
+        drop(company);
+        drop(pricer);
+        drop(scratch);
+    }
 }
 
 impl<'r> Member<'r> {
