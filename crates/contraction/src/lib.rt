@@ -126,6 +126,32 @@ impl Contraction {
         })
     }
 
+    /// Contracts a node of this depth, and deepens its neighbors. Answers how many links were looked at, and
+    /// None where the node has to stay.
+    fn take(&mut self, node: u32, depth: u32) -> Result<Option<u64>, NoMemory>
+        requires some { 1 ≤ node }
+        requires node { node ≤ self.old.nodes }
+        ensures hierarchy { (roads : RoadMap) → IsContractionOf roads self.old → IsContractionOf roads self.new }
+        ensures nodes { self.new.nodes ≡ self.old.nodes }
+        ensures spent { self.new.is_spent ≡ self.old.is_spent }
+    {
+        let Some(work) = contract(
+            &mut self.graph,
+            &mut self.witness,
+            node,
+            &mut self.ins,
+            &mut self.outs,
+        )?
+        else {
+            return Ok(None);
+        };
+        self.work_left = self.work_left.saturating_sub(work);
+        let below = depth.saturating_add(1);
+        deepen(self.depths.as_mut_slice(), self.ins.as_slice(), below);
+        deepen(self.depths.as_mut_slice(), self.outs.as_slice(), below);
+        Ok(Some(work))
+    }
+
     /// Judges the next node, and contracts it if no other is to come before it. Answers how many links were looked at, and None
     /// where nothing is left to contract, or the budget is spent.
     fn step(&mut self) -> Result<Option<u64>, NoMemory>
@@ -161,27 +187,7 @@ impl Contraction {
         if node == 0 {
             return Ok(Some(judged.work));
         }
-        let Some(work) = contract(
-            &mut self.graph,
-            &mut self.witness,
-            node,
-            &mut self.ins,
-            &mut self.outs,
-        )?
-        else {
-            return Ok(Some(judged.work));
-        };
-        self.work_left = self.work_left.saturating_sub(work);
-        deepen(
-            self.depths.as_mut_slice(),
-            self.ins.as_slice(),
-            depth.saturating_add(1),
-        );
-        deepen(
-            self.depths.as_mut_slice(),
-            self.outs.as_slice(),
-            depth.saturating_add(1),
-        );
+        let work = self.take(node, depth)?.unwrap_or(0);
         Ok(Some(judged.work.saturating_add(work)))
     }
 
