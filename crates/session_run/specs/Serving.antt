@@ -62,9 +62,12 @@ pub record IsWrittenOut (ran : Ran) (before after : Option (List ℕ)) (text : L
   pub whole : ran.sink_failed ≡ false → Writes before after text
   pub prefix : ran.sink_failed ≡ true → WritesPrefix before after text
 
--- memory was wanting before anything was read or written
+-- memory was wanting before anything was read or written, and nothing else kept the session from running whole
 pub record HasNotServed (riders drivers : FeedRun) (ran : Ran) (before after : Option (List ℕ)) : Type 0 where
   pub wanting : ran.no_memory ≡ true
+  pub no_sink : ran.sink_failed ≡ false
+  pub no_source : ran.source_failed ≡ false
+  pub no_limit : ran.too_long ≡ false
   pub nothing_written : after ≡ before
   pub nothing_read_of_riders : riders.left ≡ riders.bytes
   pub nothing_read_of_drivers : drivers.left ≡ drivers.bytes
