@@ -5,7 +5,7 @@ ghost use Rattle.ride_model.specs.Road.{IsRoadMap, IsNode};
 ghost use Rattle.ride_model.specs.Vehicle.{IsLawful, IsLawfulSomewhere};
 ghost use Rattle.ride_model.specs.Insertion.{without_ride, stops_without};
 ghost use Rattle.ride_model.specs.Step.{raised, served, served_reply};
-ghost use Rattle.ride_model.specs.Limits.{latest_ready, longest_dwell};
+ghost use Rattle.ride_model.specs.Limits.{latest_ready, longest_dwell, most_stops};
 ghost use Rattle.stop_plans.specs.Change.{HasFirstStopAt};
 ghost use Rattle.stop_plans.specs.First.{IsFirst, is_visit};
 ghost use Rattle.stop_plans.specs.Legged.{relegged};
@@ -55,7 +55,7 @@ fn nodes_without(vehicle: &Vehicle, id: u64) -> ArrayVec<u32, 17>
 // Adds the nodes of the stops that are not of the ride.
 fn push_others(nodes: &mut ArrayVec<u32, 17>, stops: &[Stop], id: u64)
     requires one { length nodes.old.items ≡ 1 }
-    requires few { length stops.now ≤ 16 }
+    requires few { length stops.now ≤ most_stops }
     ensures { nodes.new.items ≡ nodes.old.items ++ map (λ (stop : Stop). stop.node) (stops_without id stops.now) }
 {
     for stop in stops {
@@ -80,7 +80,7 @@ fn place_of(stops: &[Stop], id: u64, kind: Kind) -> usize
 // The travel time from the node at a place to the next, 0 where there is none.
 fn leg_along(setup: &mut Setup, nodes: &[u32], place: usize) -> u64
     requires nodes { All (IsNode setup.old.roads) nodes.now }
-    requires place { place ≤ 16 }
+    requires place { place ≤ most_stops }
     ensures leg { result ≡ leg_along setup.old.roads nodes.now place }
     ensures setup { setup.new ≡ setup.old }
 {

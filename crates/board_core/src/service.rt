@@ -4,6 +4,7 @@ ghost use Rattle.ride_model.specs.declared.vehicle.Vehicle.{Vehicle};
 ghost use Rattle.ride_model.specs.Seating.{vehicle_ids};
 ghost use Rattle.ride_model.specs.State.{State};
 ghost use Rattle.ride_model.specs.Step.{step, clock_step, ask_step};
+ghost use Rattle.ride_model.specs.Limits.{most_vehicles};
 ghost use Rattle.board_core.specs.Given.{Given};
 ghost use Rattle.board_core.specs.Opening.{IsRequest};
 ghost use Rattle.board_core.specs.Service.{state_at, answered_at, placed_in, IsInOrder};
@@ -34,7 +35,7 @@ pub(crate) struct Service {
 impl Service {
     /// The service of a fleet, before anything happened.
     pub(crate) fn new(alloc: Global, fleet: &[Vehicle]) -> Result<Service, NoMemory>
-        requires { length fleet.now ≤ 1000 }
+        requires { length fleet.now ≤ most_vehicles }
         ensures clock { IfOk result (λ service. service.clock ≡ 0) }
         ensures vehicles { IfOk result (λ service. service.vehicles.items ≡ fleet.now) }
         ensures requests { IfOk result (λ service. service.requests ≡ []) }

@@ -5,7 +5,7 @@ use Rattle.std.specs.Option.{option_map_or}
 use Rattle.std.specs.Ordering.{is_lt, nat_cmp, ordering_then}
 use Rattle.ride_model.specs.declared.command.Command.{Command}
 use Rattle.ride_model.specs.declared.command.Command.TheVariants.{Request}
-use Rattle.ride_model.specs.Limits.{latest_time}
+use Rattle.ride_model.specs.Limits.{latest_time, most_requests}
 use Rattle.booking_desk.specs.declared.replies.BookReply.{BookReply}
 use Rattle.booking_desk.specs.declared.replies.BookReply.TheVariants.{Held, Now, Refused}
 
@@ -59,7 +59,7 @@ is_booked id booked = list_any (λ other. id == other) booked
 
 -- the most bookings of a feed
 abbrev pub most_bookings : ℕ
-most_bookings = 100000
+most_bookings = most_requests
 
 -- why a booking is refused, or not given up
 abbrev pub booked_before : ℕ

@@ -1,6 +1,7 @@
 //! Bookings that become requests of a shared board.
 ghost use Rattle.std.specs.Prelude.{◌≡◌, ◌≤◌, ◌++◌, List, length, All, MatchResult};
 ghost use Rattle.ride_model.specs.Text.{IsSpelledCommand};
+ghost use Rattle.ride_model.specs.Limits.{most_earlier_commands};
 ghost use Rattle.turn_lock.specs.Passes.{knowledge};
 ghost use Rattle.fleet_board.specs.Passes.{commands_in, root_of};
 ghost use Rattle.fleet_board.specs.Roles.{MayFeed};
@@ -21,7 +22,7 @@ impl BookingDesk {
         pass: &mut ActorPass<'r>,
     ) -> Result<u32, NoMemory>
         requires feed { MayFeed board.now pass.old }
-        requires few { length (commands_in (knowledge pass.old).own) ≤ 900000000 }
+        requires few { length (commands_in (knowledge pass.old).own) ≤ most_earlier_commands }
         requires spelled { All (λ (booking : Booking).
             IsSpelledCommand (root_of (knowledge pass.old)).start.settings.log booking.request) self.old.held }
         ensures feed { MayFeed board.now pass.new }

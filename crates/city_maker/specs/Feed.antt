@@ -3,6 +3,7 @@ use Rattle.std.specs.Prelude.{ℕ, Bool, true, false, ◌+◌, ◌-◌, ◌*◌,
 use Rattle.std.specs.List.{flat_map, range_with_len}
 use Rattle.ride_model.specs.declared.command.Command.{Command}
 use Rattle.ride_model.specs.declared.command.Command.TheVariants.{Request, Clock, Ask}
+use Rattle.ride_model.specs.Limits.{latest_time}
 use Rattle.city_maker.specs.declared.plan.CityPlan.{CityPlan}
 use Rattle.city_maker.specs.Draws.{draw_at}
 use Rattle.city_maker.specs.Plan.{nodes_of}
@@ -52,7 +53,7 @@ groups_of plan = (plan.requests + 7) / 8
 
 -- the commands of feed 1
 unfoldable pub commands_of : CityPlan → List Command
-commands_of plan = flat_map (group_of plan) (range_with_len 0 (groups_of plan)) ++ Clock 1000000000 ∷ []
+commands_of plan = flat_map (group_of plan) (range_with_len 0 (groups_of plan)) ++ Clock latest_time ∷ []
 
 -- whether a command is a request
 abbrev pub is_request : Command → Bool

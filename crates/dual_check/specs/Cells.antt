@@ -16,9 +16,13 @@ cell_at grid row column = slice_index_or grid.cells (row * grid.columns + column
 abbrev pub IsSmall : Option ℕ → Type 0
 IsSmall cell = IfSome cell (λ amount. amount < 2 ^ 42)
 
+-- the most columns of a grid: the vehicles of eight fleets
+abbrev pub widest_grid : ℕ
+widest_grid = 8000
+
 -- the limits of a grid
 pub record IsGrid (grid : GridCells) : Type 0 where
   pub rows_limit : grid.rows ≤ largest_batch
-  pub columns_limit : grid.columns ≤ 8000
+  pub columns_limit : grid.columns ≤ widest_grid
   pub one_each : length grid.cells ≡ grid.rows * grid.columns
   pub amounts_limit : All IsSmall grid.cells

@@ -1,6 +1,6 @@
 //! Tables of amounts.
 ghost use Rattle.std.specs.Prelude.{◌≡◌, ◌+◌, ◌<◌, ◌≤◌, length, IfSome, MatchBool};
-ghost use Rattle.dual_check.specs.Cells.{GridCells, cell_at};
+ghost use Rattle.dual_check.specs.Cells.{GridCells, cell_at, widest_grid};
 ghost use Rattle.dual_check.specs.Parts.{CoversCells, CoversRow};
 ghost use Rattle.dual_check.specs.Costs.{cost_grid};
 
@@ -21,7 +21,7 @@ pub trait Amounts {
     fn is_row_covered(&self, row: u32, price: u64, pays: &[u64]) -> bool
         requires row_in { row < (as_grid self.now).rows }
         requires pays_each { length pays.now ≡ (as_grid self.now).columns }
-        requires few { (as_grid self.now).columns ≤ 8000 }
+        requires few { (as_grid self.now).columns ≤ widest_grid }
         ensures { MatchBool result (CoversRow (as_grid self.now) row price pays.now)
             (CoversRow (as_grid self.now) row price pays.now → ⊥) }
     {

@@ -4,7 +4,7 @@ ghost use Rattle.std.specs.List.{IsDistinct};
 ghost use Rattle.ride_model.specs.Road.{RoadMap};
 ghost use Rattle.ride_model.specs.Vehicle.{ride_ids};
 ghost use Rattle.ride_model.specs.Seating.{vehicle_ids, Certifies};
-ghost use Rattle.ride_model.specs.Limits.{largest_batch};
+ghost use Rattle.ride_model.specs.Limits.{largest_batch, most_vehicles};
 ghost use Rattle.batch_commit.specs.Table.{FitsBatch, IsTableOf, HasSmallCosts};
 ghost use Rattle.batch_commit.specs.Answer.{IsSeatAt, CertifiesOverCells};
 
@@ -63,7 +63,7 @@ fn certifies_over_cells(
     requires few { length requests.now ≤ largest_batch }
     requires requests_differ { IsDistinct nat_eq requests.now }
     requires fleet_is { fleet.now ≡ vehicle_ids batch.now.vehicles }
-    requires few_vehicles { length fleet.now ≤ 1000 }
+    requires few_vehicles { length fleet.now ≤ most_vehicles }
     requires vehicles_differ { IsDistinct nat_eq fleet.now }
     ensures { MatchBool result
         (CertifiesOverCells batch.now table.now seats.now prices.now pays.now)

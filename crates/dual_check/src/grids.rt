@@ -1,7 +1,7 @@
 //! Grids of amounts.
 ghost use Rattle.std.specs.Prelude.{◌≡◌, ◌+◌, ◌*◌, ◌<◌, ◌≤◌, ◌^◌, length, replicate, slice_set, take, drop, All, None, Some, IfOk};
 ghost use Rattle.ride_model.specs.Limits.{largest_batch};
-ghost use Rattle.dual_check.specs.Cells.{cell_at, IsSmall, IsGrid};
+ghost use Rattle.dual_check.specs.Cells.{cell_at, IsSmall, IsGrid, widest_grid};
 
 use crate::Cell;
 use ride_model::NoMemory;
@@ -30,7 +30,7 @@ impl Grid {
     /// A grid without amounts.
     pub fn new(alloc: Global, rows: u32, columns: u32) -> Result<Grid, NoMemory>
         requires rows_limit { rows ≤ largest_batch }
-        requires columns_limit { columns ≤ 8000 }
+        requires columns_limit { columns ≤ widest_grid }
         ensures { IfOk result (λ grid. grid ≡ record { rows = rows; columns = columns; cells = replicate (rows * columns) None }) }
     {
         let cells = vec![in alloc; Cell::empty(); rows as usize * columns as usize]?;

@@ -9,7 +9,7 @@ use Rattle.fleet_file.specs.declared.settings.Name.TheVariants.{Batch, Penalty, 
 use Rattle.fleet_file.specs.declared.settings.Seen.{Seen}
 use Rattle.ride_model.specs.declared.settings.Settings.{Settings}
 use Rattle.ride_model.specs.declared.vehicle.Vehicle.{Vehicle}
-use Rattle.ride_model.specs.Limits.{greatest_penalty, greatest_weight, largest_batch, latest_time, longest_dwell, longest_lead}
+use Rattle.ride_model.specs.Limits.{greatest_penalty, greatest_weight, largest_batch, latest_time, longest_dwell, longest_lead, most_vehicle_seats, most_vehicle_chairs, most_vehicles}
 use Rattle.fleet_file.specs.declared.vehicles.NewVehicle.{NewVehicle}
 use Rattle.fleet_file.specs.declared.errors.FleetError.{FleetError}
 use Rattle.fleet_file.specs.declared.errors.FleetError.TheVariants.{BadLine, Repeat, NodeOut, ValueOut, TooMany, TooLong}
@@ -135,7 +135,7 @@ setting_line number so_far (Some setting) =
 
 -- whether a value of a vehicle is out of its range
 abbrev pub has_value_out : NewVehicle → Bool
-has_value_out new = new.seats == 0 || nat_lt 16 new.seats || nat_lt 4 new.chairs || nat_lt latest_time new.ready
+has_value_out new = new.seats == 0 || nat_lt most_vehicle_seats new.seats || nat_lt most_vehicle_chairs new.chairs || nat_lt latest_time new.ready
 
 -- the tests of a vehicle, in a line of this number, over a map of so many nodes
 abbrev pub vehicle_line : ℕ → ℕ → FleetSoFar → Option NewVehicle → Result FleetSoFar FleetError
@@ -147,7 +147,7 @@ vehicle_line nodes number so_far (Some new) =
     then Err (NodeOut number)
     else (if has_value_out new
     then Err (ValueOut number)
-    else (if nat_le 1000 (length so_far.vehicles)
+    else (if nat_le most_vehicles (length so_far.vehicles)
     then Err (TooMany number)
     else Ok (record so_far { vehicles = so_far.vehicles ++ idle_vehicle new ∷ [] }))))
 

@@ -7,7 +7,7 @@ ghost use Rattle.fleet_file.specs.FleetText.{has_value_out, idle_vehicle, vehicl
 use arrayvec::ArrayVec;
 use line_text::Fields;
 use ride_model::Vehicle;
-use ride_model::limits::LATEST_TIME;
+use ride_model::limits::{LATEST_TIME, MOST_VEHICLE_CHAIRS, MOST_VEHICLE_SEATS};
 
 /// The numbers of a vehicle line.
 #[derive(Clone, Copy, Debug)]
@@ -42,7 +42,10 @@ pub fn read_vehicle(fields: &mut Fields<'_>) -> Option<NewVehicle>
 pub fn has_value_out(new: &NewVehicle) -> bool
     ensures { result ≡ has_value_out new.now }
 {
-    new.seats == 0 || new.seats > 16 || new.chairs > 4 || new.ready > LATEST_TIME
+    new.seats == 0
+        || new.seats > MOST_VEHICLE_SEATS
+        || new.chairs > MOST_VEHICLE_CHAIRS
+        || new.ready > LATEST_TIME
 }
 
 /// The vehicle, idle and on duty.

@@ -4,7 +4,7 @@ ghost use Rattle.ride_model.specs.declared.vehicle.Vehicle.{Vehicle};
 ghost use Rattle.ride_model.specs.Road.{RoadMap};
 ghost use Rattle.ride_model.specs.Seating.{vehicle_ids};
 ghost use Rattle.ride_model.specs.Vehicle.{ride_ids};
-ghost use Rattle.ride_model.specs.Limits.{largest_batch};
+ghost use Rattle.ride_model.specs.Limits.{largest_batch, most_vehicles};
 ghost use Rattle.batch_commit.specs.Answer.{CertifiesOverCells, undecided};
 ghost use Rattle.batch_commit.specs.Table.{FitsBatch, IsTableOf};
 ghost use Rattle.hungarian.specs.Seats.{seat_at, seats_by};
@@ -76,7 +76,7 @@ fn seats_of(
     requires few { length wins.now ≤ largest_batch }
     requires rows_are { table.now.rows ≡ length wins.now }
     requires columns_are { table.now.columns ≡ length vehicles.now }
-    requires few_vehicles { length vehicles.now ≤ 1000 }
+    requires few_vehicles { length vehicles.now ≤ most_vehicles }
     ensures { IfOk result (λ seats. seats ≡ seats_by table.now (ride_ids (won_rides wins.now)) (vehicle_ids vehicles.now)
         (won_columns vehicles.now wins.now) (length wins.now)) }
 {
@@ -93,7 +93,7 @@ fn seats_of(
 fn seat_of(table: &PriceTable, vehicles: &[Vehicle], row: u32, win: &Win) -> Option<Seat>
     requires row_in { row < table.now.rows }
     requires columns_are { table.now.columns ≡ length vehicles.now }
-    requires few_vehicles { length vehicles.now ≤ 1000 }
+    requires few_vehicles { length vehicles.now ≤ most_vehicles }
     ensures { (requests : List ℕ) → slice_index requests row ≡ win.now.ride.id
         → result ≡ seat_at table.now requests (vehicle_ids vehicles.now) row (won_column vehicles.now win.now) }
 {

@@ -1,6 +1,6 @@
 //! The grid of the prices of several companies.
 ghost use Rattle.std.specs.Prelude.{◌≡◌, ℕ, ◌+◌, ◌<◌, ◌≤◌, ◌^◌, length, sum_by, All, IfOk, IfSome, None};
-ghost use Rattle.dual_check.specs.Cells.{cell_at};
+ghost use Rattle.dual_check.specs.Cells.{cell_at, widest_grid};
 ghost use Rattle.fleet_league.specs.declared.quotes.Quote.{Quote};
 ghost use Rattle.fleet_league.specs.Filling.{ChangesOnly};
 ghost use Rattle.fleet_league.specs.Round.{IsPriced, IsUnion, StandsFrom, company_prices};
@@ -34,7 +34,7 @@ fn vehicles_of(quotes: &[Quote]) -> u32
     requires few_companies { length quotes.now ≤ 8 }
     requires priced { All (λ (quote : Quote). IsPriced quote.prices) quotes.now }
     ensures sum { result ≡ sum_by (λ (quote : Quote). quote.prices.columns) quotes.now }
-    ensures few { result ≤ 8000 }
+    ensures few { result ≤ widest_grid }
 {
     let mut vehicles = 0;
     for quote in quotes {

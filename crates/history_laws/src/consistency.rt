@@ -4,6 +4,7 @@ ghost use Rattle.ride_model.specs.declared.entry.Entry.{Entry};
 ghost use Rattle.ride_model.specs.declared.vehicle.Vehicle.{Vehicle};
 ghost use Rattle.ride_model.specs.State.{State};
 ghost use Rattle.ride_model.specs.Legal.{IsLegal, replay};
+ghost use Rattle.ride_model.specs.Limits.{most_stops};
 ghost use Rattle.history_laws.specs.Start.{IsStart, fed_total};
 ghost use Rattle.history_laws.specs.Consistent.{IsConsistent};
 
@@ -25,7 +26,7 @@ pub fn equal_versions_are_equal_records()
 /// A vehicle has at most 16 stops, and no more rides than stops.
 pub fn plans_have_at_most_16_stops()
     ensures stops { (feeds desks : ℕ) (start : State) (entries : List Entry) → IsStart start → IsLegal feeds desks start entries
-        → All (λ (v : Vehicle). length v.stops.items ≤ 16) (replay start entries).vehicles }
+        → All (λ (v : Vehicle). length v.stops.items ≤ most_stops) (replay start entries).vehicles }
     ensures rides { (feeds desks : ℕ) (start : State) (entries : List Entry) → IsStart start → IsLegal feeds desks start entries
         → All (λ (v : Vehicle). length v.rides.items ≤ length v.stops.items) (replay start entries).vehicles }
 {}

@@ -1,10 +1,11 @@
 //! Searches for shortest augmenting paths.
 ghost use Rattle.std.specs.Prelude.{◌≡◌, ℕ, ◌+◌, ◌-◌, ◌<◌, ◌≤◌, length, slice_set, slice_index_or, replicate, Some, None, IfOk};
+ghost use Rattle.ride_model.specs.Limits.{greatest_penalty};
 ghost use Rattle.dual_check.specs.Grid.{price_at};
 ghost use Rattle.hungarian.specs.Mates.{mate};
 ghost use Rattle.hungarian.specs.Ways.{IsShortened, IsNearest, IsRelaxable};
 ghost use Rattle.hungarian.specs.Labels.{distance_at, source_at, rank_at, IsSized, IsNext, IsPath, sooner_path};
-ghost use Rattle.dual_check.specs.Cells.{cell_at, IsGrid};
+ghost use Rattle.dual_check.specs.Cells.{cell_at, IsGrid, widest_grid};
 ghost use Rattle.hungarian.specs.Partial.{IsPartial};
 
 use crate::duals::Duals;
@@ -65,7 +66,7 @@ impl Search {
 
     /// Settles an open column, and answers its distance.
     fn settle(&mut self, column: u32) -> u64
-        requires room { self.old.steps < 8000 }
+        requires room { self.old.steps < widest_grid }
         requires column_in { column < length self.old.ranks.items }
         requires same { length self.old.distances.items ≡ length self.old.ranks.items }
         ensures distance { result ≡ distance_at self.old column }
@@ -117,7 +118,7 @@ impl Search {
         root: u32,
     ) -> Path
         requires grid { IsGrid grid.now }
-        requires penalty_limit { penalty ≤ 1000000000000 }
+        requires penalty_limit { penalty ≤ greatest_penalty }
         requires root_in { root < grid.now.rows }
         requires partial { IsPartial grid.now penalty root matches.now duals.now }
         requires sized { IsSized grid.now.columns self.old }
@@ -154,8 +155,8 @@ impl Search {
 
 /// The shorter of a path and the one that ends by leaving out a row.
 fn sooner(path: Path, reach: Reach, penalty: u64) -> Path
-    requires distance_limit { reach.distance ≤ 1000000000000 }
-    requires penalty_limit { penalty ≤ 1000000000000 }
+    requires distance_limit { reach.distance ≤ greatest_penalty }
+    requires penalty_limit { penalty ≤ greatest_penalty }
     requires capped { reach.price ≤ penalty }
     ensures { result ≡ sooner_path path reach penalty }
 {

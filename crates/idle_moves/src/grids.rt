@@ -3,7 +3,7 @@ ghost use Rattle.std.specs.Prelude.{◌≡◌, ◌≢◌, ℕ, ◌+◌, ◌*◌,
 ghost use Rattle.std.specs.List.{flat_map};
 ghost use Rattle.ride_model.specs.declared.vehicle.Ride.{Ride};
 ghost use Rattle.ride_model.specs.Road.{IsNode};
-ghost use Rattle.ride_model.specs.Limits.{largest_batch, longest_reach};
+ghost use Rattle.ride_model.specs.Limits.{largest_batch, longest_reach, most_vehicles};
 ghost use Rattle.idle_moves.specs.Sheet.{within};
 ghost use Rattle.idle_moves.specs.Standby.{cells_of};
 ghost use Rattle.idle_moves.specs.Filling.{BeginsWith, with_cell};
@@ -91,7 +91,7 @@ pub(crate) fn times_grid(
     scratch: &mut Scratch,
 ) -> Result<Grid, NoMemory>
     requires few_rows { length requests.now ≤ largest_batch }
-    requires few_columns { length nodes.now ≤ 1000 }
+    requires few_columns { length nodes.now ≤ most_vehicles }
     requires reach_limit { reach ≤ longest_reach }
     requires pickups { All (λ (ride : Ride). IsNode roads.now ride.from) requests.now }
     requires stands { All (IsNode roads.now) nodes.now }

@@ -3,7 +3,7 @@ ghost use Rattle.std.specs.Prelude.{◌≡◌, ◌≤◌, ◌-◌, ◌<◌, ◌^
 ghost use Rattle.ride_model.specs.declared.vehicle.Ride.{Ride};
 ghost use Rattle.ride_model.specs.declared.vehicle.Vehicle.{Vehicle};
 ghost use Rattle.ride_model.specs.Road.{IsNode};
-ghost use Rattle.ride_model.specs.Limits.{largest_batch, longest_reach};
+ghost use Rattle.ride_model.specs.Limits.{largest_batch, longest_reach, most_vehicles};
 ghost use Rattle.dual_check.specs.Grid.{CertifiesPairing};
 ghost use Rattle.idle_moves.specs.declared.standby.Standby.{Standby};
 ghost use Rattle.idle_moves.specs.Sheet.{IsSheet, IsSheetOver, Shows};
@@ -67,7 +67,7 @@ fn plan_over(
     scratch: &mut Scratch,
 ) -> Result<MoveSheet, NoMemory>
     requires few_requests { length requests.now ≤ largest_batch }
-    requires few_vehicles { length vehicles.now ≤ 1000 }
+    requires few_vehicles { length vehicles.now ≤ most_vehicles }
     requires reach_limit { reach ≤ longest_reach }
     requires pickups { All (λ (ride : Ride). IsNode roads.now ride.from) requests.now }
     requires stands { All (λ (vehicle : Standby). IsNode roads.now vehicle.node) vehicles.now }

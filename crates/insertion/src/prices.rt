@@ -1,7 +1,7 @@
 //! When a vehicle would start for a batch, and what the change of its plan costs.
 ghost use Rattle.std.specs.Prelude.{◌≡◌, ◌≤◌, ◌+◌, ◌*◌, ◌&&◌, length, nat_le};
 ghost use Rattle.ride_model.specs.Offers.{is_idle, is_open, start_of};
-ghost use Rattle.ride_model.specs.Limits.{latest_time, longest_lead};
+ghost use Rattle.ride_model.specs.Limits.{latest_time, longest_lead, most_stops, greatest_weight};
 
 use ride_model::{Settings, Vehicle};
 
@@ -35,7 +35,7 @@ pub fn start_of(vehicle: &Vehicle, lead: u64, time: u64) -> u64
 /// The number of stops of a vehicle's plan.
 pub fn number_of_stops(vehicle: &Vehicle) -> usize
     ensures number { result ≡ length vehicle.now.stops.items }
-    ensures few { result ≤ 16 }
+    ensures few { result ≤ most_stops }
 {
     vehicle.stops.as_slice().len()
 }
@@ -48,8 +48,8 @@ fn is_idle(vehicle: &Vehicle) -> bool
 
 /// The cost of so many more seconds of driving, and of so many to the pickup.
 pub fn cost(settings: &Settings, driven: u64, waited: u64) -> u64
-    requires drive_limit { settings.now.drive ≤ 1000 }
-    requires wait_limit { settings.now.wait ≤ 1000 }
+    requires drive_limit { settings.now.drive ≤ greatest_weight }
+    requires wait_limit { settings.now.wait ≤ greatest_weight }
     requires short_drive { driven ≤ 3000000000000000 }
     requires short_wait { waited ≤ 15000000000000000 }
     ensures { result ≡ settings.now.drive * driven + settings.now.wait * waited }

@@ -1,20 +1,18 @@
 //! The workers that price batches.
 ghost use Rattle.std.specs.Prelude.{◌≡◌, ◌≤◌, length, All, IfOk};
 
+use ride_model::limits::MOST_WORKERS;
 use ride_ports::NoMemory;
 use road_times::{Roads, Scratch};
 use std::alloc::Global;
 use std::thread::{Threads, available_parallelism};
 
-/// The most workers that price a batch. Each has a scratch as large as the map.
-const MOST_WORKERS: usize = 16;
-
-/// As many workers as there are processors.
+/// As many workers as there are processors, up to the most that a desk may have: each has a scratch as large as the map.
 pub fn workers_at_hand(rt: &impl Threads) -> usize
     ensures { 1 ≤ result }
 {
     match available_parallelism(rt) {
-        Ok(processors) => processors.get().min(MOST_WORKERS),
+        Ok(processors) => processors.get().min(MOST_WORKERS as usize),
         Err(_) => 1,
     }
 }

@@ -2,7 +2,7 @@
 ghost use Rattle.std.specs.Prelude.{◌≡◌, ◌≤◌, length, filter, All};
 ghost use Rattle.ride_model.specs.Keeps.{broken_of};
 ghost use Rattle.ride_model.specs.Vehicle.{IsLawfulSomewhere, ride_ids};
-ghost use Rattle.ride_model.specs.Limits.{longest_dwell};
+ghost use Rattle.ride_model.specs.Limits.{longest_dwell, most_rides};
 ghost use Rattle.promises.specs.Arrivals.{breaks_along, IsLimited};
 
 use crate::arrivals::breaks_limit;
@@ -26,7 +26,7 @@ pub fn broken(vehicle: &Vehicle, dwell: u64) -> Ids
 
 // Those of these rides of which the arrivals at these stops break a limit.
 fn broken_among(rides: &[Ride], stops: &[Stop], times: &[u64]) -> Ids
-    requires few { length rides.now ≤ 16 }
+    requires few { length rides.now ≤ most_rides }
     requires one_each { length times.now ≡ length stops.now }
     requires limited { All IsLimited rides.now }
     requires soon { All (λ time. time ≤ 10000000000000000) times.now }

@@ -2,6 +2,7 @@
 use Rattle.std.specs.Prelude.{◌≡◌, ℕ, ◌+◌, if◌then◌else◌, List, [], ◌∷◌, map, All}
 use Rattle.ride_model.specs.State.{AcceptedRequest}
 use Rattle.ride_model.specs.Batch.{is_waiting}
+use Rattle.ride_model.specs.Limits.{most_requests}
 use Rattle.request_book.specs.declared.Accepted.{Accepted}
 use Rattle.request_book.specs.Book.{IsBook}
 use Rattle.wait_list.specs.Waiting.{Waiting}
@@ -24,5 +25,5 @@ waiting_places place (request ∷ requests) =
 pub record IsKept (entries : List (ℕ × Accepted)) (waiting : Waiting) : Type 0 where
   pub book : IsBook (requests_in entries)
   pub keys_are : All (λ (entry : ℕ × Accepted). entry.0 ≡ entry.1.ride.id) entries
-  pub room : waiting.capacity ≡ 100000
+  pub room : waiting.capacity ≡ most_requests
   pub places_are : waiting.places ≡ waiting_places 0 (requests_in entries)

@@ -2,7 +2,7 @@
 use Rattle.std.specs.Prelude.{◌≡◌, ◌⊎◌, ℕ, ◌≤◌, ◌&&◌, nat_le, String, if◌then◌else◌, true, List, [], ◌∷◌, length, take, slice_index_or, codes, bytes_eq, string_bytes, Option, Some, None, option_and_then, option_map, ⊤, Result, Ok, Err, MatchResult}
 use Rattle.line_text.specs.Numbers.{number_of}
 use Rattle.ride_model.specs.Text.{IsOneOrTwo}
-use Rattle.ride_model.specs.Limits.{longest_reach}
+use Rattle.ride_model.specs.Limits.{longest_reach, most_workers, most_vehicles}
 use Rattle.clap.specs.Walk.{Rule, first_of}
 use Rattle.clap.specs.Simple.{App, matches_of, new_app, new_rule, on_top, with_rule}
 use Rattle.clap.specs.Faults.{fault_of}
@@ -109,7 +109,7 @@ serve_wish words =
     option_and_then (λ map. option_and_then (λ fleet. option_and_then (λ riders. option_and_then (λ drivers.
     option_and_then (λ workers. option_map (λ desks. a_service map fleet riders drivers workers desks)
     (option_and_then (number_within 1 2) (value (codes "desks"))))
-    (option_and_then (number_within 1 16) (value (codes "workers"))))
+    (option_and_then (number_within 1 most_workers) (value (codes "workers"))))
     (value (codes "drivers"))) (value (codes "riders"))) (value (codes "fleet"))) (value (codes "map"))
 
 abbrev pub ahead_wish : List (List ℕ) → Option Wanted
@@ -140,7 +140,7 @@ drill_wish words =
     option_and_then (λ side. option_and_then (λ vehicles. option_and_then (λ requests. option_map (λ seed. plan_of side vehicles requests seed)
     (option_and_then (number_within 0 2147483647) (value (codes "seed"))))
     (option_and_then (number_within 0 16000) (value (codes "requests"))))
-    (option_and_then (number_within 0 1000) (value (codes "vehicles"))))
+    (option_and_then (number_within 0 most_vehicles) (value (codes "vehicles"))))
     (option_and_then (number_within 2 100) (value (codes "side")))
 
 -- the drill that the words ask for, where the first of them does
@@ -182,7 +182,7 @@ wanted_by (Ahead map fleet feed reach) = an_ahead (string_bytes map) (string_byt
 
 -- the numbers of a wish are within their ranges
 abbrev pub IsInRange : Wish → Type 0
-IsInRange (Serve map fleet riders drivers workers desks) = (1 ≤ workers) × (workers ≤ 16) × IsOneOrTwo desks
+IsInRange (Serve map fleet riders drivers workers desks) = (1 ≤ workers) × (workers ≤ most_workers) × IsOneOrTwo desks
 IsInRange (Ahead map fleet feed reach) = (1 ≤ reach) × (reach ≤ longest_reach)
 IsInRange _ = ⊤
 

@@ -4,6 +4,7 @@ ghost use Rattle.ride_model.specs.declared.vehicle.Vehicle.{Vehicle};
 ghost use Rattle.ride_model.specs.Settings.{IsSettings};
 ghost use Rattle.ride_model.specs.Text.{IsOneOrTwo};
 ghost use Rattle.ride_model.specs.Vehicle.{IsLawful};
+ghost use Rattle.ride_model.specs.Limits.{most_workers};
 ghost use Rattle.ride_dispatch.specs.Answers.{told_bytes};
 ghost use Rattle.ride_dispatch.specs.Runs.{IsRun, IsWork, seen};
 ghost use Rattle.ride_dispatch.specs.Sessions.{EndsService, EndsServiceOver};
@@ -29,7 +30,7 @@ pub fn serve<R: Threads + Wait + Sync, H: Shelf, K: Sink, G: Gate>(
     out: &mut K,
     gate: &G,
 ) -> u8
-    requires workers { (1 ≤ workers) × (workers ≤ 16) }
+    requires workers { (1 ≤ workers) × (workers ≤ most_workers) }
     requires desks { IsOneOrTwo desks }
     requires none_asked { H.asked shelf.old ≡ [] }
     requires none_brought { H.brought shelf.old ≡ 0 }
@@ -63,7 +64,7 @@ fn serve_feeds<R: Threads + Wait + Sync, H: Shelf, K: Sink, G: Gate>(
     out: &mut K,
     gate: &G,
 ) -> u8
-    requires workers { (1 ≤ workers) × (workers ≤ 16) }
+    requires workers { (1 ≤ workers) × (workers ≤ most_workers) }
     requires desks { IsOneOrTwo desks }
     requires asked_room { length (H.asked shelf.old) < 7 }
     requires back_room { length (H.back shelf.old) < 7 }

@@ -12,7 +12,7 @@ use commands::{
     ahead_command, audit_command, book_command, drill_command, league_command, replay_command,
     serve_command,
 };
-use ride_model::limits::LONGEST_REACH;
+use ride_model::limits::{LONGEST_REACH, MOST_WORKERS};
 use std::alloc::Global;
 use values::{number, read_by, text};
 
@@ -267,7 +267,7 @@ fn serve_words(alloc: Global, words: &[String]) -> Result<Wish, WordsError>
     let fleet = text(alloc, &given, "fleet")?;
     let riders = text(alloc, &given, "riders")?;
     let drivers = text(alloc, &given, "drivers")?;
-    let workers = number(&given, "workers", 1, 16)? as u32;
+    let workers = number(&given, "workers", 1, MOST_WORKERS)? as u32;
     let desks = number(&given, "desks", 1, 2)? as u8;
     Ok(Wish::Serve {
         map,

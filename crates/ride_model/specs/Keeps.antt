@@ -7,6 +7,7 @@ use Rattle.ride_model.specs.declared.vehicle.Vehicle.{Vehicle}
 use Rattle.ride_model.specs.Loads.{is_pickup, loads_fit}
 use Rattle.ride_model.specs.Times.{visits_of}
 use Rattle.ride_model.specs.Vehicle.{ride_ids}
+use Rattle.ride_model.specs.Limits.{most_stops}
 
 -- whether it is a pickup at this node
 abbrev pub is_pickup_at : ℕ → Stop → Bool
@@ -34,7 +35,7 @@ keeps_ride v start dwell ride = keeps_visits ride ride.picked (visits_of v start
 -- whether a vehicle keeps its promises from a start: at most 16 stops, each ride's promise, and all loads fit
 abbrev pub keeps : Vehicle → ℕ → ℕ → Bool
 keeps v start dwell =
-    nat_le (length v.stops.items) 16 && list_all (keeps_ride v start dwell) v.rides.items && loads_fit v
+    nat_le (length v.stops.items) most_stops && list_all (keeps_ride v start dwell) v.rides.items && loads_fit v
 
 -- whether a stop's time breaks a limit of the ride
 abbrev pub breaks_visits : Ride → Option ℕ → List (Stop × ℕ) → Bool

@@ -31,6 +31,23 @@ most_seats = 8
 abbrev pub most_chairs : ℕ
 most_chairs = 4
 
+-- the most seats and places for wheelchairs of a vehicle
+abbrev pub most_vehicle_seats : ℕ
+most_vehicle_seats = 16
+
+abbrev pub most_vehicle_chairs : ℕ
+most_vehicle_chairs = 4
+
+-- the most stops of a plan, the most rides of a vehicle, and the most vehicles of a fleet
+abbrev pub most_stops : ℕ
+most_stops = 16
+
+abbrev pub most_rides : ℕ
+most_rides = 16
+
+abbrev pub most_vehicles : ℕ
+most_vehicles = 1000
+
 -- the most requests that a session accepts, and that a batch takes
 abbrev pub most_requests : ℕ
 most_requests = 100000
@@ -45,6 +62,14 @@ most_batches = 2000
 -- more commands than a feed has lines
 abbrev pub most_commands : ℕ
 most_commands = 1000000000
+
+-- the most commands of a pass before its feed is read: with those of the lines they stay below most_commands
+abbrev pub most_earlier_commands : ℕ
+most_earlier_commands = 900000000
+
+-- the most workers of a desk
+abbrev pub most_workers : ℕ
+most_workers = 16
 
 -- the greatest cost of turning a request away, and of a second of driving or waiting
 abbrev pub greatest_penalty : ℕ

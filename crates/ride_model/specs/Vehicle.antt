@@ -8,7 +8,7 @@ use Rattle.ride_model.specs.declared.vehicle.Stop.{Stop}
 use Rattle.ride_model.specs.declared.vehicle.Vehicle.{Vehicle}
 use Rattle.ride_model.specs.Road.{RoadMap, IsRoadMap, IsNode, travel}
 use Rattle.ride_model.specs.Loads.{loads_fit}
-use Rattle.ride_model.specs.Limits.{latest_ready, latest_time, longest_ride, most_seats}
+use Rattle.ride_model.specs.Limits.{latest_ready, latest_time, longest_ride, most_seats, most_vehicle_seats, most_vehicle_chairs}
 
 -- a ride joins two different nodes, has a load and has limits in their ranges
 pub record IsRide (map : RoadMap) (ride : Ride) : Type 0 where
@@ -57,8 +57,8 @@ HasLegs map at (stop ∷ stops) = (travel map at stop.node ≡ Some stop.leg) ×
 -- a vehicle whose record is in order, its loads aside
 pub record IsRouted (map : RoadMap) (v : Vehicle) : Type 0 where
   pub some_seat : 1 ≤ v.seats
-  pub seats_limit : v.seats ≤ 16
-  pub chairs_limit : v.chairs ≤ 4
+  pub seats_limit : v.seats ≤ most_vehicle_seats
+  pub chairs_limit : v.chairs ≤ most_vehicle_chairs
   pub at_node : IsNode map v.at
   pub ready_limit : v.ready ≤ latest_ready
   pub rides_fit : All (IsRide map) v.rides.items

@@ -1,5 +1,6 @@
 //! Short lists of ids.
 ghost use Rattle.std.specs.Prelude.{◌≡◌, ◌<◌, ◌≤◌, [], ◌∷◌, ◌++◌, length};
+ghost use Rattle.ride_model.specs.Limits.{most_rides};
 
 use arrayvec::ArrayVec;
 use std::marker::Model;
@@ -33,7 +34,7 @@ impl Ids {
 
     /// Adds an id at the end.
     pub fn push(&mut self, id: u64)
-        requires { length self.old < 16 }
+        requires { length self.old < most_rides }
         ensures { self.new ≡ self.old ++ id ∷ [] }
     {
         self.items.push(id);
@@ -43,7 +44,7 @@ impl Ids {
     #[inline]
     pub fn items(&self) -> &[u64]
         ensures items { result.now ≡ self.now }
-        ensures at_most_16 { length self.now ≤ 16 }
+        ensures at_most_16 { length self.now ≤ most_rides }
     {
         self.items.as_slice()
     }

@@ -24,11 +24,20 @@ pub const MOST_SEATS: u64 = 8;
 /// The most places for wheelchairs of a request.
 pub const MOST_CHAIRS: u64 = 4;
 
+/// The most seats of a vehicle.
+pub const MOST_VEHICLE_SEATS: u64 = 16;
+
+/// The most places for wheelchairs of a vehicle.
+pub const MOST_VEHICLE_CHAIRS: u64 = 4;
+
 /// The most requests of a batch.
 pub const LARGEST_BATCH: u64 = 128;
 
 /// The most batches that a session is asked for.
 pub const MOST_BATCHES: u64 = 2_000;
+
+/// The most workers of a desk.
+pub const MOST_WORKERS: u64 = 16;
 
 /// The greatest cost of turning a request away.
 pub const GREATEST_PENALTY: u64 = 1_000_000_000_000;

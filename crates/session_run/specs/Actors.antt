@@ -3,6 +3,7 @@ use Rattle.std.specs.Prelude.{◌≡◌, ℕ, ◌≤◌, ◌++◌, ◌||◌, Boo
 use Rattle.ride_model.specs.declared.entry.Entry.{Entry}
 use Rattle.ride_model.specs.Road.{RoadMap}
 use Rattle.ride_model.specs.Text.{entry_lines}
+use Rattle.ride_model.specs.Limits.{most_earlier_commands}
 use Rattle.ride_ports.specs.Count.{Rose}
 use Rattle.ride_ports.specs.declared.outcome.Ran.{Ran}
 use Rattle.ride_ports.specs.declared.sources.Failed.{Failed}
@@ -52,7 +53,7 @@ module _ {g : Ghosts Kept Recorded Entry} where
   pub record MayRunFeed (board : SharedBoard) (log : ℕ) (pass : Pass Kept Recorded Entry g) : Type 0 where
     pub feed : MayFeed board pass
     pub log_is : log ≡ (root_of (knowledge pass)).start.settings.log
-    pub few : length (commands_in (knowledge pass).own) ≤ 900000000
+    pub few : length (commands_in (knowledge pass).own) ≤ most_earlier_commands
 
   -- a feed ran
   pub record LeavesFeed (board : SharedBoard) (log : ℕ) (run : FeedRun) (ran : Ran) (old new : Pass Kept Recorded Entry g) : Type 0 where

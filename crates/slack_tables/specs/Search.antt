@@ -6,7 +6,7 @@ use Rattle.ride_model.specs.declared.vehicle.Load.{Load}
 use Rattle.ride_model.specs.declared.vehicle.Ride.{Ride}
 use Rattle.ride_model.specs.declared.vehicle.Vehicle.{Vehicle}
 use Rattle.ride_model.specs.Road.{least_of}
-use Rattle.ride_model.specs.Limits.{latest_ready, latest_time, longest_dwell, longest_ride}
+use Rattle.ride_model.specs.Limits.{latest_ready, latest_time, longest_dwell, longest_ride, greatest_weight}
 use Rattle.insertion.specs.declared.near.Near.{Near}
 use Rattle.insertion.specs.declared.near.NearStop.{NearStop}
 use Rattle.insertion.specs.Joined.{leg_before, leg_after}
@@ -147,8 +147,8 @@ pub record IsNearStop (stop : NearStop) : Type 0 where
 pub record AreTerms (terms : Terms) : Type 0 where
   pub start_limit : terms.start ≤ latest_ready
   pub dwell_limit : terms.dwell ≤ longest_dwell
-  pub drive_limit : terms.drive ≤ 1000
-  pub wait_limit : terms.wait ≤ 1000
+  pub drive_limit : terms.drive ≤ greatest_weight
+  pub wait_limit : terms.wait ≤ greatest_weight
   pub latest_limit : terms.latest ≤ latest_time
   pub longest_limit : terms.longest ≤ longest_ride
   pub few_seats : terms.takes.seats ≤ 8

@@ -1,7 +1,7 @@
 //! The tables of a plan.
 ghost use Rattle.std.specs.Prelude.{◌≡◌, ◌≤◌, ◌<◌, ◌+◌, ◌-◌, ◌∷◌, length, slice_index, slice_index_or, []};
 ghost use Rattle.ride_model.specs.Vehicle.{IsLawfulSomewhere};
-ghost use Rattle.ride_model.specs.Limits.{latest_ready, longest_dwell};
+ghost use Rattle.ride_model.specs.Limits.{latest_ready, longest_dwell, most_stops};
 ghost use Rattle.slack_tables.specs.Tables.{PlanSlack, load_at, room_at};
 ghost use Rattle.slack_tables.specs.SlackOf.{slack_of};
 
@@ -98,7 +98,7 @@ impl Slack {
 
 // The load at the start and those after each stop.
 fn from_start(first: Load, after: &[Load]) -> ArrayVec<Load, 17>
-    requires { length after.now ≤ 16 }
+    requires { length after.now ≤ most_stops }
     ensures { result.items ≡ first ∷ after.now }
 {
     let mut loads = ArrayVec::new();

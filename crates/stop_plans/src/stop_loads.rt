@@ -3,6 +3,7 @@ ghost use Rattle.std.specs.Prelude.{◌≡◌, ◌≤◌, [], length, map, All, 
 ghost use Rattle.ride_model.specs.declared.vehicle.Ride.{Ride};
 ghost use Rattle.ride_model.specs.Loads.{is_pickup, load_after, loads_of};
 ghost use Rattle.ride_model.specs.Vehicle.{IsRoutedSomewhere};
+ghost use Rattle.ride_model.specs.Limits.{most_rides, most_stops};
 ghost use Rattle.stop_plans.specs.Aboard.{boarded, load_aboard, loads_behind, IsSmall};
 
 use arrayvec::ArrayVec;
@@ -27,8 +28,8 @@ pub fn load_at_start(vehicle: &Vehicle) -> Load
 
 // What is aboard after each of these stops.
 fn loads_along(rides: &[Ride], stops: &[Stop]) -> ArrayVec<Load, 16>
-    requires few_rides { length rides.now ≤ 16 }
-    requires few_stops { length stops.now ≤ 16 }
+    requires few_rides { length rides.now ≤ most_rides }
+    requires few_stops { length stops.now ≤ most_stops }
     requires small { All IsSmall rides.now }
     ensures { result.items ≡ loads_behind rides.now (map (λ (ride : Ride). is_some ride.picked) rides.now) stops.now }
 {
@@ -43,7 +44,7 @@ fn loads_along(rides: &[Ride], stops: &[Stop]) -> ArrayVec<Load, 16>
 
 // Whether each rider is aboard at the start.
 fn aboard_at_start(rides: &[Ride]) -> ArrayVec<bool, 16>
-    requires { length rides.now ≤ 16 }
+    requires { length rides.now ≤ most_rides }
     ensures riders { result.items ≡ map (λ (ride : Ride). is_some ride.picked) rides.now }
     ensures one_each { length result.items ≡ length rides.now }
 {
@@ -56,7 +57,7 @@ fn aboard_at_start(rides: &[Ride]) -> ArrayVec<bool, 16>
 
 // Whether each rider is aboard after a stop, where these were before it.
 fn aboard_after(rides: &[Ride], aboard: &[bool], stop: &Stop) -> ArrayVec<bool, 16>
-    requires few { length rides.now ≤ 16 }
+    requires few { length rides.now ≤ most_rides }
     requires one_flag_each { length aboard.now ≡ length rides.now }
     ensures riders { result.items ≡ boarded stop.now rides.now aboard.now }
     ensures one_each_after { length result.items ≡ length rides.now }
@@ -96,7 +97,7 @@ fn part_of(ride: &Ride, aboard: bool) -> Load
 
 // The load of those who are aboard.
 fn load_of(rides: &[Ride], aboard: &[bool]) -> Load
-    requires few { length rides.now ≤ 16 }
+    requires few { length rides.now ≤ most_rides }
     requires one_flag_each { length aboard.now ≡ length rides.now }
     requires small { All IsSmall rides.now }
     ensures { result ≡ load_aboard rides.now aboard.now }

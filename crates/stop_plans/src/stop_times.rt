@@ -3,7 +3,7 @@ ghost use Rattle.std.specs.Prelude.{◌≡◌, ◌≤◌, length, All};
 ghost use Rattle.ride_model.specs.declared.vehicle.Stop.{Stop};
 ghost use Rattle.ride_model.specs.Times.{times_from, times_of};
 ghost use Rattle.ride_model.specs.Vehicle.{IsRoutedSomewhere};
-ghost use Rattle.ride_model.specs.Limits.{latest_ready, longest_dwell};
+ghost use Rattle.ride_model.specs.Limits.{latest_ready, longest_dwell, most_stops};
 
 use arrayvec::ArrayVec;
 use ride_model::{Stop, Vehicle};
@@ -20,7 +20,7 @@ pub fn times(vehicle: &Vehicle, start: u64, dwell: u64) -> ArrayVec<u64, 16>
 
 // The arrivals along stops, each leg of which is at most 5 x 10^14 seconds.
 fn times_along(stops: &[Stop], start: u64, dwell: u64) -> ArrayVec<u64, 16>
-    requires few { length stops.now ≤ 16 }
+    requires few { length stops.now ≤ most_stops }
     requires legs { All (λ (stop : Stop). stop.leg ≤ 500000000000000) stops.now }
     requires start_limit { start ≤ latest_ready }
     requires dwell_limit { dwell ≤ longest_dwell }

@@ -1,5 +1,6 @@
 //! Replies, read from the fields of a line.
 ghost use Rattle.std.specs.Prelude.{◌≡◌, ◌≤◌, length};
+ghost use Rattle.ride_model.specs.Limits.{most_rides};
 ghost use Rattle.trip_log.specs.Reads.{broken_from, late_from, numbered_reply, plain_reply, reply_from, short_reply};
 
 use crate::items::take_number;
@@ -99,7 +100,7 @@ fn read_broken(fields: &mut Fields<'_>) -> Option<Ids>
 
 // A list of these ids.
 fn ids_of(ids: &[u64]) -> Ids
-    requires { length ids.now ≤ 16 }
+    requires { length ids.now ≤ most_rides }
     ensures { result ≡ ids.now }
 {
     let mut list = Ids::new();

@@ -11,7 +11,7 @@ ghost use Rattle.ride_model.specs.State.{State, request_state, start_state};
 ghost use Rattle.ride_model.specs.Step.{step};
 ghost use Rattle.ride_model.specs.Text.{IsSpelled, IsSpelledCommand};
 ghost use Rattle.ride_model.specs.Vehicle.{ride_ids};
-ghost use Rattle.ride_model.specs.Limits.{most_batches, most_commands};
+ghost use Rattle.ride_model.specs.Limits.{most_batches, most_commands, largest_batch};
 ghost use Rattle.history_laws.specs.Consistent.{IsOpenBatch};
 ghost use Rattle.board_core.specs.Recorded.{state_of};
 ghost use Rattle.fleet_league.specs.League.{after_round};
@@ -110,10 +110,10 @@ impl<'r> RequestDesk<'r> {
     /// Closes the requests of an open round.
     pub(crate) fn close_round(&mut self, batch: Batch) -> Result<(), NoMemory>
         requires opened { (before : State) × HasOpened before batch self.old }
-        requires few { length (fed_commands 1 self.old.history) + 128 < most_commands }
+        requires few { length (fed_commands 1 self.old.history) + largest_batch < most_commands }
         ensures state { (before : State) → HasOpened before batch self.old → OnOk result (state_of self.new ≡ after_round before batch.requests) }
         ensures fits { OnOk result (IsDesk self.new) }
-        ensures some_more { OnOk result (length (fed_commands 1 self.new.history) ≤ length (fed_commands 1 self.old.history) + 128) }
+        ensures some_more { OnOk result (length (fed_commands 1 self.new.history) ≤ length (fed_commands 1 self.old.history) + largest_batch) }
         ensures start { self.new.start ≡ self.old.start }
     {
         cancel_all(&mut self.board, batch.requests())?;

@@ -2,7 +2,7 @@
 ghost use Rattle.std.specs.Prelude.{◌≡◌, ◌^◌, ◌<◌, ◌≤◌, ℕ, length, sum, All, IfOk};
 ghost use Rattle.dual_check.specs.Cells.{GridCells};
 ghost use Rattle.dual_check.specs.Grid.{CertifiesPairing, pairing_cost};
-ghost use Rattle.ride_model.specs.Limits.{largest_batch};
+ghost use Rattle.ride_model.specs.Limits.{largest_batch, greatest_penalty};
 ghost use Rattle.fleet_league.specs.declared.quotes.Quote.{Quote};
 ghost use Rattle.fleet_league.specs.League.{IsRoundOf, round_columns, round_rows};
 ghost use Rattle.fleet_league.specs.Round.{IsPriced};
@@ -31,7 +31,7 @@ pub(crate) fn parts_of(
     quotes: &[Quote; 2],
     rides: &[Ride],
 ) -> Result<RoundParts, NoMemory>
-    requires penalty_limit { penalty ≤ 1000000000000 }
+    requires penalty_limit { penalty ≤ greatest_penalty }
     requires priced { All (λ (quote : Quote). IsPriced quote.prices) quotes.now }
     requires same_rides { All (λ (quote : Quote). quote.prices.rows ≡ length rides.now) quotes.now }
     ensures { IfOk result (λ parts. IsRoundOf penalty quotes.now rides.now parts.sheet parts.first parts.second) }
@@ -66,7 +66,7 @@ pub fn part_of(
 
 // What a certified pairing costs: what the rows are priced at less what the columns pay.
 fn cost_of(round: &Paired) -> u64
-    requires { (grid : GridCells) × (penalty : ℕ) × (grid.rows ≤ largest_batch) × (penalty ≤ 1000000000000)
+    requires { (grid : GridCells) × (penalty : ℕ) × (grid.rows ≤ largest_batch) × (penalty ≤ greatest_penalty)
         × CertifiesPairing grid penalty round.now.columns round.now.prices round.now.pays }
     ensures { (grid : GridCells) (penalty : ℕ) → CertifiesPairing grid penalty round.now.columns round.now.prices round.now.pays
         → result ≡ pairing_cost grid penalty round.now.columns }

@@ -26,7 +26,7 @@ use std::marker::Model;
 use std::thread::Threads;
 
 /// The refusal of a report to a company that is none.
-const NO_COMPANY: u8 = 18;
+const UNKNOWN_COMPANY: u8 = 18;
 
 /// A league of two companies. Its desk judges requests; a company has those that it has won.
 #[derive(Drop)]
@@ -164,7 +164,9 @@ impl<'r> League<'r> {
         match company {
             1 => self.first.report(command),
             2 => self.second.report(command),
-            _ => Ok(Reply::Refused { code: NO_COMPANY }),
+            _ => Ok(Reply::Refused {
+                code: UNKNOWN_COMPANY,
+            }),
         }
     }
 

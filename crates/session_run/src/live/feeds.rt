@@ -1,7 +1,7 @@
 //! The loop of a feed.
 ghost use Rattle.std.specs.Prelude.{◌≡◌, ◌<◌, ◌≤◌, [], length, false, IsTrue, OnErr, OnOk};
 ghost use Rattle.ride_model.specs.Text.{IsSpelledCommand};
-ghost use Rattle.ride_model.specs.Limits.{most_commands};
+ghost use Rattle.ride_model.specs.Limits.{most_commands, most_earlier_commands};
 ghost use Rattle.ride_ports.specs.Count.{Rose};
 ghost use Rattle.command_lines.specs.Feeds.{HasGiven};
 ghost use Rattle.turn_lock.specs.Passes.{knowledge};
@@ -34,7 +34,7 @@ pub fn feed_loop<'r, R: Wait, S: Source, G: Gate>(
 ) -> Ran
     requires feed { MayFeed board.now pass.old }
     requires log { log ≡ (root_of (knowledge pass.old)).start.settings.log }
-    requires few { length (commands_in (knowledge pass.old).own) ≤ 900000000 }
+    requires few { length (commands_in (knowledge pass.old).own) ≤ most_earlier_commands }
     ensures pass { MayUse board.now pass.new }
     ensures point { IsPoint (knowledge pass.new) }
     ensures ran { RunsFeed log (S.left source.old) (S.left source.new) result (knowledge pass.old) (knowledge pass.new) }
@@ -65,7 +65,7 @@ fn run_feed<'r, R: Wait, S: Source, G: Gate>(
 ) -> Option<Stop>
     requires feed { MayFeed board.now pass.old }
     requires log { log ≡ (root_of (knowledge pass.old)).start.settings.log }
-    requires few { length (commands_in (knowledge pass.old).own) ≤ 900000000 }
+    requires few { length (commands_in (knowledge pass.old).own) ≤ most_earlier_commands }
     ensures feed { MayFeed board.now pass.new }
     ensures submitted { HasSubmitted log (S.left source.old) (S.left source.new) result (knowledge pass.old) (knowledge pass.new) }
     ensures fault { IsTrue (is_source_failed result) → Rose (S.faults source.old) (S.faults source.new) }
@@ -89,7 +89,7 @@ fn submit_commands<'r, R: Wait, S: Source, G: Gate>(
 ) -> Option<Stop>
     requires feed { MayFeed board.now pass.old }
     requires version { reader.old.log ≡ (root_of (knowledge pass.old)).start.settings.log }
-    requires few { length (commands_in (knowledge pass.old).own) ≤ 900000000 }
+    requires few { length (commands_in (knowledge pass.old).own) ≤ most_earlier_commands }
     requires nothing_given { HasGiven reader.old (S.left source.old) [] [] }
     ensures feed { MayFeed board.now pass.new }
     ensures submitted { HasSubmitted reader.old.log (S.left source.old) (S.left source.new) result (knowledge pass.old)

@@ -6,6 +6,7 @@ ghost use Rattle.ride_model.specs.Settings.{IsSettings};
 ghost use Rattle.ride_model.specs.State.{start_state};
 ghost use Rattle.ride_model.specs.Text.{HasLine, IsOneOrTwo, entry_lines, text_of};
 ghost use Rattle.ride_model.specs.Vehicle.{IsLawful};
+ghost use Rattle.ride_model.specs.Limits.{most_workers};
 ghost use Rattle.ride_ports.specs.Count.{Rose, most_count};
 ghost use Rattle.command_lines.specs.Limits.{IsTooLong};
 ghost use Rattle.text_page.specs.Output.{HasPut, IsFresh};
@@ -48,7 +49,7 @@ pub fn serve<R: Threads + Wait + Sync, S: Source, K: Sink, G: Gate>(
     requires lawful { All (IsLawful roads.now) fleet }
     requires idle { All (λ (v : Vehicle). v.stops.items ≡ []) fleet }
     requires first_versions { All (λ (v : Vehicle). v.version ≡ 0) fleet }
-    requires workers { (1 ≤ workers) × (workers ≤ 16) }
+    requires workers { (1 ≤ workers) × (workers ≤ most_workers) }
     requires desks { IsOneOrTwo desks }
     requires riders_count { S.faults riders.old ≢ most_count }
     requires drivers_count { S.faults drivers.old ≢ most_count }
