@@ -15,7 +15,7 @@ use Rattle.ride_dispatch.specs.Runs.{Seen, Untouched}
 pub record EndsDrill (plan : CityPlan) (s : Seen) (status : ℕ) : Type 0 where
   pub ran : Ran
   pub status_is : status ≡ status_of ran
-  pub drilled : ran.no_memory ≡ false → (entries : List Entry) × Drilled plan entries × IsLogged ran s.written_before s.written_after (summary_line plan entries)
+  pub drilled : ran.no_memory ≡ false → (entries : List Entry) × Drilled plan entries × IsLogged ran [] s.written_before s.written_after (summary_line plan entries)
   pub nothing_written : ran.no_memory ≡ true → Untouched s
   pub asked_none : s.asked ≡ []
   pub brought_none : s.brought ≡ 0

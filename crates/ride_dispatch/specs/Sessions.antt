@@ -25,7 +25,7 @@ pub record IsReplayed (network : RoadMap) (settings : Settings) (vehicles : List
   pub to_end : ran.no_memory ≡ false → IsReadWhole ran → IfSome left (λ rest. rest ≡ [])
   pub entries : List Entry
   pub replayed : IsReplay (start_state network settings vehicles) ran feed taken entries
-  pub written : IsWrittenBy reach (start_state network settings vehicles) ran entries before after
+  pub written : IsWrittenBy reach (start_state network settings vehicles) ran taken entries before after
 
 -- the same over the bytes of a map and a fleet file
 pub record IsSession (reach : Option ℕ) (map fleet feed left : Option (List ℕ)) (ran : Ran) (before after : Option (List ℕ)) : Type 0 where

@@ -49,7 +49,7 @@ drill-of plan start commands history drilled start_is commands_are =
 -- what was written of the line of a drill
 pub line-is-logged : {E : Type 0} (written : Result (Unit {0}) E) (before after : Option (List ℕ)) (line text : List ℕ) (failed : Bool) → line ≡ text
     → failed ≡ is_err written → OnOk written (Writes before after line) → OnErr written (WritesPrefix before after line)
-    → IsLogged (record { sink_failed = failed; no_memory = false; source_failed = false; too_long = false }) before after text
+    → IsLogged (record { sink_failed = failed; no_memory = false; source_failed = false; too_long = false }) [] before after text
 line-is-logged (Ok done) before after line text failed is failed_is whole prefix = record {
   whole = λ _. inl (subst (Writes before after) is whole);
   prefix = λ fell. absurd (true≢false (sym fell ∙ failed_is));

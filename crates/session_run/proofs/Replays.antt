@@ -244,9 +244,9 @@ no-replay start ran feed begins text none long =
     each (Some bytes) = (commands_of start.settings.log bytes, refl)
 
 -- a log at its end
-pub is-logged : (ran : Ran) (before after : Option (List ℕ)) (faults n : ℕ) (log : OutputState) (text : List ℕ) → ran.sink_failed ≡ log.failed
-    → (log.failed ≡ false → log.page ≡ []) → HasPut before after faults n log text → IsLogged ran before after text
-is-logged ran before after faults n log text failed nothing_left has = record {
+pub is-logged : (ran : Ran) (taken : List ℕ) (before after : Option (List ℕ)) (faults n : ℕ) (log : OutputState) (text : List ℕ) → ran.sink_failed ≡ log.failed
+    → (log.failed ≡ false → log.page ≡ []) → HasPut before after faults n log text → IsLogged ran taken before after text
+is-logged ran taken before after faults n log text failed nothing_left has = record {
   whole = λ stands. inl (written-whole before after faults n log text has (sym failed ∙ stands) nothing_left);
   prefix = λ fell. written-prefix before after faults n log text has (sym failed ∙ fell);
 }

@@ -39,13 +39,13 @@ same-text reach false true one other sheets same ending = absurd (cc same)
 same-text reach false false one other sheets same ending = ap (λ e. ahead_text reach e sheets) (ending refl)
 
 -- what was written of a session whose run is this
-module _ (start : State) (ran : Ran) (ending : Ending) (before after : Option (List ℕ)) (faults n : ℕ) (s : SessionState)
+module _ (start : State) (ran : Ran) (taken : List ℕ) (ending : Ending) (before after : Option (List ℕ)) (faults n : ℕ) (s : SessionState)
     (start_is : s.board.start ≡ start) (failed : ran.sink_failed ≡ s.log.failed) (memory : ran.no_memory ≡ s.no_memory)
     (ends : s.no_memory ≡ false → ending ≡ feed_ending ran) (nothing_left : s.log.failed ≡ false → s.log.page ≡ []) where
-  by_reach : (reach : Option ℕ) → HasToldAllBy reach ending before after faults n s → IsWrittenBy reach start ran s.board.history before after
+  by_reach : (reach : Option ℕ) → HasToldAllBy reach ending before after faults n s → IsWrittenBy reach start ran taken s.board.history before after
   by_reach None told =
-      subst (λ (from : State). IsLogged ran before after (text_of from.settings.log 1 1 s.board.history)) start_is
-      (is-logged ran before after faults n s.log (text_of s.board.start.settings.log 1 1 s.board.history) failed nothing_left told)
+      subst (λ (from : State). IsLogged ran taken before after (text_of from.settings.log 1 1 s.board.history)) start_is
+      (is-logged ran taken before after faults n s.log (text_of s.board.start.settings.log 1 1 s.board.history) failed nothing_left told)
   by_reach (Some reach) told = record {
     first = told.first;
     sheets = told.sheets;
@@ -53,13 +53,13 @@ module _ (start : State) (ran : Ran) (ending : Ending) (before after : Option (L
     prompt = told.prompt;
     sheets_are = subst (λ (from : State). AreSheetsOf from reach told.first told.sheets) start_is told.sheets_are;
     all = λ sound. told.all (sym memory ∙ sound);
-    written = subst (IsLogged ran before after)
+    written = subst (IsLogged ran taken before after)
         (same-text reach s.no_memory ran.no_memory ending (feed_ending ran) told.sheets (sym memory) ends)
-        (is-logged ran before after faults n s.log (sheets_text reach s.no_memory ending told.sheets) failed nothing_left told.logged);
+        (is-logged ran taken before after faults n s.log (sheets_text reach s.no_memory ending told.sheets) failed nothing_left told.logged);
   }
 
   pub written-by : (reach : Option ℕ) → s.reach ≡ reach → HasToldAll ending before after faults n s
-      → IsWrittenBy reach start ran s.board.history before after
+      → IsWrittenBy reach start ran taken s.board.history before after
   written-by reach is told = by_reach reach (subst (λ o. HasToldAllBy o ending before after faults n s) is told)
 
 -- some text was logged
@@ -75,9 +75,9 @@ logged-some (Some reach) ending before after faults n s told =
 
 -- nothing was written where memory was wanting at once
 pub none-written : (reach : Option ℕ) (start : State) (ran : Ran) (before : Option (List ℕ)) → ran.no_memory ≡ true → ran.sink_failed ≡ false
-    → IsWrittenBy reach start ran [] before before
+    → IsWrittenBy reach start ran [] [] before before
 none-written None start ran before none sound =
-    record { whole = λ _. inr (none, refl); prefix = λ fell. absurd (cc (fell, sound)) }
+    record { whole = λ _. inr (none, refl, refl); prefix = λ fell. absurd (cc (fell, sound)) }
 none-written (Some reach) start ran before none sound = record {
   first = [];
   sheets = [];
@@ -85,5 +85,5 @@ none-written (Some reach) start ran before none sound = record {
   prompt = record { direct = refl; none_given_up = refl };
   sheets_are = tt;
   all = λ memory. absurd (cc (memory, none));
-  written = record { whole = λ _. inr (none, refl); prefix = λ fell. absurd (cc (fell, sound)) };
+  written = record { whole = λ _. inr (none, refl, refl); prefix = λ fell. absurd (cc (fell, sound)) };
 }

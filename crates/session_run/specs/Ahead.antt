@@ -25,16 +25,16 @@ sheets_text reach no_memory ending sheets =
 -- of the sheets of a history the text was written: of each commit one, in order, and the last line says whether the feed was cut.
 -- Where memory was wanting these are the sheets of the first commits, of a beginning of the history in which each accepted ask was
 -- answered at once by a commit, and no last line
-pub record TellsAhead (start : State) (reach : ℕ) (ran : Ran) (entries : List Entry) (before after : Option (List ℕ)) : Type 0 where
+pub record TellsAhead (start : State) (reach : ℕ) (ran : Ran) (taken : List ℕ) (entries : List Entry) (before after : Option (List ℕ)) : Type 0 where
   pub first : List Entry
   pub sheets : List MoveSheet
   pub begins : IsPrefix first entries
   pub prompt : IsPrompt first
   pub sheets_are : AreSheetsOf start reach first sheets
   pub all : ran.no_memory ≡ false → first ≡ entries
-  pub written : IsLogged ran before after (sheets_text reach ran.no_memory (feed_ending ran) sheets)
+  pub written : IsLogged ran taken before after (sheets_text reach ran.no_memory (feed_ending ran) sheets)
 
 -- what was written of a session: its log, or its sheets where a reach is given
-abbrev pub IsWrittenBy : Option ℕ → State → Ran → List Entry → Option (List ℕ) → Option (List ℕ) → Type 0
-IsWrittenBy None start ran entries before after = IsLogged ran before after (text_of start.settings.log 1 1 entries)
-IsWrittenBy (Some reach) start ran entries before after = TellsAhead start reach ran entries before after
+abbrev pub IsWrittenBy : Option ℕ → State → Ran → List ℕ → List Entry → Option (List ℕ) → Option (List ℕ) → Type 0
+IsWrittenBy None start ran taken entries before after = IsLogged ran taken before after (text_of start.settings.log 1 1 entries)
+IsWrittenBy (Some reach) start ran taken entries before after = TellsAhead start reach ran taken entries before after

@@ -36,7 +36,7 @@ pub fn drill<R: Threads + Sync, K: Sink>(rt: &R, alloc: Global, plan: &CityPlan,
 
     // The line is that of a history of the plan's drill.
     ensures drilled { result.no_memory ≡ false → (entries : List Entry) × Drilled plan.now entries
-        × IsLogged result (K.written out.old) (K.written out.new) (summary_line plan.now entries) }
+        × IsLogged result [] (K.written out.old) (K.written out.new) (summary_line plan.now entries) }
     ensures nothing_written { result.no_memory ≡ true → K.written out.new ≡ K.written out.old }
     ensures sink_fault { IsTrue result.sink_failed → Rose (K.faults out.old) (K.faults out.new) }
     ensures sink_counts_none { result.sink_failed ≡ false → K.faults out.new ≡ K.faults out.old }

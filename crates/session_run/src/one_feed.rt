@@ -48,7 +48,7 @@ pub(crate) fn run_one_feed<R: Threads + Sync, S: Source, K: Sink>(
     requires reach_limit { ForSome reach (λ r. r ≤ longest_reach) }
     ensures session { (taken : List ℕ) × (entries : List Entry) × Reads (S.left feed.old) (S.left feed.new) taken
         × IsReplay (start_state roads.now settings fleet) result (S.left feed.old) taken entries
-        × IsWrittenBy reach (start_state roads.now settings fleet) result entries (K.written out.old) (K.written out.new) }
+        × IsWrittenBy reach (start_state roads.now settings fleet) result taken entries (K.written out.old) (K.written out.new) }
     ensures to_end { result.no_memory ≡ false → IsReadWhole result → IfSome (S.left feed.new) (λ bytes. bytes ≡ []) }
     ensures source_fault { IsTrue result.source_failed → Rose (S.faults feed.old) (S.faults feed.new) }
     ensures source_counts_none { result.source_failed ≡ false → S.faults feed.new ≡ S.faults feed.old }

@@ -37,7 +37,7 @@ pub fn replay<R: Threads + Sync, S: Source, K: Sink>(
     // The log is the text of a history that answers the feed.
     ensures log { (taken : List ℕ) × (entries : List Entry) × Reads (S.left feed.old) (S.left feed.new) taken
         × IsReplay (start_state roads.now settings fleet) result (S.left feed.old) taken entries
-        × IsLogged result (K.written out.old) (K.written out.new) (text_of settings.log 1 1 entries) }
+        × IsLogged result taken (K.written out.old) (K.written out.new) (text_of settings.log 1 1 entries) }
     ensures to_end { result.no_memory ≡ false → IsReadWhole result → IfSome (S.left feed.new) (λ bytes. bytes ≡ []) }
     ensures source_fault { IsTrue result.source_failed → Rose (S.faults feed.old) (S.faults feed.new) }
     ensures source_counts_none { result.source_failed ≡ false → S.faults feed.new ≡ S.faults feed.old }

@@ -40,7 +40,7 @@ pub fn ahead<R: Threads + Sync, S: Source, K: Sink>(
     // What is written are the sheets of a history that answers the feed.
     ensures sheets { (taken : List ℕ) × (entries : List Entry) × Reads (S.left feed.old) (S.left feed.new) taken
         × IsReplay (start_state roads.now settings fleet) result (S.left feed.old) taken entries
-        × TellsAhead (start_state roads.now settings fleet) reach result entries (K.written out.old) (K.written out.new) }
+        × TellsAhead (start_state roads.now settings fleet) reach result taken entries (K.written out.old) (K.written out.new) }
     ensures to_end { result.no_memory ≡ false → IsReadWhole result → IfSome (S.left feed.new) (λ bytes. bytes ≡ []) }
     ensures source_fault { IsTrue result.source_failed → Rose (S.faults feed.old) (S.faults feed.new) }
     ensures source_counts_none { result.source_failed ≡ false → S.faults feed.new ≡ S.faults feed.old }
