@@ -53,7 +53,6 @@ impl<'r> Climbs<'r> {
 
 /// Travel times between any two nodes of roads: by searches, and once a hierarchy of the roads is at hand by two climbs. To contracts
 /// it means the map.
-#[derive(Drop)]
 pub struct TravelTimes<'r> {
     roads: &'r Roads,
     scratch: Scratch,
@@ -70,6 +69,18 @@ impl<'r> Model for TravelTimes<'r> {
     ghost view = { λ t. t.roads.now };
 
     ghost invariant = { λ t. (t.scratch.nodes ≡ t.roads.now.nodes) × IfSome t.climbs (IsMadeOf t.roads.now) };
+}
+
+impl Drop for TravelTimes<'_> {
+    fn drop(self) {
+        let TravelTimes {
+            roads: _,
+            scratch,
+            climbs,
+        } = self;
+        drop(scratch);
+        drop(climbs);
+    }
 }
 
 impl<'r> TravelTimes<'r> {

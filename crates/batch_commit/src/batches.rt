@@ -9,7 +9,7 @@ use ride_model::{Fleet, Ride, Settings};
 use std::marker::Model;
 
 /// Requests in order of acceptance, and copies of all vehicles, as they stood when a desk opened the batch.
-#[derive(Debug, Drop)]
+#[derive(Debug)]
 pub struct Batch {
     number: u64,
     time: u64,
@@ -40,6 +40,21 @@ impl Model for Batch {
     ghost use Rattle.ride_model.specs.Limits.{largest_batch};
 
     ghost invariant = { λ b. (length b.requests.items ≤ largest_batch) × IsDistinct nat_eq (ride_ids b.requests.items) × IsSettings b.settings };
+}
+
+impl Drop for Batch {
+    fn drop(self) {
+        let Batch {
+            number: _,
+            time: _,
+            desk: _,
+            settings: _,
+            requests,
+            vehicles,
+        } = self;
+        drop(requests);
+        drop(vehicles);
+    }
 }
 
 impl Batch {

@@ -14,7 +14,7 @@ use ride_model::Vehicle;
 use std::marker::Model;
 
 /// A batch with its table, and an answer whose prices certify its seating over the table's cells.
-#[derive(Debug, Drop)]
+#[derive(Debug)]
 pub struct Solved {
     batch: Batch,
     table: PriceTable,
@@ -29,6 +29,19 @@ impl Model for Solved {
     ghost view = { λ s. record { batch = s.batch; table = s.table; answer = s.answer } };
 
     ghost invariant = { λ s. IsSolved s.batch s.table s.answer };
+}
+
+impl Drop for Solved {
+    fn drop(self) {
+        let Solved {
+            batch,
+            table,
+            answer,
+        } = self;
+        drop(batch);
+        drop(table);
+        drop(answer);
+    }
 }
 
 impl Solved {
@@ -71,7 +84,14 @@ impl Solved {
     pub fn into_answer(self) -> Answer
         ensures { result ≡ self.answer }
     {
-        self.answer
+        let Solved {
+            batch,
+            table,
+            answer,
+        } = self;
+        drop(batch);
+        drop(table);
+        answer
     }
 }
 

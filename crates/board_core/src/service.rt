@@ -24,12 +24,24 @@ use ride_model::{Command, NoMemory, Reply, Vehicle};
 use std::alloc::Global;
 
 /// The clock, the vehicles in fleet order, the requests, and how many batches were asked for.
-#[derive(Drop)]
 pub(crate) struct Service {
     pub(crate) clock: u64,
     pub(crate) vehicles: Vec<Vehicle>,
     pub(crate) requests: RequestBook,
     pub(crate) asked: u64,
+}
+
+impl Drop for Service {
+    fn drop(self) {
+        let Service {
+            clock: _,
+            vehicles,
+            requests,
+            asked: _,
+        } = self;
+        drop(vehicles);
+        drop(requests);
+    }
 }
 
 impl Service {

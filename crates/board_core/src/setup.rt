@@ -15,7 +15,6 @@ use std::alloc::Global;
 use std::marker::Model;
 
 /// What never changes while a board stands, with travel times over its roads.
-#[derive(Drop)]
 pub(crate) struct Setup<'r> {
     times: TravelTimes<'r>,
     settings: Settings,
@@ -28,6 +27,18 @@ impl<'r> Model for Setup<'r> {
     ghost Value = { Given };
 
     ghost view = { λ setup. record { roads = setup.times; settings = setup.settings; ids = setup.places } };
+}
+
+impl Drop for Setup<'_> {
+    fn drop(self) {
+        let Setup {
+            times,
+            settings: _,
+            places,
+        } = self;
+        drop(times);
+        drop(places);
+    }
 }
 
 impl<'r> Setup<'r> {

@@ -42,7 +42,6 @@ pub(crate) const BIAS: u64 = 1 << 32;
 // at most 142 megabytes while it is contracted, and 64 of them once that is finished: the arcs, levels and order are handed on.
 
 /// A road map that is being contracted.
-#[derive(Drop)]
 pub struct Contraction {
     graph: Graph,
     witness: Witness,
@@ -53,6 +52,28 @@ pub struct Contraction {
     most_links: usize,
     work_left: u64,
     is_spent: bool,
+}
+
+impl Drop for Contraction {
+    fn drop(self) {
+        let Contraction {
+            graph,
+            witness,
+            queue,
+            depths,
+            ins,
+            outs,
+            most_links: _,
+            work_left: _,
+            is_spent: _,
+        } = self;
+        drop(graph);
+        drop(witness);
+        drop(queue);
+        drop(depths);
+        drop(ins);
+        drop(outs);
+    }
 }
 
 /// What a contraction leaves: the arcs and shortcuts, the level of each node, where that of a node of the core is u32::MAX, and the
@@ -262,7 +283,23 @@ impl Contraction {
         ensures graph { IsGraph result }
         ensures seen { contracted_of self.is_spent result ≡ self }
     {
-        self.graph
+        let Contraction {
+            graph,
+            witness,
+            queue,
+            depths,
+            ins,
+            outs,
+            most_links: _,
+            work_left: _,
+            is_spent: _,
+        } = self;
+        drop(witness);
+        drop(queue);
+        drop(depths);
+        drop(ins);
+        drop(outs);
+        graph
     }
 
     /// What the contraction leaves, as far as it went. All else is freed, and nothing is copied.

@@ -8,9 +8,22 @@ pub type ColumnList = ItemList<Option<u32>>;
 pub type NumberList = ItemList<u64>;
 
 /// A pairing, with a price for each row and what each column pays.
-#[derive(Debug, Drop)]
+#[derive(Debug)]
 pub struct Paired {
     pub columns: ColumnList,
     pub prices: NumberList,
     pub pays: NumberList,
+}
+
+impl Drop for Paired {
+    fn drop(self) {
+        let Paired {
+            columns,
+            prices,
+            pays,
+        } = self;
+        drop(columns);
+        drop(prices);
+        drop(pays);
+    }
 }

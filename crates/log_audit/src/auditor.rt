@@ -32,7 +32,6 @@ pub(crate) struct Auditor<'r, 'q> {
 }
 
 impl Drop for Auditor<'_, '_> {
-    // By calls, each proved once: a derived drop stands part by part in each function that lets an audit go.
     fn drop(self) {
         let Auditor {
             board,

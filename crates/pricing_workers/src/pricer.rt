@@ -12,10 +12,17 @@ use std::marker::Model;
 
 /// Prices one batch after another: roads that adapt to how much is asked of them, and what is kept from batch to batch. To contracts
 /// it means the map.
-#[derive(Drop)]
 pub struct Pricer<'r> {
     pub(crate) roads: AdaptiveRoads<'r>,
     pub(crate) kept: Option<Kept>,
+}
+
+impl Drop for Pricer<'_> {
+    fn drop(self) {
+        let Pricer { roads, kept } = self;
+        drop(roads);
+        drop(kept);
+    }
 }
 
 // Memory: for each vehicle of the largest batch about 4 kilobytes of plan and tables, and for each worker 64 bytes a wanted node of the

@@ -20,7 +20,7 @@ pub(crate) struct Returned<'a> {
 
 /// The names that were asked for, how many of them were brought, the sources that were given
 /// back, and the count of faults.
-#[derive(Drop, Debug)]
+#[derive(Debug)]
 pub(crate) struct Ledger<'a> {
     asked: ArrayVec<String, 8, Global>,
     brought: u64,
@@ -49,6 +49,19 @@ impl<'a> Model for Ledger<'a> {
     ghost invariant = { λ l.
         (l.brought ≤ array_vec_len l.asked) × (array_vec_len l.asked ≤ 8)
         × (l.faults ≤ most_count) };
+}
+
+impl Drop for Ledger<'_> {
+    fn drop(self) {
+        let Ledger {
+            asked,
+            brought: _,
+            back,
+            faults: _,
+        } = self;
+        drop(asked);
+        drop(back);
+    }
 }
 
 impl<'a> Ledger<'a> {

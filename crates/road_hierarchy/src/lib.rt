@@ -52,7 +52,6 @@ pub type NoMemory = AllocError;
 /// A contraction of all nodes packed for climbs and sweeps. To contracts it means the same as the contraction, but for loops.
 ///
 /// The descents are the arcs that lead down to each node, and the ascents those that lead up from it.
-#[derive(Drop)]
 pub struct Hierarchy {
     levels: Vec<u32>,
     order: Vec<u32>,
@@ -70,6 +69,21 @@ impl Model for Hierarchy {
     ghost view = { λ h. hierarchy_of h.levels.items h.order.items h.descents h.ascents };
 
     ghost invariant = { λ h. IsPacked h.levels.items h.order.items h.descents h.ascents };
+}
+
+impl Drop for Hierarchy {
+    fn drop(self) {
+        let Hierarchy {
+            levels,
+            order,
+            descents,
+            ascents,
+        } = self;
+        drop(levels);
+        drop(order);
+        drop(descents);
+        drop(ascents);
+    }
 }
 
 /// What rows and times write, so that they take no memory: the labels of a climb by levels, and then those of the selected nodes, or of

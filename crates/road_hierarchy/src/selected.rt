@@ -25,7 +25,6 @@ pub(crate) struct Step {
 /// The steps down to the node at a place stand from `starts[place]` up to `starts[place + 1]`, and each comes from an earlier
 /// place. `ranks` has the level of the node at each place, so that a sweep looks nothing up by nodes, and `places` the place of each
 /// wanted node.
-#[derive(Drop)]
 pub struct Selected {
     pub(crate) side: Side,
     pub(crate) nodes: Vec<u32>,
@@ -47,6 +46,24 @@ impl Model for Selected {
 
     ghost invariant = { λ s. AreLaidOut s.nodes.items s.starts.items s.steps.items s.places.items
         × (length s.ranks.items ≡ length s.nodes.items) };
+}
+
+impl Drop for Selected {
+    fn drop(self) {
+        let Selected {
+            side: _,
+            nodes,
+            ranks,
+            starts,
+            steps,
+            places,
+        } = self;
+        drop(nodes);
+        drop(ranks);
+        drop(starts);
+        drop(steps);
+        drop(places);
+    }
 }
 
 /// What is selected so far, with the place of each node.

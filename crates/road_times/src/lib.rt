@@ -30,7 +30,6 @@ pub type NoMemory = AllocError;
 ///
 /// `tails` has the node that each arc leaves, in the order of the network: with it the roads mean that very
 /// network, the order of its arcs included.
-#[derive(Drop)]
 pub struct Roads {
     nodes: u32,
     tails: Vec<u32>,
@@ -48,6 +47,20 @@ impl Model for Roads {
     ghost view = { λ roads. stored_map roads.nodes roads.tails.items roads.forward };
 
     ghost invariant = { λ roads. AreRoads (stored_map roads.nodes roads.tails.items roads.forward) roads.forward roads.backward };
+}
+
+impl Drop for Roads {
+    fn drop(self) {
+        let Roads {
+            nodes: _,
+            tails,
+            forward,
+            backward,
+        } = self;
+        drop(tails);
+        drop(forward);
+        drop(backward);
+    }
 }
 
 /// What a search needs besides the roads, so that it takes no memory.

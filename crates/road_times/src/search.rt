@@ -13,12 +13,25 @@ use radix_queue::RadixQueue;
 use std::alloc::{AllocError, Global};
 
 /// The labels of the nodes that are settled, in a list of `count` nodes, and the queue of those that are reached.
-#[derive(Drop)]
 pub(crate) struct Search {
     pub(crate) queue: RadixQueue,
     pub(crate) labels: Vec<Option<u64>>,
     pub(crate) settled: Vec<u32>,
     pub(crate) count: usize,
+}
+
+impl Drop for Search {
+    fn drop(self) {
+        let Search {
+            queue,
+            labels,
+            settled,
+            count: _,
+        } = self;
+        drop(queue);
+        drop(labels);
+        drop(settled);
+    }
 }
 
 /// Relaxes the arcs of a node that was settled with this label.
