@@ -1,5 +1,5 @@
 //! The smallest city of seed 1, groups, and reports.
-ghost use Rattle.std.specs.Prelude.{◌≡◌, [], ◌∷◌, None};
+ghost use Rattle.std.specs.Prelude.{◌≡◌, ◌≤◌, [], ◌∷◌, None};
 ghost use Rattle.ride_model.specs.Vehicle.{IsRoutedSomewhere};
 ghost use Rattle.plan_trials.specs.SmallPlans.{ride_of, pickup_at, dropoff_at, vehicle_of};
 
@@ -10,83 +10,96 @@ use city_maker::laws::{
 };
 use city_maker::*;
 use ride_model::{Command, Kind, Ride, RoadArc, Stop, Vehicle};
+use std::alloc::Global;
 use std::process::Abort;
-use std::test::Fail;
 
-const fn arc(tail: u32, head: u32, seconds: u32) -> RoadArc {
-    RoadArc {
-        tail,
-        head,
-        seconds,
-    }
+macro_rules! arc {
+    ($tail:expr, $head:expr, $seconds:expr) => {
+        RoadArc {
+            tail: $tail,
+            head: $head,
+            seconds: $seconds,
+        }
+    };
 }
 
-#[test]
-fn seed_1_gives_this_city_of_four_nodes(rt: HostRuntime) -> Result<(), Fail> {
-    seed_1_draws_known_numbers();
-    requests_are_given_in_order();
-    commands_are_given();
-    reports_are_accepted();
+static ARCS: [RoadArc; 8] = [
+    arc!(1, 2, 33),
+    arc!(2, 1, 33),
+    arc!(1, 3, 55),
+    arc!(3, 1, 55),
+    arc!(2, 4, 42),
+    arc!(4, 2, 42),
+    arc!(3, 4, 73),
+    arc!(4, 3, 73),
+];
+
+static COMMANDS: [Command; 4] = [
+    Command::Clock { time: 0 },
+    Command::Request {
+        id: 1,
+        from: 4,
+        to: 3,
+        seats: 2,
+        latest: 900,
+        longest: 3_600,
+        chairs: 0,
+    },
+    Command::Ask,
+    Command::Clock {
+        time: 1_000_000_000,
+    },
+];
+
+fn has_roads_and_commands(city: &City) -> bool {
+    city.network.nodes() == 4
+        && city.network.arcs() == ARCS.as_slice()
+        && city.commands.items() == COMMANDS.as_slice()
+}
+
+/// Whether seed 1 gives the city of four nodes, and its one vehicle has nothing to report.
+fn seed_1_gives_it(rt: &impl Abort, alloc: Global) -> bool {
     let plan = CityPlan {
         side: 2,
         vehicles: 1,
         requests: 1,
         seed: 1,
     };
-    let city = make_city(rt.alloc(), &plan)?;
-    let arcs = [
-        arc(1, 2, 33),
-        arc(2, 1, 33),
-        arc(1, 3, 55),
-        arc(3, 1, 55),
-        arc(2, 4, 42),
-        arc(4, 2, 42),
-        arc(3, 4, 73),
-        arc(4, 3, 73),
-    ];
-    assert_eq!(rt; city.network.nodes(), 4);
-    assert_eq!(rt; city.network.arcs(), arcs.as_slice());
+    let city = make_city(alloc, &plan).expect(rt, "memory for a city");
     let vehicles = city.fleet.vehicles();
-    assert_eq!(rt; vehicles.len(), 1);
-    assert!(rt; vehicles[0].id == 1 && vehicles[0].at == 4 && vehicles[0].seats == 4);
-    assert_eq!(rt; next_report(&vehicles[0], 1_000_000_000), None);
-    let commands = [
-        Command::Clock { time: 0 },
-        Command::Request {
-            id: 1,
-            from: 4,
-            to: 3,
-            seats: 2,
-            latest: 900,
-            longest: 3_600,
-            chairs: 0,
-        },
-        Command::Ask,
-        Command::Clock {
-            time: 1_000_000_000,
-        },
-    ];
-    assert_eq!(rt; city.commands.items(), commands.as_slice());
-    Ok(())
+    if vehicles.len() == 1 {
+        let reported = next_report(&vehicles[0], 1_000_000_000);
+        (vehicles[0].id, vehicles[0].at, vehicles[0].seats) == (1, 4, 4)
+            && reported == None
+            && has_roads_and_commands(&city)
+    } else {
+        false
+    }
+}
+
+#[test]
+fn seed_1_gives_this_city_of_four_nodes(rt: HostRuntime) {
+    seed_1_draws_known_numbers();
+    requests_are_given_in_order();
+    commands_are_given();
+    reports_are_accepted();
+    assert!(rt; seed_1_gives_it(&rt, rt.alloc()));
 }
 
 // How many rows and columns a grid has, and how many arcs.
 static GRIDS: [(u32, usize); 4] = [(2, 8), (3, 24), (40, 6_240), (100, 39_600)];
 
-#[test]
-fn neighbours_are_joined_in_both_directions(rt: HostRuntime) -> Result<(), Fail> {
-    for (side, arcs) in GRIDS {
-        assert!(rt; 2 <= side && side <= 100);
-        let plan = CityPlan {
-            side,
-            vehicles: 0,
-            requests: 0,
-            seed: 2_147_483_647,
-        };
-        let city = make_city(rt.alloc(), &plan)?;
-        assert_eq!(rt; city.network.arcs().len(), arcs);
-    }
-    Ok(())
+fn arcs_of(rt: &impl Abort, alloc: Global, side: u32) -> usize
+    requires { (2 ≤ side) × (side ≤ 100) }
+{
+    let plan = CityPlan {
+        side,
+        vehicles: 0,
+        requests: 0,
+        seed: 2_147_483_647,
+    };
+    let city = make_city(alloc, &plan).expect(rt, "memory for a city");
+    city.network.arcs().len()
 }
 
 // How many requests there are, how many commands, and the last clock but one.
@@ -110,21 +123,32 @@ fn clocks(commands: &[Command]) -> u64 {
     last
 }
 
+/// How many commands there are, and the last clock but one.
+fn commands_of(rt: &impl Abort, alloc: Global, requests: u32) -> (usize, u64)
+    requires { requests ≤ 17 }
+{
+    let plan = CityPlan {
+        side: 3,
+        vehicles: 2,
+        requests,
+        seed: 7,
+    };
+    let city = make_city(alloc, &plan).expect(rt, "memory for a city");
+    let commands = city.commands.items();
+    (commands.len(), clocks(commands))
+}
+
 #[test]
-fn requests_are_taken_in_groups_of_eight(rt: HostRuntime) -> Result<(), Fail> {
-    for (requests, commands, clock) in GROUPS {
-        assert!(rt; requests <= 17);
-        let plan = CityPlan {
-            side: 3,
-            vehicles: 2,
-            requests,
-            seed: 7,
-        };
-        let city = make_city(rt.alloc(), &plan)?;
-        assert_eq!(rt; city.commands.items().len(), commands);
-        assert_eq!(rt; clocks(city.commands.items()), clock);
+fn neighbours_are_joined_and_requests_are_taken_in_groups_of_eight(rt: HostRuntime) {
+    for &(side, arcs) in GRIDS.iter() {
+        assert!(rt; 2 <= side && side <= 100);
+        assert!(rt; arcs_of(&rt, rt.alloc(), side) == arcs, "{side} rows");
     }
-    Ok(())
+    for &(requests, commands, clock) in GROUPS.iter() {
+        assert!(rt; requests <= 17);
+        let told = commands_of(&rt, rt.alloc(), requests);
+        assert!(rt; told == (commands, clock), "{requests} requests");
+    }
 }
 
 // A vehicle on a road of four nodes, a minute between neighbours, that has promised a ride from node 2 to node 4.

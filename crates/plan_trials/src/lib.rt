@@ -10,8 +10,6 @@ mod drawn_plans;
 mod limits;
 pub mod line_road;
 #[cfg(test)]
-mod offer_rows;
-#[cfg(test)]
 mod offers;
 #[cfg(test)]
 mod slack;

@@ -108,23 +108,33 @@ fn carrying(ready: u64, longest: u64) -> Vehicle
 
 #[test]
 fn limits_are_exact(rt: HostRuntime) {
-    assert!(rt; is_kept(600, 120, 0));
-    assert!(rt; !is_kept(600, 119, 0));
-    assert!(rt; is_kept(60, 300, 0));
-    assert!(rt; !is_kept(59, 300, 0));
-    assert!(rt; is_kept(600, 150, 30));
-    assert!(rt; !is_kept(600, 149, 30));
+    let kept = [
+        is_kept(600, 120, 0),
+        is_kept(600, 119, 0),
+        is_kept(60, 300, 0),
+        is_kept(59, 300, 0),
+        is_kept(600, 150, 30),
+        is_kept(600, 149, 30),
+    ];
+    assert!(rt; kept == [true, false, true, false, true, false], "{kept:?}");
+}
+
+/// Whether these rides are broken, in order.
+fn are_rides(broken: Ids, rides: &[u64]) -> bool {
+    broken.items() == rides
 }
 
 #[test]
 fn late_vehicle_breaks_its_promise(rt: HostRuntime) {
-    let none: [u64; 0] = [];
-    assert_eq!(rt; broken_at_pickup(100, 90, 300, 0).items(), [7].as_slice());
-    assert_eq!(rt; broken_at_pickup(100, 600, 300, 0).items(), none.as_slice());
-    assert_eq!(rt; broken_at_pickup(60, 600, 149, 30).items(), [7].as_slice());
-    assert_eq!(rt; broken_at_pickup(60, 600, 150, 30).items(), none.as_slice());
-    assert_eq!(rt; broken_at_dropoff(361, 300).items(), [7].as_slice());
-    assert_eq!(rt; broken_at_dropoff(360, 300).items(), none.as_slice());
+    let as_said = [
+        are_rides(broken_at_pickup(100, 90, 300, 0), &[7]),
+        are_rides(broken_at_pickup(100, 600, 300, 0), &[]),
+        are_rides(broken_at_pickup(60, 600, 149, 30), &[7]),
+        are_rides(broken_at_pickup(60, 600, 150, 30), &[]),
+        are_rides(broken_at_dropoff(361, 300), &[7]),
+        are_rides(broken_at_dropoff(360, 300), &[]),
+    ];
+    assert!(rt; as_said == [true; 6], "{as_said:?}");
 }
 
 // A vehicle at node 1 of two seats and some chairs, which has promised these rides.
@@ -188,29 +198,31 @@ macro_rules! stop {
     };
 }
 
-#[test]
-fn two_do_not_share_a_chair(rt: HostRuntime) {
-    let rides = [ride!(7, 2, 4, 0, 1, 600), ride!(9, 3, 4, 0, 1, 600)];
-    let stops = [
-        stop!(7, Kind::Pickup, 2, 60),
-        stop!(9, Kind::Pickup, 3, 60),
-        stop!(9, Kind::Dropoff, 4, 60),
-        stop!(7, Kind::Dropoff, 4, 0),
-    ];
-    assert!(rt; all_kept(2, &rides, &stops));
-    assert!(rt; !all_kept(1, &rides, &stops));
-}
+const SHARED: [Ride; 2] = [ride!(7, 2, 4, 0, 1, 600), ride!(9, 3, 4, 0, 1, 600)];
+
+const SHARED_STOPS: [Stop; 4] = [
+    stop!(7, Kind::Pickup, 2, 60),
+    stop!(9, Kind::Pickup, 3, 60),
+    stop!(9, Kind::Dropoff, 4, 60),
+    stop!(7, Kind::Dropoff, 4, 0),
+];
+
+const STOPS: [Stop; 4] = [
+    stop!(9, Kind::Pickup, 2, 60),
+    stop!(9, Kind::Dropoff, 3, 60),
+    stop!(7, Kind::Pickup, 3, 0),
+    stop!(7, Kind::Dropoff, 4, 60),
+];
+
+// Both rides are late, and one of them.
+const BOTH: [Ride; 2] = [ride!(7, 3, 4, 1, 0, 219), ride!(9, 2, 3, 1, 0, 159)];
+
+const ONE: [Ride; 2] = [ride!(7, 3, 4, 1, 0, 220), ride!(9, 2, 3, 1, 0, 159)];
 
 #[test]
-fn broken_rides_come_in_the_order_of_confirmation(rt: HostRuntime) {
-    let stops = [
-        stop!(9, Kind::Pickup, 2, 60),
-        stop!(9, Kind::Dropoff, 3, 60),
-        stop!(7, Kind::Pickup, 3, 0),
-        stop!(7, Kind::Dropoff, 4, 60),
-    ];
-    let both = [ride!(7, 3, 4, 1, 0, 219), ride!(9, 2, 3, 1, 0, 159)];
-    let one = [ride!(7, 3, 4, 1, 0, 220), ride!(9, 2, 3, 1, 0, 159)];
-    assert_eq!(rt; all_broken(100, &both, &stops).items(), [7, 9].as_slice());
-    assert_eq!(rt; all_broken(100, &one, &stops).items(), [9].as_slice());
+fn a_chair_is_not_shared_and_broken_rides_come_in_the_order_of_confirmation(rt: HostRuntime) {
+    assert!(rt; all_kept(2, &SHARED, &SHARED_STOPS));
+    assert!(rt; !all_kept(1, &SHARED, &SHARED_STOPS));
+    assert!(rt; are_rides(all_broken(100, &BOTH, &STOPS), &[7, 9]));
+    assert!(rt; are_rides(all_broken(100, &ONE, &STOPS), &[9]));
 }

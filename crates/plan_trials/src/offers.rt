@@ -116,9 +116,18 @@ fn least_cost(wait: u64, dwell: u64) -> Option<u64>
     best_place(&vehicle, &ride, 0, &settings, &near).map(|offer| offer.cost)
 }
 
+// The places of the pickup and of the drop-off, and the cost of the offer there.
+static PLACES: [(u32, u32, Option<u64>); 6] = [
+    (0, 0, Some(240)),
+    (0, 1, Some(120)),
+    (1, 2, Some(0)),
+    (2, 2, Some(120)),
+    (2, 1, None),
+    (2, 3, None),
+];
+
 #[test]
-fn pooled_at_no_added_cost(rt: HostRuntime) {
-    assert_eq!(rt; least_cost(0, 0), Some(0));
+fn pooled_at_no_added_cost_and_each_place_has_its_cost(rt: HostRuntime) {
     let joins = Joins {
         to_pickup: 60,
         after_pickup: 60,
@@ -132,30 +141,15 @@ fn pooled_at_no_added_cost(rt: HostRuntime) {
         start: 0,
         joins,
     };
-    assert_eq!(rt; offer(1, 1, 0, 0), Some(pooled));
-}
-
-#[test]
-fn each_place_has_its_cost(rt: HostRuntime) {
-    let cases = [
-        (0, 0, Some(240)),
-        (0, 1, Some(120)),
-        (1, 2, Some(0)),
-        (2, 2, Some(120)),
-        (2, 1, None),
-        (2, 3, None),
-    ];
-    for (i, j, cost) in cases {
-        assert_eq!(rt;
-            offer(i, j, 0, 0).map(|offer| offer.cost),
-            cost,
-            "at {i} and {j}"
-        );
+    assert!(rt; offer(1, 1, 0, 0) == Some(pooled));
+    for (i, j, cost) in PLACES {
+        let found = offer(i, j, 0, 0).map(|offer| offer.cost);
+        assert!(rt; found == cost, "{found:?} at {i} and {j}");
     }
 }
 
 #[test]
 fn dwell_and_waiting_cost(rt: HostRuntime) {
-    assert_eq!(rt; least_cost(0, 30), Some(60));
-    assert_eq!(rt; least_cost(2, 0), Some(240));
+    let costs = [least_cost(0, 0), least_cost(0, 30), least_cost(2, 0)];
+    assert!(rt; costs == [Some(0), Some(60), Some(240)], "{costs:?}");
 }

@@ -4,6 +4,7 @@ ghost use Rattle.ride_model.specs.Vehicle.{IsRoutedSomewhere, IsLawfulSomewhere}
 ghost use Rattle.plan_trials.specs.SmallPlans.{ride_of, pickup_at, dropoff_at, vehicle_of, promised, pooled, arrived, carrying};
 
 use crate::line_road::{copy_of_rides, copy_of_stops};
+use arrayvec::ArrayVec;
 use ride_model::{Joins, Kind, Load, Offer, Reply, Ride, Stop, Vehicle};
 use stop_plans::*;
 
@@ -96,27 +97,38 @@ fn carrying_vehicle() -> Vehicle
     vehicle(4, 210, &[ride(7, 2, 4, Some(60))], &[dropoff(7, 4, 0)])
 }
 
-#[test]
-fn pooled_plan_has_its_times_and_loads(rt: HostRuntime) {
-    let vehicle = pooled_vehicle();
-    assert_eq!(rt;
-        times(&vehicle, 0, 0).as_slice(),
-        [60, 120, 180, 180].as_slice()
-    );
-    assert_eq!(rt;
-        times(&vehicle, 5, 30).as_slice(),
-        [65, 155, 245, 275].as_slice()
-    );
-    let load = |seats| Load { seats, chairs: 0 };
-    assert_eq!(rt;
-        loads(&vehicle).as_slice(),
-        [load(1), load(2), load(1), load(0)].as_slice()
-    );
-    assert_eq!(rt; load_at_start(&vehicle), load(0));
+fn are_times(times: ArrayVec<u64, 16>, wanted: &[u64]) -> bool {
+    times.as_slice() == wanted
 }
 
-#[test]
-fn ride_goes_into_the_plan_and_out_again(rt: HostRuntime) {
+/// Whether the seats that are taken after each stop are these, and no chairs.
+fn are_loads(loads: ArrayVec<Load, 16>, seats: [u32; 4]) -> bool {
+    let wanted = seats.map(|seats| Load { seats, chairs: 0 });
+    loads.as_slice() == wanted.as_slice()
+}
+
+fn pooled_plan_has_its_times_and_loads() -> bool {
+    let vehicle = pooled_vehicle();
+    let start = Load {
+        seats: 0,
+        chairs: 0,
+    };
+    are_times(times(&vehicle, 0, 0), &[60, 120, 180, 180])
+        & are_times(times(&vehicle, 5, 30), &[65, 155, 245, 275])
+        & are_loads(loads(&vehicle), [1, 2, 1, 0])
+        & (load_at_start(&vehicle) == start)
+}
+
+fn has_plan(vehicle: &Vehicle, rides: &[Ride], stops: &[Stop]) -> bool {
+    vehicle.rides.as_slice() == rides && vehicle.stops.as_slice() == stops
+}
+
+/// Whether two vehicles have one plan.
+fn same_plan(vehicle: &Vehicle, other: Vehicle) -> bool {
+    has_plan(vehicle, other.rides.as_slice(), other.stops.as_slice())
+}
+
+fn ride_goes_in() -> bool {
     let joins = Joins {
         to_pickup: 60,
         after_pickup: 60,
@@ -132,36 +144,54 @@ fn ride_goes_into_the_plan_and_out_again(rt: HostRuntime) {
     };
     let mut vehicle = promised_vehicle();
     insert_ride(&mut vehicle, ride(9, 3, 4, None), &offer);
-    assert_eq!(rt; vehicle.rides.as_slice(), pooled_vehicle().rides.as_slice());
-    assert_eq!(rt; vehicle.stops.as_slice(), pooled_vehicle().stops.as_slice());
-    assert_eq!(rt; vehicle.version, 1);
+    same_plan(&vehicle, pooled_vehicle()) & (vehicle.version == 1)
+}
+
+fn ride_goes_out() -> bool {
     let mut vehicle = pooled_vehicle();
     remove_ride(&mut vehicle, 9, 120, 120);
-    assert_eq!(rt;
-        vehicle.rides.as_slice(),
-        promised_vehicle().rides.as_slice()
-    );
-    assert_eq!(rt;
-        vehicle.stops.as_slice(),
-        promised_vehicle().stops.as_slice()
-    );
-    let mut again = pooled_vehicle();
-    laws::removal_law(&mut again, 9, 120, 120);
-    assert_eq!(rt; again.stops.as_slice(), promised_vehicle().stops.as_slice());
+    same_plan(&vehicle, promised_vehicle())
+}
+
+/// Whether the call that a law is of takes the ride out too.
+fn law_takes_the_ride_out() -> bool {
+    let mut vehicle = pooled_vehicle();
+    laws::removal_law(&mut vehicle, 9, 120, 120);
+    same_plan(&vehicle, promised_vehicle())
+}
+
+#[test]
+fn a_pooled_plan_has_its_times_and_a_ride_goes_in_and_out_again(rt: HostRuntime) {
+    assert!(rt; pooled_plan_has_its_times_and_loads());
+    assert!(rt; ride_goes_in());
+    assert!(rt; ride_goes_out());
+    assert!(rt; law_takes_the_ride_out());
+}
+
+fn is_picked(reply: Reply) -> bool {
+    matches!(reply, Reply::Picked { ride: 7 })
+}
+
+fn pickup_is_served() -> bool {
+    let mut vehicle = arrived_vehicle();
+    let picked = is_picked(serve_first(&mut vehicle, 30));
+    let rides = [ride(7, 2, 4, Some(60))];
+    let stops = [dropoff(7, 4, 120)];
+    picked & (vehicle.ready == 90) & has_plan(&vehicle, &rides, &stops)
+}
+
+fn is_dropped(reply: Reply) -> bool {
+    matches!(reply, Reply::Dropped { ride: 7 })
+}
+
+fn dropoff_is_served() -> bool {
+    let mut vehicle = carrying_vehicle();
+    let dropped = is_dropped(serve_first(&mut vehicle, 30));
+    dropped & (vehicle.ready == 240) & has_plan(&vehicle, &[], &[])
 }
 
 #[test]
 fn pickup_and_dropoff_are_served(rt: HostRuntime) {
-    let mut vehicle = arrived_vehicle();
-    assert!(rt; matches!(serve_first(&mut vehicle, 30), Reply::Picked { ride: 7 }));
-    assert_eq!(rt; vehicle.ready, 90);
-    assert_eq!(rt;
-        vehicle.rides.as_slice(),
-        [ride(7, 2, 4, Some(60))].as_slice()
-    );
-    assert_eq!(rt; vehicle.stops.as_slice(), [dropoff(7, 4, 120)].as_slice());
-    let mut vehicle = carrying_vehicle();
-    assert!(rt; matches!(serve_first(&mut vehicle, 30), Reply::Dropped { ride: 7 }));
-    assert_eq!(rt; vehicle.ready, 240);
-    assert!(rt; vehicle.rides.as_slice().is_empty() && vehicle.stops.as_slice().is_empty());
+    assert!(rt; pickup_is_served());
+    assert!(rt; dropoff_is_served());
 }

@@ -1,150 +1,242 @@
 // Spellings of commands in both versions of the log.
-ghost use Rattle.std.specs.Prelude.{◌≡◌, ◌≢◌, ℕ};
-ghost use Rattle.ride_model.specs.declared.command.Command.TheVariants.{Bad, Request};
+ghost use Rattle.std.specs.Prelude.{◌≢◌, ℕ};
+ghost use Rattle.ride_model.specs.declared.command.Command.TheVariants.{Bad};
 ghost use Rattle.ride_model.specs.Text.{IsOneOrTwo, IsSpelledCommand};
 
 use command_lines::{print_command, read_command, read_feed_line};
 use ride_model::Command;
 use ride_ports::MemSink;
 use std::alloc::Global;
-use std::test::Fail;
+use std::process::Abort;
 
-fn request(id: u64, chairs: u64) -> Command
-    ensures { result ≡ Request id 2 4 1 600 300 chairs }
-{
-    Command::Request {
-        id,
-        from: 2,
-        to: 4,
-        seats: 1,
-        latest: 600,
-        longest: 300,
-        chairs,
+/// Without chairs.
+const REQUEST: Command = Command::Request {
+    id: 7,
+    from: 2,
+    to: 4,
+    seats: 1,
+    latest: 600,
+    longest: 300,
+    chairs: 0,
+};
+
+const WITH_CHAIR: Command = Command::Request {
+    id: 7,
+    from: 2,
+    to: 4,
+    seats: 1,
+    latest: 600,
+    longest: 300,
+    chairs: 1,
+};
+
+/// It asks for neither a seat nor a chair.
+const NO_LOAD: Command = Command::Request {
+    id: 11,
+    from: 2,
+    to: 4,
+    seats: 0,
+    latest: 600,
+    longest: 300,
+    chairs: 0,
+};
+
+const REPORT: Command = Command::At {
+    vehicle: 1,
+    node: 2,
+    time: 60,
+};
+
+/// A line, and what a version of the log reads in it.
+struct Line {
+    line: &'static [u8],
+    in_1: Option<Command>,
+    in_2: Option<Command>,
+}
+
+/// A line in which both versions read the same.
+macro_rules! line {
+    ($line:expr, $command:expr) => {
+        Line {
+            line: $line,
+            in_1: $command,
+            in_2: $command,
+        }
+    };
+}
+
+static LINES: [Line; 22] = [
+    // Each form, also in odd spellings.
+    line!(b"request 7 2 4 1 600 300", Some(REQUEST)),
+    line!(b"cancel 7", Some(Command::Cancel { id: 7 })),
+    line!(b"at 1 2 60", Some(REPORT)),
+    line!(b"done 1", Some(Command::Done { vehicle: 1 })),
+    line!(b"on 1", Some(Command::On { vehicle: 1 })),
+    line!(b" \toff\t 1 \r", Some(Command::Off { vehicle: 1 })),
+    line!(b"clock 0020", Some(Command::Clock { time: 20 })),
+    line!(b"batch", Some(Command::Ask)),
+    // Only version 2 has chairs, and there they may be left out.
+    Line {
+        line: b"request 7 2 4 1 600 300 1",
+        in_1: None,
+        in_2: Some(WITH_CHAIR),
+    },
+    line!(b"request 7 2 4 1 600 300 1 1", None),
+    line!(b"request 11 2 4 0 600 300", Some(NO_LOAD)),
+    // Other lines are no commands.
+    line!(b"", None),
+    line!(b"# cancel 7", None),
+    line!(b"Cancel 7", None),
+    line!(b"cancel", None),
+    line!(b"cancel 7 8", None),
+    line!(b"cancel x", None),
+    line!(b"cancel 1000000000000000000", None),
+    line!(b"batch 1", None),
+    line!(b"done\r1", None),
+    // The greatest number.
+    line!(
+        b"cancel 999999999999999999",
+        Some(Command::Cancel {
+            id: 999_999_999_999_999_999,
+        })
+    ),
+    line!(b"clock 0", Some(Command::Clock { time: 0 })),
+];
+
+#[test]
+fn each_line_is_a_command_or_none(rt: HostRuntime) {
+    for case in LINES.iter() {
+        let read = (read_command(case.line, 1), read_command(case.line, 2));
+        assert!(rt; read == (case.in_1, case.in_2), "{:?}", case.line);
     }
 }
 
-#[test]
-fn each_form_is_read(rt: HostRuntime) {
-    let cases = [
-        (b"request 7 2 4 1 600 300".as_slice(), request(7, 0)),
-        (b"cancel 7", Command::Cancel { id: 7 }),
-        (
-            b"at 1 2 60",
-            Command::At {
-                vehicle: 1,
-                node: 2,
-                time: 60,
-            },
-        ),
-        (b"done 1", Command::Done { vehicle: 1 }),
-        (b"on 1", Command::On { vehicle: 1 }),
-        (b" \toff\t 1 \r", Command::Off { vehicle: 1 }),
-        (b"clock 0020", Command::Clock { time: 20 }),
-        (b"batch", Command::Ask),
-    ];
-    for (line, command) in cases {
-        assert_eq!(rt; read_command(line, 1), Some(command));
-        assert_eq!(rt; read_command(line, 2), Some(command));
-    }
+/// A line of a feed, whether it has more bytes than these, its number, and what it says.
+struct FeedLine {
+    line: &'static [u8],
+    over: bool,
+    number: u64,
+    said: Option<Command>,
 }
 
-#[test]
-fn only_version_2_has_chairs(rt: HostRuntime) {
-    let line = b"request 7 2 4 1 600 300 1".as_slice();
-    assert_eq!(rt; read_command(line, 2), Some(request(7, 1)));
-    assert_eq!(rt; read_command(line, 1), None);
-    assert_eq!(rt; read_command(b"request 7 2 4 1 600 300 1 1", 2), None);
-}
-
-#[test]
-fn other_lines_are_no_commands(rt: HostRuntime) {
-    let lines = [
-        b"".as_slice(),
-        b"# cancel 7",
-        b"Cancel 7",
-        b"cancel",
-        b"cancel 7 8",
-        b"cancel x",
-        b"cancel 1000000000000000000",
-        b"batch 1",
-        b"done\r1",
-    ];
-    for line in lines {
-        assert_eq!(rt; read_command(line, 1), None);
-    }
-}
+static FEED_LINES: [FeedLine; 6] = [
+    FeedLine {
+        line: b" \t\r",
+        over: false,
+        number: 1,
+        said: None,
+    },
+    FeedLine {
+        line: b" #x",
+        over: false,
+        number: 2,
+        said: None,
+    },
+    FeedLine {
+        line: b"#x",
+        over: true,
+        number: 3,
+        said: None,
+    },
+    FeedLine {
+        line: b" #x",
+        over: true,
+        number: 4,
+        said: Some(Command::Bad { line: 4 }),
+    },
+    FeedLine {
+        line: b"x",
+        over: false,
+        number: 5,
+        said: Some(Command::Bad { line: 5 }),
+    },
+    FeedLine {
+        line: b"batch",
+        over: false,
+        number: 6,
+        said: Some(Command::Ask),
+    },
+];
 
 #[test]
 fn a_feed_says_nothing_by_blank_lines_and_comments(rt: HostRuntime) {
-    assert_eq!(rt; read_feed_line(b" \t\r", false, 1, 1), None);
-    assert_eq!(rt; read_feed_line(b" #x", false, 2, 1), None);
-    assert_eq!(rt; read_feed_line(b"#x", true, 3, 1), None);
-    assert_eq!(rt;
-        read_feed_line(b" #x", true, 4, 1),
-        Some(Command::Bad { line: 4 })
-    );
-    assert_eq!(rt;
-        read_feed_line(b"x", false, 5, 1),
-        Some(Command::Bad { line: 5 })
-    );
-    assert_eq!(rt; read_feed_line(b"batch", false, 6, 1), Some(Command::Ask));
+    for case in FEED_LINES.iter() {
+        let said = read_feed_line(case.line, case.over, case.number, 1);
+        assert!(rt; said == case.said, "line {}", case.number);
+    }
 }
 
-// Whether this is printed of a command by a sink that takes a byte at a time.
-fn is_spelled(alloc: Global, command: &Command, log: u8, spelling: &[u8]) -> Result<bool, Fail>
+/// A command, and its canonical spelling in version 1 of the log or in version 2.
+struct Spelling {
+    command: Command,
+    in_2: bool,
+    spelling: &'static [u8],
+}
+
+macro_rules! spelling {
+    ($command:expr, $in_2:expr, $spelling:expr) => {
+        Spelling {
+            command: $command,
+            in_2: $in_2,
+            spelling: $spelling,
+        }
+    };
+}
+
+static SPELLINGS: [Spelling; 11] = [
+    spelling!(REQUEST, false, b"request 7 2 4 1 600 300"),
+    spelling!(WITH_CHAIR, true, b"request 7 2 4 1 600 300 1"),
+    spelling!(REQUEST, true, b"request 7 2 4 1 600 300 0"),
+    spelling!(
+        Command::Cancel {
+            id: 999_999_999_999_999_999,
+        },
+        false,
+        b"cancel 999999999999999999"
+    ),
+    spelling!(REPORT, false, b"at 1 2 60"),
+    spelling!(Command::Done { vehicle: 1 }, false, b"done 1"),
+    spelling!(Command::On { vehicle: 1 }, false, b"on 1"),
+    spelling!(Command::Off { vehicle: 1 }, false, b"off 1"),
+    spelling!(Command::Clock { time: 0 }, false, b"clock 0"),
+    spelling!(Command::Ask, true, b"batch"),
+    // Six numbers are read in version 2, and seven are printed.
+    spelling!(NO_LOAD, true, b"request 11 2 4 0 600 300 0"),
+];
+
+/// Whether this is printed of a command, by a sink that takes a byte at a time.
+fn is_spelled(rt: &impl Abort, alloc: Global, command: &Command, log: u8, spelling: &[u8]) -> bool
     requires log { IsOneOrTwo log }
     requires not_bad { (number : ℕ) → command.now ≢ Bad number }
     requires spelled { IsSpelledCommand log command.now }
 {
-    let mut sink = MemSink::new(alloc, 40, &[1], &[])?;
-    let printed = print_command(command, log, &mut sink);
-    Ok(printed.is_ok() && sink.written() == spelling)
+    let mut sink = MemSink::new(alloc, 40, &[1], &[]).expect(rt, "memory for a sink");
+    let printed = print_command(command, log, &mut sink).is_ok();
+    printed & (sink.written() == spelling)
+}
+
+/// Whether a spelling is read as its command, and printed of it.
+fn is_canonical(rt: &impl Abort, alloc: Global, case: &Spelling) -> bool {
+    let log = if case.in_2 { 2 } else { 1 };
+    match read_command(case.spelling, log) {
+        Some(command) if command == case.command => {
+            is_spelled(rt, alloc, &command, log, case.spelling)
+        }
+        _ => false,
+    }
+}
+
+/// Whether a sink that fails at its second call has what it took at the first.
+fn keeps_a_prefix(rt: &impl Abort, alloc: Global) -> bool {
+    let mut sink = MemSink::new(alloc, 40, &[4], &[2]).expect(rt, "memory for a sink");
+    let failed = print_command(&Command::Cancel { id: 7 }, 1, &mut sink).is_err();
+    failed & (sink.written() == b"canc".as_slice())
 }
 
 #[test]
-fn spellings_are_canonical(rt: HostRuntime) -> Result<(), Fail> {
-    let alloc = rt.alloc();
-    assert!(rt; is_spelled(alloc, &request(7, 0), 1, b"request 7 2 4 1 600 300")?);
-    assert!(rt; is_spelled(alloc, &request(7, 1), 2, b"request 7 2 4 1 600 300 1")?);
-    assert!(rt; is_spelled(alloc, &request(7, 0), 2, b"request 7 2 4 1 600 300 0")?);
-    let greatest = Command::Cancel {
-        id: 999_999_999_999_999_999,
-    };
-    assert!(rt; is_spelled(alloc, &greatest, 1, b"cancel 999999999999999999")?);
-    let report = Command::At {
-        vehicle: 1,
-        node: 2,
-        time: 60,
-    };
-    assert!(rt; is_spelled(alloc, &report, 1, b"at 1 2 60")?);
-    assert!(rt; is_spelled(alloc, &Command::Done { vehicle: 1 }, 1, b"done 1")?);
-    assert!(rt; is_spelled(alloc, &Command::On { vehicle: 1 }, 1, b"on 1")?);
-    assert!(rt; is_spelled(alloc, &Command::Off { vehicle: 1 }, 1, b"off 1")?);
-    assert!(rt; is_spelled(alloc, &Command::Clock { time: 0 }, 1, b"clock 0")?);
-    assert!(rt; is_spelled(alloc, &Command::Ask, 2, b"batch")?);
-    Ok(())
-}
-
-#[test]
-fn in_version_2_six_numbers_are_read_and_seven_are_printed(rt: HostRuntime) -> Result<(), Fail> {
-    let no_load = Command::Request {
-        id: 11,
-        from: 2,
-        to: 4,
-        seats: 0,
-        latest: 600,
-        longest: 300,
-        chairs: 0,
-    };
-    assert_eq!(rt; read_command(b"request 11 2 4 0 600 300", 2), Some(no_load));
-    assert!(rt; is_spelled(rt.alloc(), &no_load, 2, b"request 11 2 4 0 600 300 0")?);
-    Ok(())
-}
-
-#[test]
-fn a_failing_sink_has_a_prefix(rt: HostRuntime) -> Result<(), Fail> {
-    let mut sink = MemSink::new(rt.alloc(), 40, &[4], &[2])?;
-    assert!(rt; print_command(&Command::Cancel { id: 7 }, 1, &mut sink).is_err());
-    assert_eq!(rt; sink.written(), b"canc".as_slice());
-    Ok(())
+fn spellings_are_canonical_and_a_failing_sink_has_a_prefix(rt: HostRuntime) {
+    for case in SPELLINGS.iter() {
+        assert!(rt; is_canonical(&rt, rt.alloc(), case), "{:?}", case.spelling);
+    }
+    assert!(rt; keeps_a_prefix(&rt, rt.alloc()));
 }

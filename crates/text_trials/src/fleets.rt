@@ -1,132 +1,168 @@
 //! Fleet files and what is none.
+ghost use Rattle.ride_ports.specs.Calls.{ArePieces};
+
 use fleet_file::{FleetError, a_text_has_one_answer, read_fleet};
-use ride_model::{Network, Settings};
-use ride_ports::MemSource;
+use line_text::put_number;
+use ride_model::{Fleet, Network, Settings, Vehicle};
+use ride_ports::{MemSource, NoMemory};
 use std::alloc::Global;
 use std::process::Abort;
-use std::test::Fail;
 
-fn refuses<R: Abort + AllocGlobal>(rt: &R, bytes: &[u8], error: FleetError) {
-    let map = Network::new(4, Vec::new(rt.alloc()));
-    match read_fleet(rt.alloc(), &mut MemSource::new(bytes, &[], &[]), &map) {
-        Ok(_) => assert!(rt; false, "a fleet"),
-        Err(refusal) => assert!(rt; refusal == error, "{refusal:?}"),
+/// How many vehicles were read, or why there is no fleet.
+fn count_of(read: Result<(Settings, Fleet), FleetError>) -> Result<usize, FleetError> {
+    match read {
+        Ok((_, fleet)) => Ok(fleet.vehicles().len()),
+        Err(error) => Err(error),
     }
 }
 
-#[test]
-fn odd_spellings_give_the_same_fleet_in_any_pieces(rt: HostRuntime) -> Result<(), Fail> {
-    let map = Network::new(4, Vec::new(rt.alloc()));
+/// What is told of a source's fleet on a map of four nodes.
+fn vehicles_of(alloc: Global, source: &mut MemSource<'_>) -> Result<usize, FleetError> {
+    let map = Network::new(4, Vec::new(alloc));
+    count_of(read_fleet(alloc, source, &map))
+}
+
+/// What is told of a text.
+fn told_of(alloc: Global, bytes: &[u8]) -> Result<usize, FleetError> {
+    vehicles_of(alloc, &mut MemSource::new(bytes, &[], &[]))
+}
+
+fn are_two(settings: Settings, vehicles: &[Vehicle]) -> bool {
+    let expected = Settings {
+        batch: 32,
+        penalty: 179,
+        drive: 1,
+        wait: 0,
+        lead: 0,
+        dwell: 0,
+        log: 1,
+    };
+    match vehicles {
+        [first, second] => {
+            settings == expected
+                && (first.id, first.seats, first.chairs) == (7, 16, 0)
+                && (second.id, second.at, second.chairs) == (8, 1, 4)
+        }
+        _ => false,
+    }
+}
+
+fn is_two(read: Result<(Settings, Fleet), FleetError>) -> bool {
+    match read {
+        Ok((settings, fleet)) => are_two(settings, fleet.vehicles()),
+        Err(_) => false,
+    }
+}
+
+/// Whether the fleet of two vehicles is read whose text comes in these pieces.
+fn reads_two(alloc: Global, pieces: &[usize]) -> bool
+    requires { ArePieces pieces.now }
+{
     let bytes = b"# fleet\r\nvehicle 7 16\t4 1000000000\r\n\nset  penalty 0179 \nvehicle 8 1 1 0 4";
+    let map = Network::new(4, Vec::new(alloc));
+    is_two(read_fleet(alloc, &mut MemSource::new(bytes, pieces, &[]), &map))
+}
+
+#[test]
+fn odd_spellings_give_the_same_fleet_in_any_pieces(rt: HostRuntime) {
     for pieces in [&[1], &[2], &[7]] {
-        let (settings, fleet) = read_fleet(
-            rt.alloc(),
-            &mut MemSource::new(bytes, pieces, &[]),
-            &map,
-        )?;
-        let expected = Settings {
-            batch: 32,
-            penalty: 179,
-            drive: 1,
-            wait: 0,
-            lead: 0,
-            dwell: 0,
-            log: 1,
-        };
-        assert_eq!(rt; settings, expected);
-        let vehicles = fleet.vehicles();
-        assert_eq!(rt; vehicles.len(), 2);
-        assert!(rt; vehicles[0].id == 7 && vehicles[0].seats == 16 && vehicles[0].chairs == 0);
-        assert!(rt; vehicles[1].id == 8 && vehicles[1].at == 1 && vehicles[1].chairs == 4);
+        assert!(rt; reads_two(rt.alloc(), pieces));
     }
-    Ok(())
+}
+
+static REFUSED: [(&[u8], FleetError); 20] = [
+    // Each refusal has its line.
+    (b"set speed 1", FleetError::BadLine(1)),
+    (b"\n# roads\nset lead x", FleetError::BadLine(3)),
+    (b"vehicle 1 1 1", FleetError::BadLine(1)),
+    (b"set lead 1\nset lead 9999", FleetError::Repeat(2)),
+    (b"vehicle 1 1 1 0\nvehicle 1 0 9 0", FleetError::Repeat(2)),
+    (b"vehicle 1 0 5 0", FleetError::NodeOut(1)),
+    (b"vehicle 1 0 0 0", FleetError::NodeOut(1)),
+    // A value out of its range is refused.
+    (b"set batch 0", FleetError::ValueOut(1)),
+    (b"set batch 129", FleetError::ValueOut(1)),
+    (b"set penalty 1000000000001", FleetError::ValueOut(1)),
+    (b"set drive 1001", FleetError::ValueOut(1)),
+    (b"set wait 1001", FleetError::ValueOut(1)),
+    (b"set lead 3601", FleetError::ValueOut(1)),
+    (b"set dwell 3601", FleetError::ValueOut(1)),
+    (b"set log 0", FleetError::ValueOut(1)),
+    (b"set log 3", FleetError::ValueOut(1)),
+    (b"vehicle 1 0 1 0", FleetError::ValueOut(1)),
+    (b"vehicle 1 17 1 0", FleetError::ValueOut(1)),
+    (b"vehicle 1 1 1 0 5", FleetError::ValueOut(1)),
+    (b"vehicle 1 1 1 1000000001", FleetError::ValueOut(1)),
+];
+
+/// What is told of a source that fails at its first call, and its count of faults.
+fn told_of_a_fault(alloc: Global) -> (Result<usize, FleetError>, u64) {
+    let mut source = MemSource::new(b"set log 2", &[], &[1]);
+    let told = vehicles_of(alloc, &mut source);
+    (told, source.faults())
 }
 
 #[test]
-fn each_refusal_has_its_line(rt: HostRuntime) {
+fn each_refusal_has_its_line_and_a_fault_of_reading_is_told(rt: HostRuntime) {
     a_text_has_one_answer();
-    refuses(&rt, b"set speed 1", FleetError::BadLine(1));
-    refuses(&rt, b"\n# roads\nset lead x", FleetError::BadLine(3));
-    refuses(&rt, b"vehicle 1 1 1", FleetError::BadLine(1));
-    refuses(&rt, b"set lead 1\nset lead 9999", FleetError::Repeat(2));
-    refuses(
-        &rt,
-        b"vehicle 1 1 1 0\nvehicle 1 0 9 0",
-        FleetError::Repeat(2),
-    );
-    refuses(&rt, b"vehicle 1 0 5 0", FleetError::NodeOut(1));
-    refuses(&rt, b"vehicle 1 0 0 0", FleetError::NodeOut(1));
-}
-
-#[test]
-fn a_value_out_of_its_range_is_refused(rt: HostRuntime) {
-    let lines = [
-        b"set batch 0".as_slice(),
-        b"set batch 129",
-        b"set penalty 1000000000001",
-        b"set drive 1001",
-        b"set wait 1001",
-        b"set lead 3601",
-        b"set dwell 3601",
-        b"set log 0",
-        b"set log 3",
-        b"vehicle 1 0 1 0",
-        b"vehicle 1 17 1 0",
-        b"vehicle 1 1 1 0 5",
-        b"vehicle 1 1 1 1000000001",
-    ];
-    for line in lines {
-        refuses(&rt, line, FleetError::ValueOut(1));
+    for &(bytes, error) in REFUSED.iter() {
+        assert!(rt; told_of(rt.alloc(), bytes) == Err(error), "{bytes:?}");
     }
+    assert!(rt; told_of_a_fault(rt.alloc()) == (Err(FleetError::ReadFault), 1));
 }
 
-#[test]
-fn an_over_long_line_is_bad_or_a_comment(rt: HostRuntime) -> Result<(), Fail> {
-    let map = Network::new(4, Vec::new(rt.alloc()));
-    let mut bytes = vec![in rt.alloc(); b'#'; 201]?;
-    let mut source = MemSource::new(bytes.as_slice(), &[], &[]);
-    assert!(rt; read_fleet(rt.alloc(), &mut source, &map).is_ok());
-    bytes[0] = b' ';
-    refuses(&rt, bytes.as_slice(), FleetError::BadLine(1));
-    Ok(())
+/// A text of one line: its first byte, how many bytes it has, all others `#`, and what is told of it.
+static LONG_LINES: [(u8, usize, Result<usize, FleetError>); 4] = [
+    // An over-long line is bad or a comment.
+    (b'#', 201, Ok(0)),
+    (b' ', 201, Err(FleetError::BadLine(1))),
+    // As many bytes as the limit, and one more.
+    (b'#', 1 << 20, Ok(0)),
+    (b'#', (1 << 20) + 1, Err(FleetError::TooLong)),
+];
+
+fn line_of(alloc: Global, first: u8, length: usize) -> Result<Vec<u8>, NoMemory> {
+    let mut bytes = Vec::new(alloc);
+    bytes.push(first)?;
+    bytes.resize(length, b'#')?;
+    Ok(bytes)
 }
 
-#[test]
-fn more_bytes_than_the_limit_are_too_long(rt: HostRuntime) -> Result<(), Fail> {
-    let map = Network::new(4, Vec::new(rt.alloc()));
-    let mut bytes = vec![in rt.alloc(); b'#'; 1 << 20]?;
-    let mut source = MemSource::new(bytes.as_slice(), &[], &[]);
-    assert!(rt; read_fleet(rt.alloc(), &mut source, &map).is_ok());
-    bytes.push(b'#')?;
-    refuses(&rt, bytes.as_slice(), FleetError::TooLong);
-    Ok(())
+fn told_of_line(
+    rt: &impl Abort,
+    alloc: Global,
+    first: u8,
+    length: usize,
+) -> Result<usize, FleetError> {
+    let line = line_of(alloc, first, length).expect(rt, "memory for a line");
+    told_of(alloc, line.as_slice())
 }
 
-// The lines of so many vehicles.
-fn vehicle_lines(alloc: Global, many: u32) -> Result<String, Fail> {
-    let mut lines = String::new(alloc);
+/// The lines of so many vehicles.
+fn vehicle_lines(alloc: Global, many: u32) -> Result<Vec<u8>, NoMemory> {
+    let mut lines = Vec::new(alloc);
     for id in 0..many {
-        writeln!(lines, "vehicle {id} 1 1 0")?;
+        lines.extend_from_slice(b"vehicle ")?;
+        lines.extend_from_slice(put_number(u64::from(id)).as_slice())?;
+        lines.extend_from_slice(b" 1 1 0\n")?;
     }
     Ok(lines)
 }
 
-#[test]
-fn the_1001st_vehicle_is_too_many(rt: HostRuntime) -> Result<(), Fail> {
-    let map = Network::new(4, Vec::new(rt.alloc()));
-    let full = vehicle_lines(rt.alloc(), 1_000)?;
-    let mut source = MemSource::new(full.as_bytes(), &[], &[]);
-    let (_, fleet) = read_fleet(rt.alloc(), &mut source, &map)?;
-    assert_eq!(rt; fleet.vehicles().len(), 1_000);
-    let over = vehicle_lines(rt.alloc(), 1_001)?;
-    refuses(&rt, over.as_bytes(), FleetError::TooMany(1_001));
-    Ok(())
+fn told_of_vehicles(rt: &impl Abort, alloc: Global, many: u32) -> Result<usize, FleetError> {
+    let lines = vehicle_lines(alloc, many).expect(rt, "memory for the lines");
+    told_of(alloc, lines.as_slice())
 }
 
 #[test]
-fn a_fault_of_reading_is_told(rt: HostRuntime) {
-    let map = Network::new(4, Vec::new(rt.alloc()));
-    let mut src = MemSource::new(b"set log 2", &[], &[1]);
-    assert!(rt; read_fleet(rt.alloc(), &mut src, &map).is_err_and(|e| e == FleetError::ReadFault));
-    assert_eq!(rt; src.faults(), 1);
+fn limits_of_lines_bytes_and_vehicles_are_exact(rt: HostRuntime) {
+    let alloc = rt.alloc();
+    for &(first, length, told) in LONG_LINES.iter() {
+        assert!(rt;
+            told_of_line(&rt, alloc, first, length) == told,
+            "{length} bytes"
+        );
+    }
+    assert!(rt; told_of_vehicles(&rt, alloc, 1_000) == Ok(1_000));
+    assert!(rt; told_of_vehicles(&rt, alloc, 1_001) == Err(FleetError::TooMany(1_001)));
 }

@@ -5,15 +5,17 @@
 #[cfg(test)]
 mod commands;
 #[cfg(test)]
+mod entries;
+#[cfg(test)]
 mod fleets;
 #[cfg(test)]
 mod lines;
 #[cfg(test)]
 mod maps;
 #[cfg(test)]
-mod ports;
+mod pieces;
 #[cfg(test)]
-mod printed;
+mod ports;
 #[cfg(test)]
 mod read_back;
 #[cfg(test)]

@@ -1,90 +1,208 @@
 //! Odd spellings of lines, fields and numbers.
 ghost use Rattle.std.specs.Prelude.{◌≡◌, length};
+ghost use Rattle.ride_ports.specs.Calls.{ArePieces};
 
+use crate::pieces::expect_pieces;
 use arrayvec::ArrayVec;
 use line_text::{
-    Fields, LineCutter, LineReader, MOST_LINE, ReadError, put_number, read_lines, read_number,
+    Cut, Fields, LineCutter, LineReader, MOST_LINE, ReadError, put_number, read_lines, read_number,
     words_of,
 };
 use ride_ports::MemSource;
-use std::test::Fail;
+use std::alloc::Global;
+use std::process::Abort;
+
+/// Numbers have 1 to 18 digits.
+static NUMBERS: [(&[u8], Option<u64>); 6] = [
+    (b"", None),
+    (b"007", Some(7)),
+    (b"999999999999999999", Some(999_999_999_999_999_999)),
+    (b"0000000000000000001", None),
+    (b"+7", None),
+    (b"7\r", None),
+];
+
+/// Printed numbers have no leading zero.
+static PRINTED: [(u64, &[u8]); 2] = [(0, b"0"), (u64::MAX, b"18446744073709551615")];
 
 #[test]
-fn numbers_have_1_to_18_digits(rt: HostRuntime) {
-    assert_eq!(rt; read_number(b""), None);
-    assert_eq!(rt; read_number(b"007"), Some(7));
-    assert_eq!(rt;
-        read_number(b"999999999999999999"),
-        Some(999_999_999_999_999_999)
-    );
-    assert_eq!(rt; read_number(b"0000000000000000001"), None);
-    assert_eq!(rt; read_number(b"+7"), None);
-    assert_eq!(rt; read_number(b"7\r"), None);
+fn numbers_are_read_and_printed(rt: HostRuntime) {
+    for &(text, number) in NUMBERS.iter() {
+        assert!(rt; read_number(text) == number, "{text:?}");
+    }
+    for &(number, text) in PRINTED.iter() {
+        assert!(rt; put_number(number).as_slice() == text, "{number}");
+    }
+}
+
+/// Whether these are the fields, in order, and there are no more.
+fn are_fields(mut fields: Fields<'_>, wanted: &[&[u8]]) -> bool {
+    for field in wanted {
+        if fields.next_field() != Some(*field) {
+            return false;
+        }
+    }
+    fields.next_field().is_none()
+}
+
+/// A line of a text with comments, whether it has more bytes than these, and its words, or none where it is unlawful.
+struct Words {
+    line: &'static [u8],
+    over: bool,
+    words: Option<&'static [&'static [u8]]>,
+}
+
+static WORDS: [Words; 4] = [
+    Words {
+        line: b" #x y",
+        over: false,
+        words: Some(&[]),
+    },
+    Words {
+        line: b"#x",
+        over: true,
+        words: Some(&[]),
+    },
+    Words {
+        line: b" #x",
+        over: true,
+        words: None,
+    },
+    Words {
+        line: b"x#",
+        over: false,
+        words: Some(&[b"x#"]),
+    },
+];
+
+fn has_words(case: &Words) -> bool {
+    match (words_of(b'#', case.line, case.over), case.words) {
+        (Some(fields), Some(words)) => are_fields(fields, words),
+        (None, None) => true,
+        _ => false,
+    }
+}
+
+/// Lines, and their numbers where they are at most two.
+static PAIRS: [(&[u8], Option<[u64; 2]>); 3] = [
+    (b"1 02", Some([1, 2])),
+    (b"1 2 3", None),
+    (b"1 x", None),
+];
+
+fn has_pair(line: &[u8], pair: Option<[u64; 2]>) -> bool {
+    match (Fields::of(line).numbers::<2>(), pair) {
+        (Some(numbers), Some(pair)) => numbers.as_slice() == pair.as_slice(),
+        (None, None) => true,
+        _ => false,
+    }
 }
 
 #[test]
-fn printed_numbers_have_no_leading_zero(rt: HostRuntime) {
-    assert_eq!(rt; put_number(0).as_slice(), b"0".as_slice());
-    assert_eq!(rt;
-        put_number(u64::MAX).as_slice(),
-        b"18446744073709551615".as_slice()
-    );
+fn fields_stand_between_spaces_and_tabs_and_comments_say_nothing(rt: HostRuntime) {
+    let fields = Fields::of(b" \ta\t b\rc \r\t ");
+    assert!(rt; are_fields(fields, &[b"a".as_slice(), b"b\rc"]));
+    for case in WORDS.iter() {
+        assert!(rt; has_words(case), "{:?}", case.line);
+    }
+    for &(line, pair) in PAIRS.iter() {
+        assert!(rt; has_pair(line, pair), "{line:?}");
+    }
+}
+
+/// A piece of a text, how it is cut, and then what is shown of a line.
+struct Piece {
+    bytes: &'static [u8],
+    cut: Cut,
+    shown: Option<Line>,
+}
+
+struct Line {
+    bytes: &'static [u8],
+    over: bool,
+    number: u64,
+    /// Whether it is a last line that no LF ends.
+    is_last: bool,
+}
+
+static PIECES: [Piece; 4] = [
+    Piece {
+        bytes: b"ab",
+        cut: Cut {
+            used: 2,
+            whole: false,
+        },
+        shown: None,
+    },
+    Piece {
+        bytes: b"cd\nx",
+        cut: Cut {
+            used: 3,
+            whole: true,
+        },
+        shown: Some(Line {
+            bytes: b"abc",
+            over: true,
+            number: 1,
+            is_last: false,
+        }),
+    },
+    Piece {
+        bytes: b"\n",
+        cut: Cut {
+            used: 1,
+            whole: true,
+        },
+        shown: Some(Line {
+            bytes: b"",
+            over: false,
+            number: 2,
+            is_last: false,
+        }),
+    },
+    Piece {
+        bytes: b"xyz",
+        cut: Cut {
+            used: 3,
+            whole: false,
+        },
+        shown: Some(Line {
+            bytes: b"xyz",
+            over: false,
+            number: 3,
+            is_last: true,
+        }),
+    },
+];
+
+fn shows(cutter: &LineCutter, line: &Line) -> bool {
+    (cutter.over(), cutter.number()) == (line.over, line.number) && cutter.line() == line.bytes
+}
+
+fn cuts(cutter: &mut LineCutter, piece: &Piece) -> bool {
+    let cut = cutter.take(piece.bytes);
+    let is_last = cutter.finish();
+    cut == piece.cut
+        && match &piece.shown {
+            Some(line) => is_last == line.is_last && shows(cutter, line),
+            None => true,
+        }
+}
+
+/// Whether the pieces are cut as they say, by a cutter that keeps three bytes of a line.
+fn are_cut(rt: &impl Abort, alloc: Global) -> bool {
+    let mut cutter = LineCutter::new(alloc, 3).expect(rt, "memory for a line");
+    let mut as_said = !cutter.finish();
+    for piece in PIECES.iter() {
+        as_said &= cuts(&mut cutter, piece);
+    }
+    as_said
 }
 
 #[test]
-fn fields_stand_between_spaces_and_tabs(rt: HostRuntime) -> Result<(), Fail> {
-    let mut fields = Fields::of(b" \ta\t b\rc \r\t ");
-    let first = fields.next_field().ok_or("no first field")?;
-    assert_eq!(rt; first, b"a".as_slice());
-    let second = fields.next_field().ok_or("no second field")?;
-    assert_eq!(rt; second, b"b\rc".as_slice());
-    assert!(rt; fields.next_field().is_none());
-    Ok(())
-}
-
-#[test]
-fn fields_are_numbers_up_to_a_count(rt: HostRuntime) -> Result<(), Fail> {
-    let two = Fields::of(b"1 02").numbers::<2>().ok_or("no numbers")?;
-    assert_eq!(rt; two.as_slice(), [1, 2].as_slice());
-    assert!(rt; Fields::of(b"1 2 3").numbers::<2>().is_none());
-    assert!(rt; Fields::of(b"1 x").numbers::<2>().is_none());
-    Ok(())
-}
-
-#[test]
-fn comments_say_nothing(rt: HostRuntime) -> Result<(), Fail> {
-    let mut words = words_of(b'#', b" #x y", false).ok_or("a comment is lawful")?;
-    assert!(rt; words.next_field().is_none());
-    let mut words = words_of(b'#', b"#x", true).ok_or("an over-long comment is lawful")?;
-    assert!(rt; words.next_field().is_none());
-    assert!(rt; words_of(b'#', b" #x", true).is_none());
-    let mut words = words_of(b'#', b"x#", false).ok_or("a word is lawful")?;
-    let word = words.next_field().ok_or("no word")?;
-    assert_eq!(rt; word, b"x#".as_slice());
-    Ok(())
-}
-
-#[test]
-fn lines_are_those_of_all_pieces(rt: HostRuntime) -> Result<(), Fail> {
-    let mut cutter = LineCutter::new(rt.alloc(), 3)?;
-    assert!(rt; !cutter.finish());
-    let cut = cutter.take(b"ab");
-    assert!(rt; cut.used == 2 && !cut.whole);
-    let cut = cutter.take(b"cd\nx");
-    assert!(rt; cut.used == 3 && cut.whole);
-    assert_eq!(rt; cutter.line(), b"abc".as_slice());
-    assert!(rt; cutter.over());
-    assert_eq!(rt; cutter.number(), 1);
-    assert!(rt; !cutter.finish());
-    let cut = cutter.take(b"\n");
-    assert!(rt; cut.used == 1 && cut.whole && cutter.line().is_empty() && cutter.number() == 2);
-    let cut = cutter.take(b"xyz");
-    assert!(rt; cut.used == 3 && !cut.whole && !cutter.over());
-    assert!(rt; cutter.finish());
-    assert_eq!(rt; cutter.line(), b"xyz".as_slice());
-    assert_eq!(rt; cutter.number(), 3);
-    assert_eq!(rt; MOST_LINE, 200);
-    Ok(())
+fn lines_are_those_of_all_pieces(rt: HostRuntime) {
+    assert!(rt; are_cut(&rt, rt.alloc()));
+    assert!(rt; MOST_LINE == 200);
 }
 
 // Keeps what it is shown of each line, with a bar after it, and refuses the line `bad`.
@@ -122,58 +240,161 @@ fn nothing_shown() -> Shown
     }
 }
 
-#[test]
-fn each_line_is_handed_on_once_in_any_pieces(rt: HostRuntime) {
-    for pieces in [&[1][..], &[2], &[7], &[]] {
-        let mut shown = nothing_shown();
-        let mut source = MemSource::new(b"ab\n\nc d\r\nlast", pieces, &[]);
-        assert_eq!(rt; read_lines(rt.alloc(), &mut source, 14, &mut shown), Ok(()));
-        assert_eq!(rt; shown.text.as_slice(), b"ab||c d\r|last|".as_slice());
-        assert_eq!(rt; shown.lines, 4);
-    }
+/// A text, the most bytes that it may have, the ways in which it comes in pieces, the calls of its source that fail, and what is told
+/// of it.
+struct Text {
+    bytes: &'static [u8],
+    most: u32,
+    ways: &'static [&'static [usize]],
+    failing: &'static [u64],
+    told: Told,
+}
+
+/// What is read, each line that is shown with a bar after it, their number, and the source's count of faults.
+struct Told {
+    read: Result<(), ReadError<u64>>,
+    shown: &'static [u8],
+    lines: u64,
+    faults: u64,
+}
+
+static TEXTS: [Text; 9] = [
+    // Each line is handed on once, in any pieces.
+    Text {
+        bytes: b"ab\n\nc d\r\nlast",
+        most: 14,
+        ways: &[&[1], &[2], &[7], &[]],
+        failing: &[],
+        told: Told {
+            read: Ok(()),
+            shown: b"ab||c d\r|last|",
+            lines: 4,
+            faults: 0,
+        },
+    },
+    // A faulty line comes before a later fault of the source.
+    Text {
+        bytes: b"ab\nbad\ncd\n",
+        most: 100,
+        ways: &[&[7, 1]],
+        failing: &[2],
+        told: Told {
+            read: Err(ReadError::Refused(2)),
+            shown: b"ab|",
+            lines: 1,
+            faults: 0,
+        },
+    },
+    Text {
+        bytes: b"ab\nbad\ncd\n",
+        most: 100,
+        ways: &[&[6, 1]],
+        failing: &[2],
+        told: Told {
+            read: Err(ReadError::ReadFault),
+            shown: b"ab|",
+            lines: 1,
+            faults: 1,
+        },
+    },
+    // The last line needs no LF.
+    Text {
+        bytes: b"ab\nbad",
+        most: 6,
+        ways: &[&[2]],
+        failing: &[],
+        told: Told {
+            read: Err(ReadError::Refused(2)),
+            shown: b"ab|",
+            lines: 1,
+            faults: 0,
+        },
+    },
+    Text {
+        bytes: b"",
+        most: 0,
+        ways: &[&[]],
+        failing: &[],
+        told: Told {
+            read: Ok(()),
+            shown: b"",
+            lines: 0,
+            faults: 0,
+        },
+    },
+    // A faulty line within the limit comes before it.
+    Text {
+        bytes: b"ab\ncd",
+        most: 5,
+        ways: &[&[1], &[2], &[7]],
+        failing: &[],
+        told: Told {
+            read: Ok(()),
+            shown: b"ab|cd|",
+            lines: 2,
+            faults: 0,
+        },
+    },
+    Text {
+        bytes: b"ab\ncd\n",
+        most: 5,
+        ways: &[&[1], &[2], &[7]],
+        failing: &[],
+        told: Told {
+            read: Err(ReadError::TooLong),
+            shown: b"ab|",
+            lines: 1,
+            faults: 0,
+        },
+    },
+    Text {
+        bytes: b"ab\nbad\n",
+        most: 5,
+        ways: &[&[1], &[2], &[7]],
+        failing: &[],
+        told: Told {
+            read: Err(ReadError::TooLong),
+            shown: b"ab|",
+            lines: 1,
+            faults: 0,
+        },
+    },
+    Text {
+        bytes: b"bad\ncd\n",
+        most: 5,
+        ways: &[&[1], &[2], &[7]],
+        failing: &[],
+        told: Told {
+            read: Err(ReadError::Refused(1)),
+            shown: b"",
+            lines: 0,
+            faults: 0,
+        },
+    },
+];
+
+/// Whether a text that comes in these pieces is told as it says.
+fn is_told(alloc: Global, text: &Text, pieces: &[usize]) -> bool
+    requires { ArePieces pieces.now }
+{
+    let mut shown = nothing_shown();
+    let mut source = MemSource::new(text.bytes, pieces, text.failing);
+    let read = read_lines(alloc, &mut source, text.most, &mut shown);
+    let told = &text.told;
+    ((read, shown.lines, source.faults()) == (told.read, told.lines, told.faults))
+        & (shown.text.as_slice() == told.shown)
 }
 
 #[test]
-fn a_faulty_line_comes_before_a_later_fault_of_the_source(rt: HostRuntime) {
-    let mut shown = nothing_shown();
-    let mut source = MemSource::new(b"ab\nbad\ncd\n", &[7, 1], &[2]);
-    let read = read_lines(rt.alloc(), &mut source, 100, &mut shown);
-    assert_eq!(rt; read, Err(ReadError::Refused(2)));
-    assert_eq!(rt; source.faults(), 0);
-    let mut shown = nothing_shown();
-    let mut source = MemSource::new(b"ab\nbad\ncd\n", &[6, 1], &[2]);
-    let read = read_lines(rt.alloc(), &mut source, 100, &mut shown);
-    assert_eq!(rt; read, Err(ReadError::ReadFault));
-    assert_eq!(rt; source.faults(), 1);
-    assert_eq!(rt; shown.text.as_slice(), b"ab|".as_slice());
-}
-
-#[test]
-fn the_last_line_needs_no_lf(rt: HostRuntime) {
-    let mut shown = nothing_shown();
-    let mut source = MemSource::new(b"ab\nbad", &[2], &[]);
-    let read = read_lines(rt.alloc(), &mut source, 6, &mut shown);
-    assert_eq!(rt; read, Err(ReadError::Refused(2)));
-    let mut shown = nothing_shown();
-    let mut source = MemSource::new(b"", &[], &[]);
-    assert_eq!(rt; read_lines(rt.alloc(), &mut source, 0, &mut shown), Ok(()));
-    assert_eq!(rt; shown.lines, 0);
-}
-
-#[test]
-fn a_faulty_line_within_the_limit_comes_before_it(rt: HostRuntime) {
-    let cases = [
-        (b"ab\ncd".as_slice(), Ok(())),
-        (b"ab\ncd\n", Err(ReadError::TooLong)),
-        (b"ab\nbad\n", Err(ReadError::TooLong)),
-        (b"bad\ncd\n", Err(ReadError::Refused(1))),
-    ];
-    for (bytes, expected) in cases {
-        for pieces in [&[1][..], &[2], &[7]] {
-            let mut shown = nothing_shown();
-            let mut source = MemSource::new(bytes, pieces, &[]);
-            let read = read_lines(rt.alloc(), &mut source, 5, &mut shown);
-            assert_eq!(rt; read, expected);
+fn each_line_is_handed_on_once_until_one_is_faulty_or_the_source_is(rt: HostRuntime) {
+    for text in TEXTS.iter() {
+        for pieces in text.ways {
+            expect_pieces(&rt, pieces);
+            assert!(rt;
+                is_told(rt.alloc(), text, pieces),
+                "{:?} in {pieces:?}",
+                text.bytes
+            );
         }
     }
 }

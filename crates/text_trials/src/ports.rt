@@ -1,84 +1,121 @@
 //! What no clause says: each form once with values from outside, and the adapters over a real
 //! file and the real standard output.
+use crate::pieces::expect_pieces;
 use ride_ports::*;
 use std::alloc::Global;
 use std::fs;
 use std::process::Abort;
-use std::test::Fail;
+use std::rt::Files;
 
 const MAP: &[u8] = b"p sp 2 1\na 1 2 60\n";
 
-fn name(alloc: Global, text: &str) -> Result<String, NoMemory> {
-    String::from_str(alloc, text)
+fn name(rt: &impl Abort, alloc: Global, text: &str) -> String {
+    String::from_str(alloc, text).expect(rt, "memory for a name")
 }
 
-#[test]
-fn a_source_gives_its_pieces_and_fails_where_listed(rt: HostRuntime) {
-    let mut source = MemSource::new(b"abcdefghijk", &[1, 2, 7], &[2]);
-    let mut buffer = [0; 8];
-    assert_eq!(rt; source.read(&mut buffer), Ok(1));
-    assert_eq!(rt; source.read(&mut buffer), Err(Failed));
-    assert_eq!(rt; source.read(&mut buffer[..5]), Ok(5));
-    assert_eq!(rt; buffer[..5], b"bcdef"[..]);
-    assert_eq!(rt; source.read(&mut buffer), Ok(5));
-    assert_eq!(rt; source.read(&mut buffer), Ok(0));
-    assert_eq!(rt; source.faults(), 1);
-}
-
-#[test]
-fn a_source_gives_all_its_bytes_in_pieces_of_any_length(rt: HostRuntime) -> Result<(), Fail> {
-    for pieces in [&[1][..], &[2], &[7], &[]] {
-        assert!(rt; pieces.iter().all(|piece| *piece > 0));
-        let mut source = MemSource::new(MAP, pieces, &[]);
-        let read = read_all(&rt, &mut source, rt.alloc())?;
-        assert_eq!(rt; read.as_slice(), MAP);
-    }
-    Ok(())
-}
-
-fn read_all<S: Source>(
-    rt: &impl Abort,
-    source: &mut S,
-    alloc: Global,
-) -> Result<Vec<u8>, NoMemory> {
-    let mut all = Vec::new(alloc);
+/// Whether a read of at most so many bytes, and of at most 16, gives these.
+fn gives<S: Source>(source: &mut S, room: usize, wanted: Result<&[u8], Failed>) -> bool {
     let mut buffer = [0; 16];
-    for _ in 0..u64::MAX {
-        let count = source.read(&mut buffer).expect(rt, "a read");
-        if count == 0 {
-            break;
-        }
-        all.extend_from_slice(&buffer[..count])?;
+    match (source.read(&mut buffer[..room.min(16)]), wanted) {
+        (Ok(count), Ok(bytes)) => buffer.get(..count) == Some(bytes),
+        (Err(Failed), Err(Failed)) => true,
+        _ => false,
     }
-    Ok(all)
+}
+
+/// Whether a source gives these bytes up to its end.
+fn gives_all<S: Source>(source: &mut S, bytes: &[u8]) -> bool {
+    let mut buffer = [0; 16];
+    let mut left = bytes;
+    for _ in 0..u64::MAX {
+        let Ok(count) = source.read(&mut buffer) else {
+            return false;
+        };
+        if count == 0 {
+            return left.is_empty();
+        }
+        let Some((front, rest)) = left.split_at_checked(count) else {
+            return false;
+        };
+        if front != &buffer[..count] {
+            return false;
+        }
+        left = rest;
+    }
+    false
+}
+
+/// For the most bytes of a read, what it gives.
+static READS: [(usize, Result<&[u8], Failed>); 5] = [
+    (8, Ok(b"a")),
+    (8, Err(Failed)),
+    (5, Ok(b"bcdef")),
+    (8, Ok(b"ghijk")),
+    (8, Ok(b"")),
+];
+
+static WAYS: [&[usize]; 4] = [&[1], &[2], &[7], &[]];
+
+/// Whether a source gives its pieces, and fails where it is told to.
+fn gives_its_pieces() -> bool {
+    let mut source = MemSource::new(b"abcdefghijk", &[1, 2, 7], &[2]);
+    let mut as_said = true;
+    for &(room, read) in READS.iter() {
+        as_said &= gives(&mut source, room, read);
+    }
+    as_said & (source.faults() == 1)
 }
 
 #[test]
-fn a_sink_takes_its_pieces_and_fails_where_full(rt: HostRuntime) -> Result<(), Fail> {
-    let mut sink = MemSink::new(rt.alloc(), 5, &[2], &[2])?;
-    assert_eq!(rt; sink.write(b"abc"), Ok(2));
-    assert_eq!(rt; sink.write(b"cde"), Err(Failed));
-    assert_eq!(rt; sink.write(b"c"), Ok(1));
-    assert_eq!(rt; sink.write(b"defg"), Ok(2));
-    assert_eq!(rt; sink.write(b"fg"), Err(Failed));
-    assert_eq!(rt; sink.written(), b"abcde".as_slice());
-    assert_eq!(rt; sink.faults(), 2);
-    Ok(())
+fn a_source_gives_its_pieces_to_the_last_and_fails_where_listed(rt: HostRuntime) {
+    assert!(rt; gives_its_pieces());
+    for pieces in WAYS.iter() {
+        expect_pieces(&rt, pieces);
+        assert!(rt;
+            gives_all(&mut MemSource::new(MAP, pieces, &[]), MAP),
+            "{pieces:?}"
+        );
+    }
+}
+
+/// For each piece that is written, how many of its bytes are taken.
+static WRITES: [(&[u8], Result<usize, Failed>); 5] = [
+    (b"abc", Ok(2)),
+    (b"cde", Err(Failed)),
+    (b"c", Ok(1)),
+    (b"defg", Ok(2)),
+    (b"fg", Err(Failed)),
+];
+
+/// Whether a sink takes its pieces, and fails where it is told to and where it is full.
+fn takes_its_pieces(rt: &impl Abort, alloc: Global) -> bool {
+    let mut sink = MemSink::new(alloc, 5, &[2], &[2]).expect(rt, "memory for a sink");
+    let mut as_said = true;
+    for &(piece, taken) in WRITES.iter() {
+        as_said &= sink.write(piece) == taken;
+    }
+    as_said & (sink.written() == b"abcde".as_slice()) & (sink.faults() == 2)
+}
+
+/// Whether a write of all goes on after short writes, and stops at a fault.
+fn writes_all(rt: &impl Abort, alloc: Global) -> bool {
+    let mut sink = MemSink::new(alloc, 40, &[1, 2, 7], &[7]).expect(rt, "memory for a sink");
+    let first = write_all(&mut sink, MAP);
+    let second = write_all(&mut sink, MAP);
+    let told = (first, second, sink.faults());
+    (told == (Ok(()), Err(Failed), 1))
+        & (sink.written() == b"p sp 2 1\na 1 2 60\np sp 2 ".as_slice())
 }
 
 #[test]
-fn write_all_goes_on_after_short_writes_and_stops_at_a_fault(rt: HostRuntime) -> Result<(), Fail> {
-    let mut sink = MemSink::new(rt.alloc(), 40, &[1, 2, 7], &[7])?;
-    assert_eq!(rt; write_all(&mut sink, MAP), Ok(()));
-    assert_eq!(rt; write_all(&mut sink, MAP), Err(Failed));
-    assert_eq!(rt; sink.written(), b"p sp 2 1\na 1 2 60\np sp 2 ".as_slice());
-    assert_eq!(rt; sink.faults(), 1);
-    assert_eq!(rt; write_all(&mut SureSink::new(), MAP), Ok(()));
-    Ok(())
+fn a_sink_takes_its_pieces_and_a_write_of_all_stops_at_a_fault(rt: HostRuntime) {
+    assert!(rt; takes_its_pieces(&rt, rt.alloc()));
+    assert!(rt; writes_all(&rt, rt.alloc()));
+    assert!(rt; write_all(&mut SureSink::new(), MAP) == Ok(()));
 }
 
-#[test]
-fn a_shelf_brings_two_files_and_counts_its_faults(rt: HostRuntime) -> Result<(), Fail> {
+/// Whether a shelf brings two files, and counts its faults: a name that is missing, a call that fails, and a source that failed.
+fn mem_shelf_counts(rt: &impl Abort, alloc: Global) -> bool {
     let files = [
         MemFile {
             name: "map",
@@ -93,104 +130,41 @@ fn a_shelf_brings_two_files_and_counts_its_faults(rt: HostRuntime) -> Result<(),
             failing: &[2],
         },
     ];
-    let feed = name(rt.alloc(), "feed")?;
-    let map = name(rt.alloc(), "map")?;
-    let missing = name(rt.alloc(), "fleet")?;
-    let again = name(rt.alloc(), "map")?;
-    let mut shelf = MemShelf::new(rt.alloc(), &files, &[4]);
-    let mut buffer = [0; 8];
-
-    let mut feed = shelf.bring(feed).expect(&rt, "the feed");
-    assert_eq!(rt; feed.read(&mut buffer), Ok(2));
-    assert_eq!(rt; buffer[..2], b"ba"[..]);
-    assert_eq!(rt; feed.read(&mut buffer), Err(Failed));
-    let mut map = shelf.bring(map).expect(&rt, "the map");
-    assert_eq!(rt; map.read(&mut buffer), Ok(8));
-    assert_eq!(rt; buffer, *b"p sp 2 1");
-
-    assert!(rt; shelf.bring(missing).is_err(), "a missing name");
-    assert!(rt; shelf.bring(again).is_err(), "a call that fails");
-    assert_eq!(rt; shelf.faults(), 2);
+    let mut shelf = MemShelf::new(alloc, &files, &[4]);
+    let mut feed = shelf.bring(name(rt, alloc, "feed")).expect(rt, "the feed");
+    let fed = gives(&mut feed, 8, Ok(b"ba")) & gives(&mut feed, 8, Err(Failed));
+    let mut map = shelf.bring(name(rt, alloc, "map")).expect(rt, "the map");
+    let read = gives(&mut map, 8, Ok(b"p sp 2 1"));
+    let missing = shelf.bring(name(rt, alloc, "fleet")).is_err();
+    let failed = shelf.bring(name(rt, alloc, "map")).is_err();
+    let brought = shelf.faults();
     shelf.give_back(map);
-    assert_eq!(rt; shelf.faults(), 2);
+    let sound = shelf.faults();
     shelf.give_back(feed);
-    assert_eq!(rt; shelf.faults(), 3);
-    Ok(())
+    let faults = (brought, sound, shelf.faults());
+    fed & read & missing & failed & (faults == (2, 2, 3))
 }
 
-#[test]
-fn a_sure_shelf_brings_every_name(rt: HostRuntime) -> Result<(), Fail> {
+/// Whether a shelf that never fails brings its file, and an empty one by another name.
+fn sure_shelf_brings(rt: &impl Abort, alloc: Global) -> bool {
     let files = [SureFile {
         name: "map",
         bytes: MAP,
     }];
-    let mut shelf = SureShelf::new(rt.alloc(), &files);
-    let mut map = shelf.bring(name(rt.alloc(), "map")?).expect(&rt, "the map");
-    assert_eq!(rt; read_all(&rt, &mut map, rt.alloc())?.as_slice(), MAP);
+    let mut shelf = SureShelf::new(alloc, &files);
+    let mut map = shelf.bring(name(rt, alloc, "map")).expect(rt, "the map");
+    let whole = gives_all(&mut map, MAP);
     shelf.give_back(map);
-    let mut feed = shelf
-        .bring(name(rt.alloc(), "feed")?)
-        .expect(&rt, "the feed");
-    assert_eq!(rt; feed.read(&mut [0; 8]), Ok(0));
+    let mut feed = shelf.bring(name(rt, alloc, "feed")).expect(rt, "the feed");
+    let empty = gives(&mut feed, 8, Ok(b""));
     shelf.give_back(feed);
-    Ok(())
+    whole & empty
 }
 
 #[test]
-fn a_status_is_that_of_the_first_cause(rt: HostRuntime) {
-    let mut ran = Ran::default();
-    assert_eq!(rt; ran.status(), 0);
-    ran.too_long = true;
-    assert_eq!(rt; ran.status(), 8);
-    ran.source_failed = true;
-    assert_eq!(rt; ran.status(), 5);
-    ran.no_memory = true;
-    assert_eq!(rt; ran.status(), 1);
-    ran.sink_failed = true;
-    assert_eq!(rt; ran.status(), 6);
-}
-
-#[test]
-fn an_open_gate_lets_pass(rt: HostRuntime) {
-    pass_twice(&OpenGate);
-    assert_eq!(rt; OpenGate, OpenGate);
-}
-
-fn pass_twice<G: Gate>(gate: &G) {
-    gate.pass(1);
-    gate.pass(2);
-}
-
-#[test]
-fn a_file_shelf_opens_files_and_counts_its_faults(rt: HostRuntime) -> Result<(), Fail> {
-    fs::write(&rt, "a_file_of_the_test", MAP)?;
-    let mut shelf = FileShelf::new(&rt);
-    let mut map = shelf
-        .bring(name(rt.alloc(), "a_file_of_the_test")?)
-        .expect(&rt, "the file");
-    assert_eq!(rt; read_all(&rt, &mut map, rt.alloc())?.as_slice(), MAP);
-    assert!(rt;
-        shelf
-            .bring(name(rt.alloc(), "no_file_of_the_test")?)
-            .is_err()
-    );
-    assert_eq!(rt; shelf.faults(), 1);
-    assert_eq!(rt; failed_last(&shelf), Some(2));
-
-    // A folder is opened, and its reads fail.
-    let mut folder = shelf
-        .bring(name(rt.alloc(), ".")?)
-        .expect(&rt, "the folder");
-    assert_eq!(rt; folder.read(&mut [0; 8]), Err(Failed));
-    assert_eq!(rt; folder.read(&mut [0; 8]), Err(Failed));
-    assert_eq!(rt; folder.faults(), 2);
-    shelf.give_back(map);
-    assert_eq!(rt; shelf.faults(), 1);
-    shelf.give_back(folder);
-    assert_eq!(rt; shelf.faults(), 2);
-    assert_eq!(rt; failed_last(&shelf), Some(3));
-    fs::remove_file(&rt, "a_file_of_the_test")?;
-    Ok(())
+fn a_shelf_brings_files_and_counts_its_faults_and_a_sure_one_brings_every_name(rt: HostRuntime) {
+    assert!(rt; mem_shelf_counts(&rt, rt.alloc()));
+    assert!(rt; sure_shelf_brings(&rt, rt.alloc()));
 }
 
 // The number of the file that failed last.
@@ -199,9 +173,100 @@ fn failed_last<R>(shelf: &FileShelf<'_, R>) -> Option<usize> {
     Some(fault.number)
 }
 
+/// Whether a shelf opens the file of the test and a folder, whose reads fail, and counts its faults.
+fn file_shelf_counts<R: Abort + AllocGlobal + Files>(rt: &R) -> bool
+where
+    R::File: Send,
+{
+    let alloc = rt.alloc();
+    let mut shelf = FileShelf::new(rt);
+    let mut map = shelf
+        .bring(name(rt, alloc, "a_file_of_the_test"))
+        .expect(rt, "the file");
+    let whole = gives_all(&mut map, MAP);
+    let missing = shelf.bring(name(rt, alloc, "no_file_of_the_test")).is_err();
+    let opened = (shelf.faults(), failed_last(&shelf));
+    let mut folder = shelf.bring(name(rt, alloc, ".")).expect(rt, "the folder");
+    let failed = gives(&mut folder, 8, Err(Failed)) & gives(&mut folder, 8, Err(Failed));
+    let faults = folder.faults();
+    shelf.give_back(map);
+    let sound = shelf.faults();
+    shelf.give_back(folder);
+    let closed = (shelf.faults(), failed_last(&shelf));
+    let told = (opened, faults, sound, closed);
+    whole & missing & failed & (told == ((1, Some(2)), 2, 1, (2, Some(3))))
+}
+
 #[test]
-fn a_stdout_sink_writes(rt: HostRuntime) {
+fn a_file_shelf_opens_files_and_counts_its_faults_and_a_stdout_sink_writes(rt: HostRuntime) {
+    assert!(rt; fs::write(&rt, "a_file_of_the_test", MAP).is_ok());
+    assert!(rt; file_shelf_counts(&rt));
+    assert!(rt; fs::remove_file(&rt, "a_file_of_the_test").is_ok());
     let mut sink = StdoutSink::new(&rt);
-    assert_eq!(rt; write_all(&mut sink, MAP), Ok(()));
-    assert_eq!(rt; sink.faults(), 0);
+    let written = write_all(&mut sink, MAP);
+    assert!(rt; (written, sink.faults()) == (Ok(()), 0));
+}
+
+/// How a session ran, and its status, which is that of the first cause.
+static RANS: [(Ran, u8); 5] = [
+    (
+        Ran {
+            sink_failed: false,
+            no_memory: false,
+            source_failed: false,
+            too_long: false,
+        },
+        0,
+    ),
+    (
+        Ran {
+            sink_failed: false,
+            no_memory: false,
+            source_failed: false,
+            too_long: true,
+        },
+        8,
+    ),
+    (
+        Ran {
+            sink_failed: false,
+            no_memory: false,
+            source_failed: true,
+            too_long: true,
+        },
+        5,
+    ),
+    (
+        Ran {
+            sink_failed: false,
+            no_memory: true,
+            source_failed: true,
+            too_long: true,
+        },
+        1,
+    ),
+    (
+        Ran {
+            sink_failed: true,
+            no_memory: true,
+            source_failed: true,
+            too_long: true,
+        },
+        6,
+    ),
+];
+
+fn pass_twice<G: Gate>(gate: &G) {
+    gate.pass(1);
+    gate.pass(2);
+}
+
+#[test]
+fn a_status_is_that_of_the_first_cause_and_an_open_gate_lets_pass(rt: HostRuntime) {
+    assert!(rt; Ran::default().status() == 0);
+    for &(ran, status) in RANS.iter() {
+        assert!(rt; ran.status() == status, "{ran:?}");
+    }
+    pass_twice(&OpenGate);
+    assert!(rt; OpenGate == OpenGate);
 }

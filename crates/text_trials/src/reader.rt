@@ -1,12 +1,14 @@
 //! Lines of texts that come in pieces, and of texts at their limits.
 ghost use Rattle.std.specs.Prelude.{[]};
 ghost use Rattle.line_reader.specs.Reader.{HasGiven};
+ghost use Rattle.ride_ports.specs.Calls.{ArePieces};
 
+use crate::pieces::expect_pieces;
+use arrayvec::ArrayVec;
 use line_reader::{Limits, LineReader, NextLine, ReadStop};
 use ride_ports::MemSource;
 use std::alloc::Global;
 use std::process::Abort;
-use std::test::Fail;
 
 /// A text, its limits, how it is read, and what a reader tells of it: each line before `/`, or before `|` where no LF ends it; a line
 /// that is cut has `+` at its end; `.` is the end, `!` a text that is too long, and `?` a fault.
@@ -18,6 +20,9 @@ struct Text {
     failing: &'static [u64],
     told: &'static [u8],
 }
+
+/// What is told of a text.
+type Told = ArrayVec<u8, 40>;
 
 static TEXTS: [Text; 14] = [
     // Whatever the pieces, the lines are those of all the bytes; a CR is a byte of its line.
@@ -126,66 +131,63 @@ static TEXTS: [Text; 14] = [
 ];
 
 /// Tells the line that a reader shows, and then a mark.
-fn tell_line(reader: &LineReader, mark: u8, told: &mut Vec<u8>) -> Result<(), Fail> {
-    for byte in reader.line() {
-        told.push(*byte)?;
-    }
+fn tell_line(reader: &LineReader, mark: u8, told: &mut Told) {
+    let _ = told.try_extend_from_slice(reader.line());
     if reader.over() {
-        told.push(b'+')?;
+        let _ = told.try_push(b'+');
     }
-    told.push(mark)?;
-    Ok(())
+    let _ = told.try_push(mark);
 }
 
 /// Tells what a reader reads of a source, from its start.
-fn tell_text(
-    reader: &mut LineReader,
-    source: &mut MemSource<'_>,
-    told: &mut Vec<u8>,
-) -> Result<(), Fail>
+fn tell_text(reader: &mut LineReader, source: &mut MemSource<'_>, told: &mut Told)
     requires { HasGiven reader.old [] }
 {
     'lines: loop {
         match reader.next(source) {
-            Ok(NextLine::Line) => tell_line(reader, b'/', told)?,
+            Ok(NextLine::Line) => tell_line(reader, b'/', told),
             Ok(NextLine::Unfinished) => {
-                tell_line(reader, b'|', told)?;
-                told.push(b'.')?;
-                return Ok(());
+                tell_line(reader, b'|', told);
+                let _ = told.try_push(b'.');
+                return;
             }
             Ok(NextLine::End) => {
-                told.push(b'.')?;
-                return Ok(());
+                let _ = told.try_push(b'.');
+                return;
             }
             Err(ReadStop::TooLong) => {
-                told.push(b'!')?;
-                return Ok(());
+                let _ = told.try_push(b'!');
+                return;
             }
             Err(ReadStop::SourceFailed) => {
-                told.push(b'?')?;
-                return Ok(());
+                let _ = told.try_push(b'?');
+                return;
             }
         }
     }
 }
 
-/// What a reader tells of a text.
-fn told_of(rt: &impl Abort, alloc: Global, text: &Text) -> Result<Vec<u8>, Fail> {
-    let mut told = Vec::new(alloc);
-    assert!(rt; text.pieces.iter().all(|count| *count > 0));
-    let mut source = MemSource::new(text.bytes, text.pieces, text.failing);
+/// Whether a reader of a text that comes in these pieces tells what is wanted.
+fn is_told(rt: &impl Abort, alloc: Global, text: &Text, pieces: &[usize]) -> bool
+    requires { ArePieces pieces.now }
+{
     let (line, bytes, lines) = text.limits;
     let limits = Limits { line, bytes, lines };
-    let mut reader = LineReader::new(alloc, limits)?;
-    tell_text(&mut reader, &mut source, &mut told)?;
-    Ok(told)
+    let mut reader = LineReader::new(alloc, limits).expect(rt, "memory for a line");
+    let mut source = MemSource::new(text.bytes, pieces, text.failing);
+    let mut told = Told::new();
+    tell_text(&mut reader, &mut source, &mut told);
+    told.as_slice() == text.told
 }
 
 #[test]
-fn texts_are_told(rt: HostRuntime) -> Result<(), Fail> {
+fn texts_are_told(rt: HostRuntime) {
     for text in TEXTS.iter() {
-        let told = told_of(&rt, rt.alloc(), text)?;
-        assert_eq!(rt; told.as_slice(), text.told);
+        expect_pieces(&rt, text.pieces);
+        assert!(rt;
+            is_told(&rt, rt.alloc(), text, text.pieces),
+            "{:?}",
+            text.bytes
+        );
     }
-    Ok(())
 }
