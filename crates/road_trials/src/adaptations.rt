@@ -36,6 +36,14 @@ fn around(from: u32, to: u32) -> Option<u64> {
     Some(u64::from(steps).wrapping_mul(10))
 }
 
+/// The row of a node to the wanted nodes, or from them.
+fn row_around(node: u32, side: Side) -> [Option<u64>; 4] {
+    WANTED.map(|other| match side {
+        Side::Out => around(node, other),
+        Side::Back => around(other, node),
+    })
+}
+
 /// Both rows of a node, and its times to two nodes.
 fn expect_node(
     rt: &impl Abort,
@@ -54,11 +62,59 @@ fn expect_node(
 {
     let mut row = [None; 4];
     roads.rows(scratch, room, node, Side::Out, &mut row);
-    assert_eq!(rt; row, WANTED.map(|to| around(node, to)));
+    assert!(rt; row == row_around(node, Side::Out), "from {node}");
     roads.rows(scratch, room, node, Side::Back, &mut row);
-    assert_eq!(rt; row, WANTED.map(|from| around(from, node)));
-    assert_eq!(rt; roads.time(scratch, room, node, 7), around(node, 7));
-    assert_eq!(rt; roads.time(scratch, room, node, 9), around(node, 9));
+    assert!(rt; row == row_around(node, Side::Back), "to {node}");
+    let to_seven = roads.time(scratch, room, node, 7);
+    let to_nine = roads.time(scratch, room, node, 9);
+    assert!(rt;
+        to_seven == around(node, 7) && to_nine == around(node, 9),
+        "from {node}"
+    );
+}
+
+/// Both rows and the times of each node.
+fn expect_nodes(rt: &impl Abort, roads: &BatchRoads, scratch: &mut Scratch, room: &mut RowRoom)
+    requires scratch { scratch.old.nodes ≡ roads.now.roads.nodes }
+    requires room { roads.now.places ≤ room.old.places }
+    requires wanted { length roads.now.wanted ≡ 4 }
+    requires nodes { roads.now.roads.nodes ≡ 9 }
+{
+    for node in 0..NODES {
+        expect_node(rt, roads, scratch, room, 1 + node);
+    }
+}
+
+/// All rows and times of a batch. Answers whether no search is made.
+fn is_swept(
+    rt: &impl Abort,
+    alloc: Global,
+    batch: &BatchRoads,
+    roads: &Roads,
+) -> Result<bool, NoMemory>
+    requires roads { batch.now.roads ≡ roads.now }
+    requires wanted { length batch.now.wanted ≡ 4 }
+    requires nodes { roads.now.nodes ≡ 9 }
+{
+    let mut scratch = Scratch::new(alloc, roads)?;
+    let mut room = RowRoom::new(alloc, batch.places())?;
+    expect_nodes(rt, batch, &mut scratch, &mut room);
+    Ok(room.settled() == 0)
+}
+
+/// All rows and times of the ring. Answers whether they come by sweeps, and whether no search is made.
+fn all_times(
+    rt: &impl Abort,
+    alloc: Global,
+    adaptive: &AdaptiveRoads,
+) -> Result<(bool, bool), NoMemory>
+    requires { adaptive.now.nodes ≡ 9 }
+{
+    let roads = adaptive.roads();
+    let selections = adaptive.select(alloc, &WANTED);
+    let batch = BatchRoads::over(roads, &WANTED, selections.as_ref());
+    let is_swept = is_swept(rt, alloc, &batch, roads)?;
+    Ok((selections.is_some(), is_swept))
 }
 
 /// All rows and times of the ring, by sweeps and climbs with no search, or by searches.
@@ -70,31 +126,8 @@ fn expect_times(
 ) -> Result<(), NoMemory>
     requires { adaptive.now.nodes ≡ 9 }
 {
-    let selections = adaptive.select(alloc, &WANTED);
-    assert_eq!(rt; selections.is_some(), by_sweeps);
-    let roads = BatchRoads::over(adaptive.roads(), &WANTED, selections.as_ref());
-    let mut scratch = Scratch::new(alloc, adaptive.roads())?;
-    let mut room = RowRoom::new(alloc, roads.places())?;
-    for node in 0..NODES {
-        expect_node(rt, &roads, &mut scratch, &mut room, 1 + node);
-    }
-    assert_eq!(rt; room.settled() == 0, by_sweeps);
-    Ok(())
-}
-
-#[test]
-fn times_stay_the_same_once_a_map_is_contracted(rt: HostRuntime) -> Result<(), Fail> {
-    let alloc = rt.alloc();
-    let network = ring(alloc)?;
-    let roads = Roads::new(alloc, &network)?;
-    let mut adaptive = AdaptiveRoads::new(&roads);
-    expect_times(&rt, alloc, &adaptive, false)?;
-    adaptive.note(120 * 9 - 1);
-    adaptive.prepare(alloc);
-    expect_times(&rt, alloc, &adaptive, false)?;
-    adaptive.note(1);
-    adaptive.prepare(alloc);
-    expect_times(&rt, alloc, &adaptive, true)?;
+    let by = all_times(rt, alloc, adaptive)?;
+    assert!(rt; by == (by_sweeps, by_sweeps), "{by:?}");
     Ok(())
 }
 
@@ -104,7 +137,8 @@ fn expect_around(rt: &impl Abort, times: &mut TravelTimes)
     ensures { times.new ≡ times.old }
 {
     for node in 0..NODES {
-        assert_eq!(rt; times.time(4, 1 + node), around(4, 1 + node));
+        let is_around = times.time(4, 1 + node) == around(4, 1 + node);
+        assert!(rt; is_around, "to {node}");
     }
 }
 
@@ -112,34 +146,111 @@ fn expect_around(rt: &impl Abort, times: &mut TravelTimes)
 fn expect_climbs(rt: &impl Abort, alloc: Global, adaptive: &AdaptiveRoads) -> Result<(), NoMemory>
     requires { adaptive.now.nodes ≡ 9 }
 {
+    let hierarchy = adaptive.shared().expect(rt, "a hierarchy is shared");
     let mut times = TravelTimes::new(alloc, adaptive.roads())?;
     expect_around(rt, &mut times);
-    let Some(hierarchy) = adaptive.shared() else {
-        panic!(rt; "no hierarchy is shared");
-    };
     times.climb_by(alloc, hierarchy);
     expect_around(rt, &mut times);
     Ok(())
 }
 
-/// Two sweep and climb by a hierarchy that they share.
-fn expect_shared(
+/// Makes a hierarchy once enough was searched, and not before.
+fn expect_adapting(
     rt: &impl Abort,
     alloc: Global,
-    one: &AdaptiveRoads,
-    other: &AdaptiveRoads,
+    adaptive: &mut AdaptiveRoads,
 ) -> Result<(), NoMemory>
-    requires one { one.now.nodes ≡ 9 }
-    requires other { other.now.nodes ≡ 9 }
+    requires { adaptive.old.nodes ≡ 9 }
 {
-    expect_times(rt, alloc, one, true)?;
-    expect_times(rt, alloc, other, true)?;
-    expect_climbs(rt, alloc, one)?;
-    expect_climbs(rt, alloc, other)
+    expect_times(rt, alloc, adaptive, false)?;
+    adaptive.note(120 * 9 - 1);
+    adaptive.prepare(alloc);
+    expect_times(rt, alloc, adaptive, false)?;
+    adaptive.note(1);
+    adaptive.prepare(alloc);
+    expect_times(rt, alloc, adaptive, true)
 }
 
-/// One of two makes a hierarchy, and both sweep by it.
+/// Two meet, and only the first of them that does so once both have searched enough makes the hierarchy. Answers which of them did.
+fn meet<'d, 'q>(
+    alloc: Global,
+    shared: &'d SharedHierarchy<'q>,
+    maker: &mut AdaptiveRoads<'d>,
+    other: &mut AdaptiveRoads<'d>,
+) -> [bool; 3]
+    requires maker { shared.now ≡ maker.old }
+    requires other { shared.now ≡ other.old }
+    ensures maker { maker.new ≡ maker.old }
+    ensures other { other.new ≡ other.old }
+{
+    other.note(120 * 9 - 1);
+    other.share(alloc, shared);
+    let too_soon = other.is_making();
+    maker.note(1);
+    maker.share(alloc, shared);
+    other.share(alloc, shared);
+    [too_soon, maker.is_making(), other.is_making()]
+}
+
+/// One makes the hierarchy, and has not shared it yet.
+fn make<'d, 'q>(
+    alloc: Global,
+    shared: &'d SharedHierarchy<'q>,
+    maker: &mut AdaptiveRoads<'d>,
+    other: &mut AdaptiveRoads<'d>,
+)
+    requires { shared.now ≡ other.old }
+    ensures maker { maker.new ≡ maker.old }
+    ensures other { other.new ≡ other.old }
+{
+    maker.note(1_000);
+    maker.prepare(alloc);
+    other.prepare(alloc);
+    other.share(alloc, shared);
+}
+
+/// One sweeps by its hierarchy, and the other does too once they share it.
+fn expect_both(
+    rt: &impl Abort,
+    alloc: Global,
+    maker: &AdaptiveRoads,
+    other: &AdaptiveRoads,
+    is_shared: bool,
+) -> Result<(), NoMemory>
+    requires maker { maker.now.nodes ≡ 9 }
+    requires other { other.now.nodes ≡ 9 }
+{
+    expect_times(rt, alloc, maker, true)?;
+    expect_times(rt, alloc, other, is_shared)?;
+    if is_shared {
+        expect_climbs(rt, alloc, maker)?;
+        expect_climbs(rt, alloc, other)?;
+    }
+    Ok(())
+}
+
+/// One of two makes a hierarchy, and both sweep and climb by it.
 fn expect_sharing<'d, 'q>(
+    rt: &impl Abort,
+    alloc: Global,
+    shared: &'d SharedHierarchy<'q>,
+    maker: &mut AdaptiveRoads<'d>,
+    other: &mut AdaptiveRoads<'d>,
+) -> Result<(), NoMemory>
+    requires maker { (shared.now ≡ maker.old) × (maker.old.nodes ≡ 9) }
+    requires other { (shared.now ≡ other.old) × (other.old.nodes ≡ 9) }
+{
+    let making = meet(alloc, shared, maker, other);
+    assert!(rt; making == [false, true, false], "{making:?}");
+    make(alloc, shared, maker, other);
+    expect_both(rt, alloc, maker, other, false)?;
+    maker.share(alloc, shared);
+    other.share(alloc, shared);
+    expect_both(rt, alloc, maker, other, true)
+}
+
+/// Two share a hierarchy.
+fn expect_shared<'d, 'q>(
     rt: &impl Abort,
     alloc: Global,
     roads: &'d Roads,
@@ -150,22 +261,29 @@ fn expect_sharing<'d, 'q>(
 {
     let mut maker = AdaptiveRoads::new(roads);
     let mut other = AdaptiveRoads::new(roads);
-    other.note(120 * 9 - 1);
-    other.share(alloc, shared);
-    assert!(rt; !other.is_making());
-    maker.note(1);
-    maker.share(alloc, shared);
-    other.share(alloc, shared);
-    assert!(rt; maker.is_making() && !other.is_making());
-    maker.note(1_000);
-    maker.prepare(alloc);
-    other.prepare(alloc);
-    other.share(alloc, shared);
-    expect_times(rt, alloc, &maker, true)?;
-    expect_times(rt, alloc, &other, false)?;
-    maker.share(alloc, shared);
-    other.share(alloc, shared);
-    expect_shared(rt, alloc, &maker, &other)
+    expect_sharing(rt, alloc, shared, &mut maker, &mut other)
+}
+
+/// Searches enough for a hierarchy and meets the others, before it may be made and after.
+fn search_and_meet<'d, 'q>(
+    alloc: Global,
+    shared: &'d SharedHierarchy<'q>,
+    adaptive: &mut AdaptiveRoads<'d>,
+)
+    requires { shared.now ≡ adaptive.old }
+    ensures { adaptive.new ≡ adaptive.old }
+{
+    adaptive.note(120 * 9);
+    adaptive.share(alloc, shared);
+    adaptive.prepare(alloc);
+    adaptive.share(alloc, shared);
+}
+
+fn sweeps(alloc: Global, adaptive: &AdaptiveRoads) -> bool
+    requires { adaptive.now.nodes ≡ 9 }
+{
+    let selections = adaptive.select(alloc, &WANTED);
+    selections.is_some()
 }
 
 /// Searches enough for a hierarchy and meets the others. Answers whether it sweeps then.
@@ -178,11 +296,8 @@ fn searches_and_meets<'d, 'q>(
     requires shared { shared.now ≡ roads.now }
 {
     let mut adaptive = AdaptiveRoads::new(roads);
-    adaptive.note(120 * 9);
-    adaptive.share(alloc, shared);
-    adaptive.prepare(alloc);
-    adaptive.share(alloc, shared);
-    adaptive.select(alloc, &WANTED).is_some()
+    search_and_meet(alloc, shared, &mut adaptive);
+    sweeps(alloc, &adaptive)
 }
 
 /// Two threads share a hierarchy, which at least the one that makes it has then.
@@ -203,21 +318,39 @@ fn expect_sharing_threads<R: Threads + Sync + Abort>(rt: &R, alloc: Global, road
     assert!(rt; first || second);
 }
 
-#[test]
-fn threads_share_a_hierarchy(rt: HostRuntime) -> Result<(), Fail> {
-    let alloc = rt.alloc();
+fn roads_of_ring(alloc: Global) -> Result<Roads, NoMemory>
+    ensures { IfOk result (λ roads. roads.nodes ≡ 9) }
+{
     let network = ring(alloc)?;
-    let roads = Roads::new(alloc, &network)?;
-    expect_sharing_threads(&rt, alloc, &roads);
+    Roads::new(alloc, &network)
+}
+
+/// One makes a hierarchy of its own.
+fn expect_ring(rt: &impl Abort, alloc: Global, roads: &Roads) -> Result<(), NoMemory>
+    requires { roads.now.nodes ≡ 9 }
+{
+    let mut adaptive = AdaptiveRoads::new(roads);
+    expect_adapting(rt, alloc, &mut adaptive)
+}
+
+#[test]
+fn times_stay_the_same_once_a_map_is_contracted(rt: HostRuntime) -> Result<(), Fail> {
+    let roads = roads_of_ring(rt.alloc())?;
+    expect_ring(&rt, rt.alloc(), &roads)?;
     Ok(())
 }
 
 #[test]
 fn a_hierarchy_is_made_once_for_all_who_share_it(rt: HostRuntime) -> Result<(), Fail> {
-    let alloc = rt.alloc();
-    let network = ring(alloc)?;
-    let roads = Roads::new(alloc, &network)?;
+    let roads = roads_of_ring(rt.alloc())?;
     let shared = SharedHierarchy::new(&roads);
-    expect_sharing(&rt, alloc, &roads, &shared)?;
+    expect_shared(&rt, rt.alloc(), &roads, &shared)?;
+    Ok(())
+}
+
+#[test]
+fn threads_share_a_hierarchy(rt: HostRuntime) -> Result<(), Fail> {
+    let roads = roads_of_ring(rt.alloc())?;
+    expect_sharing_threads(&rt, rt.alloc(), &roads);
     Ok(())
 }

@@ -3,6 +3,7 @@ ghost use Rattle.std.specs.Prelude.{◌≡◌};
 
 use super::maps::network;
 use contraction::*;
+use ride_model::Network;
 use std::alloc::Global;
 use std::process::Abort;
 use std::test::Fail;
@@ -30,6 +31,23 @@ const TANGLE: [(u32, u32, u32); 9] = [
     (2, 1, 6),
 ];
 
+/// A map of four nodes.
+struct Case {
+    name: &'static str,
+    arcs: &'static [(u32, u32, u32)],
+}
+
+static CASES: [Case; 2] = [
+    Case {
+        name: "a line",
+        arcs: &LINE,
+    },
+    Case {
+        name: "a tangle",
+        arcs: &TANGLE,
+    },
+];
+
 // Contracts little by little, until nothing is left.
 fn contract_by_steps(contraction: &mut Contraction) -> Result<bool, NoMemory> {
     for _ in 0..1000 {
@@ -40,39 +58,44 @@ fn contract_by_steps(contraction: &mut Contraction) -> Result<bool, NoMemory> {
     Ok(false)
 }
 
-// Nothing is left of a contraction, which has a level for each node and the arcs at least.
-fn expect_spent(rt: &impl Abort, contraction: &Contraction, nodes: u32, arcs: usize) {
-    assert!(rt; contraction.is_spent());
-    assert_eq!(rt; contraction.order().len(), nodes as usize);
-    assert_eq!(rt; contraction.nodes(), nodes);
-    assert_eq!(rt; contraction.levels().len(), nodes as usize + 1);
+// Whether nothing is left of a contraction, which has a level for each node and the arcs at least.
+fn is_contracted(contraction: &Contraction, nodes: u32, arcs: usize) -> bool {
     let links = contraction.links();
-    assert!(rt; links > 0 && links >= arcs);
+    if !contraction.is_spent() || links == 0 || links < arcs {
+        return false;
+    }
     let last = contraction.link(links - 1);
-    assert!(rt; last.tail <= nodes && last.head <= nodes);
+    contraction.nodes() == nodes
+        && contraction.order().len() == nodes as usize
+        && contraction.levels().len() == nodes as usize + 1
+        && last.tail <= nodes
+        && last.head <= nodes
 }
 
-fn expect_contracted(
-    rt: &impl Abort,
-    alloc: Global,
-    nodes: u32,
-    arcs: &[(u32, u32, u32)],
-) -> Result<(), Fail> {
-    let map = network(rt, alloc, nodes, arcs)?;
+// Contracts a map with so many arcs. Answers whether it begins unspent, whether it says that it is over, and whether it is contracted.
+fn contract(alloc: Global, map: Network, arcs: usize) -> Result<[bool; 3], NoMemory> {
     let mut contraction = Contraction::new(alloc, &map)?;
-    assert!(rt; contraction.order().is_empty() && !contraction.is_spent());
+    drop(map);
+    let begins_unspent = contraction.order().is_empty() && !contraction.is_spent();
     let is_over = contract_by_steps(&mut contraction)?;
-    assert!(rt; is_over);
-    expect_spent(rt, &contraction, nodes, arcs.len());
+    Ok([
+        begins_unspent,
+        is_over,
+        is_contracted(&contraction, 4, arcs),
+    ])
+}
+
+fn expect_contracted(rt: &impl Abort, alloc: Global, case: &Case) -> Result<(), NoMemory> {
+    let map = network(rt, alloc, 4, case.arcs)?;
+    let seen = contract(alloc, map, case.arcs.len())?;
+    assert!(rt; seen == [true; 3], "{}: {seen:?}", case.name);
     Ok(())
 }
 
 #[test]
-fn a_line_is_contracted(rt: HostRuntime) -> Result<(), Fail> {
-    expect_contracted(&rt, rt.alloc(), 4, &LINE)
-}
-
-#[test]
-fn a_tangle_is_contracted(rt: HostRuntime) -> Result<(), Fail> {
-    expect_contracted(&rt, rt.alloc(), 4, &TANGLE)
+fn a_line_and_a_tangle_are_contracted(rt: HostRuntime) -> Result<(), Fail> {
+    for case in &CASES {
+        expect_contracted(&rt, rt.alloc(), case)?;
+    }
+    Ok(())
 }

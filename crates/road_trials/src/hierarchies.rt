@@ -4,9 +4,8 @@ ghost use Rattle.contraction.specs.Contracted.{IsContractionOf};
 ghost use Rattle.road_hierarchy.specs.Selection.{IsSelectionOf};
 ghost use Rattle.adaptive_roads.specs.Shared.{IsMadeOf};
 
-use super::maps::{MAPS, NO, all_nodes, expect_row, network};
+use super::maps::{MAPS, SmallMap, all_nodes, contraction_of, expect_line, network};
 use adaptive_roads::TravelTimes;
-use contraction::Contraction;
 use ride_model::Network;
 use road_hierarchy::*;
 use road_times::{Roads, Side};
@@ -14,14 +13,22 @@ use std::alloc::Global;
 use std::process::Abort;
 use std::test::Fail;
 
-// Contracts a map, until so many links were looked at.
-fn contracted(alloc: Global, map: &Network, fuel: u64) -> Result<Option<Hierarchy>, NoMemory>
+// The hierarchy of a map, if so many links are enough to contract it.
+fn hierarchy_of(alloc: Global, map: &Network, fuel: u64) -> Result<Option<Hierarchy>, NoMemory>
     ensures nodes { IfOk result (λ made. IfSome made (λ hierarchy. hierarchy.nodes ≡ map.now.nodes)) }
     ensures hierarchy { IfOk result (λ made. IfSome made (IsContractionOf map.now)) }
 {
-    let mut contraction = Contraction::new(alloc, map)?;
-    contraction.contract_some(fuel)?;
+    let contraction = contraction_of(alloc, map, fuel)?;
     Hierarchy::new(alloc, contraction)
+}
+
+// Selects all nodes.
+fn select_all(alloc: Global, hierarchy: &Hierarchy, side: Side) -> Result<Selected, NoMemory>
+    ensures selection { IfOk result (IsSelectionOf hierarchy.now) }
+    ensures wanted { IfOk result (λ selected. length selected.wanted ≡ hierarchy.now.nodes) }
+{
+    let wanted = all_nodes(alloc, hierarchy.nodes())?;
+    Selected::of(alloc, hierarchy, side, &wanted)
 }
 
 // Room for the rows of a selection.
@@ -46,17 +53,12 @@ fn expect_side(
     table: &[u64],
 ) -> Result<(), NoMemory> {
     let nodes = hierarchy.nodes();
-    let wanted = all_nodes(alloc, nodes)?;
-    let selected = Selected::of(alloc, hierarchy, side, &wanted)?;
+    let mut row = vec![in alloc; None; nodes as usize]?;
+    let selected = select_all(alloc, hierarchy, side)?;
     let mut room = room_for(alloc, hierarchy, &selected)?;
-    let mut row = vec![in alloc; None; wanted.len()]?;
     for place in 0..nodes {
         hierarchy.row_in(&selected, &mut room, place + 1, &mut row);
-        let (first, step) = match side {
-            Side::Out => ((place as usize).wrapping_mul(wanted.len()), 1),
-            Side::Back => (place as usize, wanted.len()),
-        };
-        expect_row(rt, &row, table, first, step);
+        expect_line(rt, &row, table, side, place);
     }
     Ok(())
 }
@@ -86,8 +88,7 @@ fn expect_climbs(
     let mut row = vec![in alloc; None; nodes as usize]?;
     for place in 0..nodes {
         climb_to_all(hierarchy, &mut room, place + 1, &mut row);
-        let first = (place as usize).wrapping_mul(row.len());
-        expect_row(rt, &row, table, first, 1);
+        expect_line(rt, &row, table, Side::Out, place);
     }
     Ok(())
 }
@@ -117,8 +118,7 @@ fn expect_travels(
     let mut row = vec![in alloc; None; nodes as usize]?;
     for place in 0..nodes {
         travel_to_all(times, place + 1, &mut row);
-        let first = (place as usize).wrapping_mul(row.len());
-        expect_row(rt, &row, table, first, 1);
+        expect_line(rt, &row, table, Side::Out, place);
     }
     Ok(())
 }
@@ -139,29 +139,70 @@ fn expect_same_travels<'r>(
     expect_travels(rt, alloc, &mut times, table)
 }
 
-fn expect_table(
+// Compares all rows and times with the table.
+fn expect_hierarchy(
     rt: &impl Abort,
     alloc: Global,
-    nodes: u32,
-    arcs: &[(u32, u32, u32)],
+    hierarchy: &Hierarchy,
     table: &[u64],
 ) -> Result<(), NoMemory> {
-    let map = network(rt, alloc, nodes, arcs)?;
-    assert!(rt; contracted(alloc, &map, 0)?.is_none());
-    let Some(hierarchy) = contracted(alloc, &map, u64::MAX)? else {
-        panic!(rt; "nodes are left");
-    };
-    expect_side(rt, alloc, &hierarchy, Side::Out, table)?;
-    expect_side(rt, alloc, &hierarchy, Side::Back, table)?;
-    expect_climbs(rt, alloc, &hierarchy, table)?;
-    let roads = Roads::new(alloc, &map)?;
-    expect_same_travels(rt, alloc, &roads, &hierarchy, table)
+    expect_side(rt, alloc, hierarchy, Side::Out, table)?;
+    expect_side(rt, alloc, hierarchy, Side::Back, table)?;
+    expect_climbs(rt, alloc, hierarchy, table)
+}
+
+// Whether a map is left as it is where no link may be looked at.
+fn needs_links(alloc: Global, map: &Network) -> Result<bool, NoMemory> {
+    let made = hierarchy_of(alloc, map, 0)?;
+    Ok(made.is_none())
+}
+
+// The hierarchy of a map that contracts to its last node.
+fn whole_hierarchy(rt: &impl Abort, alloc: Global, map: &Network) -> Result<Hierarchy, NoMemory>
+    ensures nodes { IfOk result (λ hierarchy. hierarchy.nodes ≡ map.now.nodes) }
+    ensures hierarchy { IfOk result (IsContractionOf map.now) }
+{
+    let made = hierarchy_of(alloc, map, u64::MAX)?;
+    Ok(made.expect(rt, "no node is left"))
+}
+
+// Compares all that a hierarchy and the roads of a map tell with the table.
+fn expect_both(
+    rt: &impl Abort,
+    alloc: Global,
+    network: &Network,
+    hierarchy: &Hierarchy,
+    table: &[u64],
+) -> Result<(), NoMemory>
+    requires nodes { hierarchy.now.nodes ≡ network.now.nodes }
+    requires hierarchy { IsContractionOf network.now hierarchy.now }
+{
+    expect_hierarchy(rt, alloc, hierarchy, table)?;
+    let roads = Roads::new(alloc, network)?;
+    expect_same_travels(rt, alloc, &roads, hierarchy, table)
+}
+
+fn expect_network(
+    rt: &impl Abort,
+    alloc: Global,
+    network: &Network,
+    table: &[u64],
+) -> Result<(), NoMemory> {
+    let needs_links = needs_links(alloc, network)?;
+    assert!(rt; needs_links);
+    let hierarchy = whole_hierarchy(rt, alloc, network)?;
+    expect_both(rt, alloc, network, &hierarchy, table)
+}
+
+fn expect_map(rt: &impl Abort, alloc: Global, map: &SmallMap) -> Result<(), NoMemory> {
+    let network = network(rt, alloc, map.nodes, map.arcs)?;
+    expect_network(rt, alloc, &network, map.times)
 }
 
 #[test]
 fn sweeps_and_climbs_give_the_least_times_of_small_maps(rt: HostRuntime) -> Result<(), Fail> {
     for map in &MAPS {
-        expect_table(&rt, rt.alloc(), map.nodes, map.arcs, map.times)?;
+        expect_map(&rt, rt.alloc(), map)?;
     }
     Ok(())
 }

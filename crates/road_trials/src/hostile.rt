@@ -1,10 +1,11 @@
 //! Maps that are hard to contract: rows by sweeps are rows by searches, and a contraction that grows too much ends.
-ghost use Rattle.std.specs.Prelude.{◌≡◌, ◌+◌, ◌≤◌, length, All, IfOk};
+ghost use Rattle.std.specs.Prelude.{◌≡◌, ◌+◌, ◌≤◌, length, All, IfOk, IfSome};
+ghost use Rattle.road_hierarchy.specs.Selection.{IsSelectionOf};
 ghost use Rattle.ride_model.specs.declared.network.RoadArc.{RoadArc};
 ghost use Rattle.road_trials.specs.Hostile.{IsHostile};
 
+use super::maps::contraction_of;
 use adaptive_roads::{AdaptiveRoads, BatchRoads, RowRoom};
-use contraction::Contraction;
 use ride_model::{Network, NoMemory, RoadArc};
 use road_hierarchy::{Hierarchy, Selected, SweepRoom};
 use road_times::{Roads, Scratch, Side};
@@ -118,15 +119,31 @@ fn map_of(rt: &impl Abort, alloc: Global, case: &Case) -> Result<Network, NoMemo
     Ok(Network::new(NODES, arcs))
 }
 
-fn contracted(alloc: Global, map: &Network) -> Result<Contraction, NoMemory>
-    ensures { IfOk result (λ contraction. contraction.nodes ≡ map.now.nodes) }
+// Compares the rows of a side by sweeps with those by searches.
+fn compare_rows(
+    rt: &impl Abort,
+    roads: &Roads,
+    search: &mut Scratch,
+    hierarchy: &Hierarchy,
+    selected: &Selected,
+    room: &mut SweepRoom,
+    side: Side,
+)
+    requires nodes { (hierarchy.now.nodes ≡ 60) × (roads.now.nodes ≡ 60) }
+    requires search { search.old.nodes ≡ 60 }
+    requires selected { IsSelectionOf hierarchy.now selected.now }
+    requires wanted { length selected.now.wanted ≡ 4 }
+    requires room { 60 + length selected.now.nodes ≤ room.old.places }
 {
-    let mut contraction = Contraction::new(alloc, map)?;
-    contraction.contract_some(u64::MAX)?;
-    Ok(contraction)
+    for place in 0..NODES {
+        let mut times = [None; 4];
+        roads.rows(search, place + 1, side, &WANTED, &mut times);
+        let mut row = [None; 4];
+        hierarchy.row_in(selected, room, place + 1, &mut row);
+        assert!(rt; row == times, "from place {place}");
+    }
 }
 
-// Compares the rows of a side by sweeps with those by searches.
 fn expect_same(
     rt: &impl Abort,
     alloc: Global,
@@ -140,28 +157,54 @@ fn expect_same(
     let selected = Selected::of(alloc, hierarchy, side, &WANTED)?;
     let mut room = SweepRoom::new(alloc, NODES as usize + selected.count())?;
     let mut search = Scratch::new(alloc, roads)?;
-    for place in 0..NODES {
-        let mut times = [None; 4];
-        roads.rows(&mut search, place + 1, side, &WANTED, &mut times);
-        let mut row = [None; 4];
-        hierarchy.row_in(&selected, &mut room, place + 1, &mut row);
-        assert_eq!(rt; row, times, "from place {place}");
-    }
+    compare_rows(
+        rt,
+        roads,
+        &mut search,
+        hierarchy,
+        &selected,
+        &mut room,
+        side,
+    );
     Ok(())
+}
+
+// The hierarchy of a map, if its contraction does not grow too much.
+fn hierarchy_of(
+    rt: &impl Abort,
+    alloc: Global,
+    map: &Network,
+) -> Result<Option<Hierarchy>, NoMemory>
+    ensures { IfOk result (λ made. IfSome made (λ hierarchy. hierarchy.nodes ≡ map.now.nodes)) }
+{
+    let contraction = contraction_of(alloc, map, u64::MAX)?;
+    assert!(rt; contraction.is_spent());
+    Hierarchy::new(alloc, contraction)
+}
+
+// Compares the rows of both sides.
+fn expect_hierarchy(
+    rt: &impl Abort,
+    alloc: Global,
+    map: &Network,
+    hierarchy: &Hierarchy,
+) -> Result<(), NoMemory>
+    requires nodes { hierarchy.now.nodes ≡ 60 }
+    requires map { map.now.nodes ≡ 60 }
+{
+    let roads = Roads::new(alloc, map)?;
+    expect_same(rt, alloc, &roads, hierarchy, Side::Out)?;
+    expect_same(rt, alloc, &roads, hierarchy, Side::Back)
 }
 
 fn expect_case(rt: &impl Abort, alloc: Global, case: &Case) -> Result<(), NoMemory> {
     let map = map_of(rt, alloc, case)?;
-    let roads = Roads::new(alloc, &map)?;
-    let contraction = contracted(alloc, &map)?;
-    assert!(rt; contraction.is_spent());
-    let made = Hierarchy::new(alloc, contraction)?;
-    assert_eq!(rt; made.is_some(), case.contracts, "{:?}", case.kind);
-    if let Some(hierarchy) = &made {
-        expect_same(rt, alloc, &roads, hierarchy, Side::Out)?;
-        expect_same(rt, alloc, &roads, hierarchy, Side::Back)?;
+    let made = hierarchy_of(rt, alloc, &map)?;
+    assert!(rt; made.is_some() == case.contracts, "{:?}", case.kind);
+    match &made {
+        Some(hierarchy) => expect_hierarchy(rt, alloc, &map, hierarchy),
+        None => Ok(()),
     }
-    Ok(())
 }
 
 // Makes a hierarchy piece by piece, as far as it goes.
@@ -173,49 +216,89 @@ fn prepare_all(alloc: Global, adaptive: &mut AdaptiveRoads)
     }
 }
 
-// All rows by what has adapted, which are those of searches.
-fn expect_adapted(
+// All rows of a batch, which are those of searches.
+fn compare_searches(
+    rt: &impl Abort,
+    batch: &BatchRoads,
+    roads: &Roads,
+    scratch: &mut Scratch,
+    room: &mut RowRoom,
+)
+    requires nodes { (batch.now.roads.nodes ≡ 60) × (roads.now.nodes ≡ 60) }
+    requires wanted { length batch.now.wanted ≡ 4 }
+    requires scratch { scratch.old.nodes ≡ 60 }
+    requires room { batch.now.places ≤ room.old.places }
+{
+    for place in 0..NODES {
+        let mut row = [None; 4];
+        batch.rows(scratch, room, place + 1, Side::Back, &mut row);
+        let mut times = [None; 4];
+        roads.rows(scratch, place + 1, Side::Back, &WANTED, &mut times);
+        assert!(rt; row == times, "to place {place}");
+    }
+}
+
+fn expect_batch(
+    rt: &impl Abort,
+    alloc: Global,
+    batch: &BatchRoads,
+    roads: &Roads,
+) -> Result<(), NoMemory>
+    requires roads { batch.now.roads ≡ roads.now }
+    requires wanted { length batch.now.wanted ≡ 4 }
+    requires nodes { roads.now.nodes ≡ 60 }
+{
+    let mut scratch = Scratch::new(alloc, roads)?;
+    let mut room = RowRoom::new(alloc, batch.places())?;
+    compare_searches(rt, batch, roads, &mut scratch, &mut room);
+    Ok(())
+}
+
+// All rows by what may have adapted, which are those of searches. Answers whether it sweeps.
+fn expect_searched(
     rt: &impl Abort,
     alloc: Global,
     adaptive: &AdaptiveRoads,
-    by_sweeps: bool,
-) -> Result<(), NoMemory>
+) -> Result<bool, NoMemory>
     requires { adaptive.now.nodes ≡ 60 }
 {
+    let roads = adaptive.roads();
     let selections = adaptive.select(alloc, &WANTED);
-    assert_eq!(rt; selections.is_some(), by_sweeps);
-    let roads = BatchRoads::over(adaptive.roads(), &WANTED, selections.as_ref());
-    let mut scratch = Scratch::new(alloc, adaptive.roads())?;
-    let mut room = RowRoom::new(alloc, roads.places())?;
-    for place in 0..NODES {
-        let mut row = [None; 4];
-        roads.rows(&mut scratch, &mut room, place + 1, Side::Back, &mut row);
-        let mut times = [None; 4];
-        adaptive
-            .roads()
-            .rows(&mut scratch, place + 1, Side::Back, &WANTED, &mut times);
-        assert_eq!(rt; row, times, "to place {place}");
-    }
-    Ok(())
+    let batch = BatchRoads::over(roads, &WANTED, selections.as_ref());
+    expect_batch(rt, alloc, &batch, roads)?;
+    Ok(selections.is_some())
 }
 
 #[test]
 fn sweeps_and_searches_give_the_same_rows(rt: HostRuntime) -> Result<(), Fail> {
-    let alloc = rt.alloc();
     for case in &CASES {
-        expect_case(&rt, alloc, case)?;
+        expect_case(&rt, rt.alloc(), case)?;
     }
     Ok(())
 }
 
-#[test]
-fn a_map_that_does_not_contract_is_searched(rt: HostRuntime) -> Result<(), Fail> {
-    let alloc = rt.alloc();
-    let map = map_of(&rt, alloc, &CASES[1])?;
-    let roads = Roads::new(alloc, &map)?;
-    let mut adaptive = AdaptiveRoads::new(&roads);
+// The roads of a map that does not contract.
+fn complete_roads(rt: &impl Abort, alloc: Global) -> Result<Roads, NoMemory>
+    ensures { IfOk result (λ roads. roads.nodes ≡ 60) }
+{
+    let map = map_of(rt, alloc, &CASES[1])?;
+    Roads::new(alloc, &map)
+}
+
+// Searches the roads, whose map was to be contracted. Answers whether it sweeps.
+fn adapts(rt: &impl Abort, alloc: Global, roads: &Roads) -> Result<bool, NoMemory>
+    requires { roads.now.nodes ≡ 60 }
+{
+    let mut adaptive = AdaptiveRoads::new(roads);
     adaptive.note(1_000_000);
     prepare_all(alloc, &mut adaptive);
-    expect_adapted(&rt, alloc, &adaptive, false)?;
+    expect_searched(rt, alloc, &adaptive)
+}
+
+#[test]
+fn a_map_that_does_not_contract_is_searched(rt: HostRuntime) -> Result<(), Fail> {
+    let roads = complete_roads(&rt, rt.alloc())?;
+    let sweeps = adapts(&rt, rt.alloc(), &roads)?;
+    assert!(rt; !sweeps);
     Ok(())
 }

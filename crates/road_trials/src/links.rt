@@ -1,81 +1,133 @@
-// Short lists, walked from their first nodes.
-ghost use Rattle.std.specs.Prelude.{◌<◌, length};
+//! Short lists over six nodes, walked from their first nodes.
+ghost use Rattle.std.specs.Prelude.{◌≡◌, ◌<◌, length};
 ghost use Rattle.link_lists.specs.Family.{IsSameSize};
 
 use link_lists::*;
-use std::alloc::{AllocError, Global};
+use std::alloc::Global;
 use std::process::Abort;
 use std::test::Fail;
 
-// The nodes of a list in order, up to ten of them.
-fn nodes_of(alloc: Global, links: &Links, list: u32) -> Result<Vec<u32>, AllocError>
+/// What is done with a node that is in no list, or taken out of its list.
+#[derive(Clone, Copy)]
+enum Step {
+    /// A list gets a node at its end.
+    Back(u32, u32),
+    /// A list gets a node at its front.
+    Front(u32, u32),
+    /// Behind a node of a list comes another.
+    After(u32, u32),
+    /// A node leaves its list.
+    Out(u32),
+}
+
+/// Steps, and the nodes of both lists then.
+struct Case {
+    steps: &'static [Step],
+    lists: [&'static [u32]; 2],
+}
+
+static CASES: [Case; 4] = [
+    // Nodes go to both ends.
+    Case {
+        steps: &[
+            Step::Back(0, 1),
+            Step::Back(0, 2),
+            Step::Back(1, 3),
+            Step::Front(0, 0),
+        ],
+        lists: [&[0, 1, 2], &[3]],
+    },
+    // A node goes behind another.
+    Case {
+        steps: &[Step::Back(1, 4), Step::Back(1, 2), Step::After(4, 5)],
+        lists: [&[], &[4, 5, 2]],
+    },
+    // A node is taken out.
+    Case {
+        steps: &[
+            Step::Back(0, 5),
+            Step::Back(0, 0),
+            Step::Back(0, 3),
+            Step::Out(0),
+        ],
+        lists: [&[5, 3], &[]],
+    },
+    // A node taken out enters another list.
+    Case {
+        steps: &[
+            Step::Back(0, 5),
+            Step::Back(0, 0),
+            Step::Back(0, 3),
+            Step::Out(0),
+            Step::Back(1, 0),
+        ],
+        lists: [&[5, 3], &[0]],
+    },
+];
+
+// Whether these are the nodes of a list, in order.
+fn has_nodes(links: &Links, list: u32, nodes: &[u32]) -> bool
     requires { list < length links.now.lists }
 {
-    let mut nodes = Vec::new(alloc);
     let mut current = links.first(list);
-    for _ in 0..10 {
+    for wanted in nodes {
         let Some(node) = current else {
-            break;
+            return false;
         };
-        nodes.push(node)?;
+        if node != *wanted {
+            return false;
+        }
         current = links.next(node);
     }
-    Ok(nodes)
+    current.is_none()
 }
 
-fn add(rt: &impl Abort, links: &mut Links, list: u32, node: u32)
-    requires list_in { list < length links.old.lists }
-    requires node_in { node < links.old.nodes }
+fn take(rt: &impl Abort, links: &mut Links, step: Step)
+    requires nodes { links.old.nodes ≡ 6 }
+    requires lists { length links.old.lists ≡ 2 }
     ensures { IsSameSize links.old links.new }
 {
-    assert!(rt; !links.holds(node), "{node} is in no list");
-    links.push_back(list, node);
+    match step {
+        Step::Back(list, node) => {
+            assert!(rt;
+                list < 2 && node < 6 && !links.holds(node),
+                "{node} is in no list"
+            );
+            links.push_back(list, node);
+        }
+        Step::Front(list, node) => {
+            assert!(rt;
+                list < 2 && node < 6 && !links.holds(node),
+                "{node} is in no list"
+            );
+            links.push_front(list, node);
+        }
+        Step::After(place, node) => {
+            assert!(rt; place < 6 && links.holds(place), "{place} is in a list");
+            assert!(rt; node < 6 && !links.holds(node), "{node} is in no list");
+            links.insert_after(place, node);
+        }
+        Step::Out(node) => {
+            assert!(rt; node < 6 && links.holds(node), "{node} is in a list");
+            links.unlink(node);
+        }
+    }
+}
+
+// Whether both lists are as they should be after the steps.
+fn ends_well(rt: &impl Abort, alloc: Global, case: &Case) -> Result<bool, NoMemory> {
+    let mut links = Links::new(alloc, 6, 2)?;
+    for step in case.steps {
+        take(rt, &mut links, *step);
+    }
+    Ok(has_nodes(&links, 0, case.lists[0]) && has_nodes(&links, 1, case.lists[1]))
 }
 
 #[test]
-fn nodes_go_to_both_ends(rt: HostRuntime) -> Result<(), Fail> {
-    let mut links = Links::new(rt.alloc(), 6, 2)?;
-    add(&rt, &mut links, 0, 1);
-    add(&rt, &mut links, 0, 2);
-    add(&rt, &mut links, 1, 3);
-    assert!(rt; !links.holds(0));
-    links.push_front(0, 0);
-    assert_eq!(rt;
-        nodes_of(rt.alloc(), &links, 0)?.as_slice(),
-        [0, 1, 2].as_slice()
-    );
-    assert_eq!(rt; nodes_of(rt.alloc(), &links, 1)?.as_slice(), [3].as_slice());
-    Ok(())
-}
-
-#[test]
-fn a_node_goes_behind_another(rt: HostRuntime) -> Result<(), Fail> {
-    let mut links = Links::new(rt.alloc(), 6, 2)?;
-    add(&rt, &mut links, 1, 4);
-    add(&rt, &mut links, 1, 2);
-    assert!(rt; links.holds(4) && !links.holds(5));
-    links.insert_after(4, 5);
-    assert_eq!(rt;
-        nodes_of(rt.alloc(), &links, 1)?.as_slice(),
-        [4, 5, 2].as_slice()
-    );
-    assert_eq!(rt; links.first(0), None);
-    Ok(())
-}
-
-#[test]
-fn a_node_taken_out_may_enter_another_list(rt: HostRuntime) -> Result<(), Fail> {
-    let mut links = Links::new(rt.alloc(), 6, 2)?;
-    add(&rt, &mut links, 0, 5);
-    add(&rt, &mut links, 0, 0);
-    add(&rt, &mut links, 0, 3);
-    assert!(rt; links.holds(0));
-    links.unlink(0);
-    assert_eq!(rt;
-        nodes_of(rt.alloc(), &links, 0)?.as_slice(),
-        [5, 3].as_slice()
-    );
-    add(&rt, &mut links, 1, 0);
-    assert_eq!(rt; nodes_of(rt.alloc(), &links, 1)?.as_slice(), [0].as_slice());
+fn lists_keep_the_order_that_nodes_are_given(rt: HostRuntime) -> Result<(), Fail> {
+    for case in &CASES {
+        let ends_well = ends_well(&rt, rt.alloc(), case)?;
+        assert!(rt; ends_well, "not {:?}", case.lists);
+    }
     Ok(())
 }

@@ -150,37 +150,67 @@ fn are_in_order(entries: &[Entry], by: u32, count: u32) -> bool {
     own == count as usize && in_order
 }
 
+// Whether a value has these limits, and a thousand numbers each of the passes 1 and 2.
+fn has_thousands(value: Numbers, limits: &[u32]) -> bool {
+    let entries = value.entries.as_slice();
+    entries.len() == 2000
+        && value.limits == limits
+        && are_in_order(entries, 1, 1000)
+        && are_in_order(entries, 2, 1000)
+}
+
 #[test]
 fn two_passes_write_a_thousand_numbers_each(rt: HostRuntime) -> Result<(), Fail> {
     let limits = [3, 5];
-    let numbers = Numbers::new(rt.alloc(), &limits);
-    let (lock, first) = TurnLock::new(rt.alloc(), numbers, 3)?;
+    let (lock, first) = TurnLock::new(rt.alloc(), Numbers::new(rt.alloc(), &limits), 3)?;
     let value = share_by_two(&rt, lock, first, 1000);
-    let entries = value.entries.as_slice();
-    assert_eq!(rt; (entries.len(), value.limits), (2000, [3, 5].as_slice()));
-    assert!(rt; are_in_order(entries, 1, 1000) && are_in_order(entries, 2, 1000));
+    let has_thousands = has_thousands(value, &limits);
+    assert!(rt; has_thousands);
     Ok(())
+}
+
+// Passes write and are joined in turn. Answers the numbers of the first three.
+fn join_in_turn<T: Write + Send, R: Wait>(
+    rt: &R,
+    lock: TurnLock<T>,
+    mut first: Pass<T>,
+) -> ([u32; 3], T)
+    requires pass { MayEnter lock first }
+    requires first { ((knowledge first).number ≡ 0) × (4 ≤ (knowledge first).room) × ((knowledge first).out ≡ 0) }
+{
+    let one = lock.split(&mut first);
+    let one = write_all(rt, &lock, one, 2);
+    let two = lock.split(&mut first);
+    let numbers = [first.number(), one.number(), two.number()];
+    let two = write_all(rt, &lock, two, 1);
+    lock.join(&mut first, one);
+    let mut first = write_all(rt, &lock, first, 1);
+    let three = lock.split(&mut first);
+    let three = write_all(rt, &lock, three, 1);
+    lock.join(&mut first, two);
+    lock.join(&mut first, three);
+    match lock.close(first) {
+        Ok(value) => (numbers, value),
+        Err(_) => unreachable!(),
+    }
+}
+
+// Whether the entries are these, each by its pass.
+fn has_entries(value: Numbers, made: &[(u32, u32)]) -> bool {
+    let entries = value.entries.as_slice();
+    let same = entries
+        .iter()
+        .zip(made)
+        .all(|(e, (by, number))| e.by == *by && e.number == *number);
+    entries.len() == made.len() && same
 }
 
 #[test]
 fn items_stay_after_their_passes_are_joined(rt: HostRuntime) -> Result<(), Fail> {
-    let (lock, mut first) = TurnLock::new(rt.alloc(), Numbers::new(rt.alloc(), &[]), 4)?;
-    let one = lock.split(&mut first);
-    let one = write_all(&rt, &lock, one, 2);
-    let two = lock.split(&mut first);
-    assert_eq!(rt; (first.number(), one.number(), two.number()), (0, 3, 2));
-    let two = write_all(&rt, &lock, two, 1);
-    lock.join(&mut first, one);
-    let mut first = write_all(&rt, &lock, first, 1);
-    let three = lock.split(&mut first);
-    let three = write_all(&rt, &lock, three, 1);
-    lock.join(&mut first, two);
-    lock.join(&mut first, three);
-    let Ok(value) = lock.close(first) else {
-        unreachable!()
-    };
-    let made = [(3, 0), (3, 1), (2, 0), (0, 0), (1, 0)].map(|(by, number)| Entry { by, number });
-    assert_eq!(rt; value.entries.as_slice(), made.as_slice());
+    let (lock, first) = TurnLock::new(rt.alloc(), Numbers::new(rt.alloc(), &[]), 4)?;
+    let (numbers, value) = join_in_turn(&rt, lock, first);
+    let has_entries = has_entries(value, &[(3, 0), (3, 1), (2, 0), (0, 0), (1, 0)]);
+    assert!(rt; numbers == [0, 3, 2] && has_entries);
     Ok(())
 }
 
@@ -217,14 +247,27 @@ fn count_beside<T: Write + Send, R: Threads + Wait + Sync>(
     count
 }
 
-#[test]
-fn a_pass_that_waits_is_woken_by_an_item(rt: HostRuntime) -> Result<(), Fail> {
-    let (lock, mut first) = TurnLock::new(rt.alloc(), Numbers::new(rt.alloc(), &[]), 3)?;
+// One of two passes waits for an item of the other. Answers what the first had seen before, how many items the one counts, and what
+// the first has seen after an item of its own.
+fn count_items<T: Write + Send, R: Threads + Wait + Sync>(
+    rt: &R,
+    lock: TurnLock<T>,
+    mut first: Pass<T>,
+) -> (u64, usize, u64)
+    requires pass { MayEnter lock first }
+    requires first { ((knowledge first).number ≡ 0) × (3 ≤ (knowledge first).room) }
+{
     let one = lock.split(&mut first);
     let two = lock.split(&mut first);
-    assert_eq!(rt; first.seen(), 0);
-    assert_eq!(rt; count_beside(&rt, &lock, one, two), 1);
-    let first = write_all(&rt, &lock, first, 1);
-    assert_eq!(rt; first.seen(), 2);
+    let seen = first.seen();
+    let count = count_beside(rt, &lock, one, two);
+    let first = write_all(rt, &lock, first, 1);
+    (seen, count, first.seen())
+}
+
+#[test]
+fn a_pass_that_waits_is_woken_by_an_item(rt: HostRuntime) -> Result<(), Fail> {
+    let (lock, first) = TurnLock::new(rt.alloc(), Numbers::new(rt.alloc(), &[]), 3)?;
+    assert!(rt; count_items(&rt, lock, first) == (0, 1, 2));
     Ok(())
 }

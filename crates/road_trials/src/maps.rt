@@ -1,7 +1,10 @@
 //! Small maps, whose travel times were computed outside by Floyd's and Warshall's method.
 ghost use Rattle.std.specs.Prelude.{◌≡◌, ◌≤◌, length, All, IfOk};
+ghost use Rattle.contraction.specs.Contracted.{IsContractionOf};
 
+use contraction::Contraction;
 use ride_model::{Network, NoMemory, RoadArc};
+use road_times::Side;
 use std::alloc::Global;
 use std::process::Abort;
 
@@ -85,6 +88,22 @@ pub(super) const MAPS: [SmallMap; 4] = [
     },
 ];
 
+// An arc of a map with so many nodes.
+fn arc_within(rt: &impl Abort, nodes: u32, arc: (u32, u32, u32)) -> RoadArc
+    ensures tail { (1 ≤ result.tail) × (result.tail ≤ nodes) }
+    ensures head { (1 ≤ result.head) × (result.head ≤ nodes) }
+    ensures seconds { result.seconds ≤ 1000000000 }
+{
+    let (tail, head, seconds) = arc;
+    assert!(rt; 1 <= tail && tail <= nodes && 1 <= head && head <= nodes);
+    assert!(rt; seconds <= Network::MOST_SECONDS);
+    RoadArc {
+        tail,
+        head,
+        seconds,
+    }
+}
+
 /// A map of these arcs: from a node to a node, in so many seconds.
 pub(super) fn network(
     rt: &impl Abort,
@@ -94,18 +113,10 @@ pub(super) fn network(
 ) -> Result<Network, NoMemory>
     ensures { IfOk result (λ network. network.nodes ≡ nodes) }
 {
-    assert!(rt; 1 <= nodes && nodes <= Network::MOST_NODES);
-    assert!(rt; arcs.len() <= 2_000_000);
+    assert!(rt; 1 <= nodes && nodes <= Network::MOST_NODES && arcs.len() <= 2_000_000);
     let mut list = Vec::new(alloc);
-    for (tail, head, seconds) in arcs {
-        assert!(rt; 1 <= *tail && *tail <= nodes);
-        assert!(rt; 1 <= *head && *head <= nodes);
-        assert!(rt; *seconds <= Network::MOST_SECONDS);
-        list.push(RoadArc {
-            tail: *tail,
-            head: *head,
-            seconds: *seconds,
-        })?;
+    for arc in arcs {
+        list.push(arc_within(rt, nodes, *arc))?;
     }
     Ok(Network::new(nodes, list))
 }
@@ -122,20 +133,35 @@ pub(super) fn all_nodes(alloc: Global, nodes: u32) -> Result<Vec<u32>, NoMemory>
     Ok(list)
 }
 
-/// Compares one row with a line or a column of the table.
-pub(super) fn expect_row(
+/// The contraction of a map, as far as so many links go.
+pub(super) fn contraction_of(
+    alloc: Global,
+    map: &Network,
+    fuel: u64,
+) -> Result<Contraction, NoMemory>
+    ensures nodes { IfOk result (λ contraction. contraction.nodes ≡ map.now.nodes) }
+    ensures hierarchy { IfOk result (IsContractionOf map.now) }
+{
+    let mut contraction = Contraction::new(alloc, map)?;
+    contraction.contract_some(fuel)?;
+    Ok(contraction)
+}
+
+/// Compares the row of a side of a node with a line of the table of its map, or with a column.
+pub(super) fn expect_line(
     rt: &impl Abort,
     row: &[Option<u64>],
     table: &[u64],
-    first: usize,
-    step: usize,
+    side: Side,
+    node: u32,
 ) {
-    for (place, time) in row.iter().enumerate() {
-        let wanted = table.get(first.wrapping_add(place.wrapping_mul(step)));
-        assert_eq!(rt;
-            Some(time.unwrap_or(NO)),
-            wanted.copied(),
-            "{place} of {first}"
-        );
+    for (other, time) in row.iter().enumerate() {
+        let (line, column) = match side {
+            Side::Out => (node as usize, other),
+            Side::Back => (other, node as usize),
+        };
+        let wanted = table.get(line.wrapping_mul(row.len()).wrapping_add(column));
+        let is_wanted = Some(time.unwrap_or(NO)) == wanted.copied();
+        assert!(rt; is_wanted, "{time:?} from {line} to {column}");
     }
 }

@@ -1,6 +1,7 @@
-// Requests 5, 7 and 3, accepted in this order.
-ghost use Rattle.std.specs.Prelude.{IfOk, ◌≡◌, ◌∷◌, []};
+//! Requests 5, 7 and 3, accepted in this order, and what becomes of them.
+ghost use Rattle.std.specs.Prelude.{IfOk, ◌≡◌, ◌∷◌, [], ◌++◌, None, length, ◌<◌};
 ghost use Rattle.ride_model.specs.declared.reply.RequestState.TheVariants.{Waiting};
+ghost use Rattle.request_book.specs.Book.{request_of};
 ghost use Rattle.road_trials.specs.SmallRequests.{row_ride, row_request};
 
 use request_book::RequestBook;
@@ -8,6 +9,85 @@ use ride_model::{NoMemory, RequestState, Ride};
 use std::alloc::Global;
 use std::process::Abort;
 use std::test::Fail;
+
+/// A request's new state, the state that it has then, and which requests wait.
+struct Change {
+    id: u64,
+    state: RequestState,
+    found: Option<RequestState>,
+    waiting: &'static [u64],
+}
+
+/// A request that waits again keeps its place.
+static WAITS_AGAIN: [Change; 4] = [
+    Change {
+        id: 5,
+        state: RequestState::InBatch(1),
+        found: Some(RequestState::InBatch(1)),
+        waiting: &[7, 3],
+    },
+    Change {
+        id: 7,
+        state: RequestState::InBatch(1),
+        found: Some(RequestState::InBatch(1)),
+        waiting: &[3],
+    },
+    Change {
+        id: 7,
+        state: RequestState::Waiting,
+        found: Some(RequestState::Waiting),
+        waiting: &[7, 3],
+    },
+    Change {
+        id: 5,
+        state: RequestState::Waiting,
+        found: Some(RequestState::Waiting),
+        waiting: &[5, 7, 3],
+    },
+];
+
+/// What becomes of a request. One that was not accepted has no state.
+static ENDS: [Change; 6] = [
+    Change {
+        id: 7,
+        state: RequestState::Confirmed(9),
+        found: Some(RequestState::Confirmed(9)),
+        waiting: &[5, 3],
+    },
+    Change {
+        id: 7,
+        state: RequestState::Aboard(9),
+        found: Some(RequestState::Aboard(9)),
+        waiting: &[5, 3],
+    },
+    Change {
+        id: 7,
+        state: RequestState::Done,
+        found: Some(RequestState::Done),
+        waiting: &[5, 3],
+    },
+    Change {
+        id: 7,
+        state: RequestState::Away(2),
+        found: Some(RequestState::Away(2)),
+        waiting: &[5, 3],
+    },
+    Change {
+        id: 7,
+        state: RequestState::Cancelled,
+        found: Some(RequestState::Cancelled),
+        waiting: &[5, 3],
+    },
+    Change {
+        id: 8,
+        state: RequestState::Done,
+        found: None,
+        waiting: &[5, 3],
+    },
+];
+
+/// The first that wait, at most so many.
+static FIRST: [(usize, &[u64]); 3] = [(2, &[5, 7]), (9, &[5, 7, 3]), (0, &[])];
 
 fn ride(id: u64) -> Ride
     ensures { result ≡ row_ride id }
@@ -24,74 +104,94 @@ fn ride(id: u64) -> Ride
     }
 }
 
-fn three_requests(alloc: Global) -> Result<RequestBook, NoMemory>
-    ensures { IfOk result (λ book. book ≡ row_request 5 ∷ row_request 7 ∷ row_request 3 ∷ []) }
+// A book with one request more.
+fn accepted(mut book: RequestBook, id: u64) -> Result<RequestBook, NoMemory>
+    requires few { length book < 3 }
+    requires fresh { request_of book id ≡ None }
+    ensures { IfOk result (λ more. more ≡ book ++ row_request id ∷ []) }
 {
-    let mut book = RequestBook::new(alloc)?;
-    book.accept(ride(5))?;
-    book.accept(ride(7))?;
-    book.accept(ride(3))?;
+    book.accept(ride(id))?;
     Ok(book)
 }
 
-// The first requests that wait, or fewer, have these ids.
-fn expect_first(
-    rt: &impl Abort,
+fn three_requests(alloc: Global) -> Result<RequestBook, NoMemory> {
+    let book = accepted(RequestBook::new(alloc)?, 5)?;
+    accepted(accepted(book, 7)?, 3)
+}
+
+// Whether these are the first that wait, where at most so many are asked for.
+fn wait_first(
     alloc: Global,
     book: &RequestBook,
     most: usize,
     ids: &[u64],
-) -> Result<(), Fail> {
+) -> Result<bool, NoMemory> {
     let waiting = book.first_waiting(alloc, most)?;
-    assert_eq!(rt; waiting.len(), ids.len(), "{ids:?}");
-    for (ride, id) in waiting.as_slice().iter().zip(ids) {
-        assert_eq!(rt; ride.id, *id, "{ids:?}");
+    let rides = waiting.as_slice();
+    let in_order = rides.iter().zip(ids).all(|(ride, id)| ride.id == *id);
+    Ok(rides.len() == ids.len() && in_order)
+}
+
+// Whether of the three requests these have the state of those that wait, and no others.
+fn have_waiting(book: &RequestBook, ids: &[u64]) -> bool {
+    for id in [5, 7, 3] {
+        let waits = book.state(id) == Some(RequestState::Waiting);
+        if waits != ids.contains(&id) {
+            return false;
+        }
+    }
+    book.len() == 3
+}
+
+fn expect_change(
+    rt: &impl Abort,
+    alloc: Global,
+    book: &mut RequestBook,
+    change: &Change,
+) -> Result<(), NoMemory> {
+    book.set_state(change.id, change.state);
+    let found = book.state(change.id);
+    assert!(rt; found == change.found, "{found:?}");
+    let wait = wait_first(alloc, book, 9, change.waiting)?;
+    assert!(rt; wait && have_waiting(book, change.waiting), "{found:?}");
+    Ok(())
+}
+
+fn expect_each(
+    rt: &impl Abort,
+    alloc: Global,
+    book: &mut RequestBook,
+    changes: &[Change],
+) -> Result<(), NoMemory> {
+    for change in changes {
+        expect_change(rt, alloc, book, change)?;
+    }
+    Ok(())
+}
+
+// Compares what is seen of three requests after each change.
+fn expect_changes(rt: &impl Abort, alloc: Global, changes: &[Change]) -> Result<(), NoMemory> {
+    let mut book = three_requests(alloc)?;
+    expect_each(rt, alloc, &mut book, changes)
+}
+
+fn expect_first(rt: &impl Abort, alloc: Global) -> Result<(), NoMemory> {
+    let book = three_requests(alloc)?;
+    assert!(rt; have_waiting(&book, &[5, 7, 3]) && book.state(4).is_none());
+    for (most, ids) in &FIRST {
+        let wait = wait_first(alloc, &book, *most, ids)?;
+        assert!(rt; wait, "not {ids:?}");
     }
     Ok(())
 }
 
 #[test]
-fn requests_wait_in_order_of_acceptance(rt: HostRuntime) -> Result<(), Fail> {
+fn requests_wait_in_order_of_acceptance_whatever_becomes_of_others(
+    rt: HostRuntime,
+) -> Result<(), Fail> {
     let alloc = rt.alloc();
-    let book = three_requests(alloc)?;
-    assert_eq!(rt; book.len(), 3);
-    assert_eq!(rt; book.state(7), Some(RequestState::Waiting));
-    assert_eq!(rt; book.state(4), None);
-    expect_first(&rt, alloc, &book, 2, &[5, 7])?;
-    expect_first(&rt, alloc, &book, 9, &[5, 7, 3])?;
-    expect_first(&rt, alloc, &book, 0, &[])
-}
-
-#[test]
-fn a_request_that_waits_again_keeps_its_place(rt: HostRuntime) -> Result<(), Fail> {
-    let alloc = rt.alloc();
-    let mut book = three_requests(alloc)?;
-    book.set_state(5, RequestState::InBatch(1));
-    book.set_state(7, RequestState::InBatch(1));
-    expect_first(&rt, alloc, &book, 9, &[3])?;
-    book.set_state(7, RequestState::Waiting);
-    expect_first(&rt, alloc, &book, 9, &[7, 3])?;
-    book.set_state(5, RequestState::Waiting);
-    expect_first(&rt, alloc, &book, 9, &[5, 7, 3])
-}
-
-#[test]
-fn what_becomes_of_a_request(rt: HostRuntime) -> Result<(), Fail> {
-    let mut book = three_requests(rt.alloc())?;
-    for state in [
-        RequestState::Confirmed(9),
-        RequestState::Aboard(9),
-        RequestState::Done,
-        RequestState::Away(2),
-        RequestState::Cancelled,
-    ] {
-        book.set_state(7, state);
-        assert_eq!(rt; book.state(7), Some(state));
-        assert_eq!(rt; book.state(5), Some(RequestState::Waiting));
-        expect_first(&rt, rt.alloc(), &book, 9, &[5, 3])?;
-    }
-    book.set_state(8, RequestState::Done);
-    assert_eq!(rt; book.state(8), None);
-    assert_eq!(rt; book.len(), 3);
+    expect_first(&rt, alloc)?;
+    expect_changes(&rt, alloc, &WAITS_AGAIN)?;
+    expect_changes(&rt, alloc, &ENDS)?;
     Ok(())
 }

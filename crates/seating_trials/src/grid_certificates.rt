@@ -3,163 +3,340 @@ use dual_check::laws::weak_duality_grid;
 use dual_check::*;
 use ride_model::NoMemory;
 use std::alloc::Global;
+use std::process::Abort;
 use std::test::Fail;
 
-// The greatest amount of a cell.
+/// The greatest amount of a cell.
 const MOST: u64 = (1 << 42) - 1;
 
-// Whether the prices certify the pairing, which is least then.
-fn answer(
-    alloc: Global,
-    grid: &Grid,
+/// A grid, and a certificate of a pairing.
+struct Case {
+    name: &'static str,
+    rows: u32,
+    columns: u32,
+    /// Amounts with their rows and columns. Other cells have none.
+    amounts: &'static [(u32, u32, u64)],
     penalty: u64,
-    columns: &[Option<u32>],
-    prices: &[u64],
-    pays: &[u64],
-) -> Result<bool, NoMemory> {
-    let paired = Paired {
-        columns: ColumnList::of(columns.to_vec(alloc)?),
-        prices: NumberList::of(prices.to_vec(alloc)?),
-        pays: NumberList::of(pays.to_vec(alloc)?),
-    };
-    let certified = certifies_grid(grid, penalty, &paired);
+    /// The column of each row.
+    pairs: &'static [Option<u32>],
+    /// The price of each row.
+    prices: &'static [u64],
+    /// What each column pays.
+    pays: &'static [u64],
+    certified: bool,
+}
+
+static CASES: [Case; 23] = [
+    // One vehicle and two requests.
+    Case {
+        name: "certified",
+        rows: 2,
+        columns: 1,
+        amounts: &[(0, 0, 180), (1, 0, 240)],
+        penalty: 3600,
+        pairs: &[Some(0), None],
+        prices: &[3540, 3600],
+        pays: &[3360],
+        certified: true,
+    },
+    Case {
+        name: "prices of 0",
+        rows: 2,
+        columns: 1,
+        amounts: &[(0, 0, 180), (1, 0, 240)],
+        penalty: 3600,
+        pairs: &[Some(0), None],
+        prices: &[0, 0],
+        pays: &[0],
+        certified: false,
+    },
+    Case {
+        name: "a price lower by one",
+        rows: 2,
+        columns: 1,
+        amounts: &[(0, 0, 180), (1, 0, 240)],
+        penalty: 3600,
+        pairs: &[Some(0), None],
+        prices: &[3539, 3600],
+        pays: &[3360],
+        certified: false,
+    },
+    Case {
+        name: "the seated pair not covered",
+        rows: 2,
+        columns: 1,
+        amounts: &[(0, 0, 180), (1, 0, 240)],
+        penalty: 3600,
+        pairs: &[Some(0), None],
+        prices: &[3540, 3599],
+        pays: &[3359],
+        certified: false,
+    },
+    Case {
+        name: "the other pair not covered",
+        rows: 2,
+        columns: 1,
+        amounts: &[(0, 0, 180), (1, 0, 240)],
+        penalty: 3600,
+        pairs: &[Some(0), None],
+        prices: &[3539, 3600],
+        pays: &[3359],
+        certified: false,
+    },
+    Case {
+        name: "a column twice",
+        rows: 2,
+        columns: 1,
+        amounts: &[(0, 0, 180), (1, 0, 240)],
+        penalty: 3600,
+        pairs: &[Some(0), Some(0)],
+        prices: &[180, 240],
+        pays: &[0],
+        certified: false,
+    },
+    Case {
+        name: "a column out of range",
+        rows: 2,
+        columns: 1,
+        amounts: &[(0, 0, 180), (1, 0, 240)],
+        penalty: 3600,
+        pairs: &[Some(1), None],
+        prices: &[180, 240],
+        pays: &[0],
+        certified: false,
+    },
+    Case {
+        name: "another pairing",
+        rows: 2,
+        columns: 1,
+        amounts: &[(0, 0, 180), (1, 0, 240)],
+        penalty: 3600,
+        pairs: &[None, Some(0)],
+        prices: &[3540, 3600],
+        pays: &[3360],
+        certified: false,
+    },
+    // Greedy is dearer.
+    Case {
+        name: "the least pairing",
+        rows: 2,
+        columns: 2,
+        amounts: &[(0, 0, 120), (0, 1, 180), (1, 0, 60), (1, 1, 240)],
+        penalty: 3600,
+        pairs: &[Some(1), Some(0)],
+        prices: &[180, 120],
+        pays: &[60, 0],
+        certified: true,
+    },
+    Case {
+        name: "the greedy one",
+        rows: 2,
+        columns: 2,
+        amounts: &[(0, 0, 120), (0, 1, 180), (1, 0, 60), (1, 1, 240)],
+        penalty: 3600,
+        pairs: &[Some(0), Some(1)],
+        prices: &[180, 120],
+        pays: &[60, 0],
+        certified: false,
+    },
+    // A price is at most the penalty.
+    Case {
+        name: "no amount, at the penalty",
+        rows: 1,
+        columns: 1,
+        amounts: &[],
+        penalty: 100,
+        pairs: &[None],
+        prices: &[100],
+        pays: &[0],
+        certified: true,
+    },
+    Case {
+        name: "no amount where the row is paired",
+        rows: 1,
+        columns: 1,
+        amounts: &[],
+        penalty: 100,
+        pairs: &[Some(0)],
+        prices: &[0],
+        pays: &[0],
+        certified: false,
+    },
+    Case {
+        name: "a price above the penalty",
+        rows: 1,
+        columns: 1,
+        amounts: &[(0, 0, 180)],
+        penalty: 100,
+        pairs: &[None],
+        prices: &[180],
+        pays: &[80],
+        certified: false,
+    },
+    Case {
+        name: "the greatest amount",
+        rows: 1,
+        columns: 1,
+        amounts: &[(0, 0, MOST)],
+        penalty: MOST,
+        pairs: &[Some(0)],
+        prices: &[MOST],
+        pays: &[0],
+        certified: true,
+    },
+    Case {
+        name: "the greatest penalty",
+        rows: 1,
+        columns: 1,
+        amounts: &[(0, 0, MOST)],
+        penalty: u64::MAX,
+        pairs: &[Some(0)],
+        prices: &[u64::MAX],
+        pays: &[u64::MAX - MOST],
+        certified: true,
+    },
+    Case {
+        name: "the greatest penalty of a row that is not paired",
+        rows: 1,
+        columns: 1,
+        amounts: &[(0, 0, MOST)],
+        penalty: u64::MAX,
+        pairs: &[None],
+        prices: &[u64::MAX],
+        pays: &[u64::MAX],
+        certified: false,
+    },
+    // Grids without amounts, and lists of other lengths.
+    Case {
+        name: "no row",
+        rows: 0,
+        columns: 2,
+        amounts: &[],
+        penalty: 0,
+        pairs: &[],
+        prices: &[],
+        pays: &[0, 0],
+        certified: true,
+    },
+    Case {
+        name: "no row, and a column pays",
+        rows: 0,
+        columns: 2,
+        amounts: &[],
+        penalty: 0,
+        pairs: &[],
+        prices: &[],
+        pays: &[1, 0],
+        certified: false,
+    },
+    Case {
+        name: "a payment missing",
+        rows: 0,
+        columns: 2,
+        amounts: &[],
+        penalty: 0,
+        pairs: &[],
+        prices: &[],
+        pays: &[0],
+        certified: false,
+    },
+    Case {
+        name: "no column",
+        rows: 2,
+        columns: 0,
+        amounts: &[],
+        penalty: 7,
+        pairs: &[None, None],
+        prices: &[7, 7],
+        pays: &[],
+        certified: true,
+    },
+    Case {
+        name: "no column, at no penalty",
+        rows: 2,
+        columns: 0,
+        amounts: &[],
+        penalty: 0,
+        pairs: &[None, None],
+        prices: &[0, 0],
+        pays: &[],
+        certified: true,
+    },
+    Case {
+        name: "a price too many",
+        rows: 2,
+        columns: 0,
+        amounts: &[],
+        penalty: 7,
+        pairs: &[None, None],
+        prices: &[7, 7, 0],
+        pays: &[],
+        certified: false,
+    },
+    Case {
+        name: "a pair missing",
+        rows: 2,
+        columns: 0,
+        amounts: &[],
+        penalty: 7,
+        pairs: &[None],
+        prices: &[7, 7],
+        pays: &[],
+        certified: false,
+    },
+];
+
+fn set(rt: &impl Abort, grid: &mut Grid, row: u32, column: u32, amount: u64) {
+    assert!(rt; row < grid.rows() && column < grid.columns() && amount <= MOST);
+    grid.set(row, column, amount);
+    assert!(rt; grid.cell(row, column) == Some(amount));
+}
+
+fn grid_of(rt: &impl Abort, alloc: Global, case: &Case) -> Result<Grid, NoMemory> {
+    assert!(rt; case.rows <= 2 && case.columns <= 2);
+    let mut grid = Grid::new(alloc, case.rows, case.columns)?;
+    for (row, column, amount) in case.amounts {
+        set(rt, &mut grid, *row, *column, *amount);
+    }
+    Ok(grid)
+}
+
+fn numbers(alloc: Global, items: &[u64]) -> Result<NumberList, NoMemory> {
+    Ok(NumberList::of(items.to_vec(alloc)?))
+}
+
+fn paired_of(alloc: Global, case: &Case) -> Result<Paired, NoMemory> {
+    let columns = ColumnList::of(case.pairs.to_vec(alloc)?);
+    let prices = numbers(alloc, case.prices)?;
+    let pays = numbers(alloc, case.pays)?;
+    Ok(Paired {
+        columns,
+        prices,
+        pays,
+    })
+}
+
+// Whether the prices certify the pairing, which is least then.
+fn is_certified(grid: Grid, penalty: u64, paired: Paired) -> bool {
+    let certified = certifies_grid(&grid, penalty, &paired);
     if certified {
-        weak_duality_grid(grid, penalty, &paired);
+        weak_duality_grid(&grid, penalty, &paired);
     }
-    Ok(certified)
+    certified
 }
 
-#[test]
-fn one_vehicle_and_two_requests(rt: HostRuntime) -> Result<(), Fail> {
-    let mut grid = Grid::new(rt.alloc(), 2, 1)?;
-    grid.set(0, 0, 180);
-    grid.set(1, 0, 240);
-    assert_eq!(rt; grid.cell(1, 0), Some(240));
-    let cases = [
-        ("certified", [Some(0), None], [3540, 3600], 3360, true),
-        ("prices of 0", [Some(0), None], [0, 0], 0, false),
-        (
-            "a price lower by one",
-            [Some(0), None],
-            [3539, 3600],
-            3360,
-            false,
-        ),
-        (
-            "the seated pair not covered",
-            [Some(0), None],
-            [3540, 3599],
-            3359,
-            false,
-        ),
-        (
-            "the other pair not covered",
-            [Some(0), None],
-            [3539, 3600],
-            3359,
-            false,
-        ),
-        ("a column twice", [Some(0), Some(0)], [180, 240], 0, false),
-        (
-            "a column out of range",
-            [Some(1), None],
-            [180, 240],
-            0,
-            false,
-        ),
-        (
-            "another pairing",
-            [None, Some(0)],
-            [3540, 3600],
-            3360,
-            false,
-        ),
-    ];
-    for (what, columns, prices, pay, certified) in cases {
-        let pays = [pay];
-        let is_certified = answer(
-            rt.alloc(),
-            &grid,
-            3600,
-            columns.as_slice(),
-            prices.as_slice(),
-            pays.as_slice(),
-        )?;
-        assert_eq!(rt; is_certified, certified, "{what}");
-    }
+fn expect_case(rt: &impl Abort, alloc: Global, case: &Case) -> Result<(), NoMemory> {
+    let grid = grid_of(rt, alloc, case)?;
+    let paired = paired_of(alloc, case)?;
+    let certified = is_certified(grid, case.penalty, paired);
+    assert!(rt; certified == case.certified, "{}", case.name);
     Ok(())
 }
 
 #[test]
-fn greedy_is_dearer(rt: HostRuntime) -> Result<(), Fail> {
-    let mut grid = Grid::new(rt.alloc(), 2, 2)?;
-    grid.set(0, 0, 120);
-    grid.set(0, 1, 180);
-    grid.set(1, 0, 60);
-    grid.set(1, 1, 240);
-    let pairs = [([Some(1), Some(0)], true), ([Some(0), Some(1)], false)];
-    for (columns, certified) in pairs {
-        let is_certified = answer(
-            rt.alloc(),
-            &grid,
-            3600,
-            columns.as_slice(),
-            [180, 120].as_slice(),
-            [60, 0].as_slice(),
-        )?;
-        assert_eq!(rt; is_certified, certified);
-    }
-    Ok(())
-}
-
-#[test]
-fn a_price_is_at_most_the_penalty(rt: HostRuntime) -> Result<(), Fail> {
-    // The cell's amount, the penalty, the row's column and its price, what the column pays.
-    let cases = [
-        (None, 100, None, 100, 0, true),
-        (None, 100, Some(0), 0, 0, false),
-        (Some(180), 100, None, 180, 80, false),
-        (Some(MOST), MOST, Some(0), MOST, 0, true),
-        (
-            Some(MOST),
-            u64::MAX,
-            Some(0),
-            u64::MAX,
-            u64::MAX - MOST,
-            true,
-        ),
-        (Some(MOST), u64::MAX, None, u64::MAX, u64::MAX, false),
-    ];
-    for (amount, penalty, column, price, pay, certified) in cases {
-        let mut grid = Grid::new(rt.alloc(), 1, 1)?;
-        if let Some(amount) = amount {
-            assert!(rt; amount <= MOST);
-            grid.set(0, 0, amount);
-        }
-        let is_certified = answer(rt.alloc(), &grid, penalty, &[column], &[price], &[pay])?;
-        assert_eq!(rt; is_certified, certified, "{amount:?} {price}");
-    }
-    Ok(())
-}
-
-#[test]
-fn empty_grids_and_lists_of_other_lengths(rt: HostRuntime) -> Result<(), Fail> {
-    // The rows and columns of a grid without amounts, the penalty, the columns, prices and payments.
-    let none = [None, None].as_slice();
-    let cases = [
-        (0, 2, 0, &none[..0], [].as_slice(), [0, 0].as_slice(), true),
-        (0, 2, 0, &none[..0], &[], &[1, 0], false),
-        (0, 2, 0, &none[..0], &[], &[0], false),
-        (2, 0, 7, none, &[7, 7], &[], true),
-        (2, 0, 0, none, &[0, 0], &[], true),
-        (2, 0, 7, none, &[7, 7, 0], &[], false),
-        (2, 0, 7, &none[..1], &[7, 7], &[], false),
-    ];
-    for (rows, columns, penalty, pairs, prices, pays, certified) in cases {
-        assert!(rt; rows <= 2 && columns <= 2);
-        let grid = Grid::new(rt.alloc(), rows, columns)?;
-        let is_certified = answer(rt.alloc(), &grid, penalty, pairs, prices, pays)?;
-        assert_eq!(rt; is_certified, certified, "{prices:?} {pays:?}");
+fn prices_certify_least_pairings_alone(rt: HostRuntime) -> Result<(), Fail> {
+    for case in &CASES {
+        expect_case(&rt, rt.alloc(), case)?;
     }
     Ok(())
 }

@@ -15,4 +15,6 @@ mod prices;
 #[cfg(test)]
 mod seatings;
 #[cfg(test)]
+mod small_batches;
+#[cfg(test)]
 mod turns;

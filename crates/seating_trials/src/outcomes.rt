@@ -1,5 +1,5 @@
 //! Each call once, and each outcome of a request.
-ghost use Rattle.std.specs.Prelude.{◌≡◌, ◌≤◌, [], ◌∷◌, length, IfOk};
+ghost use Rattle.std.specs.Prelude.{◌<◌, ◌≡◌, ◌≤◌, [], ◌∷◌, length, IfOk};
 ghost use Rattle.ride_model.specs.Seating.{vehicle_ids};
 ghost use Rattle.seating_trials.specs.OneRequest.{settings_of, IsBatchOfOne};
 
@@ -26,49 +26,41 @@ fn offer(cost: u64) -> Offer
     }
 }
 
-#[test]
-fn a_cell_is_replaced_and_no_other(rt: HostRuntime) -> Result<(), Fail> {
-    let cells = vec![in rt.alloc(); None; 4]?;
-    let mut table = PriceTable::of(2, 2, cells);
+fn cost(table: &PriceTable, request: u32, vehicle: u32) -> Option<u64>
+    requires request_in { request < table.now.rows }
+    requires vehicle_in { vehicle < table.now.columns }
+{
+    table.cell(request, vehicle).map(|offer| offer.cost)
+}
+
+// The costs of a table with one offer, request by request.
+fn costs(alloc: Global) -> Result<[Option<u64>; 4], NoMemory> {
+    let mut table = PriceTable::of(2, 2, vec![in alloc; None; 4]?);
     table.put(1, 0, offer(180));
-    assert_eq!(rt; table.cell(1, 0).map(|offer| offer.cost), Some(180));
-    assert!(rt; table.cell(0, 0).is_none());
-    assert!(rt; table.cell(0, 1).is_none());
-    assert!(rt; table.cell(1, 1).is_none());
-    Ok(())
+    Ok([
+        cost(&table, 0, 0),
+        cost(&table, 0, 1),
+        cost(&table, 1, 0),
+        cost(&table, 1, 1),
+    ])
+}
+
+// Whether an answer with two prices leaves both requests undecided.
+fn is_undecided(alloc: Global) -> Result<bool, NoMemory> {
+    let prices = AmountList::of([(7, 180), (8, 240)].to_vec(alloc)?);
+    let seating = SeatList::of(Vec::new(alloc));
+    let pays = AmountList::of(Vec::new(alloc));
+    let answer = Answer::of(alloc, seating, prices, pays)?;
+    let undecided = [(7, Outcome::Gone), (8, Outcome::Gone)];
+    Ok(answer.outcomes.items() == undecided.as_slice())
 }
 
 #[test]
-fn a_batch_shows_its_parts(rt: HostRuntime) {
-    let settings = Settings {
-        batch: 32,
-        penalty: 3600,
-        drive: 1,
-        wait: 0,
-        lead: 0,
-        dwell: 0,
-        log: 1,
-    };
-    let fleet = Fleet::new(Vec::new(rt.alloc()));
-    let batch = Batch::of(3, 20, 1, settings, Vec::new(rt.alloc()), fleet);
-    assert_eq!(rt; batch.number(), 3);
-    assert_eq!(rt; batch.time(), 20);
-    assert_eq!(rt; batch.desk(), 1);
-    assert_eq!(rt; batch.settings().penalty, 3600);
-    assert!(rt; batch.requests().is_empty());
-    assert!(rt; batch.vehicles().vehicles().is_empty());
-}
-
-#[test]
-fn an_answer_is_undecided(rt: HostRuntime) -> Result<(), Fail> {
-    let prices = AmountList::of([(7, 180), (8, 240)].to_vec(rt.alloc())?);
-    let seating = SeatList::of(Vec::new(rt.alloc()));
-    let pays = AmountList::of(Vec::new(rt.alloc()));
-    let answer = Answer::of(rt.alloc(), seating, prices, pays)?;
-    assert_eq!(rt;
-        answer.outcomes.items(),
-        [(7, Outcome::Gone), (8, Outcome::Gone)].as_slice()
-    );
+fn a_cell_is_replaced_and_no_other_and_an_answer_is_undecided(rt: HostRuntime) -> Result<(), Fail> {
+    let costs = costs(rt.alloc())?;
+    assert!(rt; costs == [None, None, Some(180), None], "{costs:?}");
+    let is_undecided = is_undecided(rt.alloc())?;
+    assert!(rt; is_undecided);
     Ok(())
 }
 
@@ -173,27 +165,72 @@ fn outcome(mut solved: Solved, now: u64, version: u64, cancelled: bool) -> Optio
     Some(*outcome)
 }
 
-// This is the outcome then.
-fn expect(rt: &impl Abort, solved: Solved, now: u64, version: u64, cancelled: bool, wanted: Outcome)
-    requires vehicles { vehicle_ids solved.batch.vehicles ≡ 1 ∷ [] }
-    requires requests { length solved.batch.requests ≡ 1 }
-{
-    let found = outcome(solved, now, version, cancelled);
-    assert_eq!(rt; found, Some(wanted));
+#[test]
+fn a_batch_shows_its_parts(rt: HostRuntime) {
+    let fleet = Fleet::new(Vec::new(rt.alloc()));
+    let batch = Batch::of(3, 20, 1, settings(0), Vec::new(rt.alloc()), fleet);
+    let numbers = (batch.number(), batch.time(), batch.desk());
+    let is_empty = batch.requests().is_empty() && batch.vehicles().vehicles().is_empty();
+    assert!(rt; numbers == (3, 20, 1) && batch.settings().penalty == 3600 && is_empty);
+}
+
+/// The lead, when a seated request is decided, the version of its vehicle then, whether it was cancelled, and what becomes of it.
+struct Case {
+    lead: u64,
+    now: u64,
+    version: u64,
+    cancelled: bool,
+    outcome: Outcome,
+}
+
+static CASES: [Case; 4] = [
+    Case {
+        lead: 0,
+        now: 0,
+        version: 0,
+        cancelled: false,
+        outcome: Outcome::Confirmed,
+    },
+    Case {
+        lead: 0,
+        now: 0,
+        version: 1,
+        cancelled: false,
+        outcome: Outcome::Moved {
+            named: 0,
+            stands: 1,
+        },
+    },
+    Case {
+        lead: 0,
+        now: 0,
+        version: 0,
+        cancelled: true,
+        outcome: Outcome::Gone,
+    },
+    Case {
+        lead: 10,
+        now: 20,
+        version: 0,
+        cancelled: false,
+        outcome: Outcome::Behind { start: 10, now: 20 },
+    },
+];
+
+fn expect_case(rt: &impl Abort, alloc: Global, case: &Case) -> Result<(), NoMemory> {
+    assert!(rt; case.lead <= 3600);
+    let solved = seated(alloc, case.lead)?;
+    let found = outcome(solved, case.now, case.version, case.cancelled);
+    assert!(rt; found == Some(case.outcome), "{found:?}");
+    Ok(())
 }
 
 #[test]
 fn each_outcome_comes_for_its_cause(rt: HostRuntime) -> Result<(), Fail> {
-    let alloc = rt.alloc();
-    let moved = Outcome::Moved {
-        named: 0,
-        stands: 1,
-    };
-    let behind = Outcome::Behind { start: 10, now: 20 };
-    expect(&rt, seated(alloc, 0)?, 0, 0, false, Outcome::Confirmed);
-    expect(&rt, seated(alloc, 0)?, 0, 1, false, moved);
-    expect(&rt, seated(alloc, 0)?, 0, 0, true, Outcome::Gone);
-    expect(&rt, seated(alloc, 10)?, 20, 0, false, behind);
-    expect(&rt, left_out(alloc)?, 0, 0, false, Outcome::Away);
+    for case in &CASES {
+        expect_case(&rt, rt.alloc(), case)?;
+    }
+    let away = outcome(left_out(rt.alloc())?, 0, 0, false);
+    assert!(rt; away == Some(Outcome::Away));
     Ok(())
 }

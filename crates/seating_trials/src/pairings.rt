@@ -6,12 +6,119 @@ use dual_check::{Grid, Paired};
 use hungarian::solve_grid;
 use ride_model::NoMemory;
 use std::alloc::Global;
+use std::process::Abort;
 use std::test::Fail;
 
 // The greatest amount of a cell.
 const MOST: u64 = (1 << 42) - 1;
 
 const MOST_PENALTY: u64 = 1_000_000_000_000;
+
+/// A grid's amounts, row by row, and what a least pairing costs.
+struct Case {
+    rows: u32,
+    columns: u32,
+    amounts: &'static [Option<u64>],
+    penalty: u64,
+    cost: u64,
+}
+
+/// Each row moves the rows before it.
+const MOVING: [Option<u64>; 16] = [
+    Some(2),
+    Some(3),
+    None,
+    None,
+    Some(1),
+    Some(4),
+    Some(6),
+    None,
+    Some(1),
+    Some(5),
+    Some(7),
+    Some(9),
+    Some(2),
+    None,
+    None,
+    Some(11),
+];
+
+static CASES: [Case; 10] = [
+    // Grids without amounts, columns or rows.
+    Case {
+        rows: 2,
+        columns: 2,
+        amounts: &[None; 4],
+        penalty: 7,
+        cost: 14,
+    },
+    Case {
+        rows: 3,
+        columns: 0,
+        amounts: &[],
+        penalty: 5,
+        cost: 15,
+    },
+    Case {
+        rows: 0,
+        columns: 3,
+        amounts: &[],
+        penalty: 5,
+        cost: 0,
+    },
+    // Ties.
+    Case {
+        rows: 3,
+        columns: 3,
+        amounts: &[Some(4); 9],
+        penalty: 10,
+        cost: 12,
+    },
+    Case {
+        rows: 3,
+        columns: 2,
+        amounts: &[Some(4); 6],
+        penalty: 10,
+        cost: 18,
+    },
+    // The greatest amounts and penalties.
+    Case {
+        rows: 2,
+        columns: 2,
+        amounts: &[Some(MOST), Some(MOST), Some(MOST), Some(5)],
+        penalty: MOST_PENALTY,
+        cost: 1_000_000_000_005,
+    },
+    Case {
+        rows: 2,
+        columns: 2,
+        amounts: &[Some(1), Some(2), Some(0), Some(3)],
+        penalty: 0,
+        cost: 0,
+    },
+    Case {
+        rows: 3,
+        columns: 2,
+        amounts: &[Some(9), None, Some(8), None, None, None],
+        penalty: MOST_PENALTY,
+        cost: 2_000_000_000_008,
+    },
+    // Each row moves the rows before it.
+    Case {
+        rows: 4,
+        columns: 4,
+        amounts: &MOVING,
+        penalty: 100,
+        cost: 20,
+    },
+    Case {
+        rows: 4,
+        columns: 4,
+        amounts: &MOVING,
+        penalty: 8,
+        cost: 18,
+    },
+];
 
 // Writes the amounts, row by row, into a grid of so many columns.
 fn write(grid: &mut Grid, amounts: &[Option<u64>]) {
@@ -69,64 +176,10 @@ fn least_cost(
     Ok(cost(&grid, penalty, &paired))
 }
 
-#[test]
-fn grids_without_amounts_rows_or_columns(rt: HostRuntime) -> Result<(), Fail> {
-    let alloc = rt.alloc();
-    assert_eq!(rt; least_cost(alloc, 2, 2, [None; 4].as_slice(), 7)?, 14);
-    assert_eq!(rt; least_cost(alloc, 3, 0, [].as_slice(), 5)?, 15);
-    assert_eq!(rt; least_cost(alloc, 0, 3, [].as_slice(), 5)?, 0);
-    Ok(())
-}
-
-#[test]
-fn ties(rt: HostRuntime) -> Result<(), Fail> {
-    let alloc = rt.alloc();
-    assert_eq!(rt; least_cost(alloc, 3, 3, [Some(4); 9].as_slice(), 10)?, 12);
-    assert_eq!(rt; least_cost(alloc, 3, 2, [Some(4); 6].as_slice(), 10)?, 18);
-    Ok(())
-}
-
-#[test]
-fn the_greatest_amounts_and_penalties(rt: HostRuntime) -> Result<(), Fail> {
-    let alloc = rt.alloc();
-    let great = [Some(MOST), Some(MOST), Some(MOST), Some(5)];
-    assert_eq!(rt;
-        least_cost(alloc, 2, 2, great.as_slice(), MOST_PENALTY)?,
-        1_000_000_000_005
-    );
-    let free = [Some(1), Some(2), Some(0), Some(3)];
-    assert_eq!(rt; least_cost(alloc, 2, 2, free.as_slice(), 0)?, 0);
-    let narrow = [Some(9), None, Some(8), None, None, None];
-    assert_eq!(rt;
-        least_cost(alloc, 3, 2, narrow.as_slice(), MOST_PENALTY)?,
-        2_000_000_000_008
-    );
-    Ok(())
-}
-
-#[test]
-fn each_row_moves_the_rows_before_it(rt: HostRuntime) -> Result<(), Fail> {
-    let alloc = rt.alloc();
-    let amounts = [
-        Some(2),
-        Some(3),
-        None,
-        None,
-        Some(1),
-        Some(4),
-        Some(6),
-        None,
-        Some(1),
-        Some(5),
-        Some(7),
-        Some(9),
-        Some(2),
-        None,
-        None,
-        Some(11),
-    ];
-    assert_eq!(rt; least_cost(alloc, 4, 4, amounts.as_slice(), 100)?, 20);
-    assert_eq!(rt; least_cost(alloc, 4, 4, amounts.as_slice(), 8)?, 18);
+fn expect_case(rt: &impl Abort, alloc: Global, case: &Case) -> Result<(), NoMemory> {
+    assert!(rt; case.rows < 10 && case.columns < 100 && case.penalty <= MOST_PENALTY);
+    let cost = least_cost(alloc, case.rows, case.columns, case.amounts, case.penalty)?;
+    assert!(rt; cost == case.cost, "{cost}, and not {}", case.cost);
     Ok(())
 }
 
@@ -143,13 +196,22 @@ fn write_products(grid: &mut Grid, row: u32)
     }
 }
 
-#[test]
-fn a_grid_of_products(rt: HostRuntime) -> Result<(), Fail> {
-    let mut grid = Grid::new(rt.alloc(), 8, 30)?;
+// The cost of a least pairing of products.
+fn cost_of_products(alloc: Global) -> Result<u64, NoMemory> {
+    let mut grid = Grid::new(alloc, 8, 30)?;
     for row in 0..8 {
         write_products(&mut grid, row);
     }
-    let paired = solve_grid(rt.alloc(), &grid, MOST_PENALTY)?;
-    assert_eq!(rt; cost(&grid, MOST_PENALTY, &paired), 120);
+    let paired = solve_grid(alloc, &grid, MOST_PENALTY)?;
+    Ok(cost(&grid, MOST_PENALTY, &paired))
+}
+
+#[test]
+fn pairings_are_least(rt: HostRuntime) -> Result<(), Fail> {
+    for case in &CASES {
+        expect_case(&rt, rt.alloc(), case)?;
+    }
+    let cost = cost_of_products(rt.alloc())?;
+    assert!(rt; cost == 120, "{cost}");
     Ok(())
 }

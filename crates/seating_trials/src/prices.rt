@@ -158,37 +158,35 @@ fn costs<G: Gate>(
 // Ride 8 from the vehicle at node 1: 180 + 60, and 180; from the one at node 4: 60, and none.
 const BY_HAND: [Option<u64>; 4] = [Some(300), Some(480), Some(600), Some(60)];
 
-#[test]
-fn one_worker_prices_all_pairs(rt: HostRuntime) -> Result<(), Fail> {
-    let found = costs(&rt, rt.alloc(), (SEVEN, EIGHT), true, 1, &OpenGate)?;
-    assert_eq!(rt; found, BY_HAND);
-    Ok(())
-}
-
-#[test]
-fn two_workers_and_three_price_the_same(rt: HostRuntime) -> Result<(), Fail> {
-    let found = costs(&rt, rt.alloc(), (SEVEN, EIGHT), true, 2, &OpenGate)?;
-    assert_eq!(rt; found, BY_HAND);
-    let found = costs(&rt, rt.alloc(), (SEVEN, EIGHT), true, 3, &OpenGate)?;
-    assert_eq!(rt; found, BY_HAND);
-    Ok(())
-}
-
-#[test]
-fn a_vehicle_off_duty_has_no_offer(rt: HostRuntime) -> Result<(), Fail> {
-    let found = costs(&rt, rt.alloc(), (SEVEN, EIGHT), false, 2, &OpenGate)?;
-    assert_eq!(rt; found, [Some(300), None, Some(600), None]);
-    Ok(())
-}
-
-#[test]
-fn a_limit_is_kept_to_the_second(rt: HostRuntime) -> Result<(), Fail> {
+// The costs of both requests, priced in six ways.
+fn priced(rt: &(impl Threads + Sync), alloc: Global) -> Result<[[Option<u64>; 4]; 6], NoMemory> {
     let late = ride!(7, 2, 4, 59);
-    let found = costs(&rt, rt.alloc(), (late, EIGHT), true, 2, &OpenGate)?;
-    assert_eq!(rt; found, [None, None, Some(600), Some(60)]);
     let soon = ride!(7, 2, 4, 60);
-    let found = costs(&rt, rt.alloc(), (soon, EIGHT), true, 2, &OpenGate)?;
-    assert_eq!(rt; found, [Some(300), None, Some(600), Some(60)]);
+    Ok([
+        costs(rt, alloc, (SEVEN, EIGHT), true, 1, &OpenGate)?,
+        costs(rt, alloc, (SEVEN, EIGHT), true, 2, &OpenGate)?,
+        costs(rt, alloc, (SEVEN, EIGHT), true, 3, &OpenGate)?,
+        costs(rt, alloc, (SEVEN, EIGHT), false, 2, &OpenGate)?,
+        costs(rt, alloc, (late, EIGHT), true, 2, &OpenGate)?,
+        costs(rt, alloc, (soon, EIGHT), true, 2, &OpenGate)?,
+    ])
+}
+
+#[test]
+fn all_pairs_are_priced_by_any_number_of_workers(rt: HostRuntime) -> Result<(), Fail> {
+    let wanted = [
+        // One worker, two and three price the same.
+        BY_HAND,
+        BY_HAND,
+        BY_HAND,
+        // A vehicle off duty has no offer.
+        [Some(300), None, Some(600), None],
+        // A limit is kept to the second.
+        [None, None, Some(600), Some(60)],
+        [Some(300), None, Some(600), Some(60)],
+    ];
+    let found = priced(&rt, rt.alloc())?;
+    assert!(rt; found == wanted, "{found:?}");
     Ok(())
 }
 
@@ -210,16 +208,26 @@ impl Gate for CountingGate {
     }
 }
 
+// How often the gate is passed at place 7, and how often elsewhere.
+fn passes(rt: &(impl Threads + Sync), alloc: Global, workers: usize) -> Result<(u64, u64), NoMemory>
+    requires { 1 ≤ workers }
+{
+    let gate = CountingGate {
+        before_rows: AtomicU64::new(0),
+        elsewhere: AtomicU64::new(0),
+    };
+    costs(rt, alloc, (SEVEN, EIGHT), true, workers, &gate)?;
+    Ok((
+        gate.before_rows.load(Ordering::SeqCst),
+        gate.elsewhere.load(Ordering::SeqCst),
+    ))
+}
+
 #[test]
 fn each_request_passes_the_gate_once(rt: HostRuntime) -> Result<(), Fail> {
     for workers in 1..3 {
-        let gate = CountingGate {
-            before_rows: AtomicU64::new(0),
-            elsewhere: AtomicU64::new(0),
-        };
-        costs(&rt, rt.alloc(), (SEVEN, EIGHT), true, workers, &gate)?;
-        assert_eq!(rt; gate.before_rows.load(Ordering::SeqCst), 2);
-        assert_eq!(rt; gate.elsewhere.load(Ordering::SeqCst), 0);
+        let passes = passes(&rt, rt.alloc(), workers)?;
+        assert!(rt; passes == (2, 0), "{passes:?}");
     }
     Ok(())
 }

@@ -142,8 +142,10 @@ fn expect(
     ensures { pricer.new ≡ pricer.old }
 {
     let (kept, fresh) = costs(rt, alloc, pricer, time, plan, more)?;
-    assert_eq!(rt; kept, wanted, "at {time}");
-    assert_eq!(rt; fresh, wanted, "at {time}");
+    assert!(rt;
+        (kept, fresh) == (wanted, wanted),
+        "{kept:?} and {fresh:?} at {time}"
+    );
     Ok(())
 }
 

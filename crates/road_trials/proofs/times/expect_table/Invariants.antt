@@ -1,8 +1,0 @@
-use Rattle.std.proofs.Common.{◌≡◌, length}
-use Rattle.road_trials.proofs.times.expect_table.Given as goal
-
-abbrev pub invariant-loop-place : goal.invariant-loop-place
-invariant-loop-place g l = record {
-  scratch : l.scratch ≡ l.initial.scratch;
-  places : length l.row.items ≡ length l.initial.row.items;
-}
