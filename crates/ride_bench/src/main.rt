@@ -21,23 +21,27 @@ use std::rt::{Clock, Env, Files};
 use std::sync::Wait;
 use std::thread::Threads;
 
-fn run<R: Clock + Print + Env + Files + Threads + Wait + Sync + AllocGlobal>(
+/// Prints the answers of small ones.
+fn small<R: Clock + Print + Threads + Wait + Sync>(rt: &R, alloc: Global) -> Result<()> {
+    rows::small(rt, alloc)?;
+    hierarchies::small(rt, alloc)?;
+    assignment::product(rt, alloc)?;
+    places::small(rt)?;
+    shared::small(rt, alloc)?;
+    bookings::small(rt, alloc)
+}
+
+/// Times what a word asks for.
+fn timed<R: Clock + Print + Files + Threads + Wait + Sync + AllocGlobal>(
     rt: &R,
     alloc: Global,
+    word: &str,
+    name: Option<String>,
 ) -> Result<()>
 where
     R::File: Send,
 {
-    let mut words = env::args(rt)?.skip(1);
-    let Some(word) = words.next() else {
-        rows::small(rt, alloc)?;
-        hierarchies::small(rt, alloc)?;
-        assignment::product(rt, alloc)?;
-        places::small(rt)?;
-        shared::small(rt, alloc)?;
-        return bookings::small(rt, alloc);
-    };
-    match (word.as_str(), words.next()) {
+    match (word, name) {
         ("bookings", None) => bookings::bookings(rt, alloc),
         ("hierarchy", Some(map)) => hierarchies::hierarchy(rt, alloc, map.as_str()),
         ("grids", None) => assignment::grids(rt, alloc),
@@ -49,6 +53,21 @@ where
             "bookings, grids, hierarchy and a map, new_york, places, shared, or read_map and a file's name"
         ),
     }
+}
+
+fn run<R: Clock + Print + Env + Files + Threads + Wait + Sync + AllocGlobal>(
+    rt: &R,
+    alloc: Global,
+) -> Result<()>
+where
+    R::File: Send,
+{
+    let mut words = env::args(rt)?.skip(1);
+    let Some(word) = words.next() else {
+        return small(rt, alloc);
+    };
+    let name = words.next();
+    timed(rt, alloc, word.as_str(), name)
 }
 
 fn main(rt: HostRuntime) -> Result<()> {

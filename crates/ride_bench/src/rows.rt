@@ -45,38 +45,69 @@ fn print_row(rt: &impl Print, source: u32, row: &[Option<u64>]) -> std::io::Resu
     println!(rt; "from {source} reached {reached} sum {sum}")
 }
 
+/// Fills the row of a node and prints what it holds. Gives the microseconds that the search took.
+fn time_row(
+    rt: &(impl Clock + Print),
+    roads: &Roads,
+    scratch: &mut Scratch,
+    source: u32,
+    wanted: &[u32],
+    row: &mut [Option<u64>],
+) -> Result<u128>
+    requires scratch { scratch.old.nodes ≡ roads.now.nodes }
+    requires source { IsPlace roads.now.nodes source }
+    requires wanted { All (IsPlace roads.now.nodes) wanted.now }
+    requires places { length row.old ≡ length wanted.now }
+    ensures scratch { scratch.new ≡ scratch.old }
+    ensures places { length row.new ≡ length row.old }
+{
+    let start = Instant::now(rt)?;
+    roads.rows(scratch, source, Side::Out, wanted, row);
+    let micros = start.elapsed(rt)?.as_micros();
+    print_row(rt, source, row)?;
+    Ok(micros)
+}
+
 /// Fills the rows of so many nodes, and gives the microseconds that the searches took together.
-fn time_rows(rt: &(impl Clock + Print), alloc: Global, grid: Grid, turns: u32) -> Result<u128>
-    requires nodes { (1 ≤ grid.nodes) × (grid.nodes ≤ 500000) }
-    requires width { (1 ≤ grid.width) × (grid.width ≤ 500000) }
+fn time_rows(rt: &(impl Clock + Print), alloc: Global, roads: &Roads, turns: u32) -> Result<u128>
+    requires nodes { (1 ≤ roads.now.nodes) × (roads.now.nodes ≤ 500000) }
     requires turns { (1 ≤ turns) × (turns ≤ 40) }
 {
-    let map = generate(alloc, grid)?;
-    println!(rt; "nodes {} arcs {}", map.nodes(), map.arcs().len())?;
-    let roads = Roads::new(alloc, &map)?;
-    let mut scratch = Scratch::new(alloc, &roads)?;
-    let wanted = all_nodes(alloc, grid.nodes)?;
+    let nodes = roads.nodes();
+    let mut scratch = Scratch::new(alloc, roads)?;
+    let wanted = all_nodes(alloc, nodes)?;
     let mut row = vec![in alloc; None; wanted.len()]?;
     let mut total = 0u128;
     for turn in 0..turns {
-        let source = 1 + turn * (grid.nodes / turns);
-        let start = Instant::now(rt)?;
-        roads.rows(&mut scratch, source, Side::Out, &wanted, &mut row);
-        total = total.wrapping_add(start.elapsed(rt)?.as_micros());
-        print_row(rt, source, &row)?;
+        let source = 1 + turn * (nodes / turns);
+        let micros = time_row(rt, roads, &mut scratch, source, &wanted, &mut row)?;
+        total = total.wrapping_add(micros);
     }
     Ok(total)
 }
 
+/// The roads of a generated map, whose size is printed.
+fn roads_of(rt: &impl Print, alloc: Global, grid: Grid) -> Result<Roads>
+    requires nodes { (1 ≤ grid.nodes) × (grid.nodes ≤ 500000) }
+    requires width { (1 ≤ grid.width) × (grid.width ≤ 500000) }
+    ensures nodes { IfOk result (λ roads. roads.nodes ≡ grid.nodes) }
+{
+    let map = generate(alloc, grid)?;
+    println!(rt; "nodes {} arcs {}", map.nodes(), map.arcs().len())?;
+    Ok(Roads::new(alloc, &map)?)
+}
+
 /// Prints the rows of a small map.
 pub fn small(rt: &(impl Clock + Print), alloc: Global) -> Result<()> {
-    time_rows(rt, alloc, SMALL, 4)?;
+    let roads = roads_of(rt, alloc, SMALL)?;
+    time_rows(rt, alloc, &roads, 4)?;
     Ok(())
 }
 
 /// Times rows of a map of New York's size.
 pub fn new_york(rt: &(impl Clock + Print), alloc: Global) -> Result<()> {
-    let total = time_rows(rt, alloc, NEW_YORK, 30)?;
+    let roads = roads_of(rt, alloc, NEW_YORK)?;
+    let total = time_rows(rt, alloc, &roads, 30)?;
     println!(rt; "mean of 30 rows: {} microseconds", total / 30)?;
     Ok(())
 }
