@@ -8,7 +8,7 @@ use Rattle.ride_model.specs.declared.vehicle.Ride.{Ride}
 use Rattle.ride_model.specs.Road.{RoadMap, IsRoadMap}
 use Rattle.ride_model.specs.Text.{IsSpelled, IsSpelledCommand}
 use Rattle.ride_model.specs.Vehicle.{IsRide, ride_ids}
-use Rattle.plain_lemmas.proofs.Among.{contains_from_among}
+use Rattle.plain_lemmas.proofs.Among.{among_from_contains, contains_from_among}
 use Rattle.plain_lemmas.proofs.Each.{of_all, all_of}
 use Rattle.board_core.specs.Recorded.{Recorded, state_of}
 use Rattle.fleet_league.specs.declared.briefs.Brief.{Brief}
@@ -18,11 +18,15 @@ use Rattle.fleet_league.specs.Prices.{IsNewRide}
 use Rattle.fleet_league.specs.Companies.{CompanyState, IsCompany, IsIdle}
 use Rattle.fleet_league.specs.Awards.{won_rides, request_of, AreOfOneState}
 use Rattle.fleet_league.specs.Awarding.{MayConfirm}
-use Rattle.fleet_league.specs.LeagueBoards.{MayWin}
-use Rattle.fleet_league.proofs.AwardedMembers.{won-each}
+use Rattle.fleet_league.specs.Winning.{MayWin}
 use Rattle.fleet_league.proofs.Legality.{IsLegalBoard, board-roads, board-settings}
 use Rattle.fleet_league.proofs.QuotedState.{Stands, certified-now}
 use Rattle.fleet_league.proofs.Reports.{few-fed}
+
+-- what holds of rides holds of those that are won
+pub won-each : (P : Ride → Type 0) (rides won : List Ride) → All P rides → All (Contains rides) won → All P won
+won-each P rides won each of_them =
+    all_of P won (λ ride there. of_all P rides ride each (among_from_contains rides ride (of_all (Contains rides) won ride of_them there)))
 
 -- the request of a ride of the map has a text
 pub ride-spelled : (roads : RoadMap) (log : ℕ) (ride : Ride) → IsRoadMap roads → IsRide roads ride → IsSpelled ride.id

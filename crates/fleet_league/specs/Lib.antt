@@ -3,13 +3,7 @@ pub mod Quoting
 pub mod Companies
 pub mod Awards
 pub mod Awarding
+pub mod Winning
 pub mod Filling
 pub mod Restriction
 pub mod Round
-pub mod Feed
-pub mod LeagueTexts
-pub mod RoundParts
-pub mod League
-pub mod LeagueBoards
-pub mod Leagued
-pub mod LeagueRuns

@@ -8,7 +8,7 @@ ghost use Rattle.ride_model.specs.Limits.{most_batches, most_requests};
 ghost use Rattle.batch_commit.specs.Table.{IsTableOf};
 ghost use Rattle.board_core.specs.Recorded.{state_of};
 ghost use Rattle.fleet_league.specs.declared.briefs.Settled.TheVariants.{Confirmed};
-ghost use Rattle.fleet_league.specs.LeagueBoards.{MayWin};
+ghost use Rattle.fleet_league.specs.Winning.{MayWin};
 ghost use Rattle.fleet_league.specs.Prices.{IsNewRide};
 ghost use Rattle.fleet_league.specs.Quoting.{quoting_batch};
 ghost use Rattle.fleet_league.specs.Awards.{won_rides, AreOfOneState, first_moved, moved_answer, settled_at, AddsAward, AddsPart};
@@ -76,7 +76,7 @@ impl<'r> Company<'r> {
     }
 
     /// The same for a brief over the vehicles as they stand, by the table of the rides of its wins.
-    pub(crate) fn award_priced(&mut self, table: PriceTable, brief: &Brief) -> Result<(), NoMemory>
+    pub fn award_priced(&mut self, table: PriceTable, brief: &Brief) -> Result<(), NoMemory>
         requires may { (rides : List Ride) × MayWin self.old rides brief.now }
         requires table { IsTableOf self.old.board.start.roads
             (quoting_batch (state_of self.old.board) (won_rides brief.now.wins)) table }

@@ -5,7 +5,6 @@
 mod asking;
 mod awards;
 mod briefs;
-mod broker;
 mod company;
 mod confirming;
 pub mod laws;
@@ -17,8 +16,9 @@ mod unions;
 mod won_tables;
 
 pub use briefs::{Brief, Settled, Win, WinList};
-pub use broker::{league, part_of};
 pub use company::Company;
 pub use quotes::{PriceRows, Quote};
+pub use quoting::PricedQuote;
 pub use ride_model::NoMemory;
 pub use rounds::settle;
+pub use won_tables::table_of_won;

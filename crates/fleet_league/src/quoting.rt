@@ -25,9 +25,9 @@ use std::thread::Threads;
 
 /// A quote with the table that its prices are of.
 #[derive(Debug, Drop)]
-pub(crate) struct PricedQuote {
-    pub(crate) quote: Quote,
-    pub(crate) table: PriceTable,
+pub struct PricedQuote {
+    pub quote: Quote,
+    pub table: PriceTable,
 }
 
 impl<'r> Company<'r> {
@@ -55,7 +55,7 @@ impl<'r> Company<'r> {
     }
 
     /// The same by a pricer, with the table of the rides.
-    pub(crate) fn quote_adapting<R: Threads + Sync>(
+    pub fn quote_adapting<R: Threads + Sync>(
         &self,
         rt: &R,
         pricer: &mut Pricer<'_>,

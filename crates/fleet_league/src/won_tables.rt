@@ -16,7 +16,7 @@ use ride_model::{NoMemory, Offer, Ride};
 use std::alloc::Global;
 
 /// The table of the rides of wins, whose rows are copied from a table of rides that they are of.
-pub(crate) fn table_of_won(
+pub fn table_of_won(
     alloc: Global,
     table: &PriceTable,
     vehicles: u32,

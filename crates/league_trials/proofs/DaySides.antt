@@ -21,7 +21,7 @@ use Rattle.board_core.proofs.OpenBatches.{fed-le}
 use Rattle.city_maker.specs.Fleets.{default_settings}
 use Rattle.fleet_league.specs.Awards.{request_of}
 use Rattle.fleet_league.specs.Companies.{CompanyState, is_report, report_count}
-use Rattle.fleet_league.specs.LeagueBoards.{MayPlay}
+use Rattle.fleet_league.specs.Winning.{MayPlay}
 use Rattle.fleet_league.specs.Prices.{IsNewRide}
 use Rattle.fleet_league.proofs.Legality.{IsLegalBoard, board-roads, sure}
 use Rattle.fleet_league.proofs.MayAward.{ride-spelled}

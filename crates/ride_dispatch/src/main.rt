@@ -1,22 +1,9 @@
 //! The dispatcher's program: it reads the words after its name, and ends with the status of `run`.
 #![tactic(auto)]
 
-mod answering;
-mod auditing;
-mod booking;
-mod drilling;
-mod files;
-mod leaguing;
 mod messages;
-mod refusals;
-mod replaying;
-mod serving;
-mod stop;
-#[cfg(test)]
-mod tests;
-mod top;
-mod words;
 
+use dispatcher::{WORDS_REFUSED, run};
 use messages::Report;
 use ride_ports::{FileShelf, OpenGate, Sink, StdoutSink, write_all};
 use std::env::{self, Env};
@@ -30,7 +17,7 @@ fn main(rt: HostRuntime) -> ExitCode {
         Err(error) => return ExitCode::from(status_without_words(&error, &mut out)),
     };
     let mut shelf = FileShelf::new(&rt);
-    let status = top::run(
+    let status = run(
         &rt,
         rt.alloc(),
         words.as_slice(),
@@ -63,6 +50,6 @@ fn status_without_words<K: Sink>(error: &io::Error, out: &mut K) -> u8 {
     if error.kind() != io::ErrorKind::InvalidData {
         return 1;
     }
-    let _ = write_all(out, top::WORDS_REFUSED);
+    let _ = write_all(out, WORDS_REFUSED);
     2
 }

@@ -28,7 +28,7 @@ use Rattle.history_laws.proofs.Leaving.{open_batch}
 use Rattle.board_core.specs.Recorded.{Recorded, end_entry}
 use Rattle.fleet_board.specs.Passes.{Known, actor_of}
 use Rattle.fleet_board.specs.Sets.{IsPartOf, newcomer}
-use Rattle.session_run.specs.Loops.{RunsDesk}
+use Rattle.session_loops.specs.Loops.{RunsDesk}
 use Rattle.session_run.proofs.FeedParts.{ends-whole}
 
 -- a desk ended whole and gave no batch up

@@ -21,9 +21,8 @@ use Rattle.history_laws.specs.Finishing.{has_whole_end, is_whole_end}
 use Rattle.board_core.specs.Recorded.{Recorded, end_entry}
 use Rattle.fleet_board.specs.Passes.{Known, actor_of, commands_in}
 use Rattle.fleet_board.specs.Sets.{IsPartOf, newcomer}
-use Rattle.session_run.specs.Loops.{HasFed, RunsFeed}
-use Rattle.session_run.specs.Reading.{AreFirstOf}
-use Rattle.session_run.specs.Replay.{IsReadWhole}
+use Rattle.session_loops.specs.Loops.{HasFed, RunsFeed}
+use Rattle.session_loops.specs.Stops.{AreFirstOf, IsReadWhole}
 use Rattle.session_run.specs.Serving.{FeedRun, IsFeedOf}
 
 -- a feed was read whole, or something of it kept it from that

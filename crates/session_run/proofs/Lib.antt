@@ -1,9 +1,7 @@
-pub mod LogLemmas
 pub mod Settling
 pub mod OneMoreEntry
 pub mod Opening
 pub mod Answering
-pub mod FeedRuns
 pub mod Ends
 pub mod CommitSheets
 pub mod ToldSheets
@@ -16,10 +14,6 @@ pub mod Replays
 pub mod WrittenSessions
 pub mod Begun
 pub mod NothingLeft
-pub mod MadeEntries
-pub mod FeedEnds
-pub mod BatchRuns
-pub mod Scribing
 pub mod FeedParts
 pub mod DeskParts
 pub mod Sessions

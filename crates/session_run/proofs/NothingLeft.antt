@@ -3,9 +3,10 @@ use Rattle.std.proofs.Common.{◌≡◌, ℕ, Bool, false, List, [], sym, ◌∙
 use Rattle.std.specs.Prelude.{Option, Some, None, IfSome}
 use Rattle.command_lines.specs.declared.pieces.FeedStop.TheVariants.{SourceFailed, TooLong}
 use Rattle.board_core.specs.Recorded.{Recorded}
-use Rattle.session_run.specs.declared.stops.Stop.{Stop}
-use Rattle.session_run.specs.declared.stops.Stop.TheVariants.{NoMemory, OfFeed}
-use Rattle.session_run.specs.Reading.{HasEnded, is_source_failed, is_too_long}
+use Rattle.session_loops.specs.declared.stops.Stop.{Stop}
+use Rattle.session_loops.specs.declared.stops.Stop.TheVariants.{NoMemory, OfFeed}
+use Rattle.session_loops.specs.Stops.{is_source_failed, is_too_long}
+use Rattle.session_run.specs.Reading.{HasEnded}
 
 -- where neither memory nor the source was wanting, and the feed was not too long, nothing is left of it
 pub nothing-left : (log : ℕ) (left : Option (List ℕ)) (stop : Option Stop) (board : Recorded) (no_memory : Bool) (taken : List ℕ) → no_memory ≡ false

@@ -29,11 +29,12 @@ use Rattle.board_core.proofs.OpenBatches.{state-push}
 use Rattle.board_core.proofs.FedEntries.{fed_commands-append}
 use Rattle.text_page.specs.Output.{HasPut, OutputState}
 use Rattle.text_page.proofs.OutputLemmas.{written-prefix, written-whole}
-use Rattle.session_run.specs.declared.stops.Stop.{Stop}
-use Rattle.session_run.specs.declared.stops.Stop.TheVariants.{NoMemory, OfFeed}
+use Rattle.session_loops.specs.declared.stops.Stop.{Stop}
+use Rattle.session_loops.specs.declared.stops.Stop.TheVariants.{NoMemory, OfFeed}
 use Rattle.session_run.specs.Logged.{IsLogged}
-use Rattle.session_run.specs.Reading.{AreFirstOf, HasEnded, ending_of, is_source_failed, is_too_long}
-use Rattle.session_run.specs.Replay.{IsReadWhole, IsReplay}
+use Rattle.session_loops.specs.Stops.{AreFirstOf, IsReadWhole, ending_of, is_source_failed, is_too_long}
+use Rattle.session_run.specs.Reading.{HasEnded}
+use Rattle.session_run.specs.Replay.{IsReplay}
 use Rattle.session_run.specs.Running.{IsPrompt, IsSession, IsRunning}
 use Rattle.session_run.specs.Settled.{IsSettled}
 use Rattle.session_run.proofs.Ends.{ends-prompt}

@@ -8,9 +8,9 @@ use Rattle.ride_ports.specs.Bytes.{WritesPrefix}
 use Rattle.ride_ports.specs.Count.{Rose}
 use Rattle.ride_ports.specs.declared.sources.Failed.{Failed}
 use Rattle.text_page.proofs.OutputLemmas.{put-failed, put-line, put-line_failed}
-use Rattle.session_run.specs.declared.live.scribes.Scribed.{Scribed}
+use Rattle.session_loops.specs.declared.scribes.Scribed.{Scribed}
 use Rattle.session_run.specs.Actors.{HasToldSome, bare}
-use Rattle.session_run.specs.Loops.{HasScribed, HasScribedSome}
+use Rattle.session_loops.specs.Loops.{HasScribed, HasScribedSome}
 
 -- so many entries were logged, and whether the sink took the head
 pub record Told (log : ℕ) (head_failed : Bool) (before after : Option (List ℕ)) (faults m : ℕ) (scribed : Result Scribed Failed) (seen : List Entry)

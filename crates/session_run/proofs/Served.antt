@@ -20,10 +20,10 @@ use Rattle.fleet_board.specs.Turns.{as_began}
 use Rattle.text_page.specs.Output.{HasPut, OutputState}
 use Rattle.session_run.specs.declared.live.actors.Actors.{Actors}
 use Rattle.session_run.specs.declared.live.actors.Answers.{Answers}
-use Rattle.session_run.specs.declared.live.scribes.Scribed.{Scribed}
+use Rattle.session_loops.specs.declared.scribes.Scribed.{Scribed}
 use Rattle.session_run.specs.declared.live.stages.Stage.{Stage}
 use Rattle.session_run.specs.Actors.{bare}
-use Rattle.session_run.specs.Replay.{IsReadWhole}
+use Rattle.session_loops.specs.Stops.{IsReadWhole}
 use Rattle.session_run.specs.Serving.{FeedRun, HasServed, IsFeedOf, IsServed, IsWrittenOut}
 use Rattle.session_run.specs.Stages.{IsClosed, IsReady, LeavesActors, is_cut_short, ran_of, root_at}
 use Rattle.session_run.proofs.FeedParts.{FeedOf}

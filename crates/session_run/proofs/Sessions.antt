@@ -17,10 +17,10 @@ use Rattle.history_laws.proofs.Finished.{whole-finished}
 use Rattle.history_laws.proofs.KeptHistory.{keeps_promises}
 use Rattle.text_page.specs.Output.{HasPut, OutputState}
 use Rattle.text_page.proofs.OutputLemmas.{written-prefix, written-whole}
-use Rattle.session_run.specs.Replay.{IsReadWhole}
+use Rattle.session_loops.specs.Stops.{IsReadWhole}
 use Rattle.session_run.specs.Serving.{HasServed, IsWrittenOut}
 use Rattle.session_run.proofs.DeskParts.{DeskWhole, none-given_up, part-whole}
-use Rattle.session_run.proofs.LogLemmas.{text_of-append}
+use Rattle.session_loops.proofs.LogLemmas.{text_of-append}
 
 -- one of at most two is the first or the second
 pub first-or-second : (P : ℕ → Type 0) (n : ℕ) → P 1 → P 2 → 1 ≤ n → n ≤ 2 → P n

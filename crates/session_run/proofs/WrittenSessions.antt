@@ -12,12 +12,13 @@ use Rattle.idle_moves.specs.declared.moves.MoveSheet.{MoveSheet}
 use Rattle.idle_moves.specs.AheadText.{ahead_text}
 use Rattle.idle_moves.specs.HistorySheets.{AreSheetsOf}
 use Rattle.text_page.specs.Output.{HasPut}
-use Rattle.session_run.specs.declared.stops.Stop.{Stop}
-use Rattle.session_run.specs.declared.stops.Stop.TheVariants.{NoMemory, OfFeed}
+use Rattle.session_loops.specs.declared.stops.Stop.{Stop}
+use Rattle.session_loops.specs.declared.stops.Stop.TheVariants.{NoMemory, OfFeed}
 use Rattle.session_run.specs.Ahead.{IsWrittenBy, feed_ending, sheets_text}
 use Rattle.session_run.specs.Logged.{IsLogged}
 use Rattle.session_run.specs.SessionState.{SessionState}
-use Rattle.session_run.specs.Reading.{HasEnded, HasToldAll, HasToldAllBy, ending_of, is_source_failed, is_too_long}
+use Rattle.session_loops.specs.Stops.{ending_of, is_source_failed, is_too_long}
+use Rattle.session_run.specs.Reading.{HasEnded, HasToldAll, HasToldAllBy}
 use Rattle.session_run.proofs.Replays.{is-logged}
 
 -- how a feed ended, by what stopped it

@@ -18,8 +18,8 @@ use Rattle.fleet_board.specs.Passes.{AddsNone, IsPoint, commands_in, root_of}
 use Rattle.fleet_board.specs.Roles.{MayFeed, MayOpen}
 use Rattle.fleet_board.specs.Sharing.{MayUse}
 use Rattle.text_page.specs.Output.{HasPut, OutputState}
-use Rattle.session_run.specs.declared.live.scribes.Scribed.{Scribed}
-use Rattle.session_run.specs.Loops.{RunsDesk, RunsFeed}
+use Rattle.session_loops.specs.declared.scribes.Scribed.{Scribed}
+use Rattle.session_loops.specs.Loops.{RunsDesk, RunsFeed}
 use Rattle.session_run.specs.Serving.{FeedRun}
 
 -- what kept either of two from running whole

@@ -7,9 +7,7 @@ pub mod Planning
 pub mod Ahead
 pub mod Reading
 pub mod Telling
-pub mod Loops
 pub mod Serving
 pub mod Drills
-pub mod Making
 pub mod Actors
 pub mod Stages

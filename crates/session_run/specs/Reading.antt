@@ -1,32 +1,23 @@
 -- What a session has answered of its feed.
-use Rattle.std.specs.Prelude.{◌≡◌, ℕ, ◌++◌, Bool, true, false, List, Option, Some, None, IfSome, MatchOption}
+use Rattle.std.specs.Prelude.{◌≡◌, ℕ, ◌++◌, Bool, true, false, List, Option, Some, None, MatchOption}
 use mathlib.Core.List.{IsPrefix}
-use Rattle.ride_model.specs.declared.command.Command.{Command}
 use Rattle.ride_model.specs.declared.entry.Ending.{Ending}
-use Rattle.ride_model.specs.declared.entry.Ending.TheVariants.{Whole, Cut}
 use Rattle.ride_model.specs.declared.entry.Entry.{Entry}
 use Rattle.ride_model.specs.History.{fed_commands}
 use Rattle.ride_model.specs.Text.{text_of}
 use Rattle.ride_ports.specs.Bytes.{Reads}
-use Rattle.command_lines.specs.declared.pieces.FeedStop.TheVariants.{SourceFailed, TooLong}
-use Rattle.command_lines.specs.Commands.{commands_of}
 use Rattle.command_lines.specs.Feeds.{IsStopped, IsWhole}
-use Rattle.command_lines.specs.Limits.{AreFirst}
 use Rattle.board_core.specs.Recorded.{Recorded}
 use Rattle.idle_moves.specs.declared.moves.MoveSheet.{MoveSheet}
 use Rattle.idle_moves.specs.AheadText.{head_line, sheet_lines}
 use Rattle.idle_moves.specs.HistorySheets.{AreSheetsOf}
 use Rattle.text_page.specs.Output.{HasPut, OutputState}
-use Rattle.session_run.specs.declared.stops.Stop.{Stop}
-use Rattle.session_run.specs.declared.stops.Stop.TheVariants.{NoMemory, OfFeed}
+use Rattle.session_loops.specs.Stops.{AreFirstOf}
+use Rattle.session_loops.specs.declared.stops.Stop.{Stop}
+use Rattle.session_loops.specs.declared.stops.Stop.TheVariants.{NoMemory, OfFeed}
 use Rattle.session_run.specs.Ahead.{sheets_text}
 use Rattle.session_run.specs.SessionState.{SessionState}
 use Rattle.session_run.specs.Running.{IsPrompt, IsSession, IsRunning}
-
--- these commands are the first that a feed gives of the bytes that were taken, and of all its bytes, where they are told
-pub record AreFirstOf (log : ℕ) (feed : Option (List ℕ)) (taken : List ℕ) (commands : List Command) : Type 0 where
-  pub of_taken : AreFirst commands (commands_of log taken)
-  pub of_feed : IfSome feed (λ bytes. AreFirst commands (commands_of log bytes))
 
 -- why a session's feed was stopped after these bytes: memory was wanting, or the feed gave no more
 abbrev pub IsEnded : ℕ → Stop → Recorded → Bool → List ℕ → Type 0
@@ -80,21 +71,3 @@ HasToldAllBy (Some reach) ending earlier now faults_before faults_now s =
 
 abbrev pub HasToldAll : Ending → Option (List ℕ) → Option (List ℕ) → ℕ → ℕ → SessionState → Type 0
 HasToldAll ending earlier now faults_before faults_now s = HasToldAllBy s.reach ending earlier now faults_before faults_now s
-
--- whether a feed was stopped for want of memory, by its source, or by its length
-abbrev pub is_no_memory : Option Stop → Bool
-is_no_memory (Some NoMemory) = true
-is_no_memory _ = false
-
-abbrev pub is_source_failed : Option Stop → Bool
-is_source_failed (Some (OfFeed SourceFailed)) = true
-is_source_failed _ = false
-
-abbrev pub is_too_long : Option Stop → Bool
-is_too_long (Some (OfFeed TooLong)) = true
-is_too_long _ = false
-
--- how a feed ends that was stopped, or was not
-abbrev pub ending_of : Option Stop → Ending
-ending_of None = Whole
-ending_of (Some stop) = Cut

@@ -13,7 +13,7 @@ use Rattle.ride_ports.specs.declared.outcome.Ran.{Ran}
 use Rattle.command_lines.specs.Commands.{commands_of}
 use Rattle.command_lines.specs.Limits.{IsWithinLimits, IsTooLong, ended_commands}
 use Rattle.history_laws.specs.Start.{IsStart}
-use Rattle.session_run.specs.Reading.{AreFirstOf}
+use Rattle.session_loops.specs.Stops.{AreFirstOf, IsReadWhole}
 use Rattle.session_run.specs.Settled.{IsSettled}
 
 -- a feed within the limits was answered to its end, each accepted ask at once by a commit
@@ -29,10 +29,6 @@ pub record IsCut (start : State) (taken : List ℕ) (entries : List Entry) : Typ
   pub direct : IsDirect entries
   pub none_given_up : IsFalse (list_any (λ (entry : Entry). is_abandoned entry.event) entries)
   pub ended : (replay start entries).ended ≡ (Feed 1, Cut) ∷ (Desk 1, Whole) ∷ []
-
--- nothing kept the source from being read to its end
-abbrev pub IsReadWhole : Ran → Type 0
-IsReadWhole ran = (ran.source_failed ≡ false) × (ran.too_long ≡ false)
 
 -- a history of one feed and one desk answers the first commands of a feed, of whose bytes these were taken: all of them
 -- where nothing was wanting, those within the limits and before a fault where only the source was

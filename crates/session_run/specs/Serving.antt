@@ -17,9 +17,8 @@ use Rattle.command_lines.specs.Feeds.{IsWhole}
 use Rattle.command_lines.specs.Limits.{IsTooLong, ended_commands}
 use Rattle.history_laws.specs.Start.{IsStart}
 use Rattle.board_core.specs.Recorded.{end_entry}
-use Rattle.session_run.specs.Loops.{AreFed}
-use Rattle.session_run.specs.Reading.{AreFirstOf}
-use Rattle.session_run.specs.Replay.{IsReadWhole}
+use Rattle.session_loops.specs.Loops.{AreFed}
+use Rattle.session_loops.specs.Stops.{AreFirstOf, IsReadWhole}
 
 -- a feed of a session, before and after it: the bytes that its source has left, and the faults that it counts
 pub record FeedRun : Type 0 where

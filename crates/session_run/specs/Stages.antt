@@ -20,7 +20,7 @@ use Rattle.text_page.specs.Output.{IsFresh}
 use Rattle.session_run.specs.declared.live.actors.Actors.{Actors}
 use Rattle.session_run.specs.declared.live.actors.Answers.{Answers}
 use Rattle.session_run.specs.declared.live.desk_pairs.Desk.{Desk}
-use Rattle.session_run.specs.declared.live.scribes.Scribed.{Scribed}
+use Rattle.session_loops.specs.declared.scribes.Scribed.{Scribed}
 use Rattle.session_run.specs.declared.live.stages.Stage.{Stage}
 use Rattle.session_run.specs.Actors.{LeavesDesk, LeavesFeed, LeavesScribe, MayRunDesk, MayRunFeed, MayScribe, either}
 use Rattle.session_run.specs.Serving.{FeedRun}

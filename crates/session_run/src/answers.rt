@@ -9,9 +9,9 @@ ghost use Rattle.session_run.specs.Planning.{AddsSheets, is_whole, sheets_in};
 ghost use Rattle.session_run.specs.Running.{Answers, IsSession, Stops};
 
 use crate::batches::{Answered, run_batch};
-use crate::tools::DeskTools;
 use board_core::Board;
 use ride_model::{Command, NoMemory, Reply};
+use session_loops::DeskTools;
 use std::thread::Threads;
 
 /// Answers a command, and runs a batch after an accepted ask, for which moves of idle vehicles are planned where a reach is given.

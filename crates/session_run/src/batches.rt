@@ -9,11 +9,11 @@ ghost use Rattle.board_core.specs.Recorded.{committed_entry, state_of};
 ghost use Rattle.session_run.specs.Planning.{AddsSheets, CommitsPlanned, IsPlanned, is_whole, sheets_in};
 ghost use Rattle.session_run.specs.Running.{Closes, IsAsked, IsOpened, RunsBatch};
 
-use crate::tools::DeskTools;
 use batch_commit::{Batch, Solved};
 use board_core::{Board, Opening};
 use idle_moves::MoveSheet;
 use ride_model::NoMemory;
+use session_loops::DeskTools;
 use std::thread::Threads;
 
 /// What became of a command, and of the batch after an accepted ask.

@@ -15,8 +15,6 @@ mod reports;
 mod summary;
 mod walk;
 
-use crate::sharing::SessionRoads;
-use crate::tools::DeskTools;
 use adaptive_roads::SharedHierarchy;
 use board_core::Board;
 use city_maker::{City, CityPlan, make_city};
@@ -24,6 +22,7 @@ use pricing_workers::workers_at_hand;
 use ride_model::{Command, NoMemory};
 use ride_ports::{Ran, Sink, write_all};
 use road_times::Roads;
+use session_loops::{DeskTools, SessionRoads};
 use std::alloc::Global;
 use std::thread::Threads;
 use summary::summary_of;

@@ -13,19 +13,20 @@ ghost use Rattle.ride_ports.specs.Count.{Rose};
 ghost use Rattle.command_lines.specs.Feeds.{HasGiven};
 ghost use Rattle.text_page.specs.Output.{IsFresh};
 ghost use Rattle.session_run.specs.Ahead.{IsWrittenBy};
-ghost use Rattle.session_run.specs.Reading.{HasRun, HasTold, is_source_failed};
-ghost use Rattle.session_run.specs.Replay.{IsReadWhole, IsReplay};
+ghost use Rattle.session_loops.specs.Stops.{is_source_failed};
+ghost use Rattle.session_run.specs.Reading.{HasRun, HasTold};
+ghost use Rattle.session_loops.specs.Stops.{IsReadWhole};
+ghost use Rattle.session_run.specs.Replay.{IsReplay};
 ghost use Rattle.session_run.specs.Running.{IsRunning};
 
 use crate::session::Session;
-use crate::sharing::SessionRoads;
-use crate::stops::{Stop, ending_of, is_source_failed, is_too_long};
 use adaptive_roads::SharedHierarchy;
 use command_lines::FeedReader;
 use pricing_workers::workers_at_hand;
 use ride_model::{Fleet, NoMemory, Settings};
 use ride_ports::{Ran, Sink, Source};
 use road_times::Roads;
+use session_loops::{SessionRoads, Stop, ending_of, is_source_failed, is_too_long};
 use std::alloc::Global;
 use std::thread::Threads;
 

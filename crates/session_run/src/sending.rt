@@ -9,7 +9,8 @@ ghost use Rattle.ride_model.specs.Limits.{longest_reach};
 ghost use Rattle.ride_ports.specs.Bytes.{Reads};
 ghost use Rattle.ride_ports.specs.Count.{Rose};
 ghost use Rattle.session_run.specs.Ahead.{TellsAhead};
-ghost use Rattle.session_run.specs.Replay.{IsReadWhole, IsReplay};
+ghost use Rattle.session_loops.specs.Stops.{IsReadWhole};
+ghost use Rattle.session_run.specs.Replay.{IsReplay};
 
 use crate::one_feed::run_one_feed;
 use ride_model::{Fleet, Settings};

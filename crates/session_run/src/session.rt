@@ -21,12 +21,10 @@ ghost use Rattle.session_run.specs.Running.{IsRunning, IsSession, Stops};
 
 use crate::answers::answer;
 use crate::batches::Answered;
-use crate::logging::{put_all, put_end, put_head, put_reach, put_sheet};
-use crate::sharing::SessionRoads;
-use crate::tools::DeskTools;
 use board_core::Board;
 use ride_model::{Actor, Command, Ending, Entry, Fleet, NoMemory, Settings};
 use ride_ports::Sink;
+use session_loops::{DeskTools, SessionRoads, put_all, put_end, put_head, put_reach, put_sheet};
 use std::alloc::Global;
 use std::marker::Model;
 use std::thread::Threads;
@@ -59,7 +57,6 @@ impl<'r, 'q> Model for Session<'r, 'q> {
 }
 
 impl Drop for Session<'_, '_> {
-    // By calls, each proved once: a derived drop stands part by part in each function that lets a session go.
     fn drop(self) {
         let Session {
             board,

@@ -10,9 +10,9 @@ ghost use Rattle.session_run.specs.Drills.{GoesBy, IsDrilling};
 
 use super::reports::drive_all;
 use crate::answers::answer;
-use crate::tools::DeskTools;
 use board_core::Board;
 use ride_model::{Actor, Command, Ending, NoMemory};
+use session_loops::DeskTools;
 use std::alloc::AllocError;
 use std::thread::Threads;
 

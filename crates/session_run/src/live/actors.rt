@@ -10,11 +10,9 @@ ghost use Rattle.session_run.specs.Stages.{LeavesActors, MayRunActors};
 
 use super::desk_pairs::{Desk, run_desks};
 use super::feed_pairs::run_feeds;
-use super::scribe_loop;
-use super::scribes::Scribed;
-use crate::sharing::SessionRoads;
 use fleet_board::{ActorPass, SharedBoard};
 use ride_ports::{Failed, Gate, Ran, Sink, Source};
+use session_loops::{Scribed, SessionRoads, scribe_loop};
 use std::alloc::Global;
 use std::sync::Wait;
 use std::thread::{Threads, join_mut};

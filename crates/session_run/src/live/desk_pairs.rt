@@ -3,12 +3,11 @@ ghost use Rattle.std.specs.Prelude.{IsNone, IsSomeAnd, IfSome, MatchOption};
 ghost use Rattle.std.specs.Thread.{IsSync};
 ghost use Rattle.session_run.specs.Actors.{LeavesDesk, MayRunDesk};
 
-use super::desks::desk_loop_by;
 use super::outcomes::either;
-use crate::sharing::{DeskPricer, SessionRoads};
 use fleet_board::{ActorPass, SharedBoard};
 use ride_ports::{Gate, Ran};
 use road_times::Scratch;
+use session_loops::{DeskPricer, SessionRoads, desk_loop_by};
 use std::alloc::Global;
 use std::sync::Wait;
 use std::thread::{Threads, join_mut};

@@ -2,9 +2,9 @@
 ghost use Rattle.session_run.specs.Actors.{LeavesFeed, MayRunFeed};
 ghost use Rattle.session_run.specs.Serving.{feed_run};
 
-use super::feed_loop;
 use fleet_board::{ActorPass, SharedBoard};
 use ride_ports::{Gate, Ran, Source};
+use session_loops::feed_loop;
 use std::alloc::Global;
 use std::sync::Wait;
 use std::thread::{Threads, join_mut};

@@ -4,8 +4,8 @@ ghost use Rattle.session_run.specs.Actors.{either};
 ghost use Rattle.session_run.specs.Stages.{is_cut_short, ran_of};
 
 use super::actors::Answers;
-use super::scribes::Scribed;
 use ride_ports::{Failed, Ran};
+use session_loops::Scribed;
 
 /// What kept a session from running whole.
 pub(super) fn ran_of(answers: &Answers, sink_failed: bool) -> Ran

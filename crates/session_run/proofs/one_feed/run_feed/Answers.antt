@@ -4,7 +4,7 @@ use Rattle.ride_model.specs.History.{fed_commands}
 use Rattle.ride_ports.proofs.ByteLemmas.{Reads-then}
 use Rattle.command_lines.specs.Feeds.{HasGiven, IsStopped, IsWhole}
 use Rattle.command_lines.proofs.ReaderLemmas.{given-few}
-use Rattle.session_run.proofs.FeedRuns.{fewer-first, given-first-of, stopped-first-of, whole-first-of}
+use Rattle.session_loops.proofs.FeedRuns.{fewer-first, given-first-of, stopped-first-of, whole-first-of}
 use Rattle.session_run.proofs.Answering.{stops-first}
 use Rattle.session_run.proofs.one_feed.run_feed.Goals as goal
 

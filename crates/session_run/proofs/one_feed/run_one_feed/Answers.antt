@@ -9,10 +9,11 @@ use Rattle.ride_ports.specs.declared.outcome.Ran.{Ran}
 use Rattle.history_laws.specs.Start.{IsStart}
 use Rattle.board_core.specs.Recorded.{Recorded, state_of, end_entry}
 use Rattle.text_page.proofs.OutputLemmas.{rose-where-failed, same-where-sound}
-use Rattle.session_run.specs.declared.stops.Stop.{Stop}
+use Rattle.session_loops.specs.declared.stops.Stop.{Stop}
 use Rattle.command_lines.specs.Feeds.{HasGiven}
 use Rattle.session_run.specs.SessionState.{SessionState}
-use Rattle.session_run.specs.Reading.{AreFirstOf, HasEnded, ending_of}
+use Rattle.session_loops.specs.Stops.{AreFirstOf, ending_of}
+use Rattle.session_run.specs.Reading.{HasEnded}
 use Rattle.ride_ports.proofs.ByteLemmas.{Reads-none}
 use Rattle.session_run.proofs.Replays.{is-start, is-replay, no-replay}
 use Rattle.session_run.proofs.WrittenSessions.{feed-ends, logged-some, none-written, written-by}

@@ -4,7 +4,7 @@ use Rattle.ride_model.specs.declared.vehicle.Ride.{Ride}
 use Rattle.board_core.specs.Recorded.{Recorded, state_of}
 use Rattle.fleet_league.specs.declared.briefs.Settled.TheVariants.{Confirmed}
 use Rattle.fleet_league.specs.Companies.{CompanyState}
-use Rattle.fleet_league.specs.LeagueBoards.{MayWin}
+use Rattle.fleet_league.specs.Winning.{MayWin}
 use Rattle.fleet_league.specs.Prices.{IsNewRide}
 use Rattle.fleet_league.specs.Awards.{won_rides, AreOfOneState, settled_at}
 use Rattle.fleet_league.proofs.Legality.{IsLegalBoard}

@@ -5,9 +5,9 @@ use Rattle.ride_model.specs.Text.{IsSpelled, IsSpelledCommand}
 use Rattle.board_core.specs.Recorded.{state_of}
 use Rattle.fleet_league.specs.Awards.{request_of, won_rides}
 use Rattle.fleet_league.specs.Companies.{CompanyState}
-use Rattle.fleet_league.specs.LeagueBoards.{MayWin}
+use Rattle.fleet_league.specs.Winning.{MayWin}
 use Rattle.fleet_league.specs.Prices.{IsNewRide}
-use Rattle.fleet_league.proofs.AwardedMembers.{id-spelled, won-each}
+use Rattle.league_session.proofs.AwardedMembers.{id-spelled, won-each}
 use Rattle.league_trials.proofs.DaySides.{no-chairs}
 use Rattle.league_trials.proofs.sides.Side.award.Goals as goal
 

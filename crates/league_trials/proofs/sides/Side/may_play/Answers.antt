@@ -3,7 +3,7 @@ use Rattle.std.specs.Prelude.{All}
 use Rattle.ride_model.specs.Road.{RoadMap}
 use Rattle.board_core.specs.Recorded.{Recorded, state_of}
 use Rattle.fleet_league.specs.Companies.{CompanyState}
-use Rattle.fleet_league.specs.LeagueBoards.{MayPlay}
+use Rattle.fleet_league.specs.Winning.{MayPlay}
 use Rattle.fleet_league.proofs.Legality.{IsLegalBoard}
 use Rattle.league_trials.specs.Sides.{IsFreshRide}
 use Rattle.league_trials.proofs.DaySides.{may-play}

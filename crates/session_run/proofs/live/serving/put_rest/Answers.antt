@@ -6,7 +6,7 @@ use Rattle.ride_model.specs.Text.{entry_lines}
 use Rattle.ride_ports.specs.declared.sources.Failed.{Failed}
 use Rattle.text_page.specs.Output.{HasPut, IsFresh}
 use Rattle.text_page.proofs.OutputLemmas.{put-same}
-use Rattle.session_run.specs.declared.live.scribes.Scribed.{Scribed}
+use Rattle.session_loops.specs.declared.scribes.Scribed.{Scribed}
 use Rattle.session_run.specs.Actors.{bare}
 use Rattle.session_run.proofs.live.serving.put_rest.Goals as goal
 

@@ -5,7 +5,7 @@ use Rattle.ride_model.specs.Text.{entry_lines, head_line, text_of}
 use Rattle.ride_ports.specs.declared.outcome.Ran.{Ran}
 use Rattle.text_page.specs.Output.{HasPut}
 use Rattle.text_page.proofs.OutputLemmas.{put-same, rose-where-failed, same-where-sound}
-use Rattle.session_run.specs.declared.live.scribes.Scribed.{Scribed}
+use Rattle.session_loops.specs.declared.scribes.Scribed.{Scribed}
 use Rattle.session_run.specs.Actors.{bare}
 use Rattle.session_run.specs.Serving.{IsServed, feed_run}
 use Rattle.session_run.specs.Stages.{ran_of, root_at}

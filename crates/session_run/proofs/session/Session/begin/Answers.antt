@@ -4,7 +4,7 @@ use Rattle.idle_moves.specs.AheadText.{head_line as head_of_sheets}
 use Rattle.text_page.specs.Output.{HasPut}
 use Rattle.session_run.specs.SessionState.{SessionState}
 use Rattle.session_run.specs.Reading.{HasToldBy}
-use Rattle.session_run.proofs.LogLemmas.{text_of-none}
+use Rattle.session_loops.proofs.LogLemmas.{text_of-none}
 use Rattle.session_run.proofs.session.Session.begin.Goals as goal
 
 pub returns-in-None-clause-told : goal.returns-in-None-clause-told

@@ -3,7 +3,7 @@ use Rattle.ride_model.specs.declared.entry.Entry.{Entry}
 use Rattle.ride_model.specs.Text.{text_of, entry_lines}
 use Rattle.text_page.specs.Output.{HasPut}
 use Rattle.session_run.specs.SessionState.{SessionState}
-use Rattle.session_run.proofs.LogLemmas.{text_of-rest}
+use Rattle.session_loops.proofs.LogLemmas.{text_of-rest}
 use Rattle.session_run.proofs.session.Session.log_rest.Goals as goal
 
 pub returns-clause-told : goal.returns-clause-told

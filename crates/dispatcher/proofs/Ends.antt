@@ -1,0 +1,54 @@
+-- Who has ended whole after a legal history, by his own part of it.
+use Rattle.std.proofs.Common.{◌≡◌, ℕ, Bool, true, false, ◌||◌, ◌&&◌, cond, List, [], ◌∷◌, ◌++◌, refl, sym, ap, ◌∙◌}
+use Rattle.std.specs.Prelude.{IsTrue}
+use Rattle.std.specs.List.{list_any}
+use Rattle.std.proofs.lemmas.List.Elements.{All-weaker}
+use Rattle.std.proofs.lemmas.List.Folds.{list_any-append, list_any_none}
+use Rattle.std.proofs.Math.Bool.{or-false, and-false}
+use Rattle.ride_model.specs.declared.command.Actor.{Actor}
+use Rattle.ride_model.specs.declared.command.Actor.TheVariants.{Feed}
+use Rattle.ride_model.specs.declared.entry.Ending.{Ending}
+use Rattle.ride_model.specs.declared.entry.Ending.TheVariants.{Whole, Cut}
+use Rattle.ride_model.specs.declared.entry.Entry.{Entry}
+use Rattle.ride_model.specs.declared.entry.Event.{Event}
+use Rattle.ride_model.specs.declared.entry.Event.TheVariants.{Fed, Finish, Opened, Committed, Abandoned}
+use Rattle.ride_model.specs.History.{entries_of, ended_whole, is_whole}
+use Rattle.ride_model.specs.Legal.{after_event, after_entry, replay}
+use Rattle.ride_model.specs.State.{State, is_actor}
+use Rattle.history_laws.specs.Finishing.{is_whole_end, has_whole_end}
+use Rattle.history_laws.specs.Start.{IsStart, is_fed}
+use Rattle.history_laws.proofs.Effects.{ends_in, effect}
+use Rattle.history_laws.proofs.Finished.{whole-after}
+use Rattle.board_core.specs.Recorded.{end_entry}
+use Rattle.session_loops.specs.Loops.{AreFed}
+
+-- answers to commands are no ends
+fed-no-end : (event : Event) → IsTrue (is_fed event) → is_whole_end event ≡ false
+fed-no-end (Fed command reply) fed = refl
+fed-no-end (Finish ending) fed = absurd (cc fed)
+fed-no-end (Opened number time requests plans) fed = refl
+fed-no-end (Committed number cost seats prices pays outcomes) fed = refl
+fed-no-end (Abandoned number) fed = refl
+
+whole-of : (ending : Ending) → (is_whole ending || false) ≡ true → ending ≡ Whole
+whole-of Whole is = refl
+whole-of Cut is = absurd (cc is)
+
+-- a feed that ended whole after a history has a whole end in its part
+pub ending-whole : (feed : ℕ) (start : State) (entries answers : List Entry) (ending : Ending) → IsStart start
+    → ended_whole (replay start entries) (Feed feed) ≡ true
+    → entries_of (Feed feed) entries ≡ answers ++ end_entry (Feed feed) ending ∷ [] → AreFed answers → ending ≡ Whole
+ending-whole feed start entries answers ending begins whole part fed =
+    whole-of ending (
+    sym (ap (λ b. b || (is_whole ending || false)) (list_any_none (λ (entry : Entry). is_whole_end entry.event) answers
+    (All-weaker (λ (entry : Entry). IsTrue (is_fed entry.event)) (λ (entry : Entry). is_whole_end entry.event ≡ false)
+    (λ (entry : Entry) is. fed-no-end entry.event is) answers fed)))
+    ∙ sym (list_any-append (λ (entry : Entry). is_whole_end entry.event) answers (end_entry (Feed feed) ending ∷ []))
+    ∙ ap has_whole_end (sym part)
+    ∙ sym (ap (λ b. b || has_whole_end (entries_of (Feed feed) entries)) nobody)
+    ∙ sym (whole-after (Feed feed) start entries)
+    ∙ whole
+    )
+  where
+    nobody : ended_whole start (Feed feed) ≡ false
+    nobody = ap (λ (t : State). ended_whole t (Feed feed)) begins.nothing_yet

@@ -1,0 +1,10 @@
+pub mod Refusals
+pub mod Answers
+pub mod Files
+pub mod Runs
+pub mod Sessions
+pub mod Audits
+pub mod Drills
+pub mod Bookings
+pub mod Leagues
+pub mod LeagueWork

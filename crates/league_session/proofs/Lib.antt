@@ -1,0 +1,17 @@
+pub mod RoundTexts
+pub mod BriefCertified
+pub mod Windows
+pub mod RoundCosts
+pub mod LeagueMembers
+pub mod AwardedMembers
+pub mod PlayedRounds
+pub mod Cancelling
+pub mod Desks
+pub mod OpenedRounds
+pub mod LeagueCost
+pub mod Beside
+pub mod LeagueKept
+pub mod RoundsMade
+pub mod ToldLines
+pub mod TextRuns
+pub mod LeagueEnds

@@ -1,0 +1,16 @@
+use Rattle.std.proofs.Common.{refl, sym, ap}
+use Rattle.ride_model.specs.State.{State}
+use Rattle.league_session.specs.League.{LeagueState}
+use Rattle.league_session.proofs.scribe.Scribe.new.Goals as goal
+
+pub returns-clause-nothing_done : goal.returns-clause-nothing_done
+returns-clause-nothing_done c = record {
+  lines = refl;
+  output = c.in_ok-output.ensures;
+  log_is = sym (ap (λ (s : LeagueState). s.desk.settings.log) c.in_ok-league.ensures.start);
+  fits = record {
+    log_fits = (c.requires.settings.log_first, c.requires.settings.log_limit);
+    log_is = sym (ap (λ (t : State). t.settings.log) c.in_ok-league.ensures.desk);
+    fits = c.in_ok-league.ensures.fits;
+  };
+}

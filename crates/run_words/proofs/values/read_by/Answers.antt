@@ -1,0 +1,15 @@
+use Rattle.std.proofs.Common.{◌∙◌, map}
+use Rattle.std.specs.Prelude.{string_bytes}
+use Rattle.clap.specs.Simple.{app_of}
+use Rattle.run_words.proofs.Wishes.{refused, taken}
+use Rattle.run_words.proofs.values.read_by.Goals as goal
+
+pub returns-in-Ok : goal.returns-in-Ok
+returns-in-Ok c option =
+    taken (app_of c.args.command) (map string_bytes c.args.words.now) c.in-Ok.given option c.requires.simple
+    (c.in-Ok.ensures.kinds c.requires.simple) c.in-Ok.ensures.matches
+
+pub returns : goal.returns
+returns c is option =
+    refused (app_of c.args.command) (map string_bytes c.args.words.now) c.in-Err.error option
+    (λ memory. c.in_default.not-OutOfMemory (c.kind.ensures ∙ memory)) (c.in-Err.ensures.kinds c.requires.simple)

@@ -1,0 +1,122 @@
+//! The commands that read the words of each first word.
+ghost use Rattle.std.specs.Prelude.{◌≡◌, false, Err, IfOk, OnErr};
+ghost use Rattle.clap.specs.Simple.{app_of};
+ghost use Rattle.clap.specs.Walk.{rule_of};
+ghost use Rattle.run_words.specs.Words.{ahead_command, audit_command, bare_command, book_command, drill_command, league_command, option_rule, over_map_and_fleet, replay_command, serve_command, with_option};
+
+use crate::WordsError;
+use clap::{Arg, ArgAction, Command};
+use std::alloc::Global;
+
+/// The command of a replay.
+pub fn replay_command<'a>(alloc: Global) -> Result<Command<'a>, WordsError>
+    ensures command { IfOk result (λ command. app_of command ≡ replay_command) }
+    ensures stopped { OnErr result (result ≡ Err WordsError.NoMemory) }
+{
+    let command = over_map_and_fleet(alloc, "replay")?;
+    with_option(command, alloc, "feed")
+}
+
+/// The command of an audit.
+pub fn audit_command<'a>(alloc: Global) -> Result<Command<'a>, WordsError>
+    ensures command { IfOk result (λ command. app_of command ≡ audit_command) }
+    ensures stopped { OnErr result (result ≡ Err WordsError.NoMemory) }
+{
+    let command = over_map_and_fleet(alloc, "audit")?;
+    with_option(command, alloc, "log")
+}
+
+/// The command of a service.
+pub fn serve_command<'a>(alloc: Global) -> Result<Command<'a>, WordsError>
+    ensures command { IfOk result (λ command. app_of command ≡ serve_command) }
+    ensures stopped { OnErr result (result ≡ Err WordsError.NoMemory) }
+{
+    let command = over_map_and_fleet(alloc, "serve")?;
+    let command = with_option(command, alloc, "riders")?;
+    let command = with_option(command, alloc, "drivers")?;
+    let command = with_option(command, alloc, "workers")?;
+    with_option(command, alloc, "desks")
+}
+
+/// The command of idle vehicles sent ahead.
+pub fn ahead_command<'a>(alloc: Global) -> Result<Command<'a>, WordsError>
+    ensures command { IfOk result (λ command. app_of command ≡ ahead_command) }
+    ensures stopped { OnErr result (result ≡ Err WordsError.NoMemory) }
+{
+    let command = over_map_and_fleet(alloc, "ahead")?;
+    let command = with_option(command, alloc, "feed")?;
+    with_option(command, alloc, "reach")
+}
+
+/// The command of a drill.
+pub fn drill_command<'a>(alloc: Global) -> Result<Command<'a>, WordsError>
+    ensures command { IfOk result (λ command. app_of command ≡ drill_command) }
+    ensures stopped { OnErr result (result ≡ Err WordsError.NoMemory) }
+{
+    let command = with_option(bare_command(alloc, "drill"), alloc, "side")?;
+    let command = with_option(command, alloc, "vehicles")?;
+    let command = with_option(command, alloc, "requests")?;
+    with_option(command, alloc, "seed")
+}
+
+/// The command of bookings.
+pub fn book_command<'a>(alloc: Global) -> Result<Command<'a>, WordsError>
+    ensures command { IfOk result (λ command. app_of command ≡ book_command) }
+    ensures stopped { OnErr result (result ≡ Err WordsError.NoMemory) }
+{
+    with_option(bare_command(alloc, "book"), alloc, "feed")
+}
+
+/// The command of a league.
+pub fn league_command<'a>(alloc: Global) -> Result<Command<'a>, WordsError>
+    ensures command { IfOk result (λ command. app_of command ≡ league_command) }
+    ensures stopped { OnErr result (result ≡ Err WordsError.NoMemory) }
+{
+    let command = over_map_and_fleet(alloc, "league")?;
+    let command = with_option(command, alloc, "second")?;
+    with_option(command, alloc, "feed")
+}
+
+// A command of this name over a map and a fleet file.
+fn over_map_and_fleet<'a>(alloc: Global, name: &'a str) -> Result<Command<'a>, WordsError>
+    ensures command { IfOk result (λ command. app_of command ≡ over_map_and_fleet name.now) }
+    ensures stopped { OnErr result (result ≡ Err WordsError.NoMemory) }
+{
+    let command = with_option(bare_command(alloc, name), alloc, "map")?;
+    with_option(command, alloc, "fleet")
+}
+
+// A command of this name without options, help or version.
+fn bare_command<'a>(alloc: Global, name: &'a str) -> Command<'a>
+    ensures { app_of result ≡ bare_command name.now }
+{
+    Command::new(alloc, name)
+        .disable_help_flag(true)
+        .disable_version_flag(true)
+}
+
+// The command with one more option.
+fn with_option<'a>(
+    command: Command<'a>,
+    alloc: Global,
+    name: &'a str,
+) -> Result<Command<'a>, WordsError>
+    ensures command { IfOk result (λ more. app_of more ≡ with_option (app_of command.entry) name.now) }
+    ensures stopped { OnErr result (result ≡ Err WordsError.NoMemory) }
+{
+    match command.arg(option(alloc, name)) {
+        Ok(command) => Ok(command),
+        Err(_) => Err(WordsError::NoMemory),
+    }
+}
+
+// An option that has to be given, with one value.
+fn option<'a>(alloc: Global, name: &'a str) -> Arg<'a>
+    ensures rule { rule_of result ≡ option_rule name.now }
+    ensures local { result.global ≡ false }
+{
+    Arg::new(alloc, name)
+        .long(name)
+        .required(true)
+        .action(ArgAction::Set)
+}

@@ -1,0 +1,91 @@
+use Rattle.std.proofs.Common.{◌≡◌, ◌≤◌, List, length, ap, refl, sym, subst, ◌∙◌}
+use Rattle.std.specs.Prelude.{All}
+use Rattle.ride_model.specs.Road.{RoadMap}
+use Rattle.road_times.specs.Room.{Room}
+use Rattle.board_core.specs.Recorded.{Recorded}
+use Rattle.turn_lock.specs.Passes.{knowledge}
+use Rattle.board_core.specs.declared.opening.Opening.TheVariants.{Idle}
+use Rattle.fleet_board.specs.Openings.{OpensBatch, OpensNone}
+use Rattle.fleet_board.specs.Passes.{Known}
+use Rattle.fleet_board.proofs.MayEnd.{desk-may_end}
+use Rattle.fleet_board.proofs.Looking.{root-stays}
+use Rattle.session_loops.proofs.BatchRuns.{batches-none, batch-then, batches-same, batches-wanting}
+use Rattle.session_loops.proofs.MadeEntries.{root-added}
+use Rattle.session_loops.proofs.desks.run_batches.Goals as goal
+
+-- none was opened yet
+pub batches-init : goal.batches-init
+batches-init g c = record {
+  goes = tt;
+  finite = tt;
+  desk = c.requires.desk;
+  roads = c.requires.roads;
+  kept = refl;
+  some_scratch = c.requires.some_scratch;
+  scratches = c.requires.scratches;
+  ran = batches-none (knowledge c.args.pass.now);
+}
+
+-- one batch more was closed
+pub batches-preserved-in-Ok-Batch : goal.batches-preserved-in-Ok-Batch
+batches-preserved-in-Ok-Batch g c =
+    let before : Known = knowledge c.batches.pass in
+    let met : Known = knowledge c.meet.new.pass in
+    let opened : Known = knowledge c.open_batch.new.pass in
+    let after : Known = knowledge c.close_batch.new.pass in
+    let opens : OpensBatch met opened c.in-Ok-Batch.batch = rw c.in-Ok-Batch.field-0-is at c.in-Ok-Batch.ensures.opening in
+    let closes = c.close_batch.ensures.closed in
+    record {
+      goes = tt;
+      finite = tt;
+      desk = c.close_batch.ensures.desk;
+      roads = ap (λ (r : Recorded). r.start.roads) (root-added opened after closes.entry closes.adds ∙ root-added met opened _ opens.entry
+          ∙ root-stays before met c.meet.ensures.none)
+          ∙ c.batches.invariant.roads ∙ sym (c.close_batch.ensures.pricer ∙ c.meet.ensures.pricer);
+      kept = c.close_batch.ensures.scratches ∙ c.batches.invariant.kept;
+      some_scratch = subst (λ (s : List Room). 1 ≤ length s) (sym c.close_batch.ensures.scratches) c.batches.invariant.some_scratch;
+      scratches = subst (λ (roads : RoadMap). All (λ (scratch : Room). scratch.nodes ≡ roads.nodes) c.close_batch.new.scratches)
+          (sym (c.close_batch.ensures.pricer ∙ c.meet.ensures.pricer))
+          (subst (λ (s : List Room). All (λ (scratch : Room). scratch.nodes ≡ c.batches.pricer.nodes) s)
+          (sym c.close_batch.ensures.scratches) c.batches.invariant.scratches);
+      ran = batch-then c.batches.no_memory c.close_batch.result (knowledge c.args.pass.now) met opened after c.in-Ok-Batch.batch
+          (batches-same c.batches.no_memory (knowledge c.args.pass.now) before met c.batches.invariant.ran c.meet.ensures.none) opens closes;
+    }
+
+-- none was opened
+pub batches-preserved : goal.batches-preserved
+batches-preserved g c =
+    let before : Known = knowledge c.batches.pass in
+    let met : Known = knowledge c.meet.new.pass in
+    let looked : Known = knowledge c.open_batch.new.pass in
+    let none : OpensNone met looked Idle = rw c.in-Ok-Idle.field-0-is at c.in-Ok-Idle.ensures.opening in
+    record {
+      goes = tt;
+      finite = tt;
+      desk = record {
+        may_use = c.open_batch.ensures.pass;
+        point = c.open_batch.ensures.point;
+        desk = c.open_batch.ensures.desk;
+        none_open = none.none_open;
+      };
+      roads = ap (λ (r : Recorded). r.start.roads) (root-stays met looked none.none ∙ root-stays before met c.meet.ensures.none)
+          ∙ c.batches.invariant.roads ∙ sym c.meet.ensures.pricer;
+      kept = c.batches.invariant.kept;
+      some_scratch = c.batches.invariant.some_scratch;
+      scratches = subst (λ (roads : RoadMap). All (λ (scratch : Room). scratch.nodes ≡ roads.nodes) c.batches.scratches)
+          (sym c.meet.ensures.pricer) c.batches.invariant.scratches;
+      ran = batches-same c.batches.no_memory (knowledge c.args.pass.now) met looked
+          (batches-same c.batches.no_memory (knowledge c.args.pass.now) before met c.batches.invariant.ran c.meet.ensures.none) none.none;
+    }
+
+pub returns-in-Ok-Ended-clause-may_end : goal.returns-in-Ok-Ended-clause-may_end
+returns-in-Ok-Ended-clause-may_end g c =
+    desk-may_end (knowledge c.meet.new.pass) (knowledge c.open_batch.new.pass) c.open_batch.ensures.point c.open_batch.ensures.desk
+    (rw c.in-Ok-Ended.field-0-is at c.in-Ok-Ended.ensures.opening)
+
+pub returns-in-Err-clause-ran : goal.returns-in-Err-clause-ran
+returns-in-Err-clause-ran g c =
+    batches-wanting c.batches.no_memory (knowledge c.args.pass.now) (knowledge c.open_batch.new.pass)
+    (batches-same c.batches.no_memory (knowledge c.args.pass.now) (knowledge c.meet.new.pass) (knowledge c.open_batch.new.pass)
+    (batches-same c.batches.no_memory (knowledge c.args.pass.now) (knowledge c.batches.pass) (knowledge c.meet.new.pass) c.batches.invariant.ran
+    c.meet.ensures.none) c.in-Err.ensures.no_memory)

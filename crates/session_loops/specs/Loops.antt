@@ -1,0 +1,83 @@
+-- What the loops of feeds, desks and the scribe leave of a shared board's passes.
+use Rattle.std.specs.Prelude.{◌≡◌, ℕ, ◌≤◌, ◌++◌, ⊤, true, false, List, [], ◌∷◌, length, take, All, Option, IsTrue, IsFalse}
+use mathlib.Core.List.{IsPrefix}
+use Rattle.ride_model.specs.declared.entry.Ending.{Ending}
+use Rattle.ride_model.specs.declared.entry.Ending.TheVariants.{Whole, Cut}
+use Rattle.ride_model.specs.declared.entry.Entry.{Entry}
+use Rattle.ride_model.specs.declared.entry.Event.{Event}
+use Rattle.ride_model.specs.declared.entry.Event.TheVariants.{Opened, Committed, Abandoned}
+use Rattle.ride_model.specs.Text.{entry_lines}
+use Rattle.ride_ports.specs.declared.outcome.Ran.{Ran}
+use Rattle.ride_ports.specs.Bytes.{Reads, Writes, WritesPrefix}
+use Rattle.command_lines.specs.Feeds.{IsWhole}
+use Rattle.command_lines.specs.Limits.{IsWithinLimits, IsTooLong, ended_commands}
+use Rattle.history_laws.specs.Start.{is_fed}
+use Rattle.history_laws.specs.Finishing.{gives_up}
+use Rattle.board_core.specs.Recorded.{end_entry}
+use Rattle.fleet_board.specs.Passes.{Known, actor_of, all_ended, commands_in, root_of, seen_state}
+use Rattle.session_loops.specs.Stops.{AreFirstOf}
+use Rattle.session_loops.specs.Stops.{IsReadWhole}
+
+-- a pass has seen more, made these entries and ended its actor so; nothing else of it changed
+pub record EndsWith (old new : Known) (made : List Entry) (ending : Ending) : Type 0 where
+  pub own_is : new.own ≡ (old.own ++ made) ++ end_entry (actor_of old.number) ending ∷ []
+  pub goes_on : IsPrefix old.seen new.seen
+  pub rest : new ≡ record old { seen = new.seen; own = new.own }
+
+-- each entry answers a command
+abbrev pub AreFed : List Entry → Type 0
+AreFed entries = All (λ (entry : Entry). IsTrue (is_fed entry.event)) entries
+
+-- of a feed with these bytes some were taken and answered by these entries, so that those are left: all of them where nothing
+-- was wanting, those within the limits and before a fault where only the source was
+pub record HasFed (log : ℕ) (feed left : Option (List ℕ)) (ran : Ran) (taken : List ℕ) (answers : List Entry) (ending : Ending) : Type 0 where
+  pub reads : Reads feed left taken
+  pub fed : AreFed answers
+  pub first : AreFirstOf log feed taken (commands_in answers)
+  pub whole : ran.no_memory ≡ false → IsReadWhole ran → (ending ≡ Whole) × IsWhole log left (commands_in answers) taken
+  pub cut : ran.no_memory ≡ false → (IsReadWhole ran → ⊥) → (ending ≡ Cut) × (commands_in answers ≡ ended_commands log taken)
+  pub wanting : ran.no_memory ≡ true → ending ≡ Cut
+  pub within : ran.no_memory ≡ false → ran.too_long ≡ false → IsWithinLimits taken
+  pub too_long : ran.too_long ≡ true → IsTooLong taken
+
+-- what a feed's loop leaves of its pass
+pub record RunsFeed (log : ℕ) (feed left : Option (List ℕ)) (ran : Ran) (old new : Known) : Type 0 where
+  pub taken : List ℕ
+  pub answers : List Entry
+  pub ending : Ending
+  pub ends : EndsWith old new answers ending
+  pub fed : HasFed log feed left ran taken answers ending
+
+-- an entry closes the batch that another opened
+abbrev pub Closes : Event → Event → Type 0
+Closes (Opened batch _ _ _) (Committed closed _ _ _ _ _) = closed ≡ batch
+Closes (Opened batch _ _ _) (Abandoned closed) = closed ≡ batch
+Closes _ _ = ⊥
+
+-- each entry opens a batch which the next one closes
+abbrev pub AreBatches : List Entry → Type 0
+AreBatches [] = ⊤
+AreBatches (opened ∷ []) = ⊥
+AreBatches (opened ∷ closed ∷ more) = Closes opened.event closed.event × AreBatches more
+
+-- what a desk's loop leaves of its pass: where memory was not wanting it gave no batch up, and none is to come
+pub record RunsDesk (ran : Ran) (old new : Known) : Type 0 where
+  pub batches : List Entry
+  pub ending : Ending
+  pub ends : EndsWith old new batches ending
+  pub closed : AreBatches batches
+  pub whole : ran.no_memory ≡ false → (ending ≡ Whole) × IsFalse (gives_up batches)
+
+-- the lines of the first entries of the one history were written
+pub record HasScribed (log : ℕ) (before after : Option (List ℕ)) (count : ℕ) (seen : List Entry) : Type 0 where
+  pub some : count ≤ length seen
+  pub written : Writes before after (entry_lines log (take count seen))
+
+-- a prefix of the lines of the first entries was written
+pub record HasScribedSome (log : ℕ) (before after : Option (List ℕ)) (seen : List Entry) : Type 0 where
+  pub count : ℕ
+  pub prefix : WritesPrefix before after (entry_lines log (take count seen))
+
+-- a pass has seen so many entries, after which no other comes
+abbrev pub HasSeenAll : ℕ → Known → Type 0
+HasSeenAll count k = (count ≡ length k.seen) × (all_ended (root_of k).feeds (root_of k).desks (seen_state k) ≡ true)

@@ -1,6 +1,0 @@
-use Rattle.turn_lock.specs.Passes.{knowledge}
-use Rattle.session_run.proofs.FeedEnds.{nothing-submitted}
-use Rattle.session_run.proofs.live.feeds.run_feed.Goals as goal
-
-pub returns-in-Err-clause-submitted : goal.returns-in-Err-clause-submitted
-returns-in-Err-clause-submitted g c = nothing-submitted c.args.log (g.S.Source.left c.args.source.now) (knowledge c.args.pass.now)
