@@ -22,16 +22,16 @@ mod texts;
 mod turns;
 
 use dispatcher::run;
-use gates::{Gated, Watched};
-use ride_ports::{Gate, MemFile, MemShelf, MemSink, NoMemory, OpenGate, Sink};
+use gates::{Gated, Meeting, Watched};
+use ride_ports::{Gate, MemFile, MemShelf, MemSink, NoMemory, Sink};
 use std::alloc::Global;
 use std::process::Abort;
 use std::sync::Wait;
 use std::thread::Threads;
-use texts::Part;
+use texts::is_like;
 
 /// Four nodes in a line, a minute between neighbors.
-const LINE_TEXT: &str = "p sp 4 6\n\
+const LINE: &str = "p sp 4 6\n\
 a 1 2 60\n\
 a 2 1 60\n\
 a 2 3 60\n\
@@ -39,17 +39,11 @@ a 3 2 60\n\
 a 3 4 60\n\
 a 4 3 60\n";
 
-const LINE: &[Part] = &[Part::Text(LINE_TEXT)];
-
 /// The defaults, and one vehicle of two seats at node 1.
-const DEFAULTS_TEXT: &str = "vehicle 1 2 1 0\n";
-
-const DEFAULTS: &[Part] = &[Part::Text(DEFAULTS_TEXT)];
+const DEFAULTS: &str = "vehicle 1 2 1 0\n";
 
 /// The same with batches of one request.
-const ONE_BY_ONE_TEXT: &str = "set batch 1\nvehicle 1 2 1 0\n";
-
-const ONE_BY_ONE: &[Part] = &[Part::Text(ONE_BY_ONE_TEXT)];
+const ONE_BY_ONE: &str = "set batch 1\nvehicle 1 2 1 0\n";
 
 /// One request, and a batch of it.
 const FEED: &str = "request 7 2 4 1 600 300\nbatch\n";
@@ -63,9 +57,9 @@ d1 commit 1 cost 180 seats 7:1:0:0 prices 7:180 pays outcomes 7:confirmed\n\
 f1 end\n\
 d1 end\n";
 
-const REPLAY: [&str; 7] = ["replay", "--map", "m", "--fleet", "f", "--feed", "r"];
+const REPLAY: &str = "replay --map m --fleet f --feed r";
 
-const AUDIT: [&str; 7] = ["audit", "--map", "m", "--fleet", "f", "--log", "l"];
+const AUDIT: &str = "audit --map m --fleet f --log l";
 
 /// The lengths of the pieces in which files are read: one, two or seven bytes, or all at once.
 const PIECES: [&[usize]; 4] = [&[1], &[2], &[7], &[]];
@@ -97,7 +91,9 @@ impl<'a> File<'a> {
     }
 }
 
-/// The files of a run under the names `m`, `f`, `r`, `d` and `l`, and how many bytes its sink takes before it fails.
+/// The files of a run under the names `m`, `f`, `r`, `d` and `l`, how many bytes its sink takes before it fails, the lengths of the
+/// pieces in which it takes them, of which the last one holds on, the numbers of the writes that fail, and where threads wait for
+/// one another.
 #[derive(Clone, Copy)]
 struct Setup<'a> {
     map: File<'a>,
@@ -106,6 +102,9 @@ struct Setup<'a> {
     drivers: File<'a>,
     log: File<'a>,
     room: usize,
+    takes: &'a [usize],
+    refuses: &'a [u64],
+    meetings: &'a [Meeting],
 }
 
 impl<'a> Setup<'a> {
@@ -118,6 +117,9 @@ impl<'a> Setup<'a> {
             drivers: File::whole(b""),
             log: File::whole(b""),
             room,
+            takes: &[],
+            refuses: &[],
+            meetings: &[],
         }
     }
 
@@ -135,8 +137,8 @@ impl<'a> Setup<'a> {
     /// The files of the worked request, and its log.
     fn worked() -> Setup<'a> {
         Setup::whole(
-            LINE_TEXT.as_bytes(),
-            ONE_BY_ONE_TEXT.as_bytes(),
+            LINE.as_bytes(),
+            ONE_BY_ONE.as_bytes(),
             FEED.as_bytes(),
             LOG.as_bytes(),
         )
@@ -153,84 +155,111 @@ impl<'a> Setup<'a> {
     fn with_room(self, room: usize) -> Setup<'a> {
         Setup { room, ..self }
     }
+
+    /// A sink that takes seven bytes a write, of which these fail.
+    fn with_refusals(self, refuses: &'a [u64]) -> Setup<'a> {
+        Setup {
+            takes: &[7],
+            refuses,
+            ..self
+        }
+    }
 }
 
-/// The status of a run, what it wrote, and the faults that its shelf counted.
-#[derive(Drop)]
-struct Answer {
+/// How a run ends: its status, how many faults its shelf counts, and what it writes, in which each `*` is any part of a line.
+#[derive(Clone, Copy)]
+struct End<'a> {
     status: u8,
-    written: Vec<u8>,
     faults: u64,
+    written: &'a str,
 }
 
-impl Answer {
-    fn text(&self) -> &str {
-        str::from_utf8(self.written.as_slice()).unwrap_or("(no text)")
+impl<'a> End<'a> {
+    /// The end of a run that meets no fault of its shelf.
+    fn new(status: u8, written: &'a str) -> End<'a> {
+        End {
+            status,
+            faults: 0,
+            written,
+        }
+    }
+}
+
+/// The status of a run, what it wrote, the faults that its shelf counted, and whether no thread waited for another one in vain.
+#[derive(Drop)]
+struct Answer<'a> {
+    status: u8,
+    out: MemSink<'a>,
+    faults: u64,
+    met: bool,
+}
+
+impl<'a> Answer<'a> {
+    fn written(&self) -> &[u8] {
+        self.out.written()
     }
 
-    /// Whether it ended so, wrote just this and met no fault of the shelf.
-    fn is(&self, status: u8, text: &str) -> bool {
-        self.status == status && self.faults == 0 && self.text() == text
+    fn text(&self) -> &str {
+        str::from_utf8(self.written()).unwrap_or("(no text)")
     }
+
+    /// Whether its run ended so, whatever it wrote.
+    fn ends(&self, status: u8, faults: u64) -> bool {
+        self.met && self.status == status && self.faults == faults
+    }
+
+    /// Whether its run ended so.
+    fn is(&self, end: End<'_>) -> bool {
+        self.ends(end.status, end.faults)
+            && (self.text() == end.written || is_like(self.text(), end.written))
+    }
+}
+
+// Asserts that a run over these files ends so.
+fn expect<R: Abort + Threads + Wait + Sync + AllocGlobal>(
+    rt: &R,
+    shows: &str,
+    words: &str,
+    files: Setup<'_>,
+    end: End<'_>,
+) {
+    let answer = answer_to(rt, words, files);
+    assert!(rt; answer.is(end), "{shows}: {words}: {}", answer.text());
+}
+
+// Asserts what an audit says of a log over a map and a fleet.
+fn expect_audit<R: Abort + Threads + Wait + Sync + AllocGlobal>(
+    rt: &R,
+    shows: &str,
+    files: Setup<'_>,
+    log: Answer<'_>,
+    line: &str,
+) {
+    let log = File::whole(log.written());
+    expect(rt, shows, AUDIT, files.with_log(log), End::new(0, line));
 }
 
 // What a run answers to these words.
-fn answer_to<R: Abort + Threads + Wait + Sync + AllocGlobal>(
+fn answer_to<'a, R: Abort + Threads + Wait + Sync + AllocGlobal>(
     rt: &R,
-    texts: &[&str],
-    setup: Setup<'_>,
-) -> Result<Answer, NoMemory> {
-    let out = MemSink::new(rt.alloc(), setup.room, &[], &[])?;
-    answer_into(rt, texts, setup, out)
-}
-
-// What a run answers to these words over a sink that takes seven bytes a write, of which some fail.
-fn answer_by_writes<R: Abort + Threads + Wait + Sync + AllocGlobal>(
-    rt: &R,
-    texts: &[&str],
-    setup: Setup<'_>,
-    failing: &[u64],
-) -> Result<Answer, NoMemory> {
-    let out = MemSink::new(rt.alloc(), setup.room, &[7], failing)?;
-    answer_into(rt, texts, setup, out)
-}
-
-fn answer_into<R: Abort + Threads + Wait + Sync + AllocGlobal>(
-    rt: &R,
-    texts: &[&str],
-    setup: Setup<'_>,
-    mut out: MemSink<'_>,
-) -> Result<Answer, NoMemory> {
-    let files = files_of(rt, setup);
-    let (status, faults) = run_over(rt, texts, &files, &mut out, &OpenGate)?;
-    answer_of(rt.alloc(), status, faults, &out)
-}
-
-// What a run answers to these words, with a gate that knows what was logged.
-fn answer_with<R: Abort + Threads + Wait + Sync + AllocGlobal>(
-    rt: &R,
-    texts: &[&str],
-    setup: Setup<'_>,
-    gate: &Gated<'_>,
-) -> Result<Answer, NoMemory> {
-    let files = files_of(rt, setup);
-    let sink = MemSink::new(rt.alloc(), setup.room, &[], &[])?;
-    let mut out = Watched { sink, gate };
-    let (status, faults) = run_over(rt, texts, &files, &mut out, gate)?;
-    answer_of(rt.alloc(), status, faults, &out.sink)
-}
-
-fn answer_of(
-    alloc: Global,
-    status: u8,
-    faults: u64,
-    out: &MemSink<'_>,
-) -> Result<Answer, NoMemory> {
-    Ok(Answer {
+    words: &str,
+    setup: Setup<'a>,
+) -> Answer<'a> {
+    let gate = Gated::new(setup.meetings);
+    let sink = sink_of(rt, rt.alloc(), setup);
+    let mut out = Watched { sink, gate: &gate };
+    let (status, faults) = run_over(rt, words, setup, &mut out, &gate);
+    Answer {
         status,
-        written: out.written().to_vec(alloc)?,
+        out: out.sink,
         faults,
-    })
+        met: gate.all_met(),
+    }
+}
+
+fn sink_of<'a>(rt: &impl Abort, alloc: Global, setup: Setup<'a>) -> MemSink<'a> {
+    assert!(rt; setup.takes.iter().all(|piece| *piece > 0));
+    MemSink::new(alloc, setup.room, setup.takes, setup.refuses).expect(rt, "there is memory")
 }
 
 // The files of a run.
@@ -261,27 +290,24 @@ fn file_of<'a>(rt: &impl Abort, name: &'a str, file: File<'a>) -> MemFile<'a>
 }
 
 // The status of a run over these files, and the faults that its shelf counted.
-fn run_over<'a, R: Threads + Wait + Sync + AllocGlobal, K: Sink, G: Gate>(
+fn run_over<R: Abort + Threads + Wait + Sync + AllocGlobal, K: Sink, G: Gate>(
     rt: &R,
-    texts: &[&str],
-    files: &'a [MemFile<'a>],
+    words: &str,
+    setup: Setup<'_>,
     out: &mut K,
     gate: &G,
-) -> Result<(u8, u64), NoMemory>
-    requires names { HaveDistinctNames files.now }
-    requires pieces { HavePieces files.now }
-{
-    let alloc = rt.alloc();
-    let words = words_of(alloc, texts)?;
-    let mut shelf = MemShelf::new(alloc, files, &[]);
-    let status = run(rt, alloc, words.as_slice(), &mut shelf, out, gate);
-    Ok((status, shelf.faults()))
+) -> (u8, u64) {
+    let words = words_of(rt.alloc(), words).expect(rt, "there is memory");
+    let files = files_of(rt, setup);
+    let mut shelf = MemShelf::new(rt.alloc(), &files, &[]);
+    let status = run(rt, rt.alloc(), words.as_slice(), &mut shelf, out, gate);
+    (status, shelf.faults())
 }
 
-fn words_of(alloc: Global, texts: &[&str]) -> Result<Vec<String>, NoMemory> {
+fn words_of(alloc: Global, line: &str) -> Result<Vec<String>, NoMemory> {
     let mut words = Vec::new(alloc);
-    for text in texts {
-        words.push(String::from_str(alloc, text)?)?;
+    for word in line.split_whitespace() {
+        words.push(String::from_str(alloc, word)?)?;
     }
     Ok(words)
 }

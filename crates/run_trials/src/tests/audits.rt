@@ -1,10 +1,8 @@
 //! Audits of logs: each change of a legal log is found at its line.
-use super::texts::{Part, text_of};
-use super::{AUDIT, File, LINE_TEXT, LOG, ONE_BY_ONE, Setup, answer_to};
-use std::alloc::Global;
+use super::texts::text_of;
+use super::{AUDIT, End, File, LINE, LOG, ONE_BY_ONE, ROOM, Setup, expect};
 use std::process::Abort;
 use std::sync::Wait;
-use std::test::Fail;
 use std::thread::Threads;
 
 /// A change of a log, and what an audit says of the changed one.
@@ -84,13 +82,11 @@ static PLAIN: [Change; 13] = [
 ];
 
 /// Batches of one request, which start ten seconds after they are opened at the earliest, and two vehicles.
-static TWO_VEHICLES: &[Part] = &[Part::Text(
-    "set batch 1\nset lead 10\nvehicle 1 2 1 0\nvehicle 2 2 4 0\n",
-)];
+const TWO_VEHICLES: &str = "set batch 1\nset lead 10\nvehicle 1 2 1 0\nvehicle 2 2 4 0\n";
 
 /// A day of two feeds and two desks over these vehicles: one pair moves, one falls behind, one is cancelled, two are confirmed, and
 /// one batch is given up.
-static DAY: &str = "log 1 feeds 2 desks 2\n\
+const DAY: &str = "log 1 feeds 2 desks 2\n\
 f1 request 7 2 4 1 600 300 = waiting\n\
 f1 request 8 3 1 1 600 300 = waiting\n\
 f1 request 9 2 4 1 600 300 = waiting\n\
@@ -214,100 +210,121 @@ static OF_DAY: [Change; 18] = [
     },
 ];
 
-#[test]
-fn a_changed_log_of_one_request_is_wrong_at_its_line(rt: HostRuntime) -> Result<(), Fail> {
-    expect_all(&rt, ONE_BY_ONE, LOG, PLAIN.as_slice())
+/// A fleet file and a log, how the log is read, and how an audit of it ends.
+struct Log {
+    shows: &'static str,
+    fleet: &'static str,
+    log: &'static str,
+    pieces: &'static [usize],
+    failing: &'static [u64],
+    status: u8,
+    faults: u64,
+    answer: &'static str,
 }
 
+static LOGS: [Log; 4] = [
+    Log {
+        shows: "a log of the other version is no log",
+        fleet: "set batch 1\nset log 2\nvehicle 1 2 1 0\n",
+        log: LOG,
+        pieces: &[],
+        failing: &[],
+        status: 7,
+        faults: 0,
+        answer: "no 1 spelling\n",
+    },
+    Log {
+        shows: "a line that is too long is no entry",
+        fleet: ONE_BY_ONE,
+        log: "log 1 feeds 1 desks 1\n\
+<131073|x>\n",
+        pieces: &[],
+        failing: &[],
+        status: 7,
+        faults: 0,
+        answer: "no 2 spelling\n",
+    },
+    // The first read gives five lines, of which the last is wrong.
+    Log {
+        shows: "a wrong line that was read whole comes before a fault",
+        fleet: ONE_BY_ONE,
+        log: "log 1 feeds 1 desks 1\n\
+f1 request 7 2 4 1 600 300 = waiting\n\
+f1 batch = asked 1\n\
+d1 open 1 at 0 requests 7 plans 1@0\n\
+d1 commit 1 cost 180 seats 7:1:0:0 prices 7:181 pays outcomes 7:confirmed\n\
+f1 end\n\
+d1 end\n",
+        pieces: &[188],
+        failing: &[2],
+        status: 7,
+        faults: 0,
+        answer: "no 5 prices\n",
+    },
+    // The first read gives four lines, which are right.
+    Log {
+        shows: "a fault behind right lines",
+        fleet: ONE_BY_ONE,
+        log: LOG,
+        pieces: &[114],
+        failing: &[2],
+        status: 5,
+        faults: 1,
+        answer: "",
+    },
+];
+
 #[test]
-fn a_changed_day_of_two_desks_is_wrong_at_its_line(rt: HostRuntime) -> Result<(), Fail> {
-    expect_all(&rt, TWO_VEHICLES, DAY, OF_DAY.as_slice())
+fn an_audit_names_the_first_wrong_line(rt: HostRuntime) {
+    expect_changes(&rt, ONE_BY_ONE, LOG, PLAIN.as_slice());
+    expect_changes(&rt, TWO_VEHICLES, DAY, OF_DAY.as_slice());
+    for case in LOGS.as_slice() {
+        expect_log(&rt, case);
+    }
 }
 
-// Asserts what an audit says of a log with each of these changes.
-fn expect_all<R: Abort + Threads + Wait + Sync + AllocGlobal>(
+// Asserts what an audit says of a log with each of these changes: its line, and status 0 for a yes and 7 for a no.
+fn expect_changes<R: Abort + Threads + Wait + Sync + AllocGlobal>(
     rt: &R,
-    fleet: &[Part],
+    fleet: &str,
     log: &str,
     changes: &[Change],
-) -> Result<(), Fail> {
-    let fleet = text_of(rt.alloc(), fleet)?;
+) {
     for change in changes {
-        let log = changed(rt.alloc(), log, change)?;
-        expect(
+        let changed = log.replacen(rt.alloc(), change.from, change.to, 1);
+        expect_change(
             rt,
-            Setup::whole(LINE_TEXT.as_bytes(), fleet.as_bytes(), b"", log.as_bytes()),
+            fleet,
+            changed.expect(rt, "there is memory"),
             change.answer,
-        )?;
+        );
     }
-    Ok(())
 }
 
-// The log with the first of what is changed in another form.
-fn changed(alloc: Global, log: &str, change: &Change) -> Result<String, Fail> {
-    let mut text = String::new(alloc);
-    if let Some((before, behind)) = log.split_once(change.from) {
-        text.push_str(before)?;
-        text.push_str(change.to)?;
-        text.push_str(behind)?;
-    }
-    Ok(text)
-}
-
-// Asserts what an audit says: its line, and status 0 for a yes and 7 for a no.
-fn expect<R: Abort + Threads + Wait + Sync + AllocGlobal>(
+fn expect_change<R: Abort + Threads + Wait + Sync + AllocGlobal>(
     rt: &R,
-    files: Setup<'_>,
+    fleet: &str,
+    log: String,
     line: &str,
-) -> Result<(), Fail> {
-    let answer = answer_to(rt, &AUDIT, files)?;
+) {
+    let files = Setup::whole(LINE.as_bytes(), fleet.as_bytes(), b"", log.as_bytes());
     let status = if line.starts_with("yes") { 0 } else { 7 };
-    assert_eq!(rt; answer.text(), line);
-    assert_eq!(rt; (answer.status, answer.faults), (status, 0), "{line}");
-    Ok(())
+    expect(rt, line, AUDIT, files, End::new(status, line));
 }
 
-#[test]
-fn a_log_of_the_other_version_is_no_log(rt: HostRuntime) -> Result<(), Fail> {
-    let fleet = b"set batch 1\nset log 2\nvehicle 1 2 1 0\n";
-    expect(
-        &rt,
-        Setup::whole(LINE_TEXT.as_bytes(), fleet, b"", LOG.as_bytes()),
-        "no 1 spelling\n",
-    )
-}
-
-#[test]
-fn a_line_that_is_too_long_is_no_entry(rt: HostRuntime) -> Result<(), Fail> {
-    let log = text_of(
-        rt.alloc(),
-        &[
-            Part::Text("log 1 feeds 1 desks 1\n"),
-            Part::Each(1, 131_073, "x"),
-            Part::Text("\n"),
-        ],
-    )?;
-    expect(
-        &rt,
-        Setup::worked().with_log(File::whole(log.as_bytes())),
-        "no 2 spelling\n",
-    )
-}
-
-#[test]
-fn a_wrong_line_that_was_read_whole_comes_before_a_fault(rt: HostRuntime) -> Result<(), Fail> {
-    let wrong = changed(rt.alloc(), LOG, &PLAIN[3])?;
-    // The first read gives five lines, of which the last is wrong.
-    let log = File::new(wrong.as_bytes(), &[188], &[2]);
-    let files = Setup::worked().with_log(log);
-    let answer = answer_to(&rt, &AUDIT, files)?;
-    assert_eq!(rt; answer.text(), "no 5 prices\n");
-    assert_eq!(rt; answer.status, 7);
-    // The first read gives four lines, which are right.
-    let log = File::new(LOG.as_bytes(), &[114], &[2]);
-    let files = Setup::worked().with_log(log);
-    let answer = answer_to(&rt, &AUDIT, files)?;
-    assert_eq!(rt; answer.text(), "");
-    assert_eq!(rt; (answer.status, answer.faults), (5, 1));
-    Ok(())
+fn expect_log<R: Abort + Threads + Wait + Sync + AllocGlobal>(rt: &R, case: &Log) {
+    let log = text_of(rt, case.log);
+    let log = File::new(log.as_bytes(), case.pieces, case.failing);
+    let files = Setup::new(
+        File::whole(LINE.as_bytes()),
+        File::whole(case.fleet.as_bytes()),
+        File::whole(b""),
+        ROOM,
+    );
+    let end = End {
+        status: case.status,
+        faults: case.faults,
+        written: case.answer,
+    };
+    expect(rt, case.shows, AUDIT, files.with_log(log), end);
 }

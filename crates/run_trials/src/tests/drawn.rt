@@ -1,10 +1,11 @@
 //! Sessions over drawn feeds: whatever the two feeds hold and however the threads meet, an audit says yes to the log, in which
 //! the lines of each feed stand once and in order.
-use super::{AUDIT, File, LINE_TEXT, Setup, answer_to};
+use super::texts::has_lines;
+use super::{File, LINE, Setup, answer_to, expect_audit};
+use ride_ports::NoMemory;
 use std::alloc::Global;
 use std::process::Abort;
 use std::sync::Wait;
-use std::test::Fail;
 use std::thread::Threads;
 
 /// Three vehicles, whose batches of two start some seconds after they are opened.
@@ -16,6 +17,9 @@ const SESSIONS: u32 = 200;
 
 /// How many lines a feed has.
 const LINES: u32 = 40;
+
+/// Sessions of two desks and two workers.
+const WORDS: &str = "serve --desks 2 --workers 2 --riders r --drivers d --map m --fleet f";
 
 /// Numbers that are drawn from a seed by a linear congruence.
 #[derive(Drop)]
@@ -31,107 +35,99 @@ impl Draws {
 }
 
 // A feed of commands, whose requests have ids of one parity.
-fn feed(alloc: Global, seed: u32, parity: u32) -> Result<String, Fail> {
+fn feed(rt: &(impl Abort + AllocGlobal), seed: u32, parity: u8) -> String {
     let mut draws = Draws { state: seed };
-    let mut text = String::new(alloc);
+    let mut text = String::new(rt.alloc());
     for line in 0..LINES {
-        let id = u64::from(line) * 2 + u64::from(parity);
-        push_command(&mut text, &mut draws, id)?;
+        let id = line * 2 + u32::from(parity);
+        assert!(rt; push_command(&mut text, &mut draws, id).is_ok());
     }
-    Ok(text)
+    text
 }
 
-fn push_command(text: &mut String, draws: &mut Draws, id: u64) -> Result<(), Fail> {
+fn push_command(text: &mut String, draws: &mut Draws, id: u32) -> Result<(), NoMemory> {
     let vehicle = draws.draw(4);
     let node = draws.draw(5);
     let time = draws.draw(600);
     match draws.draw(10) {
         0..=3 => {
             let to = draws.draw(5);
-            let latest = time.saturating_add(60);
-            writeln!(text, "request {id} {node} {to} 1 {latest} 400")?;
+            push_line(
+                text,
+                "request",
+                &[id, node, to, 1, time.saturating_add(60), 400],
+            )
         }
-        4 => writeln!(text, "cancel {}", draws.draw(80))?,
-        5 => writeln!(text, "at {vehicle} {node} {time}")?,
-        6 => writeln!(text, "done {vehicle}")?,
-        7 => writeln!(text, "clock {time}")?,
-        8 => text.push_str("no command\n")?,
-        _ => text.push_str("batch\n")?,
+        4 => push_line(text, "cancel", &[draws.draw(80)]),
+        5 => push_line(text, "at", &[vehicle, node, time]),
+        6 => push_line(text, "done", &[vehicle]),
+        7 => push_line(text, "clock", &[time]),
+        8 => push_line(text, "no command", &[]),
+        _ => push_line(text, "batch", &[]),
     }
-    Ok(())
+}
+
+fn push_line(text: &mut String, word: &str, numbers: &[u32]) -> Result<(), NoMemory> {
+    text.push_str(word)?;
+    for number in numbers {
+        write!(text, " {number}")?;
+    }
+    text.push_str("\n")
 }
 
 #[test]
-fn an_audit_says_yes_to_each_log_of_drawn_feeds_in_order(rt: HostRuntime) -> Result<(), Fail> {
+fn an_audit_says_yes_to_each_log_of_drawn_feeds_in_order(rt: HostRuntime) {
     for seed in 0..SESSIONS {
-        expect_yes(&rt, LINE_TEXT.as_bytes(), seed)?;
+        expect_yes(&rt, seed);
     }
-    Ok(())
 }
 
-fn expect_yes<R: Abort + Threads + Wait + Sync + AllocGlobal>(
+fn expect_yes<R: Abort + Threads + Wait + Sync + AllocGlobal>(rt: &R, seed: u32) {
+    let shows = format!(in rt.alloc(); "seed {seed}").expect(rt, "there is memory");
+    let riders = feed(rt, seed, 0);
+    let drivers = feed(rt, seed.wrapping_mul(7_919), 1);
+    expect_yes_to(rt, shows.as_str(), riders.as_str(), drivers.as_str());
+}
+
+// Asserts that a session over two feeds logs their lines in order, and that an audit says yes to its log.
+fn expect_yes_to<'a, R: Abort + Threads + Wait + Sync + AllocGlobal>(
     rt: &R,
-    map: &[u8],
-    seed: u32,
-) -> Result<(), Fail> {
-    let riders = feed(rt.alloc(), seed, 0)?;
-    let drivers = feed(rt.alloc(), seed.wrapping_mul(7_919), 1)?;
-    let files = Setup::whole(map, FLEET.as_bytes(), riders.as_bytes(), b"").with_drivers(
-        File::whole(drivers.as_bytes()),
-    );
-    let words = [
-        "serve",
-        "--desks",
-        "2",
-        "--workers",
-        "2",
-        "--riders",
-        "r",
-        "--drivers",
-        "d",
-        "--map",
-        "m",
-        "--fleet",
-        "f",
-    ];
-    let answer = answer_to(rt, &words, files)?;
-    assert_eq!(rt; (answer.status, answer.faults), (0, 0), "seed {seed}");
-    assert!(rt;
-        is_in_order(answer.text(), "f1 ", riders.as_str()),
-        "seed {seed}"
-    );
-    assert!(rt;
-        is_in_order(answer.text(), "f2 ", drivers.as_str()),
-        "seed {seed}"
-    );
-    let log = Setup::whole(map, FLEET.as_bytes(), b"", answer.written.as_slice());
-    let audit = answer_to(rt, &AUDIT, log)?;
-    assert_eq!(rt;
-        audit.status,
-        0,
-        "seed {seed}: {}{}",
-        audit.text(),
-        answer.text()
-    );
-    assert!(rt; audit.text().ends_with("finished yes\n"), "seed {seed}");
-    Ok(())
+    shows: &str,
+    riders: &'a str,
+    drivers: &'a str,
+) {
+    let files = Setup::whole(
+        LINE.as_bytes(),
+        FLEET.as_bytes(),
+        riders.as_bytes(),
+        b"",
+    ).with_drivers(File::whole(drivers.as_bytes()));
+    let log = answer_to(rt, WORDS, files);
+    assert!(rt; log.ends(0, 0), "{shows}: {}", log.text());
+    expect_in_order(rt, shows, "f1", riders, log.text());
+    expect_in_order(rt, shows, "f2", drivers, log.text());
+    expect_audit(rt, shows, files, log, "*finished yes\n");
 }
 
-// Whether the lines of a feed in the log are answers to its lines, in order, and then its end.
-fn is_in_order(log: &str, actor: &str, feed: &str) -> bool {
-    let mut answers = log.split('\n').filter_map(|line| line.strip_prefix(actor));
-    for line in feed.split('\n') {
-        let Some(answer) = answers.next() else {
-            return false;
-        };
-        let wanted = match line {
-            "" => "end",
-            "no command" => "bad ",
-            _ => line,
-        };
-        if !answer.starts_with(wanted) {
-            return false;
-        }
-    }
-    answers.next().is_none()
+// Asserts that the lines of a feed in a log are answers to its lines, in order, and then its end.
+fn expect_in_order(
+    rt: &(impl Abort + AllocGlobal),
+    shows: &str,
+    actor: &str,
+    feed: &str,
+    log: &str,
+) {
+    let answers = answers_of(rt.alloc(), actor, feed).expect(rt, "there is memory");
+    assert!(rt;
+        has_lines(log, &[actor], answers.as_str()),
+        "{shows}: {log}"
+    );
+}
+
+// The pattern of the answers to a feed: each of its lines with what is replied, and its end.
+fn answers_of(alloc: Global, actor: &str, feed: &str) -> Result<String, NoMemory> {
+    let feed = feed.replace(alloc, "no command", "bad ")?;
+    let between = format!(in alloc; "*\n{actor} ")?;
+    let answers = feed.replace(alloc, "\n", between.as_str())?;
+    format!(in alloc; "{actor} {answers}end\n")
 }

@@ -1,164 +1,99 @@
 //! Drills: their lines, and the ranges of their options.
-use super::{Setup, answer_to};
-use std::process::Abort;
-use std::sync::Wait;
-use std::test::Fail;
-use std::thread::Threads;
+use super::{Answer, End, Setup, answer_to, expect};
 
 /// A drill by its words, with what it answers.
 struct Drill {
-    side: &'static str,
-    vehicles: &'static str,
-    requests: &'static str,
-    seed: &'static str,
+    words: &'static str,
     status: u8,
     text: &'static str,
 }
 
 static DRILLS: [Drill; 11] = [
     Drill {
-        side: "2",
-        vehicles: "1",
-        requests: "1",
-        seed: "1",
+        words: "drill --seed 1 --side 2 --vehicles 1 --requests 1",
         status: 0,
         text: "drill nodes 4 arcs 8 vehicles 1 requests 1 batches 1 confirmed 1 away 0 dropped 1\n",
     },
     // Nobody serves the two groups of nine requests.
     Drill {
-        side: "2",
-        vehicles: "0",
-        requests: "9",
-        seed: "0",
+        words: "drill --seed 0 --side 2 --vehicles 0 --requests 9",
         status: 0,
         text: "drill nodes 4 arcs 8 vehicles 0 requests 9 batches 2 confirmed 0 away 9 dropped 0\n",
     },
     Drill {
-        side: "100",
-        vehicles: "0",
-        requests: "0",
-        seed: "2147483647",
+        words: "drill --seed 2147483647 --side 100 --vehicles 0 --requests 0",
         status: 0,
         text: "drill nodes 10000 arcs 39600 vehicles 0 requests 0 batches 0 confirmed 0 away 0 dropped 0\n",
     },
     Drill {
-        side: "2",
-        vehicles: "1000",
-        requests: "0",
-        seed: "1",
+        words: "drill --seed 1 --side 2 --vehicles 1000 --requests 0",
         status: 0,
         text: "drill nodes 4 arcs 8 vehicles 1000 requests 0 batches 0 confirmed 0 away 0 dropped 0\n",
     },
     Drill {
-        side: "2",
-        vehicles: "0",
-        requests: "16000",
-        seed: "1",
+        words: "drill --seed 1 --side 2 --vehicles 0 --requests 16000",
         status: 0,
         text: "drill nodes 4 arcs 8 vehicles 0 requests 16000 batches 2000 confirmed 0 away 16000 dropped 0\n",
     },
     Drill {
-        side: "1",
-        vehicles: "1",
-        requests: "1",
-        seed: "1",
+        words: "drill --seed 1 --side 1 --vehicles 1 --requests 1",
         status: 2,
         text: "words refused\n",
     },
     Drill {
-        side: "101",
-        vehicles: "1",
-        requests: "1",
-        seed: "1",
+        words: "drill --seed 1 --side 101 --vehicles 1 --requests 1",
         status: 2,
         text: "words refused\n",
     },
     Drill {
-        side: "2",
-        vehicles: "1001",
-        requests: "1",
-        seed: "1",
+        words: "drill --seed 1 --side 2 --vehicles 1001 --requests 1",
         status: 2,
         text: "words refused\n",
     },
     Drill {
-        side: "2",
-        vehicles: "1",
-        requests: "16001",
-        seed: "1",
+        words: "drill --seed 1 --side 2 --vehicles 1 --requests 16001",
         status: 2,
         text: "words refused\n",
     },
     Drill {
-        side: "2",
-        vehicles: "1",
-        requests: "1",
-        seed: "2147483648",
+        words: "drill --seed 2147483648 --side 2 --vehicles 1 --requests 1",
         status: 2,
         text: "words refused\n",
     },
     Drill {
-        side: "two",
-        vehicles: "1",
-        requests: "1",
-        seed: "1",
+        words: "drill --seed 1 --side two --vehicles 1 --requests 1",
         status: 2,
         text: "words refused\n",
     },
 ];
 
+/// A drill of a city.
+const CITY: &str = "drill --side 40 --vehicles 50 --requests 400 --seed 1";
+
 #[test]
-fn drills_have_their_lines(rt: HostRuntime) -> Result<(), Fail> {
+fn drills_have_their_lines(rt: HostRuntime) {
     for case in DRILLS.as_slice() {
-        expect(&rt, case)?;
+        let files = Setup::whole(b"", b"", b"", b"");
+        expect(
+            &rt,
+            case.text,
+            case.words,
+            files,
+            End::new(case.status, case.text),
+        );
     }
-    Ok(())
-}
-
-fn expect<R: Abort + Threads + Wait + Sync + AllocGlobal>(
-    rt: &R,
-    case: &Drill,
-) -> Result<(), Fail> {
-    let words = [
-        "drill",
-        "--seed",
-        case.seed,
-        "--side",
-        case.side,
-        "--vehicles",
-        case.vehicles,
-        "--requests",
-        case.requests,
-    ];
-    let answer = answer_to(rt, &words, Setup::whole(b"", b"", b"", b""))?;
-    assert!(rt;
-        answer.is(case.status, case.text),
-        "{}: {}",
-        case.text,
-        answer.text()
-    );
-    Ok(())
 }
 
 #[test]
-fn a_drill_of_a_city_is_the_same_each_time(rt: HostRuntime) -> Result<(), Fail> {
-    let words = [
-        "drill",
-        "--side",
-        "40",
-        "--vehicles",
-        "50",
-        "--requests",
-        "400",
-        "--seed",
-        "1",
-    ];
-    let first = answer_to(&rt, &words, Setup::whole(b"", b"", b"", b""))?;
-    let second = answer_to(&rt, &words, Setup::whole(b"", b"", b"", b""))?;
-    assert_eq!(rt; first.status, 0);
-    assert_eq!(rt; first.text(), second.text());
-    assert!(rt; adds_up(first.text()), "{}", first.text());
-    Ok(())
+fn a_drill_of_a_city_is_the_same_each_time(rt: HostRuntime) {
+    let first = answer_to(&rt, CITY, Setup::whole(b"", b"", b"", b""));
+    let second = answer_to(&rt, CITY, Setup::whole(b"", b"", b"", b""));
+    assert!(rt; are_same(first, second));
+}
+
+// Whether two drills of the city ended well, with one line, whose numbers add up.
+fn are_same(first: Answer<'_>, second: Answer<'_>) -> bool {
+    first.status == 0 && first.text() == second.text() && adds_up(first.text())
 }
 
 // Whether all requests of the city were confirmed or turned away, and all that were confirmed were dropped.
@@ -173,12 +108,14 @@ fn adds_up(line: &str) -> bool {
     let Some((away, dropped)) = rest.split_once(" dropped ") else {
         return false;
     };
-    let (Ok(confirmed), Ok(away), Ok(dropped)) = (
-        confirmed.parse::<u32>(),
-        away.parse::<u32>(),
-        dropped.trim_end().parse::<u32>(),
-    ) else {
+    if dropped.strip_suffix('\n') != Some(confirmed) {
         return false;
-    };
-    confirmed.checked_add(away) == Some(400) && dropped == confirmed
+    }
+    sum_of(confirmed, away) == Some(400)
+}
+
+fn sum_of(first: &str, second: &str) -> Option<u32> {
+    let first = first.parse::<u32>().ok()?;
+    let second = second.parse::<u32>().ok()?;
+    first.checked_add(second)
 }

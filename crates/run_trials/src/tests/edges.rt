@@ -1,93 +1,78 @@
 //! Empty files, bad lines, missing roads, and texts of odd forms.
-use super::replays::Replay;
-use super::texts::Part;
+use super::replays::{Replay, expect_all};
 use super::{DEFAULTS, LINE, ONE_BY_ONE};
 
-pub(super) static EDGES: [Replay; 10] = [
+#[test]
+fn odd_files_have_their_logs(rt: HostRuntime) {
+    expect_all(&rt, EDGES.as_slice());
+}
+
+static EDGES: [Replay; 10] = [
     Replay {
         shows: "an empty feed has two ends",
         map: LINE,
         fleet: DEFAULTS,
-        feed: &[Part::Text("")],
-        log: &[Part::Text(
-            "log 1 feeds 1 desks 1\n\
+        feed: "",
+        log: "log 1 feeds 1 desks 1\n\
 f1 end\n\
 d1 end\n",
-        )],
         audit: "yes entries 2 confirmed 0 away 0 picked 0 dropped 0 finished yes\n",
     },
     Replay {
         shows: "an empty fleet turns all away",
         map: LINE,
-        fleet: &[Part::Text("")],
-        feed: &[Part::Text(
-            "request 7 2 4 1 600 300\n\
+        fleet: "",
+        feed: "request 7 2 4 1 600 300\n\
 batch\n",
-        )],
-        log: &[Part::Text(
-            "log 1 feeds 1 desks 1\n\
+        log: "log 1 feeds 1 desks 1\n\
 f1 request 7 2 4 1 600 300 = waiting\n\
 f1 batch = asked 1\n\
 d1 open 1 at 0 requests 7 plans\n\
 d1 commit 1 cost 3600 seats prices 7:3600 pays outcomes 7:away\n\
 f1 end\n\
 d1 end\n",
-        )],
         audit: "yes entries 6 confirmed 0 away 1 picked 0 dropped 0 finished yes\n",
     },
     Replay {
         shows: "a bad line is noted by its number",
         map: LINE,
         fleet: ONE_BY_ONE,
-        feed: &[Part::Text(
-            "# a comment\n\
+        feed: "# a comment\n\
 \n\
 banana\n\
 clock 20",
-        )],
-        log: &[Part::Text(
-            "log 1 feeds 1 desks 1\n\
+        log: "log 1 feeds 1 desks 1\n\
 f1 bad 3\n\
 f1 clock 20 = now 20\n\
 f1 end\n\
 d1 end\n",
-        )],
         audit: "yes entries 4 confirmed 0 away 0 picked 0 dropped 0 finished yes\n",
     },
     Replay {
         shows: "a request without a road is turned away",
-        map: &[Part::Text("p sp 2 0\n")],
+        map: "p sp 2 0\n",
         fleet: DEFAULTS,
-        feed: &[Part::Text(
-            "request 7 1 2 1 600 300\n\
+        feed: "request 7 1 2 1 600 300\n\
 batch\n",
-        )],
-        log: &[Part::Text(
-            "log 1 feeds 1 desks 1\n\
+        log: "log 1 feeds 1 desks 1\n\
 f1 request 7 1 2 1 600 300 = waiting\n\
 f1 batch = asked 1\n\
 d1 open 1 at 0 requests 7 plans 1@0\n\
 d1 commit 1 cost 3600 seats prices 7:3600 pays outcomes 7:away\n\
 f1 end\n\
 d1 end\n",
-        )],
         audit: "yes entries 6 confirmed 0 away 1 picked 0 dropped 0 finished yes\n",
     },
     Replay {
         shows: "a report without a road to the first stop is refused",
-        map: &[Part::Text(
-            "p sp 3 2\n\
+        map: "p sp 3 2\n\
 a 1 2 60\n\
 a 2 3 60\n",
-        )],
         fleet: DEFAULTS,
-        feed: &[Part::Text(
-            "request 7 2 3 1 600 300\n\
+        feed: "request 7 2 3 1 600 300\n\
 batch\n\
 at 1 3 70\n",
-        )],
-        log: &[Part::Text(
-            "log 1 feeds 1 desks 1\n\
+        log: "log 1 feeds 1 desks 1\n\
 f1 request 7 2 3 1 600 300 = waiting\n\
 f1 batch = asked 1\n\
 d1 open 1 at 0 requests 7 plans 1@0\n\
@@ -95,137 +80,106 @@ d1 commit 1 cost 120 seats 7:1:0:0 prices* outcomes 7:confirmed\n\
 f1 at 1 3 70 = refused 13\n\
 f1 end\n\
 d1 end\n",
-        )],
         audit: "yes entries 7 confirmed 1 away 0 picked 0 dropped 0 finished yes\n",
     },
     Replay {
         shows: "a far node is turned away",
-        map: &[Part::Text(
-            "p sp 2 1\n\
+        map: "p sp 2 1\n\
 a 1 2 1000000000\n",
-        )],
         fleet: ONE_BY_ONE,
-        feed: &[Part::Text(
-            "request 7 1 2 1 0 1000000\n\
+        feed: "request 7 1 2 1 0 1000000\n\
 batch\n",
-        )],
-        log: &[Part::Text(
-            "log 1 feeds 1 desks 1\n\
+        log: "log 1 feeds 1 desks 1\n\
 f1 request 7 1 2 1 0 1000000 = waiting\n\
 f1 batch = asked 1\n\
 d1 open 1 at 0 requests 7 plans 1@0\n\
 d1 commit 1 cost 3600 seats prices 7:3600 pays outcomes 7:away\n\
 f1 end\n\
 d1 end\n",
-        )],
         audit: "yes entries 6 confirmed 0 away 1 picked 0 dropped 0 finished yes\n",
     },
     Replay {
         shows: "a map that ends within its last line",
-        map: &[Part::Text(
-            "p sp 4 6\n\
+        map: "p sp 4 6\n\
 a 1 2 60\n\
 a 2 1 60\n\
 a 2 3 60\n\
 a 3 2 60\n\
 a 3 4 60\n\
 a 4 3 6",
-        )],
         fleet: ONE_BY_ONE,
-        feed: &[Part::Text(
-            "request 7 2 4 1 600 300\n\
+        feed: "request 7 2 4 1 600 300\n\
 batch\n",
-        )],
-        log: &[Part::Text(
-            "log 1 feeds 1 desks 1\n\
+        log: "log 1 feeds 1 desks 1\n\
 f1 request 7 2 4 1 600 300 = waiting\n\
 f1 batch = asked 1\n\
 d1 open 1 at 0 requests 7 plans 1@0\n\
 d1 commit 1 cost 180 seats 7:1:0:0 prices* outcomes 7:confirmed\n\
 f1 end\n\
 d1 end\n",
-        )],
         audit: "yes entries 6 confirmed 1 away 0 picked 0 dropped 0 finished yes\n",
     },
     Replay {
         shows: "a map without its last line's end",
-        map: &[Part::Text(
-            "p sp 4 6\n\
+        map: "p sp 4 6\n\
 a 1 2 60\n\
 a 2 1 60\n\
 a 2 3 60\n\
 a 3 2 60\n\
 a 3 4 60\n\
 a 4 3 60",
-        )],
         fleet: ONE_BY_ONE,
-        feed: &[Part::Text(
-            "request 7 2 4 1 600 300\n\
+        feed: "request 7 2 4 1 600 300\n\
 batch\n",
-        )],
-        log: &[Part::Text(
-            "log 1 feeds 1 desks 1\n\
+        log: "log 1 feeds 1 desks 1\n\
 f1 request 7 2 4 1 600 300 = waiting\n\
 f1 batch = asked 1\n\
 d1 open 1 at 0 requests 7 plans 1@0\n\
 d1 commit 1 cost 180 seats 7:1:0:0 prices* outcomes 7:confirmed\n\
 f1 end\n\
 d1 end\n",
-        )],
         audit: "yes entries 6 confirmed 1 away 0 picked 0 dropped 0 finished yes\n",
     },
     Replay {
         shows: "blanks, comments and the least of parallel arcs",
-        map: &[Part::Text(
-            "c roads\r\n\
+        map: "c roads\r\n\
 p sp 2 4\r\n\
 a 1 2 60\r\n\
 a\t1 2  50 \r\n\
 a 2 1 60\r\n\
 a 1 1 7",
-        )],
         fleet: DEFAULTS,
-        feed: &[Part::Text(
-            "request 7 1 2 1 600 300\n\
+        feed: "request 7 1 2 1 600 300\n\
 batch\n",
-        )],
-        log: &[Part::Text(
-            "log 1 feeds 1 desks 1\n\
+        log: "log 1 feeds 1 desks 1\n\
 f1 request 7 1 2 1 600 300 = waiting\n\
 f1 batch = asked 1\n\
 d1 open 1 at 0 requests 7 plans 1@0\n\
 d1 commit 1 cost 50 seats 7:1:0:0 prices* outcomes 7:confirmed\n\
 f1 end\n\
 d1 end\n",
-        )],
         audit: "yes entries 6 confirmed 1 away 0 picked 0 dropped 0 finished yes\n",
     },
     Replay {
         shows: "blanks, comments and the least of parallel arcs in a feed as well",
-        map: &[Part::Text(
-            "c roads\r\n\
+        map: "c roads\r\n\
 p sp 2 4\r\n\
 a 1 2 60\r\n\
 a\t1 2  50 \r\n\
 a 2 1 60\r\n\
 a 1 1 7",
-        )],
         fleet: DEFAULTS,
-        feed: &[Part::Text(
-            "# one request\n\
+        feed: "# one request\n\
 \trequest  007 1 2 1 600 300 \r\n\
 \n\
 batch",
-        )],
-        log: &[Part::Text(
-            "log 1 feeds 1 desks 1\n\
+        log: "log 1 feeds 1 desks 1\n\
 f1 request 7 1 2 1 600 300 = waiting\n\
 f1 batch = asked 1\n\
 d1 open 1 at 0 requests 7 plans 1@0\n\
 d1 commit 1 cost 50 seats 7:1:0:0 prices* outcomes 7:confirmed\n\
 f1 end\n\
 d1 end\n",
-        )],
         audit: "yes entries 6 confirmed 1 away 0 picked 0 dropped 0 finished yes\n",
     },
 ];

@@ -1,12 +1,8 @@
 //! Words that are not in order, files that are missing, faults with the text before them, and files beyond their limits.
-use super::texts::{Part, text_of};
-use super::{
-    FEED, File, LINE, LINE_TEXT, LOG, ONE_BY_ONE, ONE_BY_ONE_TEXT, PIECES, REPLAY, ROOM, Setup,
-    answer_to,
-};
+use super::texts::text_of;
+use super::{End, FEED, File, LINE, LOG, ONE_BY_ONE, PIECES, REPLAY, ROOM, Setup, expect};
 use std::process::Abort;
 use std::sync::Wait;
-use std::test::Fail;
 use std::thread::Threads;
 
 /// The reads of a file that fail, numbered from 1, and the lengths of its pieces.
@@ -29,11 +25,11 @@ const WHOLE: Reads = Reads {
 /// A replay of one request whose files, reads or sink are other ones, and how it ends.
 struct Fault {
     shows: &'static str,
-    words: &'static [&'static str],
-    map: &'static [Part],
+    words: &'static str,
+    map: &'static str,
     reads_of_map: Reads,
-    fleet: &'static [Part],
-    feed: &'static [Part],
+    fleet: &'static str,
+    feed: &'static str,
     reads_of_feed: Reads,
     room: usize,
     status: u8,
@@ -44,11 +40,11 @@ struct Fault {
 static FAULTS: [Fault; 13] = [
     Fault {
         shows: "a file that is missing",
-        words: &["replay", "--map", "x", "--fleet", "f", "--feed", "r"],
+        words: "replay --map x --fleet f --feed r",
         map: LINE,
         reads_of_map: WHOLE,
         fleet: ONE_BY_ONE,
-        feed: &[Part::Text(FEED)],
+        feed: FEED,
         reads_of_feed: WHOLE,
         room: ROOM,
         status: 5,
@@ -57,11 +53,11 @@ static FAULTS: [Fault; 13] = [
     },
     Fault {
         shows: "a file that is missing",
-        words: &["replay", "--map", "m", "--fleet", "x", "--feed", "r"],
+        words: "replay --map m --fleet x --feed r",
         map: LINE,
         reads_of_map: WHOLE,
         fleet: ONE_BY_ONE,
-        feed: &[Part::Text(FEED)],
+        feed: FEED,
         reads_of_feed: WHOLE,
         room: ROOM,
         status: 5,
@@ -70,11 +66,11 @@ static FAULTS: [Fault; 13] = [
     },
     Fault {
         shows: "a file that is missing",
-        words: &["replay", "--map", "m", "--fleet", "f", "--feed", "x"],
+        words: "replay --map m --fleet f --feed x",
         map: LINE,
         reads_of_map: WHOLE,
         fleet: ONE_BY_ONE,
-        feed: &[Part::Text(FEED)],
+        feed: FEED,
         reads_of_feed: WHOLE,
         room: ROOM,
         status: 5,
@@ -83,22 +79,20 @@ static FAULTS: [Fault; 13] = [
     },
     Fault {
         shows: "a faulty line of a map that was read whole comes before a fault",
-        words: &REPLAY,
-        map: &[Part::Text(
-            "p sp 4 6\n\
+        words: REPLAY,
+        map: "p sp 4 6\n\
 a 1 2 60\n\
 a 2 1 60\n\
 a 2 3 60\n\
 a 3 2 60\n\
 a 3 4 60\n\
 a 4 5 60\n",
-        )],
         reads_of_map: Reads {
             pieces: &[],
             failing: &[2],
         },
         fleet: ONE_BY_ONE,
-        feed: &[Part::Text(FEED)],
+        feed: FEED,
         reads_of_feed: WHOLE,
         room: ROOM,
         status: 3,
@@ -107,22 +101,20 @@ a 4 5 60\n",
     },
     Fault {
         shows: "a faulty line of a map in pieces comes before a fault",
-        words: &REPLAY,
-        map: &[Part::Text(
-            "p sp 4 6\n\
+        words: REPLAY,
+        map: "p sp 4 6\n\
 a 1 2 60\n\
 a 2 1 60\n\
 a 2 3 60\n\
 a 3 2 60\n\
 a 3 4 60\n\
 a 4 5 60\n",
-        )],
         reads_of_map: Reads {
             pieces: &[7],
             failing: &[10],
         },
         fleet: ONE_BY_ONE,
-        feed: &[Part::Text(FEED)],
+        feed: FEED,
         reads_of_feed: WHOLE,
         room: ROOM,
         status: 3,
@@ -131,11 +123,11 @@ a 4 5 60\n",
     },
     Fault {
         shows: "a feed whose first read fails is cut",
-        words: &REPLAY,
+        words: REPLAY,
         map: LINE,
         reads_of_map: WHOLE,
         fleet: ONE_BY_ONE,
-        feed: &[Part::Text(FEED)],
+        feed: FEED,
         reads_of_feed: Reads {
             pieces: &[24],
             failing: &[1],
@@ -149,11 +141,11 @@ d1 end\n",
     },
     Fault {
         shows: "a feed whose second read fails is cut behind its first line",
-        words: &REPLAY,
+        words: REPLAY,
         map: LINE,
         reads_of_map: WHOLE,
         fleet: ONE_BY_ONE,
-        feed: &[Part::Text(FEED)],
+        feed: FEED,
         reads_of_feed: Reads {
             pieces: &[24],
             failing: &[2],
@@ -168,11 +160,11 @@ d1 end\n",
     },
     Fault {
         shows: "a fault of the sink comes before one of the feed",
-        words: &REPLAY,
+        words: REPLAY,
         map: LINE,
         reads_of_map: WHOLE,
         fleet: ONE_BY_ONE,
-        feed: &[Part::Text(FEED)],
+        feed: FEED,
         reads_of_feed: Reads {
             pieces: &[24],
             failing: &[2],
@@ -184,11 +176,11 @@ d1 end\n",
     },
     Fault {
         shows: "a refusal of a map stands where the sink fails at its line",
-        words: &REPLAY,
-        map: &[],
+        words: REPLAY,
+        map: "",
         reads_of_map: WHOLE,
         fleet: ONE_BY_ONE,
-        feed: &[Part::Text(FEED)],
+        feed: FEED,
         reads_of_feed: WHOLE,
         room: 5,
         status: 3,
@@ -197,11 +189,11 @@ d1 end\n",
     },
     Fault {
         shows: "a refusal of a fleet file stands where the sink fails at its line",
-        words: &REPLAY,
+        words: REPLAY,
         map: LINE,
         reads_of_map: WHOLE,
-        fleet: &[Part::Text("vehicles")],
-        feed: &[Part::Text(FEED)],
+        fleet: "vehicles",
+        feed: FEED,
         reads_of_feed: WHOLE,
         room: 5,
         status: 4,
@@ -210,11 +202,11 @@ d1 end\n",
     },
     Fault {
         shows: "a feed of too many lines is cut",
-        words: &REPLAY,
+        words: REPLAY,
         map: LINE,
         reads_of_map: WHOLE,
         fleet: ONE_BY_ONE,
-        feed: &[Part::Each(1, 1_000_001, "\n")],
+        feed: "<1000001|\n>",
         reads_of_feed: WHOLE,
         room: ROOM,
         status: 8,
@@ -225,15 +217,11 @@ d1 end\n",
     },
     Fault {
         shows: "a feed of too many bytes is cut",
-        words: &REPLAY,
+        words: REPLAY,
         map: LINE,
         reads_of_map: WHOLE,
         fleet: ONE_BY_ONE,
-        feed: &[Part::Each(
-            1,
-            671_089,
-            "#--------------------------------------------------------------------------------------------------\n",
-        )],
+        feed: "<671089|#--------------------------------------------------------------------------------------------------\n>",
         reads_of_feed: WHOLE,
         room: ROOM,
         status: 8,
@@ -244,11 +232,11 @@ d1 end\n",
     },
     Fault {
         shows: "a fleet file of more than a mebibyte",
-        words: &REPLAY,
+        words: REPLAY,
         map: LINE,
         reads_of_map: WHOLE,
-        fleet: &[Part::Each(1, 1_048_577, "\n")],
-        feed: &[Part::Text(FEED)],
+        fleet: "<1048577|\n>",
+        feed: FEED,
         reads_of_feed: WHOLE,
         room: ROOM,
         status: 8,
@@ -258,178 +246,96 @@ d1 end\n",
 ];
 
 /// Words that are not in order.
-const REFUSED: [&[&str]; 21] = [
-    &[],
-    &["plan"],
-    &["--help"],
-    &["replay", "--help"],
-    &["replay", "--version"],
-    &["replay", "help"],
-    &["replay", "--map", "m", "--fleet", "f"],
-    &["replay", "--map", "m", "--fleet", "f", "--feed"],
-    &[
-        "replay", "--map", "m", "--map", "m", "--fleet", "f", "--feed", "r",
-    ],
-    &[
-        "replay", "--map", "m", "--fleet", "f", "--feed", "r", "more",
-    ],
-    &["replay", "--map", "m", "--fleet", "f", "--log", "l"],
-    &["audit", "--map", "m", "--fleet", "f", "--feed", "r"],
-    &[
-        "serve",
-        "--map",
-        "m",
-        "--fleet",
-        "f",
-        "--riders",
-        "r",
-        "--drivers",
-        "d",
-        "--workers",
-        "0",
-        "--desks",
-        "1",
-    ],
-    &[
-        "serve",
-        "--map",
-        "m",
-        "--fleet",
-        "f",
-        "--riders",
-        "r",
-        "--drivers",
-        "d",
-        "--workers",
-        "17",
-        "--desks",
-        "1",
-    ],
-    &[
-        "serve",
-        "--map",
-        "m",
-        "--fleet",
-        "f",
-        "--riders",
-        "r",
-        "--drivers",
-        "d",
-        "--workers",
-        "1",
-        "--desks",
-        "0",
-    ],
-    &[
-        "serve",
-        "--map",
-        "m",
-        "--fleet",
-        "f",
-        "--riders",
-        "r",
-        "--drivers",
-        "d",
-        "--workers",
-        "1",
-        "--desks",
-        "3",
-    ],
-    &[
-        "serve",
-        "--map",
-        "m",
-        "--fleet",
-        "f",
-        "--riders",
-        "r",
-        "--drivers",
-        "d",
-        "--workers",
-        "one",
-        "--desks",
-        "1",
-    ],
-    &[
-        "ahead", "--map", "m", "--fleet", "f", "--feed", "r", "--reach", "0",
-    ],
-    &[
-        "ahead", "--map", "m", "--fleet", "f", "--feed", "r", "--reach", "1000001",
-    ],
-    &[
-        "ahead", "--map", "m", "--fleet", "f", "--feed", "r", "--reach", "x",
-    ],
-    &["ahead", "--map", "m", "--fleet", "f", "--feed", "r"],
+static REFUSED: [&str; 21] = [
+    "",
+    "plan",
+    "--help",
+    "replay --help",
+    "replay --version",
+    "replay help",
+    "replay --map m --fleet f",
+    "replay --map m --fleet f --feed",
+    "replay --map m --map m --fleet f --feed r",
+    "replay --map m --fleet f --feed r more",
+    "replay --map m --fleet f --log l",
+    "audit --map m --fleet f --feed r",
+    "serve --map m --fleet f --riders r --drivers d --workers 0 --desks 1",
+    "serve --map m --fleet f --riders r --drivers d --workers 17 --desks 1",
+    "serve --map m --fleet f --riders r --drivers d --workers 1 --desks 0",
+    "serve --map m --fleet f --riders r --drivers d --workers 1 --desks 3",
+    "serve --map m --fleet f --riders r --drivers d --workers one --desks 1",
+    "ahead --map m --fleet f --feed r --reach 0",
+    "ahead --map m --fleet f --feed r --reach 1000001",
+    "ahead --map m --fleet f --feed r --reach x",
+    "ahead --map m --fleet f --feed r",
 ];
 
 /// Words that are in order, whatever the order of their options.
-const IN_ORDER: [&[&str]; 4] = [
-    &["replay", "--map", "m", "--fleet", "f", "--feed", "r"],
-    &["replay", "--feed", "r", "--map", "m", "--fleet", "f"],
-    &["replay", "--fleet", "f", "--feed", "r", "--map", "m"],
-    &["replay", "--feed=r", "--map=m", "--fleet", "f"],
+static IN_ORDER: [&str; 4] = [
+    "replay --map m --fleet f --feed r",
+    "replay --feed r --map m --fleet f",
+    "replay --fleet f --feed r --map m",
+    "replay --feed=r --map=m --fleet f",
 ];
 
 #[test]
-fn words_are_in_order_or_refused(rt: HostRuntime) -> Result<(), Fail> {
+fn words_are_in_order_or_refused(rt: HostRuntime) {
+    for words in REFUSED.as_slice() {
+        expect_refused(&rt, words);
+    }
+    for words in IN_ORDER.as_slice() {
+        expect_replayed(&rt, words);
+    }
+}
+
+// Asserts that words are refused, by a line of which a sink takes what it has room for.
+fn expect_refused<R: Abort + Threads + Wait + Sync + AllocGlobal>(rt: &R, words: &str) {
     let files = Setup::worked();
-    for words in REFUSED {
-        let answer = answer_to(&rt, words, files)?;
-        assert_eq!(rt;
-            (answer.status, answer.text()),
-            (2, "words refused\n"),
-            "{words:?}"
+    let shows = "words that are not in order";
+    expect(rt, shows, words, files, End::new(2, "words refused\n"));
+    expect(rt, shows, words, files.with_room(7), End::new(2, "words r"));
+}
+
+// Asserts that words give the worked request's log, whatever the pieces in which the files are read.
+fn expect_replayed<R: Abort + Threads + Wait + Sync + AllocGlobal>(rt: &R, words: &str) {
+    for pieces in PIECES {
+        let files = Setup::new(
+            File::new(LINE.as_bytes(), pieces, &[]),
+            File::new(ONE_BY_ONE.as_bytes(), pieces, &[]),
+            File::new(FEED.as_bytes(), pieces, &[]),
+            ROOM,
         );
-        let answer = answer_to(&rt, words, files.with_room(7))?;
-        assert_eq!(rt; (answer.status, answer.text()), (2, "words r"), "{words:?}");
+        expect(
+            rt,
+            "words that are in order",
+            words,
+            files,
+            End::new(0, LOG),
+        );
     }
-    for words in IN_ORDER {
-        let answer = answer_to(&rt, words, files)?;
-        assert_eq!(rt; (answer.status, answer.text()), (0, LOG), "{words:?}");
-    }
-    Ok(())
 }
 
 #[test]
-fn faults_have_their_status_and_text(rt: HostRuntime) -> Result<(), Fail> {
+fn faults_have_their_status_and_text(rt: HostRuntime) {
     for case in FAULTS.as_slice() {
-        expect(&rt, case)?;
+        expect_fault(&rt, case);
     }
-    Ok(())
 }
 
-fn expect<R: Abort + Threads + Wait + Sync + AllocGlobal>(
-    rt: &R,
-    case: &Fault,
-) -> Result<(), Fail> {
-    let map = text_of(rt.alloc(), case.map)?;
-    let fleet = text_of(rt.alloc(), case.fleet)?;
-    let feed = text_of(rt.alloc(), case.feed)?;
+fn expect_fault<R: Abort + Threads + Wait + Sync + AllocGlobal>(rt: &R, case: &Fault) {
+    let map = text_of(rt, case.map);
+    let fleet = text_of(rt, case.fleet);
+    let feed = text_of(rt, case.feed);
     let files = Setup::new(
         case.reads_of_map.of(map.as_bytes()),
         File::whole(fleet.as_bytes()),
         case.reads_of_feed.of(feed.as_bytes()),
         case.room,
     );
-    let answer = answer_to(rt, case.words, files)?;
-    assert_eq!(rt; answer.text(), case.written, "{}", case.shows);
-    assert_eq!(rt; answer.status, case.status, "{}", case.shows);
-    assert_eq!(rt; answer.faults, case.faults, "{}", case.shows);
-    Ok(())
-}
-
-#[test]
-fn a_replay_in_pieces_of_any_length(rt: HostRuntime) -> Result<(), Fail> {
-    for pieces in PIECES {
-        let files = Setup::new(
-            File::new(LINE_TEXT.as_bytes(), pieces, &[]),
-            File::new(ONE_BY_ONE_TEXT.as_bytes(), pieces, &[]),
-            File::new(FEED.as_bytes(), pieces, &[]),
-            ROOM,
-        );
-        let answer = answer_to(&rt, &REPLAY, files)?;
-        assert_eq!(rt; answer.text(), LOG);
-        assert_eq!(rt; answer.status, 0);
-    }
-    Ok(())
+    let end = End {
+        status: case.status,
+        faults: case.faults,
+        written: case.written,
+    };
+    expect(rt, case.shows, case.words, files, end);
 }

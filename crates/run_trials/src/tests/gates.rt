@@ -49,6 +49,10 @@ impl<'a> Gated<'a> {
         self.missed.load(Ordering::SeqCst) == 0
     }
 
+    fn has_meetings(&self) -> bool {
+        !self.meetings.is_empty()
+    }
+
     fn count(&self, place: u32) {
         match place {
             1 => {
@@ -102,21 +106,26 @@ impl<'a> Gate for Gated<'a> {
 
 /// A sink that passes a gate once it has taken the line of the first opening.
 #[derive(Drop)]
-pub(super) struct Watched<'a> {
-    pub(super) sink: MemSink<'a>,
-    pub(super) gate: &'a Gated<'a>,
+pub(super) struct Watched<'s, 'g> {
+    pub(super) sink: MemSink<'s>,
+    pub(super) gate: &'g Gated<'g>,
 }
 
-impl<'a> Sink for Watched<'a> {
+impl<'s, 'g> Sink for Watched<'s, 'g> {
     ghost written = { λ w. Some w.sink.written };
 
     ghost faults = { λ w. w.sink.calls.faults };
 
     fn write(&mut self, piece: &[u8]) -> Result<usize, Failed> {
         let count = self.sink.write(piece)?;
-        if str::from_utf8(self.sink.written()).is_ok_and(|text| text.contains(FIRST_OPENING)) {
+        if self.gate.has_meetings() && is_opened(self.sink.written()) {
             self.gate.pass(LOGGED);
         }
         Ok(count)
     }
+}
+
+// Whether a log has the line of the first opening.
+fn is_opened(log: &[u8]) -> bool {
+    str::from_utf8(log).unwrap_or("").contains(FIRST_OPENING)
 }

@@ -1,78 +1,51 @@
 //! Files at their limits.
-use super::replays::Replay;
-use super::texts::Part;
+use super::replays::{Replay, expect_all};
 use super::{DEFAULTS, LINE, ONE_BY_ONE};
 
-pub(super) static LIMITS: [Replay; 11] = [
+#[test]
+fn files_at_their_limits_have_their_logs(rt: HostRuntime) {
+    expect_all(&rt, LIMITS.as_slice());
+}
+
+static LIMITS: [Replay; 11] = [
     Replay {
         shows: "a batch takes the first 128",
         map: LINE,
-        fleet: &[Part::Text("set batch 128\n")],
-        feed: &[
-            Part::Each(1, 129, "request % 2 4 1 600 300\n"),
-            Part::Text(
-                "batch\n\
+        fleet: "set batch 128\n",
+        feed: "<129|request % 2 4 1 600 300\n>\
+batch\n\
 cancel 129\n\
 cancel 1\n",
-            ),
-        ],
-        log: &[
-            Part::Text("log 1 feeds 1 desks 1\n"),
-            Part::Each(1, 129, "f1 request % 2 4 1 600 300 = waiting\n"),
-            Part::Text(
-                "f1 batch = asked 1\n\
-d1 open 1 at 0 requests",
-            ),
-            Part::Each(1, 128, " %"),
-            Part::Text(
-                " plans\n\
-d1 commit 1 cost 460800 seats prices",
-            ),
-            Part::Each(1, 128, " %:3600"),
-            Part::Text(" pays outcomes"),
-            Part::Each(1, 128, " %:away"),
-            Part::Text(
-                "\n\
+        log: "log 1 feeds 1 desks 1\n\
+<129|f1 request % 2 4 1 600 300 = waiting\n>\
+f1 batch = asked 1\n\
+d1 open 1 at 0 requests<128| %> plans\n\
+d1 commit 1 cost 460800 seats prices<128| %:3600> pays outcomes<128| %:away>\n\
 f1 cancel 129 = cancelled\n\
 f1 cancel 1 = refused 9\n\
 f1 end\n\
 d1 end\n",
-            ),
-        ],
         audit: "yes entries 136 confirmed 0 away 128 picked 0 dropped 0 finished yes\n",
     },
     Replay {
         shows: "an over-long line is bad and a comment is not",
         map: LINE,
         fleet: DEFAULTS,
-        feed: &[
-            Part::Each(1, 201, "x"),
-            Part::Text(
-                "\n\
-#",
-            ),
-            Part::Each(1, 200, "x"),
-        ],
-        log: &[Part::Text(
-            "log 1 feeds 1 desks 1\n\
+        feed: "<201|x>\n\
+#<200|x>",
+        log: "log 1 feeds 1 desks 1\n\
 f1 bad 1\n\
 f1 end\n\
 d1 end\n",
-        )],
         audit: "yes entries 3 confirmed 0 away 0 picked 0 dropped 0 finished yes\n",
     },
     Replay {
         shows: "a plan of 16 stops takes no ride",
         map: LINE,
-        fleet: &[Part::Text("vehicle 1 16 1 0\n")],
-        feed: &[Part::Each(
-            1,
-            9,
-            "request % 2 4 1 600 300\n\
-batch\n",
-        )],
-        log: &[Part::Text(
-            "log 1 feeds 1 desks 1\n\
+        fleet: "vehicle 1 16 1 0\n",
+        feed: "<9|request % 2 4 1 600 300\n\
+batch\n>",
+        log: "log 1 feeds 1 desks 1\n\
 f1 request 1 2 4 1 600 300 = waiting\n\
 f1 batch = asked 1\n\
 d1 open 1 at 0 requests 1 plans 1@0\n\
@@ -111,99 +84,72 @@ d1 open 9 at 0 requests 9 plans 1@8\n\
 d1 commit 9 cost 3600 seats prices 9:3600 pays outcomes 9:away\n\
 f1 end\n\
 d1 end\n",
-        )],
         audit: "yes entries 38 confirmed 8 away 1 picked 0 dropped 0 finished yes\n",
     },
     Replay {
         shows: "at most 2000 batches are asked for",
         map: LINE,
-        fleet: &[Part::Text("")],
-        feed: &[Part::Each(1, 2001, "batch\n")],
-        log: &[
-            Part::Text("log 1 feeds 1 desks 1\n"),
-            Part::Each(
-                1,
-                2000,
-                "f1 batch = asked %\n\
+        fleet: "",
+        feed: "<2001|batch\n>",
+        log: "log 1 feeds 1 desks 1\n\
+<2000|f1 batch = asked %\n\
 d1 open % at 0 requests plans\n\
-d1 commit % cost 0 seats prices pays outcomes\n",
-            ),
-            Part::Text(
-                "f1 batch = refused 16\n\
+d1 commit % cost 0 seats prices pays outcomes\n>\
+f1 batch = refused 16\n\
 f1 end\n\
 d1 end\n",
-            ),
-        ],
         audit: "yes entries 6003 confirmed 0 away 0 picked 0 dropped 0 finished yes\n",
     },
     Replay {
         shows: "at most 100000 requests are accepted",
         map: LINE,
-        fleet: &[Part::Text("")],
-        feed: &[Part::Each(1, 100001, "request % 2 4 1 600 300\n")],
-        log: &[
-            Part::Text("log 1 feeds 1 desks 1\n"),
-            Part::Each(1, 100000, "f1 request % 2 4 1 600 300 = waiting\n"),
-            Part::Text(
-                "f1 request 100001 2 4 1 600 300 = refused 6\n\
+        fleet: "",
+        feed: "<100001|request % 2 4 1 600 300\n>",
+        log: "log 1 feeds 1 desks 1\n\
+<100000|f1 request % 2 4 1 600 300 = waiting\n>\
+f1 request 100001 2 4 1 600 300 = refused 6\n\
 f1 end\n\
 d1 end\n",
-            ),
-        ],
         audit: "yes entries 100003 confirmed 0 away 0 picked 0 dropped 0 finished yes\n",
     },
     Replay {
         shows: "ids have at most 18 digits",
         map: LINE,
         fleet: ONE_BY_ONE,
-        feed: &[Part::Text(
-            "request 999999999999999999 2 4 1 600 300\n\
+        feed: "request 999999999999999999 2 4 1 600 300\n\
 request 9999999999999999999 2 4 1 600 300\n",
-        )],
-        log: &[Part::Text(
-            "log 1 feeds 1 desks 1\n\
+        log: "log 1 feeds 1 desks 1\n\
 f1 request 999999999999999999 2 4 1 600 300 = waiting\n\
 f1 bad 2\n\
 f1 end\n\
 d1 end\n",
-        )],
         audit: "yes entries 4 confirmed 0 away 0 picked 0 dropped 0 finished yes\n",
     },
     Replay {
         shows: "an over-long comment of a map",
-        map: &[
-            Part::Each(1, 201, "c"),
-            Part::Text(
-                "\n\
+        map: "<201|c>\n\
 p sp 2 0",
-            ),
-        ],
         fleet: DEFAULTS,
-        feed: &[Part::Text("")],
-        log: &[Part::Text(
-            "log 1 feeds 1 desks 1\n\
+        feed: "",
+        log: "log 1 feeds 1 desks 1\n\
 f1 end\n\
 d1 end\n",
-        )],
         audit: "yes entries 2 confirmed 0 away 0 picked 0 dropped 0 finished yes\n",
     },
     Replay {
         shows: "an over-long comment of a fleet file",
         map: LINE,
-        fleet: &[Part::Each(1, 201, "#")],
-        feed: &[Part::Text("")],
-        log: &[Part::Text(
-            "log 1 feeds 1 desks 1\n\
+        fleet: "<201|#>",
+        feed: "",
+        log: "log 1 feeds 1 desks 1\n\
 f1 end\n\
 d1 end\n",
-        )],
         audit: "yes entries 2 confirmed 0 away 0 picked 0 dropped 0 finished yes\n",
     },
     Replay {
         shows: "the greatest values of a fleet file",
         map: LINE,
-        fleet: &[Part::Text(
-            "set batch 128\n\
+        fleet: "set batch 128\n\
 set penalty 1000000000000\n\
 set drive 1000\n\
 set wait 1000\n\
@@ -211,37 +157,30 @@ set lead 3600\n\
 set dwell 3600\n\
 set log 1\n\
 vehicle 1 16 4 1000000000 4\n",
-        )],
-        feed: &[Part::Text("")],
-        log: &[Part::Text(
-            "log 1 feeds 1 desks 1\n\
+        feed: "",
+        log: "log 1 feeds 1 desks 1\n\
 f1 end\n\
 d1 end\n",
-        )],
         audit: "yes entries 2 confirmed 0 away 0 picked 0 dropped 0 finished yes\n",
     },
     Replay {
         shows: "a fleet of 1000 vehicles",
         map: LINE,
-        fleet: &[Part::Each(1, 1000, "vehicle % 2 1 0\n")],
-        feed: &[Part::Text("")],
-        log: &[Part::Text(
-            "log 1 feeds 1 desks 1\n\
+        fleet: "<1000|vehicle % 2 1 0\n>",
+        feed: "",
+        log: "log 1 feeds 1 desks 1\n\
 f1 end\n\
 d1 end\n",
-        )],
         audit: "yes entries 2 confirmed 0 away 0 picked 0 dropped 0 finished yes\n",
     },
     Replay {
         shows: "a fleet file of a mebibyte",
         map: LINE,
-        fleet: &[Part::Each(1, 1048576, "\n")],
-        feed: &[Part::Text("")],
-        log: &[Part::Text(
-            "log 1 feeds 1 desks 1\n\
+        fleet: "<1048576|\n>",
+        feed: "",
+        log: "log 1 feeds 1 desks 1\n\
 f1 end\n\
 d1 end\n",
-        )],
         audit: "yes entries 2 confirmed 0 away 0 picked 0 dropped 0 finished yes\n",
     },
 ];

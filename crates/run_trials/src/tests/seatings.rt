@@ -1,20 +1,31 @@
 //! Who is seated where, and at what cost.
-use super::replays::Replay;
-use super::texts::Part;
+use super::replays::{Replay, expect_all};
 use super::{DEFAULTS, LINE, ONE_BY_ONE};
 
-pub(super) static SEATINGS: [Replay; 15] = [
+#[test]
+fn riders_sit_at_the_least_cost(rt: HostRuntime) {
+    expect_all(&rt, SEATINGS.as_slice());
+}
+
+#[test]
+fn limits_of_riders_are_kept_to_the_second(rt: HostRuntime) {
+    expect_all(&rt, LIMITS.as_slice());
+}
+
+#[test]
+fn penalties_weights_and_duty_decide_who_is_away(rt: HostRuntime) {
+    expect_all(&rt, PENALTIES.as_slice());
+}
+
+static SEATINGS: [Replay; 5] = [
     Replay {
         shows: "one vehicle takes one of two requests",
         map: LINE,
         fleet: DEFAULTS,
-        feed: &[Part::Text(
-            "request 7 2 4 1 600 300\n\
+        feed: "request 7 2 4 1 600 300\n\
 request 8 4 3 1 600 300\n\
 batch\n",
-        )],
-        log: &[Part::Text(
-            "log 1 feeds 1 desks 1\n\
+        log: "log 1 feeds 1 desks 1\n\
 f1 request 7 2 4 1 600 300 = waiting\n\
 f1 request 8 4 3 1 600 300 = waiting\n\
 f1 batch = asked 1\n\
@@ -22,23 +33,17 @@ d1 open 1 at 0 requests 7 8 plans 1@0\n\
 d1 commit 1 cost 3780 seats 7:1:0:0 prices* outcomes 7:confirmed 8:away\n\
 f1 end\n\
 d1 end\n",
-        )],
         audit: "yes entries 7 confirmed 1 away 1 picked 0 dropped 0 finished yes\n",
     },
     Replay {
         shows: "each request does not get its cheapest vehicle",
         map: LINE,
-        fleet: &[Part::Text(
-            "vehicle 1 2 1 0\n\
+        fleet: "vehicle 1 2 1 0\n\
 vehicle 2 2 4 0\n",
-        )],
-        feed: &[Part::Text(
-            "request 5 2 1 1 600 300\n\
+        feed: "request 5 2 1 1 600 300\n\
 request 6 1 2 1 600 300\n\
 batch\n",
-        )],
-        log: &[Part::Text(
-            "log 1 feeds 1 desks 1\n\
+        log: "log 1 feeds 1 desks 1\n\
 f1 request 5 2 1 1 600 300 = waiting\n\
 f1 request 6 1 2 1 600 300 = waiting\n\
 f1 batch = asked 1\n\
@@ -46,21 +51,17 @@ d1 open 1 at 0 requests 5 6 plans 1@0 2@0\n\
 d1 commit 1 cost 240 seats 5:2:0:0 6:1:0:0 prices* outcomes 5:confirmed 6:confirmed\n\
 f1 end\n\
 d1 end\n",
-        )],
         audit: "yes entries 7 confirmed 2 away 0 picked 0 dropped 0 finished yes\n",
     },
     Replay {
         shows: "a ride on the way is pooled at no added cost",
         map: LINE,
         fleet: DEFAULTS,
-        feed: &[Part::Text(
-            "request 7 2 4 1 600 300\n\
+        feed: "request 7 2 4 1 600 300\n\
 batch\n\
 request 9 3 4 1 600 300\n\
 batch\n",
-        )],
-        log: &[Part::Text(
-            "log 1 feeds 1 desks 1\n\
+        log: "log 1 feeds 1 desks 1\n\
 f1 request 7 2 4 1 600 300 = waiting\n\
 f1 batch = asked 1\n\
 d1 open 1 at 0 requests 7 plans 1@0\n\
@@ -71,21 +72,17 @@ d1 open 2 at 0 requests 9 plans 1@1\n\
 d1 commit 2 cost 0 seats 9:1:1:* prices* outcomes 9:confirmed\n\
 f1 end\n\
 d1 end\n",
-        )],
         audit: "yes entries 10 confirmed 2 away 0 picked 0 dropped 0 finished yes\n",
     },
     Replay {
         shows: "two do not sit in one seat, and the second is taken behind",
         map: LINE,
-        fleet: &[Part::Text("vehicle 1 1 1 0\n")],
-        feed: &[Part::Text(
-            "request 7 2 4 1 600 300\n\
+        fleet: "vehicle 1 1 1 0\n",
+        feed: "request 7 2 4 1 600 300\n\
 batch\n\
 request 9 3 4 1 600 300\n\
 batch\n",
-        )],
-        log: &[Part::Text(
-            "log 1 feeds 1 desks 1\n\
+        log: "log 1 feeds 1 desks 1\n\
 f1 request 7 2 4 1 600 300 = waiting\n\
 f1 batch = asked 1\n\
 d1 open 1 at 0 requests 7 plans 1@0\n\
@@ -96,21 +93,17 @@ d1 open 2 at 0 requests 9 plans 1@1\n\
 d1 commit 2 cost 120 seats 9:1:2:2 prices* outcomes 9:confirmed\n\
 f1 end\n\
 d1 end\n",
-        )],
         audit: "yes entries 10 confirmed 2 away 0 picked 0 dropped 0 finished yes\n",
     },
     Replay {
         shows: "two do not sit in one seat, and the second is taken before",
         map: LINE,
-        fleet: &[Part::Text("vehicle 1 1 1 0\n")],
-        feed: &[Part::Text(
-            "request 7 2 4 1 600 300\n\
+        fleet: "vehicle 1 1 1 0\n",
+        feed: "request 7 2 4 1 600 300\n\
 batch\n\
 request 10 1 3 1 600 300\n\
 batch\n",
-        )],
-        log: &[Part::Text(
-            "log 1 feeds 1 desks 1\n\
+        log: "log 1 feeds 1 desks 1\n\
 f1 request 7 2 4 1 600 300 = waiting\n\
 f1 batch = asked 1\n\
 d1 open 1 at 0 requests 7 plans 1@0\n\
@@ -121,97 +114,80 @@ d1 open 2 at 0 requests 10 plans 1@1\n\
 d1 commit 2 cost 120 seats 10:1:0:0 prices* outcomes 10:confirmed\n\
 f1 end\n\
 d1 end\n",
-        )],
         audit: "yes entries 10 confirmed 2 away 0 picked 0 dropped 0 finished yes\n",
     },
+];
+
+static LIMITS: [Replay; 5] = [
     Replay {
         shows: "a ride limit is kept to the second",
         map: LINE,
         fleet: DEFAULTS,
-        feed: &[Part::Text(
-            "request 7 2 4 1 600 120\n\
+        feed: "request 7 2 4 1 600 120\n\
 batch\n",
-        )],
-        log: &[Part::Text(
-            "log 1 feeds 1 desks 1\n\
+        log: "log 1 feeds 1 desks 1\n\
 f1 request 7 2 4 1 600 120 = waiting\n\
 f1 batch = asked 1\n\
 d1 open 1 at 0 requests 7 plans 1@0\n\
 d1 commit 1 cost 180 seats 7:1:0:0 prices* outcomes 7:confirmed\n\
 f1 end\n\
 d1 end\n",
-        )],
         audit: "yes entries 6 confirmed 1 away 0 picked 0 dropped 0 finished yes\n",
     },
     Replay {
         shows: "a latest pickup is kept to the second",
         map: LINE,
         fleet: DEFAULTS,
-        feed: &[Part::Text(
-            "request 7 2 4 1 60 300\n\
+        feed: "request 7 2 4 1 60 300\n\
 batch\n",
-        )],
-        log: &[Part::Text(
-            "log 1 feeds 1 desks 1\n\
+        log: "log 1 feeds 1 desks 1\n\
 f1 request 7 2 4 1 60 300 = waiting\n\
 f1 batch = asked 1\n\
 d1 open 1 at 0 requests 7 plans 1@0\n\
 d1 commit 1 cost 180 seats 7:1:0:0 prices* outcomes 7:confirmed\n\
 f1 end\n\
 d1 end\n",
-        )],
         audit: "yes entries 6 confirmed 1 away 0 picked 0 dropped 0 finished yes\n",
     },
     Replay {
         shows: "a ride limit is passed by a second",
         map: LINE,
         fleet: DEFAULTS,
-        feed: &[Part::Text(
-            "request 7 2 4 1 600 119\n\
+        feed: "request 7 2 4 1 600 119\n\
 batch\n",
-        )],
-        log: &[Part::Text(
-            "log 1 feeds 1 desks 1\n\
+        log: "log 1 feeds 1 desks 1\n\
 f1 request 7 2 4 1 600 119 = waiting\n\
 f1 batch = asked 1\n\
 d1 open 1 at 0 requests 7 plans 1@0\n\
 d1 commit 1 cost 3600 seats prices 7:3600 pays outcomes 7:away\n\
 f1 end\n\
 d1 end\n",
-        )],
         audit: "yes entries 6 confirmed 0 away 1 picked 0 dropped 0 finished yes\n",
     },
     Replay {
         shows: "a latest pickup is passed by a second",
         map: LINE,
         fleet: DEFAULTS,
-        feed: &[Part::Text(
-            "request 7 2 4 1 59 300\n\
+        feed: "request 7 2 4 1 59 300\n\
 batch\n",
-        )],
-        log: &[Part::Text(
-            "log 1 feeds 1 desks 1\n\
+        log: "log 1 feeds 1 desks 1\n\
 f1 request 7 2 4 1 59 300 = waiting\n\
 f1 batch = asked 1\n\
 d1 open 1 at 0 requests 7 plans 1@0\n\
 d1 commit 1 cost 3600 seats prices 7:3600 pays outcomes 7:away\n\
 f1 end\n\
 d1 end\n",
-        )],
         audit: "yes entries 6 confirmed 0 away 1 picked 0 dropped 0 finished yes\n",
     },
     Replay {
         shows: "limits of a confirmed ride hold in later batches",
         map: LINE,
         fleet: DEFAULTS,
-        feed: &[Part::Text(
-            "request 7 2 4 1 60 120\n\
+        feed: "request 7 2 4 1 60 120\n\
 batch\n\
 request 9 2 1 1 600 200\n\
 batch\n",
-        )],
-        log: &[Part::Text(
-            "log 1 feeds 1 desks 1\n\
+        log: "log 1 feeds 1 desks 1\n\
 f1 request 7 2 4 1 60 120 = waiting\n\
 f1 batch = asked 1\n\
 d1 open 1 at 0 requests 7 plans 1@0\n\
@@ -222,81 +198,64 @@ d1 open 2 at 0 requests 9 plans 1@1\n\
 d1 commit 2 cost 180 seats 9:1:2:2 prices* outcomes 9:confirmed\n\
 f1 end\n\
 d1 end\n",
-        )],
         audit: "yes entries 10 confirmed 2 away 0 picked 0 dropped 0 finished yes\n",
     },
+];
+
+static PENALTIES: [Replay; 5] = [
     Replay {
         shows: "turning away costs the penalty",
         map: LINE,
-        fleet: &[Part::Text(
-            "set penalty 179\n\
+        fleet: "set penalty 179\n\
 vehicle 1 2 1 0\n",
-        )],
-        feed: &[Part::Text(
-            "request 7 2 4 1 600 300\n\
+        feed: "request 7 2 4 1 600 300\n\
 batch\n",
-        )],
-        log: &[Part::Text(
-            "log 1 feeds 1 desks 1\n\
+        log: "log 1 feeds 1 desks 1\n\
 f1 request 7 2 4 1 600 300 = waiting\n\
 f1 batch = asked 1\n\
 d1 open 1 at 0 requests 7 plans 1@0\n\
 d1 commit 1 cost 179 seats prices 7:179 pays outcomes 7:away\n\
 f1 end\n\
 d1 end\n",
-        )],
         audit: "yes entries 6 confirmed 0 away 1 picked 0 dropped 0 finished yes\n",
     },
     Replay {
         shows: "at the cost of the penalty both are least",
         map: LINE,
-        fleet: &[Part::Text(
-            "set penalty 180\n\
+        fleet: "set penalty 180\n\
 vehicle 1 2 1 0\n",
-        )],
-        feed: &[Part::Text(
-            "request 7 2 4 1 600 300\n\
+        feed: "request 7 2 4 1 600 300\n\
 batch\n",
-        )],
-        log: &[Part::Text(
-            "log 1 feeds 1 desks 1\n\
+        log: "log 1 feeds 1 desks 1\n\
 f1 request 7 2 4 1 600 300 = waiting\n\
 f1 batch = asked 1\n\
 d1 open 1 at 0 requests 7 plans 1@0\n\
 d1 commit 1 cost 180 seats* prices 7:180 pays outcomes 7:*\n\
 f1 end\n\
 d1 end\n",
-        )],
         audit: "yes entries 6 confirmed * away * picked 0 dropped 0 finished yes\n",
     },
     Replay {
         shows: "waiting has its weight",
         map: LINE,
-        fleet: &[Part::Text(
-            "set wait 2\n\
+        fleet: "set wait 2\n\
 vehicle 1 2 1 0\n",
-        )],
-        feed: &[Part::Text(
-            "request 7 2 4 1 600 300\n\
+        feed: "request 7 2 4 1 600 300\n\
 batch\n",
-        )],
-        log: &[Part::Text(
-            "log 1 feeds 1 desks 1\n\
+        log: "log 1 feeds 1 desks 1\n\
 f1 request 7 2 4 1 600 300 = waiting\n\
 f1 batch = asked 1\n\
 d1 open 1 at 0 requests 7 plans 1@0\n\
 d1 commit 1 cost 300 seats 7:1:0:0 prices* outcomes 7:confirmed\n\
 f1 end\n\
 d1 end\n",
-        )],
         audit: "yes entries 6 confirmed 1 away 0 picked 0 dropped 0 finished yes\n",
     },
     Replay {
         shows: "a vehicle that drives since before the batch is not open",
         map: LINE,
         fleet: ONE_BY_ONE,
-        feed: &[Part::Text(
-            "request 7 2 4 1 600 300\n\
+        feed: "request 7 2 4 1 600 300\n\
 batch\n\
 clock 30\n\
 request 9 3 4 1 600 300\n\
@@ -304,9 +263,7 @@ batch\n\
 at 1 2 60\n\
 request 10 3 4 1 600 300\n\
 batch\n",
-        )],
-        log: &[Part::Text(
-            "log 1 feeds 1 desks 1\n\
+        log: "log 1 feeds 1 desks 1\n\
 f1 request 7 2 4 1 600 300 = waiting\n\
 f1 batch = asked 1\n\
 d1 open 1 at 0 requests 7 plans 1@0\n\
@@ -323,20 +280,16 @@ d1 open 3 at 30 requests 10 plans 1@2\n\
 d1 commit 3 cost 0 seats 10:1:1:* prices* outcomes 10:confirmed\n\
 f1 end\n\
 d1 end\n",
-        )],
         audit: "yes entries 16 confirmed 2 away 1 picked 0 dropped 0 finished yes\n",
     },
     Replay {
         shows: "a vehicle off duty takes no ride",
         map: LINE,
         fleet: DEFAULTS,
-        feed: &[Part::Text(
-            "off 1\n\
+        feed: "off 1\n\
 request 7 2 4 1 600 300\n\
 batch\n",
-        )],
-        log: &[Part::Text(
-            "log 1 feeds 1 desks 1\n\
+        log: "log 1 feeds 1 desks 1\n\
 f1 off 1 = duty\n\
 f1 request 7 2 4 1 600 300 = waiting\n\
 f1 batch = asked 1\n\
@@ -344,7 +297,6 @@ d1 open 1 at 0 requests 7 plans 1@1\n\
 d1 commit 1 cost 3600 seats prices 7:3600 pays outcomes 7:away\n\
 f1 end\n\
 d1 end\n",
-        )],
         audit: "yes entries 7 confirmed 0 away 1 picked 0 dropped 0 finished yes\n",
     },
 ];

@@ -1,25 +1,28 @@
 //! Sessions of two feeds: what happens while a batch is open, and what an audit says of each log.
-use super::gates::{Gated, LOGGED, Meeting};
-use super::texts::{Part, is_like, text_of};
-use super::{
-    AUDIT, DEFAULTS, DEFAULTS_TEXT, FEED, File, LINE, LINE_TEXT, Setup, answer_to, answer_with,
-};
-use std::alloc::Global;
+use super::gates::{LOGGED, Meeting};
+use super::texts::has_lines;
+use super::{DEFAULTS, FEED, File, LINE, Setup, answer_to, expect_audit};
 use std::process::Abort;
 use std::sync::Wait;
-use std::test::Fail;
 use std::thread::Threads;
+
+/// A session of one worker and one desk, one of two workers, and one of two desks as well.
+pub(super) const SERVE: &str =
+    "serve --map m --fleet f --riders r --drivers d --workers 1 --desks 1";
+
+const BY_TWO_WORKERS: &str = "serve --map m --fleet f --riders r --drivers d --workers 2 --desks 1";
+
+const BY_TWO_DESKS: &str = "serve --map m --fleet f --riders r --drivers d --workers 2 --desks 2";
 
 const RIDERS: &str = "request 7 2 4 1 600 300\nbatch\nbatch\n";
 
 /// A session of two feeds, where one thread waits at places of the gate until another has come to one.
 struct Session {
     shows: &'static str,
-    fleet: &'static [Part],
+    fleet: &'static str,
     riders: &'static str,
     drivers: &'static str,
-    workers: &'static str,
-    desks: &'static str,
+    words: &'static str,
     meetings: &'static [Meeting],
     /// The lines of the desk, and of the drivers' reports and clocks, in order, in which `*` is any part of a line.
     lines: &'static str,
@@ -32,8 +35,7 @@ static SESSIONS: [Session; 6] = [
         fleet: DEFAULTS,
         riders: RIDERS,
         drivers: "at 1 1 5\n",
-        workers: "1",
-        desks: "1",
+        words: SERVE,
         meetings: &[
             Meeting {
                 waits: 5,
@@ -56,11 +58,10 @@ d1 end\n",
     },
     Session {
         shows: "the clock passes the start",
-        fleet: &[Part::Text("set lead 10\nvehicle 1 2 1 0\n")],
+        fleet: "set lead 10\nvehicle 1 2 1 0\n",
         riders: RIDERS,
         drivers: "clock 20\n",
-        workers: "1",
-        desks: "1",
+        words: SERVE,
         meetings: &[
             Meeting {
                 waits: 5,
@@ -86,8 +87,7 @@ d1 end\n",
         fleet: DEFAULTS,
         riders: RIDERS,
         drivers: "at 1 1 5\n",
-        workers: "1",
-        desks: "1",
+        words: SERVE,
         meetings: &[
             Meeting {
                 waits: 5,
@@ -113,8 +113,7 @@ d1 end\n",
         fleet: DEFAULTS,
         riders: "request 7 2 4 1 600 300\nrequest 8 4 3 1 600 300\nbatch\n",
         drivers: "",
-        workers: "2",
-        desks: "1",
+        words: BY_TWO_WORKERS,
         meetings: &[Meeting {
             waits: 7,
             until: 7,
@@ -130,8 +129,7 @@ d1 end\n",
         fleet: DEFAULTS,
         riders: "request 7 2 4 1 600 300\nbatch\n",
         drivers: "",
-        workers: "1",
-        desks: "1",
+        words: SERVE,
         meetings: &[],
         lines: "d1 open 1 at 0 requests 7 plans 1@0\n\
 d1 commit 1 cost 180 seats 7:1:0:0 prices* outcomes 7:confirmed\n\
@@ -143,107 +141,59 @@ d1 end\n",
         fleet: DEFAULTS,
         riders: "",
         drivers: "# nothing\n",
-        workers: "1",
-        desks: "1",
+        words: SERVE,
         meetings: &[],
         lines: "d1 end\n",
         audit: "yes entries 3 confirmed 0 away 0 picked 0 dropped 0 finished yes\n",
     },
 ];
 
-pub(super) fn serve_words<'a>(workers: &'a str, desks: &'a str) -> [&'a str; 13] {
-    [
-        "serve",
-        "--map",
-        "m",
-        "--fleet",
-        "f",
-        "--riders",
-        "r",
-        "--drivers",
-        "d",
-        "--workers",
-        workers,
-        "--desks",
-        desks,
-    ]
-}
+/// How the lines of the desks begin, and of the drivers' reports and clocks.
+const DESKS_AND_DRIVERS: [&str; 3] = ["d1", "f2 at", "f2 clock"];
 
 #[test]
-fn sessions_of_two_feeds_have_their_lines(rt: HostRuntime) -> Result<(), Fail> {
+fn sessions_of_two_feeds_have_their_lines(rt: HostRuntime) {
     for case in SESSIONS.as_slice() {
-        expect(&rt, case)?;
+        expect_session(&rt, case);
     }
-    Ok(())
+}
+
+fn files_of(case: &Session) -> Setup<'static> {
+    let files = Setup::whole(
+        LINE.as_bytes(),
+        case.fleet.as_bytes(),
+        case.riders.as_bytes(),
+        b"",
+    );
+    Setup {
+        drivers: File::whole(case.drivers.as_bytes()),
+        meetings: case.meetings,
+        ..files
+    }
 }
 
 // Asserts the lines of the desks and of the drivers but for their end, and what an audit says of the log.
-fn expect<R: Abort + Threads + Wait + Sync + AllocGlobal>(
-    rt: &R,
-    case: &Session,
-) -> Result<(), Fail> {
-    let alloc = rt.alloc();
-    let fleet = text_of(alloc, case.fleet)?;
-    let files = Setup::whole(
-        LINE_TEXT.as_bytes(),
-        fleet.as_bytes(),
-        case.riders.as_bytes(),
-        b"",
-    )
-    .with_drivers(File::whole(case.drivers.as_bytes()));
-    let words = serve_words(case.workers, case.desks);
-    let gate = Gated::new(case.meetings);
-    let answer = answer_with(rt, &words, files, &gate)?;
-    assert!(rt; gate.all_met(), "{}: {}", case.shows, answer.text());
-    assert_eq!(rt; (answer.status, answer.faults), (0, 0), "{}", case.shows);
-    let lines = lines_of(alloc, answer.text(), &["d1", "f2 at", "f2 clock"])?;
-    assert!(rt;
-        is_like(lines.as_str(), case.lines),
-        "{}: {}",
-        case.shows,
-        answer.text()
-    );
-    expect_audit(rt, files, answer.written.as_slice(), case.audit)
-}
-
-// The lines of a log that begin so.
-fn lines_of(alloc: Global, log: &str, actors: &[&str]) -> Result<String, Fail> {
-    let mut lines = String::new(alloc);
-    for line in log.split('\n') {
-        if actors.iter().any(|actor| line.starts_with(*actor)) {
-            lines.push_str(line)?;
-            lines.push_str("\n")?;
-        }
-    }
-    Ok(lines)
-}
-
-// Asserts what an audit says of a log over a map and a fleet.
-fn expect_audit<'a, R: Abort + Threads + Wait + Sync + AllocGlobal>(
-    rt: &R,
-    files: Setup<'a>,
-    log: &'a [u8],
-    line: &str,
-) -> Result<(), Fail> {
-    let answer = answer_to(rt, &AUDIT, files.with_log(File::whole(log)))?;
-    assert_eq!(rt; answer.text(), line);
-    assert_eq!(rt; answer.status, 0);
-    Ok(())
+fn expect_session<R: Abort + Threads + Wait + Sync + AllocGlobal>(rt: &R, case: &Session) {
+    let files = files_of(case);
+    let log = answer_to(rt, case.words, files);
+    let is_so = log.ends(0, 0) && has_lines(log.text(), &DESKS_AND_DRIVERS, case.lines);
+    assert!(rt; is_so, "{}: {}", case.shows, log.text());
+    expect_audit(rt, case.shows, files, log, case.audit);
 }
 
 #[test]
-fn two_desks_seat_one_request_once(rt: HostRuntime) -> Result<(), Fail> {
-    let map = text_of(rt.alloc(), LINE)?;
-    let fleet = text_of(rt.alloc(), DEFAULTS)?;
-    let files = Setup::whole(map.as_bytes(), fleet.as_bytes(), FEED.as_bytes(), b"");
-    let words = serve_words("2", "2");
+fn two_desks_seat_one_request_once(rt: HostRuntime) {
     for _ in 0..20 {
-        let answer = answer_to(&rt, &words, files)?;
-        assert_eq!(rt; answer.status, 0);
-        let line = "yes entries 8 confirmed 1 away 0 picked 0 dropped 0 finished yes\n";
-        expect_audit(&rt, files, answer.written.as_slice(), line)?;
+        seat_once(&rt);
     }
-    Ok(())
+}
+
+fn seat_once<R: Abort + Threads + Wait + Sync + AllocGlobal>(rt: &R) {
+    let files = Setup::whole(LINE.as_bytes(), DEFAULTS.as_bytes(), FEED.as_bytes(), b"");
+    let log = answer_to(rt, BY_TWO_DESKS, files);
+    assert!(rt; log.status == 0);
+    let line = "yes entries 8 confirmed 1 away 0 picked 0 dropped 0 finished yes\n";
+    expect_audit(rt, "two desks", files, log, line);
 }
 
 /// A drivers' feed that fails, and its lines in the log.
@@ -271,44 +221,32 @@ static FAILING: [Failing; 2] = [
 ];
 
 #[test]
-fn a_feed_that_fails_is_cut_alone(rt: HostRuntime) -> Result<(), Fail> {
-    let files = Setup::whole(
-        LINE_TEXT.as_bytes(),
-        DEFAULTS_TEXT.as_bytes(),
-        FEED.as_bytes(),
-        b"",
-    );
+fn a_feed_that_fails_is_cut_alone(rt: HostRuntime) {
     for case in FAILING.as_slice() {
-        let drivers = File::new(case.drivers, case.pieces, case.failing);
-        expect_cut_alone(&rt, files.with_drivers(drivers), case.lines)?;
+        expect_cut_alone(&rt, case);
     }
-    Ok(())
 }
 
-// Asserts that riders and desk end whole, and these lines of the drivers.
-fn expect_cut_alone<R: Abort + Threads + Wait + Sync + AllocGlobal>(
-    rt: &R,
-    files: Setup<'_>,
-    drivers: &str,
-) -> Result<(), Fail> {
-    let words = serve_words("1", "1");
-    let answer = answer_to(rt, &words, files)?;
-    assert_eq!(rt; (answer.status, answer.faults), (5, 1));
-    for (actor, lines) in [
-        (
-            "f1",
-            "f1 request 7 2 4 1 600 300 = waiting\nf1 batch = asked 1\nf1 end\n",
-        ),
-        ("f2", drivers),
-        (
-            "d1",
-            "d1 open 1 at 0 requests 7 plans 1@0\n\
+// Asserts that riders and desk end whole, and the lines of the drivers.
+fn expect_cut_alone<R: Abort + Threads + Wait + Sync + AllocGlobal>(rt: &R, case: &Failing) {
+    let files = Setup::whole(
+        LINE.as_bytes(),
+        DEFAULTS.as_bytes(),
+        FEED.as_bytes(),
+        b"",
+    ).with_drivers(File::new(case.drivers, case.pieces, case.failing));
+    let log = answer_to(rt, SERVE, files);
+    let is_so = log.ends(5, 1) && is_cut_alone(log.text(), case.lines);
+    assert!(rt; is_so, "{}", log.text());
+}
+
+// Whether a log has the lines of riders and desk whole, and these of the drivers.
+fn is_cut_alone(log: &str, drivers: &str) -> bool {
+    let riders = "f1 request 7 2 4 1 600 300 = waiting\nf1 batch = asked 1\nf1 end\n";
+    let desk = "d1 open 1 at 0 requests 7 plans 1@0\n\
 d1 commit 1 cost 180 seats 7:1:0:0 prices* outcomes 7:confirmed\n\
-d1 end\n",
-        ),
-    ] {
-        let found = lines_of(rt.alloc(), answer.text(), &[actor])?;
-        assert!(rt; is_like(found.as_str(), lines), "{}", answer.text());
-    }
-    Ok(())
+d1 end\n";
+    has_lines(log, &["f1"], riders)
+        && has_lines(log, &["f2"], drivers)
+        && has_lines(log, &["d1"], desk)
 }

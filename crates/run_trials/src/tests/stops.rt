@@ -1,27 +1,36 @@
 //! Stops that take their time, chairs, cancellations, reports of the vehicle, and refusals.
-use super::replays::Replay;
-use super::texts::Part;
+use super::replays::{Replay, expect_all};
 use super::{DEFAULTS, LINE, ONE_BY_ONE};
 
-pub(super) static STOPS: [Replay; 15] = [
+#[test]
+fn stops_take_their_time(rt: HostRuntime) {
+    expect_all(&rt, DWELLS.as_slice());
+}
+
+#[test]
+fn chairs_are_not_shared(rt: HostRuntime) {
+    expect_all(&rt, CHAIRS.as_slice());
+}
+
+#[test]
+fn reports_and_cancellations_have_their_answers(rt: HostRuntime) {
+    expect_all(&rt, REPORTS.as_slice());
+}
+
+static DWELLS: [Replay; 6] = [
     Replay {
         shows: "each stop takes its time",
         map: LINE,
-        fleet: &[Part::Text(
-            "set batch 1\n\
+        fleet: "set batch 1\n\
 set dwell 30\n\
 vehicle 1 2 1 0\n",
-        )],
-        feed: &[Part::Text(
-            "request 7 2 4 1 600 300\n\
+        feed: "request 7 2 4 1 600 300\n\
 batch\n\
 at 1 2 60\n\
 done 1\n\
 at 1 4 210\n\
 done 1\n",
-        )],
-        log: &[Part::Text(
-            "log 1 feeds 1 desks 1\n\
+        log: "log 1 feeds 1 desks 1\n\
 f1 request 7 2 4 1 600 300 = waiting\n\
 f1 batch = asked 1\n\
 d1 open 1 at 0 requests 7 plans 1@0\n\
@@ -32,26 +41,20 @@ f1 at 1 4 210 = onmap\n\
 f1 done 1 = dropped 7\n\
 f1 end\n\
 d1 end\n",
-        )],
         audit: "yes entries 10 confirmed 1 away 0 picked 1 dropped 1 finished yes\n",
     },
     Replay {
         shows: "a report is late behind the time of the stop",
         map: LINE,
-        fleet: &[Part::Text(
-            "set batch 1\n\
+        fleet: "set batch 1\n\
 set dwell 30\n\
 vehicle 1 2 1 0\n",
-        )],
-        feed: &[Part::Text(
-            "request 7 2 4 1 600 300\n\
+        feed: "request 7 2 4 1 600 300\n\
 batch\n\
 at 1 2 60\n\
 done 1\n\
 at 1 4 211\n",
-        )],
-        log: &[Part::Text(
-            "log 1 feeds 1 desks 1\n\
+        log: "log 1 feeds 1 desks 1\n\
 f1 request 7 2 4 1 600 300 = waiting\n\
 f1 batch = asked 1\n\
 d1 open 1 at 0 requests 7 plans 1@0\n\
@@ -61,71 +64,53 @@ f1 done 1 = picked 7\n\
 f1 at 1 4 211 = late 1\n\
 f1 end\n\
 d1 end\n",
-        )],
         audit: "yes entries 9 confirmed 1 away 0 picked 1 dropped 0 finished yes\n",
     },
     Replay {
         shows: "the time of the pickup counts for the ride limit, which is passed",
         map: LINE,
-        fleet: &[Part::Text(
-            "set batch 1\n\
+        fleet: "set batch 1\n\
 set dwell 30\n\
 vehicle 1 2 1 0\n",
-        )],
-        feed: &[Part::Text(
-            "request 7 2 4 1 600 149\n\
+        feed: "request 7 2 4 1 600 149\n\
 batch\n",
-        )],
-        log: &[Part::Text(
-            "log 1 feeds 1 desks 1\n\
+        log: "log 1 feeds 1 desks 1\n\
 f1 request 7 2 4 1 600 149 = waiting\n\
 f1 batch = asked 1\n\
 d1 open 1 at 0 requests 7 plans 1@0\n\
 d1 commit 1 cost 3600 seats prices 7:3600 pays outcomes 7:away\n\
 f1 end\n\
 d1 end\n",
-        )],
         audit: "yes entries 6 confirmed 0 away 1 picked 0 dropped 0 finished yes\n",
     },
     Replay {
         shows: "the time of the pickup counts for the ride limit, which is kept",
         map: LINE,
-        fleet: &[Part::Text(
-            "set batch 1\n\
+        fleet: "set batch 1\n\
 set dwell 30\n\
 vehicle 1 2 1 0\n",
-        )],
-        feed: &[Part::Text(
-            "request 7 2 4 1 600 150\n\
+        feed: "request 7 2 4 1 600 150\n\
 batch\n",
-        )],
-        log: &[Part::Text(
-            "log 1 feeds 1 desks 1\n\
+        log: "log 1 feeds 1 desks 1\n\
 f1 request 7 2 4 1 600 150 = waiting\n\
 f1 batch = asked 1\n\
 d1 open 1 at 0 requests 7 plans 1@0\n\
 d1 commit 1 cost 210 seats 7:1:0:0 prices* outcomes 7:confirmed\n\
 f1 end\n\
 d1 end\n",
-        )],
         audit: "yes entries 6 confirmed 1 away 0 picked 0 dropped 0 finished yes\n",
     },
     Replay {
         shows: "a pooled ride costs its two stops",
         map: LINE,
-        fleet: &[Part::Text(
-            "set batch 1\n\
+        fleet: "set batch 1\n\
 set dwell 30\n\
 vehicle 1 2 1 0\n",
-        )],
-        feed: &[Part::Text(
-            "request 7 2 4 1 600 300\n\
+        feed: "request 7 2 4 1 600 300\n\
 batch\n\
 request 9 3 4 1 600 300\n\
 batch\n",
-        )],
-        log: &[Part::Text(
-            "log 1 feeds 1 desks 1\n\
+        log: "log 1 feeds 1 desks 1\n\
 f1 request 7 2 4 1 600 300 = waiting\n\
 f1 batch = asked 1\n\
 d1 open 1 at 0 requests 7 plans 1@0\n\
@@ -136,29 +121,23 @@ d1 open 2 at 0 requests 9 plans 1@1\n\
 d1 commit 2 cost 60 seats 9:1:1:* prices* outcomes 9:confirmed\n\
 f1 end\n\
 d1 end\n",
-        )],
         audit: "yes entries 10 confirmed 2 away 0 picked 0 dropped 0 finished yes\n",
     },
     Replay {
         shows: "a stop past the end of the day is not served",
         map: LINE,
-        fleet: &[Part::Text(
-            "set batch 1\n\
+        fleet: "set batch 1\n\
 set dwell 3600\n\
 set penalty 10000\n\
 vehicle 1 2 2 0\n",
-        )],
-        feed: &[Part::Text(
-            "request 7 2 4 1 100 100000\n\
+        feed: "request 7 2 4 1 100 100000\n\
 batch\n\
 request 8 2 4 1 9000 100000\n\
 batch\n\
 at 1 2 1000000000\n\
 done 1\n\
 done 1\n",
-        )],
-        log: &[Part::Text(
-            "log 1 feeds 1 desks 1\n\
+        log: "log 1 feeds 1 desks 1\n\
 f1 request 7 2 4 1 100 100000 = waiting\n\
 f1 batch = asked 1\n\
 d1 open 1 at 0 requests 7 plans 1@0\n\
@@ -172,27 +151,24 @@ f1 done 1 = picked 7\n\
 f1 done 1 = refused 17\n\
 f1 end\n\
 d1 end\n",
-        )],
         audit: "yes entries 13 confirmed 2 away 0 picked 1 dropped 0 finished yes\n",
     },
+];
+
+static CHAIRS: [Replay; 3] = [
     Replay {
         shows: "one chair is not shared",
         map: LINE,
-        fleet: &[Part::Text(
-            "set batch 1\n\
+        fleet: "set batch 1\n\
 set log 2\n\
 vehicle 1 2 1 0 1\n",
-        )],
-        feed: &[Part::Text(
-            "request 7 2 4 0 600 300 1\n\
+        feed: "request 7 2 4 0 600 300 1\n\
 batch\n\
 request 9 3 4 0 600 300 1\n\
 batch\n\
 request 10 3 4 1 600 300\n\
 batch\n",
-        )],
-        log: &[Part::Text(
-            "log 2 feeds 1 desks 1\n\
+        log: "log 2 feeds 1 desks 1\n\
 f1 request 7 2 4 0 600 300 1 = waiting\n\
 f1 batch = asked 1\n\
 d1 open 1 at 0 requests 7 plans 1@0\n\
@@ -207,26 +183,20 @@ d1 open 3 at 0 requests 10 plans 1@2\n\
 d1 commit 3 cost 0 seats 10:1:* prices* outcomes 10:confirmed\n\
 f1 end\n\
 d1 end\n",
-        )],
         audit: "yes entries 14 confirmed 3 away 0 picked 0 dropped 0 finished yes\n",
     },
     Replay {
         shows: "chairs in a log without them are bad lines",
         map: LINE,
-        fleet: &[Part::Text(
-            "set batch 1\n\
+        fleet: "set batch 1\n\
 vehicle 1 2 1 0 1\n",
-        )],
-        feed: &[Part::Text(
-            "request 7 2 4 0 600 300 1\n\
+        feed: "request 7 2 4 0 600 300 1\n\
 batch\n\
 request 9 3 4 0 600 300 1\n\
 batch\n\
 request 10 3 4 1 600 300\n\
 batch\n",
-        )],
-        log: &[Part::Text(
-            "log 1 feeds 1 desks 1\n\
+        log: "log 1 feeds 1 desks 1\n\
 f1 bad 1\n\
 f1 batch = asked 1\n\
 d1 open 1 at 0 requests plans 1@0\n\
@@ -241,32 +211,29 @@ d1 open 3 at 0 requests 10 plans 1@0\n\
 d1 commit 3 cost 180 seats 10:1:0:0 prices* outcomes 10:confirmed\n\
 f1 end\n\
 d1 end\n",
-        )],
         audit: "yes entries 14 confirmed 1 away 0 picked 0 dropped 0 finished yes\n",
     },
     Replay {
         shows: "a request for no seat and no chair is refused",
         map: LINE,
-        fleet: &[Part::Text(
-            "set batch 1\n\
+        fleet: "set batch 1\n\
 set log 2\n\
 vehicle 1 2 1 0 1\n",
-        )],
-        feed: &[Part::Text("request 11 2 4 0 600 300\n")],
-        log: &[Part::Text(
-            "log 2 feeds 1 desks 1\n\
+        feed: "request 11 2 4 0 600 300\n",
+        log: "log 2 feeds 1 desks 1\n\
 f1 request 11 2 4 0 600 300 0 = refused 4\n\
 f1 end\n\
 d1 end\n",
-        )],
         audit: "yes entries 3 confirmed 0 away 0 picked 0 dropped 0 finished yes\n",
     },
+];
+
+static REPORTS: [Replay; 6] = [
     Replay {
         shows: "cancellations free a vehicle until the pickup",
         map: LINE,
         fleet: DEFAULTS,
-        feed: &[Part::Text(
-            "request 7 2 4 1 600 300\n\
+        feed: "request 7 2 4 1 600 300\n\
 batch\n\
 request 9 3 4 1 600 300\n\
 batch\n\
@@ -280,9 +247,7 @@ at 1 4 180\n\
 done 1\n\
 done 1\n\
 batch\n",
-        )],
-        log: &[Part::Text(
-            "log 1 feeds 1 desks 1\n\
+        log: "log 1 feeds 1 desks 1\n\
 f1 request 7 2 4 1 600 300 = waiting\n\
 f1 batch = asked 1\n\
 d1 open 1 at 0 requests 7 plans 1@0\n\
@@ -305,21 +270,17 @@ d1 open 3 at 0 requests plans 1@7\n\
 d1 commit 3 cost 0 seats prices pays outcomes\n\
 f1 end\n\
 d1 end\n",
-        )],
         audit: "yes entries 22 confirmed 2 away 0 picked 1 dropped 1 finished yes\n",
     },
     Replay {
         shows: "a late report breaks no ride that has time",
         map: LINE,
         fleet: ONE_BY_ONE,
-        feed: &[Part::Text(
-            "request 7 2 4 1 600 300\n\
+        feed: "request 7 2 4 1 600 300\n\
 batch\n\
 at 1 2 100\n\
 at 1 2 99\n",
-        )],
-        log: &[Part::Text(
-            "log 1 feeds 1 desks 1\n\
+        log: "log 1 feeds 1 desks 1\n\
 f1 request 7 2 4 1 600 300 = waiting\n\
 f1 batch = asked 1\n\
 d1 open 1 at 0 requests 7 plans 1@0\n\
@@ -328,22 +289,18 @@ f1 at 1 2 100 = late 40\n\
 f1 at 1 2 99 = refused 12\n\
 f1 end\n\
 d1 end\n",
-        )],
         audit: "yes entries 8 confirmed 1 away 0 picked 0 dropped 0 finished yes\n",
     },
     Replay {
         shows: "a vehicle that breaks a ride takes no other",
         map: LINE,
         fleet: ONE_BY_ONE,
-        feed: &[Part::Text(
-            "request 7 2 4 1 90 300\n\
+        feed: "request 7 2 4 1 90 300\n\
 batch\n\
 at 1 2 100\n\
 request 9 3 4 1 600 300\n\
 batch\n",
-        )],
-        log: &[Part::Text(
-            "log 1 feeds 1 desks 1\n\
+        log: "log 1 feeds 1 desks 1\n\
 f1 request 7 2 4 1 90 300 = waiting\n\
 f1 batch = asked 1\n\
 d1 open 1 at 0 requests 7 plans 1@0\n\
@@ -355,23 +312,19 @@ d1 open 2 at 0 requests 9 plans 1@2\n\
 d1 commit 2 cost 3600 seats prices 9:3600 pays outcomes 9:away\n\
 f1 end\n\
 d1 end\n",
-        )],
         audit: "yes entries 11 confirmed 1 away 1 picked 0 dropped 0 finished yes\n",
     },
     Replay {
         shows: "a broken ride is served at the end of the day",
         map: LINE,
         fleet: ONE_BY_ONE,
-        feed: &[Part::Text(
-            "request 7 2 4 1 600 300\n\
+        feed: "request 7 2 4 1 600 300\n\
 batch\n\
 at 1 2 1000000000\n\
 done 1\n\
 at 1 4 1000000000\n\
 done 1\n",
-        )],
-        log: &[Part::Text(
-            "log 1 feeds 1 desks 1\n\
+        log: "log 1 feeds 1 desks 1\n\
 f1 request 7 2 4 1 600 300 = waiting\n\
 f1 batch = asked 1\n\
 d1 open 1 at 0 requests 7 plans 1@0\n\
@@ -382,15 +335,13 @@ f1 at 1 4 1000000000 = onmap\n\
 f1 done 1 = dropped 7\n\
 f1 end\n\
 d1 end\n",
-        )],
         audit: "yes entries 10 confirmed 1 away 0 picked 1 dropped 1 finished yes\n",
     },
     Replay {
         shows: "a vehicle serves its stops where it stands",
         map: LINE,
         fleet: DEFAULTS,
-        feed: &[Part::Text(
-            "done 1\n\
+        feed: "done 1\n\
 request 7 2 4 1 600 300\n\
 batch\n\
 done 1\n\
@@ -400,9 +351,7 @@ at 1 4 180\n\
 done 1\n\
 done 1\n\
 done 2\n",
-        )],
-        log: &[Part::Text(
-            "log 1 feeds 1 desks 1\n\
+        log: "log 1 feeds 1 desks 1\n\
 f1 done 1 = refused 14\n\
 f1 request 7 2 4 1 600 300 = waiting\n\
 f1 batch = asked 1\n\
@@ -417,15 +366,13 @@ f1 done 1 = refused 14\n\
 f1 done 2 = refused 10\n\
 f1 end\n\
 d1 end\n",
-        )],
         audit: "yes entries 14 confirmed 1 away 0 picked 1 dropped 1 finished yes\n",
     },
     Replay {
         shows: "commands are refused by the first case that applies",
         map: LINE,
         fleet: DEFAULTS,
-        feed: &[Part::Text(
-            "request 7 2 4 1 600 300\n\
+        feed: "request 7 2 4 1 600 300\n\
 request 7 2 4 1 600 300\n\
 request 8 5 4 1 600 300\n\
 request 8 2 2 1 600 300\n\
@@ -437,9 +384,7 @@ at 1 1 1000000001\n\
 clock 20\n\
 clock 5\n\
 clock 1000000001\n",
-        )],
-        log: &[Part::Text(
-            "log 1 feeds 1 desks 1\n\
+        log: "log 1 feeds 1 desks 1\n\
 f1 request 7 2 4 1 600 300 = waiting\n\
 f1 request 7 2 4 1 600 300 = refused 1\n\
 f1 request 8 5 4 1 600 300 = refused 2\n\
@@ -454,7 +399,6 @@ f1 clock 5 = now 20\n\
 f1 clock 1000000001 = refused 5\n\
 f1 end\n\
 d1 end\n",
-        )],
         audit: "yes entries 14 confirmed 0 away 0 picked 0 dropped 0 finished yes\n",
     },
 ];

@@ -1,82 +1,115 @@
-//! Texts of parts that repeat, and patterns of texts.
+//! Texts with pieces that repeat, and patterns of texts.
+use ride_ports::NoMemory;
 use std::alloc::Global;
-use std::test::Fail;
+use std::process::Abort;
 
-/// A part of a text.
-pub(super) enum Part {
-    Text(&'static str),
-    /// A text for each number from the first to the last, which stands in it in place of each `%`.
-    Each(u64, u64, &'static str),
+/// The text in which `<3|a piece>` stands for the piece three times, with the numbers from 1 to 3 in place of each `%` in it.
+pub(super) fn text_of(rt: &(impl Abort + AllocGlobal), short: &str) -> String {
+    let mut text = String::new(rt.alloc());
+    for part in short.split('<') {
+        assert!(rt; push_part(rt.alloc(), &mut text, part).is_ok());
+    }
+    text
 }
 
-/// The text of these parts.
-pub(super) fn text_of(alloc: Global, parts: &[Part]) -> Result<String, Fail> {
-    let mut text = String::new(alloc);
-    for part in parts {
-        match part {
-            Part::Text(piece) => text.push_str(piece)?,
-            Part::Each(first, last, piece) => push_each(&mut text, *first, *last, piece)?,
+// Adds a piece that is repeated and what is behind it, or what is before the first one.
+fn push_part(alloc: Global, text: &mut String, part: &str) -> Result<(), NoMemory> {
+    match part.split_once('>') {
+        Some((repeated, behind)) => {
+            push_repeated(alloc, text, repeated)?;
+            text.push_str(behind)
         }
+        None => text.push_str(part),
     }
-    Ok(text)
 }
 
-fn push_each(text: &mut String, first: u64, last: u64, piece: &str) -> Result<(), Fail> {
-    for number in first..=last {
-        push_numbered(text, number, piece)?;
+fn push_repeated(alloc: Global, text: &mut String, repeated: &str) -> Result<(), NoMemory> {
+    let (count, piece) = repeated.split_once('|').unwrap_or(("0", repeated));
+    let count = count.parse::<u32>().unwrap_or(0);
+    if piece.contains('%') {
+        return push_each(alloc, text, count, piece);
+    }
+    text.push_str(piece.repeat(alloc, count as usize)?.as_str())
+}
+
+fn push_each(alloc: Global, text: &mut String, last: u32, piece: &str) -> Result<(), NoMemory> {
+    for number in 1..=last {
+        push_numbered(alloc, text, number, piece)?;
     }
     Ok(())
 }
 
-fn push_numbered(text: &mut String, number: u64, piece: &str) -> Result<(), Fail> {
-    let mut parts = piece.split('%');
-    text.push_str(parts.next().unwrap_or(""))?;
-    for part in parts {
-        write!(text, "{number}{part}")?;
-    }
-    Ok(())
+fn push_numbered(
+    alloc: Global,
+    text: &mut String,
+    number: u32,
+    piece: &str,
+) -> Result<(), NoMemory> {
+    let digits = format!(in alloc; "{number}")?;
+    text.push_str(piece.replace(alloc, "%", digits.as_str())?.as_str())
 }
 
 /// Whether a text is like a pattern, in which each `*` stands for any part of a line.
 pub(super) fn is_like(text: &str, pattern: &str) -> bool {
-    let mut lines = text.split('\n');
-    for wanted in pattern.split('\n') {
-        let Some(line) = lines.next() else {
-            return false;
-        };
-        if !is_line_like(line, wanted) {
+    has_lines(text, &[""], pattern)
+}
+
+/// Whether those lines of a text that begin so, and blank ones, are like the lines of a pattern.
+pub(super) fn has_lines(text: &str, starts: &[&str], pattern: &str) -> bool {
+    let mut wanted = pattern.split('\n');
+    for line in text.split('\n') {
+        if begins(line, starts)
+            && !wanted
+                .next()
+                .is_some_and(|wanted| is_line_like(line, wanted))
+        {
             return false;
         }
     }
-    lines.next().is_none()
+    wanted.next().is_none()
+}
+
+fn begins(line: &str, starts: &[&str]) -> bool {
+    for start in starts {
+        if line.starts_with(*start) {
+            return true;
+        }
+    }
+    line.is_empty()
 }
 
 fn is_line_like(line: &str, pattern: &str) -> bool {
-    let mut parts = pattern.split('*');
-    let Some(mut rest) = line.strip_prefix(parts.next().unwrap_or("")) else {
-        return false;
+    let Some((start, tail)) = pattern.split_once('*') else {
+        return line == pattern;
     };
-    for part in parts {
-        let Some((_, behind)) = rest.split_once(part) else {
-            return false;
-        };
-        rest = behind;
+    let mut rest = line.strip_prefix(start);
+    for part in tail.split('*') {
+        rest = behind(rest, part);
     }
-    rest.is_empty() || pattern.ends_with('*')
+    rest.is_some_and(|rest| rest.is_empty() || pattern.ends_with('*'))
 }
+
+// What is behind the first such part of a text.
+fn behind<'a>(text: Option<&'a str>, part: &str) -> Option<&'a str> {
+    let (_, behind) = text?.split_once(part)?;
+    Some(behind)
+}
+
+/// A text, a pattern, and whether the text is like it.
+static LIKE: [(&str, &str, bool); 8] = [
+    ("a 7:180 b\n", "a 7:* b\n", true),
+    ("a 7:180 b\n", "a* b\n", true),
+    ("a 7:180 b\n", "a 7:*\n", true),
+    ("a 7:180 b\n", "a 7:180 b\n", true),
+    ("a 7:180 b\n", "a 7:180\n", false),
+    ("a 7:180 b\n", "a 8:* b\n", false),
+    ("a 7:180 b\nc\n", "a* b\n", false),
+    ("a 7:180 b\n", "a* b\nc\n", false),
+];
 
 #[test]
 fn a_pattern_has_any_part_of_a_line(rt: HostRuntime) {
-    for (text, pattern, is) in [
-        ("a 7:180 b\n", "a 7:* b\n", true),
-        ("a 7:180 b\n", "a* b\n", true),
-        ("a 7:180 b\n", "a 7:*\n", true),
-        ("a 7:180 b\n", "a 7:180 b\n", true),
-        ("a 7:180 b\n", "a 7:180\n", false),
-        ("a 7:180 b\n", "a 8:* b\n", false),
-        ("a 7:180 b\nc\n", "a* b\n", false),
-        ("a 7:180 b\n", "a* b\nc\n", false),
-    ] {
-        assert_eq!(rt; is_like(text, pattern), is, "{pattern}");
+    for (text, pattern, is) in LIKE.as_slice() {
+        assert!(&rt; is_like(text, pattern) == *is, "{pattern}");
     }
 }

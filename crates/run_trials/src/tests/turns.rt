@@ -1,12 +1,11 @@
 //! Each read fails in turn, each write fails in turn, and each byte that is written is the last that a sink takes.
 use super::bookings::BOOK;
 use super::leagues::{FEED as RIDES, FIRST, LEAGUE, SECOND};
-use super::serving::serve_words;
+use super::serving::SERVE;
 use super::sheets::{AHEAD, LEFT_OUT};
-use super::{AUDIT, File, LOG, REPLAY, Setup, answer_by_writes, answer_to};
+use super::{AUDIT, Answer, File, LOG, REPLAY, Setup, answer_to};
 use std::process::Abort;
 use std::sync::Wait;
-use std::test::Fail;
 use std::thread::Threads;
 
 /// What an audit writes of the worked request's log, and what is written of it as a feed of bookings.
@@ -35,7 +34,7 @@ enum Failing {
 }
 
 // Runs over the files of the worked request, or over others, with what each writes.
-fn written<'a>(files: Setup<'a>) -> [(&'static [&'static str], Setup<'a>, &'static str); 5] {
+fn written<'a>(files: Setup<'a>) -> [(&'static str, Setup<'a>, &'static str); 5] {
     let idle = Setup {
         feed: File::whole(LEFT_OUT.as_bytes()),
         ..files
@@ -47,11 +46,11 @@ fn written<'a>(files: Setup<'a>) -> [(&'static [&'static str], Setup<'a>, &'stat
         ..files
     };
     [
-        (&REPLAY, files, LOG),
-        (&AUDIT, files, AUDITED),
-        (&AHEAD, idle, SHEET),
-        (&BOOK, files, BOOKED),
-        (&LEAGUE, companies, ROUND),
+        (REPLAY, files, LOG),
+        (AUDIT, files, AUDITED),
+        (AHEAD, idle, SHEET),
+        (BOOK, files, BOOKED),
+        (LEAGUE, companies, ROUND),
     ]
 }
 
@@ -81,117 +80,122 @@ fn one_failing<'a>(files: Setup<'a>, which: Failing, read: &'a [u64]) -> Setup<'
     }
 }
 
+/// The status of a run, the faults that its shelf counted, and how many bytes it wrote.
+type Told = (u8, u64, usize);
+
+fn told<R: Abort + Threads + Wait + Sync + AllocGlobal>(
+    rt: &R,
+    words: &str,
+    files: Setup<'_>,
+) -> Told {
+    let answer = answer_to(rt, words, files);
+    (answer.status, answer.faults, answer.written().len())
+}
+
 // A run ends by status 5 whichever of so many reads of a file fails, and well where the next one would.
 fn fail_each_read<R: Abort + Threads + Wait + Sync + AllocGlobal>(
     rt: &R,
-    words: &[&str],
+    words: &str,
     files: Setup<'_>,
     which: Failing,
     reads: u64,
-) -> Result<(), Fail> {
-    for read in 1..=reads {
-        let answer = answer_to(rt, words, one_failing(files, which, &[read]))?;
-        assert_eq!(rt; (answer.status, answer.faults), (5, 1), "read {read}");
+) {
+    for read in 1..=reads.saturating_add(1) {
+        let (status, faults, _) = told(rt, words, one_failing(files, which, &[read]));
+        let wanted = if read <= reads { (5, 1) } else { (0, 0) };
+        assert!(rt; (status, faults) == wanted, "{words}: read {read}");
     }
-    let answer = answer_to(
-        rt,
-        words,
-        one_failing(files, which, &[reads.saturating_add(1)]),
-    )?;
-    assert_eq!(rt; (answer.status, answer.faults), (0, 0));
-    Ok(())
 }
 
 // A run ends by status 6 whichever write fails, with a part of its text. A text is written by sevens or less.
 fn fail_each_write<R: Abort + Threads + Wait + Sync + AllocGlobal>(
     rt: &R,
-    words: &[&str],
+    words: &str,
     files: Setup<'_>,
     text: &str,
-) -> Result<(), Fail> {
+) {
     for write in 1..=text.len() as u64 / 7 {
-        let answer = answer_by_writes(rt, words, files, &[write])?;
-        assert_eq!(rt; (answer.status, answer.faults), (6, 0), "write {write}");
-        assert!(rt; answer.written.len() < text.len(), "write {write}");
-        assert!(rt; text.starts_with(answer.text()), "write {write}");
+        let refuses = [write];
+        let answer = answer_to(rt, words, files.with_refusals(&refuses));
+        assert!(rt; is_cut(answer, text), "{words}: write {write}");
     }
-    Ok(())
+}
+
+// Whether a run ended by status 6 with a part of its text.
+fn is_cut(answer: Answer<'_>, text: &str) -> bool {
+    answer.ends(6, 0) && answer.written().len() < text.len() && text.starts_with(answer.text())
 }
 
 // A run ends by status 6 whichever byte is the last that its sink takes, and has written all bytes before.
 fn fill_each_sink<R: Abort + Threads + Wait + Sync + AllocGlobal>(
     rt: &R,
-    words: &[&str],
+    words: &str,
     files: Setup<'_>,
     text: &str,
-) -> Result<(), Fail> {
-    for room in 0..text.len() {
-        let answer = answer_to(rt, words, files.with_room(room))?;
-        assert_eq!(rt; answer.written.as_slice(), &text.as_bytes()[..room]);
-        assert_eq!(rt; (answer.status, answer.faults), (6, 0));
+) {
+    for room in 0..=text.len() {
+        let answer = answer_to(rt, words, files.with_room(room));
+        assert!(rt; is_filled(answer, text, room), "{words}: room {room}");
     }
-    let answer = answer_to(rt, words, files.with_room(text.len()))?;
-    assert_eq!(rt; answer.text(), text);
-    assert_eq!(rt; answer.status, 0);
-    Ok(())
+}
+
+// Whether a run wrote as much of its text as there was room for, and ended by status 6 where that was not all.
+fn is_filled(answer: Answer<'_>, text: &str, room: usize) -> bool {
+    let status = if room < text.len() { 6 } else { 0 };
+    answer.ends(status, 0)
+        && answer.written().len() == room
+        && text.as_bytes().starts_with(answer.written())
 }
 
 #[test]
-fn each_read_fails_in_turn(rt: HostRuntime) -> Result<(), Fail> {
+fn each_read_fails_in_turn(rt: HostRuntime) {
     let files = Setup::worked().with_drivers(File::whole(b"clock 0\n"));
     let companies = files.with_drivers(File::whole(SECOND.as_bytes()));
-    let serve = serve_words("1", "1");
     // A file of n bytes is read n / 7 times, and once more at its end.
     for (words, files, which, reads) in [
-        (REPLAY.as_slice(), files, Failing::Map, 10),
-        (REPLAY.as_slice(), files, Failing::Fleet, 5),
-        (REPLAY.as_slice(), files, Failing::Feed, 6),
-        (AUDIT.as_slice(), files, Failing::Map, 10),
-        (AUDIT.as_slice(), files, Failing::Fleet, 5),
-        (AUDIT.as_slice(), files, Failing::Log, 30),
-        (serve.as_slice(), files, Failing::Map, 10),
-        (serve.as_slice(), files, Failing::Fleet, 5),
-        (serve.as_slice(), files, Failing::Feed, 6),
-        (serve.as_slice(), files, Failing::Drivers, 3),
-        (AHEAD.as_slice(), files, Failing::Map, 10),
-        (AHEAD.as_slice(), files, Failing::Fleet, 5),
-        (AHEAD.as_slice(), files, Failing::Feed, 6),
-        (BOOK.as_slice(), files, Failing::Feed, 6),
-        (LEAGUE.as_slice(), companies, Failing::Map, 10),
-        (LEAGUE.as_slice(), companies, Failing::Fleet, 5),
-        (LEAGUE.as_slice(), companies, Failing::Drivers, 4),
-        (LEAGUE.as_slice(), companies, Failing::Feed, 6),
+        (REPLAY, files, Failing::Map, 10),
+        (REPLAY, files, Failing::Fleet, 5),
+        (REPLAY, files, Failing::Feed, 6),
+        (AUDIT, files, Failing::Map, 10),
+        (AUDIT, files, Failing::Fleet, 5),
+        (AUDIT, files, Failing::Log, 30),
+        (SERVE, files, Failing::Map, 10),
+        (SERVE, files, Failing::Fleet, 5),
+        (SERVE, files, Failing::Feed, 6),
+        (SERVE, files, Failing::Drivers, 3),
+        (AHEAD, files, Failing::Map, 10),
+        (AHEAD, files, Failing::Fleet, 5),
+        (AHEAD, files, Failing::Feed, 6),
+        (BOOK, files, Failing::Feed, 6),
+        (LEAGUE, companies, Failing::Map, 10),
+        (LEAGUE, companies, Failing::Fleet, 5),
+        (LEAGUE, companies, Failing::Drivers, 4),
+        (LEAGUE, companies, Failing::Feed, 6),
     ] {
-        fail_each_read(&rt, words, files, which, reads)?;
+        fail_each_read(&rt, words, files, which, reads);
     }
-    Ok(())
 }
 
 #[test]
-fn each_write_and_each_byte_fails_in_turn(rt: HostRuntime) -> Result<(), Fail> {
+fn each_write_and_each_byte_fails_in_turn(rt: HostRuntime) {
     for (words, files, text) in written(Setup::worked()) {
-        fail_each_write(&rt, words, files, text)?;
-        fill_each_sink(&rt, words, files, text)?;
+        fail_each_write(&rt, words, files, text);
+        fill_each_sink(&rt, words, files, text);
     }
-    Ok(())
 }
 
 // The lines of a session have no one order, but one length together.
 #[test]
-fn a_session_ends_whichever_write_fails(rt: HostRuntime) -> Result<(), Fail> {
+fn a_session_ends_whichever_write_fails(rt: HostRuntime) {
     let files = Setup::worked();
-    let words = serve_words("1", "1");
     let all = LOG.len() + "f2 end\n".len();
-    for room in 0..all {
-        let answer = answer_to(&rt, &words, files.with_room(room))?;
-        assert_eq!(rt; (answer.status, answer.written.len()), (6, room));
+    for room in 0..=all {
+        let (status, _, count) = told(&rt, SERVE, files.with_room(room));
+        let wanted = if room < all { 6 } else { 0 };
+        assert!(rt; (status, count) == (wanted, room), "room {room}");
     }
-    let answer = answer_to(&rt, &words, files.with_room(all))?;
-    assert_eq!(rt; (answer.status, answer.written.len()), (0, all));
     for write in 1..=all as u64 / 7 {
-        let answer = answer_by_writes(&rt, &words, files, &[write])?;
-        assert_eq!(rt; answer.status, 6, "write {write}");
-        assert!(rt; answer.written.len() < all);
+        let (status, _, count) = told(&rt, SERVE, files.with_refusals(&[write]));
+        assert!(rt; status == 6 && count < all, "write {write}");
     }
-    Ok(())
 }
