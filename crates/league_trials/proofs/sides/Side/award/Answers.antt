@@ -7,7 +7,8 @@ use Rattle.fleet_league.specs.Awards.{request_of, won_rides}
 use Rattle.fleet_league.specs.Companies.{CompanyState}
 use Rattle.fleet_league.specs.Winning.{MayWin}
 use Rattle.fleet_league.specs.Prices.{IsNewRide}
-use Rattle.league_session.proofs.AwardedMembers.{id-spelled, won-each}
+use Rattle.league_session.proofs.AwardedMembers.{id-spelled}
+use Rattle.fleet_league.proofs.MayAward.{won-each}
 use Rattle.league_trials.proofs.DaySides.{no-chairs}
 use Rattle.league_trials.proofs.sides.Side.award.Goals as goal
 
