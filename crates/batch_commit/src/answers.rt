@@ -6,7 +6,7 @@ use ride_model::{AmountList, NoMemory, Outcome, OutcomeList, SeatList};
 use std::alloc::Global;
 
 /// A seating with the prices that certify it, and what becomes of each request.
-#[derive(Debug, Drop)]
+#[derive(Drop)]
 pub struct Answer {
     pub seating: SeatList,
     /// Each request's price, in the batch's order.

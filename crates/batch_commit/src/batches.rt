@@ -9,7 +9,6 @@ use ride_model::{Fleet, Ride, Settings};
 use std::marker::Model;
 
 /// Requests in order of acceptance, and copies of all vehicles, as they stood when a desk opened the batch.
-#[derive(Debug)]
 pub struct Batch {
     number: u64,
     time: u64,

@@ -14,7 +14,6 @@ use ride_model::Vehicle;
 use std::marker::Model;
 
 /// A batch with its table, and an answer whose prices certify its seating over the table's cells.
-#[derive(Debug)]
 pub struct Solved {
     batch: Batch,
     table: PriceTable,

@@ -6,7 +6,7 @@ use ride_model::Offer;
 use std::marker::Model;
 
 /// For each request and vehicle of a batch an offer, where there is one.
-#[derive(Debug, Drop)]
+#[derive(Drop)]
 pub struct PriceTable {
     requests: u32,
     vehicles: u32,

@@ -8,7 +8,7 @@ use crate::numbered::Numbered;
 use ride_model::{Actor, Ending};
 
 /// Batches that were opened, who has ended, and whether a batch was given up.
-#[derive(Clone, Copy, Debug)]
+#[derive(Clone, Copy)]
 pub(crate) struct Desks {
     /// How many batches were opened.
     pub(crate) opened: u64,

@@ -3,7 +3,7 @@ ghost use Rattle.std.specs.Prelude.{◌≡◌, ◌≤◌};
 ghost use Rattle.board_core.specs.Numbers.{at_number, with_number, count_in};
 
 /// A value or none for each of two that are numbered 1 and 2.
-#[derive(Clone, Copy, Debug)]
+#[derive(Clone, Copy)]
 pub(crate) struct Numbered<T> {
     pub(crate) first: Option<T>,
     pub(crate) second: Option<T>,

@@ -3,7 +3,7 @@
 use batch_commit::Batch;
 
 /// What a desk gets that asks for a batch.
-#[derive(Debug, Drop)]
+#[derive(Drop)]
 pub enum Opening {
     Batch(Batch),
     /// No batch is to come yet: as many were opened as asked for, and a feed has not ended.

@@ -1,7 +1,7 @@
 //! What a rider asks for.
 
 /// A request's numbers, as its line has them.
-#[derive(Clone, Copy, Debug)]
+#[derive(Clone, Copy)]
 pub(crate) struct Wish {
     pub(crate) id: u64,
     pub(crate) from: u64,

@@ -10,7 +10,7 @@ use ride_model::Command;
 use ride_model::limits::LATEST_TIME;
 
 /// What a line asks of a desk.
-#[derive(Clone, Copy, Debug)]
+#[derive(Clone, Copy)]
 pub(crate) enum Asked {
     /// To book a request for a release.
     Book { release: u64, request: Command },

@@ -32,7 +32,7 @@ const DEFAULTS: Settings = Settings {
 };
 
 /// A city to drill: its roads, its settings, its fleet, and what feed 1 gives.
-#[derive(Debug, Drop)]
+#[derive(Drop)]
 pub struct City {
     pub network: Network,
     pub settings: Settings,

@@ -12,7 +12,7 @@ const MODULUS: u64 = 1 << 31;
 const LOW_BITS: u32 = 16;
 
 /// The draws that are left.
-#[derive(Clone, Copy, Debug)]
+#[derive(Clone, Copy)]
 pub struct Draws {
     pub state: u32,
 }

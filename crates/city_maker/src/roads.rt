@@ -13,7 +13,7 @@ const LEAST_SECONDS: u32 = 30;
 const SECONDS_RANGE: u32 = 91;
 
 /// The arcs so far, and the draws that are left.
-#[derive(Debug, Drop)]
+#[derive(Drop)]
 pub struct Roads {
     pub arcs: Vec<RoadArc>,
     pub draws: Draws,

@@ -7,7 +7,7 @@ use std::marker::Model;
 const NOTHING: u64 = u64::MAX;
 
 /// An amount, or none.
-#[derive(Clone, Copy, Debug, PartialEq, Eq)]
+#[derive(Clone, Copy, PartialEq, Eq)]
 pub struct Cell {
     amount: u64,
 }

@@ -9,7 +9,7 @@ use std::alloc::Global;
 use std::marker::Model;
 
 /// For each row and column an amount, or none.
-#[derive(Debug, Drop)]
+#[derive(Drop)]
 pub struct Grid {
     rows: u32,
     columns: u32,

@@ -8,7 +8,6 @@ pub type ColumnList = ItemList<Option<u32>>;
 pub type NumberList = ItemList<u64>;
 
 /// A pairing, with a price for each row and what each column pays.
-#[derive(Debug)]
 pub struct Paired {
     pub columns: ColumnList,
     pub prices: NumberList,

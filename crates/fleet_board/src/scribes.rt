@@ -12,7 +12,7 @@ use std::alloc::Global;
 use std::sync::Wait;
 
 /// Entries of the history.
-#[derive(Debug, Drop)]
+#[derive(Drop)]
 pub struct Tail {
     pub entries: Vec<Entry>,
     /// Whether all actors have ended: no entry is to come.

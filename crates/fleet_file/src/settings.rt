@@ -9,7 +9,7 @@ use ride_model::limits::{
 };
 
 /// A setting.
-#[derive(Clone, Copy, Debug)]
+#[derive(Clone, Copy)]
 pub enum Name {
     Batch,
     Penalty,
@@ -21,7 +21,7 @@ pub enum Name {
 }
 
 /// Which settings were set.
-#[derive(Clone, Copy, Debug)]
+#[derive(Clone, Copy)]
 pub struct Seen {
     pub batch: bool,
     pub penalty: bool,

@@ -10,7 +10,7 @@ use ride_model::Vehicle;
 use ride_model::limits::{LATEST_TIME, MOST_VEHICLE_CHAIRS, MOST_VEHICLE_SEATS};
 
 /// The numbers of a vehicle line.
-#[derive(Clone, Copy, Debug)]
+#[derive(Clone, Copy)]
 pub struct NewVehicle {
     pub id: u64,
     pub seats: u64,

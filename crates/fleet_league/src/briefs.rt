@@ -13,7 +13,7 @@ pub struct Win {
 pub type WinList = ItemList<Win>;
 
 /// A company's part of a round.
-#[derive(Debug, Drop)]
+#[derive(Drop)]
 pub struct Brief {
     pub wins: WinList,
     /// What its vehicles pay, those above 0 in fleet order.

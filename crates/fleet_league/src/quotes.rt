@@ -6,7 +6,7 @@ use ride_model::VersionList;
 use std::marker::Model;
 
 /// A company's vehicles at a time, in fleet order, and their prices for some rides.
-#[derive(Debug, Drop)]
+#[derive(Drop)]
 pub struct Quote {
     /// The company's clock, in seconds.
     pub time: u64,
@@ -17,7 +17,7 @@ pub struct Quote {
 
 /// For each ride a price of each vehicle, or none where the vehicle has no offer. Contracts see a grid: a row for each ride, a
 /// column for each vehicle.
-#[derive(Debug, Drop)]
+#[derive(Drop)]
 pub struct PriceRows {
     rides: u32,
     vehicles: u32,

@@ -24,7 +24,7 @@ use std::slice::from_mut;
 use std::thread::Threads;
 
 /// A quote with the table that its prices are of.
-#[derive(Debug, Drop)]
+#[derive(Drop)]
 pub struct PricedQuote {
     pub quote: Quote,
     pub table: PriceTable,

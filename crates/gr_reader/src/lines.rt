@@ -10,7 +10,7 @@ use ride_model::{Network, RoadArc};
 use std::alloc::Global;
 
 /// What a problem line says.
-#[derive(Clone, Copy, Debug)]
+#[derive(Clone, Copy)]
 pub struct Problem {
     pub nodes: u32,
     pub arcs: u32,

@@ -20,7 +20,7 @@ pub struct Move {
 pub type MoveList = ItemList<Move>;
 
 /// The orders after a batch, with prices and payments that certify that others do not cost less.
-#[derive(Debug, Drop)]
+#[derive(Drop)]
 pub struct MoveSheet {
     /// The batch's number.
     pub batch: u64,

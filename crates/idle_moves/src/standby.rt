@@ -10,7 +10,7 @@ use ride_model::{NoMemory, Ride, Seat, Vehicle};
 use std::alloc::Global;
 
 /// A vehicle that may be sent ahead, and where it stands.
-#[derive(Clone, Copy, Debug)]
+#[derive(Clone, Copy)]
 pub(crate) struct Standby {
     pub(crate) vehicle: u64,
     pub(crate) version: u64,

@@ -15,7 +15,7 @@ pub struct NearStop {
 }
 
 /// The times between a vehicle's nodes and a request's two nodes, absent where there is no way.
-#[derive(Debug, Drop)]
+#[derive(Drop)]
 pub struct Near {
     /// From the vehicle's node to the pickup.
     pub at_from: Option<u64>,

@@ -13,7 +13,7 @@ use ride_model::{Settings, Vehicle};
 use stop_plans::times;
 
 /// A vehicle's plan for a batch.
-#[derive(Debug, Drop)]
+#[derive(Drop)]
 pub struct Plan {
     /// The time of the batch.
     pub time: u64,

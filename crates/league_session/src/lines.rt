@@ -2,7 +2,7 @@
 use ride_model::Command;
 
 /// What a line of a league's feed says.
-#[derive(Clone, Copy, Debug)]
+#[derive(Clone, Copy)]
 pub(crate) enum FeedLine {
     /// A command to the league, or a bad line.
     League(Command),

@@ -21,7 +21,7 @@ use std::alloc::Global;
 use std::thread::{Threads, join_mut};
 
 /// What two companies quote for rides, and each one's table of them.
-#[derive(Debug, Drop)]
+#[derive(Drop)]
 struct RoundPrices {
     quotes: [Quote; 2],
     first: PriceTable,

@@ -17,7 +17,7 @@ use ride_model::Ride;
 use std::alloc::Global;
 
 /// What is told of a round, and each company's part of it.
-#[derive(Debug, Drop)]
+#[derive(Drop)]
 pub(crate) struct RoundParts {
     pub(crate) sheet: RoundSheet,
     pub(crate) first: Brief,

@@ -23,7 +23,6 @@ pub(crate) type RoundAwardList = ItemList<RoundAward>;
 pub(crate) type RoundPayList = ItemList<RoundPay>;
 
 /// A round: its cost, the requests that were won in order, and the prices that certify it.
-#[derive(Debug)]
 pub(crate) struct RoundSheet {
     pub(crate) cost: u64,
     pub(crate) awards: RoundAwardList,
@@ -52,7 +51,7 @@ impl Drop for RoundSheet {
 }
 
 /// What becomes of a line of the feed.
-#[derive(Debug, Drop)]
+#[derive(Drop)]
 pub(crate) enum Told {
     /// It is answered.
     Answer(Reply),

@@ -1,7 +1,7 @@
 //! What comes next in a text.
 
 /// What comes next in a text.
-#[derive(Clone, Copy, Debug, PartialEq, Eq)]
+#[derive(Clone, Copy, PartialEq, Eq)]
 pub enum NextLine {
     /// A line that an LF ends.
     Line,
@@ -12,7 +12,7 @@ pub enum NextLine {
 }
 
 /// Why a text was not read to its end.
-#[derive(Clone, Copy, Debug, PartialEq, Eq)]
+#[derive(Clone, Copy, PartialEq, Eq)]
 pub enum ReadStop {
     /// A read failed.
     SourceFailed,

@@ -1,7 +1,7 @@
 //! The limits of a text.
 
 /// The limits of a text that is read line by line.
-#[derive(Clone, Copy, Debug, PartialEq, Eq)]
+#[derive(Clone, Copy, PartialEq, Eq)]
 pub struct Limits {
     /// The most bytes of a line, without its LF, that are kept.
     pub line: usize,

@@ -6,7 +6,7 @@ use crate::ReadStop;
 use ride_ports::Ran;
 
 /// What stops the taking of a feed's lines before its end.
-#[derive(Clone, Copy, Debug, PartialEq, Eq)]
+#[derive(Clone, Copy, PartialEq, Eq)]
 pub enum Stop {
     /// Memory was wanting.
     NoMemory,

@@ -10,7 +10,7 @@ use std::alloc::Global;
 use std::marker::Model;
 
 /// What `LineCutter::take` took of a piece.
-#[derive(Clone, Copy, Debug, PartialEq, Eq)]
+#[derive(Clone, Copy, PartialEq, Eq)]
 pub struct Cut {
     /// How many bytes.
     pub used: usize,
@@ -19,7 +19,7 @@ pub struct Cut {
 }
 
 /// Cuts a text that comes in any pieces into its lines, of each of which it keeps the first bytes.
-#[derive(Debug, Drop)]
+#[derive(Drop)]
 pub struct LineCutter {
     buffer: Vec<u8>,
     /// How many bytes of the buffer are the line's.

@@ -22,7 +22,7 @@ use ride_model::{AmountList, NoMemory, Seat, SeatList};
 use std::thread::Threads;
 
 /// What a commit says but for the outcomes.
-#[derive(Debug, Drop)]
+#[derive(Drop)]
 pub(crate) struct Commit {
     pub(crate) number: u64,
     pub(crate) cost: u64,

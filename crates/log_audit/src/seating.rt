@@ -17,7 +17,7 @@ use ride_model::{NoMemory, Offer, Ride, Seat, Vehicle};
 use std::alloc::Global;
 
 /// A seat by the places in the batch of its request and its vehicle, with its own offer.
-#[derive(Clone, Copy, Debug)]
+#[derive(Clone, Copy)]
 pub(crate) struct Placed {
     pub(crate) request: u32,
     pub(crate) vehicle: u32,

@@ -197,7 +197,7 @@ fn reports<R: Abort>(rt: &R, vehicle: &Vehicle, cases: &[(u64, Option<Command>)]
 {
     for (clock, report) in cases {
         let found = next_report(vehicle, *clock);
-        assert!(rt; found == *report, "at {clock}: {found:?}");
+        assert!(rt; found == *report, "at {clock}");
     }
 }
 

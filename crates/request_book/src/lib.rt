@@ -16,7 +16,7 @@ use std::marker::Model;
 use wait_list::WaitList;
 
 /// An accepted request.
-#[derive(Clone, Copy, Debug, PartialEq, Eq)]
+#[derive(Clone, Copy, PartialEq, Eq)]
 pub struct Accepted {
     ride: Ride,
     state: RequestState,

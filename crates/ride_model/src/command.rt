@@ -1,14 +1,14 @@
 //! Who acts, and what feeds ask for.
 
 /// Who makes an entry of the history. Feeds and desks are numbered from 1.
-#[derive(Clone, Copy, Debug, PartialEq, Eq)]
+#[derive(Clone, Copy, PartialEq, Eq)]
 pub enum Actor {
     Feed(u8),
     Desk(u8),
 }
 
 /// A line of a feed. Its numbers are as the line has them; a command with one out of its range is refused.
-#[derive(Clone, Copy, Debug, PartialEq, Eq)]
+#[derive(Clone, Copy, PartialEq, Eq)]
 pub enum Command {
     /// A rider asks for a ride.
     Request {

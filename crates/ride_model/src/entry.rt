@@ -15,7 +15,7 @@ pub type AmountList = ItemList<(u64, u64)>;
 pub type OutcomeList = ItemList<(u64, Outcome)>;
 
 /// What a commit makes of a request of its batch.
-#[derive(Clone, Copy, Debug, PartialEq, Eq)]
+#[derive(Clone, Copy, PartialEq, Eq)]
 pub enum Outcome {
     Confirmed,
     /// The seating leaves it out.
@@ -29,21 +29,21 @@ pub enum Outcome {
 }
 
 /// How an actor ended.
-#[derive(Clone, Copy, Debug, PartialEq, Eq)]
+#[derive(Clone, Copy, PartialEq, Eq)]
 pub enum Ending {
     Whole,
     Cut,
 }
 
 /// An event of the history, with who made it.
-#[derive(Debug, Drop)]
+#[derive(Drop)]
 pub struct Entry {
     pub actor: Actor,
     pub event: Event,
 }
 
 /// What happened.
-#[derive(Debug, Drop)]
+#[derive(Drop)]
 pub enum Event {
     /// A feed's command was answered.
     Fed {

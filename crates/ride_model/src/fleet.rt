@@ -6,7 +6,7 @@ use crate::Vehicle;
 use std::marker::Model;
 
 /// Vehicles in the fleet's order: at most 1,000, of distinct ids below 10^18.
-#[derive(Debug, Drop)]
+#[derive(Drop)]
 pub struct Fleet {
     vehicles: Vec<Vehicle>,
 }

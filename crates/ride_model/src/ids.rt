@@ -6,7 +6,7 @@ use arrayvec::ArrayVec;
 use std::marker::Model;
 
 /// A list of at most 16 ids.
-#[derive(Debug, Drop)]
+#[derive(Drop)]
 pub struct Ids {
     items: ArrayVec<u64, 16>,
 }

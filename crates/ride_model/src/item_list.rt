@@ -5,7 +5,7 @@ use crate::NoMemory;
 use std::marker::Model;
 
 /// A list over a vector. It is made from a vector and gives it back without taking memory.
-#[derive(Debug, Drop)]
+#[derive(Drop)]
 pub struct ItemList<T> {
     items: Vec<T>,
 }

@@ -5,7 +5,7 @@ ghost use Rattle.ride_model.specs.Road.{IsArc, IsRoadMap};
 use std::marker::Model;
 
 /// A directed road from `tail` to `head` that takes so many seconds. Nodes are numbered from 1.
-#[derive(Clone, Copy, Debug, PartialEq, Eq, Default)]
+#[derive(Clone, Copy, PartialEq, Eq, Default)]
 pub struct RoadArc {
     pub tail: u32,
     pub head: u32,
@@ -13,7 +13,7 @@ pub struct RoadArc {
 }
 
 /// A road network: nodes 1 to `nodes`, and arcs among them.
-#[derive(Debug, Drop)]
+#[derive(Drop)]
 pub struct Network {
     nodes: u32,
     arcs: Vec<RoadArc>,

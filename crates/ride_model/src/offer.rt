@@ -1,7 +1,7 @@
 //! Places for new rides.
 
 /// The legs into and out of the two new stops, in seconds.
-#[derive(Clone, Copy, Debug, PartialEq, Eq, Default)]
+#[derive(Clone, Copy, PartialEq, Eq, Default)]
 pub struct Joins {
     pub to_pickup: u64,
     pub after_pickup: u64,
@@ -12,7 +12,7 @@ pub struct Joins {
 
 /// A place for a ride in a vehicle's plan: the pickup directly before old stop `i`, the drop-off directly
 /// before old stop `j`, both counted from 0.
-#[derive(Clone, Copy, Debug, PartialEq, Eq)]
+#[derive(Clone, Copy, PartialEq, Eq)]
 pub struct Offer {
     pub i: u32,
     pub j: u32,
@@ -23,7 +23,7 @@ pub struct Offer {
 }
 
 /// A request's seat in a batch's seating.
-#[derive(Clone, Copy, Debug, PartialEq, Eq)]
+#[derive(Clone, Copy, PartialEq, Eq)]
 pub struct Seat {
     pub request: u64,
     pub vehicle: u64,

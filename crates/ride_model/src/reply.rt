@@ -4,7 +4,7 @@ ghost use Rattle.std.specs.Prelude.{◌≡◌};
 use crate::Ids;
 
 /// The answer to a command.
-#[derive(Debug, Drop)]
+#[derive(Drop)]
 pub enum Reply {
     /// The request is accepted and waits.
     Waiting,
@@ -56,7 +56,7 @@ impl Reply {
 }
 
 /// What has become of an accepted request.
-#[derive(Clone, Copy, Debug, PartialEq, Eq)]
+#[derive(Clone, Copy, PartialEq, Eq)]
 pub enum RequestState {
     Waiting,
     /// It is in the open batch of this number.

@@ -1,7 +1,7 @@
 //! The settings of a run.
 
 /// What the fleet's owner sets: how batches are cut and what is paid for.
-#[derive(Clone, Copy, Debug, PartialEq, Eq)]
+#[derive(Clone, Copy, PartialEq, Eq)]
 pub struct Settings {
     /// The most requests of a batch.
     pub batch: u32,

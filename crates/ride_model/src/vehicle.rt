@@ -31,7 +31,7 @@ pub struct Load {
 }
 
 /// What happens at a stop.
-#[derive(Clone, Copy, Debug, PartialEq, Eq, Default)]
+#[derive(Clone, Copy, PartialEq, Eq, Default)]
 pub enum Kind {
     #[default]
     Pickup,
@@ -39,7 +39,7 @@ pub enum Kind {
 }
 
 /// A stop of a vehicle's plan.
-#[derive(Clone, Copy, Debug, PartialEq, Eq, Default)]
+#[derive(Clone, Copy, PartialEq, Eq, Default)]
 pub struct Stop {
     /// The ride's id.
     pub ride: u64,
@@ -50,7 +50,7 @@ pub struct Stop {
 }
 
 /// A vehicle with what it has promised.
-#[derive(Debug, Drop)]
+#[derive(Drop)]
 pub struct Vehicle {
     pub id: u64,
     pub seats: u32,

@@ -7,7 +7,7 @@ use crate::sources::Failed;
 use std::marker::Model;
 
 /// The calls that were made, those that fail, and the most bytes that each of the others moves.
-#[derive(Drop, Debug)]
+#[derive(Drop)]
 pub(crate) struct Calls<'a> {
     pieces: &'a [usize],
     failing: &'a [u64],

@@ -7,7 +7,7 @@ pub trait Gate: Sync {
 }
 
 /// The gate that returns at once.
-#[derive(Clone, Copy, Debug, Default, PartialEq, Eq)]
+#[derive(Clone, Copy, Default, PartialEq, Eq)]
 pub struct OpenGate;
 
 impl Gate for OpenGate {

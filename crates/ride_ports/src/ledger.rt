@@ -12,7 +12,7 @@ use std::marker::Model;
 
 /// What is kept of a source that was given back: its count of faults and, where it tells them,
 /// the bytes that it had left.
-#[derive(Clone, Copy, Debug, Default)]
+#[derive(Clone, Copy, Default)]
 pub(crate) struct Returned<'a> {
     pub(crate) faults: u64,
     pub(crate) left: Option<&'a [u8]>,
@@ -20,7 +20,6 @@ pub(crate) struct Returned<'a> {
 
 /// The names that were asked for, how many of them were brought, the sources that were given
 /// back, and the count of faults.
-#[derive(Debug)]
 pub(crate) struct Ledger<'a> {
     asked: ArrayVec<String, 8, Global>,
     brought: u64,

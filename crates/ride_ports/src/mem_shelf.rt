@@ -14,7 +14,7 @@ use std::marker::Model;
 
 /// A file in memory: its name, its bytes, the lengths of the pieces in which its source gives
 /// them, and the numbers of the source's calls that fail.
-#[derive(Clone, Copy, Debug)]
+#[derive(Clone, Copy)]
 pub struct MemFile<'a> {
     pub name: &'a str,
     pub bytes: &'a [u8],
@@ -23,7 +23,7 @@ pub struct MemFile<'a> {
 }
 
 /// Brings files in memory by their names, and fails at given calls.
-#[derive(Drop, Debug)]
+#[derive(Drop)]
 pub struct MemShelf<'a> {
     files: &'a [MemFile<'a>],
     failing: &'a [u64],

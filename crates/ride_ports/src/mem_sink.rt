@@ -14,7 +14,7 @@ use std::marker::Model;
 
 /// Takes bytes into memory up to its room, in pieces of given lengths, and fails at given calls
 /// and where it is full.
-#[derive(Drop, Debug)]
+#[derive(Drop)]
 pub struct MemSink<'a> {
     written: Vec<u8>,
     room: usize,

@@ -9,7 +9,7 @@ use crate::sources::{Failed, Source};
 use std::marker::Model;
 
 /// Gives bytes in memory, in pieces of given lengths, and fails at given calls.
-#[derive(Drop, Debug)]
+#[derive(Drop)]
 pub struct MemSource<'a> {
     left: &'a [u8],
     calls: Calls<'a>,

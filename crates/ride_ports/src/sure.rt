@@ -13,7 +13,7 @@ use std::alloc::Global;
 use std::marker::Model;
 
 /// Gives bytes in memory, as many at a time as the buffer takes.
-#[derive(Drop, Debug)]
+#[derive(Drop)]
 pub struct SureSource<'a> {
     left: &'a [u8],
 }
@@ -49,7 +49,7 @@ impl<'a> Source for SureSource<'a> {
 }
 
 /// Takes every piece whole and forgets it.
-#[derive(Clone, Copy, Debug, Default)]
+#[derive(Clone, Copy, Default)]
 pub struct SureSink;
 
 impl SureSink {
@@ -69,14 +69,14 @@ impl Sink for SureSink {
 }
 
 /// A file by its name and its bytes.
-#[derive(Clone, Copy, Debug)]
+#[derive(Clone, Copy)]
 pub struct SureFile<'a> {
     pub name: &'a str,
     pub bytes: &'a [u8],
 }
 
 /// Brings files in memory by their names, and empty bytes for every further name.
-#[derive(Drop, Debug)]
+#[derive(Drop)]
 pub struct SureShelf<'a> {
     files: &'a [SureFile<'a>],
     ledger: Ledger<'a>,

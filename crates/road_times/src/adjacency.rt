@@ -11,7 +11,7 @@ use ride_model::Network;
 use std::alloc::{AllocError, Global};
 
 /// The end of an arc, as its other end sees it.
-#[derive(Clone, Copy, Debug, Default)]
+#[derive(Clone, Copy, Default)]
 pub(crate) struct Neighbor {
     pub(crate) node: u32,
     pub(crate) seconds: u32,

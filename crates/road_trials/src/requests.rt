@@ -151,9 +151,13 @@ fn expect_change(
 ) -> Result<(), NoMemory> {
     book.set_state(change.id, change.state);
     let found = book.state(change.id);
-    assert!(rt; found == change.found, "{found:?}");
+    assert!(rt; found == change.found, "request {}", change.id);
     let wait = wait_first(alloc, book, 9, change.waiting)?;
-    assert!(rt; wait && have_waiting(book, change.waiting), "{found:?}");
+    assert!(rt;
+        wait && have_waiting(book, change.waiting),
+        "request {}",
+        change.id
+    );
     Ok(())
 }
 

@@ -221,7 +221,12 @@ fn expect_case(rt: &impl Abort, alloc: Global, case: &Case) -> Result<(), NoMemo
     assert!(rt; case.lead <= 3600);
     let solved = seated(alloc, case.lead)?;
     let found = outcome(solved, case.now, case.version, case.cancelled);
-    assert!(rt; found == Some(case.outcome), "{found:?}");
+    assert!(rt;
+        found == Some(case.outcome),
+        "at {}, of version {}",
+        case.now,
+        case.version
+    );
     Ok(())
 }
 

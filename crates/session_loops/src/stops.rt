@@ -6,7 +6,7 @@ use command_lines::FeedStop;
 use ride_model::Ending;
 
 /// What stops a feed before its end.
-#[derive(Clone, Copy, Debug)]
+#[derive(Clone, Copy)]
 pub enum Stop {
     NoMemory,
     OfFeed(FeedStop),

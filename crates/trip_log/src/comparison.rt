@@ -6,7 +6,7 @@ use ride_ports::{Failed, Sink};
 use std::marker::Model;
 
 /// Takes the bytes of a line and an LF, and the first other byte. After that it fails.
-#[derive(Debug, Drop)]
+#[derive(Drop)]
 pub(crate) struct LineSink<'a> {
     line: &'a [u8],
     place: usize,

@@ -12,7 +12,7 @@ use ride_ports::{Failed, Sink, write_all};
 pub const MOST_TEXT: usize = 128;
 
 /// A piece of a line.
-#[derive(Clone, Copy, Debug)]
+#[derive(Clone, Copy)]
 pub enum Piece<'a> {
     Bytes(&'a [u8]),
     Number(u64),

@@ -51,7 +51,7 @@ fn expect_states<R: Abort + Threads + Sync>(rt: &R, day: &mut Day<'_>) {
     ] {
         day.take_all(rt, steps);
         assert_eq!(rt; day.board().open_of(1), open);
-        assert_eq!(rt; day.board().request_state(7), Some(state));
+        assert!(rt; day.board().request_state(7) == Some(state));
     }
     assert_eq!(rt; (day.board().asked(), day.board().opened()), (1, 1));
 }
