@@ -31,15 +31,18 @@ replay-of-content start ran told name taken before entries content replay = reco
   text = replay.text;
   promises = replay.promises;
   settled = replay.settled;
-  first = record { of_taken = replay.first.of_taken; of_feed = by told content };
+  first = record { of_taken = replay.first.of_taken; of_feed = by (λ bytes. AreFirst (fed_commands 1 entries) (commands_of start.settings.log bytes)) told content replay.first.of_feed };
   whole = replay.whole;
   cut = replay.cut;
   within = replay.within;
   too_long = replay.too_long;
+  ended_whole = λ whole. record {
+    within = (replay.ended_whole whole).within;
+    all_taken = by (λ bytes. taken ≡ bytes) told content (replay.ended_whole whole).all_taken;
+    all_answered = (replay.ended_whole whole).all_answered;
+  };
 }
   where
-    by : (o : Option Contents) → IsContentOf o name before
-        → IfSome (told_bytes o name) (λ bytes. AreFirst (fed_commands 1 entries) (commands_of start.settings.log bytes))
-    by None h = tt
-    by (Some contents) (some, is) =
-        subst (λ (o : Option (List ℕ)). IfSome o (λ bytes. AreFirst (fed_commands 1 entries) (commands_of start.settings.log bytes))) is replay.first.of_feed
+    by : (Holds : List ℕ → Type 0) (o : Option Contents) → IsContentOf o name before → IfSome before Holds → IfSome (told_bytes o name) Holds
+    by Holds None h holds = tt
+    by Holds (Some contents) (some, is) holds = subst (λ (o : Option (List ℕ)). IfSome o Holds) is holds

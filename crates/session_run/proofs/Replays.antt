@@ -1,6 +1,6 @@
 -- What a session's history gives at its end.
-use Rattle.std.proofs.Common.{◌≡◌, ℕ, Bool, true, false, cond, List, [], ◌∷◌, ◌++◌, Option, Some, None, eqb, eq-eqb, refl, sym, ap, subst, ◌∙◌, append_assoc, append-nil, inl}
-use Rattle.std.specs.Prelude.{IfSome, filter_map, All, ◌&&◌}
+use Rattle.std.proofs.Common.{◌≡◌, ℕ, Bool, true, false, cond, List, [], ◌∷◌, ◌++◌, Option, Some, None, eqb, eq-eqb, refl, sym, ap, subst, ◌∙◌, append_assoc, append-nil, inl, true≢false}
+use Rattle.std.specs.Prelude.{IfSome, IsTrue, filter_map, All, ◌&&◌}
 use Rattle.std.specs.List.{list_any, list_all, range_with_len}
 use Rattle.ride_model.specs.declared.command.Actor.{Actor}
 use Rattle.ride_model.specs.declared.command.Actor.TheVariants.{Feed, Desk}
@@ -11,12 +11,14 @@ use Rattle.ride_model.specs.declared.entry.Entry.{Entry}
 use Rattle.ride_model.specs.declared.settings.Settings.{Settings}
 use Rattle.ride_model.specs.declared.vehicle.Vehicle.{Vehicle}
 use Rattle.ride_model.specs.Fleet.{IsFleet}
-use Rattle.ride_model.specs.History.{fed_commands, is_whole, entries_of, command_of}
+use Rattle.ride_model.specs.History.{ended_whole, fed_commands, is_whole, entries_of, command_of}
 use Rattle.ride_model.specs.Legal.{IsLegal, replay}
 use Rattle.ride_model.specs.Road.{RoadMap, IsRoadMap}
 use Rattle.ride_model.specs.Settings.{IsSettings}
 use Rattle.ride_model.specs.State.{State, start_state, is_actor}
 use Rattle.ride_model.specs.Vehicle.{IsLawful}
+use Rattle.ride_ports.proofs.ByteLemmas.{Reads-to_end}
+use Rattle.ride_ports.specs.Bytes.{Reads}
 use Rattle.ride_ports.specs.declared.outcome.Ran.{Ran}
 use Rattle.ride_model.specs.Text.{HasText}
 use Rattle.command_lines.specs.declared.pieces.FeedStop.TheVariants.{SourceFailed, TooLong}
@@ -96,6 +98,11 @@ ends-so old new ending desk_ending session start history =
       prompt = ends-prompt old.history new.history ending desk_ending history;
     }
 
+-- a feed that was cut did not end whole
+cut-not_whole : (s : State) (desk_ending : Ending) → s.ended ≡ (Feed 1, Cut) ∷ (Desk 1, desk_ending) ∷ [] → IsTrue (ended_whole s (Feed 1)) → ⊥
+cut-not_whole s desk_ending is whole =
+    true≢false (sym whole ∙ ap (list_any (λ (end : Actor × Ending). is_actor end.0 (Feed 1) && is_whole end.1)) is)
+
 -- the desk ends whole where all was opened
 whole-desk : (opened asked : ℕ) → opened ≡ asked → cond (eqb opened asked) Whole Cut ≡ Whole
 whole-desk opened asked is = ap (λ b. cond b Whole Cut) (eq-eqb opened asked is)
@@ -121,6 +128,13 @@ module _ (start : State) (begins : IsStart start) (ran : Ran) (feed : Option (Li
   first_now same =
       subst (λ (cs : List Command). AreFirstOf start.settings.log feed taken cs) (sym same)
       (subst (λ (s : State). AreFirstOf s.settings.log feed taken (fed_commands 1 old.history)) old_start first)
+
+  -- a feed that was cut is not said to end whole
+  not_whole_end : {Said : Type 0} (ending desk_ending : Ending) → ending ≡ Cut → (state_of new).ended ≡ (Feed 1, ending) ∷ (Desk 1, desk_ending) ∷ []
+      → IsTrue (ended_whole (replay start new.history) (Feed 1)) → Said
+  not_whole_end ending desk_ending is_cut ended whole =
+      absurd (cut-not_whole (replay start new.history) desk_ending (ap (λ (s : State). (replay s new.history).ended) (sym (new_start ∙ old_start))
+      ∙ ended ∙ ap (λ e. (Feed 1, e) ∷ (Desk 1, desk_ending) ∷ []) is_cut) whole)
 
   -- a replay that was cut
   cut-replay : (ending : Ending) → ending ≡ Cut → IsRunning old no_memory
@@ -150,14 +164,15 @@ module _ (start : State) (begins : IsStart start) (ran : Ran) (feed : Option (Li
         };
         within = λ _. within;
         too_long = too_long;
+        ended_whole = not_whole_end ending _ is_cut ends.ended;
       }
 
   -- a replay to the end of the feed
   whole-replay : (ending : Ending) → ending ≡ Whole → IsRunning old no_memory
       → new.history ≡ old.history ++ end_entry (Feed 1) ending ∷ end_entry (Desk 1) (cond (eqb (state_of old).opened (state_of old).asked) Whole Cut) ∷ []
-      → IsReadWhole ran → IsWithinLimits taken
+      → IsReadWhole ran → IsWithinLimits taken → IfSome feed (λ bytes. taken ≡ bytes)
       → fed_commands 1 old.history ≡ commands_of old.start.settings.log taken → IsReplay start ran feed taken new.history
-  whole-replay ending is_whole_end running history read within fed =
+  whole-replay ending is_whole_end running history read within all_taken fed =
       let ends = ends-so old new ending (cond (eqb (state_of old).opened (state_of old).asked) Whole Cut) running.session new_start history in
       let lawful = legal_one running.session running.one_feed in
       let commands : fed_commands 1 new.history ≡ commands_of start.settings.log taken
@@ -189,13 +204,14 @@ module _ (start : State) (begins : IsStart start) (ran : Ran) (feed : Option (Li
         cut = λ _ not_whole. absurd (not_whole read);
         within = λ _ _. within;
         too_long = λ is. absurd (cc (is, read.1));
+        ended_whole = λ _. record { within = within; all_taken = all_taken; all_answered = commands };
       }
 
   -- a replay that was stopped by want of memory
-  stopped-replay : (ending : Ending) → no_memory ≡ true → IsSession old → old.feeds ≡ 1
+  stopped-replay : (ending : Ending) → ending ≡ Cut → no_memory ≡ true → IsSession old → old.feeds ≡ 1
       → new.history ≡ old.history ++ end_entry (Feed 1) ending ∷ end_entry (Desk 1) (cond (eqb (state_of old).opened (state_of old).asked) Whole Cut) ∷ []
       → (ran.too_long ≡ true → IsTooLong taken) → IsReplay start ran feed taken new.history
-  stopped-replay ending none session one_feed history too_long =
+  stopped-replay ending is_cut none session one_feed history too_long =
       let ends = ends-so old new ending (cond (eqb (state_of old).opened (state_of old).asked) Whole Cut) session new_start history in
       let lawful = legal_one session one_feed in
       record {
@@ -209,23 +225,25 @@ module _ (start : State) (begins : IsStart start) (ran : Ran) (feed : Option (Li
         cut = λ memory _. absurd (cc (memory, wanting, none));
         within = λ memory _. absurd (cc (memory, wanting, none));
         too_long = too_long;
+        ended_whole = not_whole_end ending _ is_cut ends.ended;
       }
 
   -- each replay
   pub is-replay : (stop : Option Stop) → ran.source_failed ≡ is_source_failed stop → ran.too_long ≡ is_too_long stop
       → new.history ≡ old.history ++ end_entry (Feed 1) (ending_of stop) ∷ end_entry (Desk 1) (cond (eqb (state_of old).opened (state_of old).asked) Whole Cut) ∷ []
-      → (left : Option (List ℕ)) → HasEnded old.start.settings.log left stop old no_memory taken → IsReplay start ran feed taken new.history
-  is-replay None source long history left (running, whole) = whole-replay Whole refl running history (source, long) whole.within whole.commands_are
-  is-replay (Some NoMemory) source long history left (session, one_feed, none) = stopped-replay Cut none session one_feed history (λ is. absurd (cc (is, long)))
-  is-replay (Some (OfFeed TooLong)) source long history left (running, (many, fed)) =
+      → (left : Option (List ℕ)) → Reads feed left taken → HasEnded old.start.settings.log left stop old no_memory taken → IsReplay start ran feed taken new.history
+  is-replay None source long history left reads (running, whole) =
+      whole-replay Whole refl running history (source, long) whole.within (Reads-to_end reads whole.to_end) whole.commands_are
+  is-replay (Some NoMemory) source long history left reads (session, one_feed, none) = stopped-replay Cut refl none session one_feed history (λ is. absurd (cc (is, long)))
+  is-replay (Some (OfFeed TooLong)) source long history left reads (running, (many, fed)) =
       cut-replay Cut refl running history (λ whole. absurd (cc (whole.1, long))) (λ is. absurd (cc (is, long))) (λ _. many) fed
-  is-replay (Some (OfFeed SourceFailed)) source long history left (running, (within, fed)) =
+  is-replay (Some (OfFeed SourceFailed)) source long history left reads (running, (within, fed)) =
       cut-replay Cut refl running history (λ whole. absurd (cc (whole.0, source))) (λ _. within) (λ is. absurd (cc (is, long))) fed
 
 -- a replay for which there was no memory
 pub no-replay : (start : State) (ran : Ran) (feed : Option (List ℕ)) → IsStart start → HasText start.settings.log 1 1 [] → ran.no_memory ≡ true
     → ran.too_long ≡ false → IsReplay start ran feed [] []
-unfolding IsLegal entries_of
+unfolding IsLegal entries_of replay
 no-replay start ran feed begins text none long =
     record {
       begins = begins;
@@ -238,6 +256,7 @@ no-replay start ran feed begins text none long =
       cut = λ memory _. absurd (cc (memory, none));
       within = λ memory _. absurd (cc (memory, none));
       too_long = λ is. absurd (cc (is, long));
+      ended_whole = λ whole. absurd (true≢false (sym whole ∙ ap (λ (s : State). ended_whole s (Feed 1)) begins.nothing_yet));
     }
   where
     each : (o : Option (List ℕ)) → IfSome o (λ bytes. AreFirst [] (commands_of start.settings.log bytes))

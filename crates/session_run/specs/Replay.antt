@@ -1,10 +1,11 @@
 -- What a replay of a feed gives.
-use Rattle.std.specs.Prelude.{◌≡◌, ℕ, true, false, List, Option, [], ◌∷◌, IsFalse}
+use Rattle.std.specs.Prelude.{◌≡◌, ℕ, true, false, List, Option, [], ◌∷◌, IfSome, IsFalse, IsTrue}
 use Rattle.std.specs.List.{list_any}
 use Rattle.ride_model.specs.declared.command.Actor.TheVariants.{Feed, Desk}
 use Rattle.ride_model.specs.declared.entry.Ending.TheVariants.{Whole, Cut}
+use Rattle.ride_model.specs.declared.command.Command.{Command}
 use Rattle.ride_model.specs.declared.entry.Entry.{Entry}
-use Rattle.ride_model.specs.History.{fed_commands, is_abandoned, IsDirect, IsFinished}
+use Rattle.ride_model.specs.History.{ended_whole, fed_commands, is_abandoned, IsDirect, IsFinished}
 use Rattle.ride_model.specs.Legal.{IsLegal, replay}
 use Rattle.ride_model.specs.Promises.{KeepsPromises}
 use Rattle.ride_model.specs.State.{State}
@@ -30,8 +31,15 @@ pub record IsCut (start : State) (taken : List ℕ) (entries : List Entry) : Typ
   pub none_given_up : IsFalse (list_any (λ (entry : Entry). is_abandoned entry.event) entries)
   pub ended : (replay start entries).ended ≡ (Feed 1, Cut) ∷ (Desk 1, Whole) ∷ []
 
+-- a feed within the limits was taken to its end, and all its commands were answered
+pub record IsAnsweredWhole (log : ℕ) (feed : Option (List ℕ)) (taken : List ℕ) (answered : List Command) : Type 0 where
+  pub within : IsWithinLimits taken
+  pub all_taken : IfSome feed (λ bytes. taken ≡ bytes)
+  pub all_answered : answered ≡ commands_of log taken
+
 -- a history of one feed and one desk answers the first commands of a feed, of whose bytes these were taken: all of them
--- where nothing was wanting, those within the limits and before a fault where only the source was
+-- where nothing was wanting, those within the limits and before a fault where only the source was. It says that the feed ended whole
+-- only where all were answered
 pub record IsReplay (start : State) (ran : Ran) (feed : Option (List ℕ)) (taken : List ℕ) (entries : List Entry) : Type 0 where
   pub begins : IsStart start
   pub legal : IsLegal 1 1 start entries
@@ -43,3 +51,4 @@ pub record IsReplay (start : State) (ran : Ran) (feed : Option (List ℕ)) (take
   pub cut : ran.no_memory ≡ false → (IsReadWhole ran → ⊥) → IsCut start taken entries
   pub within : ran.no_memory ≡ false → ran.too_long ≡ false → IsWithinLimits taken
   pub too_long : ran.too_long ≡ true → IsTooLong taken
+  pub ended_whole : IsTrue (ended_whole (replay start entries) (Feed 1)) → IsAnsweredWhole start.settings.log feed taken (fed_commands 1 entries)

@@ -72,7 +72,7 @@ returns-clause-session g c =
       runs.reads,
       is-replay start begins ran (g.S.Source.left c.args.feed.now) taken old new no_memory old_start c.end.ensures.start c.end.ensures.feeds
           c.end.ensures.desks c.entries-history.ensures.legal c.entries-history.ensures.text first (c.no_memory.ensures ∙ c.end.ensures.no_memory) stop
-          c.is_source_failed.ensures c.is_too_long.ensures history left ended,
+          c.is_source_failed.ensures c.is_too_long.ensures history left runs.reads ended,
       written-by start ran taken c.ending_of.result (g.K.Sink.written c.args.out.now) (g.K.Sink.written c.end.new.out) (g.K.Sink.faults c.args.out.now)
           (g.K.Sink.faults c.end.new.out) c.end.new.self (c.end.ensures.start ∙ old_start) c.sink_failed.ensures c.no_memory.ensures
           (λ memory. c.ending_of.ensures
