@@ -1,24 +1,22 @@
--- A watch over a board on which nothing happened yet.
-use Rattle.std.proofs.Common.{◌≡◌, ◌+◌, ◌≤◌, List, [], ◌∷◌, ◌++◌, length, take, sym, ap, ◌∙◌, arith, length-append}
-use Rattle.std.proofs.lemmas.List.Elements.{filter_map-append}
+-- A watch over a board on which nothing happened yet, and how many commands a feed has given.
+use Rattle.std.proofs.Common.{◌≡◌, ◌≤◌, ◌==◌, List, [], ◌∷◌, length, take, sym, ap, ◌∙◌, arith}
 use Rattle.plain_lemmas.proofs.Lists.{length-filter_map-le}
 use Rattle.ride_model.specs.declared.entry.Entry.{Entry}
 use Rattle.ride_model.specs.History.{command_of}
 use Rattle.ride_model.specs.Legal.{replay, versions_of}
+use Rattle.history_laws.proofs.Raised.{length-filter-le}
 use Rattle.board_core.specs.Recorded.{Recorded}
-use Rattle.fleet_board.specs.Passes.{Known, commands_in, root_of}
+use Rattle.turn_lock.specs.History.{items_of}
+use Rattle.fleet_board.specs.Passes.{Known, IsPoint, commands_in, maker_of, root_of}
 use Rattle.idle_moves.specs.Watch.{Watched, Watches}
 
--- one entry has at most one command
-pub one-more : (old new : List Entry) (entry : Entry) → new ≡ old ++ entry ∷ [] → length (commands_in new) ≤ length (commands_in old) + 1
-one-more old new entry made =
-    omega (
-      arith,
-      ap (λ (own : List Entry). length (commands_in own)) made,
-      ap length (filter_map-append (λ (e : Entry). command_of e.event) old (entry ∷ [])),
-      length-append (commands_in old) (commands_in (entry ∷ [])),
-      length-filter_map-le (λ (e : Entry). command_of e.event) (entry ∷ []),
-    )
+-- a feed has given no more commands than it has seen entries
+pub given-le : (k : Known) → IsPoint k → length (commands_in k.own) ≤ length k.seen
+given-le k point =
+    let own : length k.own ≡ length (items_of maker_of k.number k.seen) = ap length point.own_are in
+    let of_all : length (items_of maker_of k.number k.seen) ≤ length k.seen
+    = length-filter-le (λ (entry : Entry). maker_of entry == k.number) k.seen in
+    omega (arith, own, of_all, length-filter_map-le (λ (entry : Entry). command_of entry.event) k.own)
 
 -- a new pass has seen nothing, and a watch over its board has the versions of the start
 pub watches-start : (k : Known) (began : Recorded) (watch : Watched) → k.root ≡ began ∷ [] → k.seen ≡ []

@@ -11,7 +11,7 @@ ghost use Rattle.league_trials.specs.Sides.{AreParts, IsNewFleet};
 use crate::sides::Side;
 use board_core::{Board, Totals};
 use city_maker::{City, CityPlan, make_city};
-use fleet_league::{Brief, NoMemory, Quote, Settled, settle};
+use fleet_league::{Brief, NoMemory, Quote, settle};
 use league_session::part_of;
 use log_audit::{Verdict, audit};
 use ride_model::{Command, Entry, Fleet, Reply, Ride, Settings};
@@ -19,7 +19,6 @@ use ride_ports::{MemSink, MemSource};
 use road_times::Roads;
 use std::alloc::Global;
 use std::process::Abort;
-use std::test::Fail;
 use std::thread::Threads;
 use trip_log::{print_entry, print_head};
 
@@ -48,7 +47,7 @@ fn city_of_day(alloc: Global) -> Result<City, NoMemory>
 }
 
 /// What the rounds of a day have given.
-#[derive(Clone, Copy, Debug, PartialEq, Eq, Default)]
+#[derive(Clone, Copy)]
 struct Tally {
     rounds: u64,
     first: u64,
@@ -59,12 +58,25 @@ struct Tally {
 }
 
 /// Two companies, the rides that wait for the next round, and what the rounds so far have given.
-#[derive(Drop)]
 struct Day<'r> {
     first: Side<'r>,
     second: Side<'r>,
     waiting: Vec<Ride>,
     tally: Tally,
+}
+
+impl Drop for Day<'_> {
+    fn drop(self) {
+        let Day {
+            first,
+            second,
+            waiting,
+            tally: _,
+        } = self;
+        drop(first);
+        drop(second);
+        drop(waiting);
+    }
 }
 
 // The vehicles of a fleet whose ids have this rest by 2.
@@ -78,6 +90,16 @@ fn half_of(alloc: Global, fleet: &Fleet, rest: u64) -> Result<Fleet, NoMemory>
         }
     }
     Ok(Fleet::new(vehicles))
+}
+
+// The same, with ample memory.
+fn half(rt: &impl Abort, alloc: Global, fleet: &Fleet, rest: u64) -> Fleet
+    ensures { (roads : RoadMap) → IsNewFleet roads fleet.now → IsNewFleet roads result }
+{
+    let Ok(half) = half_of(alloc, fleet, rest) else {
+        panic!(rt; "there is memory");
+    };
+    half
 }
 
 // The ride of a request in a map of so many nodes.
@@ -110,10 +132,17 @@ fn ride_of(nodes: u32, command: &Command) -> Option<Ride> {
 }
 
 /// Each company's part of a round.
-#[derive(Drop)]
 struct Parts {
     first: Brief,
     second: Brief,
+}
+
+impl Drop for Parts {
+    fn drop(self) {
+        let Parts { first, second } = self;
+        drop(first);
+        drop(second);
+    }
 }
 
 // The parts of a round of rides, which two companies have quoted.
@@ -135,38 +164,45 @@ fn play<R: Threads + Sync + Abort>(
     first: &mut Side<'_>,
     second: &mut Side<'_>,
     rides: &[Ride],
-) -> Result<Parts, NoMemory> {
-    let one = first.quote(rt, rides)?;
-    let two = second.quote(rt, rides)?;
+) -> Parts {
+    let one = first.quote(rt, rides);
+    let two = second.quote(rt, rides);
     let quotes = [one, two];
-    let parts = parts_of(alloc, &quotes, rides)?;
-    let settled = first.award(rt, &quotes[0], rides, &parts.first)?;
-    assert_eq!(rt; settled, Settled::Confirmed);
-    let settled = second.award(rt, &quotes[1], rides, &parts.second)?;
-    assert_eq!(rt; settled, Settled::Confirmed);
-    Ok(parts)
+    let Ok(parts) = parts_of(alloc, &quotes, rides) else {
+        panic!(rt; "there is memory");
+    };
+    first.award(rt, &quotes[0], rides, &parts.first);
+    second.award(rt, &quotes[1], rides, &parts.second);
+    parts
 }
 
 impl<'r> Day<'r> {
     // A day of the fleet's vehicles of odd and of even ids.
     fn new(
+        rt: &impl Abort,
         alloc: Global,
         roads: &'r Roads,
         settings: Settings,
         fleet: &Fleet,
-    ) -> Result<Day<'r>, NoMemory>
+    ) -> Day<'r>
         requires settings { settings ≡ default_settings }
         requires settings_fit { IsSettings settings }
         requires fleet { IsNewFleet roads.now fleet.now }
     {
-        let first = half_of(alloc, fleet, 1)?;
-        let second = half_of(alloc, fleet, 0)?;
-        Ok(Day {
-            first: Side::new(alloc, roads, settings, first)?,
-            second: Side::new(alloc, roads, settings, second)?,
+        let first = half(rt, alloc, fleet, 1);
+        let second = half(rt, alloc, fleet, 0);
+        Day {
+            first: Side::new(rt, alloc, roads, settings, first),
+            second: Side::new(rt, alloc, roads, settings, second),
             waiting: Vec::new(alloc),
-            tally: Tally::default(),
-        })
+            tally: Tally {
+                rounds: 0,
+                first: 0,
+                second: 0,
+                away: 0,
+                won: None,
+            },
+        }
     }
 
     // Takes the commands of a city's feed.
@@ -176,11 +212,10 @@ impl<'r> Day<'r> {
         alloc: Global,
         nodes: u32,
         commands: &[Command],
-    ) -> Result<(), NoMemory> {
+    ) {
         for command in commands {
-            self.take(rt, alloc, nodes, command)?;
+            self.take(rt, alloc, nodes, command);
         }
-        Ok(())
     }
 
     // A request waits for the next round, which a batch makes. The clock goes to both companies, whose drivers then report.
@@ -190,50 +225,45 @@ impl<'r> Day<'r> {
         alloc: Global,
         nodes: u32,
         command: &Command,
-    ) -> Result<(), NoMemory> {
+    ) {
         match command {
             Command::Ask => self.make_round(rt, alloc),
             Command::Clock { .. } => self.set_clock(rt, command),
             _ => {
-                let ride = ride_of(nodes, command);
-                assert!(rt; ride.is_some());
-                self.waiting.extend(ride)
+                let Some(ride) = ride_of(nodes, command) else {
+                    panic!(rt; "this is a ride of the map");
+                };
+                assert!(rt; self.waiting.push(ride).is_ok());
             }
         }
     }
 
     // Sets the clock of both companies, and lets the drivers report.
-    fn set_clock(&mut self, rt: &impl Abort, clock: &Command) -> Result<(), NoMemory> {
-        self.first.report(rt, clock)?;
-        self.second.report(rt, clock)?;
-        self.first.drive(rt)?;
-        self.second.drive(rt)
+    fn set_clock(&mut self, rt: &impl Abort, clock: &Command) {
+        self.first.report(rt, clock);
+        self.second.report(rt, clock);
+        self.first.drive(rt);
+        self.second.drive(rt);
     }
 
     // Makes a round of the rides that wait.
-    fn make_round<R: Threads + Sync + Abort>(
-        &mut self,
-        rt: &R,
-        alloc: Global,
-    ) -> Result<(), NoMemory> {
+    fn make_round<R: Threads + Sync + Abort>(&mut self, rt: &R, alloc: Global) {
         let rides = self.waiting.as_slice();
-        let parts = play(rt, alloc, &mut self.first, &mut self.second, rides)?;
+        let parts = play(rt, alloc, &mut self.first, &mut self.second, rides);
         self.tally.add(rides.len(), &parts);
         self.waiting.clear();
         if self.tally.rounds == CANCELLING {
-            self.cancel(rt)?;
+            self.cancel(rt);
         }
-        Ok(())
     }
 
     // The rider of a ride that the first company has won cancels.
-    fn cancel(&mut self, rt: &impl Abort) -> Result<(), NoMemory> {
+    fn cancel(&mut self, rt: &impl Abort) {
         let Some(id) = self.tally.won else {
             panic!(rt; "the first company has won a ride");
         };
-        let reply = self.first.report(rt, &Command::Cancel { id })?;
+        let reply = self.first.report(rt, &Command::Cancel { id });
         assert!(rt; matches!(reply, Reply::Freed { .. }));
-        Ok(())
     }
 }
 
@@ -263,13 +293,11 @@ fn print_entries(rt: &impl Abort, entries: &[Entry], log: &mut MemSink<'_>)
 }
 
 // The trip log of a board of one feed and one desk.
-fn log_of(rt: &impl Abort, alloc: Global, board: &Board<'_>) -> Result<Vec<u8>, NoMemory>
+fn put_log(rt: &impl Abort, board: &Board<'_>, log: &mut MemSink<'_>)
     requires { board.now.start.settings ≡ default_settings }
 {
-    let mut log = MemSink::new(alloc, 1_000_000, &[], &[])?;
-    assert!(rt; print_head(1, 1, 1, &mut log).is_ok());
-    print_entries(rt, board.entries(), &mut log);
-    Vec::from_slice(alloc, log.written())
+    assert!(rt; print_head(1, 1, 1, log).is_ok());
+    print_entries(rt, board.entries(), log);
 }
 
 // The totals of a log over a fleet, which is right.
@@ -287,9 +315,7 @@ fn audited<R: Threads + Sync + Abort>(
     let mut source = MemSource::new(log, &[], &[]);
     match audit(rt, alloc, roads, settings, fleet, &mut source) {
         Ok(Verdict::Yes(totals)) => totals,
-        Ok(Verdict::No { line, .. }) => panic!(rt;
-            "the log is right, and no line {line} of it is wrong"
-        ),
+        Ok(Verdict::No { line, .. }) => panic!(rt; "the log's line {line} is wrong"),
         Err(_) => panic!(rt; "there is memory"),
     }
 }
@@ -303,13 +329,15 @@ fn totals_of<R: Threads + Sync + Abort>(
     fleet: &Fleet,
     rest: u64,
     side: &Side<'_>,
-) -> Result<Totals, NoMemory>
+) -> Totals
     requires settings { IsSettings settings }
     requires fleet { IsNewFleet roads.now fleet.now }
 {
-    let log = log_of(rt, alloc, side.board())?;
-    let half = half_of(alloc, fleet, rest)?;
-    Ok(audited(rt, alloc, roads, settings, half, &log))
+    let log = MemSink::new(alloc, 1_000_000, &[], &[]);
+    let mut log = log.expect(rt, "there is memory");
+    put_log(rt, side.board(), &mut log);
+    let half = half(rt, alloc, fleet, rest);
+    audited(rt, alloc, roads, settings, half, log.written())
 }
 
 // The audited logs of a day tell of as many confirmed rides as were won.
@@ -320,44 +348,41 @@ fn expect_logs<R: Threads + Sync + Abort>(
     settings: Settings,
     fleet: &Fleet,
     day: &Day<'_>,
-) -> Result<(), NoMemory>
+)
     requires settings { IsSettings settings }
     requires fleet { IsNewFleet roads.now fleet.now }
 {
-    let first = totals_of(rt, alloc, roads, settings, fleet, 1, &day.first)?;
-    let second = totals_of(rt, alloc, roads, settings, fleet, 0, &day.second)?;
-    assert_eq!(rt; first.confirmed, day.tally.first);
-    assert_eq!(rt; second.confirmed, day.tally.second);
-    assert_eq!(rt; first.away, 0);
-    assert_eq!(rt; second.away, 0);
-    Ok(())
+    let first = totals_of(rt, alloc, roads, settings, fleet, 1, &day.first);
+    let second = totals_of(rt, alloc, roads, settings, fleet, 0, &day.second);
+    assert!(rt; first.confirmed == day.tally.first && first.away == 0);
+    assert!(rt; second.confirmed == day.tally.second && second.away == 0);
+}
+
+// Each company wins rides in twelve rounds, and some are left out.
+fn expect_tally(rt: &impl Abort, tally: &Tally) {
+    assert!(rt; tally.rounds == 12);
+    assert!(rt; 0 < tally.first && 0 < tally.second && 0 < tally.away);
 }
 
 // Plays the city's day, and looks at what it has given.
-fn expect_day<R: Threads + Sync + Abort>(
-    rt: &R,
-    alloc: Global,
-    roads: &Roads,
-    city: &City,
-) -> Result<(), NoMemory>
+fn expect_day<R: Threads + Sync + Abort>(rt: &R, alloc: Global, roads: &Roads, city: &City)
     requires settings { city.now.settings ≡ default_settings }
     requires settings_fit { IsSettings city.now.settings }
     requires fleet { IsNewFleet roads.now city.now.fleet }
 {
-    let mut day = Day::new(alloc, roads, city.settings, &city.fleet)?;
-    day.take_all(rt, alloc, roads.nodes(), city.commands.items())?;
-    assert_eq!(rt; day.tally.rounds, 12);
-    assert!(rt; 0 < day.tally.first);
-    assert!(rt; 0 < day.tally.second);
-    assert!(rt; 0 < day.tally.away);
-    expect_logs(rt, alloc, roads, city.settings, &city.fleet, &day)
+    let mut day = Day::new(rt, alloc, roads, city.settings, &city.fleet);
+    day.take_all(rt, alloc, roads.nodes(), city.commands.items());
+    expect_tally(rt, &day.tally);
+    expect_logs(rt, alloc, roads, city.settings, &city.fleet, &day);
 }
 
 #[test]
-fn the_logs_of_two_companies_of_a_city_audit(rt: HostRuntime) -> Result<(), Fail> {
-    let alloc = rt.alloc();
-    let city = city_of_day(alloc)?;
-    let roads = Roads::new(alloc, &city.network)?;
-    expect_day(&rt, alloc, &roads, &city)?;
-    Ok(())
+fn the_logs_of_two_companies_of_a_city_audit(rt: HostRuntime) {
+    let Ok(city) = city_of_day(rt.alloc()) else {
+        panic!(&rt; "there is memory");
+    };
+    let Ok(roads) = Roads::new(rt.alloc(), &city.network) else {
+        panic!(&rt; "there is memory");
+    };
+    expect_day(&rt, rt.alloc(), &roads, &city);
 }

@@ -3,14 +3,13 @@ ghost use Rattle.std.specs.Prelude.{◌≡◌};
 ghost use Rattle.ride_model.specs.declared.vehicle.Ride.{Ride};
 ghost use Rattle.league_trials.specs.OneVehicle.{IsNewCompany, IsQuoteOf, won_none};
 
-use crate::one_vehicle::{company, quote, ride};
+use crate::one_vehicle::{quote, ride};
 use fleet_league::{Brief, Company, NoMemory, Quote, Settled, WinList};
 use ride_model::AmountList;
 use road_times::Scratch;
 use std::alloc::Global;
 use std::process::Abort;
 use std::slice::from_mut;
-use std::test::Fail;
 use std::thread::Threads;
 
 // The seconds from node 1, where the vehicle is, to node 2.
@@ -43,8 +42,8 @@ fn award_nothing<R: Threads + Sync>(
     company.award(rt, from_mut(scratch), quote, &brief)
 }
 
-// An award of nothing is confirmed and adds no entry.
-fn expect_nothing<R: Threads + Sync + Abort>(
+/// An award of nothing is confirmed and adds no entry.
+pub(crate) fn expect_nothing<R: Threads + Sync + Abort>(
     rt: &R,
     alloc: Global,
     company: &mut Company<'_>,
@@ -57,15 +56,6 @@ fn expect_nothing<R: Threads + Sync + Abort>(
         panic!(rt; "there is memory");
     };
     let settled = award_nothing(rt, alloc, company, scratch, &quote);
-    assert_eq!(rt; settled, Ok(Settled::Confirmed));
+    assert!(rt; settled == Ok(Settled::Confirmed));
     assert!(rt; company.board().entries().is_empty());
-}
-
-#[test]
-fn an_award_of_no_wins_changes_nothing(rt: HostRuntime) -> Result<(), Fail> {
-    let roads = trial_town::roads(rt.alloc())?;
-    let mut company = company(rt.alloc(), &roads)?;
-    let mut scratch = Scratch::new(rt.alloc(), &roads)?;
-    expect_nothing(&rt, rt.alloc(), &mut company, &mut scratch);
-    Ok(())
 }

@@ -2,12 +2,11 @@
 ghost use Rattle.std.specs.Prelude.{◌≡◌, IfOk};
 ghost use Rattle.league_trials.specs.OneVehicle.{IsNewCompany, IsTownRide};
 
-use crate::one_vehicle::{company, ride};
+use crate::one_vehicle::ride;
 use fleet_league::{Company, NoMemory, Quote};
 use ride_model::{Command, Ride};
 use road_times::Scratch;
 use std::process::Abort;
-use std::test::Fail;
 use std::thread::Threads;
 
 // What the company quotes for a ride once its vehicle is off duty.
@@ -29,8 +28,8 @@ fn quote_off_duty<R: Threads + Sync>(
     company.quote(rt, scratch, &[ride])
 }
 
-// The vehicle is near the ride, and yet has no price for it.
-fn expect_no_price<R: Threads + Sync + Abort>(
+/// The vehicle is near the ride, and yet has no price for it.
+pub(crate) fn expect_no_price<R: Threads + Sync + Abort>(
     rt: &R,
     company: &mut Company<'_>,
     scratch: &mut Scratch,
@@ -41,14 +40,5 @@ fn expect_no_price<R: Threads + Sync + Abort>(
     let Ok(quote) = quote_off_duty(rt, company, scratch, ride(6, 1, 2)) else {
         panic!(rt; "there is memory");
     };
-    assert_eq!(rt; quote.prices.cell(0, 0), None);
-}
-
-#[test]
-fn a_vehicle_off_duty_has_no_price(rt: HostRuntime) -> Result<(), Fail> {
-    let roads = trial_town::roads(rt.alloc())?;
-    let mut company = company(rt.alloc(), &roads)?;
-    let mut scratch = Scratch::new(rt.alloc(), &roads)?;
-    expect_no_price(&rt, &mut company, &mut scratch);
-    Ok(())
+    assert!(rt; quote.prices.cell(0, 0) == None);
 }

@@ -6,7 +6,7 @@ use dual_check::{ColumnList, Grid, NumberList, Paired, certifies_grid};
 use fleet_league::NoMemory;
 use fleet_league::laws::restriction;
 use std::alloc::Global;
-use std::test::Fail;
+use std::process::Abort;
 
 // What leaving a ride out costs.
 const PENALTY: u64 = 3600;
@@ -54,22 +54,38 @@ fn own(alloc: Global) -> Result<Paired, NoMemory>
     })
 }
 
+// The pairing of a grid is certified, and so is that of its part.
+fn expect_certified(
+    rt: &impl Abort,
+    grid: &Grid,
+    paired: &Paired,
+    less: &Grid,
+    paired_less: &Paired,
+)
+    requires grid { grid.now ≡ union }
+    requires paired { paired.now ≡ round }
+    requires less { less.now ≡ part }
+    requires paired_less { paired_less.now ≡ own }
+{
+    assert!(rt; certifies_grid(grid, PENALTY, paired));
+    let chosen = &[true, false];
+    restriction(grid, PENALTY, paired, chosen, less, PENALTY, paired_less);
+    assert!(rt; certifies_grid(less, PENALTY, paired_less));
+}
+
 #[test]
-fn a_company_s_part_of_a_round_is_certified(rt: HostRuntime) -> Result<(), Fail> {
-    let grid = union(rt.alloc())?;
-    let paired = round(rt.alloc())?;
-    let part = part(rt.alloc())?;
-    let own = own(rt.alloc())?;
-    assert!(rt; certifies_grid(&grid, PENALTY, &paired));
-    restriction(
-        &grid,
-        PENALTY,
-        &paired,
-        &[true, false],
-        &part,
-        PENALTY,
-        &own,
-    );
-    assert!(rt; certifies_grid(&part, PENALTY, &own));
-    Ok(())
+fn a_company_s_part_of_a_round_is_certified(rt: HostRuntime) {
+    let Ok(grid) = union(rt.alloc()) else {
+        panic!(&rt; "there is memory");
+    };
+    let Ok(paired) = round(rt.alloc()) else {
+        panic!(&rt; "there is memory");
+    };
+    let Ok(part) = part(rt.alloc()) else {
+        panic!(&rt; "there is memory");
+    };
+    let Ok(own) = own(rt.alloc()) else {
+        panic!(&rt; "there is memory");
+    };
+    expect_certified(&rt, &grid, &paired, &part, &own);
 }

@@ -6,7 +6,7 @@ use dual_check::{Grid, Paired, certifies_grid};
 use fleet_league::{NoMemory, PriceRows, Quote, settle};
 use ride_model::VersionList;
 use std::alloc::Global;
-use std::test::Fail;
+use std::process::Abort;
 
 // What leaving a ride out costs.
 const PENALTY: u64 = 3600;
@@ -70,6 +70,18 @@ fn settled(alloc: Global, case: &Case) -> Result<Paired, NoMemory> {
     settle(alloc, PENALTY, &[first, second])
 }
 
+// A quote of one vehicle for no rides.
+fn quote_of_none(alloc: Global) -> Quote
+    ensures priced { IsPriced result.prices }
+    ensures rides { result.prices.rows ≡ 0 }
+{
+    Quote {
+        time: 0,
+        plans: VersionList::of(Vec::new(alloc)),
+        prices: PriceRows::of(0, 1, Vec::new(alloc)),
+    }
+}
+
 /// Writes a company's prices into its column.
 pub(crate) fn write(grid: &mut Grid, column: u32, prices: &[Option<u32>; 2])
     requires rows { grid.old.rows ≡ 2 }
@@ -93,44 +105,35 @@ fn union(alloc: Global, case: &Case) -> Result<Grid, NoMemory> {
     Ok(grid)
 }
 
-#[test]
-fn rides_are_seated_over_both_companies(rt: HostRuntime) -> Result<(), Fail> {
-    for case in &CASES {
-        let paired = settled(rt.alloc(), case)?;
-        assert_eq!(rt;
-            paired.columns.items(),
-            case.columns.as_slice(),
-            "{}",
-            case.what
-        );
-        let grid = union(rt.alloc(), case)?;
-        assert!(rt; certifies_grid(&grid, PENALTY, &paired), "{}", case.what);
-    }
-    Ok(())
+fn expect_round(rt: &impl Abort, alloc: Global, case: &Case) {
+    let Ok(paired) = settled(alloc, case) else {
+        panic!(rt; "there is memory");
+    };
+    let Ok(grid) = union(alloc, case) else {
+        panic!(rt; "there is memory");
+    };
+    assert!(rt;
+        paired.columns.items() == case.columns.as_slice(),
+        "{}",
+        case.what
+    );
+    assert!(rt; certifies_grid(&grid, PENALTY, &paired), "{}", case.what);
 }
 
-// A quote of one vehicle for no rides.
-fn quote_of_none(alloc: Global) -> Quote
-    ensures priced { IsPriced result.prices }
-    ensures rides { result.prices.rows ≡ 0 }
-{
-    Quote {
-        time: 0,
-        plans: VersionList::of(Vec::new(alloc)),
-        prices: PriceRows::of(0, 1, Vec::new(alloc)),
-    }
+// A round of no rides pays nothing.
+fn expect_none(rt: &impl Abort, alloc: Global) {
+    let quotes = [quote_of_none(alloc), quote_of_none(alloc)];
+    let Ok(paired) = settle(alloc, PENALTY, &quotes) else {
+        panic!(rt; "there is memory");
+    };
+    assert!(rt; paired.columns.items().is_empty() && paired.prices.items().is_empty());
+    assert!(rt; paired.pays.items() == [0, 0].as_slice());
 }
 
 #[test]
-fn a_round_of_no_rides_pays_nothing(rt: HostRuntime) -> Result<(), Fail> {
-    let alloc = rt.alloc();
-    let paired = settle(
-        alloc,
-        PENALTY,
-        &[quote_of_none(alloc), quote_of_none(alloc)],
-    )?;
-    assert!(rt; paired.columns.items().is_empty());
-    assert!(rt; paired.prices.items().is_empty());
-    assert_eq!(rt; paired.pays.items(), [0, 0].as_slice());
-    Ok(())
+fn rides_are_seated_over_both_companies(rt: HostRuntime) {
+    for case in CASES.as_slice() {
+        expect_round(&rt, rt.alloc(), case);
+    }
+    expect_none(&rt, rt.alloc());
 }

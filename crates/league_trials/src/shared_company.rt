@@ -2,14 +2,13 @@
 ghost use Rattle.std.specs.Prelude.{◌≡◌, ◌≢◌, IfOk};
 ghost use Rattle.league_trials.specs.OneVehicle.{HasWon, IsNewCompany, IsQuoteOf, IsTownRide};
 
-use crate::one_vehicle::{brief, company, quote, ride};
+use crate::one_vehicle::{brief, quote, ride};
 use fleet_league::{Company, NoMemory, Quote, Settled};
 use ride_model::{Command, Entry, Event, Reply, Ride};
 use road_times::Scratch;
 use std::alloc::Global;
 use std::process::Abort;
 use std::slice::from_mut;
-use std::test::Fail;
 use std::thread::Threads;
 
 const FIRST_RIDE: u64 = 6;
@@ -82,9 +81,8 @@ fn quote_twice<R: Threads + Sync + Abort>(
 {
     let first = quote(rt, company, scratch, ride, FIRST_PRICE)?;
     let again = quote(rt, company, scratch, ride, FIRST_PRICE)?;
-    assert_eq!(rt; first.time, again.time);
-    assert_eq!(rt; first.plans.items(), again.plans.items());
-    assert_eq!(rt; first.prices.cell(0, 0), again.prices.cell(0, 0));
+    assert!(rt; first.time == again.time && first.plans.items() == again.plans.items());
+    assert!(rt; first.prices.cell(0, 0) == again.prices.cell(0, 0));
     Ok(first)
 }
 
@@ -120,7 +118,37 @@ fn is_ask(event: &Event) -> bool {
 }
 
 // The first award is confirmed, the second one is told that the vehicle has moved, and changes nothing.
-fn expect_first_alone<R: Threads + Sync + Abort>(
+fn award_both<R: Threads + Sync + Abort>(
+    rt: &R,
+    alloc: Global,
+    company: &mut Company<'_>,
+    scratch: &mut Scratch,
+    first: Ride,
+    second: Ride,
+    first_quote: &Quote,
+    second_quote: &Quote,
+)
+    requires company { IsNewCompany company.old }
+    requires scratch { scratch.old.nodes ≡ company.old.board.start.roads.nodes }
+    requires first { IsTownRide first }
+    requires second { IsTownRide second }
+    requires rides_differ { first.id ≢ second.id }
+    requires first_quote { IsQuoteOf company.old.board.start first FIRST_PRICE first_quote.now }
+    requires second_quote { IsQuoteOf company.old.board.start second SECOND_PRICE second_quote.now }
+{
+    award_first(rt, alloc, company, scratch, first, first_quote);
+    let settled = award_second(rt, alloc, company, scratch, first, second, second_quote);
+    let moved = Settled::Moved {
+        vehicle: 1,
+        named: 0,
+        stands: 1,
+    };
+    assert!(rt; settled == Ok(moved));
+    expect_one_award(rt, company.board().entries());
+}
+
+/// Both brokers quote before either of them awards.
+pub(crate) fn expect_first_alone<R: Threads + Sync + Abort>(
     rt: &R,
     alloc: Global,
     company: &mut Company<'_>,
@@ -137,24 +165,14 @@ fn expect_first_alone<R: Threads + Sync + Abort>(
     let Ok(second_quote) = quote(rt, company, scratch, second, SECOND_PRICE) else {
         panic!(rt; "there is memory");
     };
-    award_first(rt, alloc, company, scratch, first, &first_quote);
-    let moved = Settled::Moved {
-        vehicle: 1,
-        named: 0,
-        stands: 1,
-    };
-    assert_eq!(rt;
-        award_second(rt, alloc, company, scratch, first, second, &second_quote),
-        Ok(moved)
+    award_both(
+        rt,
+        alloc,
+        company,
+        scratch,
+        first,
+        second,
+        &first_quote,
+        &second_quote,
     );
-    expect_one_award(rt, company.board().entries());
-}
-
-#[test]
-fn the_first_of_two_brokers_is_confirmed(rt: HostRuntime) -> Result<(), Fail> {
-    let roads = trial_town::roads(rt.alloc())?;
-    let mut company = company(rt.alloc(), &roads)?;
-    let mut scratch = Scratch::new(rt.alloc(), &roads)?;
-    expect_first_alone(&rt, rt.alloc(), &mut company, &mut scratch);
-    Ok(())
 }

@@ -1,5 +1,5 @@
 //! A company that plays a day of a city. What its calls ask is looked at before each of them.
-ghost use Rattle.std.specs.Prelude.{◌≡◌, ◌≤◌, [], ◌<◌, length, get_or, nat_eq, true, All, IfOk, IsTrue};
+ghost use Rattle.std.specs.Prelude.{◌≡◌, ◌≤◌, [], ◌<◌, length, get_or, nat_eq, true, All, IsTrue};
 ghost use Rattle.std.specs.List.{IsDistinct};
 ghost use Rattle.ride_model.specs.declared.vehicle.Vehicle.{Vehicle};
 ghost use Rattle.ride_model.specs.Settings.{IsSettings};
@@ -16,7 +16,7 @@ ghost use Rattle.league_trials.specs.Sides.{IsFreshRide, IsRideOf};
 
 use board_core::Board;
 use city_maker::next_report;
-use fleet_league::{Brief, Company, NoMemory, Quote, Settled};
+use fleet_league::{Brief, Company, Quote, Settled};
 use ride_model::{Command, Fleet, Reply, Ride, Settings};
 use road_times::{Roads, Scratch};
 use std::alloc::Global;
@@ -35,7 +35,6 @@ const MOST_ENTRIES: usize = 90_000;
 const MOST_REPORTS: u32 = 64;
 
 /// A company, with what it prices its vehicles with.
-#[derive(Drop)]
 pub(crate) struct Side<'r> {
     company: Company<'r>,
     roads: &'r Roads,
@@ -55,27 +54,44 @@ impl<'r> Model for Side<'r> {
         × (s.company.board.start.settings ≡ default_settings) };
 }
 
+impl Drop for Side<'_> {
+    fn drop(self) {
+        let Side {
+            company,
+            roads: _,
+            scratch,
+        } = self;
+        drop(company);
+        drop(scratch);
+    }
+}
+
 impl<'r> Side<'r> {
     /// A company of a fleet, of which nothing was told.
     pub(crate) fn new(
+        rt: &impl Abort,
         alloc: Global,
         roads: &'r Roads,
         settings: Settings,
         fleet: Fleet,
-    ) -> Result<Side<'r>, NoMemory>
+    ) -> Side<'r>
         requires settings { settings ≡ default_settings }
         requires settings_fit { IsSettings settings }
         requires lawful { All (IsLawful roads.now) fleet }
         requires idle { All (λ (v : Vehicle). v.stops.items ≡ []) fleet }
         requires first_versions { All (λ (v : Vehicle). v.version ≡ 0) fleet }
     {
-        let scratch = Scratch::new(alloc, roads)?;
-        let company = Company::new(alloc, roads, settings, fleet)?;
-        Ok(Side {
+        let Ok(scratch) = Scratch::new(alloc, roads) else {
+            panic!(rt; "there is memory");
+        };
+        let Ok(company) = Company::new(alloc, roads, settings, fleet) else {
+            panic!(rt; "there is memory");
+        };
+        Side {
             company,
             roads,
             scratch,
-        })
+        }
     }
 
     /// The company's board.
@@ -87,31 +103,29 @@ impl<'r> Side<'r> {
     }
 
     /// Answers a report.
-    pub(crate) fn report(&mut self, rt: &impl Abort, command: &Command) -> Result<Reply, NoMemory> {
+    pub(crate) fn report(&mut self, rt: &impl Abort, command: &Command) -> Reply {
         assert!(rt; self.company.is_open());
         assert!(rt; reports_of(self.company.board()) < MOST_ENTRIES);
         assert!(rt; is_report(command));
-        self.company.report(command)
+        self.company.report(command).expect(rt, "there is memory")
     }
 
     /// Lets each driver report all that is due.
-    pub(crate) fn drive(&mut self, rt: &impl Abort) -> Result<(), NoMemory> {
+    pub(crate) fn drive(&mut self, rt: &impl Abort) {
         let vehicles = self.company.board().vehicles().len();
         for place in 0..vehicles {
-            self.drive_one(rt, place)?;
+            self.drive_one(rt, place);
         }
-        Ok(())
     }
 
     // Lets the driver of the vehicle of a place report all that is due.
-    fn drive_one(&mut self, rt: &impl Abort, place: usize) -> Result<(), NoMemory> {
+    fn drive_one(&mut self, rt: &impl Abort, place: usize) {
         for _ in 0..MOST_REPORTS {
             let Some(command) = self.next_of(place) else {
-                return Ok(());
+                return;
             };
-            self.report(rt, &command)?;
+            self.report(rt, &command);
         }
-        Ok(())
     }
 
     // What the driver of the vehicle of a place is to report.
@@ -127,14 +141,10 @@ impl<'r> Side<'r> {
     }
 
     /// What the company quotes for rides.
-    pub(crate) fn quote<R: Threads + Sync + Abort>(
-        &mut self,
-        rt: &R,
-        rides: &[Ride],
-    ) -> Result<Quote, NoMemory>
+    pub(crate) fn quote<R: Threads + Sync + Abort>(&mut self, rt: &R, rides: &[Ride]) -> Quote
         ensures may { MayPlay self.old rides.now }
-        ensures quote { IfOk result (λ quote. quote ≡ quote_of (state_of self.old.board) rides.now) }
-        ensures priced { IfOk result (λ quote. IsPriced quote.prices) }
+        ensures quote { result ≡ quote_of (state_of self.old.board) rides.now }
+        ensures priced { IsPriced result.prices }
         ensures kept { self.new ≡ self.old }
         ensures sound { IsSound self.old.board }
         ensures settings { self.old.board.start.settings ≡ default_settings }
@@ -142,24 +152,28 @@ impl<'r> Side<'r> {
         // This call tells that the history is legal.
         let _history = self.company.board().entries();
         assert!(rt; self.may_play(rides));
-        self.company.quote(rt, &mut self.scratch, rides)
+        let Ok(quote) = self.company.quote(rt, &mut self.scratch, rides) else {
+            panic!(rt; "there is memory");
+        };
+        quote
     }
 
-    /// Awards the company its part of a round of rides, which it has quoted as it stands.
-    pub(crate) fn award<R: Threads + Sync>(
+    /// Awards the company its part of a round of rides, which it has quoted as it stands, and confirms.
+    pub(crate) fn award<R: Threads + Sync + Abort>(
         &mut self,
         rt: &R,
         quote: &Quote,
         rides: &[Ride],
         brief: &Brief,
-    ) -> Result<Settled, NoMemory>
+    )
         requires may { MayWin self.old rides.now brief.now }
         requires quote { quote.now ≡ quote_of (state_of self.old.board) rides.now }
     {
         // This call tells that the history is legal.
         let _history = self.company.board().entries();
-        self.company
-            .award(rt, from_mut(&mut self.scratch), quote, brief)
+        let scratches = from_mut(&mut self.scratch);
+        let settled = self.company.award(rt, scratches, quote, brief);
+        assert!(rt; settled == Ok(Settled::Confirmed));
     }
 
     // Whether rides may be quoted and won.

@@ -11,7 +11,6 @@ use ride_model::{Fleet, Ride, Vehicle};
 use road_times::{Roads, Scratch};
 use std::alloc::Global;
 use std::process::Abort;
-use std::test::Fail;
 use std::thread::Threads;
 
 // What leaving a ride out costs.
@@ -97,29 +96,12 @@ fn quote_at<R: Threads + Sync>(
     quote_of(rt, alloc, roads, fleet, rides)
 }
 
-// Quotes of the companies whose vehicles are at nodes 1, 4 and 3.
-fn quotes<R: Threads + Sync>(
-    rt: &R,
-    alloc: Global,
-    roads: &Roads,
-    rides: &[Ride; 2],
-) -> Result<[Quote; 3], NoMemory>
-    requires nodes { roads.now.nodes ≡ 4 }
-    requires rides { AreTownRides rides.now }
-    ensures { IfOk result (All IsQuoteOfTwo) }
-{
-    let first = quote_of_town(rt, alloc, roads, rides)?;
-    let second = quote_at(rt, alloc, roads, 4, rides)?;
-    let third = quote_at(rt, alloc, roads, 3, rides)?;
-    Ok([first, second, third])
-}
-
 // A quote's prices are these.
 fn expect_prices(rt: &impl Abort, quote: &Quote, prices: &[Option<u32>; 2])
     requires { IsQuoteOfTwo quote.now }
 {
     for (ride, price) in prices.iter().enumerate() {
-        assert_eq!(rt; quote.prices.cell(ride as u32, 0), price.map(u64::from));
+        assert!(rt; quote.prices.cell(ride as u32, 0) == price.map(u64::from));
     }
 }
 
@@ -133,24 +115,39 @@ fn union(alloc: Global, prices: &[[Option<u32>; 2]; 3]) -> Result<Grid, NoMemory
 }
 
 fn total(amounts: &[u64]) -> u64 {
-    amounts
-        .iter()
-        .fold(0, |sum, amount| sum.saturating_add(*amount))
+    let mut sum = 0u64;
+    for amount in amounts {
+        sum = sum.saturating_add(*amount);
+    }
+    sum
 }
 
 // A pairing is the case's, at its cost, and its prices certify it.
-fn expect_least(rt: &impl Abort, alloc: Global, paired: &Paired, case: &Case) {
-    assert_eq!(rt; paired.columns.items(), case.columns.as_slice());
+fn expect_least(rt: &impl Abort, grid: &Grid, paired: &Paired, case: &Case) {
+    assert!(rt; paired.columns.items() == case.columns.as_slice());
+    assert!(rt; certifies_grid(grid, PENALTY, paired));
+    // A certificate's prices less its pays are the cost.
+    let (prices, pays) = (total(paired.prices.items()), total(paired.pays.items()));
+    assert!(rt; prices.checked_sub(pays) == Some(case.cost));
+}
+
+// The round of quotes is the case's.
+fn expect_settled(rt: &impl Abort, alloc: Global, quotes: &[Quote; 3], case: &Case)
+    requires { All IsQuoteOfTwo quotes.now }
+{
+    for (quote, prices) in quotes.iter().zip(&case.prices) {
+        expect_prices(rt, quote, prices);
+    }
+    let Ok(paired) = settle(alloc, PENALTY, quotes) else {
+        panic!(rt; "there is memory");
+    };
     let Ok(grid) = union(alloc, &case.prices) else {
         panic!(rt; "there is memory");
     };
-    assert!(rt; certifies_grid(&grid, PENALTY, paired));
-    // A certificate's prices less its pays are the cost.
-    let (prices, pays) = (total(paired.prices.items()), total(paired.pays.items()));
-    assert_eq!(rt; prices.checked_sub(pays), Some(case.cost));
+    expect_least(rt, &grid, &paired, case);
 }
 
-// The round of two rides is the case's.
+// The round of two rides over companies whose vehicles are at nodes 1, 4 and 3 is the case's.
 fn expect_round<R: Threads + Sync + Abort>(
     rt: &R,
     alloc: Global,
@@ -161,22 +158,21 @@ fn expect_round<R: Threads + Sync + Abort>(
     requires nodes { roads.now.nodes ≡ 4 }
     requires rides { AreTownRides rides.now }
 {
-    let Ok(quotes) = quotes(rt, alloc, roads, rides) else {
+    let Ok(first) = quote_of_town(rt, alloc, roads, rides) else {
         panic!(rt; "there is memory");
     };
-    for (quote, prices) in quotes.iter().zip(&case.prices) {
-        expect_prices(rt, quote, prices);
-    }
-    let Ok(paired) = settle(alloc, PENALTY, &quotes) else {
+    let Ok(second) = quote_at(rt, alloc, roads, 4, rides) else {
         panic!(rt; "there is memory");
     };
-    expect_least(rt, alloc, &paired, case);
+    let Ok(third) = quote_at(rt, alloc, roads, 3, rides) else {
+        panic!(rt; "there is memory");
+    };
+    expect_settled(rt, alloc, &[first, second, third], case);
 }
 
-#[test]
-fn the_nearest_vehicle_is_left_to_the_ride_that_needs_it(rt: HostRuntime) -> Result<(), Fail> {
-    let roads = trial_town::roads(rt.alloc())?;
-    let case = Case {
+// The nearest vehicle is left to the ride that needs it.
+fn nearest() -> Case {
+    Case {
         prices: [
             [Some(120), Some(60)],
             [Some(180), Some(240)],
@@ -184,16 +180,12 @@ fn the_nearest_vehicle_is_left_to_the_ride_that_needs_it(rt: HostRuntime) -> Res
         ],
         columns: [Some(2), Some(0)],
         cost: 180,
-    };
-    let rides = [ride(6, 2, 1), ride(7, 1, 2)];
-    expect_round(&rt, rt.alloc(), &roads, &rides, &case);
-    Ok(())
+    }
 }
 
-#[test]
-fn a_company_that_is_far_from_both_rides_wins_none(rt: HostRuntime) -> Result<(), Fail> {
-    let roads = trial_town::roads(rt.alloc())?;
-    let case = Case {
+// A company that is far from both rides wins none.
+fn far() -> Case {
+    Case {
         prices: [
             [Some(180), Some(240)],
             [Some(120), Some(60)],
@@ -201,8 +193,16 @@ fn a_company_that_is_far_from_both_rides_wins_none(rt: HostRuntime) -> Result<()
         ],
         columns: [Some(2), Some(1)],
         cost: 120,
+    }
+}
+
+#[test]
+fn rides_are_seated_over_three_companies(rt: HostRuntime) {
+    let Ok(roads) = trial_town::roads(rt.alloc()) else {
+        panic!(&rt; "there is memory");
     };
+    let rides = [ride(6, 2, 1), ride(7, 1, 2)];
+    expect_round(&rt, rt.alloc(), &roads, &rides, &nearest());
     let rides = [ride(6, 3, 2), ride(7, 4, 3)];
-    expect_round(&rt, rt.alloc(), &roads, &rides, &case);
-    Ok(())
+    expect_round(&rt, rt.alloc(), &roads, &rides, &far());
 }

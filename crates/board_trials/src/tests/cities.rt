@@ -1,93 +1,167 @@
-//! A session over a generated city: two desks at once, and the audit of their log.
+//! A generated city: two desks at once and the audit of their log, its first batch by both searches, and a drill of a smaller one.
+ghost use Rattle.std.specs.Prelude.{◌≡◌, [], All};
+ghost use Rattle.ride_model.specs.declared.vehicle.Vehicle.{Vehicle};
+ghost use Rattle.ride_model.specs.Settings.{IsSettings};
+ghost use Rattle.ride_model.specs.Vehicle.{IsLawful};
+
 use super::days::is_spelled;
+use super::searches::expect_first_batch;
 use city_maker::{City, CityPlan, make_city};
 use command_lines::print_command;
 use log_audit::{Verdict, audit};
-use ride_model::{Command, NoMemory};
+use ride_model::{Command, Fleet, Settings};
 use ride_ports::{MemSink, MemSource, OpenGate, write_all};
 use road_times::Roads;
-use session_run::serve;
+use session_run::{drill, serve};
 use std::alloc::Global;
 use std::process::Abort;
 use std::sync::Wait;
-use std::test::Fail;
 use std::thread::Threads;
 
 /// A city of a hundred nodes.
-pub(super) const PLAN: CityPlan = CityPlan {
+const PLAN: CityPlan = CityPlan {
     side: 10,
     vehicles: 20,
     requests: 100,
     seed: 1,
 };
 
+/// A city of four nodes, with one vehicle and one request.
+const SMALL: CityPlan = CityPlan {
+    side: 2,
+    vehicles: 1,
+    requests: 1,
+    seed: 1,
+};
+
+/// What is tried over the city.
+enum Trial {
+    /// Both searches price its first batch alike.
+    Search,
+    /// Two desks serve its riders, and write a log.
+    Serve,
+    /// Their log is right.
+    Audit,
+}
+
 /// The requests among commands as a feed, with one `batch` after each eighth.
-fn riders_of(rt: &impl Abort, alloc: Global, commands: &[Command]) -> Result<Vec<u8>, NoMemory> {
-    let mut feed = MemSink::new(alloc, 100_000, &[], &[])?;
+fn put_riders(rt: &impl Abort, commands: &[Command], feed: &mut MemSink<'_>) {
     let mut requests = 0u32;
     for command in commands {
         let Command::Request { .. } = command else {
             continue;
         };
         assert!(rt; is_spelled(command));
-        assert!(rt; print_command(command, 1, &mut feed).is_ok());
-        assert!(rt; write_all(&mut feed, b"\n").is_ok());
+        assert!(rt; print_command(command, 1, feed).is_ok());
+        assert!(rt; write_all(feed, b"\n").is_ok());
         requests = requests.wrapping_add(1);
         if requests % 8 == 0 {
-            assert!(rt; write_all(&mut feed, b"batch\n").is_ok());
+            assert!(rt; write_all(feed, b"batch\n").is_ok());
         }
     }
-    Vec::from_slice(alloc, feed.written())
 }
 
-/// The log of two desks over the city, of which each prices by two workers.
-fn log_of_two_desks<R: Threads + Wait + Sync + Abort>(
+/// Two desks serve riders, of which each prices by two workers.
+fn serve_riders<R: Threads + Wait + Sync + Abort>(
     rt: &R,
     alloc: Global,
-) -> Result<Vec<u8>, NoMemory> {
-    let City {
-        network,
-        settings,
-        fleet,
-        commands,
-    } = make_city(alloc, &PLAN)?;
-    let roads = Roads::new(alloc, &network)?;
-    let feed = riders_of(rt, alloc, commands.items())?;
-    let mut riders = MemSource::new(feed.as_slice(), &[], &[]);
+    roads: &Roads,
+    settings: Settings,
+    fleet: Fleet,
+    riders: &[u8],
+    log: &mut MemSink<'_>,
+)
+    requires settings { IsSettings settings }
+    requires lawful { All (IsLawful roads.now) fleet }
+    requires idle { All (λ (v : Vehicle). v.stops.items ≡ []) fleet }
+    requires first_versions { All (λ (v : Vehicle). v.version ≡ 0) fleet }
+{
+    let mut riders = MemSource::new(riders, &[], &[]);
     let mut drivers = MemSource::new(b"", &[], &[]);
-    let mut log = MemSink::new(alloc, 1_000_000, &[], &[])?;
     let ran = serve(
         rt,
         alloc,
-        &roads,
+        roads,
         settings,
         fleet,
         &mut riders,
         &mut drivers,
         2,
         2,
-        &mut log,
+        log,
         &OpenGate,
     );
-    assert_eq!(rt; ran.status(), 0);
-    Vec::from_slice(alloc, log.written())
+    assert!(rt; ran.status() == 0);
+}
+
+/// The log is right, of a hundred requests, twelve batches that are asked for, opened and committed, two feeds and two desks.
+fn expect_audit<R: Threads + Sync + Abort>(
+    rt: &R,
+    alloc: Global,
+    roads: &Roads,
+    settings: Settings,
+    fleet: Fleet,
+    log: &[u8],
+)
+    requires settings { IsSettings settings }
+    requires lawful { All (IsLawful roads.now) fleet }
+    requires idle { All (λ (v : Vehicle). v.stops.items ≡ []) fleet }
+    requires first_versions { All (λ (v : Vehicle). v.version ≡ 0) fleet }
+{
+    let mut source = MemSource::new(log, &[], &[]);
+    match audit(rt, alloc, roads, settings, fleet, &mut source) {
+        Ok(Verdict::Yes(totals)) => assert!(rt; totals.entries == 140 && totals.finished),
+        Ok(Verdict::No { .. }) => panic!(rt; "the log is right"),
+        Err(_) => panic!(rt; "there is memory"),
+    }
+}
+
+fn on_city<R: Threads + Wait + Sync + Abort + AllocGlobal>(
+    rt: &R,
+    trial: Trial,
+    log: &mut MemSink<'_>,
+) {
+    let alloc = rt.alloc();
+    let Ok(city) = make_city(alloc, &PLAN) else {
+        panic!(rt; "there is memory");
+    };
+    let City {
+        network,
+        settings,
+        fleet,
+        commands,
+    } = city;
+    let Ok(roads) = Roads::new(alloc, &network) else {
+        panic!(rt; "there is memory");
+    };
+    match trial {
+        Trial::Search => {
+            expect_first_batch(rt, alloc, &roads, settings, fleet, commands.items());
+        }
+        Trial::Serve => {
+            let mut riders = MemSink::new(alloc, 100_000, &[], &[]).expect(rt, "there is memory");
+            put_riders(rt, commands.items(), &mut riders);
+            serve_riders(rt, alloc, &roads, settings, fleet, riders.written(), log);
+        }
+        Trial::Audit => expect_audit(rt, alloc, &roads, settings, fleet, log.written()),
+    }
 }
 
 #[test]
-fn two_desks_seat_a_city(rt: HostRuntime) -> Result<(), Fail> {
-    let alloc = rt.alloc();
-    let log = log_of_two_desks(&rt, alloc)?;
-    let city = make_city(alloc, &PLAN)?;
-    let roads = Roads::new(alloc, &city.network)?;
-    let mut source = MemSource::new(log.as_slice(), &[], &[]);
-    match audit(&rt, alloc, &roads, city.settings, city.fleet, &mut source) {
-        Ok(Verdict::Yes(totals)) => {
-            // A hundred requests, twelve batches that are asked for, opened and committed, two feeds and two desks.
-            assert_eq!(rt; totals.entries, 140);
-            assert!(rt; totals.finished);
-        }
-        Ok(Verdict::No { .. }) => panic!(&rt; "the log is right"),
-        Err(_) => panic!(&rt; "there is memory"),
-    }
-    Ok(())
+fn both_searches_price_a_city_alike_and_two_desks_seat_it(rt: HostRuntime) {
+    let log = MemSink::new(rt.alloc(), 1_000_000, &[], &[]);
+    let mut log = log.expect(&rt, "there is memory");
+    on_city(&rt, Trial::Search, &mut log);
+    on_city(&rt, Trial::Serve, &mut log);
+    on_city(&rt, Trial::Audit, &mut log);
+}
+
+#[test]
+fn a_drill_of_the_smallest_city_has_its_line(rt: HostRuntime) {
+    let out = MemSink::new(rt.alloc(), 200, &[], &[]);
+    let mut out = out.expect(&rt, "there is memory");
+    assert!(&rt; drill(&rt, rt.alloc(), &SMALL, &mut out).status() == 0);
+    let line =
+        "drill nodes 4 arcs 8 vehicles 1 requests 1 batches 1 confirmed 1 away 0 dropped 1\n";
+    assert!(&rt; out.written() == line.as_bytes());
 }

@@ -1,18 +1,18 @@
 //! Days of a board of one vehicle: commands, and batches that desks open and commit.
-ghost use Rattle.std.specs.Prelude.{◌≡◌, ◌≢◌, ◌<◌, ◌≤◌, ◌^◌, ℕ, length, true, Some, Ok, IfOk, IfSome, IsNone};
+ghost use Rattle.std.specs.Prelude.{◌≡◌, ◌≢◌, ◌<◌, ◌≤◌, ◌^◌, ℕ, length, true, Some, Ok, All, IfSome, IsNone};
 ghost use Rattle.ride_model.specs.History.{fed_commands};
 ghost use Rattle.ride_model.specs.declared.entry.Event.TheVariants.{Finish};
 ghost use Rattle.ride_model.specs.Legal.{IsLegalEvent, IsNumbered, MayEnd, all_feeds_ended};
 ghost use Rattle.ride_model.specs.Seating.{BatchCopy};
 ghost use Rattle.ride_model.specs.State.{open_batch_numbered};
-ghost use Rattle.ride_model.specs.Text.{IsOneOrTwo, IsSpelledCommand};
+ghost use Rattle.ride_model.specs.Text.{HasLine, IsOneOrTwo, IsSpelledCommand};
 ghost use Rattle.board_core.specs.declared.opening.Opening.{Opening};
 ghost use Rattle.board_core.specs.Recorded.{state_of};
 
-use super::lines_of;
 use batch_commit::Batch;
 use board_core::{Board, Opening};
-use ride_model::{Actor, Command, Ending, NoMemory, Reply};
+use ride_model::{Actor, Command, Ending, Entry, NoMemory, Reply, RequestState};
+use ride_ports::MemSink;
 use road_times::Roads;
 use session_run::DeskTools;
 use std::alloc::Global;
@@ -20,35 +20,61 @@ use std::marker::Model;
 use std::process::Abort;
 use std::thread::Threads;
 use trial_town::{fleet, settings};
+use trip_log::print_entry;
 
 /// The numbers of a command are below this.
 const LIMIT: u64 = 1_000_000_000_000_000_000;
 
 /// What a desk gets that asks for a batch.
-#[derive(Clone, Copy, Debug, PartialEq, Eq)]
-pub(super) enum Got {
+#[derive(Clone, Copy)]
+enum Got {
     Batch,
     Idle,
     Ended,
 }
 
 /// What happens to a board.
-#[derive(Clone, Copy)]
 pub(super) enum Step {
     /// A feed gives a command.
     Tell(u8, Command),
     /// A desk opens its next batch.
     Open(u8),
+    /// A desk finds no batch, where one may be asked for yet.
+    FindNone(u8),
+    /// A desk finds no batch, where none will be asked for any more.
+    FindEnd(u8),
     /// A desk commits its open batch.
     Commit(u8),
     /// A desk gives its open batch up.
     GiveUp(u8),
     /// A feed ends, or a desk whose batch is not open.
     End(Actor, Ending),
+    /// Room for so many entries is made.
+    Reserve(u32),
+    /// Nothing, and this is what the board shows.
+    Show(Look),
+}
+
+/// What a board shows of its state.
+pub(super) struct Look {
+    /// How many batches were asked for.
+    pub(super) asked: u64,
+    /// How many batches were opened.
+    pub(super) opened: u64,
+    pub(super) now: u64,
+    pub(super) entries: usize,
+    /// The open batch of desk 1.
+    pub(super) open: Option<u64>,
+    /// What has become of request 7.
+    pub(super) request: Option<RequestState>,
+    /// Whether feed 1 has ended.
+    pub(super) feed_ended: bool,
+    /// Whether desks 1 and 2 have ended.
+    pub(super) desks_ended: (bool, bool),
+    pub(super) finished: bool,
 }
 
 /// A board, what its batches are priced by, and each desk's open batch.
-#[derive(Drop)]
 pub(super) struct Day<'r> {
     board: Board<'r>,
     tools: DeskTools<'r, 'r>,
@@ -73,70 +99,88 @@ impl<'r> Model for Day<'r> {
         × IfSome d.second (λ (b : BatchCopy). (b.desk ≡ 2) × (open_batch_numbered (state_of d.board) b.desk b.number ≡ Some b)) };
 }
 
+impl Drop for Day<'_> {
+    fn drop(self) {
+        let Day {
+            board,
+            tools,
+            log: _,
+            first,
+            second,
+        } = self;
+        drop(board);
+        drop(tools);
+        drop(first);
+        drop(second);
+    }
+}
+
 impl<'r> Day<'r> {
     /// A day of one idle vehicle at node 1, before anything happened.
     pub(super) fn new(
+        rt: &impl Abort,
         alloc: Global,
         roads: &'r Roads,
         feeds: u8,
         desks: u8,
-    ) -> Result<Day<'r>, NoMemory>
+    ) -> Day<'r>
         requires map { roads.now.nodes ≡ 4 }
         requires feeds { IsOneOrTwo feeds }
         requires desks { IsOneOrTwo desks }
     {
         let settings = settings(1);
         let log = settings.log;
-        let fleet = fleet(alloc, roads)?;
-        let board = Board::new(alloc, roads, settings, fleet, feeds, desks)?;
-        let tools = DeskTools::new(alloc, roads, 2)?;
-        Ok(Day {
+        let Ok(fleet) = fleet(alloc, roads) else {
+            panic!(rt; "there is memory");
+        };
+        let Ok(board) = Board::new(alloc, roads, settings, fleet, feeds, desks) else {
+            panic!(rt; "there is memory");
+        };
+        let Ok(tools) = DeskTools::new(alloc, roads, 2) else {
+            panic!(rt; "there is memory");
+        };
+        Day {
             board,
             tools,
             log,
             first: None,
             second: None,
-        })
-    }
-
-    pub(super) fn board(&self) -> &Board<'r> {
-        &self.board
-    }
-
-    pub(super) fn reserve(&mut self, entries: u32) -> Result<(), NoMemory> {
-        self.board.reserve(entries)
-    }
-
-    /// Takes steps, one after the other, with ample memory.
-    pub(super) fn take_all<R: Threads + Sync + Abort>(&mut self, rt: &R, steps: &[Step]) {
-        for step in steps {
-            self.take(rt, *step);
         }
     }
 
-    // Takes a step.
-    fn take<R: Threads + Sync + Abort>(&mut self, rt: &R, step: Step) {
+    /// Whether it is a day of so many feeds and desks, and of vehicle 1 alone, at node 1.
+    pub(super) fn is_of(&self, feeds: u8, desks: u8) -> bool {
+        let Some(vehicle) = self.board.vehicle(1) else {
+            return false;
+        };
+        vehicle.at == 1
+            && self.board.vehicle(2).is_none()
+            && self.board.feeds() == feeds
+            && self.board.desks() == desks
+    }
+
+    /// Takes a step, with ample memory.
+    pub(super) fn take<R: Threads + Sync + Abort>(&mut self, rt: &R, step: &Step) {
         match step {
-            Step::Tell(feed, command) => assert!(rt; self.tell(rt, feed, command).is_ok()),
-            Step::Open(desk) => assert!(rt; matches!(self.open(rt, desk), Ok(Got::Batch))),
-            Step::Commit(desk) => self.commit(rt, desk),
-            Step::GiveUp(desk) => self.abandon(rt, desk),
-            Step::End(actor, ending) => end(rt, &mut self.board, actor, ending),
+            Step::Tell(feed, command) => self.tell(rt, *feed, *command),
+            Step::Open(desk) => assert!(rt; matches!(self.open(rt, *desk), Ok(Got::Batch))),
+            Step::FindNone(desk) => assert!(rt; matches!(self.open(rt, *desk), Ok(Got::Idle))),
+            Step::FindEnd(desk) => assert!(rt; matches!(self.open(rt, *desk), Ok(Got::Ended))),
+            Step::Commit(desk) => self.commit(rt, *desk),
+            Step::GiveUp(desk) => self.abandon(rt, *desk),
+            Step::End(actor, ending) => end(rt, &mut self.board, *actor, *ending),
+            Step::Reserve(entries) => assert!(rt; self.board.reserve(*entries).is_ok()),
+            Step::Show(look) => assert!(rt; shows(&self.board, look)),
         }
     }
 
-    /// Gives a feed's command.
-    pub(super) fn tell(
-        &mut self,
-        rt: &impl Abort,
-        feed: u8,
-        command: Command,
-    ) -> Result<Reply, NoMemory> {
-        tell(rt, &mut self.board, feed, command)
+    // Gives a feed's command.
+    fn tell(&mut self, rt: &impl Abort, feed: u8, command: Command) {
+        assert!(rt; tell(rt, &mut self.board, feed, command).is_ok());
     }
 
-    /// Lets a desk open its next batch.
-    pub(super) fn open(&mut self, rt: &impl Abort, desk: u8) -> Result<Got, NoMemory> {
+    // Lets a desk open its next batch.
+    fn open(&mut self, rt: &impl Abort, desk: u8) -> Result<Got, NoMemory> {
         match open(rt, &mut self.board, desk)? {
             Opening::Idle => Ok(Got::Idle),
             Opening::Ended => Ok(Got::Ended),
@@ -170,9 +214,34 @@ impl<'r> Day<'r> {
     }
 
     /// The lines of all entries.
-    pub(super) fn lines(&self, rt: &impl Abort, alloc: Global) -> Result<String, NoMemory> {
-        lines_of(rt, alloc, self.board.entries(), self.log)
+    pub(super) fn lines(&self, rt: &impl Abort, alloc: Global) -> MemSink<'static> {
+        let mut lines = MemSink::new(alloc, 10_000, &[], &[]).expect(rt, "there is memory");
+        print_all(rt, self.board.entries(), self.log, &mut lines);
+        lines
     }
+}
+
+fn print_all(rt: &impl Abort, entries: &[Entry], log: u8, lines: &mut MemSink<'_>)
+    requires log { IsOneOrTwo log }
+    requires have_lines { All (HasLine log) entries.now }
+{
+    for entry in entries {
+        assert!(rt; print_entry(entry, log, lines).is_ok());
+    }
+}
+
+// Whether a board shows this.
+fn shows(board: &Board<'_>, look: &Look) -> bool {
+    board.asked() == look.asked
+        && board.opened() == look.opened
+        && board.now() == look.now
+        && board.entries().len() == look.entries
+        && board.open_of(1) == look.open
+        && board.request_state(7) == look.request
+        && board.has_ended(Actor::Feed(1)) == look.feed_ended
+        && board.has_ended(Actor::Desk(1)) == look.desks_ended.0
+        && board.has_ended(Actor::Desk(2)) == look.desks_ended.1
+        && board.finished() == look.finished
 }
 
 // Whether the numbers of a command have at most 18 digits, and no chairs are asked for.

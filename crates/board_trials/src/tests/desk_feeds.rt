@@ -1,14 +1,14 @@
 //! Feeds with bookings, and the plain feeds that they give.
-ghost use Rattle.std.specs.Prelude.{◌<◌, ◌≤◌};
+ghost use Rattle.std.specs.Prelude.{◌<◌};
 
 use super::desks::Action::{self, Book, Clock, Unbook};
-use super::desks::after;
+use super::desks::{HELD, NOW, PlainDesk, after};
 use booking_desk::book_feed;
-use line_text::put_number;
 use ride_ports::{MemSink, MemSource};
 use std::alloc::Global;
 use std::process::Abort;
-use std::test::Fail;
+use trip_log::pieces::Piece::{Bytes, Number};
+use trip_log::pieces::print;
 
 /// A feed, how its source gives it and which of its calls fail, and how many bytes the sink takes; the status, and what is written.
 struct Feed {
@@ -20,7 +20,7 @@ struct Feed {
     written: &'static [u8],
 }
 
-static FEEDS: [Feed; 12] = [
+static FEEDS: [Feed; 13] = [
     // Of one release the lesser id comes first, an unbooked booking is not released, and is no longer held.
     Feed {
         bytes: b"book 60 7 2 4 1 600 300\nbook 60 5 3 4 1 600 300\nbook 30 9 1 4 1 600 300\nunbook 9\nunbook 9\nclock 59\nclock 60\nbatch\n",
@@ -127,79 +127,33 @@ static FEEDS: [Feed; 12] = [
         status: 6,
         written: b"bat",
     },
+    // Over-long lines are cut short.
+    Feed {
+        bytes: b"#                                                                                                    \
+\x20                                                                                                   \n\
+\x20                                                                                                    \
+\x20                                                                                                   \n\
+x                                                                                                    \
+\x20                                                                                                  \n",
+        pieces: &[],
+        failing: &[],
+        room: 999,
+        status: 0,
+        written: b"#\nbad\n\
+x                                                                                                    \
+\x20                                                                                                  \n\
+# held 0\n",
+    },
 ];
 
 /// Whether a feed gives what it should.
-fn gives(rt: &impl Abort, alloc: Global, feed: &Feed) -> Result<bool, Fail> {
+fn gives(rt: &impl Abort, alloc: Global, feed: &Feed) -> bool {
     assert!(rt; feed.pieces.iter().all(|count| *count > 0));
     let mut source = MemSource::new(feed.bytes, feed.pieces, feed.failing);
-    let mut out = MemSink::new(alloc, feed.room, &[], &[])?;
+    let out = MemSink::new(alloc, feed.room, &[], &[]);
+    let mut out = out.expect(rt, "there is memory");
     let ran = book_feed(alloc, &mut source, &mut out);
-    Ok(ran.status() == feed.status && out.written() == feed.written)
-}
-
-#[test]
-fn feeds(rt: HostRuntime) -> Result<(), Fail> {
-    for feed in FEEDS.iter() {
-        assert!(rt; gives(&rt, rt.alloc(), feed)?);
-    }
-    Ok(())
-}
-
-/// What a feed gives that is read and written without a fault.
-fn written_of(rt: &impl Abort, alloc: Global, feed: &[u8]) -> Result<Vec<u8>, Fail> {
-    let mut source = MemSource::new(feed, &[], &[]);
-    let mut out = MemSink::new(alloc, 1 << 20, &[], &[])?;
-    let ran = book_feed(alloc, &mut source, &mut out);
-    assert_eq!(rt; ran.status(), 0);
-    let mut written = Vec::new(alloc);
-    written.extend_from_slice(out.written())?;
-    Ok(written)
-}
-
-/// Adds a line of a first byte and so many others.
-fn add_long(text: &mut Vec<u8>, first: u8, others: usize) -> Result<(), Fail> {
-    text.push(first)?;
-    for _ in 0..others {
-        text.push(b' ')?;
-    }
-    text.push(b'\n')?;
-    Ok(())
-}
-
-#[test]
-fn over_long_lines_are_cut_short(rt: HostRuntime) -> Result<(), Fail> {
-    let mut feed = Vec::new(rt.alloc());
-    add_long(&mut feed, b'#', 200)?;
-    add_long(&mut feed, b' ', 200)?;
-    add_long(&mut feed, b'x', 199)?;
-    let mut plain = Vec::new(rt.alloc());
-    plain.extend_from_slice(b"#\nbad\n")?;
-    add_long(&mut plain, b'x', 199)?;
-    plain.extend_from_slice(b"# held 0\n")?;
-    let written = written_of(&rt, rt.alloc(), feed.as_slice())?;
-    assert_eq!(rt; written.as_slice(), plain.as_slice());
-    Ok(())
-}
-
-/// Adds a number between words.
-fn add_numbered(text: &mut Vec<u8>, before: &[u8], number: u64, after: &[u8]) -> Result<(), Fail> {
-    text.extend_from_slice(before)?;
-    text.extend_from_slice(put_number(number).as_slice())?;
-    text.extend_from_slice(after)?;
-    Ok(())
-}
-
-/// Adds the line of an action.
-fn add_line(text: &mut Vec<u8>, action: Action) -> Result<(), Fail> {
-    match action {
-        Book(release, id) => {
-            add_numbered(text, b"book ", release, b" ")?;
-            add_numbered(text, b"", id, b" 2 4 1 600 300\n")
-        }
-        Unbook(id) => add_numbered(text, b"unbook ", id, b"\n"),
-        Clock(time) => add_numbered(text, b"clock ", time, b"\n"),
-    }
+    ran.status() == feed.status && out.written() == feed.written
 }
 
 /// An action that a seed draws after so many others: most book one of 800 ids for some time of an hour or for too late a time.
@@ -215,149 +169,97 @@ fn drawn(seed: u64, before: u64) -> Action
     }
 }
 
-fn drawn_actions(alloc: Global, count: u64) -> Result<Vec<Action>, Fail>
-    requires { count ≤ 100000 }
-{
-    let mut actions = Vec::new(alloc);
-    let mut seed = 11;
-    for before in 0..count {
-        seed = after(seed);
-        actions.push(drawn(seed, before))?;
-    }
-    Ok(actions)
-}
+/// What ends the line of each request.
+const RIDE: &[u8] = b" 2 4 1 600 300\n";
 
-fn text_of(alloc: Global, actions: &[Action]) -> Result<Vec<u8>, Fail> {
-    let mut text = Vec::new(alloc);
-    for action in actions {
-        add_line(&mut text, *action)?;
-    }
-    Ok(text)
-}
-
-/// A booking: its release, its id, and whether it is held.
-#[derive(Clone, Copy, Debug)]
-struct Kept {
-    release: u64,
-    id: u64,
-    held: bool,
-}
-
-/// All bookings that were made, and the clock.
-#[derive(Drop)]
-struct PlainDesk {
-    kept: Vec<Kept>,
-    clock: u64,
-}
-
-fn add_request(text: &mut Vec<u8>, id: u64) -> Result<(), Fail> {
-    add_numbered(text, b"request ", id, b" 2 4 1 600 300\n")
-}
-
-fn add_refusal(text: &mut Vec<u8>, code: u64, line: u64) -> Result<(), Fail> {
-    add_numbered(text, b"# refused ", code, b" line ")?;
-    add_numbered(text, b"", line, b"\n")
-}
-
-/// Books by a look at all bookings.
-fn book_plainly(
-    desk: &mut PlainDesk,
-    text: &mut Vec<u8>,
-    line: u64,
-    booking: (u64, u64),
-) -> Result<(), Fail> {
-    let (release, id) = booking;
-    if release > 1_000_000_000 {
-        return add_refusal(text, 20, line);
-    }
-    if desk.kept.iter().any(|other| other.id == id) {
-        return add_refusal(text, 19, line);
-    }
-    let held = release > desk.clock;
-    desk.kept.push(Kept { release, id, held })?;
-    if held {
-        return Ok(());
-    }
-    add_request(text, id)
-}
-
-/// Unbooks by a look at all bookings.
-fn unbook_plainly(kept: &mut [Kept], id: u64) -> bool {
-    for booking in kept.iter_mut() {
-        if booking.held && booking.id == id {
-            booking.held = false;
-            return true;
-        }
-    }
-    false
-}
-
-/// Takes those that are due, by a filter and a sort.
-fn take_plainly(alloc: Global, kept: &mut [Kept], clock: u64) -> Result<Vec<(u64, u64)>, Fail> {
-    let mut due = Vec::new(alloc);
-    for booking in kept.iter_mut() {
-        if booking.held && booking.release <= clock {
-            booking.held = false;
-            due.push((booking.release, booking.id))?;
-        }
-    }
-    due.sort()?;
-    Ok(due)
-}
-
-/// Does an action, and adds what it gives.
-fn act_plainly(
-    alloc: Global,
-    desk: &mut PlainDesk,
-    text: &mut Vec<u8>,
-    line: u64,
-    action: Action,
-) -> Result<(), Fail> {
-    match action {
-        Book(release, id) => book_plainly(desk, text, line, (release, id)),
-        Unbook(id) => {
-            if unbook_plainly(desk.kept.as_mut_slice(), id) {
-                return Ok(());
-            }
-            add_refusal(text, 21, line)
-        }
-        Clock(time) => {
-            add_line(text, action)?;
-            desk.clock = desk.clock.max(time);
-            set_plainly(alloc, desk, text)
-        }
-    }
-}
-
-/// Adds the requests that are due.
-fn set_plainly(alloc: Global, desk: &mut PlainDesk, text: &mut Vec<u8>) -> Result<(), Fail> {
-    for (_, id) in take_plainly(alloc, desk.kept.as_mut_slice(), desk.clock)? {
-        add_request(text, id)?;
-    }
-    Ok(())
-}
-
-/// The plain feed of actions.
-fn plain_text_of(alloc: Global, actions: &[Action]) -> Result<Vec<u8>, Fail> {
-    let mut text = Vec::new(alloc);
-    let mut desk = PlainDesk {
-        kept: Vec::new(alloc),
-        clock: 0,
+/// Adds the line of an action.
+fn add_line(rt: &impl Abort, text: &mut MemSink<'_>, action: Action) {
+    let added = match action {
+        Book(release, id) => print(
+            &[
+                Bytes(b"book "),
+                Number(release),
+                Bytes(b" "),
+                Number(id),
+                Bytes(RIDE),
+            ],
+            text,
+        ),
+        Unbook(id) => print(&[Bytes(b"unbook "), Number(id), Bytes(b"\n")], text),
+        Clock(time) => print(&[Bytes(b"clock "), Number(time), Bytes(b"\n")], text),
     };
-    for (place, action) in actions.iter().enumerate() {
-        act_plainly(alloc, &mut desk, &mut text, place as u64 + 1, *action)?;
+    assert!(rt; added.is_ok());
+}
+
+fn add_request(rt: &impl Abort, text: &mut MemSink<'_>, id: u64) {
+    assert!(rt; print(&[Bytes(b"request "), Number(id), Bytes(RIDE)], text).is_ok());
+}
+
+fn add_refusal(rt: &impl Abort, text: &mut MemSink<'_>, code: u64, line: u64) {
+    let refusal = [
+        Bytes(b"# refused "),
+        Number(code),
+        Bytes(b" line "),
+        Number(line),
+        Bytes(b"\n"),
+    ];
+    assert!(rt; print(&refusal, text).is_ok());
+}
+
+/// Adds what an action gives of which a desk tells this.
+fn add_told(rt: &impl Abort, text: &mut MemSink<'_>, line: u64, action: Action, told: &[u64]) {
+    match (action, told) {
+        (Book(_, _), [HELD]) => {}
+        (Book(_, id), [NOW]) => add_request(rt, text, id),
+        (Book(_, _), [code]) => add_refusal(rt, text, *code, line),
+        (Unbook(_), [0]) => add_refusal(rt, text, 21, line),
+        (Unbook(_), _) => {}
+        (Clock(_), ids) => {
+            add_line(rt, text, action);
+            for id in ids {
+                add_request(rt, text, *id);
+            }
+        }
+        (Book(_, _), _) => panic!(rt; "a booking is answered once"),
     }
-    let held = desk.kept.iter().filter(|booking| booking.held).count();
-    add_numbered(&mut text, b"# held ", held as u64, b"\n")?;
-    Ok(text)
+}
+
+/// Adds the lines of drawn actions to a feed, and what a plain desk makes of them to a plain feed.
+fn draw_feeds(rt: &impl Abort, alloc: Global, feed: &mut MemSink<'_>, plain: &mut MemSink<'_>) {
+    let mut desk = PlainDesk::new(rt, alloc);
+    let mut told = Vec::new(alloc);
+    let mut seed = 11;
+    for before in 0..2_000u64 {
+        seed = after(seed);
+        let action = drawn(seed, before);
+        add_line(rt, feed, action);
+        desk.act(rt, action, &mut told);
+        add_told(rt, plain, before + 1, action, told.as_slice());
+        told.clear();
+    }
+    let held = [Bytes(b"# held "), Number(desk.held()), Bytes(b"\n")];
+    assert!(rt; print(&held, plain).is_ok());
+}
+
+fn sink(rt: &impl Abort, alloc: Global) -> MemSink<'static> {
+    MemSink::new(alloc, 1 << 20, &[], &[]).expect(rt, "there is memory")
+}
+
+/// Drawn feeds give what a plain desk gives.
+fn expect_drawn(rt: &impl Abort, alloc: Global) {
+    let mut feed = sink(rt, alloc);
+    let mut plain = sink(rt, alloc);
+    draw_feeds(rt, alloc, &mut feed, &mut plain);
+    let mut source = MemSource::new(feed.written(), &[], &[]);
+    let mut out = sink(rt, alloc);
+    assert!(rt; book_feed(alloc, &mut source, &mut out).status() == 0);
+    assert!(rt; out.written() == plain.written());
 }
 
 #[test]
-fn drawn_feeds_give_what_a_filter_and_a_sort_give(rt: HostRuntime) -> Result<(), Fail> {
-    let actions = drawn_actions(rt.alloc(), 2_000)?;
-    let feed = text_of(rt.alloc(), actions.as_slice())?;
-    let plain = plain_text_of(rt.alloc(), actions.as_slice())?;
-    let written = written_of(&rt, rt.alloc(), feed.as_slice())?;
-    assert_eq!(rt; written.as_slice(), plain.as_slice());
-    Ok(())
+fn feeds_give_plain_feeds(rt: HostRuntime) {
+    for feed in FEEDS.as_slice() {
+        assert!(&rt; gives(&rt, rt.alloc(), feed));
+    }
+    expect_drawn(&rt, rt.alloc());
 }

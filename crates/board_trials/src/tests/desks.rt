@@ -1,14 +1,13 @@
-// Days of a desk, as lists of what is done and of what comes of it.
+//! Days of a desk, as lists of what is done and of what comes of it, and a plain desk that looks at all ids.
 ghost use Rattle.booking_desk.specs.Desk.{IsRequest};
 
 use booking_desk::{BookReply, BookingDesk};
 use ride_model::Command;
 use std::alloc::Global;
 use std::process::Abort;
-use std::test::Fail;
 
 /// What is done at a desk.
-#[derive(Clone, Copy, Debug)]
+#[derive(Clone, Copy)]
 pub(super) enum Action {
     /// Books the request of an id for a release.
     Book(u64, u64),
@@ -19,9 +18,9 @@ pub(super) enum Action {
 use Action::{Book, Clock, Unbook};
 
 /// What a booking that is held answers, and one whose release has come.
-const HELD: u64 = 0;
+pub(super) const HELD: u64 = 0;
 
-const NOW: u64 = 1;
+pub(super) const NOW: u64 = 1;
 
 const fn request(id: u64) -> Command
     ensures { IsRequest result }
@@ -37,55 +36,152 @@ const fn request(id: u64) -> Command
     }
 }
 
-fn number_of(reply: BookReply) -> u64 {
-    match reply {
-        BookReply::Held => HELD,
-        BookReply::Now => NOW,
-        BookReply::Refused { code } => u64::from(code),
+fn book(rt: &impl Abort, desk: &mut BookingDesk, release: u64, id: u64) -> u64 {
+    match desk.book(release, &request(id)) {
+        Ok(BookReply::Held) => HELD,
+        Ok(BookReply::Now) => NOW,
+        Ok(BookReply::Refused { code }) => u64::from(code),
+        Err(_) => panic!(rt; "there is memory"),
     }
+}
+
+fn take_due(rt: &impl Abort, desk: &mut BookingDesk) -> Option<u64> {
+    let due = desk.due()?;
+    desk.take_due();
+    let Command::Request { id, .. } = due else {
+        panic!(rt; "what is due is a request");
+    };
+    Some(id)
 }
 
 /// Does an action, and tells what a booking is answered, whether an unbooked one was held, or the ids that are released.
-fn act(
-    rt: &impl Abort,
-    desk: &mut BookingDesk,
-    action: Action,
-    told: &mut Vec<u64>,
-) -> Result<(), Fail> {
+fn act(rt: &impl Abort, desk: &mut BookingDesk, action: Action, told: &mut Vec<u64>) {
     match action {
-        Book(release, id) => told.push(number_of(desk.book(release, &request(id))?))?,
-        Unbook(id) => told.push(u64::from(desk.unbook(id)))?,
+        Book(release, id) => tell(rt, told, book(rt, desk, release, id)),
+        Unbook(id) => tell(rt, told, u64::from(desk.unbook(id))),
         Clock(time) => {
             desk.clock(time);
             for _ in 0..desk.held() {
-                let Some(due) = desk.due() else {
-                    break;
+                let Some(id) = take_due(rt, desk) else {
+                    return;
                 };
-                desk.take_due();
-                let Command::Request { id, .. } = due else {
-                    panic!(rt; "what is due is no request");
-                };
-                told.push(id)?;
+                tell(rt, told, id);
             }
         }
     }
-    Ok(())
+}
+
+fn tell(rt: &impl Abort, told: &mut Vec<u64>, number: u64) {
+    assert!(rt; told.push(number).is_ok());
 }
 
 /// What a desk of so many bookings tells of a day.
-fn told_of(
-    rt: &impl Abort,
-    alloc: Global,
-    most: u32,
-    actions: &[Action],
-) -> Result<Vec<u64>, Fail> {
+fn told_of(rt: &impl Abort, alloc: Global, most: u32, actions: &[Action]) -> Vec<u64> {
     assert!(rt; most <= BookingDesk::MOST_BOOKINGS);
-    let mut desk = BookingDesk::new(alloc, most)?;
+    let mut desk = BookingDesk::new(alloc, most).expect(rt, "there is memory");
     let mut told = Vec::new(alloc);
     for action in actions {
-        act(rt, &mut desk, *action, &mut told)?;
+        act(rt, &mut desk, *action, &mut told);
     }
-    Ok(told)
+    told
+}
+
+/// A desk of some ids that looks at all of them.
+pub(super) struct PlainDesk {
+    /// The release of each id that is held, or one of the marks.
+    releases: Vec<u64>,
+    clock: u64,
+}
+
+const NOT_BOOKED: u64 = u64::MAX;
+
+const NO_LONGER_HELD: u64 = u64::MAX - 1;
+
+impl Drop for PlainDesk {
+    fn drop(self) {
+        let PlainDesk { releases, clock: _ } = self;
+        drop(releases);
+    }
+}
+
+impl PlainDesk {
+    pub(super) fn new(rt: &impl Abort, alloc: Global) -> PlainDesk {
+        let releases = vec![in alloc; NOT_BOOKED; 800];
+        PlainDesk {
+            releases: releases.expect(rt, "there is memory"),
+            clock: 0,
+        }
+    }
+
+    /// How many are held.
+    pub(super) fn held(&self) -> u64 {
+        let mut held = 0u64;
+        for release in self.releases.as_slice() {
+            held = held.wrapping_add(u64::from(*release < NO_LONGER_HELD));
+        }
+        held
+    }
+
+    /// Does an action, and tells the same as a desk.
+    pub(super) fn act(&mut self, rt: &impl Abort, action: Action, told: &mut Vec<u64>) {
+        match action {
+            Book(release, id) => tell(rt, told, self.book(rt, release, id)),
+            Unbook(id) => tell(rt, told, u64::from(self.let_go(id))),
+            Clock(time) => {
+                self.clock = self.clock.max(time);
+                for _ in 0..self.releases.len() {
+                    let Some(id) = self.first_due() else {
+                        return;
+                    };
+                    self.let_go(id);
+                    tell(rt, told, id);
+                }
+            }
+        }
+    }
+
+    fn book(&mut self, rt: &impl Abort, release: u64, id: u64) -> u64 {
+        if release > 1_000_000_000 {
+            return 20;
+        }
+        let Some(kept) = self.releases.get_mut(id as usize) else {
+            panic!(rt; "this desk has no such id");
+        };
+        if *kept != NOT_BOOKED {
+            return 19;
+        }
+        if release <= self.clock {
+            *kept = NO_LONGER_HELD;
+            return NOW;
+        }
+        *kept = release;
+        HELD
+    }
+
+    /// Lets the booking of an id go; answers whether it was held.
+    fn let_go(&mut self, id: u64) -> bool {
+        let Some(kept) = self.releases.get_mut(id as usize) else {
+            return false;
+        };
+        if *kept >= NO_LONGER_HELD {
+            return false;
+        }
+        *kept = NO_LONGER_HELD;
+        true
+    }
+
+    /// The least id of the least release that has come.
+    fn first_due(&self) -> Option<u64> {
+        let mut least = NO_LONGER_HELD;
+        let mut first = None;
+        for (id, release) in self.releases.iter().enumerate() {
+            if *release <= self.clock && *release < least {
+                least = *release;
+                first = Some(id as u64);
+            }
+        }
+        first
+    }
 }
 
 /// A day at a desk of so many bookings, and what it tells.
@@ -146,65 +242,53 @@ static DAYS: [Day; 4] = [
     },
 ];
 
-#[test]
-fn days(rt: HostRuntime) -> Result<(), Fail> {
-    for day in DAYS.iter() {
-        let told = told_of(&rt, rt.alloc(), day.most, day.actions)?;
-        assert_eq!(rt; told.as_slice(), day.told);
-    }
-    Ok(())
-}
-
 /// The number after another of a linear congruential generator.
 pub(super) fn after(seed: u64) -> u64 {
     seed.wrapping_mul(6_364_136_223_846_793_005)
         .wrapping_add(1_442_695_040_888_963_407)
 }
 
-/// Books so many requests for releases of an hour, unbooks every third, and moves the clock in steps of a minute.
-fn many_actions(alloc: Global, count: u64) -> Result<Vec<Action>, Fail> {
+/// Books 600 requests for releases of an hour, unbooks every third, and moves the clock in steps of a minute.
+fn many_actions(rt: &impl Abort, alloc: Global) -> Vec<Action> {
     let mut actions = Vec::new(alloc);
     let mut seed = 7;
-    for id in 0..count {
+    for id in 0..600u64 {
         seed = after(seed);
-        actions.push(Book(1 + seed / 65_536 % 3_600, id))?;
+        assert!(rt; actions.push(Book(1 + seed / 65_536 % 3_600, id)).is_ok());
         if id % 3 == 2 {
-            actions.push(Unbook(id - 2))?;
+            assert!(rt; actions.push(Unbook(id - 2)).is_ok());
         }
     }
     for minute in 0..61u64 {
-        actions.push(Clock(minute * 60))?;
+        assert!(rt; actions.push(Clock(minute * 60)).is_ok());
     }
-    Ok(actions)
+    actions
 }
 
-/// The ids that are released after these bookings, by a filter and a sort over all of them.
-fn plainly_released(alloc: Global, actions: &[Action]) -> Result<Vec<u64>, Fail> {
-    let mut held = Vec::new(alloc);
+/// What a plain desk tells of a day.
+fn plainly_told_of(rt: &impl Abort, alloc: Global, actions: &[Action]) -> Vec<u64> {
+    let mut desk = PlainDesk::new(rt, alloc);
+    let mut told = Vec::new(alloc);
     for action in actions {
-        match *action {
-            Book(release, id) => held.push((release, id))?,
-            Unbook(id) => held.retain(|booking: &(u64, u64)| booking.1 != id),
-            Clock(_) => {}
-        }
+        desk.act(rt, *action, &mut told);
     }
-    held.sort()?;
-    let mut ids = Vec::new(alloc);
-    for (_, id) in held {
-        ids.push(id)?;
-    }
-    Ok(ids)
+    told
+}
+
+/// A desk tells the same of many actions as a plain one: each of 600 bookings that it is held, each of 200 that are unbooked that it
+/// was, and 400 that are released.
+fn expect_many(rt: &impl Abort, alloc: Global) {
+    let actions = many_actions(rt, alloc);
+    let told = told_of(rt, alloc, 1_000, actions.as_slice());
+    let plain = plainly_told_of(rt, alloc, actions.as_slice());
+    assert!(rt; told.len() == 1_200 && told.as_slice() == plain.as_slice());
 }
 
 #[test]
-fn many_bookings_are_released_in_order(rt: HostRuntime) -> Result<(), Fail> {
-    let count = 600;
-    let actions = many_actions(rt.alloc(), count)?;
-    let told = told_of(&rt, rt.alloc(), 1_000, actions.as_slice())?;
-    let plain = plainly_released(rt.alloc(), actions.as_slice())?;
-    // Each of 600 bookings answers that it is held, and each of 200 that are unbooked that it was.
-    assert_eq!(rt; plain.len(), 400);
-    assert_eq!(rt; told.len(), 1_200);
-    assert_eq!(rt; &told.as_slice()[800..], plain.as_slice());
-    Ok(())
+fn desks_tell_what_comes_of_their_days(rt: HostRuntime) {
+    for day in DAYS.as_slice() {
+        let told = told_of(&rt, rt.alloc(), day.most, day.actions);
+        assert!(&rt; told.as_slice() == day.told);
+    }
+    expect_many(&rt, rt.alloc());
 }

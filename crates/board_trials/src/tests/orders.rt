@@ -3,6 +3,7 @@ ghost use Rattle.std.specs.Prelude.{◌≡◌, ◌≤◌, All, IfOk};
 ghost use Rattle.ride_model.specs.declared.vehicle.Ride.{Ride};
 ghost use Rattle.ride_model.specs.declared.vehicle.Vehicle.{Vehicle};
 
+use super::roads;
 use arrayvec::ArrayVec;
 use batch_commit::{Answer, Batch};
 use idle_moves::{Move, MoveSheet, plan_moves};
@@ -10,10 +11,9 @@ use ride_model::{AmountList, Fleet, NoMemory, Ride, Seat, SeatList, Stop, Vehicl
 use road_times::{Roads, Scratch};
 use std::alloc::Global;
 use std::process::Abort;
-use std::test::Fail;
+use trial_town::settings;
 
 /// What a vehicle does.
-#[derive(Clone, Copy, Debug, PartialEq, Eq)]
 enum Doing {
     Waits,
     IsOffDuty,
@@ -21,15 +21,13 @@ enum Doing {
 }
 
 use Doing::{Drives, IsOffDuty, Waits};
-use trial_town::settings;
 
 /// A batch in which requests 7 and 8 are to be picked up at nodes and vehicles 1 to 3 stand at nodes, each with its version, a
 /// seating of it, and what is sent ahead.
 struct Case {
     pickups: [u32; 2],
     vehicles: [(Doing, u32, u64); 3],
-    /// The requests with seats, and their vehicles.
-    seats: &'static [(u64, u64)],
+    seats: &'static [Seat],
     reach: u64,
     cost: u64,
     moves: &'static [Move],
@@ -46,12 +44,20 @@ const FIRST: Move = Move {
     seconds: 120,
 };
 
+/// Request 8 is seated in vehicle 2.
+const EIGHT: Seat = Seat {
+    request: 8,
+    vehicle: 2,
+    i: 0,
+    j: 0,
+};
+
 static CASES: [Case; 6] = [
     // A request and a vehicle that has no seat, within reach and out of it.
     Case {
         pickups: [3, 2],
         vehicles: [(Waits, 1, 0), (Waits, 3, 0), (IsOffDuty, 3, 1)],
-        seats: &[(8, 2)],
+        seats: &[EIGHT],
         reach: 600,
         cost: 120,
         moves: &[FIRST],
@@ -60,7 +66,7 @@ static CASES: [Case; 6] = [
     Case {
         pickups: [3, 2],
         vehicles: [(Waits, 1, 0), (Waits, 3, 0), (IsOffDuty, 3, 1)],
-        seats: &[(8, 2)],
+        seats: &[EIGHT],
         reach: 119,
         cost: 119,
         moves: &[],
@@ -80,7 +86,7 @@ static CASES: [Case; 6] = [
     Case {
         pickups: [3, 2],
         vehicles: [(Waits, 1, 0), (Waits, 3, 0), (Waits, 4, 5)],
-        seats: &[(8, 2)],
+        seats: &[EIGHT],
         reach: 600,
         cost: 60,
         moves: &[Move {
@@ -121,7 +127,7 @@ static CASES: [Case; 6] = [
     Case {
         pickups: [3, 2],
         vehicles: [(Drives, 3, 1), (Waits, 3, 0), (IsOffDuty, 3, 1)],
-        seats: &[(8, 2)],
+        seats: &[EIGHT],
         reach: 600,
         cost: 600,
         moves: &[],
@@ -145,24 +151,25 @@ fn request(rt: &impl Abort, id: u64, from: u32) -> Ride
 }
 
 /// A vehicle that stands or drives.
-fn vehicle(rt: &impl Abort, id: u64, doing: Doing, at: u32, version: u64) -> Vehicle
+fn vehicle(rt: &impl Abort, id: u64, given: &(Doing, u32, u64)) -> Vehicle
     ensures id { result.id ≡ id }
     ensures first { 1 ≤ result.at }
     ensures last { result.at ≤ 4 }
 {
-    assert!(rt; 1 <= at && at <= 4);
+    let (doing, at, version) = given;
+    assert!(rt; 1 <= *at && *at <= 4);
     let mut stops = ArrayVec::new();
-    if doing == Drives {
+    if matches!(doing, Drives) {
         stops.push(Stop::default());
     }
     Vehicle {
         id,
         seats: 2,
         chairs: 0,
-        at,
+        at: *at,
         ready: 0,
-        duty: doing != IsOffDuty,
-        version,
+        duty: !matches!(doing, IsOffDuty),
+        version: *version,
         rides: ArrayVec::new(),
         stops,
     }
@@ -171,11 +178,11 @@ fn vehicle(rt: &impl Abort, id: u64, doing: Doing, at: u32, version: u64) -> Veh
 fn fleet(rt: &impl Abort, alloc: Global, case: &Case) -> Result<Fleet, NoMemory>
     ensures { IfOk result (All (λ (v : Vehicle). (1 ≤ v.at) × (v.at ≤ 4))) }
 {
-    let [first, second, third] = case.vehicles;
+    let [first, second, third] = &case.vehicles;
     let mut vehicles = Vec::new(alloc);
-    vehicles.push(vehicle(rt, 1, first.0, first.1, first.2))?;
-    vehicles.push(vehicle(rt, 2, second.0, second.1, second.2))?;
-    vehicles.push(vehicle(rt, 3, third.0, third.1, third.2))?;
+    vehicles.push(vehicle(rt, 1, first))?;
+    vehicles.push(vehicle(rt, 2, second))?;
+    vehicles.push(vehicle(rt, 3, third))?;
     Ok(Fleet::new(vehicles))
 }
 
@@ -183,63 +190,60 @@ fn batch(rt: &impl Abort, alloc: Global, case: &Case) -> Result<Batch, NoMemory>
     ensures stands { IfOk result (λ batch. All (λ (v : Vehicle). (1 ≤ v.at) × (v.at ≤ 4)) batch.vehicles) }
     ensures pickups { IfOk result (λ batch. All (λ (ride : Ride). (1 ≤ ride.from) × (ride.from ≤ 4)) batch.requests) }
 {
-    let fleet = fleet(rt, alloc, case)?;
     let mut requests = Vec::new(alloc);
     requests.push(request(rt, 7, case.pickups[0]))?;
     requests.push(request(rt, 8, case.pickups[1]))?;
+    let fleet = fleet(rt, alloc, case)?;
     Ok(Batch::of(1, 0, 1, settings(32), requests, fleet))
 }
 
-fn answer(alloc: Global, case: &Case) -> Result<Answer, NoMemory> {
-    let mut seats = Vec::new(alloc);
-    for (request, vehicle) in case.seats {
-        seats.push(Seat {
-            request: *request,
-            vehicle: *vehicle,
-            i: 0,
-            j: 0,
-        })?;
-    }
+fn answer(rt: &impl Abort, alloc: Global, case: &Case) -> Answer {
+    let seats = Vec::from_slice(alloc, case.seats).expect(rt, "there is memory");
     let prices = AmountList::of(Vec::new(alloc));
     let pays = AmountList::of(Vec::new(alloc));
-    Answer::of(alloc, SeatList::of(seats), prices, pays)
+    Answer::of(alloc, SeatList::of(seats), prices, pays).expect(rt, "there is memory")
 }
 
-fn sheet(rt: &impl Abort, alloc: Global, roads: &Roads, case: &Case) -> Result<MoveSheet, NoMemory>
+fn sheet(rt: &impl Abort, alloc: Global, roads: &Roads, case: &Case) -> MoveSheet
     requires { roads.now.nodes ≡ 4 }
 {
     assert!(rt; case.reach <= 1_000_000);
-    let batch = batch(rt, alloc, case)?;
-    let answer = answer(alloc, case)?;
-    let mut scratch = Scratch::new(alloc, roads)?;
-    plan_moves(alloc, &batch, &answer, case.reach, roads, &mut scratch)
+    let Ok(batch) = batch(rt, alloc, case) else {
+        panic!(rt; "there is memory");
+    };
+    let Ok(mut scratch) = Scratch::new(alloc, roads) else {
+        panic!(rt; "there is memory");
+    };
+    let answer = answer(rt, alloc, case);
+    let sheet = plan_moves(alloc, &batch, &answer, case.reach, roads, &mut scratch);
+    sheet.expect(rt, "there is memory")
 }
 
 /// The prices of the requests that are left out, less the payments, which are above 0, are the cost.
-fn expect_amounts(rt: &impl Abort, sheet: &MoveSheet, case: &Case) {
-    assert_eq!(rt; sheet.prices.items().len(), case.left.len());
+fn expect_amounts(rt: &impl Abort, prices: &[(u64, u64)], pays: &[(u64, u64)], case: &Case) {
+    assert!(rt; prices.len() == case.left.len());
     let mut balance = 0u64;
-    for ((request, price), left) in sheet.prices.items().iter().zip(case.left) {
-        assert_eq!(rt; request, left);
-        assert!(rt; *price <= case.reach);
+    for ((request, price), left) in prices.iter().zip(case.left) {
+        assert!(rt; request == left && *price <= case.reach);
         balance = balance.wrapping_add(*price);
     }
-    for (_, pay) in sheet.pays.items() {
+    for (_, pay) in pays {
         assert!(rt; *pay > 0);
         balance = balance.wrapping_sub(*pay);
     }
-    assert_eq!(rt; balance, case.cost);
+    assert!(rt; balance == case.cost);
+}
+
+fn expect(rt: &impl Abort, sheet: &MoveSheet, case: &Case) {
+    assert!(rt; sheet.batch == 1 && sheet.cost == case.cost);
+    assert!(rt; sheet.moves.items() == case.moves);
+    expect_amounts(rt, sheet.prices.items(), sheet.pays.items(), case);
 }
 
 #[test]
-fn idle_vehicles_are_sent_ahead(rt: HostRuntime) -> Result<(), Fail> {
-    let roads = trial_town::roads(rt.alloc())?;
-    for case in CASES.iter() {
-        let sheet = sheet(&rt, rt.alloc(), &roads, case)?;
-        assert_eq!(rt; sheet.batch, 1);
-        assert_eq!(rt; sheet.cost, case.cost);
-        assert_eq!(rt; sheet.moves.items(), case.moves);
-        expect_amounts(&rt, &sheet, case);
+fn idle_vehicles_are_sent_ahead(rt: HostRuntime) {
+    let roads = roads(&rt, rt.alloc());
+    for case in CASES.as_slice() {
+        expect(&rt, &sheet(&rt, rt.alloc(), &roads, case), case);
     }
-    Ok(())
 }

@@ -7,45 +7,26 @@ ghost use Rattle.ride_model.specs.State.{open_batch_numbered};
 ghost use Rattle.ride_model.specs.Vehicle.{IsLawful};
 ghost use Rattle.board_core.specs.Recorded.{state_of};
 
-use super::cities::PLAN;
 use super::days::{open, tell};
 use batch_commit::{Batch, PriceTable};
 use board_core::{Board, Opening};
-use city_maker::{City, make_city};
 use pricing_workers::{Search, price_batch_by, scratches_of};
 use ride_model::{Command, Fleet, NoMemory, Settings};
 use ride_ports::OpenGate;
 use road_times::Roads;
 use std::alloc::Global;
 use std::process::Abort;
-use std::test::Fail;
 use std::thread::Threads;
-
-/// The batch after the first commands, of which the last asks for it.
-fn first_batch(
-    rt: &impl Abort,
-    board: &mut Board<'_>,
-    commands: &[Command],
-) -> Result<Batch, NoMemory>
-    ensures start { board.new.start ≡ board.old.start }
-    ensures held { IfOk result (λ (b : BatchCopy). open_batch_numbered (state_of board.new) b.desk b.number ≡ Some b) }
-{
-    for command in commands {
-        tell(rt, board, 1, *command)?;
-    }
-    match open(rt, board, 1)? {
-        Opening::Batch(batch) => Ok(batch),
-        Opening::Idle => panic!(rt; "a batch was asked for"),
-        Opening::Ended => panic!(rt; "a batch was asked for"),
-    }
-}
 
 /// What the least offer of a pair costs, where there is one.
 fn cost_at(table: &PriceTable, request: u32, vehicle: u32) -> Option<u64>
     requires request { request < table.now.rows }
     requires vehicle { vehicle < table.now.columns }
 {
-    table.cell(request, vehicle).map(|offer| offer.cost)
+    match table.cell(request, vehicle) {
+        Some(offer) => Some(offer.cost),
+        None => None,
+    }
 }
 
 /// Every vehicle costs a request the same by both tables; answers how many can take it.
@@ -62,10 +43,28 @@ fn count_alike(
     let mut offers = 0u32;
     for vehicle in 0..vehicles {
         let cost = cost_at(fast, request, vehicle);
-        assert_eq!(rt; cost, cost_at(plain, request, vehicle));
+        assert!(rt; cost == cost_at(plain, request, vehicle));
         offers = offers.wrapping_add(u32::from(cost.is_some()));
     }
     offers
+}
+
+/// The same of all requests, some of which a vehicle can take.
+fn expect_alike(
+    rt: &impl Abort,
+    fast: &PriceTable,
+    plain: &PriceTable,
+    requests: u32,
+    vehicles: u32,
+)
+    requires fast { (requests ≤ fast.now.rows) × (vehicles ≤ fast.now.columns) }
+    requires plain { (requests ≤ plain.now.rows) × (vehicles ≤ plain.now.columns) }
+{
+    let mut offers = 0u32;
+    for request in 0..requests {
+        offers = offers.wrapping_add(count_alike(rt, fast, plain, request, vehicles));
+    }
+    assert!(rt; offers > 0);
 }
 
 /// The prices of an open batch, by one of the ways to search a pair's places.
@@ -89,47 +88,49 @@ fn table_of<R: Threads + Sync>(
     price_batch_by(rt, alloc, search, batch, roads, places, &OpenGate)
 }
 
-/// All pairs of an open batch cost the same by both searches; answers how many have an offer.
-fn offers_of<R: Threads + Sync + Abort>(
+// An open batch is of eight requests over twenty vehicles, and each pair costs the same by both searches.
+fn expect_batch<R: Threads + Sync + Abort>(
     rt: &R,
     alloc: Global,
     board: &Board<'_>,
     batch: &Batch,
     roads: &Roads,
-) -> Result<u32, NoMemory>
+)
     requires held { open_batch_numbered (state_of board.now) batch.now.desk batch.now.number ≡ Some batch.now }
     requires roads { roads.now ≡ board.now.start.roads }
 {
-    let fast = table_of(rt, alloc, Search::BySlack, board, batch, roads)?;
-    let plain = table_of(rt, alloc, Search::ByWholePlans, board, batch, roads)?;
-    let vehicles = batch.vehicles().vehicles().len() as u32;
-    let mut offers = 0u32;
-    for request in 0..batch.requests().len() as u32 {
-        offers = offers.wrapping_add(count_alike(rt, &fast, &plain, request, vehicles));
-    }
-    Ok(offers)
-}
-
-// The first batch of a board that takes these commands, the last of which asks for it, is of eight requests over twenty vehicles.
-fn expect_alike<R: Threads + Sync + Abort>(
-    rt: &R,
-    alloc: Global,
-    board: &mut Board<'_>,
-    roads: &Roads,
-    commands: &[Command],
-)
-    requires { roads.now ≡ board.old.start.roads }
-{
-    let Ok(batch) = first_batch(rt, board, commands) else {
+    assert!(rt; batch.requests().len() == 8);
+    assert!(rt; batch.vehicles().vehicles().len() == 20);
+    let Ok(fast) = table_of(rt, alloc, Search::BySlack, board, batch, roads) else {
         panic!(rt; "there is memory");
     };
-    assert_eq!(rt; batch.requests().len(), 8);
-    assert_eq!(rt; batch.vehicles().vehicles().len(), 20);
-    assert!(rt; offers_of(rt, alloc, board, &batch, roads).is_ok_and(|offers| offers > 0));
+    let Ok(plain) = table_of(rt, alloc, Search::ByWholePlans, board, batch, roads) else {
+        panic!(rt; "there is memory");
+    };
+    expect_alike(rt, &fast, &plain, 8, 20);
 }
 
-// The same on a new board.
-fn expect_first_batch<R: Threads + Sync + Abort>(
+/// The batch after the first commands, of which the last asks for it.
+fn first_batch(
+    rt: &impl Abort,
+    board: &mut Board<'_>,
+    commands: &[Command],
+) -> Result<Batch, NoMemory>
+    ensures start { board.new.start ≡ board.old.start }
+    ensures held { IfOk result (λ (b : BatchCopy). open_batch_numbered (state_of board.new) b.desk b.number ≡ Some b) }
+{
+    for command in commands {
+        tell(rt, board, 1, *command)?;
+    }
+    match open(rt, board, 1)? {
+        Opening::Batch(batch) => Ok(batch),
+        Opening::Idle => panic!(rt; "a batch was asked for"),
+        Opening::Ended => panic!(rt; "a batch was asked for"),
+    }
+}
+
+/// The first batch of a city's feed, on a new board.
+pub(super) fn expect_first_batch<R: Threads + Sync + Abort>(
     rt: &R,
     alloc: Global,
     roads: &Roads,
@@ -142,24 +143,13 @@ fn expect_first_batch<R: Threads + Sync + Abort>(
     requires idle { All (λ (v : Vehicle). v.stops.items ≡ []) fleet }
     requires first_versions { All (λ (v : Vehicle). v.version ≡ 0) fleet }
 {
+    // A clock, the eight requests of a group, and what asks for their batch.
+    assert!(rt; commands.len() >= 10);
     let Ok(mut board) = Board::new(alloc, roads, settings, fleet, 1, 1) else {
         panic!(rt; "there is memory");
     };
-    expect_alike(rt, alloc, &mut board, roads, commands);
-}
-
-#[test]
-fn both_searches_price_a_citys_first_batch_alike(rt: HostRuntime) -> Result<(), Fail> {
-    let alloc = rt.alloc();
-    let City {
-        network,
-        settings,
-        fleet,
-        commands,
-    } = make_city(alloc, &PLAN)?;
-    let roads = Roads::new(alloc, &network)?;
-    // A clock, the eight requests of a group, and what asks for their batch.
-    assert!(&rt; commands.items().len() >= 10);
-    expect_first_batch(&rt, alloc, &roads, settings, fleet, &commands.items()[..10]);
-    Ok(())
+    let Ok(batch) = first_batch(rt, &mut board, &commands[..10]) else {
+        panic!(rt; "there is memory");
+    };
+    expect_batch(rt, alloc, &board, &batch, roads);
 }

@@ -1,52 +1,263 @@
-//! A board that passes share: two desks and one vehicle, a rider who cancels in an open batch, and what a scribe reads.
-ghost use Rattle.std.specs.Prelude.{◌≡◌, ◌≤◌, ◌<◌, ◌+◌, length};
+//! Boards that passes share: a booking that comes due, desks that seat, a rider who cancels in an open batch, orders that go stale, and
+//! what a scribe reads.
+ghost use Rattle.std.specs.Prelude.{◌≡◌, ◌≤◌, ◌<◌, ℕ, [], ◌∷◌, length, All, IfOk};
+ghost use Rattle.ride_model.specs.Legal.{versions_of};
 ghost use Rattle.ride_model.specs.Text.{IsSpelledCommand};
 ghost use Rattle.turn_lock.specs.Passes.{knowledge};
 ghost use Rattle.fleet_board.specs.Passes.{IsPoint, commands_in, root_of};
 ghost use Rattle.fleet_board.specs.Openings.{IsPriceable};
 ghost use Rattle.fleet_board.specs.Roles.{MayFeed, MayOpen, MayCommit};
 ghost use Rattle.fleet_board.specs.Sharing.{MayUse};
+ghost use Rattle.booking_desk.specs.Desk.{Booking};
+ghost use Rattle.idle_moves.specs.Watch.{Watches, watched_ids};
 
 use super::days::is_spelled;
-use super::request;
+use super::{CANCEL, EIGHT, SEVEN, roads};
 use batch_commit::Batch;
 use board_core::{Board, Opening};
+use booking_desk::BookingDesk;
 use fleet_board::{ActorPass, PassSet, SharedBoard};
-use ride_model::{Command, Event, NoMemory, Outcome};
+use idle_moves::{Move, VersionWatch};
+use ride_model::{Command, Entry, Event, NoMemory, Outcome};
 use road_times::Roads;
 use session_run::DeskTools;
+use std::alloc::Global;
 use std::process::Abort;
 use std::sync::Wait;
-use std::test::Fail;
 use std::thread::Threads;
 use trial_town::{fleet, settings};
 
-// Submits a command of a feed that has given fewer than a thousand.
-pub(super) fn tell<'r, R: Wait + Abort>(
+/// What happens on a shared board of one vehicle, one feed and so many desks, and what is read of it then.
+struct Play {
+    shows: &'static str,
+    desks: u8,
+    /// Whether a booking comes due first.
+    books: bool,
+    told: &'static [Command],
+    /// How many desks then open a batch, each of which is committed in the same order.
+    batches: u8,
+    /// What is told while the first one's batch is open, where there is no second one.
+    told_then: &'static [Command],
+    /// How many entries there are.
+    entries: usize,
+    /// What the last of them finds, where it is a commit.
+    outcomes: &'static [(u64, Outcome)],
+    /// How many entries a watch takes into account at once.
+    most: u32,
+    /// The version of the vehicle after each time until the watch has caught up.
+    versions: &'static [u64],
+}
+
+/// Vehicle 1 goes off duty.
+const OFF: Command = Command::Off { vehicle: 1 };
+
+const ON: Command = Command::On { vehicle: 1 };
+
+const AT_NODE_1: Command = Command::At {
+    vehicle: 1,
+    node: 1,
+    time: 5,
+};
+
+const AT_NODE_2: Command = Command::At {
+    vehicle: 1,
+    node: 2,
+    time: 5,
+};
+
+/// A report of a node that is not on the map.
+const AT_NODE_9: Command = Command::At {
+    vehicle: 1,
+    node: 9,
+    time: 5,
+};
+
+/// The request that is booked.
+const NINE: Command = Command::Request {
+    id: 9,
+    from: 3,
+    to: 4,
+    seats: 1,
+    latest: 600,
+    longest: 300,
+    chairs: 0,
+};
+
+static PLAYS: [Play; 7] = [
+    Play {
+        shows: "each of two desks has a batch of one request, and the second one's pair is stale",
+        desks: 2,
+        books: false,
+        told: &[SEVEN, EIGHT, Command::Ask, Command::Ask],
+        batches: 2,
+        told_then: &[],
+        entries: 8,
+        outcomes: &[(
+            8,
+            Outcome::Moved {
+                named: 0,
+                stands: 1,
+            },
+        )],
+        most: 100,
+        versions: &[1],
+    },
+    Play {
+        shows: "a rider cancels while the batch is open, whose commit finds the request gone",
+        desks: 2,
+        books: false,
+        told: &[SEVEN, Command::Ask],
+        batches: 1,
+        told_then: &[CANCEL],
+        entries: 5,
+        outcomes: &[(7, Outcome::Gone)],
+        most: 100,
+        versions: &[0],
+    },
+    Play {
+        shows: "an order goes stale where a ride is confirmed",
+        desks: 1,
+        books: false,
+        told: &[SEVEN, Command::Ask],
+        batches: 1,
+        told_then: &[],
+        entries: 4,
+        outcomes: &[(7, Outcome::Confirmed)],
+        most: 100,
+        versions: &[1],
+    },
+    Play {
+        shows: "an order of version 0 no longer stands",
+        desks: 1,
+        books: false,
+        told: &[OFF],
+        batches: 0,
+        told_then: &[],
+        entries: 1,
+        outcomes: &[],
+        most: 100,
+        versions: &[1],
+    },
+    Play {
+        shows: "each accepted report makes a version, and no other entry does",
+        desks: 1,
+        books: false,
+        told: &[
+            AT_NODE_1,
+            Command::Clock { time: 9 },
+            Command::Done { vehicle: 1 },
+            AT_NODE_9,
+            OFF,
+            ON,
+            AT_NODE_2,
+        ],
+        batches: 0,
+        told_then: &[],
+        entries: 7,
+        outcomes: &[],
+        most: 1,
+        versions: &[1, 1, 1, 1, 2, 3, 4, 4],
+    },
+    Play {
+        shows: "where as many entries stood there as were wanted, the watch has not caught up",
+        desks: 1,
+        books: false,
+        told: &[AT_NODE_1, OFF, ON, AT_NODE_2],
+        batches: 0,
+        told_then: &[],
+        entries: 4,
+        outcomes: &[],
+        most: 2,
+        versions: &[2, 4, 4],
+    },
+    Play {
+        shows: "a booking that is due is submitted once",
+        desks: 1,
+        books: true,
+        told: &[],
+        batches: 0,
+        told_then: &[],
+        entries: 1,
+        outcomes: &[],
+        most: 100,
+        versions: &[0],
+    },
+];
+
+// How many entries a feed has seen, of which no more are its own commands.
+fn seen(feed: &ActorPass<'_>) -> u64
+    requires { IsPoint (knowledge feed.now) }
+    ensures { length (commands_in (knowledge feed.now).own) ≤ result }
+{
+    feed.seen()
+}
+
+// Submits commands.
+fn tell_all<'r, R: Wait + Abort>(
     rt: &R,
     board: &SharedBoard<'r>,
     feed: &mut ActorPass<'r>,
-    command: Command,
+    commands: &[Command],
 )
-    requires feed { MayFeed board.now feed.old }
-    requires version { (root_of (knowledge feed.old)).start.settings.log ≡ 1 }
-    requires few { length (commands_in (knowledge feed.old).own) < 1000 }
-    ensures feed { MayFeed board.now feed.new }
-    ensures root { (knowledge feed.new).root ≡ (knowledge feed.old).root }
-    ensures one_more { length (commands_in (knowledge feed.new).own) ≤ length (commands_in (knowledge feed.old).own) + 1 }
+    requires { MayFeed board.now feed.old }
+    ensures { MayFeed board.now feed.new }
 {
-    assert!(rt; is_spelled(&command));
-    let Ok(_) = board.submit(rt, feed, &command) else {
+    for command in commands {
+        assert!(rt; is_spelled(command));
+        assert!(rt; seen(feed) < 1_000);
+        assert!(rt; board.submit(rt, feed, command).is_ok());
+    }
+}
+
+// A desk whose one booking is due.
+fn desk_with_one(rt: &impl Abort, alloc: Global) -> Result<BookingDesk, NoMemory>
+    ensures { IfOk result (λ desk. (log : ℕ) → All (λ (booking : Booking). IsSpelledCommand log booking.request) desk.held) }
+{
+    let request = NINE;
+    assert!(rt; is_spelled(&request));
+    let mut desk = BookingDesk::new(alloc, 1)?;
+    desk.book(60, &request)?;
+    desk.clock(60);
+    Ok(desk)
+}
+
+// What is due is submitted once.
+fn release<'r, R: Wait + Abort + AllocGlobal>(
+    rt: &R,
+    board: &SharedBoard<'r>,
+    feed: &mut ActorPass<'r>,
+)
+    requires { MayFeed board.now feed.old }
+    ensures { MayFeed board.now feed.new }
+{
+    let Ok(mut desk) = desk_with_one(rt, rt.alloc()) else {
         panic!(rt; "there is memory");
     };
+    assert!(rt; seen(feed) < 1_000);
+    assert!(rt; desk.release_due(rt, board, feed) == Ok(1));
+    assert!(rt; desk.held() == 0 && feed.seen() == 1);
+    assert!(rt; desk.due().is_none());
+}
+
+// What the feed of a play gives before batches are opened.
+fn begin<'r, R: Wait + Abort + AllocGlobal>(
+    rt: &R,
+    board: &SharedBoard<'r>,
+    feed: &mut ActorPass<'r>,
+    play: &Play,
+)
+    requires { MayFeed board.now feed.old }
+    ensures { MayFeed board.now feed.new }
+{
+    if play.books {
+        release(rt, board, feed);
+    } else {
+        tell_all(rt, board, feed, play.told);
+    }
 }
 
 // Opens a batch that was asked for.
-pub(super) fn open<'r, R: Wait + Abort>(
-    rt: &R,
-    board: &SharedBoard<'r>,
-    desk: &mut ActorPass<'r>,
-) -> Batch
+fn open<'r, R: Wait + Abort>(rt: &R, board: &SharedBoard<'r>, desk: &mut ActorPass<'r>) -> Batch
     requires { MayOpen board.now desk.old }
     ensures open_now { MayCommit board.now desk.new result }
     ensures priceable { IsPriceable (root_of (knowledge desk.new)).start.roads result }
@@ -61,7 +272,7 @@ pub(super) fn open<'r, R: Wait + Abort>(
 }
 
 // Commits an open batch.
-pub(super) fn commit<'r, R: Threads + Wait + Sync + Abort>(
+fn commit<'r, R: Threads + Wait + Sync + Abort>(
     rt: &R,
     board: &SharedBoard<'r>,
     desk: &mut ActorPass<'r>,
@@ -69,11 +280,9 @@ pub(super) fn commit<'r, R: Threads + Wait + Sync + Abort>(
     batch: Batch,
 )
     requires desk { MayCommit board.now desk.old batch }
-    requires priceable { IsPriceable (root_of (knowledge desk.old)).start.roads batch }
+    requires priceable { IsPriceable tools.old batch }
     requires roads { tools.old ≡ (root_of (knowledge desk.old)).start.roads }
-    ensures desk { MayOpen board.now desk.new }
-    ensures tools { tools.new ≡ tools.old }
-    ensures root { (knowledge desk.new).root ≡ (knowledge desk.old).root }
+    ensures { tools.new ≡ tools.old }
 {
     match tools.solved(rt, batch) {
         Ok(solved) => board.commit(rt, desk, solved),
@@ -81,22 +290,29 @@ pub(super) fn commit<'r, R: Threads + Wait + Sync + Abort>(
     }
 }
 
-// Two requests and two batches of one of them.
-fn ask_for_two<'r, R: Wait + Abort>(rt: &R, board: &SharedBoard<'r>, feed: &mut ActorPass<'r>)
+// One desk opens a batch, where the play has one, and commits it.
+fn seat_by_one<'r, R: Threads + Wait + Sync + Abort>(
+    rt: &R,
+    board: &SharedBoard<'r>,
+    feed: &mut ActorPass<'r>,
+    desk: &mut ActorPass<'r>,
+    tools: &mut DeskTools<'_, '_>,
+    play: &Play,
+)
     requires feed { MayFeed board.now feed.old }
-    requires version { (root_of (knowledge feed.old)).start.settings.log ≡ 1 }
-    requires few { length (commands_in (knowledge feed.old).own) < 900 }
-    ensures feed { MayFeed board.now feed.new }
-    ensures root { (knowledge feed.new).root ≡ (knowledge feed.old).root }
+    requires desk { MayOpen board.now desk.old }
+    requires roads { tools.old ≡ (root_of (knowledge desk.old)).start.roads }
 {
-    tell(rt, board, feed, request(7, 2, 4, 600));
-    tell(rt, board, feed, request(8, 4, 3, 600));
-    tell(rt, board, feed, Command::Ask);
-    tell(rt, board, feed, Command::Ask);
+    if play.batches == 0 {
+        return;
+    }
+    let batch = open(rt, board, desk);
+    tell_all(rt, board, feed, play.told_then);
+    commit(rt, board, desk, tools, batch);
 }
 
-// The first desk opens and then the second, and they commit in this order.
-fn open_and_commit<'r, R: Threads + Wait + Sync + Abort>(
+// Two desks open batches, and commit them in the same order.
+fn seat_by_two<'r, R: Threads + Wait + Sync + Abort>(
     rt: &R,
     board: &SharedBoard<'r>,
     first: &mut ActorPass<'r>,
@@ -107,8 +323,6 @@ fn open_and_commit<'r, R: Threads + Wait + Sync + Abort>(
     requires second { MayOpen board.now second.old }
     requires roads_of_first { tools.old ≡ (root_of (knowledge first.old)).start.roads }
     requires roads_of_second { tools.old ≡ (root_of (knowledge second.old)).start.roads }
-    ensures first { MayOpen board.now first.new }
-    ensures second { MayOpen board.now second.new }
 {
     let seven = open(rt, board, first);
     let eight = open(rt, board, second);
@@ -116,7 +330,72 @@ fn open_and_commit<'r, R: Threads + Wait + Sync + Abort>(
     commit(rt, board, second, tools, eight);
 }
 
-// What a scribe is told of entries from each place on, at most three at a time.
+/// An order to vehicle 1 that names a version.
+fn order(version: u64) -> Move
+    ensures vehicle { result.vehicle ≡ 1 }
+{
+    Move {
+        request: 9,
+        vehicle: 1,
+        version,
+        node: 3,
+        seconds: 120,
+    }
+}
+
+// The watch catches up or does not, after which an order stands that names a version, and others do not.
+fn expect_version<'r, R: Wait + Abort + AllocGlobal>(
+    rt: &R,
+    board: &SharedBoard<'r>,
+    scribe: &mut ActorPass<'r>,
+    watch: &mut VersionWatch,
+    most: u32,
+    caught_up: bool,
+    version: u64,
+)
+    requires pass { MayUse board.now scribe.old }
+    requires point { IsPoint (knowledge scribe.old) }
+    requires watches { Watches (knowledge scribe.old) watch.old }
+    requires some { 1 ≤ most }
+    requires vehicle { watched_ids watch.old ≡ 1 ∷ [] }
+    ensures pass { MayUse board.now scribe.new }
+    ensures point { IsPoint (knowledge scribe.new) }
+    ensures watches { Watches (knowledge scribe.new) watch.new }
+    ensures vehicle { watched_ids watch.new ≡ 1 ∷ [] }
+{
+    assert!(rt; watch.catch_up(rt, rt.alloc(), board, scribe, most) == Ok(caught_up));
+    assert!(rt; watch.stands(&order(version)) == Ok(()));
+    for other in 0..9 {
+        if other != version {
+            assert!(rt; watch.stands(&order(other)) == Err((other, version)));
+        }
+    }
+}
+
+// The watch catches up step by step, the last time with fewer entries than are wanted.
+fn expect_versions<'r, R: Wait + Abort + AllocGlobal>(
+    rt: &R,
+    board: &SharedBoard<'r>,
+    scribe: &mut ActorPass<'r>,
+    watch: &mut VersionWatch,
+    play: &Play,
+)
+    requires pass { MayUse board.now scribe.old }
+    requires point { IsPoint (knowledge scribe.old) }
+    requires watches { Watches (knowledge scribe.old) watch.old }
+    requires vehicle { watched_ids watch.old ≡ 1 ∷ [] }
+    ensures pass { MayUse board.now scribe.new }
+    ensures point { IsPoint (knowledge scribe.new) }
+{
+    assert!(rt; play.most >= 1);
+    let steps = play.versions.len();
+    for (step, version) in play.versions.iter().enumerate() {
+        let caught_up = step + 1 == steps;
+        expect_version(rt, board, scribe, watch, play.most, caught_up, *version);
+    }
+}
+
+// What a scribe is told of the entries from each place on, at most three at a time.
 fn expect_tails<'r, R: Wait + Abort + AllocGlobal>(
     rt: &R,
     board: &SharedBoard<'r>,
@@ -129,82 +408,82 @@ fn expect_tails<'r, R: Wait + Abort + AllocGlobal>(
     ensures point { IsPoint (knowledge scribe.new) }
 {
     for from in 0..=entries {
-        let Ok(tail) = board.tail(rt, rt.alloc(), scribe, from as u64, 3) else {
-            panic!(rt; "there is memory");
-        };
-        assert_eq!(rt; tail.entries.len(), (entries - from).min(3));
-        assert!(rt; !tail.settled);
+        let tail = board.tail(rt, rt.alloc(), scribe, from as u64, 3);
+        let tail = tail.expect(rt, "there is memory");
+        assert!(rt; tail.entries.len() == (entries - from).min(3) && !tail.settled);
     }
 }
 
-// The last of so many entries is a commit with one outcome.
-fn expect_outcome<'r, R: Wait + Abort + AllocGlobal>(
+// The last of so many entries is a commit that finds this.
+fn expect_outcomes<'r, R: Wait + Abort + AllocGlobal>(
     rt: &R,
     board: &SharedBoard<'r>,
     scribe: &mut ActorPass<'r>,
-    entries: u64,
-    request: u64,
-    outcome: Outcome,
+    play: &Play,
 )
     requires pass { MayUse board.now scribe.old }
     requires point { IsPoint (knowledge scribe.old) }
-    ensures pass { MayUse board.now scribe.new }
-    ensures point { IsPoint (knowledge scribe.new) }
 {
-    let Ok(tail) = board.tail(rt, rt.alloc(), scribe, entries.saturating_sub(1), 3) else {
-        panic!(rt; "there is memory");
-    };
-    assert_eq!(rt; tail.entries.len(), 1);
-    let Event::Committed { outcomes, .. } = &tail.entries[0].event else {
-        panic!(rt; "the last one is a commit");
-    };
-    assert!(rt; outcomes.items() == [(request, outcome)].as_slice());
+    let last = play.entries.saturating_sub(1) as u64;
+    let tail = board.tail(rt, rt.alloc(), scribe, last, 3);
+    let tail = tail.expect(rt, "there is memory");
+    assert!(rt;
+        has_outcomes(&tail.entries, play.outcomes),
+        "{}",
+        play.shows
+    );
 }
 
-// A rider cancels while the batch is open, whose commit finds the request gone.
-fn cancel_in_an_open_batch<'r, R: Threads + Wait + Sync + Abort>(
+// Whether entries are one, which finds this where it is a commit.
+fn has_outcomes(entries: &[Entry], outcomes: &[(u64, Outcome)]) -> bool {
+    let [entry] = entries else {
+        return false;
+    };
+    match &entry.event {
+        Event::Committed {
+            outcomes: found,
+            ..
+        } => found.items() == outcomes,
+        _ => outcomes.is_empty(),
+    }
+}
+
+// What is read of a board once a play is over.
+fn expect_read<'r, R: Wait + Abort + AllocGlobal>(
     rt: &R,
     board: &SharedBoard<'r>,
-    feed: &mut ActorPass<'r>,
-    desk: &mut ActorPass<'r>,
-    tools: &mut DeskTools<'_, '_>,
+    scribe: &mut ActorPass<'r>,
+    watch: &mut VersionWatch,
+    play: &Play,
 )
-    requires feed { MayFeed board.now feed.old }
-    requires version { (root_of (knowledge feed.old)).start.settings.log ≡ 1 }
-    requires few { length (commands_in (knowledge feed.old).own) < 900 }
-    requires desk { MayOpen board.now desk.old }
-    requires roads { tools.old ≡ (root_of (knowledge desk.old)).start.roads }
-    ensures desk { MayOpen board.now desk.new }
+    requires pass { MayUse board.now scribe.old }
+    requires point { IsPoint (knowledge scribe.old) }
+    requires watches { Watches (knowledge scribe.old) watch.old }
+    requires vehicle { watched_ids watch.old ≡ 1 ∷ [] }
 {
-    tell(rt, board, feed, request(7, 2, 4, 600));
-    tell(rt, board, feed, Command::Ask);
-    let batch = open(rt, board, desk);
-    tell(rt, board, feed, Command::Cancel { id: 7 });
-    commit(rt, board, desk, tools, batch);
+    expect_versions(rt, board, scribe, watch, play);
+    expect_tails(rt, board, scribe, play.entries);
+    expect_outcomes(rt, board, scribe, play);
 }
 
-/// What happens to a shared board of one feed and two desks.
-#[derive(Clone, Copy)]
-enum Play {
-    /// Each desk has a batch of one request, and the second one's pair is stale.
-    TwoDesks,
-    /// A rider cancels while the batch is open.
-    CancelInAnOpenBatch,
-}
-
-// Runs a play over one vehicle, and asserts what its last commit found.
-fn run<R: Threads + Wait + Sync + Abort + AllocGlobal>(
+// A play is given to a board that is shared for it.
+fn share<'r, R: Threads + Wait + Sync + Abort + AllocGlobal>(
     rt: &R,
-    roads: &Roads,
+    board: Board<'r>,
+    watch: &mut VersionWatch,
     tools: &mut DeskTools<'_, '_>,
-    play: Play,
-) -> Result<(), NoMemory>
-    requires nodes { roads.now.nodes ≡ 4 }
-    requires tools { tools.old ≡ roads.now }
+    play: &Play,
+)
+    requires roads { tools.old ≡ board.start.roads }
+    requires history { board.history ≡ [] }
+    requires place { watch.old.place ≡ 0 }
+    requires versions { watch.old.versions ≡ versions_of board.start.vehicles }
+    requires vehicle { watched_ids watch.old ≡ 1 ∷ [] }
 {
-    let alloc = rt.alloc();
-    let board = Board::new(alloc, roads, settings(1), fleet(alloc, roads)?, 1, 2)?;
-    let (board, passes) = SharedBoard::start(alloc, board)?;
+    let Ok(started) = SharedBoard::start(rt.alloc(), board) else {
+        panic!(rt; "there is memory");
+    };
+    let (board, passes) = started;
     let PassSet {
         feed_1,
         desk_1,
@@ -218,42 +497,43 @@ fn run<R: Threads + Wait + Sync + Abort + AllocGlobal>(
     let Some(mut first) = desk_1 else {
         panic!(rt; "a board has a desk");
     };
-    let Some(mut second) = desk_2 else {
-        panic!(rt; "this board has two desks");
-    };
-    match play {
-        Play::TwoDesks => {
-            ask_for_two(rt, &board, &mut feed);
-            open_and_commit(rt, &board, &mut first, &mut second, tools);
-            expect_tails(rt, &board, &mut scribe, 8);
-            let moved = Outcome::Moved {
-                named: 0,
-                stands: 1,
-            };
-            expect_outcome(rt, &board, &mut scribe, 8, 8, moved);
-        }
-        Play::CancelInAnOpenBatch => {
-            cancel_in_an_open_batch(rt, &board, &mut feed, &mut first, tools);
-            expect_outcome(rt, &board, &mut scribe, 5, 7, Outcome::Gone);
-        }
+    begin(rt, &board, &mut feed, play);
+    if play.batches < 2 {
+        seat_by_one(rt, &board, &mut feed, &mut first, tools, play);
+    } else {
+        let Some(mut second) = desk_2 else {
+            panic!(rt; "this board has two desks");
+        };
+        seat_by_two(rt, &board, &mut first, &mut second, tools);
     }
-    Ok(())
+    expect_read(rt, &board, &mut scribe, watch, play);
 }
 
-// Runs a play by tools of its own.
-fn expect_play<R: Threads + Wait + Sync + Abort + AllocGlobal>(rt: &R, roads: &Roads, play: Play)
+// The same on a new board.
+fn run<R: Threads + Wait + Sync + Abort + AllocGlobal>(rt: &R, roads: &Roads, play: &Play)
     requires { roads.now.nodes ≡ 4 }
 {
-    let Ok(mut tools) = DeskTools::new(rt.alloc(), roads, 2) else {
+    let alloc = rt.alloc();
+    assert!(rt; 1 <= play.desks && play.desks <= 2);
+    let Ok(fleet) = fleet(alloc, roads) else {
         panic!(rt; "there is memory");
     };
-    assert!(rt; run(rt, roads, &mut tools, play).is_ok());
+    let Ok(mut watch) = VersionWatch::new(alloc, &fleet) else {
+        panic!(rt; "there is memory");
+    };
+    let Ok(board) = Board::new(alloc, roads, settings(1), fleet, 1, play.desks) else {
+        panic!(rt; "there is memory");
+    };
+    let Ok(mut tools) = DeskTools::new(alloc, roads, play.desks as usize) else {
+        panic!(rt; "there is memory");
+    };
+    share(rt, board, &mut watch, &mut tools, play);
 }
 
 #[test]
-fn pairs_that_went_stale_on_a_shared_board_are_named(rt: HostRuntime) -> Result<(), Fail> {
-    let roads = trial_town::roads(rt.alloc())?;
-    expect_play(&rt, &roads, Play::TwoDesks);
-    expect_play(&rt, &roads, Play::CancelInAnOpenBatch);
-    Ok(())
+fn passes_share_a_board(rt: HostRuntime) {
+    let roads = roads(&rt, rt.alloc());
+    for play in PLAYS.as_slice() {
+        run(&rt, &roads, play);
+    }
 }

@@ -12,13 +12,13 @@ use Rattle.fleet_league.proofs.MayAward.{won-each}
 use Rattle.league_trials.proofs.DaySides.{no-chairs}
 use Rattle.league_trials.proofs.sides.Side.award.Goals as goal
 
-pub award-requires-clause-rides : goal.award-requires-clause-rides
-award-requires-clause-rides g c κs within =
+pub award-settled-requires-clause-rides : goal.award-settled-requires-clause-rides
+award-settled-requires-clause-rides g c κs within =
     let may = subst (λ (s : CompanyState). MayWin s c.args.rides.now c.args.brief.now) (sym c.self.view_is) c.requires.may in
     won-each (IsNewRide (state_of c.self.inside.company.board)) c.args.rides.now (won_rides c.args.brief.now.wins) may.may.each may.of_them
 
-pub award-requires-clause-ids_spelled : goal.award-requires-clause-ids_spelled
-award-requires-clause-ids_spelled g c κs within =
+pub award-settled-requires-clause-ids_spelled : goal.award-settled-requires-clause-ids_spelled
+award-settled-requires-clause-ids_spelled g c κs within =
     let may = c.requires.may in
     let log = c.args.self.now.board.start.settings.log in
     won-each (λ (ride : Ride). IsSpelled ride.id) c.args.rides.now (won_rides c.args.brief.now.wins)
@@ -26,8 +26,8 @@ award-requires-clause-ids_spelled g c κs within =
     id-spelled log ride (of_all (λ (r : Ride). IsSpelledCommand log (request_of r)) c.args.rides.now ride may.may.spelled there)))
     may.of_them
 
-pub award-requires-clause-chairs : goal.award-requires-clause-chairs
-award-requires-clause-chairs g c κs within first =
+pub award-settled-requires-clause-chairs : goal.award-settled-requires-clause-chairs
+award-settled-requires-clause-chairs g c κs within first =
     let may = subst (λ (s : CompanyState). MayWin s c.args.rides.now c.args.brief.now) (sym c.self.view_is) c.requires.may in
     let log = c.self.inside.company.board.start.settings.log in
     won-each (λ (ride : Ride). ride.chairs ≡ 0) c.args.rides.now (won_rides c.args.brief.now.wins)
