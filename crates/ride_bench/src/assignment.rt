@@ -87,19 +87,25 @@ pub fn product(rt: &impl Print, alloc: Global) -> Result<()> {
     Ok(())
 }
 
+/// The cost of a grid's least pairing, and the fewest microseconds of twenty turns.
+fn best_of_twenty(rt: &impl Clock, alloc: Global, grid: &Grid) -> Result<(u64, u128)> {
+    let mut best = u128::MAX;
+    let mut cost = 0;
+    for _ in 0..20 {
+        let start = Instant::now(rt)?;
+        cost = least_cost(alloc, grid)?;
+        best = best.min(start.elapsed(rt)?.as_micros());
+    }
+    Ok((cost, best))
+}
+
 /// Times a trial, the best of twenty turns.
 fn time(rt: &(impl Clock + Print), alloc: Global, name: &str, trial: Trial) -> Result<()>
     requires rows { trial.rows ≤ 128 }
     requires columns { trial.columns ≤ 8000 }
 {
     let grid = generate(alloc, trial)?;
-    let mut best = u128::MAX;
-    let mut cost = 0;
-    for _ in 0..20 {
-        let start = Instant::now(rt)?;
-        cost = least_cost(alloc, &grid)?;
-        best = best.min(start.elapsed(rt)?.as_micros());
-    }
+    let (cost, best) = best_of_twenty(rt, alloc, &grid)?;
     let (rows, columns) = (trial.rows, trial.columns);
     println!(rt; "{name} {rows} x {columns} cost {cost} best {best} microseconds")?;
     Ok(())

@@ -148,15 +148,27 @@ fn time(rt: &impl Clock, rides: &[Ride], stops: &[Stop], ride: &Ride, turns: u64
 {
     let vehicle = vehicle(rides, stops);
     let near = near(&vehicle, ride);
+    time_vehicle(rt, &vehicle, ride, &near, turns)
+}
+
+/// Makes the tables of a vehicle and asks it for a ride.
+fn time_vehicle(
+    rt: &impl Clock,
+    vehicle: &Vehicle,
+    ride: &Ride,
+    near: &Near,
+    turns: u64,
+) -> Result<Times>
+    requires asked { IsTrue (may_be_asked vehicle.now ride.now settings) }
+    requires near { near.now ≡ near_in_line vehicle.now ride.now }
+    requires drives { is_idle vehicle.now ≡ false }
+    requires turns { turns ≤ 1000 }
+{
     let start = Instant::now(rt)?;
-    let slack = tables_of(&vehicle, ride);
+    let slack = tables_of(vehicle, ride);
     let tables = start.elapsed(rt)?.as_nanos();
-    let start = Instant::now(rt)?;
-    let plain_sum = plain_costs(&vehicle, ride, &near, turns);
-    let plain = start.elapsed(rt)?.as_nanos();
-    let start = Instant::now(rt)?;
-    let fast_sum = fast_costs(&vehicle, &slack, ride, &near, turns);
-    let fast = start.elapsed(rt)?.as_nanos();
+    let (plain_sum, plain) = time_plain(rt, vehicle, ride, near, turns)?;
+    let (fast_sum, fast) = time_fast(rt, vehicle, &slack, ride, near, turns)?;
     Ok(Times {
         plain_sum,
         fast_sum,
@@ -164,6 +176,43 @@ fn time(rt: &impl Clock, rides: &[Ride], stops: &[Stop], ride: &Ride, turns: u64
         fast,
         tables,
     })
+}
+
+/// The sum of the plain search, and its nanoseconds.
+fn time_plain(
+    rt: &impl Clock,
+    vehicle: &Vehicle,
+    ride: &Ride,
+    near: &Near,
+    turns: u64,
+) -> Result<(u64, u128)>
+    requires asked { IsTrue (may_be_asked vehicle.now ride.now settings) }
+    requires near { near.now ≡ near_in_line vehicle.now ride.now }
+    requires turns { turns ≤ 1000 }
+{
+    let start = Instant::now(rt)?;
+    let sum = plain_costs(vehicle, ride, near, turns);
+    Ok((sum, start.elapsed(rt)?.as_nanos()))
+}
+
+/// The same of the search by slack.
+fn time_fast(
+    rt: &impl Clock,
+    vehicle: &Vehicle,
+    slack: &Slack,
+    ride: &Ride,
+    near: &Near,
+    turns: u64,
+) -> Result<(u64, u128)>
+    requires asked { IsTrue (may_be_asked vehicle.now ride.now settings) }
+    requires near { near.now ≡ near_in_line vehicle.now ride.now }
+    requires drives { is_idle vehicle.now ≡ false }
+    requires slack { slack.now ≡ slack_of vehicle.now vehicle.now.ready 30 }
+    requires turns { turns ≤ 1000 }
+{
+    let start = Instant::now(rt)?;
+    let sum = fast_costs(vehicle, slack, ride, near, turns);
+    Ok((sum, start.elapsed(rt)?.as_nanos()))
 }
 
 /// The tables of a vehicle that may be asked for a ride.

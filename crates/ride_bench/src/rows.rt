@@ -69,21 +69,38 @@ fn time_row(
 }
 
 /// Fills the rows of so many nodes, and gives the microseconds that the searches took together.
+fn time_turns(
+    rt: &(impl Clock + Print),
+    roads: &Roads,
+    scratch: &mut Scratch,
+    wanted: &[u32],
+    row: &mut [Option<u64>],
+    turns: u32,
+) -> Result<u128>
+    requires nodes { (1 ≤ roads.now.nodes) × (roads.now.nodes ≤ 500000) }
+    requires scratch { scratch.old.nodes ≡ roads.now.nodes }
+    requires wanted { All (IsPlace roads.now.nodes) wanted.now }
+    requires places { length row.old ≡ length wanted.now }
+    requires turns { (1 ≤ turns) × (turns ≤ 40) }
+{
+    let step = roads.nodes() / turns;
+    let mut total = 0u128;
+    for turn in 0..turns {
+        let micros = time_row(rt, roads, scratch, 1 + turn * step, wanted, row)?;
+        total = total.wrapping_add(micros);
+    }
+    Ok(total)
+}
+
+/// Makes room for rows to all nodes, and fills those of so many.
 fn time_rows(rt: &(impl Clock + Print), alloc: Global, roads: &Roads, turns: u32) -> Result<u128>
     requires nodes { (1 ≤ roads.now.nodes) × (roads.now.nodes ≤ 500000) }
     requires turns { (1 ≤ turns) × (turns ≤ 40) }
 {
-    let nodes = roads.nodes();
     let mut scratch = Scratch::new(alloc, roads)?;
-    let wanted = all_nodes(alloc, nodes)?;
+    let wanted = all_nodes(alloc, roads.nodes())?;
     let mut row = vec![in alloc; None; wanted.len()]?;
-    let mut total = 0u128;
-    for turn in 0..turns {
-        let source = 1 + turn * (nodes / turns);
-        let micros = time_row(rt, roads, &mut scratch, source, &wanted, &mut row)?;
-        total = total.wrapping_add(micros);
-    }
-    Ok(total)
+    time_turns(rt, roads, &mut scratch, &wanted, &mut row, turns)
 }
 
 /// The roads of a generated map, whose size is printed.

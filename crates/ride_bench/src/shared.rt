@@ -269,8 +269,16 @@ fn time_own<R: Clock>(rt: &R, alloc: Global, roads: &Roads) -> Result<u128>
     requires { roads.now.nodes ≡ 4 }
 {
     let mut board = board(alloc, roads)?;
+    time_clocks(rt, &mut board)
+}
+
+// The microseconds of a board's own calls.
+fn time_clocks<R: Clock>(rt: &R, board: &mut Board<'_>) -> Result<u128>
+    requires feeds { board.old.feeds ≡ 2 }
+    requires history { board.old.history ≡ [] }
+{
     let start = Instant::now(rt)?;
-    apply_clocks(&mut board, COMMANDS)?;
+    apply_clocks(board, COMMANDS)?;
     Ok(start.elapsed(rt)?.as_micros())
 }
 
@@ -278,10 +286,20 @@ fn time_own<R: Clock>(rt: &R, alloc: Global, roads: &Roads) -> Result<u128>
 fn time_one<R: Clock + Wait>(rt: &R, alloc: Global, roads: &Roads) -> Result<u128>
     requires { roads.now.nodes ≡ 4 }
 {
-    let (board, passes) = share(alloc, roads)?;
-    let mut first = passes.first;
+    let (board, mut passes) = share(alloc, roads)?;
+    time_feed(rt, &board, &mut passes.first)
+}
+
+// The microseconds of a feed's calls.
+fn time_feed<'r, R: Clock + Wait>(
+    rt: &R,
+    board: &SharedBoard<'r>,
+    feed: &mut ActorPass<'r>,
+) -> Result<u128>
+    requires { MayBegin board.now feed.old }
+{
     let start = Instant::now(rt)?;
-    run_feed(rt, &board, &mut first, COMMANDS)?;
+    run_feed(rt, board, feed, COMMANDS)?;
     Ok(start.elapsed(rt)?.as_micros())
 }
 
@@ -289,9 +307,21 @@ fn time_one<R: Clock + Wait>(rt: &R, alloc: Global, roads: &Roads) -> Result<u12
 fn time_two<R: Clock + Threads + Wait + Sync>(rt: &R, alloc: Global, roads: &Roads) -> Result<u128>
     requires { roads.now.nodes ≡ 4 }
 {
-    let (board, passes) = share(alloc, roads)?;
+    let (board, mut passes) = share(alloc, roads)?;
+    time_feeds(rt, &board, &mut passes)
+}
+
+// The microseconds of the calls of two feeds.
+fn time_feeds<'r, R: Clock + Threads + Wait + Sync>(
+    rt: &R,
+    board: &SharedBoard<'r>,
+    passes: &mut Passes<'r>,
+) -> Result<u128>
+    requires first { MayBegin board.now passes.old.first }
+    requires second { MayBegin board.now passes.old.second }
+{
     let start = Instant::now(rt)?;
-    both_fed(rt, &board, passes, COMMANDS / 2)?;
+    both_fed(rt, board, passes, COMMANDS / 2)?;
     Ok(start.elapsed(rt)?.as_micros())
 }
 
@@ -299,19 +329,15 @@ fn time_two<R: Clock + Threads + Wait + Sync>(rt: &R, alloc: Global, roads: &Roa
 fn both_fed<'r, R: Threads + Wait + Sync>(
     rt: &R,
     board: &SharedBoard<'r>,
-    passes: Passes<'r>,
+    passes: &mut Passes<'r>,
     each: u32,
 ) -> Result<(), NoMemory>
-    requires first { MayBegin board.now passes.first }
-    requires second { MayBegin board.now passes.second }
+    requires first { MayBegin board.now passes.old.first }
+    requires second { MayBegin board.now passes.old.second }
     requires each { each ≤ 1000000 }
 {
-    let Passes {
-        mut first,
-        mut second,
-        ..
-    } = passes;
-    let (first_fed, second_fed) = run_feeds(rt, board, &mut first, &mut second, each);
+    let Passes { first, second, .. } = passes;
+    let (first_fed, second_fed) = run_feeds(rt, board, first, second, each);
     first_fed.and(second_fed)
 }
 
@@ -320,28 +346,20 @@ fn all_seen<'r, R: Threads + Wait + Sync>(
     rt: &R,
     alloc: Global,
     board: &SharedBoard<'r>,
-    passes: Passes<'r>,
+    passes: &mut Passes<'r>,
     each: u32,
 ) -> Result<u64, NoMemory>
-    requires first { MayBegin board.now passes.first }
-    requires second { MayBegin board.now passes.second }
-    requires scribe { MayLook board.now passes.scribe }
+    requires first { MayBegin board.now passes.old.first }
+    requires second { MayBegin board.now passes.old.second }
+    requires scribe { MayLook board.now passes.old.scribe }
     requires each { each ≤ 1000000 }
 {
     let Passes {
-        mut first,
-        mut second,
-        mut scribe,
+        first,
+        second,
+        scribe,
     } = passes;
-    let (seen, (first_fed, second_fed)) = run_all(
-        rt,
-        alloc,
-        board,
-        &mut first,
-        &mut second,
-        &mut scribe,
-        each,
-    );
+    let (seen, (first_fed, second_fed)) = run_all(rt, alloc, board, first, second, scribe, each);
     first_fed.and(second_fed).and(seen)
 }
 
@@ -349,17 +367,42 @@ fn all_seen<'r, R: Threads + Wait + Sync>(
 fn time_all<R: Clock + Threads + Wait + Sync>(rt: &R, alloc: Global, roads: &Roads) -> Result<u128>
     requires { roads.now.nodes ≡ 4 }
 {
-    let (board, passes) = share(alloc, roads)?;
+    let (board, mut passes) = share(alloc, roads)?;
+    time_passes(rt, alloc, &board, &mut passes)
+}
+
+// The microseconds of the calls of two feeds while the scribe looks.
+fn time_passes<'r, R: Clock + Threads + Wait + Sync>(
+    rt: &R,
+    alloc: Global,
+    board: &SharedBoard<'r>,
+    passes: &mut Passes<'r>,
+) -> Result<u128>
+    requires first { MayBegin board.now passes.old.first }
+    requires second { MayBegin board.now passes.old.second }
+    requires scribe { MayLook board.now passes.old.scribe }
+{
     let start = Instant::now(rt)?;
-    all_seen(rt, alloc, &board, passes, COMMANDS / 2)?;
+    all_seen(rt, alloc, board, passes, COMMANDS / 2)?;
     Ok(start.elapsed(rt)?.as_micros())
+}
+
+// How many entries two passes of 1,000 submits and an end each leave.
+fn entries_seen<R: Threads + Wait + Sync>(
+    rt: &R,
+    alloc: Global,
+    roads: &Roads,
+) -> Result<u64, NoMemory>
+    requires { roads.now.nodes ≡ 4 }
+{
+    let (board, mut passes) = share(alloc, roads)?;
+    all_seen(rt, alloc, &board, &mut passes, 1000)
 }
 
 /// Prints how many entries two passes of 1,000 submits and an end each leave.
 pub fn small<R: Print + Threads + Wait + Sync>(rt: &R, alloc: Global) -> Result<()> {
     let roads = trial_town::roads(alloc)?;
-    let (board, passes) = share(alloc, &roads)?;
-    let entries = all_seen(rt, alloc, &board, passes, 1000)?;
+    let entries = entries_seen(rt, alloc, &roads)?;
     println!(rt; "shared {entries} entries")?;
     Ok(())
 }
