@@ -21,11 +21,23 @@ use std::alloc::Global;
 use std::thread::{Threads, join_mut};
 
 /// What two companies quote for rides, and each one's table of them.
-#[derive(Drop)]
 struct RoundPrices {
     quotes: [Quote; 2],
     first: PriceTable,
     second: PriceTable,
+}
+
+impl Drop for RoundPrices {
+    fn drop(self) {
+        let RoundPrices {
+            quotes,
+            first,
+            second,
+        } = self;
+        drop(quotes);
+        drop(first);
+        drop(second);
+    }
 }
 
 /// Plays a round of rides: both companies quote, their quotes are settled together, and each is awarded its part.
@@ -52,7 +64,7 @@ pub(crate) fn play<R: Threads + Sync>(
     let parts = parts_of(alloc, penalty, &prices.quotes, rides)?;
     first.award(&prices.first, rides, &parts.first)?;
     second.award(&prices.second, rides, &parts.second)?;
-    Ok(parts.sheet)
+    Ok(parts.into_sheet())
 }
 
 // What two companies quote for rides, at the same time.

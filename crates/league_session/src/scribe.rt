@@ -28,12 +28,24 @@ use std::thread::Threads;
 use text_page::Output;
 
 /// A league, its text on the way out, and how many lines of the feed were taken.
-#[derive(Drop)]
 pub(crate) struct Scribe<'r> {
     output: Output,
     log: u8,
     lines: u64,
     league: League<'r>,
+}
+
+impl Drop for Scribe<'_> {
+    fn drop(self) {
+        let Scribe {
+            output,
+            log: _,
+            lines: _,
+            league,
+        } = self;
+        drop(output);
+        drop(league);
+    }
 }
 
 impl<'r> Scribe<'r> {

@@ -17,11 +17,39 @@ use ride_model::Ride;
 use std::alloc::Global;
 
 /// What is told of a round, and each company's part of it.
-#[derive(Drop)]
 pub(crate) struct RoundParts {
     pub(crate) sheet: RoundSheet,
     pub(crate) first: Brief,
     pub(crate) second: Brief,
+}
+
+impl Drop for RoundParts {
+    fn drop(self) {
+        let RoundParts {
+            sheet,
+            first,
+            second,
+        } = self;
+        drop(sheet);
+        drop(first);
+        drop(second);
+    }
+}
+
+impl RoundParts {
+    /// What is told of the round.
+    pub(crate) fn into_sheet(self) -> RoundSheet
+        ensures { result ≡ self.sheet }
+    {
+        let RoundParts {
+            sheet,
+            first,
+            second,
+        } = self;
+        drop(first);
+        drop(second);
+        sheet
+    }
 }
 
 /// Settles the quotes of two companies for rides.

@@ -28,7 +28,6 @@ use std::thread::Threads;
 const UNKNOWN_COMPANY: u8 = 18;
 
 /// A league of two companies. Its desk judges requests; a company has those that it has won.
-#[derive(Drop)]
 pub(crate) struct League<'r> {
     alloc: Global,
     /// What a request costs that a round leaves out.
@@ -36,6 +35,21 @@ pub(crate) struct League<'r> {
     desk: RequestDesk<'r>,
     first: Member<'r>,
     second: Member<'r>,
+}
+
+impl Drop for League<'_> {
+    fn drop(self) {
+        let League {
+            alloc: _,
+            penalty: _,
+            desk,
+            first,
+            second,
+        } = self;
+        drop(desk);
+        drop(first);
+        drop(second);
+    }
 }
 
 impl<'r> Model for League<'r> {

@@ -32,10 +32,8 @@ pub fn serve_command<'a>(alloc: Global) -> Result<Command<'a>, WordsError>
     ensures stopped { OnErr result (result ≡ Err WordsError.NoMemory) }
 {
     let command = over_map_and_fleet(alloc, "serve")?;
-    let command = with_option(command, alloc, "riders")?;
-    let command = with_option(command, alloc, "drivers")?;
-    let command = with_option(command, alloc, "workers")?;
-    with_option(command, alloc, "desks")
+    let command = with_two(command, alloc, "riders", "drivers")?;
+    with_two(command, alloc, "workers", "desks")
 }
 
 /// The command of idle vehicles sent ahead.
@@ -44,8 +42,7 @@ pub fn ahead_command<'a>(alloc: Global) -> Result<Command<'a>, WordsError>
     ensures stopped { OnErr result (result ≡ Err WordsError.NoMemory) }
 {
     let command = over_map_and_fleet(alloc, "ahead")?;
-    let command = with_option(command, alloc, "feed")?;
-    with_option(command, alloc, "reach")
+    with_two(command, alloc, "feed", "reach")
 }
 
 /// The command of a drill.
@@ -53,10 +50,8 @@ pub fn drill_command<'a>(alloc: Global) -> Result<Command<'a>, WordsError>
     ensures command { IfOk result (λ command. app_of command ≡ drill_command) }
     ensures stopped { OnErr result (result ≡ Err WordsError.NoMemory) }
 {
-    let command = with_option(bare_command(alloc, "drill"), alloc, "side")?;
-    let command = with_option(command, alloc, "vehicles")?;
-    let command = with_option(command, alloc, "requests")?;
-    with_option(command, alloc, "seed")
+    let command = with_two(bare_command(alloc, "drill"), alloc, "side", "vehicles")?;
+    with_two(command, alloc, "requests", "seed")
 }
 
 /// The command of bookings.
@@ -73,8 +68,7 @@ pub fn league_command<'a>(alloc: Global) -> Result<Command<'a>, WordsError>
     ensures stopped { OnErr result (result ≡ Err WordsError.NoMemory) }
 {
     let command = over_map_and_fleet(alloc, "league")?;
-    let command = with_option(command, alloc, "second")?;
-    with_option(command, alloc, "feed")
+    with_two(command, alloc, "second", "feed")
 }
 
 // A command of this name over a map and a fleet file.
@@ -82,8 +76,7 @@ fn over_map_and_fleet<'a>(alloc: Global, name: &'a str) -> Result<Command<'a>, W
     ensures command { IfOk result (λ command. app_of command ≡ over_map_and_fleet name.now) }
     ensures stopped { OnErr result (result ≡ Err WordsError.NoMemory) }
 {
-    let command = with_option(bare_command(alloc, name), alloc, "map")?;
-    with_option(command, alloc, "fleet")
+    with_two(bare_command(alloc, name), alloc, "map", "fleet")
 }
 
 // A command of this name without options, help or version.
@@ -93,6 +86,20 @@ fn bare_command<'a>(alloc: Global, name: &'a str) -> Command<'a>
     Command::new(alloc, name)
         .disable_help_flag(true)
         .disable_version_flag(true)
+}
+
+// The command with two more options.
+fn with_two<'a>(
+    command: Command<'a>,
+    alloc: Global,
+    first: &'a str,
+    second: &'a str,
+) -> Result<Command<'a>, WordsError>
+    ensures command { IfOk result (λ more. app_of more ≡ with_option (with_option (app_of command.entry) first.now) second.now) }
+    ensures stopped { OnErr result (result ≡ Err WordsError.NoMemory) }
+{
+    let command = with_option(command, alloc, first)?;
+    with_option(command, alloc, second)
 }
 
 // The command with one more option.
