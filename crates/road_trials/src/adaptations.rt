@@ -44,6 +44,26 @@ fn row_around(node: u32, side: Side) -> [Option<u64>; 4] {
     })
 }
 
+/// Whether a row of a node is the one around the ring.
+fn has_row(
+    roads: &BatchRoads,
+    scratch: &mut Scratch,
+    room: &mut RowRoom,
+    node: u32,
+    side: Side,
+) -> bool
+    requires scratch { scratch.old.nodes ≡ roads.now.roads.nodes }
+    requires room { roads.now.places ≤ room.old.places }
+    requires node { IsNode roads.now.roads node }
+    requires wanted { length roads.now.wanted ≡ 4 }
+    ensures scratch { scratch.new ≡ scratch.old }
+    ensures room { room.new ≡ room.old }
+{
+    let mut row = [None; 4];
+    roads.rows(scratch, room, node, side, &mut row);
+    row == row_around(node, side)
+}
+
 /// Both rows of a node, and its times to two nodes.
 fn expect_node(
     rt: &impl Abort,
@@ -60,17 +80,13 @@ fn expect_node(
     ensures scratch { scratch.new ≡ scratch.old }
     ensures room { room.new ≡ room.old }
 {
-    let mut row = [None; 4];
-    roads.rows(scratch, room, node, Side::Out, &mut row);
-    assert!(rt; row == row_around(node, Side::Out), "from {node}");
-    roads.rows(scratch, room, node, Side::Back, &mut row);
-    assert!(rt; row == row_around(node, Side::Back), "to {node}");
-    let to_seven = roads.time(scratch, room, node, 7);
-    let to_nine = roads.time(scratch, room, node, 9);
-    assert!(rt;
-        to_seven == around(node, 7) && to_nine == around(node, 9),
-        "from {node}"
-    );
+    let seen = [
+        has_row(roads, scratch, room, node, Side::Out),
+        has_row(roads, scratch, room, node, Side::Back),
+        roads.time(scratch, room, node, 7) == around(node, 7),
+        roads.time(scratch, room, node, 9) == around(node, 9),
+    ];
+    assert!(rt; seen == [true; 4], "node {node}: {seen:?}");
 }
 
 /// Both rows and the times of each node.

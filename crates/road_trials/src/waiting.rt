@@ -58,20 +58,41 @@ fn put_thirds_back(rt: &impl Abort, list: &mut WaitList)
     }
 }
 
+// Whether the places that are left stand in order, from the first one on.
+fn lacks_thirds(list: &WaitList) -> bool
+    requires { list.now.capacity ≡ 1000 }
+{
+    list.first() == Some(1) && list.after(2) == Some(4) && list.after(5) == Some(7)
+}
+
+// Whether all places stand in order.
+fn has_all(list: &WaitList) -> bool
+    requires { list.now.capacity ≡ 1000 }
+{
+    for place in 1..PLACES {
+        if list.after(place - 1) != Some(place) {
+            return false;
+        }
+    }
+    list.first() == Some(0) && list.after(PLACES - 1).is_none()
+}
+
+// Fills a list, takes every third place out, and puts it back.
+fn take_and_put_back(rt: &impl Abort, list: &mut WaitList)
+    requires capacity { list.old.capacity ≡ 1000 }
+    requires empty { list.old.places ≡ [] }
+{
+    assert!(rt; list.first().is_none());
+    fill(list);
+    take_thirds(rt, list);
+    assert!(rt; lacks_thirds(list));
+    put_thirds_back(rt, list);
+    assert!(rt; has_all(list));
+}
+
 #[test]
 fn places_put_back_stand_in_the_same_order(rt: HostRuntime) -> Result<(), Fail> {
     let mut list = WaitList::new(rt.alloc(), PLACES)?;
-    assert_eq!(rt; list.first(), None);
-    fill(&mut list);
-    take_thirds(&rt, &mut list);
-    assert_eq!(rt; list.first(), Some(1));
-    assert_eq!(rt; list.after(2), Some(4));
-    assert_eq!(rt; list.after(5), Some(7));
-    put_thirds_back(&rt, &mut list);
-    assert_eq!(rt; list.first(), Some(0));
-    for place in 1..PLACES {
-        assert_eq!(rt; list.after(place - 1), Some(place));
-    }
-    assert_eq!(rt; list.after(PLACES - 1), None);
+    take_and_put_back(&rt, &mut list);
     Ok(())
 }
