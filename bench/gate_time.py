@@ -2,15 +2,17 @@
 """Where the gate's time goes: runs `rt ci` at the top of the repository and prints the processor seconds of each crate, those of its
 proof, of the proof of its tests and of its edits that must fail.
 
-    python3 bench/gate_time.py > gate_time.txt
+    python3 bench/gate_time.py --anew > gate_time.txt
 
-What the gate itself says goes to standard error. Each process of the prover is looked at twice a second, so that a figure may lack the
-last half second of a process. Linux only: it reads /proc.
+Its arguments are those of `rt ci`: with --anew nothing is taken from what earlier runs passed. What the gate itself says goes to
+standard error. Each process of the prover is looked at twice a second, so that a figure may lack the last half second of a process.
+Linux only: it reads /proc.
 """
 
 import collections
 import os
 import re
+import resource
 import subprocess
 import sys
 import time
@@ -25,19 +27,19 @@ def processor_seconds(stat):
     return fields[19], (int(fields[11]) + int(fields[12])) / os.sysconf("SC_CLK_TCK")
 
 
-def work_of(command, folder, top):
-    """The crate and the phase that a process of the prover works for, or None."""
+def work_of(command, folder, top, gate):
+    """The crate and the phase that a process of the prover works for, or None where it works for another gate than this process."""
     crate = re.search(r"--crate-name (\S+)", command)
     if crate is None:
         return None
-    if "/rt-edit-" in folder:
+    if f"/rt-edit-{gate}-" in folder:
         return crate[1], "edits"
     if not folder.startswith(top):
         return None
     return crate[1], "tests" if " --test" in command else "proof"
 
 
-def look(top, works, seconds):
+def look(top, gate, works, seconds):
     """Notes the processor seconds of each process that works for the gate."""
     for number in filter(str.isdigit, os.listdir("/proc")):
         try:
@@ -47,7 +49,7 @@ def look(top, works, seconds):
             if works.get(process) is None:
                 with open(f"/proc/{number}/cmdline") as file:
                     command = file.read().replace("\0", " ")
-                works[process] = work_of(command, os.readlink(f"/proc/{number}/cwd"), top)
+                works[process] = work_of(command, os.readlink(f"/proc/{number}/cwd"), top, gate)
             seconds[process] = taken
         except OSError:
             continue
@@ -69,12 +71,14 @@ def table(works, seconds):
 
 def main():
     top = os.path.realpath(os.path.join(os.path.dirname(__file__), ".."))
-    gate = subprocess.Popen(["rt", "ci"], cwd=top, stdout=sys.stderr)
+    gate = subprocess.Popen(["rt", "ci", *sys.argv[1:]], cwd=top, stdout=sys.stderr)
     works, seconds = {}, {}
     while gate.poll() is None:
-        look(top, works, seconds)
+        look(top, gate.pid, works, seconds)
         time.sleep(PERIOD)
     print("\n".join(table(works, seconds)))
+    taken = resource.getrusage(resource.RUSAGE_CHILDREN)
+    print(f"with the runs and rt itself {(taken.ru_utime + taken.ru_stime) / 60:.0f} minutes")
     return gate.returncode
 
 
