@@ -16,27 +16,26 @@ use road_times::Roads;
 use std::alloc::Global;
 use std::process::Abort;
 
-/// A request of one rider from node 2 to node 4.
-const SEVEN: Command = Command::Request {
-    id: 7,
-    from: 2,
-    to: 4,
-    seats: 1,
-    latest: 600,
-    longest: 300,
-    chairs: 0,
-};
+/// A request of one rider, from a node to a node.
+macro_rules! request {
+    ($id:expr, $from:expr, $to:expr) => {
+        Command::Request {
+            id: $id,
+            from: $from,
+            to: $to,
+            seats: 1,
+            latest: 600,
+            longest: 300,
+            chairs: 0,
+        }
+    };
+}
 
-/// One from node 4 to node 3.
-const EIGHT: Command = Command::Request {
-    id: 8,
-    from: 4,
-    to: 3,
-    seats: 1,
-    latest: 600,
-    longest: 300,
-    chairs: 0,
-};
+const SEVEN: Command = request!(7, 2, 4);
+
+const EIGHT: Command = request!(8, 4, 3);
+
+const NINE: Command = request!(9, 3, 4);
 
 /// Request 7 is cancelled.
 const CANCEL: Command = Command::Cancel { id: 7 };

@@ -12,7 +12,7 @@ ghost use Rattle.booking_desk.specs.Desk.{Booking};
 ghost use Rattle.idle_moves.specs.Watch.{Watches, watched_ids};
 
 use super::days::is_spelled;
-use super::{CANCEL, EIGHT, SEVEN, roads};
+use super::{CANCEL, EIGHT, NINE, SEVEN, roads};
 use batch_commit::Batch;
 use board_core::{Board, Opening};
 use booking_desk::BookingDesk;
@@ -53,35 +53,24 @@ const OFF: Command = Command::Off { vehicle: 1 };
 
 const ON: Command = Command::On { vehicle: 1 };
 
-const AT_NODE_1: Command = Command::At {
-    vehicle: 1,
-    node: 1,
-    time: 5,
-};
+/// A report of vehicle 1 at a node.
+macro_rules! at_node {
+    ($node:expr) => {
+        Command::At {
+            vehicle: 1,
+            node: $node,
+            time: 5,
+        }
+    };
+}
 
-const AT_NODE_2: Command = Command::At {
-    vehicle: 1,
-    node: 2,
-    time: 5,
-};
+const AT_NODE_1: Command = at_node!(1);
+
+const AT_NODE_2: Command = at_node!(2);
 
 /// A report of a node that is not on the map.
-const AT_NODE_9: Command = Command::At {
-    vehicle: 1,
-    node: 9,
-    time: 5,
-};
-
-/// The request that is booked.
-const NINE: Command = Command::Request {
-    id: 9,
-    from: 3,
-    to: 4,
-    seats: 1,
-    latest: 600,
-    longest: 300,
-    chairs: 0,
-};
+/// A node that is not on the map.
+const AT_NODE_9: Command = at_node!(9);
 
 static PLAYS: [Play; 7] = [
     Play {
