@@ -2,12 +2,12 @@
 ghost use Rattle.std.specs.Prelude.{◌≡◌, ◌+◌, ◌<◌, ◌≤◌, IfOk};
 
 use crate::grid::mix;
-use anyhow::Result;
+use crate::stopwatch::Stopwatch;
 use dual_check::Grid;
 use hungarian::solve_grid;
 use std::alloc::{AllocError, Global};
+use std::io;
 use std::rt::Clock;
-use std::time::Instant;
 
 const PENALTY: u64 = 1_000_000_000_000;
 
@@ -59,22 +59,38 @@ fn generate(alloc: Global, trial: Trial) -> Result<Grid, AllocError>
     Ok(grid)
 }
 
+/// The cost of a row that goes to a column or to none.
+fn cost_of(grid: &Grid, row: u32, column: Option<u32>) -> u64 {
+    match column {
+        Some(column) if row < grid.rows() && column < grid.columns() => {
+            grid.cell(row, column).unwrap_or(PENALTY)
+        }
+        _ => PENALTY,
+    }
+}
+
 /// The cost of a grid's least pairing.
 fn least_cost(alloc: Global, grid: &Grid) -> Result<u64, AllocError> {
     let paired = solve_grid(alloc, grid, PENALTY)?;
     let mut cost = 0u64;
     for (row, column) in (0..grid.rows()).zip(paired.columns.items()) {
-        let amount = column
-            .filter(|column| *column < grid.columns())
-            .and_then(|column| grid.cell(row, column));
-        cost = cost.wrapping_add(amount.unwrap_or(PENALTY));
+        cost = cost.wrapping_add(cost_of(grid, row, *column));
     }
     Ok(cost)
 }
 
+/// The cost of a trial's least pairing.
+fn cost_of_trial(alloc: Global, trial: Trial) -> Result<u64, AllocError>
+    requires rows { trial.rows ≤ 128 }
+    requires columns { trial.columns ≤ 8000 }
+{
+    let grid = generate(alloc, trial)?;
+    least_cost(alloc, &grid)
+}
+
 /// Prints the least cost of a grid of products, which takes no time but for a solver that tries all pairings.
-pub fn product(rt: &impl Print, alloc: Global) -> Result<()> {
-    let grid = generate(
+pub fn product(rt: &impl Print, alloc: Global) -> io::Result<()> {
+    let cost = cost_of_trial(
         alloc,
         Trial {
             rows: 128,
@@ -82,37 +98,37 @@ pub fn product(rt: &impl Print, alloc: Global) -> Result<()> {
             product: true,
         },
     )?;
-    let cost = least_cost(alloc, &grid)?;
-    println!(rt; "product 128 x 1000 cost {cost}")?;
-    Ok(())
+    println!(rt; "product 128 x 1000 cost {cost}")
 }
 
-/// The cost of a grid's least pairing, and the fewest microseconds of twenty turns.
-fn best_of_twenty(rt: &impl Clock, alloc: Global, grid: &Grid) -> Result<(u64, u128)> {
+/// The cost of a trial's least pairing, and the fewest microseconds of twenty turns.
+fn best_of_twenty(rt: &impl Clock, alloc: Global, trial: Trial) -> Result<(u64, u128), AllocError>
+    requires rows { trial.rows ≤ 128 }
+    requires columns { trial.columns ≤ 8000 }
+{
+    let grid = generate(alloc, trial)?;
     let mut best = u128::MAX;
     let mut cost = 0;
     for _ in 0..20 {
-        let start = Instant::now(rt)?;
-        cost = least_cost(alloc, grid)?;
-        best = best.min(start.elapsed(rt)?.as_micros());
+        let watch = Stopwatch::start(rt);
+        cost = least_cost(alloc, &grid)?;
+        best = best.min(watch.elapsed(rt).as_micros());
     }
     Ok((cost, best))
 }
 
 /// Times a trial, the best of twenty turns.
-fn time(rt: &(impl Clock + Print), alloc: Global, name: &str, trial: Trial) -> Result<()>
+fn time(rt: &(impl Clock + Print), alloc: Global, name: &str, trial: Trial) -> io::Result<()>
     requires rows { trial.rows ≤ 128 }
     requires columns { trial.columns ≤ 8000 }
 {
-    let grid = generate(alloc, trial)?;
-    let (cost, best) = best_of_twenty(rt, alloc, &grid)?;
+    let (cost, best) = best_of_twenty(rt, alloc, trial)?;
     let (rows, columns) = (trial.rows, trial.columns);
-    println!(rt; "{name} {rows} x {columns} cost {cost} best {best} microseconds")?;
-    Ok(())
+    println!(rt; "{name} {rows} x {columns} cost {cost} best {best} microseconds")
 }
 
 /// Times least pairings of grids as large as a batch, and of eight times as many columns.
-pub fn grids(rt: &(impl Clock + Print), alloc: Global) -> Result<()> {
+pub fn grids(rt: &(impl Clock + Print), alloc: Global) -> io::Result<()> {
     let random = Trial {
         rows: 128,
         columns: 1000,

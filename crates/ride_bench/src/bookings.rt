@@ -2,12 +2,12 @@
 ghost use Rattle.std.specs.Prelude.{◌≤◌};
 ghost use Rattle.booking_desk.specs.Desk.{IsRequest};
 
-use anyhow::Result;
+use crate::stopwatch::Stopwatch;
 use booking_desk::BookingDesk;
 use ride_model::{Command, NoMemory};
 use std::alloc::Global;
+use std::io;
 use std::rt::Clock;
-use std::time::Instant;
 
 const SECONDS_OF_DAY: u64 = 86_400;
 
@@ -26,15 +26,11 @@ fn request(id: u32) -> Command
     }
 }
 
-/// The releases of a day, out of order.
-fn release_of(id: u32) -> u64 {
-    u64::from(id) * 7_919 % SECONDS_OF_DAY
-}
-
-/// Books so many requests, each for a second of the day.
+/// Books so many requests, each for a second of the day, out of order.
 fn book_all(desk: &mut BookingDesk, many: u32) -> Result<(), NoMemory> {
     for id in 0..many {
-        desk.book(release_of(id), &request(id))?;
+        let release = u64::from(id) * 7_919 % SECONDS_OF_DAY;
+        desk.book(release, &request(id))?;
     }
     Ok(())
 }
@@ -79,20 +75,15 @@ fn day(alloc: Global, many: u32) -> Result<u32, NoMemory>
 }
 
 /// Prints how many of a day's bookings are released.
-pub fn small(rt: &impl Print, alloc: Global) -> Result<()> {
+pub fn small(rt: &impl Print, alloc: Global) -> io::Result<()> {
     let released = day(alloc, 1_000)?;
-    println!(rt; "bookings 1000 released {released}")?;
-    Ok(())
+    println!(rt; "bookings 1000 released {released}")
 }
 
 /// Times the bookings of a day at a full desk.
-pub fn bookings<R: Clock + Print>(rt: &R, alloc: Global) -> Result<()> {
-    let start = Instant::now(rt)?;
+pub fn bookings<R: Clock + Print>(rt: &R, alloc: Global) -> io::Result<()> {
+    let watch = Stopwatch::start(rt);
     let released = day(alloc, BookingDesk::MOST_BOOKINGS)?;
-    let elapsed = start.elapsed(rt)?;
-    println!(rt;
-        "bookings 100000 released {released} in {} ms",
-        elapsed.as_millis()
-    )?;
-    Ok(())
+    let millis = watch.elapsed(rt).as_millis();
+    println!(rt; "bookings 100000 released {released} in {millis} ms")
 }

@@ -1,8 +1,7 @@
 // Generated maps: crossings on a grid, of whose streets a part is there, and arcs that are drawn.
-ghost use Rattle.std.specs.Prelude.{◌≡◌, ◌≤◌, ◌<◌, length, All, IfOk};
+ghost use Rattle.std.specs.Prelude.{◌≡◌, ◌≤◌, ◌<◌, ◌+◌, length, All, IfOk};
 ghost use Rattle.trial_town.specs.Streets.{IsPlace, AreStreets};
 
-use anyhow::{Result, ensure};
 use ride_model::{Network, RoadArc};
 use std::alloc::{AllocError, Global};
 
@@ -28,6 +27,7 @@ fn add_street(arcs: &mut Vec<RoadArc>, grid: Grid, from: u32, to: u32) -> Result
     requires to { IsPlace grid.nodes to }
     requires streets { AreStreets grid.nodes arcs.old.items }
     ensures streets { AreStreets grid.nodes arcs.new.items }
+    ensures few { length arcs.new.items ≤ length arcs.old.items + 2 }
 {
     let drawn = mix(from, to);
     if drawn % 10 >= grid.kept {
@@ -47,10 +47,11 @@ fn add_street(arcs: &mut Vec<RoadArc>, grid: Grid, from: u32, to: u32) -> Result
     Ok(())
 }
 
-fn streets(alloc: Global, grid: Grid) -> Result<Vec<RoadArc>, AllocError>
-    requires nodes { grid.nodes ≤ 500000 }
+/// The map of a grid. A crossing has at most two streets to later ones, so there are never too many arcs.
+pub(crate) fn generate(alloc: Global, grid: Grid) -> Result<Network, AllocError>
+    requires nodes { (1 ≤ grid.nodes) × (grid.nodes ≤ 500000) }
     requires width { (1 ≤ grid.width) × (grid.width ≤ 500000) }
-    ensures { IfOk result (λ arcs. AreStreets grid.nodes arcs.items) }
+    ensures { IfOk result (λ map. map.nodes ≡ grid.nodes) }
 {
     let mut arcs = Vec::new(alloc);
     for place in 0..grid.nodes {
@@ -62,25 +63,14 @@ fn streets(alloc: Global, grid: Grid) -> Result<Vec<RoadArc>, AllocError>
             add_street(&mut arcs, grid, node, node + grid.width)?;
         }
     }
-    Ok(arcs)
-}
-
-/// The map of a grid.
-pub(crate) fn generate(alloc: Global, grid: Grid) -> Result<Network>
-    requires nodes { (1 ≤ grid.nodes) × (grid.nodes ≤ 500000) }
-    requires width { (1 ≤ grid.width) × (grid.width ≤ 500000) }
-    ensures { IfOk result (λ map. map.nodes ≡ grid.nodes) }
-{
-    let arcs = streets(alloc, grid)?;
-    ensure!(arcs.len() <= 2_000_000, "{} arcs are too many", arcs.len());
     Ok(Network::new(grid.nodes, arcs))
 }
 
-/// Arcs between nodes that are drawn.
-fn drawn_arcs(alloc: Global, nodes: u32, count: u32) -> Result<Vec<RoadArc>, AllocError>
-    requires { (1 ≤ nodes) × (nodes ≤ 500000) }
-    ensures streets { IfOk result (λ arcs. AreStreets nodes arcs.items) }
-    ensures count { IfOk result (λ arcs. length arcs.items ≡ count) }
+/// A map of arcs between nodes that are drawn.
+pub(crate) fn drawn(alloc: Global, nodes: u32, count: u32) -> Result<Network, AllocError>
+    requires nodes { (1 ≤ nodes) × (nodes ≤ 500000) }
+    requires count { count ≤ 2000000 }
+    ensures { IfOk result (λ map. map.nodes ≡ nodes) }
 {
     let mut arcs = Vec::new(alloc);
     for place in 0..count {
@@ -92,15 +82,5 @@ fn drawn_arcs(alloc: Global, nodes: u32, count: u32) -> Result<Vec<RoadArc>, All
             seconds: 2 + mix(place, 3) % 59,
         })?;
     }
-    Ok(arcs)
-}
-
-/// A map of arcs that are drawn.
-pub(crate) fn drawn(alloc: Global, nodes: u32, count: u32) -> Result<Network, AllocError>
-    requires nodes { (1 ≤ nodes) × (nodes ≤ 500000) }
-    requires count { count ≤ 2000000 }
-    ensures { IfOk result (λ map. map.nodes ≡ nodes) }
-{
-    let arcs = drawn_arcs(alloc, nodes, count)?;
     Ok(Network::new(nodes, arcs))
 }

@@ -5,15 +5,16 @@ ghost use Rattle.ride_bench.specs.Sources.{AreSources};
 ghost use Rattle.trial_town.specs.Streets.{IsPlace};
 
 use crate::grid::{Grid, drawn, generate};
-use crate::rows::{NEW_YORK, SMALL};
+use crate::rows::{NEW_YORK, SMALL, roads_of};
+use crate::stopwatch::Stopwatch;
 use anyhow::{Result, bail, ensure};
 use contraction::Contraction;
 use ride_model::{Network, NoMemory};
 use road_hierarchy::{Hierarchy, Selected, SweepRoom};
 use road_times::{Roads, Scratch, Side};
 use std::alloc::Global;
+use std::io;
 use std::rt::Clock;
-use std::time::Instant;
 
 /// The largest map, of which each street is there.
 const LATTICE: Grid = Grid {
@@ -73,36 +74,12 @@ fn contracted(alloc: Global, roads: &Roads) -> Result<Contraction, NoMemory>
     Ok(contraction)
 }
 
-/// Says how far a map was contracted since then. Answers the time that it is now.
-fn tell_contracted(
-    rt: &(impl Clock + Print),
-    contraction: &Contraction,
-    start: Instant,
-) -> Result<Instant> {
-    let millis = start.elapsed(rt)?.as_millis();
-    let links = contraction.links();
-    let done = contraction.order().len();
-    println!(rt; "links {links}, nodes contracted {done}, in {millis} ms")?;
-    Ok(Instant::now(rt)?)
-}
-
-/// Says how long the packing took.
-fn tell_packed(rt: &(impl Clock + Print), start: Instant) -> Result<()> {
-    let millis = start.elapsed(rt)?.as_millis();
-    println!(rt; "packed in {millis} ms")?;
-    Ok(())
-}
-
-/// The hierarchy of a map, and how long it took to make. None where nodes are left that do not contract.
-fn make(rt: &(impl Clock + Print), alloc: Global, roads: &Roads) -> Result<Option<Hierarchy>>
+/// The hierarchy of a map. None where nodes are left that do not contract.
+fn made(alloc: Global, roads: &Roads) -> Result<Option<Hierarchy>, NoMemory>
     ensures { IfOk result (λ made. IfSome made (λ hierarchy. hierarchy.nodes ≡ roads.now.nodes)) }
 {
-    let start = Instant::now(rt)?;
     let contraction = contracted(alloc, roads)?;
-    let start = tell_contracted(rt, &contraction, start)?;
-    let made = Hierarchy::new(alloc, contraction)?;
-    tell_packed(rt, start)?;
-    Ok(made)
+    Hierarchy::new(alloc, contraction)
 }
 
 /// Rows from so many nodes, so far apart.
@@ -136,8 +113,8 @@ fn sweep_rows(
     requires sources { AreSources hierarchy.now.nodes sources }
 {
     let places = hierarchy.nodes() as usize + selected.count();
-    let mut room = SweepRoom::new(alloc, places)?;
     let mut row = vec![in alloc; None; many as usize]?;
+    let mut room = SweepRoom::new(alloc, places)?;
     let mut sum = 0u64;
     for turn in 0..sources.count {
         let source = 1 + turn * sources.step;
@@ -157,8 +134,8 @@ fn search_rows(
     requires wanted { All (IsPlace roads.now.nodes) wanted.now }
     requires sources { AreSources roads.now.nodes sources }
 {
-    let mut scratch = Scratch::new(alloc, roads)?;
     let mut row = vec![in alloc; None; wanted.len()]?;
+    let mut scratch = Scratch::new(alloc, roads)?;
     let mut sum = 0u64;
     for turn in 0..sources.count {
         let source = 1 + turn * sources.step;
@@ -168,30 +145,22 @@ fn search_rows(
     Ok(sum)
 }
 
-/// The sum of rows by sweeps and by searches, which must be the same.
-fn compare_rows(
+/// The sum of the rows of these nodes by sweeps of what is selected for the wanted.
+fn sweep_wanted(
     alloc: Global,
-    roads: &Roads,
     hierarchy: &Hierarchy,
-    selected: &Selected,
     wanted: &[u32],
     sources: Sources,
-) -> Result<u64>
-    requires selected { IsSelectionOf hierarchy.now selected.now }
-    requires same { selected.now.wanted ≡ wanted.now }
+) -> Result<u64, NoMemory>
+    requires wanted { All (IsPlace hierarchy.now.nodes) wanted.now }
     requires few { length wanted.now ≤ 500000 }
-    requires wanted { All (IsPlace roads.now.nodes) wanted.now }
-    requires nodes { hierarchy.now.nodes ≡ roads.now.nodes }
-    requires sources { AreSources roads.now.nodes sources }
+    requires sources { AreSources hierarchy.now.nodes sources }
 {
-    let many = wanted.len() as u32;
-    let swept = sweep_rows(alloc, hierarchy, selected, many, sources)?;
-    let searched = search_rows(alloc, roads, wanted, sources)?;
-    ensure!(swept == searched, "sums {swept} and {searched}");
-    Ok(swept)
+    let selected = Selected::of(alloc, hierarchy, Side::Out, wanted)?;
+    sweep_rows(alloc, hierarchy, &selected, wanted.len() as u32, sources)
 }
 
-/// The sum of so many rows, both ways.
+/// The sum of so many rows by sweeps and by searches, which must be the same.
 fn compare(
     alloc: Global,
     roads: &Roads,
@@ -205,50 +174,60 @@ fn compare(
     requires count { (1 ≤ count) × (count ≤ roads.now.nodes) }
 {
     let sources = spread_sources(roads.nodes(), count);
-    let selected = Selected::of(alloc, hierarchy, Side::Out, wanted)?;
-    compare_rows(alloc, roads, hierarchy, &selected, wanted, sources)
+    let swept = sweep_wanted(alloc, hierarchy, wanted, sources)?;
+    let searched = search_rows(alloc, roads, wanted, sources)?;
+    ensure!(swept == searched, "sums {swept} and {searched}");
+    Ok(swept)
 }
 
-/// Times the rows of a batch by sweeps of what was selected since then.
+/// The sum of the rows of a batch by sweeps, of how many selected nodes, and the microseconds of the selecting and of the rows.
+#[derive(Clone, Copy)]
+struct Swept {
+    sum: u64,
+    count: usize,
+    selecting: u128,
+    micros: u128,
+}
+
+/// Times the rows of a batch by sweeps of what was selected since the watch was started.
 fn time_selected(
-    rt: &(impl Clock + Print),
+    rt: &impl Clock,
     alloc: Global,
     hierarchy: &Hierarchy,
     selected: &Selected,
     many: u32,
-    start: Instant,
-) -> Result<()>
+    watch: Stopwatch,
+) -> Result<Swept, NoMemory>
     requires selected { IsSelectionOf hierarchy.now selected.now }
     requires many { length selected.now.wanted ≡ many }
     requires nodes { 512 ≤ hierarchy.now.nodes }
 {
-    let selecting = start.elapsed(rt)?.as_micros();
-    let count = selected.count();
+    let selecting = watch.elapsed(rt).as_micros();
     let sources = spread_sources(hierarchy.nodes(), ROWS);
-    let start = Instant::now(rt)?;
+    let watch = Stopwatch::start(rt);
     let sum = sweep_rows(alloc, hierarchy, selected, many, sources)?;
-    let micros = start.elapsed(rt)?.as_micros();
-    println!(rt;
-        "wanted {many} rows {ROWS} sum {sum}, selected {count} nodes in {selecting} us, rows in {micros} us"
-    )?;
-    Ok(())
+    Ok(Swept {
+        sum,
+        count: selected.count(),
+        selecting,
+        micros: watch.elapsed(rt).as_micros(),
+    })
 }
 
 /// Times the rows of a batch by sweeps.
 fn time_sweeps(
-    rt: &(impl Clock + Print),
+    rt: &impl Clock,
     alloc: Global,
     hierarchy: &Hierarchy,
     wanted: &[u32],
-) -> Result<()>
+) -> Result<Swept, NoMemory>
     requires nodes { 512 ≤ hierarchy.now.nodes }
     requires wanted { All (IsPlace hierarchy.now.nodes) wanted.now }
     requires few { length wanted.now ≤ 500000 }
 {
-    let start = Instant::now(rt)?;
+    let watch = Stopwatch::start(rt);
     let selected = Selected::of(alloc, hierarchy, Side::Out, wanted)?;
-    let many = wanted.len() as u32;
-    time_selected(rt, alloc, hierarchy, &selected, many, start)
+    time_selected(rt, alloc, hierarchy, &selected, wanted.len() as u32, watch)
 }
 
 /// Times some rows of a batch by searches.
@@ -257,17 +236,16 @@ fn time_searches(
     alloc: Global,
     roads: &Roads,
     wanted: &[u32],
-) -> Result<()>
+) -> io::Result<()>
     requires nodes { 512 ≤ roads.now.nodes }
     requires wanted { All (IsPlace roads.now.nodes) wanted.now }
 {
     let many = wanted.len();
     let sources = spread_sources(roads.nodes(), SEARCHED);
-    let start = Instant::now(rt)?;
+    let watch = Stopwatch::start(rt);
     let sum = search_rows(alloc, roads, wanted, sources)?;
-    let micros = start.elapsed(rt)?.as_micros();
-    println!(rt; "wanted {many} rows {SEARCHED} sum {sum} by searches in {micros} us")?;
-    Ok(())
+    let micros = watch.elapsed(rt).as_micros();
+    println!(rt; "wanted {many} rows {SEARCHED} sum {sum} by searches in {micros} us")
 }
 
 /// Times rows to wanted nodes both ways, if there is a hierarchy, and compares some.
@@ -288,7 +266,21 @@ fn time_wanted(
         return Ok(());
     };
     compare(alloc, roads, hierarchy, wanted, SEARCHED)?;
-    time_sweeps(rt, alloc, hierarchy, wanted)
+    let swept = time_sweeps(rt, alloc, hierarchy, wanted)?;
+    Ok(tell_swept(rt, wanted.len(), swept)?)
+}
+
+/// Says what the sweeps found, and how long they took.
+fn tell_swept(rt: &impl Print, many: usize, swept: Swept) -> io::Result<()> {
+    let Swept {
+        sum,
+        count,
+        selecting,
+        micros,
+    } = swept;
+    println!(rt;
+        "wanted {many} rows {ROWS} sum {sum}, selected {count} nodes in {selecting} us, rows in {micros} us"
+    )
 }
 
 /// Times rows to so many nodes.
@@ -307,73 +299,118 @@ fn time_many(
     time_wanted(rt, alloc, roads, hierarchy, &wanted)
 }
 
-/// Times rows to some, to more and to many nodes.
-fn time_all(
+/// Times rows to some, to more and to many nodes, once it is said how long the packing took.
+fn time_packed(
     rt: &(impl Clock + Print),
     alloc: Global,
     roads: &Roads,
     hierarchy: Option<&Hierarchy>,
+    packing: u128,
 ) -> Result<()>
     requires nodes { 17000 ≤ roads.now.nodes }
     requires hierarchy { IfSome hierarchy (λ h. h.now.nodes ≡ roads.now.nodes) }
 {
+    println!(rt; "packed in {packing} ms")?;
     time_many(rt, alloc, roads, hierarchy, 1_000)?;
     time_many(rt, alloc, roads, hierarchy, 9_000)?;
     time_many(rt, alloc, roads, hierarchy, 17_000)
+}
+
+/// Times the packing of what was contracted, and rows both ways.
+fn time_contracted(
+    rt: &(impl Clock + Print),
+    alloc: Global,
+    roads: &Roads,
+    contraction: Contraction,
+) -> Result<()>
+    requires nodes { 17000 ≤ roads.now.nodes }
+    requires contraction { contraction.nodes ≡ roads.now.nodes }
+{
+    let watch = Stopwatch::start(rt);
+    let made = Hierarchy::new(alloc, contraction)?;
+    let packing = watch.elapsed(rt).as_millis();
+    time_packed(rt, alloc, roads, made.as_ref(), packing)
+}
+
+/// Says how far a map was contracted, and how long it took.
+fn tell_contracted(rt: &impl Print, contraction: &Contraction, millis: u128) -> io::Result<()> {
+    let links = contraction.links();
+    let done = contraction.order().len();
+    println!(rt; "links {links}, nodes contracted {done}, in {millis} ms")
 }
 
 /// Times the making of a hierarchy, and rows both ways.
 fn time_roads(rt: &(impl Clock + Print), alloc: Global, roads: &Roads) -> Result<()>
     requires { 17000 ≤ roads.now.nodes }
 {
-    let made = make(rt, alloc, roads)?;
-    time_all(rt, alloc, roads, made.as_ref())
+    let watch = Stopwatch::start(rt);
+    let contraction = contracted(alloc, roads)?;
+    tell_contracted(rt, &contraction, watch.elapsed(rt).as_millis())?;
+    time_contracted(rt, alloc, roads, contraction)
+}
+
+/// The sum of the rows to wanted nodes that are spread over the map, both ways.
+fn sum_spread(alloc: Global, roads: &Roads, hierarchy: &Hierarchy) -> Result<u64>
+    requires some { 10 ≤ roads.now.nodes }
+    requires nodes { hierarchy.now.nodes ≡ roads.now.nodes }
+{
+    let wanted = spread(alloc, roads.nodes(), 10)?;
+    compare(alloc, roads, hierarchy, &wanted, 4)
 }
 
 /// The sum of the rows of a map, both ways, if all of it contracts.
 fn sum_both_ways(alloc: Global, roads: &Roads) -> Result<u64>
     requires { 10 ≤ roads.now.nodes }
 {
-    let wanted = spread(alloc, roads.nodes(), 10)?;
-    let contraction = contracted(alloc, roads)?;
-    let Some(hierarchy) = Hierarchy::new(alloc, contraction)? else {
+    let Some(hierarchy) = made(alloc, roads)? else {
         bail!("nodes are left");
     };
-    compare(alloc, roads, &hierarchy, &wanted, 4)
+    sum_spread(alloc, roads, &hierarchy)
+}
+
+/// The roads of a small map.
+fn small_roads(alloc: Global) -> Result<Roads, NoMemory>
+    ensures { IfOk result (λ roads. 10 ≤ roads.nodes) }
+{
+    let map = generate(alloc, SMALL)?;
+    Roads::new(alloc, &map)
 }
 
 /// Prints the sum of the rows of a small map.
 pub fn small(rt: &impl Print, alloc: Global) -> Result<()> {
-    let map = generate(alloc, SMALL)?;
-    let roads = Roads::new(alloc, &map)?;
-    let sum = sum_both_ways(alloc, &roads)?;
-    println!(rt; "hierarchy wanted 10 rows 4 sum {sum}")?;
-    Ok(())
+    let sum = sum_small(alloc)?;
+    Ok(println!(rt; "hierarchy wanted 10 rows 4 sum {sum}")?)
+}
+
+/// The sum of the rows of a small map, both ways.
+fn sum_small(alloc: Global) -> Result<u64> {
+    let roads = small_roads(alloc)?;
+    sum_both_ways(alloc, &roads)
 }
 
 /// A map by its name.
 fn map_of(alloc: Global, name: &str) -> Result<Network>
     ensures { IfOk result (λ map. 17000 ≤ map.nodes) }
 {
-    match name {
+    let map = match name {
         "new_york" => generate(alloc, NEW_YORK),
         "lattice" => generate(alloc, LATTICE),
-        "random" => Ok(drawn(alloc, RANDOM_NODES, RANDOM_ARCS)?),
+        "random" => drawn(alloc, RANDOM_NODES, RANDOM_ARCS),
         _ => bail!("new_york, lattice or random"),
-    }
+    };
+    Ok(map?)
 }
 
-/// The roads of a map, which is freed.
-fn roads_of(rt: &impl Print, alloc: Global, name: &str) -> Result<Roads>
+/// The roads of a map by its name.
+fn roads_by(rt: &impl Print, alloc: Global, name: &str) -> Result<Roads>
     ensures { IfOk result (λ roads. 17000 ≤ roads.nodes) }
 {
     let map = map_of(alloc, name)?;
-    println!(rt; "nodes {} arcs {}", map.nodes(), map.arcs().len())?;
-    Ok(Roads::new(alloc, &map)?)
+    Ok(roads_of(rt, alloc, &map)?)
 }
 
 /// Times a map by its name.
 pub fn hierarchy(rt: &(impl Clock + Print), alloc: Global, name: &str) -> Result<()> {
-    let roads = roads_of(rt, alloc, name)?;
+    let roads = roads_by(rt, alloc, name)?;
     time_roads(rt, alloc, &roads)
 }

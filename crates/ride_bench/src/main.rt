@@ -13,45 +13,69 @@ mod places;
 mod reading;
 mod rows;
 mod shared;
+mod stopwatch;
 
-use anyhow::{Result, bail};
+use anyhow::{Error, Result, anyhow};
 use std::alloc::Global;
-use std::env;
 use std::rt::{Clock, Env, Files};
 use std::sync::Wait;
 use std::thread::Threads;
+use std::time::Instant;
+use std::{env, io};
 
-/// Prints the answers of small ones.
-fn small<R: Clock + Print + Threads + Wait + Sync>(rt: &R, alloc: Global) -> Result<()> {
-    rows::small(rt, alloc)?;
-    hierarchies::small(rt, alloc)?;
+/// Prints the answers of small pairings, plans, boards and desks.
+fn small_parts<R: Clock + Print + Threads + Wait + Sync>(rt: &R, alloc: Global) -> io::Result<()> {
     assignment::product(rt, alloc)?;
     places::small(rt)?;
     shared::small(rt, alloc)?;
     bookings::small(rt, alloc)
 }
 
-/// Times what a word asks for.
-fn timed<R: Clock + Print + Files + Threads + Wait + Sync + AllocGlobal>(
+/// Prints the answers of small ones.
+fn small<R: Clock + Print + Threads + Wait + Sync>(rt: &R, alloc: Global) -> Result<()> {
+    rows::small(rt, alloc)?;
+    hierarchies::small(rt, alloc)?;
+    Ok(small_parts(rt, alloc)?)
+}
+
+/// The refusal of words that ask for nothing.
+fn refused() -> Error {
+    anyhow!(
+        "bookings, grids, hierarchy and a map, new_york, places, shared, or read_map and a file's name"
+    )
+}
+
+/// Times what a word alone asks for.
+fn timed<R: Clock + Print + Threads + Wait + Sync>(
     rt: &R,
     alloc: Global,
     word: &str,
-    name: Option<String>,
+) -> Result<()> {
+    let done = match word {
+        "bookings" => bookings::bookings(rt, alloc),
+        "grids" => assignment::grids(rt, alloc),
+        "places" => places::places(rt),
+        "shared" => shared::shared(rt, alloc),
+        "new_york" => rows::new_york(rt, alloc),
+        _ => return Err(refused()),
+    };
+    Ok(done?)
+}
+
+/// Times what a word asks for of a name.
+fn timed_by_name<R: Clock + Print + Files + AllocGlobal>(
+    rt: &R,
+    alloc: Global,
+    word: &str,
+    name: String,
 ) -> Result<()>
 where
     R::File: Send,
 {
-    match (word, name) {
-        ("bookings", None) => bookings::bookings(rt, alloc),
-        ("hierarchy", Some(map)) => hierarchies::hierarchy(rt, alloc, map.as_str()),
-        ("grids", None) => assignment::grids(rt, alloc),
-        ("places", None) => places::places(rt),
-        ("shared", None) => shared::shared(rt, alloc),
-        ("new_york", None) => rows::new_york(rt, alloc),
-        ("read_map", Some(name)) => reading::time_map(rt, alloc, name),
-        _ => bail!(
-            "bookings, grids, hierarchy and a map, new_york, places, shared, or read_map and a file's name"
-        ),
+    match word {
+        "hierarchy" => hierarchies::hierarchy(rt, alloc, name.as_str()),
+        "read_map" => reading::time_map(rt, alloc, name),
+        _ => Err(refused()),
     }
 }
 
@@ -62,12 +86,16 @@ fn run<R: Clock + Print + Env + Files + Threads + Wait + Sync + AllocGlobal>(
 where
     R::File: Send,
 {
+    // A clock that cannot be read is told here, before anything is timed.
+    let _now = Instant::now(rt)?;
     let mut words = env::args(rt)?.skip(1);
     let Some(word) = words.next() else {
         return small(rt, alloc);
     };
-    let name = words.next();
-    timed(rt, alloc, word.as_str(), name)
+    match words.next() {
+        None => timed(rt, alloc, word.as_str()),
+        Some(name) => timed_by_name(rt, alloc, word.as_str(), name),
+    }
 }
 
 fn main(rt: HostRuntime) -> Result<()> {

@@ -1,18 +1,18 @@
 //! The cheapest places for one more ride in a plan of 14 stops, on a road of four nodes in a line, a minute between neighbours.
 ghost use Rattle.std.specs.Prelude.{◌≡◌, ◌≤◌, length, false, IsTrue};
 ghost use Rattle.ride_model.specs.Offers.{is_idle};
-ghost use Rattle.plan_trials.specs.LineRoad.{vehicle_with};
-ghost use Rattle.plan_trials.specs.NearInLine.{near_in_line, may_be_asked};
+ghost use Rattle.part_trials.specs.LineRoad.{vehicle_with};
+ghost use Rattle.part_trials.specs.NearInLine.{near_in_line, may_be_asked};
 ghost use Rattle.ride_bench.specs.Places.{settings};
 ghost use Rattle.slack_tables.specs.SlackOf.{slack_of};
 
-use anyhow::Result;
+use crate::stopwatch::Stopwatch;
 use insertion::{Near, best_place};
-use plan_trials::line_road::{self, Car, near};
+use part_trials::plans::line_road::{self, Car, near};
 use ride_model::{Kind, Ride, Settings, Stop, Vehicle};
 use slack_tables::{Slack, best_place_fast};
+use std::io;
 use std::rt::Clock;
-use std::time::Instant;
 
 const SETTINGS: Settings = Settings {
     batch: 32,
@@ -98,36 +98,6 @@ fn vehicle(rides: &[Ride], stops: &[Stop]) -> Vehicle
     line_road::vehicle(car, rides, stops)
 }
 
-/// The sum of the least costs at so many times, by the plain search.
-fn plain_costs(vehicle: &Vehicle, ride: &Ride, near: &Near, turns: u64) -> u64
-    requires asked { IsTrue (may_be_asked vehicle.now ride.now settings) }
-    requires near { near.now ≡ near_in_line vehicle.now ride.now }
-    requires turns { turns ≤ 1000 }
-{
-    let mut sum = 0u64;
-    for now in 0..turns {
-        let offer = best_place(vehicle, ride, now, &SETTINGS, near);
-        sum = sum.wrapping_add(offer.map_or(0, |offer| offer.cost));
-    }
-    sum
-}
-
-/// The same by slack.
-fn fast_costs(vehicle: &Vehicle, slack: &Slack, ride: &Ride, near: &Near, turns: u64) -> u64
-    requires asked { IsTrue (may_be_asked vehicle.now ride.now settings) }
-    requires near { near.now ≡ near_in_line vehicle.now ride.now }
-    requires drives { is_idle vehicle.now ≡ false }
-    requires slack { slack.now ≡ slack_of vehicle.now vehicle.now.ready 30 }
-    requires turns { turns ≤ 1000 }
-{
-    let mut sum = 0u64;
-    for now in 0..turns {
-        let offer = best_place_fast(vehicle, slack, ride, now, &SETTINGS, near);
-        sum = sum.wrapping_add(offer.map_or(0, |offer| offer.cost));
-    }
-    sum
-}
-
 /// What both searches found, and the nanoseconds that they and the tables took.
 #[derive(Clone, Copy)]
 struct Times {
@@ -139,7 +109,7 @@ struct Times {
 }
 
 /// Asks the vehicle with this plan for a ride, so many times by each search.
-fn time(rt: &impl Clock, rides: &[Ride], stops: &[Stop], ride: &Ride, turns: u64) -> Result<Times>
+fn time(rt: &impl Clock, rides: &[Ride], stops: &[Stop], ride: &Ride, turns: u64) -> Times
     requires few_rides { length rides.now ≤ 16 }
     requires few_stops { length stops.now ≤ 16 }
     requires asked { IsTrue (may_be_asked (vehicle_with 1 1000 16 0 rides.now stops.now) ride.now settings) }
@@ -152,50 +122,49 @@ fn time(rt: &impl Clock, rides: &[Ride], stops: &[Stop], ride: &Ride, turns: u64
 }
 
 /// Makes the tables of a vehicle and asks it for a ride.
-fn time_vehicle(
-    rt: &impl Clock,
-    vehicle: &Vehicle,
-    ride: &Ride,
-    near: &Near,
-    turns: u64,
-) -> Result<Times>
+fn time_vehicle(rt: &impl Clock, vehicle: &Vehicle, ride: &Ride, near: &Near, turns: u64) -> Times
     requires asked { IsTrue (may_be_asked vehicle.now ride.now settings) }
     requires near { near.now ≡ near_in_line vehicle.now ride.now }
     requires drives { is_idle vehicle.now ≡ false }
     requires turns { turns ≤ 1000 }
 {
-    let start = Instant::now(rt)?;
+    let watch = Stopwatch::start(rt);
     let slack = tables_of(vehicle, ride);
-    let tables = start.elapsed(rt)?.as_nanos();
-    let (plain_sum, plain) = time_plain(rt, vehicle, ride, near, turns)?;
-    let (fast_sum, fast) = time_fast(rt, vehicle, &slack, ride, near, turns)?;
-    Ok(Times {
+    let tables = watch.elapsed(rt).as_nanos();
+    let (plain_sum, plain) = time_plain(rt, vehicle, ride, near, turns);
+    let (fast_sum, fast) = time_fast(rt, vehicle, &slack, ride, near, turns);
+    Times {
         plain_sum,
         fast_sum,
         plain,
         fast,
         tables,
-    })
+    }
 }
 
-/// The sum of the plain search, and its nanoseconds.
+/// The sum of the least costs at so many times by the plain search, and its nanoseconds.
 fn time_plain(
     rt: &impl Clock,
     vehicle: &Vehicle,
     ride: &Ride,
     near: &Near,
     turns: u64,
-) -> Result<(u64, u128)>
+) -> (u64, u128)
     requires asked { IsTrue (may_be_asked vehicle.now ride.now settings) }
     requires near { near.now ≡ near_in_line vehicle.now ride.now }
     requires turns { turns ≤ 1000 }
 {
-    let start = Instant::now(rt)?;
-    let sum = plain_costs(vehicle, ride, near, turns);
-    Ok((sum, start.elapsed(rt)?.as_nanos()))
+    let watch = Stopwatch::start(rt);
+    let mut sum = 0u64;
+    for now in 0..turns {
+        if let Some(offer) = best_place(vehicle, ride, now, &SETTINGS, near) {
+            sum = sum.wrapping_add(offer.cost);
+        }
+    }
+    (sum, watch.elapsed(rt).as_nanos())
 }
 
-/// The same of the search by slack.
+/// The same by slack.
 fn time_fast(
     rt: &impl Clock,
     vehicle: &Vehicle,
@@ -203,16 +172,21 @@ fn time_fast(
     ride: &Ride,
     near: &Near,
     turns: u64,
-) -> Result<(u64, u128)>
+) -> (u64, u128)
     requires asked { IsTrue (may_be_asked vehicle.now ride.now settings) }
     requires near { near.now ≡ near_in_line vehicle.now ride.now }
     requires drives { is_idle vehicle.now ≡ false }
     requires slack { slack.now ≡ slack_of vehicle.now vehicle.now.ready 30 }
     requires turns { turns ≤ 1000 }
 {
-    let start = Instant::now(rt)?;
-    let sum = fast_costs(vehicle, slack, ride, near, turns);
-    Ok((sum, start.elapsed(rt)?.as_nanos()))
+    let watch = Stopwatch::start(rt);
+    let mut sum = 0u64;
+    for now in 0..turns {
+        if let Some(offer) = best_place_fast(vehicle, slack, ride, now, &SETTINGS, near) {
+            sum = sum.wrapping_add(offer.cost);
+        }
+    }
+    (sum, watch.elapsed(rt).as_nanos())
 }
 
 /// The tables of a vehicle that may be asked for a ride.
@@ -226,24 +200,28 @@ fn tables_of(vehicle: &Vehicle, ride: &Ride) -> Slack
 }
 
 /// Prints the sums of both searches at a few times.
-pub fn small(rt: &(impl Clock + Print)) -> Result<()> {
-    let times = time(rt, &RIDES, &STOPS, &NINE, 4)?;
+pub fn small(rt: &(impl Clock + Print)) -> io::Result<()> {
+    let times = time(rt, &RIDES, &STOPS, &NINE, 4);
     let (plain, fast) = (times.plain_sum, times.fast_sum);
-    println!(rt; "places plain {plain} by slack {fast}")?;
-    Ok(())
+    println!(rt; "places plain {plain} by slack {fast}")
 }
 
-/// Times both searches, the best of twenty turns of 1,000 times each.
-pub fn places(rt: &(impl Clock + Print)) -> Result<()> {
-    let mut best = time(rt, &RIDES, &STOPS, &NINE, 1000)?;
+/// The best of 21 turns of 1,000 times each.
+fn best_times(rt: &impl Clock) -> Times {
+    let mut best = time(rt, &RIDES, &STOPS, &NINE, 1000);
     for _ in 0..20 {
-        let times = time(rt, &RIDES, &STOPS, &NINE, 1000)?;
+        let times = time(rt, &RIDES, &STOPS, &NINE, 1000);
         best.plain = best.plain.min(times.plain);
         best.fast = best.fast.min(times.fast);
         best.tables = best.tables.min(times.tables);
     }
+    best
+}
+
+/// Times both searches.
+pub fn places(rt: &(impl Clock + Print)) -> io::Result<()> {
+    let best = best_times(rt);
     println!(rt; "sums {} and {}", best.plain_sum, best.fast_sum)?;
     let (plain, fast, tables) = (best.plain / 1000, best.fast / 1000, best.tables);
-    println!(rt; "120 place pairs: plain {plain} ns, by slack {fast} ns, tables {tables} ns")?;
-    Ok(())
+    println!(rt; "120 place pairs: plain {plain} ns, by slack {fast} ns, tables {tables} ns")
 }

@@ -1,10 +1,39 @@
 //! The reading of a map.
-use anyhow::{Result, anyhow};
+use crate::stopwatch::Stopwatch;
+use anyhow::{Result, bail};
 use gr_reader::read_map;
 use ride_ports::{FileShelf, Shelf};
 use std::alloc::Global;
 use std::rt::{Clock, Files};
-use std::time::Instant;
+
+/// How many nodes and arcs a map has, and the microseconds that its reading took.
+#[derive(Clone, Copy)]
+struct Size {
+    nodes: u32,
+    arcs: usize,
+    micros: u128,
+}
+
+/// Reads a map file.
+fn read<R: Clock + Files + AllocGlobal>(rt: &R, alloc: Global, name: String) -> Result<Size>
+where
+    R::File: Send,
+{
+    let watch = Stopwatch::start(rt);
+    let mut shelf = FileShelf::new(rt);
+    let Ok(mut source) = shelf.bring(name) else {
+        bail!("no such file");
+    };
+    let map = read_map(alloc, &mut source);
+    let micros = watch.elapsed(rt).as_micros();
+    shelf.give_back(source);
+    let map = map?;
+    Ok(Size {
+        nodes: map.nodes(),
+        arcs: map.arcs().len(),
+        micros,
+    })
+}
 
 /// Times the reading of a map file.
 pub fn time_map<R: Clock + Print + Files + AllocGlobal>(
@@ -15,13 +44,7 @@ pub fn time_map<R: Clock + Print + Files + AllocGlobal>(
 where
     R::File: Send,
 {
-    let start = Instant::now(rt)?;
-    let mut shelf = FileShelf::new(rt);
-    let mut source = shelf.bring(name).map_err(|_| anyhow!("no such file"))?;
-    let map = read_map(alloc, &mut source)?;
-    let micros = start.elapsed(rt)?.as_micros();
-    shelf.give_back(source);
-    println!(rt; "nodes {} arcs {}", map.nodes(), map.arcs().len())?;
-    println!(rt; "{micros} microseconds")?;
-    Ok(())
+    let size = read(rt, alloc, name)?;
+    println!(rt; "nodes {} arcs {}", size.nodes, size.arcs)?;
+    Ok(println!(rt; "{} microseconds", size.micros)?)
 }

@@ -3,11 +3,12 @@ ghost use Rattle.std.specs.Prelude.{◌≡◌, ◌≤◌, ◌<◌, length, All, 
 ghost use Rattle.trial_town.specs.Streets.{IsPlace};
 
 use crate::grid::{Grid, generate};
-use anyhow::Result;
+use crate::stopwatch::Stopwatch;
+use ride_model::Network;
 use road_times::{Roads, Scratch, Side};
 use std::alloc::{AllocError, Global};
+use std::io;
 use std::rt::Clock;
-use std::time::Instant;
 
 /// A map of a few crossings.
 pub(crate) const SMALL: Grid = Grid {
@@ -35,7 +36,7 @@ fn all_nodes(alloc: Global, nodes: u32) -> Result<Vec<u32>, AllocError>
 }
 
 /// Prints how many nodes were reached, and the sum of their times.
-fn print_row(rt: &impl Print, source: u32, row: &[Option<u64>]) -> std::io::Result<()> {
+fn print_row(rt: &impl Print, source: u32, row: &[Option<u64>]) -> io::Result<()> {
     let mut reached = 0u64;
     let mut sum = 0u64;
     for time in row.iter().flatten() {
@@ -53,7 +54,7 @@ fn time_row(
     source: u32,
     wanted: &[u32],
     row: &mut [Option<u64>],
-) -> Result<u128>
+) -> io::Result<u128>
     requires scratch { scratch.old.nodes ≡ roads.now.nodes }
     requires source { IsPlace roads.now.nodes source }
     requires wanted { All (IsPlace roads.now.nodes) wanted.now }
@@ -61,9 +62,9 @@ fn time_row(
     ensures scratch { scratch.new ≡ scratch.old }
     ensures places { length row.new ≡ length row.old }
 {
-    let start = Instant::now(rt)?;
+    let watch = Stopwatch::start(rt);
     roads.rows(scratch, source, Side::Out, wanted, row);
-    let micros = start.elapsed(rt)?.as_micros();
+    let micros = watch.elapsed(rt).as_micros();
     print_row(rt, source, row)?;
     Ok(micros)
 }
@@ -76,7 +77,7 @@ fn time_turns(
     wanted: &[u32],
     row: &mut [Option<u64>],
     turns: u32,
-) -> Result<u128>
+) -> io::Result<u128>
     requires nodes { (1 ≤ roads.now.nodes) × (roads.now.nodes ≤ 500000) }
     requires scratch { scratch.old.nodes ≡ roads.now.nodes }
     requires wanted { All (IsPlace roads.now.nodes) wanted.now }
@@ -93,38 +94,62 @@ fn time_turns(
 }
 
 /// Makes room for rows to all nodes, and fills those of so many.
-fn time_rows(rt: &(impl Clock + Print), alloc: Global, roads: &Roads, turns: u32) -> Result<u128>
+fn time_rows(
+    rt: &(impl Clock + Print),
+    alloc: Global,
+    roads: &Roads,
+    turns: u32,
+) -> io::Result<u128>
     requires nodes { (1 ≤ roads.now.nodes) × (roads.now.nodes ≤ 500000) }
     requires turns { (1 ≤ turns) × (turns ≤ 40) }
 {
-    let mut scratch = Scratch::new(alloc, roads)?;
     let wanted = all_nodes(alloc, roads.nodes())?;
     let mut row = vec![in alloc; None; wanted.len()]?;
+    let mut scratch = Scratch::new(alloc, roads)?;
     time_turns(rt, roads, &mut scratch, &wanted, &mut row, turns)
 }
 
-/// The roads of a generated map, whose size is printed.
-fn roads_of(rt: &impl Print, alloc: Global, grid: Grid) -> Result<Roads>
+/// The roads of a map, whose size is printed.
+pub(crate) fn roads_of(rt: &impl Print, alloc: Global, map: &Network) -> io::Result<Roads>
+    ensures nodes { IfOk result (λ roads. roads.nodes ≡ map.now.nodes) }
+{
+    println!(rt; "nodes {} arcs {}", map.nodes(), map.arcs().len())?;
+    Ok(Roads::new(alloc, map)?)
+}
+
+/// The roads of a generated map.
+fn generated(rt: &impl Print, alloc: Global, grid: Grid) -> io::Result<Roads>
     requires nodes { (1 ≤ grid.nodes) × (grid.nodes ≤ 500000) }
     requires width { (1 ≤ grid.width) × (grid.width ≤ 500000) }
     ensures nodes { IfOk result (λ roads. roads.nodes ≡ grid.nodes) }
 {
     let map = generate(alloc, grid)?;
-    println!(rt; "nodes {} arcs {}", map.nodes(), map.arcs().len())?;
-    Ok(Roads::new(alloc, &map)?)
+    roads_of(rt, alloc, &map)
+}
+
+/// The microseconds of so many rows of a generated map.
+fn time_generated(
+    rt: &(impl Clock + Print),
+    alloc: Global,
+    grid: Grid,
+    turns: u32,
+) -> io::Result<u128>
+    requires nodes { (1 ≤ grid.nodes) × (grid.nodes ≤ 500000) }
+    requires width { (1 ≤ grid.width) × (grid.width ≤ 500000) }
+    requires turns { (1 ≤ turns) × (turns ≤ 40) }
+{
+    let roads = generated(rt, alloc, grid)?;
+    time_rows(rt, alloc, &roads, turns)
 }
 
 /// Prints the rows of a small map.
-pub fn small(rt: &(impl Clock + Print), alloc: Global) -> Result<()> {
-    let roads = roads_of(rt, alloc, SMALL)?;
-    time_rows(rt, alloc, &roads, 4)?;
+pub fn small(rt: &(impl Clock + Print), alloc: Global) -> io::Result<()> {
+    time_generated(rt, alloc, SMALL, 4)?;
     Ok(())
 }
 
 /// Times rows of a map of New York's size.
-pub fn new_york(rt: &(impl Clock + Print), alloc: Global) -> Result<()> {
-    let roads = roads_of(rt, alloc, NEW_YORK)?;
-    let total = time_rows(rt, alloc, &roads, 30)?;
-    println!(rt; "mean of 30 rows: {} microseconds", total / 30)?;
-    Ok(())
+pub fn new_york(rt: &(impl Clock + Print), alloc: Global) -> io::Result<()> {
+    let total = time_generated(rt, alloc, NEW_YORK, 30)?;
+    println!(rt; "mean of 30 rows: {} microseconds", total / 30)
 }

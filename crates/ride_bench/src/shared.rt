@@ -7,22 +7,30 @@ ghost use Rattle.fleet_board.specs.Roles.{MayFeed};
 ghost use Rattle.ride_bench.specs.Shared.{MayBegin, MayLook};
 
 use crate::boards::board;
-use anyhow::Result;
+use crate::stopwatch::Stopwatch;
 use board_core::Board;
 use fleet_board::{ActorPass, PassSet, SharedBoard};
 use ride_model::{Command, Ending, Entry, Event, NoMemory};
 use road_times::Roads;
 use std::alloc::{AllocError, Global};
+use std::io;
 use std::rt::Clock;
 use std::sync::Wait;
 use std::thread::{Threads, join_mut};
-use std::time::Instant;
 
 /// The most entries that the scribe copies at a look.
 const MOST: u32 = 1024;
 
 /// How many commands are timed.
 const COMMANDS: u32 = 1_000_000;
+
+/// Whose calls are timed.
+#[derive(Clone, Copy)]
+enum Load {
+    OneFeed,
+    TwoFeeds,
+    FeedsAndScribe,
+}
 
 /// The passes of two feeds and of the scribe.
 #[derive(Drop)]
@@ -258,14 +266,13 @@ fn share(alloc: Global, roads: &Roads) -> Result<(SharedBoard<'_>, Passes<'_>), 
 }
 
 // Prints how many commands a second were answered.
-fn print_rate(rt: &impl Print, name: &str, micros: u128) -> Result<()> {
+fn print_rate(rt: &impl Print, name: &str, micros: u128) -> io::Result<()> {
     let rate = u128::from(COMMANDS) * 1_000_000 / micros.max(1);
-    println!(rt; "{name}: {rate} commands a second")?;
-    Ok(())
+    println!(rt; "{name}: {rate} commands a second")
 }
 
 // The microseconds of the board's own calls, without a lock.
-fn time_own<R: Clock>(rt: &R, alloc: Global, roads: &Roads) -> Result<u128>
+fn time_own<R: Clock>(rt: &R, alloc: Global, roads: &Roads) -> Result<u128, NoMemory>
     requires { roads.now.nodes ≡ 4 }
 {
     let mut board = board(alloc, roads)?;
@@ -273,80 +280,22 @@ fn time_own<R: Clock>(rt: &R, alloc: Global, roads: &Roads) -> Result<u128>
 }
 
 // The microseconds of a board's own calls.
-fn time_clocks<R: Clock>(rt: &R, board: &mut Board<'_>) -> Result<u128>
+fn time_clocks<R: Clock>(rt: &R, board: &mut Board<'_>) -> Result<u128, NoMemory>
     requires feeds { board.old.feeds ≡ 2 }
     requires history { board.old.history ≡ [] }
 {
-    let start = Instant::now(rt)?;
+    let watch = Stopwatch::start(rt);
     apply_clocks(board, COMMANDS)?;
-    Ok(start.elapsed(rt)?.as_micros())
+    Ok(watch.elapsed(rt).as_micros())
 }
 
-// The microseconds of one pass.
-fn time_one<R: Clock + Wait>(rt: &R, alloc: Global, roads: &Roads) -> Result<u128>
-    requires { roads.now.nodes ≡ 4 }
-{
-    let (board, mut passes) = share(alloc, roads)?;
-    time_feed(rt, &board, &mut passes.first)
-}
-
-// The microseconds of a feed's calls.
-fn time_feed<'r, R: Clock + Wait>(
-    rt: &R,
-    board: &SharedBoard<'r>,
-    feed: &mut ActorPass<'r>,
-) -> Result<u128>
-    requires { MayBegin board.now feed.old }
-{
-    let start = Instant::now(rt)?;
-    run_feed(rt, board, feed, COMMANDS)?;
-    Ok(start.elapsed(rt)?.as_micros())
-}
-
-// The microseconds of two passes.
-fn time_two<R: Clock + Threads + Wait + Sync>(rt: &R, alloc: Global, roads: &Roads) -> Result<u128>
-    requires { roads.now.nodes ≡ 4 }
-{
-    let (board, mut passes) = share(alloc, roads)?;
-    time_feeds(rt, &board, &mut passes)
-}
-
-// The microseconds of the calls of two feeds.
-fn time_feeds<'r, R: Clock + Threads + Wait + Sync>(
-    rt: &R,
-    board: &SharedBoard<'r>,
-    passes: &mut Passes<'r>,
-) -> Result<u128>
-    requires first { MayBegin board.now passes.old.first }
-    requires second { MayBegin board.now passes.old.second }
-{
-    let start = Instant::now(rt)?;
-    both_fed(rt, board, passes, COMMANDS / 2)?;
-    Ok(start.elapsed(rt)?.as_micros())
-}
-
-// Runs two feeds of new passes.
-fn both_fed<'r, R: Threads + Wait + Sync>(
-    rt: &R,
-    board: &SharedBoard<'r>,
-    passes: &mut Passes<'r>,
-    each: u32,
-) -> Result<(), NoMemory>
-    requires first { MayBegin board.now passes.old.first }
-    requires second { MayBegin board.now passes.old.second }
-    requires each { each ≤ 1000000 }
-{
-    let Passes { first, second, .. } = passes;
-    let (first_fed, second_fed) = run_feeds(rt, board, first, second, each);
-    first_fed.and(second_fed)
-}
-
-// Runs two feeds and the scribe of new passes, and answers how many entries the scribe saw.
-fn all_seen<'r, R: Threads + Wait + Sync>(
+// Runs new passes: one feed, two feeds, or two feeds and the scribe. Answers how many entries the scribe saw.
+fn run_passes<'r, R: Threads + Wait + Sync>(
     rt: &R,
     alloc: Global,
     board: &SharedBoard<'r>,
     passes: &mut Passes<'r>,
+    load: Load,
     each: u32,
 ) -> Result<u64, NoMemory>
     requires first { MayBegin board.now passes.old.first }
@@ -359,63 +308,100 @@ fn all_seen<'r, R: Threads + Wait + Sync>(
         second,
         scribe,
     } = passes;
-    let (seen, (first_fed, second_fed)) = run_all(rt, alloc, board, first, second, scribe, each);
+    let (seen, (first_fed, second_fed)) = match load {
+        Load::OneFeed => (Ok(0), (run_feed(rt, board, first, each), Ok(()))),
+        Load::TwoFeeds => (Ok(0), run_feeds(rt, board, first, second, each)),
+        Load::FeedsAndScribe => run_all(rt, alloc, board, first, second, scribe, each),
+    };
     first_fed.and(second_fed).and(seen)
 }
 
-// The microseconds of two passes while the scribe looks.
-fn time_all<R: Clock + Threads + Wait + Sync>(rt: &R, alloc: Global, roads: &Roads) -> Result<u128>
-    requires { roads.now.nodes ≡ 4 }
-{
-    let (board, mut passes) = share(alloc, roads)?;
-    time_passes(rt, alloc, &board, &mut passes)
-}
-
-// The microseconds of the calls of two feeds while the scribe looks.
+// The microseconds that new passes run, and how many entries the scribe saw.
 fn time_passes<'r, R: Clock + Threads + Wait + Sync>(
     rt: &R,
     alloc: Global,
     board: &SharedBoard<'r>,
     passes: &mut Passes<'r>,
-) -> Result<u128>
+    load: Load,
+    each: u32,
+) -> Result<(u128, u64), NoMemory>
     requires first { MayBegin board.now passes.old.first }
     requires second { MayBegin board.now passes.old.second }
     requires scribe { MayLook board.now passes.old.scribe }
+    requires each { each ≤ 1000000 }
 {
-    let start = Instant::now(rt)?;
-    all_seen(rt, alloc, board, passes, COMMANDS / 2)?;
-    Ok(start.elapsed(rt)?.as_micros())
+    let watch = Stopwatch::start(rt);
+    let entries = run_passes(rt, alloc, board, passes, load, each)?;
+    Ok((watch.elapsed(rt).as_micros(), entries))
 }
 
-// How many entries two passes of 1,000 submits and an end each leave.
-fn entries_seen<R: Threads + Wait + Sync>(
+// The same of a new board.
+fn time_load<R: Clock + Threads + Wait + Sync>(
     rt: &R,
     alloc: Global,
     roads: &Roads,
-) -> Result<u64, NoMemory>
-    requires { roads.now.nodes ≡ 4 }
+    load: Load,
+    each: u32,
+) -> Result<(u128, u64), NoMemory>
+    requires roads { roads.now.nodes ≡ 4 }
+    requires each { each ≤ 1000000 }
 {
     let (board, mut passes) = share(alloc, roads)?;
-    all_seen(rt, alloc, &board, &mut passes, 1000)
+    time_passes(rt, alloc, &board, &mut passes, load, each)
+}
+
+// How many entries two passes of 1,000 submits and an end each leave.
+fn entries_seen<R: Clock + Threads + Wait + Sync>(rt: &R, alloc: Global) -> Result<u64, NoMemory> {
+    let roads = trial_town::roads(alloc)?;
+    let (_, entries) = time_load(rt, alloc, &roads, Load::FeedsAndScribe, 1000)?;
+    Ok(entries)
 }
 
 /// Prints how many entries two passes of 1,000 submits and an end each leave.
-pub fn small<R: Print + Threads + Wait + Sync>(rt: &R, alloc: Global) -> Result<()> {
-    let roads = trial_town::roads(alloc)?;
-    let entries = entries_seen(rt, alloc, &roads)?;
-    println!(rt; "shared {entries} entries")?;
-    Ok(())
+pub fn small<R: Clock + Print + Threads + Wait + Sync>(rt: &R, alloc: Global) -> io::Result<()> {
+    let entries = entries_seen(rt, alloc)?;
+    println!(rt; "shared {entries} entries")
+}
+
+// Times passes that give all commands together.
+fn time_rate<R: Clock + Print + Threads + Wait + Sync>(
+    rt: &R,
+    alloc: Global,
+    roads: &Roads,
+    name: &str,
+    load: Load,
+    each: u32,
+) -> io::Result<()>
+    requires roads { roads.now.nodes ≡ 4 }
+    requires each { each ≤ 1000000 }
+{
+    let (micros, _) = time_load(rt, alloc, roads, load, each)?;
+    print_rate(rt, name, micros)
+}
+
+// Times the board's own calls, and those of one pass, of two, and of two beside the scribe.
+fn time_all<R: Clock + Print + Threads + Wait + Sync>(
+    rt: &R,
+    alloc: Global,
+    roads: &Roads,
+) -> io::Result<()>
+    requires { roads.now.nodes ≡ 4 }
+{
+    print_rate(rt, "no lock", time_own(rt, alloc, roads)?)?;
+    time_rate(rt, alloc, roads, "one pass", Load::OneFeed, COMMANDS)?;
+    time_rate(rt, alloc, roads, "two passes", Load::TwoFeeds, COMMANDS / 2)?;
+    time_rate(
+        rt,
+        alloc,
+        roads,
+        "two passes and the scribe",
+        Load::FeedsAndScribe,
+        COMMANDS / 2,
+    )
 }
 
 /// Times the board's own calls, and those of one pass, of two, and of two beside the scribe.
-pub fn shared<R: Clock + Print + Threads + Wait + Sync>(rt: &R, alloc: Global) -> Result<()> {
+pub fn shared<R: Clock + Print + Threads + Wait + Sync>(rt: &R, alloc: Global) -> io::Result<()> {
     let roads = trial_town::roads(alloc)?;
-    print_rate(rt, "no lock", time_own(rt, alloc, &roads)?)?;
-    print_rate(rt, "one pass", time_one(rt, alloc, &roads)?)?;
-    print_rate(rt, "two passes", time_two(rt, alloc, &roads)?)?;
-    print_rate(
-        rt,
-        "two passes and the scribe",
-        time_all(rt, alloc, &roads)?,
-    )
+    time_all(rt, alloc, &roads)
 }

@@ -1,8 +1,8 @@
 use Rattle.std.proofs.Common.{List, sym, ap, subst}
 use Rattle.ride_model.specs.declared.network.RoadArc.{RoadArc}
 use Rattle.trial_town.specs.Streets.{AreStreets}
-use Rattle.ride_bench.proofs.grid.streets.Goals as goal
-use Rattle.ride_bench.proofs.grid.streets.Goals.{then-node-grid-ne0+then-node-grid+in_ok-add_street, else-node-grid-ne0}
+use Rattle.ride_bench.proofs.grid.generate.Goals as goal
+use Rattle.ride_bench.proofs.grid.generate.Goals.{then-node-grid-ne0+then-node-grid+in_ok-add_street, else-node-grid-ne0}
 
 pub add_street-requires-then-node-grid-2-clause-streets :
     goal.add_street-requires-then-node-grid-2-clause-streets
@@ -12,5 +12,5 @@ add_street-requires-then-node-grid-2-clause-streets c =
       | then-node-grid-ne0+then-node-grid+in_ok-add_street w ↦
           subst (λ (arcs : List RoadArc). AreStreets nodes arcs) (sym (ap (λ v. v.items) w.arcs-is)) w.add_street.ensures.streets
       | else-node-grid-ne0 w ↦
-          subst (λ (arcs : List RoadArc). AreStreets nodes arcs) (sym (ap (λ v. v.items) w.arcs-is)) c.loop-place.invariant
+          subst (λ (arcs : List RoadArc). AreStreets nodes arcs) (sym (ap (λ v. v.items) w.arcs-is)) c.loop-place.invariant.fit
     ]

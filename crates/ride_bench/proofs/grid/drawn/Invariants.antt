@@ -1,6 +1,6 @@
 use Rattle.std.proofs.Common.{◌≡◌, length}
 use Rattle.trial_town.specs.Streets.{AreStreets}
-use Rattle.ride_bench.proofs.grid.drawn_arcs.Given as goal
+use Rattle.ride_bench.proofs.grid.drawn.Given as goal
 
 abbrev pub invariant-loop-place : goal.invariant-loop-place
 invariant-loop-place l = record {
