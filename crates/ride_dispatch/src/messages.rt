@@ -2,9 +2,9 @@
 use ride_ports::FileFault;
 use std::io;
 
-const FEED_LIMIT: &str = "67,108,864 bytes or 1,000,000 lines";
+const FEED_LIMIT: &str = " has more than 67,108,864 bytes or 1,000,000 lines";
 
-const FLEET_LIMIT: &str = "1,048,576 bytes";
+const FLEET_LIMIT: &str = " has more than 1,048,576 bytes";
 
 /// What there is to tell of a run.
 #[derive(Clone, Copy, Drop)]
@@ -17,67 +17,94 @@ pub struct Report<'a> {
     pub output_fault: Option<io::Error>,
 }
 
+// What is said of a file, or of one of two.
+struct Said<'a> {
+    name: &'a str,
+    or: &'static str,
+    other: &'a str,
+    what: &'static str,
+}
+
 impl<'a> Report<'a> {
     /// Says why the run was not whole.
     pub fn tell<R: Eprint>(&self, rt: &R) {
         let _ = match self.status {
             0 => Ok(()),
-            1 => eprintln!(rt; "ride_dispatch: memory was wanting"),
             2 => eprintln!(rt; "usage: ride_dispatch {}", usage(first_word(self.words))),
-            3 => eprintln!(rt;
-                "ride_dispatch: {} is no road map; standard output says why",
-                self.name(1)
-            ),
-            4 => eprintln!(rt;
-                "ride_dispatch: {} is no fleet file; standard output says why",
-                self.name(self.asked.len())
-            ),
-            5 => self.tell_file_fault(rt),
-            6 => self.tell_output_fault(rt),
-            7 => eprintln!(rt;
-                "ride_dispatch: {} is wrong at the line that standard output names",
-                self.name(3)
-            ),
-            _ => self.tell_limit(rt),
+            _ => self.tell_fault(rt),
         };
     }
 
-    fn tell_file_fault<R: Eprint>(&self, rt: &R) -> io::Result<()> {
-        match self.file_fault {
-            Some(fault) => {
-                eprintln!(rt;
-                    "ride_dispatch: {} could not be read: {}",
-                    self.name(fault.number),
-                    fault.reason
-                )
-            }
-            None => eprintln!(rt; "ride_dispatch: a file could not be read"),
+    fn tell_fault<R: Eprint>(&self, rt: &R) -> io::Result<()> {
+        let Said {
+            name,
+            or,
+            other,
+            what,
+        } = self.said();
+        match self.cause() {
+            Some(cause) => eprintln!(rt; "ride_dispatch: {name}{or}{other}{what}: {cause}"),
+            None => eprintln!(rt; "ride_dispatch: {name}{or}{other}{what}"),
         }
     }
 
-    fn tell_output_fault<R: Eprint>(&self, rt: &R) -> io::Result<()> {
+    // What is said before the cause.
+    fn said(&self) -> Said<'_> {
+        match self.status {
+            1 => said_of("", "memory was wanting"),
+            3 => said_of(self.name(1), " is no road map; standard output says why"),
+            4 => said_of(
+                self.name(self.asked.len()),
+                " is no fleet file; standard output says why",
+            ),
+            5 => said_of(self.name_of_fault(), " could not be read"),
+            6 => said_of("standard output", self.output_failed()),
+            7 => said_of(
+                self.name(3),
+                " is wrong at the line that standard output names",
+            ),
+            _ => self.limit_passed(),
+        }
+    }
+
+    // The system's reason, where it gave one.
+    fn cause(&self) -> Option<io::Error> {
+        match (self.status, self.file_fault) {
+            (5, Some(fault)) => Some(fault.reason),
+            (6, _) => self.output_fault,
+            _ => None,
+        }
+    }
+
+    fn name_of_fault(&self) -> &str {
+        match self.file_fault {
+            Some(fault) => self.name(fault.number),
+            None => "a file",
+        }
+    }
+
+    fn output_failed(&self) -> &'static str {
         match self.output_fault {
-            Some(reason) => {
-                eprintln!(rt; "ride_dispatch: standard output could not be written: {reason}")
-            }
-            None => eprintln!(rt; "ride_dispatch: standard output takes no more"),
+            Some(_) => " could not be written",
+            None => " takes no more",
         }
     }
 
     // The names are asked for in order, so that their number tells which file passed its limit; both feeds of a session are read at
     // once.
-    fn tell_limit<R: Eprint>(&self, rt: &R) -> io::Result<()> {
+    fn limit_passed(&self) -> Said<'_> {
         let last = self.asked.len();
         let word = first_word(self.words);
         let limit = limit_of(word, last);
         if word == "serve" && last > 3 {
-            return eprintln!(rt;
-                "ride_dispatch: {} or {} has more than {limit}",
-                self.name(3),
-                self.name(4)
-            );
+            return Said {
+                name: self.name(3),
+                or: " or ",
+                other: self.name(4),
+                what: limit,
+            };
         }
-        eprintln!(rt; "ride_dispatch: {} has more than {limit}", self.name(last))
+        said_of(self.name(last), limit)
     }
 
     // A name by its number from 1.
@@ -89,6 +116,16 @@ impl<'a> Report<'a> {
     }
 }
 
+// What is said of one thing.
+fn said_of<'a>(name: &'a str, what: &'static str) -> Said<'a> {
+    Said {
+        name,
+        or: "",
+        other: "",
+        what,
+    }
+}
+
 // The first word, where there is one.
 fn first_word(words: &[String]) -> &str {
     match words.get(0) {
@@ -97,13 +134,13 @@ fn first_word(words: &[String]) -> &str {
     }
 }
 
-// The limit of the last of so many files of a first word.
+// What is said of the last of so many files of a first word, which passed its limit.
 fn limit_of(word: &str, files: usize) -> &'static str {
     match (word, files) {
         ("book", _) => FEED_LIMIT,
-        (_, 1) => "134,217,728 bytes",
+        (_, 1) => " has more than 134,217,728 bytes",
         (_, 2) | ("league", 3) => FLEET_LIMIT,
-        ("audit", _) => "1,073,741,824 bytes or 2,100,000 lines",
+        ("audit", _) => " has more than 1,073,741,824 bytes or 2,100,000 lines",
         _ => FEED_LIMIT,
     }
 }

@@ -16,7 +16,7 @@ use commands::{
 };
 use ride_model::limits::{LONGEST_REACH, MOST_WORKERS};
 use std::alloc::Global;
-use values::{number, read_by, text};
+use values::{number, read_by, text, three_texts};
 
 /// What the words ask for: a run over a map, a fleet file and others, a drill, a run over the feed of bookings of a name, or a league.
 #[derive(Drop)]
@@ -156,9 +156,7 @@ fn league_words(alloc: Global, words: &[String]) -> Result<LeagueNames, WordsErr
     ensures { AreNamesOf (league_wish (map string_bytes words.now)) result }
 {
     let given = read_by(league_command(alloc)?, words)?;
-    let map = text(alloc, &given, "map")?;
-    let first = text(alloc, &given, "fleet")?;
-    let second = text(alloc, &given, "second")?;
+    let (map, first, second) = three_texts(alloc, &given, "map", "fleet", "second")?;
     let feed = text(alloc, &given, "feed")?;
     Ok(LeagueNames {
         map,
@@ -223,9 +221,7 @@ fn replay_words(alloc: Global, words: &[String]) -> Result<Wish, WordsError>
     ensures in_range { IfOk result IsInRange }
 {
     let given = read_by(replay_command(alloc)?, words)?;
-    let map = text(alloc, &given, "map")?;
-    let fleet = text(alloc, &given, "fleet")?;
-    let feed = text(alloc, &given, "feed")?;
+    let (map, fleet, feed) = three_texts(alloc, &given, "map", "fleet", "feed")?;
     Ok(Wish::Replay { map, fleet, feed })
 }
 
@@ -235,9 +231,7 @@ fn audit_words(alloc: Global, words: &[String]) -> Result<Wish, WordsError>
     ensures in_range { IfOk result IsInRange }
 {
     let given = read_by(audit_command(alloc)?, words)?;
-    let map = text(alloc, &given, "map")?;
-    let fleet = text(alloc, &given, "fleet")?;
-    let log = text(alloc, &given, "log")?;
+    let (map, fleet, log) = three_texts(alloc, &given, "map", "fleet", "log")?;
     Ok(Wish::Audit { map, fleet, log })
 }
 
@@ -247,9 +241,7 @@ fn ahead_words(alloc: Global, words: &[String]) -> Result<Wish, WordsError>
     ensures in_range { IfOk result IsInRange }
 {
     let given = read_by(ahead_command(alloc)?, words)?;
-    let map = text(alloc, &given, "map")?;
-    let fleet = text(alloc, &given, "fleet")?;
-    let feed = text(alloc, &given, "feed")?;
+    let (map, fleet, feed) = three_texts(alloc, &given, "map", "fleet", "feed")?;
     let reach = number(&given, "reach", 1, LONGEST_REACH)?;
     Ok(Wish::Ahead {
         map,
@@ -265,9 +257,7 @@ fn serve_words(alloc: Global, words: &[String]) -> Result<Wish, WordsError>
     ensures in_range { IfOk result IsInRange }
 {
     let given = read_by(serve_command(alloc)?, words)?;
-    let map = text(alloc, &given, "map")?;
-    let fleet = text(alloc, &given, "fleet")?;
-    let riders = text(alloc, &given, "riders")?;
+    let (map, fleet, riders) = three_texts(alloc, &given, "map", "fleet", "riders")?;
     let drivers = text(alloc, &given, "drivers")?;
     let workers = number(&given, "workers", 1, MOST_WORKERS)? as u32;
     let desks = number(&given, "desks", 1, 2)? as u8;

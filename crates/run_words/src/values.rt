@@ -1,5 +1,5 @@
 //! The values that words give to options.
-ghost use Rattle.std.specs.Prelude.{◌≡◌, ◌≤◌, ℕ, List, None, Some, true, map, option_and_then, string_bytes, Err, IfOk, MatchResult};
+ghost use Rattle.std.specs.Prelude.{◌≡◌, ◌≤◌, ◌⊎◌, ℕ, List, None, Some, true, map, option_and_then, string_bytes, Err, IfOk, MatchResult};
 ghost use Rattle.clap.specs.Faults.{is_simple_and_free};
 ghost use Rattle.clap.specs.Matches.{first_value, found_of};
 ghost use Rattle.clap.specs.Simple.{app_of};
@@ -40,6 +40,27 @@ pub fn text(alloc: Global, given: &ArgMatches<'_>, option: &str) -> Result<Strin
         Ok(copy) => Ok(copy),
         Err(_) => Err(WordsError::NoMemory),
     }
+}
+
+/// Copies of the values of three options.
+pub fn three_texts(
+    alloc: Global,
+    given: &ArgMatches<'_>,
+    first: &str,
+    second: &str,
+    third: &str,
+) -> Result<(String, String, String), WordsError>
+    ensures { MatchResult result
+        (λ texts. (first_value (found_of given.now) first.now ≡ Some (string_bytes texts.0))
+        × (first_value (found_of given.now) second.now ≡ Some (string_bytes texts.1))
+        × (first_value (found_of given.now) third.now ≡ Some (string_bytes texts.2)))
+        (λ error. error ≡ WordsError.Refused → (first_value (found_of given.now) first.now ≡ None)
+        ⊎ (first_value (found_of given.now) second.now ≡ None) ⊎ (first_value (found_of given.now) third.now ≡ None)) }
+{
+    let one = text(alloc, given, first)?;
+    let two = text(alloc, given, second)?;
+    let three = text(alloc, given, third)?;
+    Ok((one, two, three))
 }
 
 /// The number that an option's value is, where it is one from the least to the most.
