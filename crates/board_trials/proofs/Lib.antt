@@ -1,2 +1,0 @@
-pub mod ThreeVehicles
-pub mod BegunWatches

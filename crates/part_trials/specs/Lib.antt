@@ -1,0 +1,10 @@
+pub mod SmallRequests
+pub mod Hostile
+pub mod SmallPlans
+pub mod OneRide
+pub mod LineRoad
+pub mod NearPlaces
+pub mod NearInLine
+pub mod InTurn
+pub mod OneRequest
+pub mod TwoRequests

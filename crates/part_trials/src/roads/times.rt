@@ -1,0 +1,146 @@
+//! Small maps, searched.
+ghost use Rattle.std.specs.Prelude.{◌≡◌, ℕ, ◌<◌, ◌≤◌, length, All};
+
+use super::maps::{MAPS, NO, SMALL, SMALL_TIMES, all_nodes, expect_line, network};
+use road_times::*;
+use std::alloc::Global;
+use std::process::Abort;
+
+// Compares the times from a node to each with a line of the table.
+fn expect_times(rt: &impl Abort, roads: &Roads, scratch: &mut Scratch, place: u32, table: &[u64])
+    requires scratch { scratch.old.nodes ≡ roads.now.nodes }
+    requires within { place < roads.now.nodes }
+    ensures { scratch.new ≡ scratch.old }
+{
+    let nodes = roads.nodes();
+    let first = (place as usize).wrapping_mul(nodes as usize);
+    for other in 0..nodes {
+        let time = roads.time(scratch, place + 1, other + 1).unwrap_or(NO);
+        let wanted = table.get(first.wrapping_add(other as usize));
+        let is_wanted = Some(time) == wanted.copied();
+        assert!(rt; is_wanted, "from {place} to {other}");
+    }
+}
+
+// Compares the rows of a node with the lines of the table, and with its columns.
+fn expect_rows(
+    rt: &impl Abort,
+    roads: &Roads,
+    scratch: &mut Scratch,
+    place: u32,
+    wanted: &[u32],
+    row: &mut [Option<u64>],
+    table: &[u64],
+)
+    requires scratch { scratch.old.nodes ≡ roads.now.nodes }
+    requires within { place < roads.now.nodes }
+    requires wanted { All (λ node. (1 ≤ node) × (node ≤ roads.now.nodes)) wanted.now }
+    requires places { length row.old ≡ length wanted.now }
+    ensures scratch { scratch.new ≡ scratch.old }
+    ensures places { length row.new ≡ length row.old }
+{
+    // This call tells that the number of a node fits.
+    let _nodes = roads.nodes();
+    roads.rows(scratch, place + 1, Side::Out, wanted, row);
+    expect_line(rt, row, table, Side::Out, place);
+    roads.rows(scratch, place + 1, Side::Back, wanted, row);
+    expect_line(rt, row, table, Side::Back, place);
+}
+
+// Compares all rows and times with the table.
+fn compare(
+    rt: &impl Abort,
+    roads: &Roads,
+    scratch: &mut Scratch,
+    wanted: &[u32],
+    row: &mut [Option<u64>],
+    table: &[u64],
+)
+    requires scratch { scratch.old.nodes ≡ roads.now.nodes }
+    requires wanted { All (λ node. (1 ≤ node) × (node ≤ roads.now.nodes)) wanted.now }
+    requires places { length row.old ≡ length wanted.now }
+{
+    for place in 0..roads.nodes() {
+        expect_rows(rt, roads, scratch, place, wanted, row, table);
+        expect_times(rt, roads, scratch, place, table);
+    }
+}
+
+fn expect_table(rt: &impl Abort, alloc: Global, roads: &Roads, table: &[u64]) {
+    let wanted = all_nodes(rt, alloc, roads.nodes());
+    let mut row = vec![in alloc; None; wanted.len()].expect(rt, "there is memory");
+    let mut scratch = Scratch::new(alloc, roads).expect(rt, "there is memory");
+    compare(rt, roads, &mut scratch, &wanted, &mut row, table);
+}
+
+// The roads of a map of these arcs.
+fn roads_of(rt: &impl Abort, alloc: Global, nodes: u32, arcs: &[(u32, u32, u32)]) -> Roads
+    ensures { result.nodes ≡ nodes }
+{
+    let map = network(rt, alloc, nodes, arcs);
+    Roads::new(alloc, &map).expect(rt, "there is memory")
+}
+
+// Compares the row of node 2 of three, with nodes that are wanted twice.
+fn expect_wanted(
+    rt: &impl Abort,
+    roads: &Roads,
+    scratch: &mut Scratch,
+    side: Side,
+    times: &[Option<u64>; 5],
+)
+    requires scratch { scratch.old.nodes ≡ roads.now.nodes }
+    requires nodes { roads.now.nodes ≡ 3 }
+    ensures { scratch.new ≡ scratch.old }
+{
+    let mut row = [None; 5];
+    roads.rows(scratch, 2, side, &[3, 1, 2, 3, 1], &mut row);
+    assert!(rt; row == *times);
+}
+
+fn expect_absent(rt: &impl Abort, alloc: Global, roads: &Roads)
+    requires { roads.now.nodes ≡ 3 }
+{
+    let mut scratch = Scratch::new(alloc, roads).expect(rt, "there is memory");
+    let out = [Some(60), None, Some(0), Some(60), None];
+    expect_wanted(rt, roads, &mut scratch, Side::Out, &out);
+    let back = [None, Some(60), Some(0), None, Some(60)];
+    expect_wanted(rt, roads, &mut scratch, Side::Back, &back);
+}
+
+// Compares many times of the first map with its table, by one scratch.
+fn expect_many(rt: &impl Abort, roads: &Roads, scratch: &mut Scratch)
+    requires scratch { scratch.old.nodes ≡ roads.now.nodes }
+    requires nodes { roads.now.nodes ≡ 8 }
+{
+    for turn in 0..1_000u32 {
+        let x = turn % 8;
+        let y = turn / 8 % 8;
+        let time = roads.time(scratch, x + 1, y + 1).unwrap_or(NO);
+        assert!(rt; time == SMALL_TIMES[(8 * x + y) as usize], "turn {turn}");
+    }
+}
+
+fn expect_turns(rt: &impl Abort, alloc: Global, roads: &Roads)
+    requires { roads.now.nodes ≡ 8 }
+{
+    assert!(rt; roads.nodes() == 8);
+    let mut scratch = Scratch::new(alloc, roads).expect(rt, "there is memory");
+    expect_many(rt, roads, &mut scratch);
+}
+
+#[test]
+fn rows_and_times_are_the_least_of_small_maps(rt: HostRuntime) {
+    for map in &MAPS {
+        let roads = roads_of(&rt, rt.alloc(), map.nodes, map.arcs);
+        expect_table(&rt, rt.alloc(), &roads, map.times);
+    }
+}
+
+#[test]
+fn a_node_with_no_walk_is_absent_and_a_scratch_serves_a_thousand_searches(rt: HostRuntime) {
+    let roads = roads_of(&rt, rt.alloc(), 3, &[(1, 2, 60), (2, 3, 60)]);
+    expect_absent(&rt, rt.alloc(), &roads);
+    let small = roads_of(&rt, rt.alloc(), 8, &SMALL);
+    expect_turns(&rt, rt.alloc(), &small);
+}

@@ -1,2 +1,0 @@
-pub mod SmallRequests
-pub mod Hostile

@@ -1,0 +1,222 @@
+//! Words that are not in order, files that are missing, faults with the text before them, and files beyond their limits.
+use super::cases::{Case, REPLAYED, expect_all};
+use super::{End, FEED, LINE, LOG, ONE_BY_ONE, PIECES, ROOM, Setup, WORKED, expect};
+use std::process::Abort;
+use std::sync::Wait;
+use std::thread::Threads;
+
+/// A replay of one request, whose files, reads or sink may be other ones.
+const OF_ONE: Case = Case {
+    fleet: text!(ONE_BY_ONE),
+    feed: text!(FEED),
+    ..REPLAYED
+};
+
+static FAULTS: [Case; 13] = [
+    Case {
+        shows: "a file that is missing",
+        words: "replay --map x --fleet f --feed r",
+        status: 5,
+        faults: 1,
+        ..OF_ONE
+    },
+    Case {
+        shows: "a file that is missing",
+        words: "replay --map m --fleet x --feed r",
+        status: 5,
+        faults: 1,
+        ..OF_ONE
+    },
+    Case {
+        shows: "a file that is missing",
+        words: "replay --map m --fleet f --feed x",
+        status: 5,
+        faults: 1,
+        ..OF_ONE
+    },
+    Case {
+        shows: "a faulty line of a map that was read whole comes before a fault",
+        map: text!(
+            "p sp 4 6\n\
+a 1 2 60\n\
+a 2 1 60\n\
+a 2 3 60\n\
+a 3 2 60\n\
+a 3 4 60\n\
+a 4 5 60\n",
+            &[],
+            &[2]
+        ),
+        status: 3,
+        written: "map refused 4 line 7\n",
+        ..OF_ONE
+    },
+    Case {
+        shows: "a faulty line of a map in pieces comes before a fault",
+        map: text!(
+            "p sp 4 6\n\
+a 1 2 60\n\
+a 2 1 60\n\
+a 2 3 60\n\
+a 3 2 60\n\
+a 3 4 60\n\
+a 4 5 60\n",
+            &[7],
+            &[10]
+        ),
+        status: 3,
+        written: "map refused 4 line 7\n",
+        ..OF_ONE
+    },
+    Case {
+        shows: "a feed whose first read fails is cut",
+        feed: text!(FEED, &[24], &[1]),
+        status: 5,
+        faults: 1,
+        written: "log 1 feeds 1 desks 1\n\
+f1 cut\n\
+d1 end\n",
+        ..OF_ONE
+    },
+    Case {
+        shows: "a feed whose second read fails is cut behind its first line",
+        feed: text!(FEED, &[24], &[2]),
+        status: 5,
+        faults: 1,
+        written: "log 1 feeds 1 desks 1\n\
+f1 request 7 2 4 1 600 300 = waiting\n\
+f1 cut\n\
+d1 end\n",
+        ..OF_ONE
+    },
+    Case {
+        shows: "a fault of the sink comes before one of the feed",
+        feed: text!(FEED, &[24], &[2]),
+        room: 10,
+        status: 6,
+        faults: 1,
+        written: "log 1 feed",
+        ..OF_ONE
+    },
+    Case {
+        shows: "a refusal of a map stands where the sink fails at its line",
+        map: text!(""),
+        room: 5,
+        status: 3,
+        written: "map r",
+        ..OF_ONE
+    },
+    Case {
+        shows: "a refusal of a fleet file stands where the sink fails at its line",
+        fleet: text!("vehicles"),
+        room: 5,
+        status: 4,
+        written: "fleet",
+        ..OF_ONE
+    },
+    Case {
+        shows: "a feed of too many lines is cut",
+        feed: text!("<1000001|\n>"),
+        status: 8,
+        written: "log 1 feeds 1 desks 1\n\
+f1 cut\n\
+d1 end\n",
+        ..OF_ONE
+    },
+    Case {
+        shows: "a feed of too many bytes is cut",
+        feed: text!(
+            "<671089|#--------------------------------------------------------------------------------------------------\n>"
+        ),
+        status: 8,
+        written: "log 1 feeds 1 desks 1\n\
+f1 cut\n\
+d1 end\n",
+        ..OF_ONE
+    },
+    Case {
+        shows: "a fleet file of more than a mebibyte",
+        fleet: text!("<1048577|\n>"),
+        status: 8,
+        ..OF_ONE
+    },
+];
+
+/// Words that are not in order.
+static REFUSED: [&str; 21] = [
+    "",
+    "plan",
+    "--help",
+    "replay --help",
+    "replay --version",
+    "replay help",
+    "replay --map m --fleet f",
+    "replay --map m --fleet f --feed",
+    "replay --map m --map m --fleet f --feed r",
+    "replay --map m --fleet f --feed r more",
+    "replay --map m --fleet f --log l",
+    "audit --map m --fleet f --feed r",
+    "serve --map m --fleet f --riders r --drivers d --workers 0 --desks 1",
+    "serve --map m --fleet f --riders r --drivers d --workers 17 --desks 1",
+    "serve --map m --fleet f --riders r --drivers d --workers 1 --desks 0",
+    "serve --map m --fleet f --riders r --drivers d --workers 1 --desks 3",
+    "serve --map m --fleet f --riders r --drivers d --workers one --desks 1",
+    "ahead --map m --fleet f --feed r --reach 0",
+    "ahead --map m --fleet f --feed r --reach 1000001",
+    "ahead --map m --fleet f --feed r --reach x",
+    "ahead --map m --fleet f --feed r",
+];
+
+/// Words that are in order, whatever the order of their options.
+static IN_ORDER: [&str; 4] = [
+    "replay --map m --fleet f --feed r",
+    "replay --feed r --map m --fleet f",
+    "replay --fleet f --feed r --map m",
+    "replay --feed=r --map=m --fleet f",
+];
+
+#[test]
+fn words_are_in_order_or_refused(rt: HostRuntime) {
+    for words in REFUSED.as_slice() {
+        expect_refused(&rt, words);
+    }
+    for words in IN_ORDER.as_slice() {
+        expect_replayed(&rt, words);
+    }
+}
+
+// Asserts that words are refused, by a line of which a sink takes what it has room for.
+fn expect_refused<R: Abort + Threads + Wait + Sync + AllocGlobal>(rt: &R, words: &str) {
+    for (room, written) in [(ROOM, "words refused\n"), (7, "words r")] {
+        let end = End {
+            status: 2,
+            faults: 0,
+            written,
+        };
+        let files = Setup { room, ..WORKED };
+        expect(rt, "words that are not in order", words, files, end);
+    }
+}
+
+// Asserts that words give the worked request's log, whatever the pieces in which the files are read.
+fn expect_replayed<R: Abort + Threads + Wait + Sync + AllocGlobal>(rt: &R, words: &str) {
+    for pieces in PIECES {
+        let files = Setup {
+            map: text!(LINE, pieces, &[]),
+            fleet: text!(ONE_BY_ONE, pieces, &[]),
+            feed: text!(FEED, pieces, &[]),
+            ..WORKED
+        };
+        let end = End {
+            status: 0,
+            faults: 0,
+            written: LOG,
+        };
+        expect(rt, "words that are in order", words, files, end);
+    }
+}
+
+#[test]
+fn faults_have_their_status_and_text(rt: HostRuntime) {
+    expect_all(&rt, FAULTS.as_slice());
+}

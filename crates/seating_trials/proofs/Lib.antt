@@ -1,3 +1,0 @@
-pub mod OneCell
-pub mod TwoRequests
-pub mod InTurn

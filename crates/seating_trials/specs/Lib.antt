@@ -1,3 +1,0 @@
-pub mod InTurn
-pub mod OneRequest
-pub mod TwoRequests
