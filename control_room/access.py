@@ -1,0 +1,13 @@
+"""Where a broker's nodes listen, and by which name they are spoken to."""
+from dataclasses import dataclass
+from typing import Tuple
+
+Address = Tuple[str, int]
+
+
+@dataclass(frozen=True)
+class Access:
+    """Where the broker's nodes listen, and who may speak to them."""
+    nodes: Tuple[Address, ...]
+    user: str
+    password: str

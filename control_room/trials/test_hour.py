@@ -1,0 +1,188 @@
+"""An hour of a drawn city over HTTP, while each part is ended at random moments and started again."""
+import asyncio
+import os
+import random
+import subprocess
+import time
+import unittest
+from pathlib import Path
+from typing import Any, Dict, List
+
+from trial_room import PROGRAM, needs_broker, running
+
+from trip_log import TripLog, read_fleet, read_log
+
+from control_room.broker import Broker
+from control_room.keeper import is_running
+from control_room.link import Link
+from control_room.messages import Gate, is_of_message, read_message
+from control_room.parts import Room
+from control_room.tokens import secret_of
+from control_room.zones import Zone
+
+SEED = int(os.environ.get("CONTROL_ROOM_SEED", "1"))
+RIDERS = int(os.environ.get("CONTROL_ROOM_RIDERS", "200"))
+SPEED = 30
+
+
+class Trouble:
+    """Ends parts at random moments, looks after the room, and keeps what was ended."""
+
+    def __init__(self, room: Room, seed: int):
+        self.room = room
+        self.draw = random.Random(seed)
+        self.ended: List[str] = []
+        self.fault = ""
+
+    async def run(self) -> None:
+        """Goes on until cancelled; a fault that the room cannot mend is kept."""
+        due = time.monotonic() + self.draw.uniform(2, 5)
+        while True:
+            await asyncio.sleep(0.1)
+            self.fault = self.fault or self.room.look_after() or ""
+            if time.monotonic() >= due:
+                due = time.monotonic() + self.draw.uniform(2, 7)
+                name = self.draw.choice(self.room.named("bridge") * 2 + self.room.named("web") * 2 + self.room.named("keeper")
+                                        + [node.name for node in self.room.broker.nodes])
+                self.ended.append(name)
+                self.room.end_by_force(name)
+
+    async def mend(self) -> None:
+        """Looks after the room until all runs."""
+        until = time.monotonic() + 20
+        while time.monotonic() < until:
+            self.room.look_after()
+            await asyncio.sleep(0.2)
+
+
+async def stream_of(broker: Broker, zone: Zone, name: str, count: int) -> List[bytes]:
+    """Returns the first messages of a stream, so many and all that come at once behind them."""
+    link = Link(broker.access(), zone.streams())
+    link.start()
+    bodies: List[bytes] = []
+    reading = link.read(zone.stream(name), "first")
+    try:
+        while True:
+            _offset, body = await asyncio.wait_for(reading.__anext__(), 15.0 if len(bodies) < count else 2.0)
+            bodies.append(body)
+    except asyncio.TimeoutError:
+        return bodies
+    finally:
+        await link.close()
+
+
+def lines_of_messages(zone: Zone, actor: str) -> List[str]:
+    """Returns the commands of a feed's lines that come of messages, `bad` for each bad line."""
+    log, said = TripLog(read_fleet(zone.fleet)), []
+    with open(zone.kept_log) as lines:
+        for line in lines:
+            entry = log.read(line)
+            if entry and entry.actor == actor and is_of_message(entry.kind, entry.numbers):
+                said.append("bad" if entry.kind == "bad" else line.split(" ", 1)[1].split(" = ")[0])
+    return said
+
+
+def confirmed_now(zone: Zone) -> Dict[int, int]:
+    """Returns the vehicle of each request that the kept log confirms at this moment, read by hand."""
+    seats: Dict[int, int] = {}
+    with open(zone.kept_log) as lines:
+        for line in lines:
+            if " commit " in line and line.endswith("\n"):
+                named = {int(part.split(":")[0]): int(part.split(":")[1])
+                         for part in line.split(" seats ")[1].split(" prices")[0].split() if ":" in part}
+                confirmed = [int(word.split(":")[0]) for word in line.split() if word.endswith(":confirmed")]
+                seats.update({request: named[request] for request in confirmed})
+    return seats
+
+
+@needs_broker
+class Hour(unittest.TestCase):
+    """The hour, with everything that is looked at afterwards."""
+
+    def test_each_command_is_played_once_whatever_is_ended(self) -> None:
+        with running("--city", "12", "--vehicles", "24", "--speed", str(SPEED), "--nobody", "--seed", str(SEED)) as (room, zones, server):
+            zone, trouble = zones[0], Trouble(room, SEED)
+            crowd, early = asyncio.run(self.play(room, zone, server, trouble))
+            self.assertEqual(trouble.fault, "")
+            self.assertEqual(early, [], "told as confirmed before the kept log had it")
+            for name, actor in (("riders", "f1"), ("drivers", "f2")):
+                self.check_stream(room, zone, name, actor)
+            self.check_people(zone, crowd)
+            print(f"ended: {', '.join(trouble.ended)}\nriders {crowd.riders}\ndrivers {crowd.drivers}")
+        self.assertFalse(is_running(zone.kept_log))
+
+    async def play(self, room: Room, zone: Zone, server: str, trouble: Trouble) -> Any:
+        """Plays riders and drivers under trouble until all riders are served. Returns the crowd and what was told too early."""
+        import aiohttp
+        from control_room.simulate import Crowd, Simulation
+
+        crowd, early = Crowd(an_hour=RIDERS * 60 // 45, in_all=RIDERS, seed=SEED), []
+
+        def told(one: Dict[str, Any]) -> None:
+            is_new = one["state"] == "confirmed" and one["request"] not in crowd.confirmed
+            if is_new and confirmed_now(zone).get(one["request"]) != one["vehicle"]:
+                early.append(one)
+
+        async with aiohttp.ClientSession(connector=aiohttp.TCPConnector(limit=0)) as http:
+            simulation = Simulation(zone, server, secret_of(room.folder), crowd, http)
+            simulation.listen = told
+            driving, troubling = asyncio.create_task(simulation.drive()), asyncio.create_task(trouble.run())
+            await asyncio.wait_for(simulation.ask(), 900)
+            await asyncio.wait_for(simulation.wait_for_riders(), 900)
+            troubling.cancel()
+            await trouble.mend()
+            simulation.end_drivers()
+            await asyncio.wait_for(driving, 60)
+        return crowd, early
+
+    def check_stream(self, room: Room, zone: Zone, name: str, actor: str) -> None:
+        """Each message of the stream has one line of the feed, in order."""
+        lines = lines_of_messages(zone, actor)
+        bodies = asyncio.run(stream_of(room.broker, zone, name, len(lines)))
+        gate = Gate(zone.clock(), 1)
+        self.assertEqual([gate.line_for(read_message(body)) or "bad" for body in bodies], lines)
+
+    def check_people(self, zone: Zone, crowd: Any) -> None:
+        """What people were told stands on the kept log, once each."""
+        log = read_log(zone.kept_log, read_fleet(zone.fleet))
+        self.assertEqual(sorted(crowd.asked), sorted(log.requests), "each accepted request stands once, and no other")
+        self.assertEqual(crowd.riders.taken + crowd.riders.refused, RIDERS)
+        taken = sum(log.replies[word] for word in ("onmap", "late", "picked", "dropped", "duty"))
+        self.assertEqual(crowd.drivers.taken, taken, "each accepted report stands once, and no other")
+        for request, vehicle in crowd.confirmed.items():
+            self.assertEqual(log.requests[request].vehicle, vehicle)
+        self.assertEqual({number: one.state.value.replace("done", "dropped") for number, one in log.requests.items()}, crowd.closed)
+
+
+@needs_broker
+class LostSession(unittest.TestCase):
+    """A session that breaks off: the room says so and what is lost, and begins no other over its log."""
+
+    def test_a_session_that_breaks_off_is_not_begun_anew(self) -> None:
+        with running("--town", "--speed", "20", "--riders-an-hour", "900", finished=False) as (room, zones, _server):
+            zone, until = zones[0], time.monotonic() + 60
+            while "confirmed" not in Path(zone.kept_log).read_text() and time.monotonic() < until:
+                time.sleep(0.2)
+            keeper = room.parts[f"keeper.{zone.name}"].process
+            assert keeper is not None
+            children = Path(f"/proc/{keeper.pid}/task/{keeper.pid}/children").read_text().split()
+            os.kill(int(children[0]), 9)
+            fault, until = None, time.monotonic() + 20
+            while not fault and time.monotonic() < until:
+                fault = room.look_after()
+                time.sleep(0.2)
+            self.assertIn(f"keeper.{zone.name} ended with status", fault or "")
+            words = ["/usr/bin/python3", "-m", "control_room", "keeper", str(room.folder), zone.name]
+            again = subprocess.run(words, cwd=room.folder.parent,
+                                   env={**os.environ, "PYTHONPATH": str(Path(__file__).resolve().parents[2])},
+                                   capture_output=True, text=True, timeout=30)
+            self.assertEqual(again.returncode, 2)
+            self.assertIn("ride_resume does not exist yet", again.stderr)
+            self.assertEqual(again.stderr.count("\n"), 1)
+            words = [PROGRAM, "audit", "--map", zone.map, "--fleet", zone.fleet, "--log", zone.kept_log]
+            audit = subprocess.run(words, capture_output=True, text=True)
+            self.assertRegex(audit.stdout, "^yes .* finished no\n")
+
+
+if __name__ == "__main__":
+    unittest.main()

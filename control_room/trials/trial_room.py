@@ -1,0 +1,58 @@
+"""What the trials share: where the program is, and a control room that is started, looked after and ended."""
+import os
+import shutil
+import sys
+import tempfile
+import unittest
+from contextlib import contextmanager
+from pathlib import Path
+from typing import Iterator, List, Tuple
+
+sys.path.insert(0, str(Path(__file__).resolve().parents[2]))
+
+from control_room import HERE, supervisor  # noqa: E402
+from control_room.__main__ import parser  # noqa: E402
+from control_room.broker import Broker, is_installed  # noqa: E402
+from control_room.parts import Room  # noqa: E402
+from control_room.zones import Zone  # noqa: E402
+
+PROGRAM = os.environ.get("RIDE_DISPATCH") or str(HERE.parent / "crates/ride_dispatch/out/ride_dispatch")
+PORT = int(os.environ.get("CONTROL_ROOM_PORT", "8190"))
+
+
+def libraries() -> bool:
+    """Returns whether Debian's libraries are there."""
+    try:
+        import aiohttp  # noqa: F401
+        import pika  # noqa: F401
+    except ImportError:
+        return False
+    return True
+
+
+def needs_broker(test: type) -> type:
+    """Skips a trial by name where the broker, its libraries or the program are missing."""
+    found = {"rabbitmq-server": is_installed(), "python3-aiohttp and python3-pika": libraries(),
+             f"the program {PROGRAM}": shutil.which(PROGRAM)}
+    missing = [name for name, there in found.items() if not there]
+    return unittest.skipIf(missing, "missing: " + ", ".join(missing))(test)
+
+
+@contextmanager
+def running(*words: str, finished: bool = True) -> Iterator[Tuple[Room, List[Zone], str]]:
+    """Gives a running control room, its zones and its server; ends all of it, and leaves its folder where something fails.
+
+    The audit of each kept log has to say yes at the end, and finished yes where nothing else is said.
+    """
+    folder = Path(tempfile.mkdtemp(prefix="control_room.trial."))
+    said = parser().parse_args(["run", *words, "--program", PROGRAM, "--folder", str(folder), "--port", str(PORT)])
+    _folder, zones = supervisor.make_room(said)
+    room = Room(folder, Broker(folder / "broker", said.nodes), supervisor.say)
+    try:
+        supervisor.start(said, room, zones)
+        yield room, zones, f"http://{said.host}:{said.port}"
+    finally:
+        audits = supervisor.stop(room, zones)
+    assert len(audits) == len(zones) and all(said.startswith("yes ") for said in audits), audits
+    assert not finished or all(said.endswith(" finished yes") for said in audits), audits
+    shutil.rmtree(folder)
