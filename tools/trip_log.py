@@ -70,7 +70,8 @@ class Stop:
 
 @dataclass
 class Vehicle:
-    """A vehicle with its plan: its rides in order of confirmation, and its stops in the order in which it drives."""
+    """A vehicle with its plan: its rides in order of confirmation, and its stops in the order in which it drives. Its seats and
+    places for wheelchairs are those of the fleet file, and 0 without one."""
     id: int
     at: Optional[int] = None
     ready: int = 0
@@ -78,6 +79,8 @@ class Vehicle:
     version: int = 0
     rides: List[int] = field(default_factory=list)
     stops: List[Stop] = field(default_factory=list)
+    seats: int = 0
+    chairs: int = 0
 
 
 @dataclass(frozen=True)
@@ -159,7 +162,8 @@ def read_fleet(path: str) -> Fleet:
             if fields[0] == "set":
                 fleet.settings[fields[1]] = int(fields[2])
             else:
-                fleet.vehicles.append(Vehicle(id=int(fields[1]), at=int(fields[3]), ready=int(fields[4])))
+                number, seats, node, ready, chairs = (int(text) for text in (fields[1:] + ["0"])[:5])
+                fleet.vehicles.append(Vehicle(id=number, at=node, ready=ready, seats=seats, chairs=chairs))
     return fleet
 
 
