@@ -48,4 +48,24 @@ if [ -w /dev/full ]; then
     output=/dev/full
     says 6 'ride_dispatch: standard output could not be written: No space left on device (os error 28)' replay --map "$map" --fleet "$fleet" --feed "$feed"
 fi
+output=/dev/null
+
+# Where no thread can be started, a session of two feeds says that it is not live, and ends as it would. Root has no such limit.
+open="$scratch/open"
+mkdir "$open"
+cp "$program" "$map" "$fleet" "$feed" "$open"
+chmod -R a+rX "$scratch"
+drop=()
+[ "$(id -u)" = 0 ] && drop=(setpriv --reuid 65534 --regid 65534 --clear-groups)
+if command -v prlimit > /dev/null && command -v setpriv > /dev/null; then
+    said="$("${drop[@]}" prlimit --nproc=1 "$open/ride_dispatch" serve --map "$open/map.gr" --fleet "$open/fleet.txt" \
+        --riders "$open/feed.txt" --drivers /dev/null --workers 2 --desks 2 2>&1 > /dev/null)"
+    status=$?
+    wanted='ride_dispatch: no thread can be started, so that this session is not live: riders are read to their end first'
+    if [ "$status" != 0 ] || [ "$said" != "$wanted" ]; then
+        printf 'a session without threads: status %s, %s\n' "$status" "$said"
+        failed=1
+    fi
+fi
+says 0 '' serve --map "$map" --fleet "$fleet" --riders "$feed" --drivers /dev/null --workers 2 --desks 2
 exit "$failed"

@@ -1,5 +1,6 @@
 //! Feeds with bookings, and the plain feeds that they give.
-ghost use Rattle.std.specs.Prelude.{◌≡◌, ℕ, ◌≤◌, [], true, false, List, Option, IfNone, IfOk, IfSome, IsTrue};
+ghost use Rattle.std.specs.List.{list_any};
+ghost use Rattle.std.specs.Prelude.{◌≡◌, ◌==◌, ℕ, ◌≤◌, [], true, false, List, Option, IfNone, IfOk, IfSome, IsTrue};
 ghost use Rattle.ride_ports.specs.Bytes.{Reads};
 ghost use Rattle.ride_ports.specs.Count.{Rose};
 ghost use Rattle.line_reader.specs.FeedRuns.{HasRun, IsReadWhole, IsUnhindered, is_source_failed};
@@ -133,16 +134,16 @@ fn take_lines<S: Source, K: Sink>(
     }
 }
 
-/// Writes all that is not written yet, where the feed's next line is waited for.
+/// Writes all that is not written yet, where the feed's next line may have to be waited for.
 fn write_before_wait<K: Sink>(reader: &LineReader, desk: &mut FeedDesk, out: &mut K)
-    ensures written { reader.now.pending ≡ [] → desk.new.output.failed ≡ false → desk.new.output.page ≡ [] }
+    ensures written { list_any (λ byte. byte == 10) reader.now.pending ≡ false → desk.new.output.failed ≡ false → desk.new.output.page ≡ [] }
     ensures desk { desk.new.desk ≡ desk.old.desk }
     ensures lines { desk.new.lines ≡ desk.old.lines }
     ensures put { (before : Option (List ℕ)) (faults : ℕ) (text : List ℕ)
         → HasPut before (K.written out.old) faults (K.faults out.old) desk.old.output text
         → HasPut before (K.written out.new) faults (K.faults out.new) desk.new.output text }
 {
-    if reader.is_drained() {
+    if !reader.has_line() {
         desk.end(out);
     }
 }

@@ -1,5 +1,6 @@
 -- What a reader has given of a feed.
-use Rattle.std.specs.Prelude.{◌≡◌, ℕ, ◌+◌, Bool, MatchBool, if◌then◌else◌, List, [], ◌++◌, Option, IfSome}
+use Rattle.std.specs.List.{list_any}
+use Rattle.std.specs.Prelude.{◌≡◌, ◌==◌, ◌&&◌, ℕ, ◌+◌, Bool, false, nat_le, MatchBool, if◌then◌else◌, List, [], ◌∷◌, ◌++◌, Option, IfSome}
 use Rattle.ride_model.specs.declared.command.Command.{Command}
 use Rattle.ride_model.specs.Text.{IsOneOrTwo}
 use Rattle.line_text.specs.Lines.{ended_lines}
@@ -43,3 +44,12 @@ pub record HasGiven (reader : FeedState) (left : Option (List ℕ)) (commands : 
 -- how often lines may be asked for
 abbrev pub lines_ahead : FeedState → ℕ
 lines_ahead reader = if reader.ended then 0 else reader.lines.lines_left + 1
+
+-- whether a text begins with a small letter
+abbrev pub begins_with_letter : List ℕ → Bool
+begins_with_letter [] = false
+begins_with_letter (b ∷ bytes) = nat_le 97 b && nat_le b 122
+
+-- whether a line that says something stands whole at the front of these bytes
+abbrev pub is_ready : List ℕ → Bool
+is_ready bytes = begins_with_letter bytes && list_any (λ b. b == 10) bytes

@@ -7,7 +7,7 @@ ghost use Rattle.ride_ports.specs.Count.{Rose};
 ghost use Rattle.line_reader.specs.Reader.{IsShown};
 ghost use Rattle.command_lines.specs.declared.pieces.FeedStop.TheVariants.{SourceFailed};
 ghost use Rattle.command_lines.specs.Commands.{before, said_by};
-ghost use Rattle.command_lines.specs.Feeds.{HasCut, HasGiven, IsStopped, IsWhole, lines_ahead};
+ghost use Rattle.command_lines.specs.Feeds.{HasCut, HasGiven, IsStopped, IsWhole, begins_with_letter, is_ready, lines_ahead};
 
 use crate::limits::{MOST_BYTES, MOST_LINES};
 use crate::pieces::FeedStop;
@@ -56,11 +56,12 @@ impl FeedReader {
         })
     }
 
-    /// Whether all that was read is cut into lines, so that the next one is waited for.
-    pub fn is_drained(&self) -> bool
-        ensures { MatchBool result (self.now.lines.pending ≡ []) (self.now.lines.pending ≢ []) }
+    /// Whether the next command stands whole in what was read, so that `next_command` waits for nothing. A line that does not begin
+    /// with a letter may say nothing, and is not counted on.
+    pub fn is_ready(&self) -> bool
+        ensures { result ≡ is_ready self.now.lines.pending }
     {
-        self.lines.is_drained()
+        begins_with_letter(self.lines.pending()) && self.lines.has_line()
     }
 
     /// The next command, or None after the last. A bad line is a command too. After an error no more is read.
@@ -135,5 +136,15 @@ impl FeedReader {
             self.lines.number(),
             self.log,
         )
+    }
+}
+
+/// Whether a text begins with a small letter, as each command does.
+fn begins_with_letter(text: &[u8]) -> bool
+    ensures { result ≡ begins_with_letter text.now }
+{
+    match text.first() {
+        Some(first) => b'a' <= *first && *first <= b'z',
+        None => false,
     }
 }

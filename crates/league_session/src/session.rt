@@ -1,5 +1,6 @@
 //! The session of a league.
-ghost use Rattle.std.specs.Prelude.{◌≡◌, ℕ, ◌≤◌, [], true, false, List, Option, All, IfOk, IfSome, IsTrue};
+ghost use Rattle.std.specs.List.{list_any};
+ghost use Rattle.std.specs.Prelude.{◌≡◌, ◌==◌, ℕ, ◌≤◌, [], true, false, List, Option, All, IfOk, IfSome, IsTrue};
 ghost use Rattle.ride_model.specs.declared.vehicle.Vehicle.{Vehicle};
 ghost use Rattle.ride_model.specs.Settings.{IsSettings};
 ghost use Rattle.ride_model.specs.Vehicle.{IsLawful};
@@ -170,15 +171,15 @@ fn take_lines<R: Threads + Sync, S: Source, K: Sink>(
     }
 }
 
-// Writes all that is not written yet, where the feed's next line is waited for.
+// Writes all that is not written yet, where the feed's next line may have to be waited for.
 fn write_before_wait<K: Sink>(reader: &LineReader, scribe: &mut Scribe<'_>, out: &mut K)
-    ensures written { reader.now.pending ≡ [] → scribe.new.output.failed ≡ false → scribe.new.output.page ≡ [] }
+    ensures written { list_any (λ byte. byte == 10) reader.now.pending ≡ false → scribe.new.output.failed ≡ false → scribe.new.output.page ≡ [] }
     ensures put { (before : Option (List ℕ)) (faults : ℕ) (text : List ℕ)
         → HasPut before (K.written out.old) faults (K.faults out.old) scribe.old.output text
         → HasPut before (K.written out.new) faults (K.faults out.new) scribe.new.output text }
     ensures others { scribe.new ≡ record scribe.old { output = scribe.new.output } }
 {
-    if reader.is_drained() {
+    if !reader.has_line() {
         scribe.end(out);
     }
 }

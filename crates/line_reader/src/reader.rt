@@ -1,5 +1,6 @@
 //! The reader of lines.
-ghost use Rattle.std.specs.Prelude.{◌≡◌, ◌≢◌, ℕ, ◌+◌, ◌<◌, ◌++◌, ◌∷◌, ◌≤◌, [], List, Ok, Err, false, length, IfOk, IfSome, MatchBool, MatchResult};
+ghost use Rattle.std.specs.List.{list_any};
+ghost use Rattle.std.specs.Prelude.{◌≡◌, ◌≢◌, ◌==◌, ℕ, ◌+◌, ◌<◌, ◌++◌, ◌∷◌, ◌≤◌, [], List, Ok, Err, false, length, IfOk, IfSome, MatchBool, MatchResult};
 ghost use Rattle.ride_ports.specs.Bytes.{Reads};
 ghost use Rattle.ride_ports.specs.Count.{Rose};
 ghost use Rattle.line_text.specs.Cutter.{Continues, EndsLine};
@@ -74,8 +75,22 @@ impl LineReader {
         self.cutter.number()
     }
 
-    /// Whether all that was read is cut into lines, so that the next one is waited for.
-    pub fn is_drained(&self) -> bool
+    /// What was read and is not cut into lines yet.
+    pub fn pending(&self) -> &[u8]
+        ensures { result.now ≡ self.now.pending }
+    {
+        self.piece.bytes()
+    }
+
+    /// Whether a line stands whole in what was read, so that `next` waits for nothing.
+    pub fn has_line(&self) -> bool
+        ensures { result ≡ list_any (λ byte. byte == 10) self.now.pending }
+    {
+        self.pending().contains(&b'\n')
+    }
+
+    /// Whether all that was read is cut into lines.
+    fn is_drained(&self) -> bool
         ensures { MatchBool result (self.now.pending ≡ []) (self.now.pending ≢ []) }
     {
         self.piece.bytes().is_empty()

@@ -89,6 +89,12 @@ length-put cells row start k w rows row_is k_is fits whole =
 pub mul-add-le : (i w rows : ℕ) → i < rows → i * w + w ≤ rows * w
 mul-add-le i w rows low = omega (arith, mul-le (i + 1) w rows w (omega (arith, low)) (omega arith))
 
+-- the cells of the rows behind the first
+pub back-cells : (all front back w cells mid len : ℕ) → cells ≡ all * w → mid ≡ front * w → all ≡ front + back → len ≡ cells - mid → len ≡ back * w
+back-cells all front back w cells mid len cells_are mid_is parts len_is =
+    let sum : all * w ≡ front * w + back * w = rw parts (grind arith) in
+    omega (arith, cells_are, mid_is, len_is, sum)
+
 -- the parts of a split list
 pub parts-whole : (front back requests : List Ride) (n : ℕ) → front ≡ take n requests → back ≡ drop n requests → front ++ back ≡ requests
 parts-whole front back requests n front_is back_is =

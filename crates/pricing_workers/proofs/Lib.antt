@@ -6,4 +6,6 @@ pub mod PairFacts
 pub mod SameItems
 pub mod SeatOffers
 pub mod SmallCosts
-pub mod WorkerTimes
+pub mod Added
+pub mod HeldTimes
+pub mod PairNumbers

@@ -12,7 +12,7 @@ use Rattle.ride_model.specs.declared.vehicle.Vehicle.{Vehicle}
 use Rattle.ride_model.specs.Road.{RoadMap, travel}
 use Rattle.insertion.specs.Asked.{near_stop}
 use Rattle.pricing_workers.specs.declared.times.Times.{Times}
-use Rattle.pricing_workers.specs.Rows.{HasRoom, HoldsRows, HoldsAt, IsWide, near_at, near_node}
+use Rattle.pricing_workers.specs.Rows.{HasRows, HoldsRows, HoldsAt, IsWide, near_at, near_node}
 use Rattle.pricing_workers.specs.Wanted.{nodes_of, all_nodes}
 
 -- a row's time at a place is that of the node there
@@ -54,14 +54,12 @@ rows-wide roads ride nodes times most h fit = record {
 }
 
 -- rows that are filled have just the room that they had
-pub rows-room : (roads : RoadMap) (ride : Ride) (nodes : List ℕ) (times : Times) (places : ℕ) → HoldsRows roads ride nodes times
-    → places ≤ times.room.places → HasRoom (length nodes) places times
-rows-room roads ride nodes times places h fit = record {
+pub rows-room : (roads : RoadMap) (ride : Ride) (nodes : List ℕ) (times : Times) → HoldsRows roads ride nodes times → HasRows (length nodes) times
+rows-room roads ride nodes times h = record {
   to_from = ap length h.to_from ∙ length-map nodes (λ node. travel roads node ride.from);
   from_here = ap length h.from_here ∙ length-map nodes (λ node. travel roads ride.from node);
   to_to = ap length h.to_to ∙ length-map nodes (λ node. travel roads node ride.to);
   to_here = ap length h.to_here ∙ length-map nodes (λ node. travel roads ride.to node);
-  places_fit = fit;
 }
 
 -- the node of a vehicle of this number

@@ -25,3 +25,9 @@ pub record AreRowsOf (roads : RoadMap) (batch : BatchCopy) (rides : List Ride) (
   pub cells_are : (r c : ℕ) (ride : Ride) (v : Vehicle) → r < length rides → c < length batch.vehicles
       → IsCellOf roads batch (slice_index_or rides r ride) (slice_index_or batch.vehicles c v)
       (slice_index_or cells (r * length batch.vehicles + c) None)
+
+-- the cells of pairs from the first on, where those of a ride stand before those of the next
+pub record ArePairsOf (roads : RoadMap) (batch : BatchCopy) (rides : List Ride) (first : ℕ) (cells : List (Option Offer)) : Type 0 where
+  pub cells_are : (k r c : ℕ) (ride : Ride) (v : Vehicle) → k < length cells → c < length batch.vehicles
+      → r * length batch.vehicles + c ≡ first + k
+      → IsCellOf roads batch (slice_index_or rides r ride) (slice_index_or batch.vehicles c v) (slice_index_or cells k None)

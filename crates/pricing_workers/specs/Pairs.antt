@@ -1,5 +1,5 @@
 -- What a pair can be priced by.
-use Rattle.std.specs.Prelude.{◌≡◌, ◌≤◌, All, None}
+use Rattle.std.specs.Prelude.{◌≡◌, ◌≤◌, List, All, None}
 use Rattle.ride_model.specs.declared.vehicle.Ride.{Ride}
 use Rattle.ride_model.specs.declared.vehicle.Vehicle.{Vehicle}
 use Rattle.ride_model.specs.Road.{RoadMap, IsRoadMap}
@@ -9,7 +9,7 @@ use Rattle.ride_model.specs.Vehicle.{IsRide, IsFresh, IsLawful}
 use Rattle.ride_model.specs.Limits.{latest_time}
 use Rattle.pricing_workers.specs.declared.times.Times.{Times}
 use Rattle.pricing_workers.specs.declared.wanted.Wanted.{Wanted}
-use Rattle.pricing_workers.specs.Rows.{HoldsRows}
+use Rattle.pricing_workers.specs.Rows.{HoldsRows, HoldTimes}
 use Rattle.pricing_workers.specs.Wanted.{IsWanted}
 
 -- a ride that fits the map, waits, and is in no vehicle of the batch
@@ -31,3 +31,9 @@ pub record MayPrice (roads : RoadMap) (batch : BatchCopy) (wanted : Wanted) (tim
   pub may_fill : MayFill roads batch wanted
   pub request : IsRequest roads batch ride
   pub rows : HoldsRows roads ride wanted.nodes.items times
+
+-- and requests of it with the times of each
+pub record MayPriceAll (roads : RoadMap) (batch : BatchCopy) (wanted : Wanted) (rides : List Ride) (times : List Times) : Type 0 where
+  pub may_fill : MayFill roads batch wanted
+  pub requests : All (IsRequest roads batch) rides
+  pub rows : HoldTimes roads rides wanted.nodes.items times

@@ -1,5 +1,5 @@
 -- A request's rows of times.
-use Rattle.std.specs.Prelude.{◌≡◌, ℕ, ◌+◌, ◌≤◌, List, length, map, slice_index_or, None}
+use Rattle.std.specs.Prelude.{◌≡◌, ℕ, ◌+◌, ◌<◌, ◌≤◌, List, length, map, slice_index_or, None}
 use Rattle.std.specs.List.{range_with_len}
 use Rattle.ride_model.specs.declared.vehicle.Ride.{Ride}
 use Rattle.ride_model.specs.declared.vehicle.Vehicle.{Vehicle}
@@ -8,13 +8,12 @@ use Rattle.insertion.specs.declared.near.NearStop.{NearStop}
 use Rattle.insertion.specs.Asked.{near_stop}
 use Rattle.pricing_workers.specs.declared.times.Times.{Times}
 
--- each row has room for just so many nodes, and there is room for sweeps of so many places
-pub record HasRoom (nodes places : ℕ) (times : Times) : Type 0 where
+-- each row has room for just so many nodes
+pub record HasRows (nodes : ℕ) (times : Times) : Type 0 where
   pub to_from : length times.to_from.items ≡ nodes
   pub from_here : length times.from_here.items ≡ nodes
   pub to_to : length times.to_to.items ≡ nodes
   pub to_here : length times.to_here.items ≡ nodes
-  pub places_fit : places ≤ times.room.places
 
 -- each row has at least so many nodes
 pub record IsWide (nodes : ℕ) (times : Times) : Type 0 where
@@ -30,6 +29,12 @@ pub record HoldsRows (roads : RoadMap) (ride : Ride) (wanted : List ℕ) (times 
   pub to_to : times.to_to.items ≡ map (λ node. travel roads node ride.to) wanted
   pub to_here : times.to_here.items ≡ map (λ node. travel roads ride.to node) wanted
   pub direct : times.direct ≡ travel roads ride.from ride.to
+
+-- for each of these rides, in order, one of the times holds its rows
+pub record HoldTimes (roads : RoadMap) (rides : List Ride) (wanted : List ℕ) (times : List Times) : Type 0 where
+  pub count : length times ≡ length rides
+  pub rows : (r : ℕ) (ride : Ride) (own : Times) → r < length rides
+      → HoldsRows roads (slice_index_or rides r ride) wanted (slice_index_or times r own)
 
 -- the times in the rows at a place
 abbrev pub near_at : Times → ℕ → NearStop

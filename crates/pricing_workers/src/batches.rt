@@ -1,34 +1,26 @@
 //! The table of a batch.
-ghost use Rattle.std.specs.Prelude.{◌≡◌, ◌+◌, ◌*◌, ◌≤◌, length, map, take, All, IfOk};
+ghost use Rattle.std.specs.Prelude.{◌≡◌, ◌≤◌, length, All, IfOk};
 ghost use Rattle.std.specs.Result.{OnOk};
-ghost use Rattle.ride_model.specs.declared.vehicle.Ride.{Ride};
 ghost use Rattle.ride_model.specs.Road.{IsNode};
 ghost use Rattle.ride_model.specs.Seating.{IsBatchOver};
 ghost use Rattle.ride_model.specs.Vehicle.{IsLawful};
-ghost use Rattle.ride_model.specs.Limits.{largest_batch, latest_time};
+ghost use Rattle.ride_model.specs.Limits.{latest_time};
 ghost use Rattle.batch_commit.specs.Table.{IsTableOf};
-ghost use Rattle.pricing_workers.specs.Cells.{AreRowsOf};
-ghost use Rattle.pricing_workers.specs.Pairs.{IsRequest, MayFill};
-ghost use Rattle.pricing_workers.specs.Rows.{HasRoom};
+ghost use Rattle.pricing_workers.specs.Pairs.{MayFill};
 
+use crate::cells::{Job, fill_cells};
 use crate::pairs::Search;
-use crate::pieces::{Job, fill_rows};
-use crate::pricer::{Kept, Pricer};
-use crate::times::Times;
+use crate::pricer::{Kept, Pricer, Room};
 use crate::wanted::Wanted;
 use adaptive_roads::{AdaptiveRoads, BatchRoads, Searched};
 use batch_commit::{Batch, PriceTable};
-use ride_model::{Offer, Ride};
 use ride_ports::{Gate, NoMemory};
 use road_times::{Roads, Scratch};
 use std::alloc::Global;
 use std::thread::{Threads, join_mut};
 
-// Memory: a worker keeps the times of one request only, which take 64 bytes for each wanted node. A batch of 1,000 vehicles of 16
-// stops wants 17,000 nodes, which makes a megabyte a worker; the rows of all of 128 requests at once would take 139.
-
 /// The least offer of each vehicle of a batch to each of its requests: rows of times from the road, by as many workers as there
-/// are scratches and requests. A worker passes the gate at place 7 before the rows of each request.
+/// are scratches and requests, and pairs in parallel. A worker passes the gate at place 7 before the rows of each request.
 pub fn price_batch<R: Threads + Sync, G: Gate>(
     rt: &R,
     alloc: Global,
@@ -76,7 +68,7 @@ pub fn price_batch_by<R: Threads + Sync, G: Gate>(
         batch,
         wanted,
     };
-    let (table, _searched) = table_of(rt, alloc, &job, &mut kept.times, scratches, gate)?;
+    let (table, _searched) = table_of(rt, alloc, &job, &mut kept.room, scratches, gate)?;
     Ok(table)
 }
 
@@ -141,7 +133,7 @@ fn table_beside<R: Threads + Sync, G: Gate>(
         batch,
         wanted,
     };
-    make_beside(rt, alloc, &job, adaptive, &mut kept.times, scratches, gate)
+    make_beside(rt, alloc, &job, adaptive, &mut kept.room, scratches, gate)
 }
 
 // The table of a batch, while a piece of what sweeps need is made.
@@ -150,7 +142,7 @@ fn make_beside<R: Threads + Sync, G: Gate>(
     alloc: Global,
     job: &Job,
     adaptive: &mut AdaptiveRoads,
-    times: &mut Vec<Times>,
+    room: &mut Room,
     scratches: &mut [Scratch],
     gate: &G,
 ) -> Result<(PriceTable, Searched), NoMemory>
@@ -176,7 +168,7 @@ fn make_beside<R: Threads + Sync, G: Gate>(
                 × All (λ scratch. scratch.nodes ≡ job.now.roads.now.roads.nodes) scratches.now }
             ensures { IfOk result (λ pair. IsTableOf job.entry.now.roads.now.roads job.entry.now.batch.now pair.0)
                 × (scratches.exit.now ≡ scratches.entry.now) }
-        { table_of(rt, alloc, job, times, scratches, gate) },
+        { table_of(rt, alloc, job, room, scratches, gate) },
     );
     made
 }
@@ -212,7 +204,7 @@ fn table_either_way<R: Threads + Sync, G: Gate>(
         batch,
         wanted,
     };
-    table_of(rt, alloc, &job, &mut kept.times, scratches, gate)
+    table_of(rt, alloc, &job, &mut kept.room, scratches, gate)
 }
 
 // Makes it what is wanted for a batch, of a map that is within its limits, as all roads are.
@@ -234,7 +226,7 @@ fn table_of<R: Threads + Sync, G: Gate>(
     rt: &R,
     alloc: Global,
     job: &Job,
-    times: &mut Vec<Times>,
+    room: &mut Room,
     scratches: &mut [Scratch],
     gate: &G,
 ) -> Result<(PriceTable, Searched), NoMemory>
@@ -249,161 +241,7 @@ fn table_of<R: Threads + Sync, G: Gate>(
     let rows = job.batch.requests().len();
     let columns = job.batch.vehicles().vehicles().len();
     let mut cells = vec![in alloc; None; rows * columns]?;
-    let searched = fill_cells(rt, alloc, job, times, scratches, gate, cells.as_mut_slice())?;
+    let searched = fill_cells(rt, alloc, job, room, scratches, gate, cells.as_mut_slice())?;
     let table = PriceTable::of(rows as u32, columns as u32, cells);
     Ok((table, searched))
-}
-
-// Fills the cells of all requests. Answers what searches settled.
-fn fill_cells<R: Threads + Sync, G: Gate>(
-    rt: &R,
-    alloc: Global,
-    job: &Job,
-    times: &mut Vec<Times>,
-    scratches: &mut [Scratch],
-    gate: &G,
-    cells: &mut [Option<Offer>],
-) -> Result<Searched, NoMemory>
-    requires ready { MayFill job.now.roads.now.roads job.now.batch.now job.now.wanted.now }
-    requires few { length job.now.batch.now.requests ≤ largest_batch }
-    requires requests { All (IsRequest job.now.roads.now.roads job.now.batch.now) job.now.batch.now.requests }
-    requires wanted { job.now.roads.now.wanted ≡ job.now.wanted.now.nodes.items }
-    requires some_scratch { 1 ≤ length scratches.old }
-    requires scratches { All (λ scratch. scratch.nodes ≡ job.now.roads.now.roads.nodes) scratches.old }
-    requires cells { length cells.old ≡ length job.now.batch.now.requests * length job.now.batch.now.vehicles }
-    ensures cells { OnOk result (AreRowsOf job.now.roads.now.roads job.now.batch.now job.now.batch.now.requests cells.new) }
-    ensures scratches { scratches.new ≡ scratches.old }
-{
-    let requests = job.batch.requests();
-    let workers = requests.len().min(scratches.len()).max(1);
-    let places = job.roads.places();
-    renew_times(alloc, times, workers, job.wanted.nodes.len(), places)?;
-    let times = &mut times.as_mut_slice()[..workers];
-    fill_pieces(rt, job, requests, scratches, times, gate, cells);
-    Ok(searched_by(times))
-}
-
-// How many nodes the workers' searches settled.
-fn searched_by(times: &[Times]) -> Searched {
-    let mut searched = Searched::default();
-    for worker in times {
-        let settled = worker.room.settled();
-        searched.together = searched.together.saturating_add(settled);
-        searched.most = searched.most.max(settled);
-    }
-    searched
-}
-
-// Makes the times of so many workers ready for a batch: each has room for just so many nodes, and for sweeps of so many places. Those
-// of more workers stay as they are.
-fn renew_times(
-    alloc: Global,
-    times: &mut Vec<Times>,
-    workers: usize,
-    nodes: usize,
-    places: usize,
-) -> Result<(), NoMemory>
-    ensures count { OnOk result (workers ≤ length times.new.items) }
-    ensures room { OnOk result (All (HasRoom nodes places) (take workers times.new.items)) }
-{
-    for worker in 0..workers {
-        renew_times_at(alloc, times, worker, nodes, places)?;
-    }
-    Ok(())
-}
-
-// Makes the times of the next worker ready.
-fn renew_times_at(
-    alloc: Global,
-    times: &mut Vec<Times>,
-    worker: usize,
-    nodes: usize,
-    places: usize,
-) -> Result<(), NoMemory>
-    requires count { worker ≤ length times.old.items }
-    requires room { All (HasRoom nodes places) (take worker times.old.items) }
-    ensures count { OnOk result (worker + 1 ≤ length times.new.items) }
-    ensures room { OnOk result (All (HasRoom nodes places) (take (worker + 1) times.new.items)) }
-{
-    if worker < times.len() {
-        times[worker].renew(alloc, nodes, places)?;
-        return Ok(());
-    }
-    times.push(Times::new(alloc, nodes, places)?)?;
-    Ok(())
-}
-
-// Fills the cells of requests with as many workers as there are times: the first half of the workers fills its part of the
-// requests beside the rest.
-fn fill_pieces<R: Threads + Sync, G: Gate>(
-    rt: &R,
-    job: &Job,
-    requests: &[Ride],
-    scratches: &mut [Scratch],
-    times: &mut [Times],
-    gate: &G,
-    cells: &mut [Option<Offer>],
-)
-    requires ready { MayFill job.now.roads.now.roads job.now.batch.now job.now.wanted.now }
-    requires few { length requests.now ≤ largest_batch }
-    requires requests { All (IsRequest job.now.roads.now.roads job.now.batch.now) requests.now }
-    requires workers { (1 ≤ length times.old) × (length times.old ≤ largest_batch) }
-    requires own_scratches { length times.old ≤ length scratches.old }
-    requires scratches { All (λ scratch. scratch.nodes ≡ job.now.roads.now.roads.nodes) scratches.old }
-    requires wanted { job.now.roads.now.wanted ≡ job.now.wanted.now.nodes.items }
-    requires room { All (HasRoom (length job.now.wanted.now.nodes.items) job.now.roads.now.places) times.old }
-    requires cells { length cells.old ≡ length requests.now * length job.now.batch.now.vehicles }
-    ensures cells { AreRowsOf job.now.roads.now.roads job.now.batch.now requests.now cells.new }
-    ensures scratches { scratches.new ≡ scratches.old }
-{
-    let workers = times.len();
-    if workers < 2 {
-        fill_rows(job, requests, &mut scratches[0], &mut times[0], gate, cells);
-        return;
-    }
-    let half = workers / 2;
-    let columns = job.batch.vehicles().vehicles().len();
-    let (front, back) = requests.split_at(requests.len() * half / workers);
-    let (front_scratches, back_scratches) = scratches.split_at_mut(half);
-    let (front_times, back_times) = times.split_at_mut(half);
-    let (front_cells, back_cells) = cells.split_at_mut(front.len() * columns);
-    join_mut(
-        rt,
-        &mut ||
-            requires { MayFill job.now.roads.now.roads job.now.batch.now job.now.wanted.now
-                × (length front.now ≤ largest_batch)
-                × All (IsRequest job.now.roads.now.roads job.now.batch.now) front.now
-                × ((1 ≤ length front_times.now) × (length front_times.now ≤ largest_batch))
-                × (length front_times.now ≤ length front_scratches.now)
-                × All (λ scratch. scratch.nodes ≡ job.now.roads.now.roads.nodes) front_scratches.now
-                × (job.now.roads.now.wanted ≡ job.now.wanted.now.nodes.items)
-                × All (HasRoom (length job.now.wanted.now.nodes.items) job.now.roads.now.places) front_times.now
-                × (length front_cells.now ≡ length front.now * length job.now.batch.now.vehicles) }
-            ensures { AreRowsOf job.entry.now.roads.now.roads job.entry.now.batch.now front.entry.now front_cells.exit.now
-                × (front_scratches.exit.now ≡ front_scratches.entry.now) }
-        {
-            fill_pieces(
-                rt,
-                job,
-                front,
-                front_scratches,
-                front_times,
-                gate,
-                front_cells,
-            )
-        },
-        &mut ||
-            requires { MayFill job.now.roads.now.roads job.now.batch.now job.now.wanted.now
-                × (length back.now ≤ largest_batch)
-                × All (IsRequest job.now.roads.now.roads job.now.batch.now) back.now
-                × ((1 ≤ length back_times.now) × (length back_times.now ≤ largest_batch))
-                × (length back_times.now ≤ length back_scratches.now)
-                × All (λ scratch. scratch.nodes ≡ job.now.roads.now.roads.nodes) back_scratches.now
-                × (job.now.roads.now.wanted ≡ job.now.wanted.now.nodes.items)
-                × All (HasRoom (length job.now.wanted.now.nodes.items) job.now.roads.now.places) back_times.now
-                × (length back_cells.now ≡ length back.now * length job.now.batch.now.vehicles) }
-            ensures { AreRowsOf job.entry.now.roads.now.roads job.entry.now.batch.now back.entry.now back_cells.exit.now
-                × (back_scratches.exit.now ≡ back_scratches.entry.now) }
-        { fill_pieces(rt, job, back, back_scratches, back_times, gate, back_cells) },
-    );
 }

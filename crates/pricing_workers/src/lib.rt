@@ -2,10 +2,11 @@
 #![tactic(auto)]
 
 mod batches;
+mod cells;
 mod pairs;
-mod pieces;
 mod pricer;
 mod rooms;
+mod rows;
 mod seats;
 mod tables;
 mod times;

@@ -2,6 +2,7 @@
 ghost use Rattle.std.specs.Prelude.{◌≡◌, IfSome};
 ghost use Rattle.adaptive_roads.specs.Shared.{IsMadeOf};
 
+use crate::rooms::WorkerRoom;
 use crate::times::Times;
 use crate::wanted::Wanted;
 use adaptive_roads::{AdaptiveRoads, SharedHierarchy};
@@ -25,14 +26,21 @@ impl Drop for Pricer<'_> {
     }
 }
 
-// Memory: for each vehicle of the largest batch about 4 kilobytes of plan and tables, and for each worker 64 bytes a wanted node of the
-// largest batch and the room of the largest sweep.
+// Memory: for each vehicle of the largest batch about 4 kilobytes of plan and tables; for each request whose times are kept at once 64
+// bytes a wanted node of the largest batch; and for each worker the room of the largest sweep.
 
 /// What a batch has found and leaves to the next: no answer depends on it.
 #[derive(Drop)]
 pub(crate) struct Kept {
     pub(crate) wanted: Wanted,
+    pub(crate) room: Room,
+}
+
+/// Room for a batch: the times of those requests that are priced at once, and what each worker searches by.
+#[derive(Drop)]
+pub(crate) struct Room {
     pub(crate) times: Vec<Times>,
+    pub(crate) workers: Vec<WorkerRoom>,
 }
 
 impl Kept {
@@ -40,7 +48,10 @@ impl Kept {
     pub(crate) fn new(alloc: Global) -> Kept {
         Kept {
             wanted: Wanted::new(alloc),
-            times: Vec::new(alloc),
+            room: Room {
+                times: Vec::new(alloc),
+                workers: Vec::new(alloc),
+            },
         }
     }
 }

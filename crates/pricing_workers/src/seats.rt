@@ -9,6 +9,7 @@ ghost use Rattle.ride_model.specs.Limits.{latest_time};
 ghost use Rattle.pricing_workers.specs.Wanted.{nodes_of};
 
 use crate::pairs::near;
+use crate::rooms::WorkerRoom;
 use crate::times::Times;
 use adaptive_roads::BatchRoads;
 use batch_commit::Batch;
@@ -49,8 +50,9 @@ pub fn offer_of_seat(
     let vehicle = &batch.vehicles().vehicles()[seat.vehicle as usize];
     let nodes = nodes_of(alloc, vehicle)?;
     let rows = BatchRoads::by_searches(roads, nodes.as_slice());
-    let mut times = Times::new(alloc, nodes.len(), 0)?;
-    times.fill(&rows, scratch, ride);
+    let mut room = WorkerRoom::new(alloc, 0)?;
+    let mut times = Times::new(alloc, nodes.len())?;
+    times.fill(&rows, scratch, &mut room, ride);
     let near = near(&times, 0, vehicle);
     let (time, settings) = (batch.time(), batch.settings());
     Ok(offer_at(vehicle, ride, seat.i, seat.j, time, settings, &near))

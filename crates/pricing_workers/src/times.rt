@@ -1,8 +1,8 @@
 //! A request's rows of times.
-ghost use Rattle.std.specs.Prelude.{◌≡◌, ◌<◌, length, map, IfOk};
+ghost use Rattle.std.specs.Prelude.{◌≡◌, ◌+◌, ◌≤◌, ◌<◌, length, map, take, All, IfOk};
 ghost use Rattle.std.specs.Result.{OnOk};
 ghost use Rattle.ride_model.specs.Road.{IsRoadMap, IsNode};
-ghost use Rattle.pricing_workers.specs.Rows.{HasRoom, HoldsRows, near_at};
+ghost use Rattle.pricing_workers.specs.Rows.{HasRows, HoldsRows, near_at};
 
 use crate::rooms::WorkerRoom;
 use adaptive_roads::BatchRoads;
@@ -13,7 +13,7 @@ use road_times::{Scratch, Side};
 use std::alloc::Global;
 
 /// The times between a request's two nodes and each wanted node, and from its pickup to its drop-off, absent where there is no
-/// way. One of these serves all requests of a piece in turn, batch after batch.
+/// way. One of these serves a request after another, batch after batch.
 #[derive(Drop)]
 pub(crate) struct Times {
     /// From each node to the pickup.
@@ -25,13 +25,12 @@ pub(crate) struct Times {
     /// From the drop-off to each node.
     pub(crate) to_here: Vec<Option<u64>>,
     pub(crate) direct: Option<u64>,
-    pub(crate) room: WorkerRoom,
 }
 
 impl Times {
-    /// Rows with room for so many nodes, and for sweeps of so many places.
-    pub(crate) fn new(alloc: Global, nodes: usize, places: usize) -> Result<Times, NoMemory>
-        ensures { IfOk result (HasRoom nodes places) }
+    /// Rows with room for so many nodes.
+    pub(crate) fn new(alloc: Global, nodes: usize) -> Result<Times, NoMemory>
+        ensures { IfOk result (HasRows nodes) }
     {
         Ok(Times {
             to_from: vec![in alloc; None; nodes]?,
@@ -39,40 +38,40 @@ impl Times {
             to_to: vec![in alloc; None; nodes]?,
             to_here: vec![in alloc; None; nodes]?,
             direct: None,
-            room: WorkerRoom::new(alloc, places)?,
         })
     }
 
-    /// Makes the rows just so long, and the room for sweeps at least so large. Memory is taken only for more than any batch before had.
-    pub(crate) fn renew(
-        &mut self,
-        alloc: Global,
-        nodes: usize,
-        places: usize,
-    ) -> Result<(), NoMemory>
-        ensures { OnOk result (HasRoom nodes places self.new) }
+    /// Makes the rows just so long. Memory is taken only for more than any batch before had.
+    pub(crate) fn renew(&mut self, nodes: usize) -> Result<(), NoMemory>
+        ensures { OnOk result (HasRows nodes self.new) }
     {
         self.to_from.resize(nodes, None)?;
         self.from_here.resize(nodes, None)?;
         self.to_to.resize(nodes, None)?;
         self.to_here.resize(nodes, None)?;
-        self.room.renew(alloc, places)
+        Ok(())
     }
 
     /// Fills the rows for a request: four from its nodes, and the time between them.
-    pub(crate) fn fill(&mut self, roads: &BatchRoads, scratch: &mut Scratch, ride: &Ride)
-        requires room { HasRoom (length roads.now.wanted) roads.now.places self.old }
+    pub(crate) fn fill(
+        &mut self,
+        roads: &BatchRoads,
+        scratch: &mut Scratch,
+        room: &mut WorkerRoom,
+        ride: &Ride,
+    )
+        requires rows { HasRows (length roads.now.wanted) self.old }
+        requires room { roads.now.places ≤ room.old.places }
         requires scratch { scratch.old.nodes ≡ roads.now.roads.nodes }
         requires from { IsNode roads.now.roads ride.now.from }
         requires to { IsNode roads.now.roads ride.now.to }
         ensures rows { HoldsRows roads.now.roads ride.now roads.now.wanted self.new }
-        ensures room { self.new.room ≡ self.old.room }
+        ensures room { room.new ≡ room.old }
         ensures scratch { scratch.new ≡ scratch.old }
         ensures fits { IsRoadMap roads.now.roads }
     {
         let (from, to) = (ride.from, ride.to);
-        let worker = &mut self.room;
-        let room = &mut worker.rows;
+        let room = &mut room.rows;
         roads.rows(scratch, room, from, Side::Back, self.to_from.as_mut_slice());
         roads.rows(
             scratch,
@@ -102,4 +101,40 @@ impl Times {
             to_here: self.to_here[node],
         }
     }
+}
+
+/// Makes so many times ready for a batch: each has room for just so many nodes. Those beyond stay as they are.
+pub(crate) fn renew_times(
+    alloc: Global,
+    times: &mut Vec<Times>,
+    count: usize,
+    nodes: usize,
+) -> Result<(), NoMemory>
+    ensures count { OnOk result (count ≤ length times.new.items) }
+    ensures rows { OnOk result (All (HasRows nodes) (take count times.new.items)) }
+{
+    for place in 0..count {
+        renew_times_at(alloc, times, place, nodes)?;
+    }
+    Ok(())
+}
+
+// Makes the next times ready.
+fn renew_times_at(
+    alloc: Global,
+    times: &mut Vec<Times>,
+    place: usize,
+    nodes: usize,
+) -> Result<(), NoMemory>
+    requires count { place ≤ length times.old.items }
+    requires rows { All (HasRows nodes) (take place times.old.items) }
+    ensures count { OnOk result (place + 1 ≤ length times.new.items) }
+    ensures rows { OnOk result (All (HasRows nodes) (take (place + 1) times.new.items)) }
+{
+    if place < times.len() {
+        times[place].renew(nodes)?;
+        return Ok(());
+    }
+    times.push(Times::new(alloc, nodes)?)?;
+    Ok(())
 }

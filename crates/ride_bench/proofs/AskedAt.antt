@@ -6,11 +6,11 @@ use Rattle.ride_model.specs.declared.vehicle.Ride.{Ride}
 use Rattle.ride_model.specs.declared.vehicle.Vehicle.{Vehicle}
 use Rattle.ride_model.specs.Road.{RoadMap}
 use Rattle.ride_model.specs.Offers.{is_idle, start_of}
-use Rattle.part_trials.specs.SmallPlans.{four_nodes}
+use Rattle.plan_trials.specs.SmallPlans.{four_nodes}
 use Rattle.insertion.specs.declared.near.Near.{Near}
 use Rattle.insertion.specs.Asked.{IsAsked}
-use Rattle.part_trials.specs.NearInLine.{near_in_line, may_be_asked}
-use Rattle.part_trials.proofs.NearInLine.{asked}
+use Rattle.plan_trials.specs.NearInLine.{near_in_line, may_be_asked}
+use Rattle.plan_trials.proofs.NearInLine.{asked}
 use Rattle.slack_tables.specs.Tables.{PlanSlack}
 use Rattle.slack_tables.specs.SlackOf.{slack_of}
 

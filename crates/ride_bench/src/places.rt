@@ -1,14 +1,14 @@
 //! The cheapest places for one more ride in a plan of 14 stops, on a road of four nodes in a line, a minute between neighbours.
 ghost use Rattle.std.specs.Prelude.{◌≡◌, ◌≤◌, length, false, IsTrue};
 ghost use Rattle.ride_model.specs.Offers.{is_idle};
-ghost use Rattle.part_trials.specs.LineRoad.{vehicle_with};
-ghost use Rattle.part_trials.specs.NearInLine.{near_in_line, may_be_asked};
+ghost use Rattle.plan_trials.specs.LineRoad.{vehicle_with};
+ghost use Rattle.plan_trials.specs.NearInLine.{near_in_line, may_be_asked};
 ghost use Rattle.ride_bench.specs.Places.{settings};
 ghost use Rattle.slack_tables.specs.SlackOf.{slack_of};
 
 use crate::stopwatch::Stopwatch;
 use insertion::{Near, best_place};
-use part_trials::plans::line_road::{self, Car, near};
+use plan_trials::line_road::{self, Car, near};
 use ride_model::{Kind, Ride, Settings, Stop, Vehicle};
 use slack_tables::{Slack, best_place_fast};
 use std::io;

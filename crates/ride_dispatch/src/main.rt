@@ -4,7 +4,7 @@
 mod messages;
 
 use dispatcher::{WORDS_REFUSED, run};
-use messages::Report;
+use messages::{Report, tell_threads};
 use ride_ports::{FileShelf, OpenGate, Sink, StdoutSink, write_all};
 use std::env::{self, Env};
 use std::io;
@@ -16,6 +16,7 @@ fn main(rt: HostRuntime) -> ExitCode {
         Ok(words) => words,
         Err(error) => return ExitCode::from(status_without_words(&error, &mut out)),
     };
+    tell_threads(&rt, words.as_slice());
     let mut shelf = FileShelf::new(&rt);
     let status = run(
         &rt,

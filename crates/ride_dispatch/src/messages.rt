@@ -1,6 +1,8 @@
-//! What is said on standard error of a run that was not whole, in one line. No clause speaks of it.
+//! What is said on standard error: of a run that was not whole, in one line, and of a session that cannot be live. No clause speaks of
+//! it.
 use ride_ports::FileFault;
 use std::io;
+use std::thread::{Builder, Threads};
 
 const FEED_LIMIT: &str = " has more than 67,108,864 bytes or 1,000,000 lines";
 
@@ -113,6 +115,27 @@ impl<'a> Report<'a> {
             Some(name) => name.as_str(),
             None => "a file",
         }
+    }
+}
+
+/// Says so where the words ask for a session of two feeds, and no thread can be started: what should run side by side then runs one after
+/// another, with the same promises.
+pub fn tell_threads<R: Threads + Eprint>(rt: &R, words: &[String]) {
+    if first_word(words) == "serve" && !starts_threads(rt) {
+        let _ = eprintln!(rt;
+            "ride_dispatch: no thread can be started, so that this session is not live: riders are read to their end first"
+        );
+    }
+}
+
+// Whether a thread can be started now.
+fn starts_threads<R: Threads>(rt: &R) -> bool {
+    match Builder::new().spawn(rt, || ()) {
+        Ok(thread) => {
+            thread.join(rt);
+            true
+        }
+        Err(_) => false,
     }
 }
 

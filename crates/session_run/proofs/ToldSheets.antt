@@ -15,7 +15,7 @@ use Rattle.session_run.specs.declared.batches.Answered.{Answered}
 use Rattle.session_run.specs.Ahead.{sheets_text}
 use Rattle.session_run.specs.SessionState.{SessionState}
 use Rattle.session_run.specs.Planning.{is_whole, sheets_in}
-use Rattle.session_run.specs.Reading.{HasToldAllBy, TellsSheets}
+use Rattle.session_run.specs.Reading.{HasToldAllBy, HasToldBy, TellsSheets}
 use Rattle.session_run.specs.Running.{GoesOn, IsPrompt}
 use Rattle.session_run.specs.Telling.{GoesOnTo, GoesOnWith}
 use Rattle.session_run.proofs.CommitSheets.{adds-ends}
@@ -149,4 +149,19 @@ told-flushed (Some reach) ending earlier now later faults n m s log logged told 
   sheets_are = told.sheets_are;
   all = told.all;
   logged = logged (sheets_text reach s.no_memory ending told.sheets) told.logged;
+}
+
+-- what was told stays told, where more of it is written
+pub told-written : (reach : Option ℕ) (earlier now later : Option (List ℕ)) (faults n m : ℕ) (s : SessionState) (log : OutputState)
+    → ((text : List ℕ) → HasPut earlier now faults n s.log text → HasPut earlier later faults m log text)
+    → HasToldBy reach earlier now faults n s → HasToldBy reach earlier later faults m (record s { log = log })
+told-written None earlier now later faults n m s log put told = put _ told
+told-written (Some reach) earlier now later faults n m s log put told = record {
+  first = told.first;
+  sheets = told.sheets;
+  begins = told.begins;
+  prompt = told.prompt;
+  sheets_are = told.sheets_are;
+  all = told.all;
+  logged = put _ told.logged;
 }

@@ -31,7 +31,7 @@ use std::alloc::Global;
 use std::thread::Threads;
 
 /// Answers a feed over a fleet: after each accepted ask a batch is opened, priced, seated and committed at once. Its log is
-/// written, or the sheets of its batches where their reach is given.
+/// written, or the sheets of its batches where their reach is given, each line before more of the feed is waited for.
 pub(crate) fn run_one_feed<R: Threads + Sync, S: Source, K: Sink>(
     rt: &R,
     alloc: Global,
@@ -136,7 +136,7 @@ fn run_feed<R: Threads + Sync, S: Source, K: Sink>(
 {
     'commands: loop {
         match reader.next_command(feed) {
-            Ok(Some(command)) => match session.take_command(rt, out, &command) {
+            Ok(Some(command)) => match session.take_command(rt, out, &command, reader.is_ready()) {
                 Ok(()) => {}
                 Err(_) => return Some(Stop::NoMemory),
             },

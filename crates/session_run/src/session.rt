@@ -132,8 +132,33 @@ impl<'r, 'q> Session<'r, 'q> {
         self.log.failed()
     }
 
-    /// Writes the first line.
+    /// Writes the first line, at once.
     pub(crate) fn begin<K: Sink>(&mut self, out: &mut K)
+        requires fresh { IsFresh self.old.log }
+        requires bare { self.old.board.history ≡ [] }
+        ensures told { HasTold (K.written out.old) (K.written out.new) (K.faults out.old) (K.faults out.new) self.new }
+        ensures others { self.new ≡ record self.old { log = self.new.log } }
+    {
+        self.tell_first(out);
+        self.write_told(out, false);
+    }
+
+    // Writes what was told and is not written yet, unless more of the feed is at hand.
+    fn write_told<K: Sink>(&mut self, out: &mut K, more: bool)
+        ensures told { (earlier : Option (List ℕ)) (faults : ℕ)
+            → HasTold earlier (K.written out.old) faults (K.faults out.old) self.old
+            → HasTold earlier (K.written out.new) faults (K.faults out.new) self.new }
+        ensures others { self.new ≡ record self.old { log = self.new.log } }
+        ensures nothing_left { more ≡ false → self.new.log.failed ≡ false → self.new.log.page ≡ [] }
+    {
+        if more {
+            return;
+        }
+        self.log.end(out);
+    }
+
+    // Tells the first line.
+    fn tell_first<K: Sink>(&mut self, out: &mut K)
         requires fresh { IsFresh self.old.log }
         requires bare { self.old.board.history ≡ [] }
         ensures told { HasTold (K.written out.old) (K.written out.new) (K.faults out.old) (K.faults out.new) self.new }
@@ -147,8 +172,36 @@ impl<'r, 'q> Session<'r, 'q> {
         }
     }
 
-    /// Answers a command and runs the batch after an accepted ask, and writes what became of it.
+    /// Answers a command and runs the batch after an accepted ask, and tells what became of it: it is written at once where it is not
+    /// sure that more of the feed is at hand.
     pub(crate) fn take_command<R: Threads + Sync, K: Sink>(
+        &mut self,
+        rt: &R,
+        out: &mut K,
+        command: &Command,
+        more: bool,
+    ) -> Result<(), NoMemory>
+        requires running { IsRunning self.old.board self.old.no_memory }
+        requires few { length (fed_commands 1 self.old.board.history) < most_commands }
+        requires spelled { IsSpelledCommand self.old.board.start.settings.log command.now }
+        ensures running { OnOk result (IsRunning self.new.board self.new.no_memory) }
+        ensures commands { OnOk result (fed_commands 1 self.new.board.history
+            ≡ fed_commands 1 self.old.board.history ++ command.now ∷ []) }
+        ensures stopped { OnErr result (Stops command.now self.old.board self.new.board) }
+        ensures no_memory { OnErr result (self.new.no_memory ≡ true) }
+        ensures start { self.new.board.start ≡ self.old.board.start }
+        ensures reach { self.new.reach ≡ self.old.reach }
+        ensures told { (earlier : Option (List ℕ)) (faults : ℕ)
+            → HasTold earlier (K.written out.old) faults (K.faults out.old) self.old
+            → HasTold earlier (K.written out.new) faults (K.faults out.new) self.new }
+    {
+        self.answer_command(rt, out, command)?;
+        self.write_told(out, more);
+        Ok(())
+    }
+
+    // Answers a command and runs the batch after an accepted ask, and tells what became of it.
+    fn answer_command<R: Threads + Sync, K: Sink>(
         &mut self,
         rt: &R,
         out: &mut K,

@@ -1,6 +1,6 @@
-use Rattle.part_trials.specs.SmallPlans.{four_nodes}
+use Rattle.plan_trials.specs.SmallPlans.{four_nodes}
 use Rattle.ride_bench.specs.Places.{settings}
-use Rattle.part_trials.proofs.NearInLine.{asked}
+use Rattle.plan_trials.proofs.NearInLine.{asked}
 use Rattle.ride_bench.proofs.places.tables_of.Goals as goal
 
 pub of-requires-clause-lawful : goal.of-requires-clause-lawful

@@ -1,0 +1,241 @@
+#!/usr/bin/env python3
+"""What the built program does while it waits for a pipe, and what runs beside what: no clause can say it.
+
+    python3 checks/waiting.py [PROGRAM]
+
+PROGRAM is crates/ride_dispatch/out/ride_dispatch where none is given; `rt run` in crates/ride_dispatch builds it. Each session is fed by
+named pipes that are held open. A line that is due has a minute to come, so that a slow machine is not taken for a wrong program.
+"""
+import argparse
+import os
+import pathlib
+import select
+import subprocess
+import tempfile
+import time
+from collections.abc import Callable
+
+TOP = pathlib.Path(__file__).resolve().parent.parent
+PROGRAM = TOP / "crates" / "ride_dispatch" / "out" / "ride_dispatch"
+
+MAP = "p sp 4 6\na 1 2 60\na 2 1 60\na 2 3 60\na 3 2 60\na 3 4 60\na 4 3 60\n"
+FLEET = "vehicle 1 2 1 0\n"
+REQUEST = "request 7 2 4 1 600 300\n"
+PATIENCE = 60.0  # seconds that a due line may take
+SILENCE = 10.0  # seconds of an idle session
+IDLE_SECONDS = 0.1  # of processors, that an idle session may take
+SIDE, SEARCHES = 150, 128  # a square city whose rows take long to search, and the requests of its batch
+
+
+class Wrong(Exception):
+    """What a session did that it should not, or did not do."""
+
+
+class Session:
+    """A run of the program whose feeds are named pipes, each held open by this process."""
+
+    def __init__(self, program: pathlib.Path, folder: pathlib.Path, words: list[str], feeds: list[str], map_text: str = MAP,
+                 fleet: str = FLEET) -> None:
+        (folder / "map").write_text(map_text)
+        (folder / "fleet").write_text(fleet)
+        self.pipes: dict[str, int] = {}
+        for feed in feeds:
+            path = folder / feed
+            os.mkfifo(path)
+            self.pipes[feed] = os.open(path, os.O_RDWR)
+        places = {"map": "map", "fleet": "fleet", **{feed: feed for feed in feeds}}
+        words = [str(folder / places[word]) if word in places else word for word in words]
+        self.process = subprocess.Popen([program, *words], stdin=subprocess.DEVNULL, stdout=subprocess.PIPE, stderr=subprocess.DEVNULL)
+        assert self.process.stdout is not None
+        self.output, self.rest, self.told = self.process.stdout.fileno(), b"", 0
+
+    def say(self, feed: str, text: str) -> None:
+        os.write(self.pipes[feed], text.encode())
+
+    def next_line(self) -> str:
+        """Returns the next line of the output, which has to come while the pipes are open."""
+        end = time.monotonic() + PATIENCE
+        while b"\n" not in self.rest:
+            left = end - time.monotonic()
+            if left <= 0 or not select.select([self.output], [], [], left)[0]:
+                raise Wrong(f"line {self.told + 1} does not come before more is waited for")
+            piece = os.read(self.output, 1 << 16)
+            if not piece:
+                raise Wrong(f"the output ends before line {self.told + 1}")
+            self.rest += piece
+        line, self.rest = self.rest.split(b"\n", 1)
+        self.told += 1
+        return line.decode()
+
+    def expect(self, *lines: str) -> None:
+        """The next lines are these, each up to a trailing `*`."""
+        for wanted in lines:
+            line = self.next_line()
+            if not (line == wanted or wanted.endswith("*") and line.startswith(wanted[:-1])):
+                raise Wrong(f"line {self.told} is '{line}', and not '{wanted}'")
+
+    def close(self) -> None:
+        """Closes the pipes; the session has to end with status 0."""
+        for pipe in self.pipes.values():
+            os.close(pipe)
+        self.pipes = {}
+        self.process.communicate(timeout=PATIENCE)
+        if self.process.returncode != 0:
+            raise Wrong(f"status {self.process.returncode}")
+
+    def end(self) -> None:
+        """Ends the run, whatever it does."""
+        for pipe in self.pipes.values():
+            os.close(pipe)
+        self.process.kill()
+        self.process.communicate()
+
+
+OVER = ["--map", "map", "--fleet", "fleet"]
+SERVE = ["serve", *OVER, "--riders", "riders", "--drivers", "drivers"]
+Start = Callable[..., Session]
+
+
+def a_replay_writes_each_answer(start: Start) -> None:
+    session = start(["replay", *OVER, "--feed", "feed"], ["feed"])
+    session.expect("log 1 feeds 1 desks 1")
+    session.say("feed", REQUEST)
+    session.expect("f1 request 7 2 4 1 600 300 = waiting")
+    session.say("feed", "batch\n\n# a comment\n")
+    session.expect("f1 batch = asked 1", "d1 open 1 at 0 requests 7 plans 1@0", "d1 commit 1 cost 180 *")
+    session.say("feed", "clock 1\n clock 2\nclo")
+    session.expect("f1 clock 1 = now 1", "f1 clock 2 = now 2")
+    session.close()
+
+
+def sheets_are_written_after_each_batch(start: Start) -> None:
+    session = start(["ahead", *OVER, "--feed", "feed", "--reach", "600"], ["feed"])
+    session.expect("ahead 1 reach 600")
+    session.say("feed", REQUEST + "batch\nclo")
+    session.expect("moves 1 cost *")
+    session.close()
+
+
+def bookings_are_written_when_they_are_due(start: Start) -> None:
+    session = start(["book", "--feed", "feed"], ["feed"])
+    session.say("feed", "book 5 7 2 4 1 600 300\nclock 5\nclo")
+    session.expect("clock 5", "request 7 2 4 1 600 300")
+    session.close()
+
+
+def a_league_writes_each_answer(start: Start) -> None:
+    session = start(["league", *OVER, "--second", "fleet", "--feed", "feed"], ["feed"])
+    session.expect("league 1 companies 2")
+    session.say("feed", REQUEST + "batch\nclo")
+    session.expect("request 7 2 4 1 600 300 = waiting", "round 1 cost *")
+    session.close()
+
+
+def each_feed_is_answered_while_the_other_is_silent(start: Start) -> None:
+    session = start([*SERVE, "--workers", "2", "--desks", "1"], ["riders", "drivers"])
+    session.expect("log 1 feeds 2 desks 1")
+    for number in range(3):
+        session.say("drivers", f"at 1 1 {number}\n")
+        session.expect(f"f2 at 1 1 {number} = onmap")
+    for number in range(3):
+        session.say("riders", f"clock {number}\n")
+        session.expect(f"f1 clock {number} = now {number}")
+    session.say("riders", "request 7 2 4 1 600 300\nbatch\n")
+    session.expect("f1 request 7 *", "f1 batch = asked 1", "d1 open 1 *", "d1 commit 1 *")
+    session.close()
+
+
+def both_desks_take_batches(start: Start) -> None:
+    session = start([*SERVE, "--workers", "1", "--desks", "2"], ["riders", "drivers"])
+    session.expect("log 1 feeds 2 desks 2")
+    for asked in range(1, 1_001):
+        session.say("riders", "batch\n")
+        session.expect(f"f1 batch = asked {asked}")
+        opened, committed = session.next_line(), session.next_line()
+        if opened.startswith("d2 open") and committed.startswith("d2 commit"):
+            session.close()
+            return
+    raise Wrong("of 1,000 batches the second desk took none while the first had not ended")
+
+
+def an_idle_session_sleeps(start: Start) -> None:
+    session = start([*SERVE, "--workers", "2", "--desks", "2"], ["riders", "drivers"])
+    session.say("riders", REQUEST + "batch\n")
+    session.expect("log *", "f1 request *", "f1 batch *", "d*", "d*")
+    before = seconds_of(session.process.pid)
+    time.sleep(SILENCE)
+    took = seconds_of(session.process.pid) - before
+    if took > IDLE_SECONDS:
+        raise Wrong(f"{took:.2f} s of processors in {SILENCE:.0f} s without a command")
+    session.close()
+
+
+def as_many_workers_search_as_were_asked_for(start: Start) -> None:
+    """One vehicle makes too few pairs to price side by side, so that threads beyond the session's own are workers that search."""
+    arcs = [(node, node + step) for node in range(1, SIDE * SIDE + 1) for step in (1, SIDE)
+            if node + step <= SIDE * SIDE and (step > 1 or node % SIDE)]
+    lines = "".join(f"a {a} {b} 60\na {b} {a} 60\n" for a, b in arcs)
+    session = start([*SERVE, "--workers", "16", "--desks", "1"], ["riders", "drivers"],
+                    map_text=f"p sp {SIDE * SIDE} {2 * len(arcs)}\n{lines}", fleet=f"set batch {SEARCHES}\n" + FLEET)
+    session.expect("log 1 feeds 2 desks 1")
+    idle = threads_of(session.process.pid)
+    session.say("riders", "".join(f"request {n} {n + 1} {SIDE * SIDE - n} 1 900000 900000\n" for n in range(1, SEARCHES + 1)))
+    for _ in range(SEARCHES):
+        session.expect("f1 request *")
+    session.say("riders", "batch\n")
+    most, end = idle, time.monotonic() + PATIENCE
+    while most < idle + 15:
+        if time.monotonic() > end or select.select([session.output], [], [], 0.001)[0] and b" commit " in os.read(session.output, 1 << 16):
+            raise Wrong(f"{most - idle + 1} workers were seen, and not 16")
+        most = max(most, threads_of(session.process.pid))
+
+
+def seconds_of(process: int) -> float:
+    """Returns the processors' seconds that a process has taken."""
+    fields = pathlib.Path(f"/proc/{process}/stat").read_text().rsplit(")", 1)[1].split()
+    return (int(fields[11]) + int(fields[12])) / os.sysconf("SC_CLK_TCK")
+
+
+def threads_of(process: int) -> int:
+    return len(os.listdir(f"/proc/{process}/task"))
+
+
+CHECKS = [a_replay_writes_each_answer, sheets_are_written_after_each_batch, bookings_are_written_when_they_are_due,
+          a_league_writes_each_answer, each_feed_is_answered_while_the_other_is_silent, both_desks_take_batches, an_idle_session_sleeps,
+          as_many_workers_search_as_were_asked_for]
+
+
+def run_check(program: pathlib.Path, check: Callable[[Start], None]) -> bool:
+    """Returns whether a check found nothing wrong, and says what it found."""
+    sessions: list[Session] = []
+    with tempfile.TemporaryDirectory() as folder:
+        def start(words: list[str], feeds: list[str], **texts: str) -> Session:
+            sessions.append(Session(program, pathlib.Path(folder), words, feeds, **texts))
+            return sessions[-1]
+
+        name = check.__name__.replace("_", " ")
+        try:
+            check(start)
+        except (Wrong, subprocess.TimeoutExpired) as fault:
+            print(f"{name}: {fault}", flush=True)
+            return False
+        finally:
+            for session in sessions:
+                session.end()
+    print(f"{name}: so it is", flush=True)
+    return True
+
+
+def main() -> None:
+    parser = argparse.ArgumentParser(description=__doc__, formatter_class=argparse.RawDescriptionHelpFormatter)
+    parser.add_argument("program", nargs="?", default=PROGRAM, type=pathlib.Path)
+    parser.add_argument("--only", default="", help="only the checks whose name has this word")
+    given = parser.parse_args()
+    chosen = [check for check in CHECKS if given.only in check.__name__]
+    good = sum(run_check(given.program, check) for check in chosen)
+    print(f"{len(chosen)} checks, {len(chosen) - good} wrong")
+    raise SystemExit(0 if good == len(chosen) else 1)
+
+
+if __name__ == "__main__":
+    main()

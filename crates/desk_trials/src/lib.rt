@@ -1,0 +1,11 @@
+//! Trials of bookings, and of orders to idle vehicles. It has nothing but tests.
+#![tactic(auto)]
+
+#[cfg(test)]
+mod desk_feeds;
+#[cfg(test)]
+mod desks;
+#[cfg(test)]
+mod orders;
+#[cfg(test)]
+mod sheet_texts;

@@ -1,0 +1,44 @@
+//! A company whose vehicle is off duty has no price.
+ghost use Rattle.std.specs.Prelude.{◌≡◌, IfOk};
+ghost use Rattle.league_trials.specs.OneVehicle.{IsNewCompany, IsTownRide};
+
+use super::one_vehicle::ride;
+use fleet_league::{Company, NoMemory, Quote};
+use ride_model::{Command, Ride};
+use road_times::Scratch;
+use std::process::Abort;
+use std::thread::Threads;
+
+// What the company quotes for a ride once its vehicle is off duty.
+fn quote_off_duty<R: Threads + Sync>(
+    rt: &R,
+    company: &mut Company<'_>,
+    scratch: &mut Scratch,
+    ride: Ride,
+) -> Result<Quote, NoMemory>
+    requires company { IsNewCompany company.old }
+    requires scratch { scratch.old.nodes ≡ company.old.board.start.roads.nodes }
+    requires ride { IsTownRide ride }
+    ensures ride { IfOk result (λ quote. quote.prices.rows ≡ 1) }
+    ensures vehicle { IfOk result (λ quote. quote.prices.columns ≡ 1) }
+{
+    company.report(&Command::Off { vehicle: 1 })?;
+    // This call tells that the history is legal.
+    let _history = company.board().entries();
+    company.quote(rt, scratch, &[ride])
+}
+
+/// The vehicle is near the ride, and yet has no price for it.
+pub(crate) fn expect_no_price<R: Threads + Sync + Abort>(
+    rt: &R,
+    company: &mut Company<'_>,
+    scratch: &mut Scratch,
+)
+    requires company { IsNewCompany company.old }
+    requires scratch { scratch.old.nodes ≡ company.old.board.start.roads.nodes }
+{
+    let Ok(quote) = quote_off_duty(rt, company, scratch, ride(6, 1, 2)) else {
+        panic!(rt; "there is memory");
+    };
+    assert!(rt; quote.prices.cell(0, 0) == None);
+}

@@ -1,9 +1,0 @@
-pub mod SmallPlans
-pub mod OneRide
-pub mod LineRoad
-pub mod NearPlaces
-pub mod NearInLine
-pub mod DrawnPlans
-pub mod OneCell
-pub mod TwoRequests
-pub mod InTurn

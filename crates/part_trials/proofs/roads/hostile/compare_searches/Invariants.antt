@@ -1,8 +1,0 @@
-use Rattle.std.proofs.Common.{◌≡◌}
-use Rattle.part_trials.proofs.roads.hostile.compare_searches.Given as goal
-
-abbrev pub invariant-loop-place : goal.invariant-loop-place
-invariant-loop-place g l = record {
-  room : l.room ≡ l.fn.room;
-  scratch : l.scratch ≡ l.fn.scratch;
-}

@@ -1,7 +1,0 @@
-use Rattle.std.proofs.Common.{ℕ, All}
-use Rattle.batch_commit.specs.Answer.{IsSeatAt}
-use Rattle.part_trials.proofs.seatings.batch_certificates.seats_at.Given as goal
-
--- each seat so far stands in its cell
-abbrev pub invariant-loop-request : goal.invariant-loop-request
-invariant-loop-request g l = All (λ seat. (r : ℕ) × (c : ℕ) × IsSeatAt l.batch l.table seat r c) l.seats.items

@@ -1,6 +1,0 @@
-use Rattle.std.proofs.Common.{◌≡◌}
-use Rattle.part_trials.proofs.seatings.pairings.cost_of_products.Given as goal
-
--- the grid keeps its size
-abbrev pub invariant-loop-row : goal.invariant-loop-row
-invariant-loop-row g l = (l.grid.rows ≡ 8) × (l.grid.columns ≡ 30)

@@ -1,6 +1,0 @@
-use Rattle.std.proofs.Common.{◌≡◌}
-use Rattle.part_trials.proofs.seatings.pairings.write_products.Given as goal
-
--- the grid keeps its size
-abbrev pub invariant-loop-column : goal.invariant-loop-column
-invariant-loop-column l = (l.grid.rows ≡ 8) × (l.grid.columns ≡ 30)

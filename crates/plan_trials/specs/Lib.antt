@@ -1,0 +1,5 @@
+pub mod SmallPlans
+pub mod OneRide
+pub mod LineRoad
+pub mod NearPlaces
+pub mod NearInLine

@@ -1,0 +1,18 @@
+//! Trials of plans, offers and cities. Its library is the small roads, rides and vehicles that tests of seatings and the bench share.
+#![tactic(auto)]
+
+#[cfg(test)]
+mod cities;
+#[cfg(test)]
+mod drawn_plans;
+#[cfg(test)]
+mod limits;
+pub mod line_road;
+#[cfg(test)]
+mod offers;
+#[cfg(test)]
+mod slack;
+#[cfg(test)]
+mod stops;
+#[cfg(test)]
+mod values;

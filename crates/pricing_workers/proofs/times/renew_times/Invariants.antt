@@ -1,0 +1,8 @@
+use Rattle.std.proofs.Common.{◌≤◌, length, take}
+use Rattle.std.specs.Prelude.{All}
+use Rattle.pricing_workers.specs.Rows.{HasRows}
+use Rattle.pricing_workers.proofs.times.renew_times.Given as goal
+
+-- the first are ready
+abbrev pub invariant-loop-place : goal.invariant-loop-place
+invariant-loop-place l = All (HasRows l.nodes) (take l.place l.times.items) × (l.place ≤ length l.times.items)

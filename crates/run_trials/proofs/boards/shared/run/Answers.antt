@@ -1,7 +1,0 @@
-use Rattle.std.proofs.Common.{ap, ◌∙◌}
-use Rattle.idle_moves.specs.Watch.{watched_ids}
-use Rattle.idle_moves.proofs.Raising.{ids-versions}
-use Rattle.run_trials.proofs.boards.shared.run.Goals as goal
-
-pub share-requires-clause-vehicle : goal.share-requires-clause-vehicle
-share-requires-clause-vehicle g c κs within = ap watched_ids c.in-Ok-new.ensures ∙ ids-versions c.in-Ok.fleet ∙ c.in-Ok.ensures.one

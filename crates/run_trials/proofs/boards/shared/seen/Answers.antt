@@ -1,7 +1,0 @@
-use Rattle.std.proofs.Common.{arith}
-use Rattle.turn_lock.specs.Passes.{knowledge}
-use Rattle.run_trials.proofs.BegunWatches.{given-le}
-use Rattle.run_trials.proofs.boards.shared.seen.Goals as goal
-
-pub returns : goal.returns
-returns c = omega (arith, given-le (knowledge c.args.feed.now) c.requires, c.seen.ensures)

@@ -1,7 +1,0 @@
-use Rattle.std.proofs.Common.{◌≡◌, take}
-use Rattle.run_trials.specs.Sides.{half_of}
-use Rattle.run_trials.proofs.leagues.city_days.half_of.Given as goal
-
--- those of the vehicles so far are kept
-abbrev pub invariant-loop-vehicle : goal.invariant-loop-vehicle
-invariant-loop-vehicle l = l.vehicles.items ≡ half_of l.rest (take l.vehicle-index l.fleet)

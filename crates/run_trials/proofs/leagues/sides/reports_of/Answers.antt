@@ -1,6 +1,0 @@
-use Rattle.std.proofs.Common.{length, ap, arith}
-use Rattle.run_trials.proofs.DaySides.{few-reports}
-use Rattle.run_trials.proofs.leagues.sides.reports_of.Goals as goal
-
-pub returns : goal.returns
-returns c = omega (arith, few-reports c.args.board.now, ap length c.entries.ensures.items)

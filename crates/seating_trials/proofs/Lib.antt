@@ -1,0 +1,3 @@
+pub mod OneCell
+pub mod TwoRequests
+pub mod InTurn
