@@ -28,7 +28,7 @@ use std::thread::Threads;
 const MOST_AT_ONCE: usize = 32;
 
 /// So many pairs take longer to price than a thread to start: a thread prices no fewer, but where there are no more.
-const PAIRS_A_CHUNK: usize = 512;
+const PAIRS_A_CHUNK: usize = 2048;
 
 /// What all workers of a batch read.
 #[derive(Clone, Copy)]
