@@ -51,6 +51,7 @@ CHECKS = [
     Check("the edge of the system", ("checks/edges.sh",), ("bash",)),
     Check("each allocation refused in turn", (sys.executable, "-B", "checks/allocations.py"), ("gcc",)),
     Check("certified sheets", (sys.executable, "-B", "checks/sheets.py"), ("checks/sheets.py",)),
+    Check("the page of the headline beside the sources", (sys.executable, "-B", "checks/headline.py", "--check")),
 ]
 
 

@@ -24,16 +24,60 @@ says() {
 }
 
 says 0 '' replay --map "$map" --fleet "$fleet" --feed "$feed"
-says 2 'usage: ride_dispatch replay --map MAP --fleet FLEET --feed FEED' replay --map "$map"
-says 2 'usage: ride_dispatch audit --map MAP --fleet FLEET --log LOG' audit
-says 2 'usage: ride_dispatch book --feed FEED' book --map "$map"
-says 2 'usage: ride_dispatch league --map MAP --fleet FLEET --second FLEET --feed FEED' league --map "$map"
-says 2 'usage: ride_dispatch replay, audit, serve, ahead, drill, book or league, with its options' plan
-printf 'p sp 0 0\n' > "$scratch/no_map"
-says 3 "ride_dispatch: $scratch/no_map is no road map; standard output says why" replay --map "$scratch/no_map" --fleet "$fleet" --feed "$feed"
-printf 'vehicle\n' > "$scratch/no_fleet"
-says 4 "ride_dispatch: $scratch/no_fleet is no fleet file; standard output says why" replay --map "$map" --fleet "$scratch/no_fleet" --feed "$feed"
-says 4 "ride_dispatch: $scratch/no_fleet is no fleet file; standard output says why" league --map "$map" --fleet "$fleet" --second "$scratch/no_fleet" --feed "$feed"
+# Words that are refused: what is wrong with the options of a word, and all words where there is none.
+replay='usage: ride_dispatch replay --map MAP --fleet FLEET --feed FEED'
+serve='usage: ride_dispatch serve --map MAP --fleet FLEET --riders FEED --drivers FEED --workers 1..16 --desks 1..2'
+says 2 "ride_dispatch: replay: --fleet is missing; $replay" replay --map "$map"
+says 2 "ride_dispatch: replay: --feed has no value; $replay" replay --map "$map" --fleet "$fleet" --feed
+says 2 "ride_dispatch: replay: --map stands twice; $replay" replay --map "$map" --map "$map" --feed "$feed"
+says 2 "ride_dispatch: replay: no such option: --flet; $replay" replay --map "$map" --flet "$fleet" --feed "$feed"
+says 2 "ride_dispatch: replay: $map is no option; $replay" replay "$map" --fleet "$fleet" --feed "$feed"
+says 2 "ride_dispatch: replay: no such option: --mapp; $replay" "replay" "--mapp=$map" --fleet "$fleet" --feed "$feed"
+says 2 "ride_dispatch: serve: --workers 17 is not within 1..16; $serve" serve --map "$map" --fleet "$fleet" --riders "$feed" --drivers "$feed" --workers 17 --desks 1
+says 2 "ride_dispatch: serve: --desks two is not within 1..2; $serve" serve --map "$map" --fleet "$fleet" --riders "$feed" --drivers "$feed" --workers 1 --desks two
+says 2 'ride_dispatch: audit: --map is missing; usage: ride_dispatch audit --map MAP --fleet FLEET --log LOG' audit
+says 2 'ride_dispatch: book: no such option: --map; usage: ride_dispatch book --feed FEED' book --map "$map"
+says 2 'ride_dispatch: league: --fleet is missing; usage: ride_dispatch league --map MAP --fleet FLEET --second FLEET --feed FEED' league --map "$map"
+words='  replay --map MAP --fleet FLEET --feed FEED: answers a feed line by line and writes the log
+  ahead --map MAP --fleet FLEET --feed FEED --reach 1..1000000: writes where to send idle vehicles, in place of the log of a replay
+  audit --map MAP --fleet FLEET --log LOG: says whether each line of a log is right
+  serve --map MAP --fleet FLEET --riders FEED --drivers FEED --workers 1..16 --desks 1..2: answers riders and drivers at once and writes the log as it happens
+  drill --side 2..100 --vehicles 0..1000 --requests 0..16000 --seed 0..2147483647: plays a day of a city that it draws, and writes a line of it
+  book --feed FEED: makes a plain feed of one in which riders book ahead
+  league --map MAP --fleet FLEET --second FLEET --feed FEED: plays two companies that share their requests
+docs/guide.md says how they are used, docs/formats.md what each file holds.'
+says 2 "ride_dispatch: a word is missing; these are all, with their options in any order:
+$words"
+says 2 "ride_dispatch: no such word: plan; these are all, with their options in any order:
+$words" plan
+
+# Maps and fleet files that are refused: the line, what stands there, and what would be right.
+refused_map() {
+    printf '%b' "$2" > "$scratch/no_map"
+    says 3 "$scratch/no_map$1" replay --map "$scratch/no_map" --fleet "$fleet" --feed "$feed"
+}
+refused_map ": no line 'p sp NODES ARCS' before the first arc" 'a 1 2 60\n'
+refused_map ":2: a second problem line" 'p sp 2 1\np sp 2 1\na 1 2 60\n'
+refused_map ":1: neither a problem, nor an arc, nor a comment: p sp 0 0" 'p sp 0 0\n'
+refused_map ":2: node 99 is not on the map (1 to 2)" 'p sp 2 1\na 1 99 60\n'
+refused_map ":2: 1000000001 seconds are out of range (0 to 1000000000)" 'p sp 2 1\na 1 2 1000000001\n'
+refused_map ": the problem line says 2 arcs, 1 stand there" 'p sp 2 2\na 1 2 60\n'
+refused_map ":1: more than 500000 nodes or 2000000 arcs: p sp 500001 0" 'p sp 500001 0\n'
+refused_fleet() {
+    printf '%b' "$2" > "$scratch/no_fleet"
+    says 4 "$scratch/no_fleet$1" replay --map "$map" --fleet "$scratch/no_fleet" --feed "$feed"
+    says 4 "$scratch/no_fleet$1" league --map "$map" --fleet "$fleet" --second "$scratch/no_fleet" --feed "$feed"
+}
+nodes="$(sed -n 's/^p sp \([0-9]*\) .*/\1/p' "$map")"
+refused_fleet ":2: no such setting: penlty" '# a comment\nset penlty 3\n'
+refused_fleet ":1: a setting has one number: set penalty" 'set penalty\n'
+refused_fleet ":1: a vehicle has four numbers or five (ID SEATS NODE READY CHAIRS): vehicle" 'vehicle\n'
+refused_fleet ":1: neither a setting, nor a vehicle, nor a comment: taxi 1 4 1 0" 'taxi 1 4 1 0\n'
+refused_fleet ":2: batch is set twice" 'set batch 3\nset batch 4\n'
+refused_fleet ":2: vehicle 7 stands twice" 'vehicle 7 4 1 0\nvehicle 7 4 1 0\n'
+refused_fleet ":1: node 999999 is not on the map (1 to $nodes)" 'vehicle 7 4 999999 0\n'
+refused_fleet ":1: batch 129 is out of range (1 to 128)" 'set batch 129\n'
+refused_fleet ":1: a vehicle has 1 to 16 seats and 0 to 4 chairs, and is ready by second 1000000000: vehicle 7 17 1 0" 'vehicle 7 17 1 0\n'
 says 5 "ride_dispatch: $scratch/missing could not be read: No such file or directory (os error 2)" replay --map "$scratch/missing" --fleet "$fleet" --feed "$feed"
 says 5 "ride_dispatch: $scratch could not be read: Is a directory (os error 21)" replay --map "$map" --fleet "$fleet" --feed "$scratch"
 says 5 "ride_dispatch: $scratch could not be read: Is a directory (os error 21)" book --feed "$scratch"

@@ -1,55 +1,262 @@
 -- Which statuses are left to a run of whole files without faults.
-use Rattle.std.proofs.Common.{◌≡◌, ◌≢◌, ◌⊎◌, inl, inr, ℕ, List, [], ◌∷◌, None, Some}
+use Rattle.std.proofs.Common.{◌≡◌, ◌⊎◌, inl, inr, ℕ, true, List, [], ◌∷◌, ◌++◌, Option, Some, Result, Ok, Err, IfSome, refl, sym, subst, ◌∙◌}
+use Rattle.std.specs.Prelude.{All, ⊤}
+use Rattle.std.proofs.lemmas.List.Elements.{All-head, All-tail}
+use Rattle.ride_ports.specs.Bytes.{Reads}
+use Rattle.ride_ports.specs.Contents.{Contents, GivenBack}
 use Rattle.ride_ports.specs.Count.{Rose}
-use Rattle.dispatcher.specs.Answers.{told_bytes}
-use Rattle.dispatcher.specs.Audits.{EndsAudit}
-use Rattle.dispatcher.specs.Files.{AreWhole}
-use Rattle.dispatcher.specs.Runs.{IsRun, Seen}
-use Rattle.dispatcher.specs.Sessions.{EndsReplay, EndsService}
-use Rattle.run_words.specs.Words.{Ends, a_replay, a_service, an_ahead, an_audit}
-use Rattle.dispatcher.proofs.Audits.{audit-not-long}
-use Rattle.dispatcher.proofs.Services.{service-not-long}
-use Rattle.dispatcher.proofs.Statuses.{complete-run, replay-not-long}
+use Rattle.ride_ports.specs.Status.{status_of as status_ran}
+use Rattle.ride_ports.specs.declared.outcome.Ran.{Ran}
+use Rattle.ride_model.specs.Road.{RoadMap}
+use Rattle.gr_reader.specs.declared.errors.MapError.{MapError}
+use Rattle.gr_reader.specs.declared.errors.MapError.TheVariants.{TooLong as TooLongMap}
+use Rattle.gr_reader.specs.MapText.{map_text}
+use Rattle.fleet_file.specs.declared.errors.FleetError.{FleetError}
+use Rattle.fleet_file.specs.declared.errors.FleetError.TheVariants.{TooLong as TooLongFleet}
+use Rattle.fleet_file.specs.FleetText.{fleet_text}
+use Rattle.command_lines.specs.Limits.{IsTooLong}
+use Rattle.log_audit.specs.Audit.{IsAnswer}
+use Rattle.log_audit.specs.declared.verdict.AuditFault.{AuditFault}
+use Rattle.log_audit.specs.declared.verdict.AuditFault.TheVariants.{ReadFault, TooLong, NoMemory as AuditNoMemory}
+use Rattle.log_audit.specs.declared.verdict.Verdict.{Verdict}
+use Rattle.log_audit.specs.declared.verdict.Verdict.TheVariants.{Yes, No}
+use Rattle.session_run.specs.Serving.{FeedRun}
+use Rattle.run_words.specs.Words.{Asked, a_replay, an_ahead, an_audit, a_service, a_drill, a_booking, a_league, File, map_file, fleet_file, second_fleet_file, feed_file, log_file, files_of}
+use Rattle.dispatcher.specs.Meanings.{IsFleetFile, Meaning, Means, StopsAt, start_of, status_of}
+use Rattle.dispatcher.specs.Runs.{HasStopped, HasWorked, IsUnread}
+use Rattle.dispatcher.specs.Services.{Serves}
+use Rattle.dispatcher.specs.Shelves.{AreBytesOf, IsBackOf, Shelved, Sunk, told_bytes}
+use Rattle.dispatcher.specs.Verdicts.{Audits, EndsBy}
+use Rattle.dispatcher.specs.Whole.{AreWhole, IsWhole, MayEnd}
+use Rattle.dispatcher.specs.declared.stop.Stop.{Stop}
+use Rattle.dispatcher.specs.declared.stop.Stop.TheVariants.{NoMemory, ShelfFault, LimitPassed, MapRefused, FleetRefused}
+use Rattle.dispatcher.proofs.Statuses.{long-status, ran-status, within-not-long}
 
-without-seven : (status : ℕ) → status ≢ 7 → (status ≡ 0) ⊎ (status ≡ 1) ⊎ (status ≡ 7) → (status ≡ 0) ⊎ (status ≡ 1)
-without-seven status not (inl zero) = inl zero
-without-seven status not (inr (inl one)) = inr one
-without-seven status not (inr (inr seven)) = absurd (not seven)
+-- want of memory and a whole run are possible ends of all
+zero-ends : (ask : Asked) → MayEnd ask 0
+zero-ends (a_replay map fleet feed) = inl refl
+zero-ends (an_ahead map fleet feed reach) = inl refl
+zero-ends (an_audit map fleet log) = inl refl
+zero-ends (a_service map fleet riders drivers workers desks) = inl refl
+zero-ends (a_drill plan) = inl refl
+zero-ends (a_booking feed) = inl refl
+zero-ends (a_league map fleet second feed) = inl refl
 
-pub replay-completes : (m f r : List ℕ) (s : Seen) (status : ℕ) → IsRun m f (r ∷ []) s status
-    → (s.brought ≡ 3 → EndsReplay None (told_bytes s.told m) (told_bytes s.told f) (told_bytes s.told r) s.back status s.written_before s.written_after)
-    → status ≢ 7 → AreWhole s.told (a_replay m f r) → (Rose s.shelf_before s.shelf_after → ⊥) → (Rose s.sink_before s.sink_after → ⊥)
-    → Ends (a_replay m f r) status
-replay-completes m f r s status run session not_seven (texts, feed) no_fault no_sink =
-    without-seven status not_seven (complete-run m f (r ∷ []) s status run texts no_fault no_sink
-    (λ eight all. replay-not-long None (told_bytes s.told m) (told_bytes s.told f) (told_bytes s.told r) s.back status s.written_before s.written_after feed (session all) eight))
+one-ends : (ask : Asked) → MayEnd ask 1
+one-ends (a_replay map fleet feed) = inr refl
+one-ends (an_ahead map fleet feed reach) = inr refl
+one-ends (an_audit map fleet log) = inr (inl refl)
+one-ends (a_service map fleet riders drivers workers desks) = inr refl
+one-ends (a_drill plan) = inr refl
+one-ends (a_booking feed) = inr refl
+one-ends (a_league map fleet second feed) = inr refl
 
-pub ahead-completes : (m f r : List ℕ) (reach : ℕ) (s : Seen) (status : ℕ) → IsRun m f (r ∷ []) s status
-    → (s.brought ≡ 3 → EndsReplay (Some reach) (told_bytes s.told m) (told_bytes s.told f) (told_bytes s.told r) s.back status s.written_before
-    s.written_after)
-    → status ≢ 7 → AreWhole s.told (an_ahead m f r reach) → (Rose s.shelf_before s.shelf_after → ⊥) → (Rose s.sink_before s.sink_after → ⊥)
-    → Ends (an_ahead m f r reach) status
-ahead-completes m f r reach s status run session not_seven (texts, feed) no_fault no_sink =
-    without-seven status not_seven (complete-run m f (r ∷ []) s status run texts no_fault no_sink
-    (λ eight all. replay-not-long (Some reach) (told_bytes s.told m) (told_bytes s.told f) (told_bytes s.told r) s.back status s.written_before
-    s.written_after feed (session all) eight))
+ends-at : (ask : Asked) (status code : ℕ) → status ≡ code → MayEnd ask code → MayEnd ask status
+ends-at ask status code is ends = subst (MayEnd ask) (sym is) ends
 
-pub audit-completes : (m f l : List ℕ) (s : Seen) (status : ℕ) → IsRun m f (l ∷ []) s status
-    → (s.brought ≡ 3 → EndsAudit (told_bytes s.told m) (told_bytes s.told f) (told_bytes s.told l) s.back status s.written_before s.written_after
-    s.sink_before s.sink_after)
-    → AreWhole s.told (an_audit m f l) → (Rose s.shelf_before s.shelf_after → ⊥) → (Rose s.sink_before s.sink_after → ⊥)
-    → Ends (an_audit m f l) status
-audit-completes m f l s status run audited (texts, log) no_fault no_sink =
-    complete-run m f (l ∷ []) s status run texts no_fault no_sink
-    (λ eight all. audit-not-long (told_bytes s.told m) (told_bytes s.told f) (told_bytes s.told l) s.back status s.written_before s.written_after
-    s.sink_before s.sink_after log (audited all) eight)
+-- texts stand behind a map: the first of the files is a map, or none is a text
+IsHeaded : List File → Type 0
+IsHeaded [] = ⊤
+IsHeaded (map_file name ∷ files) = ⊤
+IsHeaded (feed_file name ∷ []) = ⊤
+IsHeaded _ = ⊥
 
-pub service-completes : (m f r d : List ℕ) (workers desks : ℕ) (s : Seen) (status : ℕ) → IsRun m f (r ∷ d ∷ []) s status
-    → (s.brought ≡ 4 → EndsService (told_bytes s.told m) (told_bytes s.told f) (told_bytes s.told r) (told_bytes s.told d) desks s.back status
-    s.written_before s.written_after)
-    → status ≢ 7 → AreWhole s.told (a_service m f r d workers desks) → (Rose s.shelf_before s.shelf_after → ⊥) → (Rose s.sink_before s.sink_after → ⊥)
-    → Ends (a_service m f r d workers desks) status
-service-completes m f r d workers desks s status run session not_seven (texts, riders, drivers) no_fault no_sink =
-    without-seven status not_seven (complete-run m f (r ∷ d ∷ []) s status run texts no_fault no_sink
-    (λ eight all. service-not-long (told_bytes s.told m) (told_bytes s.told f) (told_bytes s.told r) (told_bytes s.told d) desks status s.back
-    s.written_before s.written_after riders drivers (session all) eight))
+headed : (ask : Asked) → IsHeaded (files_of ask)
+unfolding IsHeaded
+headed (a_replay map fleet feed) = tt
+headed (an_ahead map fleet feed reach) = tt
+headed (an_audit map fleet log) = tt
+headed (a_service map fleet riders drivers workers desks) = tt
+headed (a_drill plan) = tt
+headed (a_booking feed) = tt
+headed (a_league map fleet second feed) = tt
+
+-- no text of whole files stops a run
+module _ (told : Option Contents) (m n : Meaning) where
+  no-map-fault : (name : List ℕ) (e : MapError) → IsWhole told m (map_file name) → IfSome (told_bytes told name) (λ text. map_text text ≡ Err e) → ⊥
+  no-map-fault name e whole fault =
+      absurd (cc (subst (λ (o : Option (List ℕ)). IfSome o (λ text. map_text text ≡ Err e)) whole.bytes_are fault, whole.text))
+
+  same-network : (name : List ℕ) → IsWhole told m (map_file name) → Means told n (map_file name) → n.network ≡ m.network
+  same-network name whole means =
+      cc (subst (λ (o : Option (List ℕ)). IfSome o (λ text. map_text text ≡ Ok n.network)) whole.bytes_are means, whole.text)
+
+  no-fleet-fault : (name : List ℕ) (e : FleetError) → n.network ≡ m.network → IsWhole told m (fleet_file name)
+      → IfSome (told_bytes told name) (λ text. fleet_text n.network.nodes text ≡ Err e) → ⊥
+  no-fleet-fault name e same whole fault =
+      absurd (cc (
+        subst (λ (r : RoadMap). fleet_text r.nodes whole.bytes ≡ Err e) same
+            (subst (λ (o : Option (List ℕ)). IfSome o (λ text. fleet_text n.network.nodes text ≡ Err e)) whole.bytes_are fault),
+        whole.text,
+      ))
+
+  no-second-fault : (name : List ℕ) (e : FleetError) → n.network ≡ m.network → IsWhole told m (second_fleet_file name)
+      → IfSome (told_bytes told name) (λ text. fleet_text n.network.nodes text ≡ Err e) → ⊥
+  no-second-fault name e same whole fault =
+      absurd (cc (
+        subst (λ (r : RoadMap). fleet_text r.nodes whole.bytes ≡ Err e) same
+            (subst (λ (o : Option (List ℕ)). IfSome o (λ text. fleet_text n.network.nodes text ≡ Err e)) whole.bytes_are fault),
+        whole.text.1,
+      ))
+
+  no-stop : (file : File) (stop : Stop) → IsWhole told m file → (IsFleetFile file → n.network ≡ m.network) → StopsAt told n file stop
+      → (stop ≡ NoMemory) ⊎ (stop ≡ ShelfFault)
+  no-stop file NoMemory whole same stops = inl refl
+  no-stop file ShelfFault whole same stops = inr refl
+  no-stop (map_file name) LimitPassed whole same (text, fault) = absurd (no-map-fault name TooLongMap whole fault)
+  no-stop (fleet_file name) LimitPassed whole same (text, fault) = absurd (no-fleet-fault name TooLongFleet (same tt) whole fault)
+  no-stop (second_fleet_file name) LimitPassed whole same (text, fault) = absurd (no-second-fault name TooLongFleet (same tt) whole fault)
+  no-stop (feed_file name) LimitPassed whole same (text, fault) = absurd text
+  no-stop (log_file name) LimitPassed whole same (text, fault) = absurd text
+  no-stop (map_file name) (MapRefused e) whole same (is_map, of_map, fault) = absurd (no-map-fault name e whole fault)
+  no-stop (fleet_file name) (MapRefused e) whole same (is_map, of_map, fault) = absurd is_map
+  no-stop (second_fleet_file name) (MapRefused e) whole same (is_map, of_map, fault) = absurd is_map
+  no-stop (feed_file name) (MapRefused e) whole same (is_map, of_map, fault) = absurd is_map
+  no-stop (log_file name) (MapRefused e) whole same (is_map, of_map, fault) = absurd is_map
+  no-stop (map_file name) (FleetRefused e) whole same (is_fleet, of_fleet, fault) = absurd is_fleet
+  no-stop (fleet_file name) (FleetRefused e) whole same (is_fleet, of_fleet, fault) = absurd (no-fleet-fault name e (same tt) whole fault)
+  no-stop (second_fleet_file name) (FleetRefused e) whole same (is_fleet, of_fleet, fault) = absurd (no-second-fault name e (same tt) whole fault)
+  no-stop (feed_file name) (FleetRefused e) whole same (is_fleet, of_fleet, fault) = absurd is_fleet
+  no-stop (log_file name) (FleetRefused e) whole same (is_fleet, of_fleet, fault) = absurd is_fleet
+
+  -- the map before a fleet file
+  map-before : (earlier later : List File) (file : File) → IsHeaded (earlier ++ file ∷ later) → All (IsWhole told m) (earlier ++ file ∷ later)
+      → All (Means told n) earlier → IsFleetFile file → n.network ≡ m.network
+  unfolding IsHeaded
+  map-before [] later (map_file name) headed whole means is_fleet = absurd is_fleet
+  map-before [] later (fleet_file name) headed whole means is_fleet = absurd headed
+  map-before [] later (second_fleet_file name) headed whole means is_fleet = absurd headed
+  map-before [] later (feed_file name) headed whole means is_fleet = absurd is_fleet
+  map-before [] later (log_file name) headed whole means is_fleet = absurd is_fleet
+  map-before (map_file name ∷ earlier) later file headed whole means is_fleet =
+      same-network name (All-head (IsWhole told m) (map_file name) (earlier ++ file ∷ later) whole) (All-head (Means told n) (map_file name) earlier means)
+  map-before (fleet_file name ∷ earlier) later file headed whole means is_fleet = absurd headed
+  map-before (second_fleet_file name ∷ earlier) later file headed whole means is_fleet = absurd headed
+  map-before (feed_file name ∷ []) later file headed whole means is_fleet = absurd headed
+  map-before (feed_file name ∷ other ∷ earlier) later file headed whole means is_fleet = absurd headed
+  map-before (log_file name ∷ earlier) later file headed whole means is_fleet = absurd headed
+
+  whole-at : (earlier later : List File) (file : File) → All (IsWhole told m) (earlier ++ file ∷ later) → IsWhole told m file
+  whole-at [] later file whole = All-head (IsWhole told m) file later whole
+  whole-at (f ∷ earlier) later file whole = whole-at earlier later file (All-tail (IsWhole told m) f (earlier ++ file ∷ later) whole)
+
+-- a run that stopped, though its files were whole
+stopped-ends : (ask : Asked) (old new : Shelved) (out : Sunk) (status : ℕ) → HasStopped (files_of ask) old new out status → AreWhole old.told ask
+    → (Rose old.faults new.faults → ⊥) → MayEnd ask status
+stopped-ends ask old new out status stopped (m, whole) no_fault =
+    let at = stopped.reading.stands in
+    let all : All (IsWhole old.told m) (at.earlier ++ at.file ∷ at.later) = subst (λ (l : List File). All (IsWhole old.told m) l) at.files_are whole in
+    let head : IsHeaded (at.earlier ++ at.file ∷ at.later) = subst IsHeaded at.files_are (headed ask) in
+    elim (no-stop old.told m at.meaning at.file stopped.stop (whole-at old.told m at.meaning at.earlier at.later at.file all)
+    (map-before old.told m at.meaning at.earlier at.later at.file head all at.means) stopped.reading.why) [
+      | inl memory ↦ elim stopped.status_is [
+        | inl is ↦ ends-at ask status 1 (is ∙ subst (λ (s : Stop). status_of s ≡ 1) (sym memory) refl) (one-ends ask)
+        | inr one ↦ ends-at ask status 1 one (one-ends ask)
+      ]
+      | inr fault ↦ absurd (no_fault (stopped.reading.rose fault))
+    ]
+
+-- a feed within its limits is not too long
+feed-not-long : (told : Option Contents) (m : Meaning) (name : List ℕ) (source : GivenBack) (feed : FeedRun) (taken : List ℕ)
+    → IsWhole told m (feed_file name) → IsBackOf (told_bytes told name) source feed → Reads feed.bytes feed.left taken → IsTooLong taken → ⊥
+feed-not-long told m name source feed taken whole back reads long =
+    let bytes : feed.bytes ≡ Some whole.bytes = subst (λ (o : Option (List ℕ)). AreBytesOf o feed.bytes) whole.bytes_are back.bytes_are in
+    within-not-long whole.bytes taken feed.left whole.within (subst (λ (o : Option (List ℕ)). Reads o feed.left taken) bytes reads) long
+
+-- a session whose status tells of a fault or of a limit
+ran-ends : (ask : Asked) (ran : Ran) (status : ℕ) → status ≡ status_ran ran → (status ≡ 5 → ⊥) → (status ≡ 6 → ⊥) → (ran.too_long ≡ true → ⊥) → MayEnd ask status
+ran-ends ask ran status is no_source no_sink no_limit = elim (ran-status ran) [
+  | inl zero ↦ ends-at ask status 0 (is ∙ zero) (zero-ends ask)
+  | inr (inl one) ↦ ends-at ask status 1 (is ∙ one) (one-ends ask)
+  | inr (inr (inl five)) ↦ absurd (no_source (is ∙ five))
+  | inr (inr (inr (inl six))) ↦ absurd (no_sink (is ∙ six))
+  | inr (inr (inr (inr eight))) ↦ absurd (no_limit (long-status ran eight).1)
+]
+
+-- what an audit's answer is said by, where its source did not fail and its log is not too long
+found-ends : (map fleet log : List ℕ) (found : Result Verdict AuditFault) (out : Sunk) (status : ℕ) → EndsBy found status out
+    → (status ≡ 5 → ⊥) → (status ≡ 6 → ⊥) → (found ≡ Err TooLong → ⊥) → MayEnd (an_audit map fleet log) status
+found-ends map fleet log (Ok (Yes totals)) out status (inl (is, says)) no_source no_sink short = inl is
+found-ends map fleet log (Ok (Yes totals)) out status (inr (inl (is, says))) no_source no_sink short = absurd (no_sink is)
+found-ends map fleet log (Ok (Yes totals)) out status (inr (inr (is, says))) no_source no_sink short = inr (inl is)
+found-ends map fleet log (Ok (No line why)) out status (inl (is, says)) no_source no_sink short = inr (inr is)
+found-ends map fleet log (Ok (No line why)) out status (inr (is, says)) no_source no_sink short = inr (inl is)
+found-ends map fleet log (Err TooLong) out status (is, says) no_source no_sink short = absurd (short refl)
+found-ends map fleet log (Err ReadFault) out status (is, says) no_source no_sink short = absurd (no_source is)
+found-ends map fleet log (Err AuditNoMemory) out status (is, says) no_source no_sink short = inr (inl is)
+
+log-not-long : (told : Option Contents) (m n : Meaning) (name : List ℕ) (source : GivenBack) (log : FeedRun) (out : Sunk) (status : ℕ)
+    → IsWhole told m (log_file name) → IsBackOf (told_bytes told name) source log → (audits : Audits n log out status) → audits.found ≡ Err TooLong → ⊥
+log-not-long told m n name source log out status whole back audits long =
+    let bytes : log.bytes ≡ Some whole.bytes = subst (λ (o : Option (List ℕ)). AreBytesOf o log.bytes) whole.bytes_are back.bytes_are in
+    whole.within (subst (λ (o : Option (List ℕ)). IfSome o (λ b. IsAnswer (start_of n) b (Err TooLong))) bytes
+    (subst (λ (f : Result Verdict AuditFault). IfSome log.bytes (λ b. IsAnswer (start_of n) b f)) long
+    (audits.answer (λ memory. absurd (cc (memory, long))) (λ fault. absurd (cc (fault, long)))))).0
+
+-- a service whose feeds are within their limits
+module _ (told : Option Contents) (m n : Meaning) (riders_name drivers_name : List ℕ) (riders_source drivers_source : GivenBack) (riders drivers : FeedRun) where
+  service-not-long : (desks : ℕ) (out : Sunk) (status : ℕ) → IsWhole told m (feed_file riders_name) → IsWhole told m (feed_file drivers_name)
+      → IsBackOf (told_bytes told riders_name) riders_source riders → IsBackOf (told_bytes told drivers_name) drivers_source drivers
+      → (serves : Serves n desks riders drivers out status) → serves.ran.too_long ≡ true → ⊥
+  service-not-long desks out status of_riders of_drivers riders_back drivers_back serves long = elim serves.served [
+    | inl not ↦ absurd (cc (not.no_limit, long))
+    | inr has ↦ elim (has.too_long long) [
+      | inl is ↦ feed-not-long told m riders_name riders_source riders has.riders_taken of_riders riders_back has.of_riders.reads is
+      | inr is ↦ feed-not-long told m drivers_name drivers_source drivers has.drivers_taken of_drivers drivers_back has.of_drivers.reads is
+    ]
+  ]
+
+module _ (old new : Shelved) (out : Sunk) (status : ℕ) (no_shelf : Rose old.faults new.faults → ⊥) (no_sink : Rose out.faults_before out.faults_after → ⊥) where
+  -- the third file of three, and the others
+  third : (m : Meaning) (a b c : File) → All (IsWhole old.told m) (a ∷ b ∷ c ∷ []) → IsWhole old.told m c
+  third m a b c all = All-head (IsWhole old.told m) c [] (All-tail (IsWhole old.told m) b (c ∷ []) (All-tail (IsWhole old.told m) a (b ∷ c ∷ []) all))
+
+  fourth : (m : Meaning) (a b c d : File) → All (IsWhole old.told m) (a ∷ b ∷ c ∷ d ∷ []) → IsWhole old.told m c × IsWhole old.told m d
+  fourth m a b c d all =
+      let rest = All-tail (IsWhole old.told m) b (c ∷ d ∷ []) (All-tail (IsWhole old.told m) a (b ∷ c ∷ d ∷ []) all) in
+      (All-head (IsWhole old.told m) c (d ∷ []) rest, All-head (IsWhole old.told m) d [] (All-tail (IsWhole old.told m) c (d ∷ []) rest))
+
+  -- a run that did its work
+  worked-ends : (ask : Asked) → HasWorked ask old new out status → AreWhole old.told ask → MayEnd ask status
+  worked-ends (a_replay map fleet feed) worked (m, whole) =
+      let (over, did) = worked.did in
+      ran-ends (a_replay map fleet feed) did.ran status did.status_is (λ five. no_shelf (worked.shelf_fault five)) (λ six. no_sink (worked.sink_fault six))
+      (λ long. feed-not-long old.told m feed over.source over.feed did.taken (third m (map_file map) (fleet_file fleet) (feed_file feed) whole) over.of_file
+      did.reads (did.replayed.too_long long))
+  worked-ends (an_ahead map fleet feed reach) worked (m, whole) =
+      let (over, did) = worked.did in
+      ran-ends (an_ahead map fleet feed reach) did.ran status did.status_is (λ five. no_shelf (worked.shelf_fault five)) (λ six. no_sink (worked.sink_fault six))
+      (λ long. feed-not-long old.told m feed over.source over.feed did.taken (third m (map_file map) (fleet_file fleet) (feed_file feed) whole) over.of_file
+      did.reads (did.replayed.too_long long))
+  worked-ends (an_audit map fleet log) worked (m, whole) =
+      let (over, did) = worked.did in
+      found-ends map fleet log did.found out status did.said (λ five. no_shelf (worked.shelf_fault five)) (λ six. no_sink (worked.sink_fault six))
+      (log-not-long old.told m worked.meaning log over.source over.feed out status (third m (map_file map) (fleet_file fleet) (log_file log) whole) over.of_file did)
+  worked-ends (a_service map fleet riders drivers workers desks) worked (m, whole) =
+      let (over, did) = worked.did in
+      let (of_riders, of_drivers) = fourth m (map_file map) (fleet_file fleet) (feed_file riders) (feed_file drivers) whole in
+      ran-ends (a_service map fleet riders drivers workers desks) did.ran status did.status_is (λ five. no_shelf (worked.shelf_fault five))
+      (λ six. no_sink (worked.sink_fault six))
+      (service-not-long old.told m worked.meaning riders drivers over.first_source over.second_source over.first over.second desks out status of_riders
+      of_drivers over.of_first over.of_second did)
+  worked-ends (a_drill plan) worked whole =
+      ran-ends (a_drill plan) worked.did.ran status worked.did.status_is (λ five. no_shelf (worked.shelf_fault five)) (λ six. no_sink (worked.sink_fault six))
+      (λ long. absurd (cc (worked.did.no_limit, long)))
+  worked-ends (a_booking feed) worked (m, whole) =
+      let (over, did) = worked.did in
+      ran-ends (a_booking feed) did.ran status did.status_is (λ five. no_shelf (worked.shelf_fault five)) (λ six. no_sink (worked.sink_fault six))
+      (λ long. feed-not-long old.told m feed over.source over.feed did.taken (All-head (IsWhole old.told m) (feed_file feed) [] whole) over.of_file
+      did.reads (did.booked.too_long long))
+  worked-ends (a_league map fleet second feed) worked (m, whole) =
+      let (over, did) = worked.did in
+      ran-ends (a_league map fleet second feed) did.ran status did.status_is (λ five. no_shelf (worked.shelf_fault five)) (λ six. no_sink (worked.sink_fault six))
+      (λ long. feed-not-long old.told m feed over.source over.feed did.taken
+      (fourth m (map_file map) (fleet_file fleet) (second_fleet_file second) (feed_file feed) whole).1 over.of_file did.reads (did.leagued.too_long long))
+
+-- however a run ended
+pub completes : (ask : Asked) (old new : Shelved) (out : Sunk) (status : ℕ)
+    → IsUnread new out status ⊎ HasStopped (files_of ask) old new out status ⊎ HasWorked ask old new out status
+    → AreWhole old.told ask → (Rose old.faults new.faults → ⊥) → (Rose out.faults_before out.faults_after → ⊥) → MayEnd ask status
+completes ask old new out status (inl unread) whole no_shelf no_sink = ends-at ask status 1 unread.wanting (one-ends ask)
+completes ask old new out status (inr (inl stopped)) whole no_shelf no_sink = stopped-ends ask old new out status stopped whole no_shelf
+completes ask old new out status (inr (inr worked)) whole no_shelf no_sink = worked-ends old new out status no_shelf no_sink ask worked whole

@@ -1,11 +1,8 @@
 -- Who has ended whole after a legal history, by his own part of it.
-use Rattle.std.proofs.Common.{◌≡◌, ℕ, Bool, true, false, ◌||◌, ◌&&◌, cond, List, [], ◌∷◌, ◌++◌, refl, sym, ap, ◌∙◌}
+use Rattle.std.proofs.Common.{◌≡◌, ℕ, true, false, ◌||◌, List, [], ◌∷◌, ◌++◌, refl, sym, ap, ◌∙◌}
 use Rattle.std.specs.Prelude.{IsTrue}
-use Rattle.std.specs.List.{list_any}
 use Rattle.std.proofs.lemmas.List.Elements.{All-weaker}
 use Rattle.std.proofs.lemmas.List.Folds.{list_any-append, list_any_none}
-use Rattle.std.proofs.Math.Bool.{or-false, and-false}
-use Rattle.ride_model.specs.declared.command.Actor.{Actor}
 use Rattle.ride_model.specs.declared.command.Actor.TheVariants.{Feed}
 use Rattle.ride_model.specs.declared.entry.Ending.{Ending}
 use Rattle.ride_model.specs.declared.entry.Ending.TheVariants.{Whole, Cut}
@@ -13,11 +10,10 @@ use Rattle.ride_model.specs.declared.entry.Entry.{Entry}
 use Rattle.ride_model.specs.declared.entry.Event.{Event}
 use Rattle.ride_model.specs.declared.entry.Event.TheVariants.{Fed, Finish, Opened, Committed, Abandoned}
 use Rattle.ride_model.specs.History.{entries_of, ended_whole, is_whole}
-use Rattle.ride_model.specs.Legal.{after_event, after_entry, replay}
-use Rattle.ride_model.specs.State.{State, is_actor}
+use Rattle.ride_model.specs.Legal.{replay}
+use Rattle.ride_model.specs.State.{State}
 use Rattle.history_laws.specs.Finishing.{is_whole_end, has_whole_end}
 use Rattle.history_laws.specs.Start.{IsStart, is_fed}
-use Rattle.history_laws.proofs.Effects.{ends_in, effect}
 use Rattle.history_laws.proofs.Finished.{whole-after}
 use Rattle.board_core.specs.Recorded.{end_entry}
 use Rattle.session_loops.specs.Loops.{AreFed}

@@ -1,5 +1,5 @@
 -- Lines that were written.
-use Rattle.std.proofs.Common.{◌≡◌, ℕ, List, [], ◌∷◌, ◌++◌, Option, Result, Ok, Err, refl, subst, ◌∙◌}
+use Rattle.std.proofs.Common.{◌≡◌, ℕ, List, [], ◌∷◌, ◌++◌, Option, Result, Ok, Err, refl, sym, subst, ◌∙◌}
 use Rattle.std.specs.Prelude.{OnOk, OnErr}
 use Rattle.ride_ports.specs.Bytes.{Writes, WritesPrefix}
 use Rattle.ride_ports.specs.Count.{Rose}
@@ -24,3 +24,9 @@ pub silent : (before after : Option (List ℕ)) (faults_before faults_after : �
 silent before after faults_before faults_after said =
     let none : said.prefix.done ≡ [] = nothing-front said.prefix.done said.prefix.rest said.prefix.whole in
     (subst (Writes before after) none said.prefix.written).joined ∙ append_known-nil before
+
+-- and so it is the other way round
+pub says-nothing : (before after : Option (List ℕ)) (faults_before faults_after : ℕ) → after ≡ before → Says before after faults_before faults_after []
+says-nothing before after faults_before faults_after same =
+    let none : Writes before after [] = record { joined = same ∙ sym (append_known-nil before) } in
+    record { prefix = WritesPrefix-whole none; whole = λ not. none }

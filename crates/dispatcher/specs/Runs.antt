@@ -1,101 +1,88 @@
--- What is seen of a run over a map and a fleet file, and what its status tells, whatever it was for.
-use Rattle.std.specs.Prelude.{◌≡◌, ◌≢◌, ◌⊎◌, ℕ, ◌+◌, ◌<◌, ◌≤◌, List, [], ◌∷◌, ◌++◌, length, map, All, Option, IfSome, Ok}
+-- How a run over the files of what was asked for ends.
+use Rattle.std.specs.Prelude.{◌≡◌, ◌⊎◌, ℕ, List, [], ◌∷◌, ◌++◌, length, map, All, Option, Some, None, codes}
 use Rattle.ride_ports.specs.Contents.{Contents, GivenBack}
 use Rattle.ride_ports.specs.Count.{Rose}
-use Rattle.ride_model.specs.Road.{RoadMap}
-use Rattle.ride_model.specs.declared.settings.Settings.{Settings}
-use Rattle.ride_model.specs.declared.vehicle.Vehicle.{Vehicle}
-use Rattle.gr_reader.specs.MapText.{map_format, map_text}
-use Rattle.gr_reader.specs.declared.errors.MapError.{MapError}
-use Rattle.fleet_file.specs.FleetText.{fleet_format}
-use Rattle.fleet_file.specs.declared.errors.FleetError.{FleetError}
-use Rattle.dispatcher.specs.Answers.{told_bytes, AreTextsOf, PassesLimit, RefusesFleet, RefusesMap}
-use Rattle.dispatcher.specs.Files.{AreGivenBack, FailsIn, IsSpent}
-use Rattle.dispatcher.specs.Refusals.{Says, fleet_refusal, map_refusal}
-use Rattle.run_words.specs.Words.{Begins}
+use Rattle.session_run.specs.Serving.{FeedRun}
+use Rattle.run_words.specs.Words.{Asked, a_replay, an_ahead, an_audit, a_service, a_drill, a_booking, a_league, File, files_of, name_of}
+use Rattle.dispatcher.specs.Meanings.{Meaning, Means, said_of, status_of}
+use Rattle.dispatcher.specs.Readings.{StopsReading}
+use Rattle.dispatcher.specs.Services.{Serves}
+use Rattle.dispatcher.specs.Shelves.{AreBack, IsBackOf, IsSpent, IsUntouched, SaysTo, Shelved, Sunk, told_bytes}
+use Rattle.dispatcher.specs.Verdicts.{Audits}
+use Rattle.dispatcher.specs.Whole.{AreWhole, MayEnd}
+use Rattle.dispatcher.specs.Works.{Books, Drills, PlaysLeague, Replays}
+use Rattle.dispatcher.specs.declared.stop.Stop.{Stop}
 
--- what a shelf and a sink show of a run: the contents that the shelf tells, the names that it was asked for, how many sources it
--- brought and those that were given back, its count of faults before and after, and what the sink wrote and counted
-pub record Seen : Type 0 where
-  pub told : Option Contents
-  pub asked : List (List ℕ)
-  pub brought : ℕ
-  pub back : List GivenBack
-  pub shelf_before : ℕ
-  pub shelf_after : ℕ
-  pub written_before : Option (List ℕ)
-  pub written_after : Option (List ℕ)
-  pub sink_before : ℕ
-  pub sink_after : ℕ
+-- memory was wanting before anything was asked for
+pub record IsUnread (shelf : Shelved) (out : Sunk) (status : ℕ) : Type 0 where
+  pub wanting : status ≡ 1
+  pub none_asked : shelf.asked ≡ []
+  pub none_brought : shelf.brought ≡ 0
+  pub none_back : shelf.back ≡ []
+  pub untouched : IsUntouched out
 
-abbrev pub seen : Option Contents → List (List ℕ) → ℕ → List GivenBack → ℕ → ℕ → Option (List ℕ) → Option (List ℕ) → ℕ → ℕ → Seen
-seen told asked brought back shelf_before shelf_after written_before written_after sink_before sink_after = record {
-  told = told;
-  asked = asked;
-  brought = brought;
-  back = back;
-  shelf_before = shelf_before;
-  shelf_after = shelf_after;
-  written_before = written_before;
-  written_after = written_after;
-  sink_before = sink_before;
-  sink_after = sink_after;
-}
+-- a run stopped before its work: the status and the line tell why, unless memory was wanting for that
+pub record HasStopped (files : List File) (old new : Shelved) (out : Sunk) (status : ℕ) : Type 0 where
+  pub stop : Stop
+  pub reading : StopsReading files stop old new
+  pub status_is : (status ≡ status_of stop) ⊎ (status ≡ 1)
+  pub said : status ≡ status_of stop → SaysTo out (said_of stop)
+  pub no_memory : status ≡ 1 → IsUntouched out
 
--- the sink wrote this line
-abbrev pub SaysTo : Seen → List ℕ → Type 0
-SaysTo s line = Says s.written_before s.written_after s.sink_before s.sink_after line
+-- the source that was given back last is that of a file; so are the last two of two files
+pub record IsOver (told : Option Contents) (name : List ℕ) (back : List GivenBack) : Type 0 where
+  pub feed : FeedRun
+  pub source : GivenBack
+  pub earlier : List GivenBack
+  pub back_is : back ≡ earlier ++ source ∷ []
+  pub of_file : IsBackOf (told_bytes told name) source feed
 
--- nothing was written
-abbrev pub Untouched : Seen → Type 0
-Untouched s = s.written_after ≡ s.written_before
+pub record AreOver (told : Option Contents) (first_name second_name : List ℕ) (back : List GivenBack) : Type 0 where
+  pub first : FeedRun
+  pub second : FeedRun
+  pub first_source : GivenBack
+  pub second_source : GivenBack
+  pub earlier : List GivenBack
+  pub back_is : back ≡ earlier ++ first_source ∷ second_source ∷ []
+  pub of_first : IsBackOf (told_bytes told first_name) first_source first
+  pub of_second : IsBackOf (told_bytes told second_name) second_source second
 
--- the bytes of these names, where the shelf tells them
-abbrev pub files_of : Option Contents → List (List ℕ) → List (Option (List ℕ))
-files_of told names = map (told_bytes told) names
+-- what was done, by what was asked for
+abbrev pub Does : Asked → Option Contents → Meaning → List GivenBack → Sunk → ℕ → Type 0
+Does (a_replay map fleet feed) told m back out status = (over : IsOver told feed back) × Replays m None over.feed out status
+Does (an_ahead map fleet feed reach) told m back out status = (over : IsOver told feed back) × Replays m (Some reach) over.feed out status
+Does (an_audit map fleet log) told m back out status = (over : IsOver told log back) × Audits m over.feed out status
+Does (a_service map fleet riders drivers workers desks) told m back out status =
+    (over : AreOver told riders drivers back) × Serves m desks over.first over.second out status
+Does (a_drill plan) told m back out status = Drills plan out status
+Does (a_booking feed) told m back out status = (over : IsOver told feed back) × Books over.feed out status
+Does (a_league map fleet second feed) told m back out status = (over : IsOver told feed back) × PlaysLeague m over.feed out status
 
--- what a status tells of a run over the files of these names: a map, a fleet file and others
-pub record IsRun (map fleet : List ℕ) (others : List (List ℕ)) (s : Seen) (status : ℕ) : Type 0 where
-  pub map_refused : status ≡ 3 → (e : MapError) × RefusesMap (told_bytes s.told map) e × SaysTo s (map_refusal e)
-  pub fleet_refused : status ≡ 4 → (e : FleetError) × RefusesFleet (told_bytes s.told map) (told_bytes s.told fleet) e × SaysTo s (fleet_refusal e)
-  pub limit_passed : status ≡ 8 → s.brought < 2 + length others → PassesLimit (told_bytes s.told map) (told_bytes s.told fleet)
-  pub nothing_written : (status ≡ 1) ⊎ (status ≡ 5) ⊎ (status ≡ 8) → s.brought < 2 + length others → Untouched s
-  pub asked_first : Begins s.asked (map ∷ fleet ∷ others)
-  pub asked_all : (status ≡ 0) ⊎ (status ≡ 7) → s.asked ≡ map ∷ fleet ∷ others
-  pub asked_second : 2 ≤ length s.asked → (network : RoadMap) × IfSome (told_bytes s.told map) (λ bytes. map_text bytes ≡ Ok network)
-  pub asked_third : 3 ≤ length s.asked → (network : RoadMap) × (settings : Settings) × (vehicles : List Vehicle)
-      × AreTextsOf network settings vehicles (told_bytes s.told map) (told_bytes s.told fleet)
-  pub all_brought : (status ≡ 0) ⊎ (status ≡ 6) ⊎ (status ≡ 7) → s.brought ≡ 2 + length others
-  pub few_brought : s.brought ≤ 2 + length others
-  pub all_back : length s.back ≡ s.brought
-  pub back_in_order : AreGivenBack (told_bytes s.told map ∷ told_bytes s.told fleet ∷ files_of s.told others) s.back
-  pub all_read : status ≡ 0 → All IsSpent s.back
-  pub counts_none : status ≡ 0 → (s.shelf_after ≡ s.shelf_before) × (s.sink_after ≡ s.sink_before)
-  pub shelf_fault : status ≡ 5 → Rose s.shelf_before s.shelf_after
-  pub map_fault : (source : GivenBack) → status ≡ 5 → length s.asked ≡ 1 → s.back ≡ source ∷ []
-      → FailsIn map_format (told_bytes s.told map) source
-  pub fleet_fault : (first source : GivenBack) → status ≡ 5 → length s.asked ≡ 2 → s.back ≡ first ∷ source ∷ []
-      → (network : RoadMap) × IfSome (told_bytes s.told map) (λ bytes. map_text bytes ≡ Ok network)
-      × FailsIn (fleet_format network.nodes) (told_bytes s.told fleet) source
-  pub sink_fault : status ≡ 6 → Rose s.sink_before s.sink_after
-  pub statuses : (status ≤ 8) × (status ≢ 2)
+-- all files were brought, and the work was done. A whole run leaves nothing of any source, and no count rose in it
+pub record HasWorked (ask : Asked) (old new : Shelved) (out : Sunk) (status : ℕ) : Type 0 where
+  pub all_asked : new.asked ≡ map name_of (files_of ask)
+  pub all_brought : new.brought ≡ length (files_of ask)
+  pub back : AreBack old.told (files_of ask) new
+  pub meaning : Meaning
+  pub means : All (Means old.told meaning) (files_of ask)
+  pub did : Does ask old.told meaning new.back out status
+  pub all_read : status ≡ 0 → All IsSpent new.back
+  pub shelf_sound : status ≡ 0 → new.faults ≡ old.faults
+  pub sink_sound : status ≡ 0 → out.faults_after ≡ out.faults_before
+  pub shelf_fault : status ≡ 5 → Rose old.faults new.faults
+  pub sink_fault : status ≡ 6 → Rose out.faults_before out.faults_after
 
--- the same of the part of a run that follows its map and its fleet file: names that were asked for and sources that were brought
--- and given back before are followed by those of these others
-pub record IsWork (others asked : List (List ℕ)) (brought : ℕ) (back : List GivenBack) (s : Seen) (status : ℕ) : Type 0 where
-  pub more : List (List ℕ)
-  pub sources : List GivenBack
-  pub asked_is : s.asked ≡ asked ++ more
-  pub some : 1 ≤ length more
-  pub begins : Begins more others
-  pub back_is : s.back ≡ back ++ sources
-  pub in_order : AreGivenBack (files_of s.told others) sources
-  pub brought_is : s.brought ≡ brought + length sources
-  pub few : length sources ≤ length others
-  pub all_asked : (status ≡ 0) ⊎ (status ≡ 6) ⊎ (status ≡ 7) ⊎ (status ≡ 8) → (more ≡ others) × (length sources ≡ length others)
-  pub nothing_written : length sources < length others → Untouched s
-  pub all_read : status ≡ 0 → All IsSpent sources
-  pub counts_none : status ≡ 0 → (s.shelf_after ≡ s.shelf_before) × (s.sink_after ≡ s.sink_before)
-  pub shelf_fault : status ≡ 5 → Rose s.shelf_before s.shelf_after
-  pub sink_fault : status ≡ 6 → Rose s.sink_before s.sink_after
-  pub statuses : (status ≤ 8) × (status ≢ 2) × (status ≢ 3) × (status ≢ 4)
+-- the words are not in order: that is said, unless memory was wanting, and nothing is asked for
+pub record RefusesWords (shelf : Shelved) (out : Sunk) (status : ℕ) : Type 0 where
+  pub none_asked : shelf.asked ≡ []
+  pub none_brought : shelf.brought ≡ 0
+  pub none_back : shelf.back ≡ []
+  pub statuses : (status ≡ 2) ⊎ (status ≡ 1)
+  pub said : status ≡ 2 → SaysTo out (codes "words refused\n")
+  pub unread : status ≡ 1 → IsUntouched out
+
+-- a run for what was asked ended so: memory was wanting before it began, or it stopped over a file, or it did its work. Where the
+-- files are whole and no count rose, it did its work whole, or memory was wanting
+pub record IsRun (ask : Asked) (old new : Shelved) (out : Sunk) (status : ℕ) : Type 0 where
+  pub ended : IsUnread new out status ⊎ HasStopped (files_of ask) old new out status ⊎ HasWorked ask old new out status
+  pub complete : AreWhole old.told ask → (Rose old.faults new.faults → ⊥) → (Rose out.faults_before out.faults_after → ⊥) → MayEnd ask status

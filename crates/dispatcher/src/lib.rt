@@ -2,15 +2,18 @@
 #![tactic(auto)]
 
 mod answering;
-mod auditing;
-mod booking;
-mod drilling;
 mod files;
-mod leaguing;
 mod refusals;
-mod replaying;
+mod runs;
 mod serving;
+mod sources;
+mod status;
 mod stop;
 mod top;
+mod verdicts;
 
+pub use files::TextNames;
+pub use runs::{ahead, audit, book, drill, league, replay, serve};
+pub use serving::{Crew, Feeds};
+pub use status::Status;
 pub use top::{WORDS_REFUSED, run};

@@ -1,6 +1,6 @@
 //! The lines that say why a text is refused.
 ghost use Rattle.std.specs.Prelude.{◌≡◌, IfOk};
-ghost use Rattle.dispatcher.specs.Answers.{said_of};
+ghost use Rattle.dispatcher.specs.Meanings.{said_of};
 ghost use Rattle.dispatcher.specs.Refusals.{arc_count, at_line, fleet_refusal, map_refusal};
 
 use crate::stop::Stop;

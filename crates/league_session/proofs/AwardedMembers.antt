@@ -1,14 +1,14 @@
 -- A company of a league is awarded its part of a round.
-use Rattle.std.proofs.Common.{◌≡◌, ◌≢◌, ℕ, Bool, true, false, sym, arith, List, [], ◌∷◌, ◌++◌, refl, ap, ◌∙◌, append_assoc}
+use Rattle.std.proofs.Common.{◌≡◌, ◌≢◌, ℕ, Bool, true, false, sym, arith, List, [], ◌∷◌, ◌++◌, refl, ap, subst, ◌∙◌, append_assoc}
 use Rattle.std.specs.Prelude.{All, Contains}
 use Rattle.ride_model.specs.declared.entry.Entry.{Entry}
 use Rattle.ride_model.specs.declared.vehicle.Ride.{Ride}
-use Rattle.ride_model.specs.Legal.{replay}
+use Rattle.ride_model.specs.Legal.{IsLegal, replay}
 use Rattle.ride_model.specs.State.{State, accepted_request}
 use Rattle.ride_model.specs.Text.{IsSpelled, IsSpelledCommand}
 use Rattle.plain_lemmas.proofs.Among.{among_from_contains}
-use Rattle.plain_lemmas.proofs.Each.{of_all, all_of}
-use Rattle.model_laws.proofs.Histories.{replay-append}
+use Rattle.plain_lemmas.proofs.Each.{of_all}
+use Rattle.model_laws.proofs.Histories.{IsLegal-parts, replay-append}
 use Rattle.board_core.specs.Recorded.{state_of}
 use Rattle.fleet_league.specs.declared.briefs.Brief.{Brief}
 use Rattle.fleet_league.specs.declared.briefs.Win.{Win}
@@ -39,8 +39,8 @@ award-state old new brief adds start =
 
 pub is-awarded : (old new : CompanyState) (brief : Brief) → new.board.start ≡ old.board.start → (brief.wins ≡ [] → new ≡ old)
     → (brief.wins ≢ [] → AddsAward (state_of old.board) brief old.board.history new.board.history)
-    → IsAwarded brief (state_of old.board) (state_of new.board)
-is-awarded old new brief start none some = record {
+    → IsLegal 1 1 new.board.start new.board.history → IsAwarded brief (state_of old.board) (state_of new.board)
+is-awarded old new brief start none some legal = record {
   none_won = λ is. ap (λ (s : CompanyState). state_of s.board) (none is);
   won = λ is.
       let s : State = state_of old.board in
@@ -48,6 +48,11 @@ is-awarded old new brief start none some = record {
       let entries : List Entry = asking_entries s brief.wins ++ opening_entry s brief.wins ∷ confirming_entry s brief adds.seats ∷ [] in (
         entries,
         record { seats = adds.seats; seats_are = adds.seats_are; grows = refl },
+        (IsLegal-parts 1 1 old.board.start old.board.history entries
+            (subst (λ (h : List Entry). IsLegal 1 1 old.board.start h)
+            (adds.grows ∙ append_assoc old.board.history (asking_entries s brief.wins)
+            (opening_entry s brief.wins ∷ confirming_entry s brief adds.seats ∷ []))
+            (subst (λ (x : State). IsLegal 1 1 x new.board.history) start legal))).1,
         award-state old new brief adds start,
       );
 }

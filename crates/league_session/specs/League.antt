@@ -10,7 +10,7 @@ use Rattle.ride_model.specs.declared.settings.Settings.{Settings}
 use Rattle.ride_model.specs.declared.vehicle.Ride.{Ride}
 use Rattle.ride_model.specs.declared.vehicle.Vehicle.{Vehicle}
 use Rattle.ride_model.specs.Batch.{waiting_rides, with_request_states}
-use Rattle.ride_model.specs.Legal.{replay}
+use Rattle.ride_model.specs.Legal.{IsLegal, replay}
 use Rattle.ride_model.specs.Road.{RoadMap}
 use Rattle.ride_model.specs.State.{State, request_state, start_state}
 use Rattle.ride_model.specs.Step.{step}
@@ -144,10 +144,10 @@ after_round desk rides =
     let closed = with_request_states Cancelled rides desk in
     record closed { asked = desk.asked + 1; opened = desk.opened + 1 }
 
--- a board after a confirmed award of a brief: as it was, where nothing was won
+-- a board after a confirmed award of a brief: as it was, where nothing was won, and else after entries that are legal at it
 pub record IsAwarded (brief : Brief) (old new : State) : Type 0 where
   pub none_won : brief.wins ≡ [] → new ≡ old
-  pub won : brief.wins ≢ [] → (entries : List Entry) × AddsAward old brief [] entries × (new ≡ replay old entries)
+  pub won : brief.wins ≢ [] → (entries : List Entry) × AddsAward old brief [] entries × IsLegal 1 1 old entries × (new ≡ replay old entries)
 
 -- a round of rides over quotes, of which this is told, and which gives the companies these parts
 pub record IsRoundOf (penalty : ℕ) (quotes : List Quote) (rides : List Ride) (sheet : RoundSheet) (first second : Brief) : Type 0 where

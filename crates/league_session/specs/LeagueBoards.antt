@@ -1,5 +1,5 @@
 -- The boards of a league in order: the desk of its requests, and what its companies are asked to play a round.
-use Rattle.std.specs.Prelude.{◌≡◌, ℕ, ◌+◌, ◌*◌, ◌<◌, ◌≤◌, Bool, true, false, List, [], length, All, Contains, Some, None, IsTrue, IsFalse, IsSome, nat_eq}
+use Rattle.std.specs.Prelude.{◌≡◌, ℕ, ◌+◌, ◌*◌, ◌≤◌, Bool, true, false, List, [], length, All, Some, None, IsTrue, IsFalse, IsSome, nat_eq}
 use Rattle.std.specs.List.{IsDistinct}
 use Rattle.ride_model.specs.declared.command.Command.{Command}
 use Rattle.ride_model.specs.declared.command.Command.TheVariants.{Request, Cancel}
@@ -14,14 +14,12 @@ use Rattle.ride_model.specs.State.{State, AcceptedRequest, accepted_request, req
 use Rattle.ride_model.specs.Step.{step}
 use Rattle.ride_model.specs.Text.{IsSpelled, IsSpelledCommand}
 use Rattle.ride_model.specs.Vehicle.{ride_ids}
-use Rattle.ride_model.specs.Limits.{largest_batch, most_batches, most_requests}
+use Rattle.ride_model.specs.Limits.{largest_batch}
 use Rattle.model_laws.specs.Requests.{is_of}
 use Rattle.board_core.specs.Recorded.{Recorded, state_of}
-use Rattle.fleet_league.specs.declared.briefs.Brief.{Brief}
-use Rattle.fleet_league.specs.Awards.{IsCertifiedOver, request_of, won_rides}
+use Rattle.fleet_league.specs.Awards.{request_of}
 use Rattle.fleet_league.specs.Companies.{CompanyState, report_count}
 use Rattle.league_session.specs.League.{LeagueAnswer, LeagueState}
-use Rattle.fleet_league.specs.Prices.{IsNewRide}
 
 -- whether a command is a rider's: a request, or its cancellation
 abbrev pub is_riders : Command → Bool

@@ -150,6 +150,8 @@ impl<'r> Member<'r> {
         let vehicles = self.company.board().vehicles().len() as u32;
         let won = table_of_won(self.alloc, table, vehicles, rides, brief.wins.items())?;
         self.company.award_priced(won, brief)?;
+        // And this one, that it is so still.
+        let _awarded = self.company.board().entries();
         Ok(())
     }
 }

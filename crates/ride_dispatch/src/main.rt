@@ -2,6 +2,8 @@
 #![tactic(auto)]
 
 mod messages;
+mod options;
+mod texts;
 
 use dispatcher::{WORDS_REFUSED, run};
 use messages::{Report, tell_threads};

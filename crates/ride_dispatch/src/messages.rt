@@ -1,7 +1,10 @@
 //! What is said on standard error: of a run that was not whole, in one line, and of a session that cannot be live. No clause speaks of
 //! it.
+use crate::options::tell_words;
+use crate::texts::{tell_fleet, tell_map};
 use ride_ports::FileFault;
 use std::io;
+use std::rt::Files;
 use std::thread::{Builder, Threads};
 
 const FEED_LIMIT: &str = " has more than 67,108,864 bytes or 1,000,000 lines";
@@ -29,10 +32,12 @@ struct Said<'a> {
 
 impl<'a> Report<'a> {
     /// Says why the run was not whole.
-    pub fn tell<R: Eprint>(&self, rt: &R) {
+    pub fn tell<R: Files + Eprint + AllocGlobal>(&self, rt: &R) {
         let _ = match self.status {
             0 => Ok(()),
-            2 => eprintln!(rt; "usage: ride_dispatch {}", usage(first_word(self.words))),
+            2 => tell_words(rt, self.words),
+            3 => tell_map(rt, self.name(1)),
+            4 => tell_fleet(rt, self.name(1), self.name(self.asked.len())),
             _ => self.tell_fault(rt),
         };
     }
@@ -53,12 +58,7 @@ impl<'a> Report<'a> {
     // What is said before the cause.
     fn said(&self) -> Said<'_> {
         match self.status {
-            1 => said_of("", "memory was wanting"),
-            3 => said_of(self.name(1), " is no road map; standard output says why"),
-            4 => said_of(
-                self.name(self.asked.len()),
-                " is no fleet file; standard output says why",
-            ),
+            1 => self.memory_wanting(),
             5 => said_of(self.name_of_fault(), " could not be read"),
             6 => said_of("standard output", self.output_failed()),
             7 => said_of(
@@ -67,6 +67,17 @@ impl<'a> Report<'a> {
             ),
             _ => self.limit_passed(),
         }
+    }
+
+    // The file that was asked for last tells how far the run had come.
+    fn memory_wanting(&self) -> Said<'_> {
+        if self.asked.is_empty() {
+            return said_of("", "memory was wanting");
+        }
+        said_of(
+            self.name(self.asked.len()),
+            " was the last file that was asked for when memory was wanting",
+        )
     }
 
     // The system's reason, where it gave one.
@@ -165,21 +176,5 @@ fn limit_of(word: &str, files: usize) -> &'static str {
         (_, 2) | ("league", 3) => FLEET_LIMIT,
         ("audit", _) => " has more than 1,073,741,824 bytes or 2,100,000 lines",
         _ => FEED_LIMIT,
-    }
-}
-
-// The options of a first word.
-fn usage(word: &str) -> &'static str {
-    match word {
-        "replay" => "replay --map MAP --fleet FLEET --feed FEED",
-        "audit" => "audit --map MAP --fleet FLEET --log LOG",
-        "serve" =>
-            "serve --map MAP --fleet FLEET --riders RIDERS --drivers DRIVERS --workers 1..16 --desks 1..2",
-        "ahead" => "ahead --map MAP --fleet FLEET --feed FEED --reach 1..1000000",
-        "book" => "book --feed FEED",
-        "league" => "league --map MAP --fleet FLEET --second FLEET --feed FEED",
-        "drill" =>
-            "drill --side 2..100 --vehicles 0..1000 --requests 0..16000 --seed 0..2147483647",
-        _ => "replay, audit, serve, ahead, drill, book or league, with its options",
     }
 }

@@ -1,13 +1,13 @@
 //! The words after the program's name: what they ask for, by the command-line library's own definition of what a command takes.
 #![tactic(auto)]
 
-ghost use Rattle.std.specs.Prelude.{◌≡◌, ◌<◌, bytes_eq, codes, length, map, None, string_bytes, IfOk, MatchBool};
-ghost use Rattle.city_maker.specs.Plan.{IsPlan};
-ghost use Rattle.run_words.specs.Words.{ahead_wish, audit_wish, book_command, book_of, drill_of, drill_wish, first_word, league_of, league_wish, replay_wish, serve_wish, value_of, wish_of, AreNamesOf, IsAskOf, IsInRange, IsPlanOf, IsTextOf, IsWishOf};
-ghost use Rattle.run_words.specs.Asks.{IsAskInRange};
+ghost use Rattle.std.specs.Prelude.{◌≡◌, codes, map, string_bytes, IfOk};
+ghost use Rattle.run_words.specs.Asks.{IsAskOf, IsInRange};
+ghost use Rattle.run_words.specs.Words.{ahead_asked, ask_of, audit_asked, book_asked, drill_asked, first_word, league_asked, replay_asked, serve_asked, word_of};
 
 mod commands;
 mod values;
+mod words;
 
 use city_maker::CityPlan;
 use commands::{
@@ -17,32 +17,22 @@ use commands::{
 use ride_model::limits::{LONGEST_REACH, MOST_WORKERS};
 use std::alloc::Global;
 use values::{number, read_by, text, three_texts};
+pub use words::{Usage, Word};
 
-/// What the words ask for: a run over a map, a fleet file and others, a drill, a run over the feed of bookings of a name, or a league.
+/// What the words ask for, with a variant a word. Files are told by their names.
 #[derive(Drop)]
 pub enum Ask {
-    OverFiles(Wish),
-    ForDrill(CityPlan),
-    OfBookings(String),
-    OfLeague(LeagueNames),
-}
-
-/// The names of a league's files: a map, the fleet files of both companies, and a feed.
-#[derive(Drop)]
-pub struct LeagueNames {
-    pub map: String,
-    pub first: String,
-    pub second: String,
-    pub feed: String,
-}
-
-/// A run over files, with a variant for each first word.
-#[derive(Drop)]
-pub enum Wish {
     Replay {
         map: String,
         fleet: String,
         feed: String,
+    },
+    Ahead {
+        map: String,
+        fleet: String,
+        feed: String,
+        /// In seconds.
+        reach: u64,
     },
     Audit {
         map: String,
@@ -57,12 +47,15 @@ pub enum Wish {
         workers: u32,
         desks: u8,
     },
-    Ahead {
+    Drill(CityPlan),
+    Book {
+        feed: String,
+    },
+    League {
         map: String,
         fleet: String,
+        second: String,
         feed: String,
-        /// In seconds.
-        reach: u64,
     },
 }
 
@@ -74,176 +67,54 @@ pub enum WordsError {
     NoMemory,
 }
 
-/// What the words ask for: the first says what, and the others are its options, in any order.
+/// Returns what the words ask for: the first says what, and the others are its options, in any order.
 pub fn read_ask(alloc: Global, words: &[String]) -> Result<Ask, WordsError>
-    ensures ask { IsAskOf (map string_bytes words.now) result }
-    ensures in_range { IfOk result IsAskInRange }
-{
-    if asks_for_drill(words) {
-        match drill_words(alloc, words) {
-            Ok(plan) => return Ok(Ask::ForDrill(plan)),
-            Err(error) => return Err(error),
-        }
-    }
-    if asks_for_bookings(words) {
-        match book_words(alloc, words) {
-            Ok(feed) => return Ok(Ask::OfBookings(feed)),
-            Err(error) => return Err(error),
-        }
-    }
-    if asks_for_league(words) {
-        match league_words(alloc, words) {
-            Ok(names) => return Ok(Ask::OfLeague(names)),
-            Err(error) => return Err(error),
-        }
-    }
-    match read_words(alloc, words) {
-        Ok(wish) => Ok(Ask::OverFiles(wish)),
-        Err(error) => Err(error),
-    }
-}
-
-// Whether the words ask for a drill, and so for nothing else.
-fn asks_for_drill(words: &[String]) -> bool
-    ensures { MatchBool result
-        ((wish_of (map string_bytes words.now) ≡ None) × (drill_of (map string_bytes words.now) ≡ drill_wish (map string_bytes words.now))
-        × (book_of (map string_bytes words.now) ≡ None) × (league_of (map string_bytes words.now) ≡ None))
-        (drill_of (map string_bytes words.now) ≡ None) }
-{
-    if words.is_empty() {
-        return false;
-    }
-    begins(words, "drill")
-}
-
-// Whether the words ask for bookings, and so for nothing else.
-fn asks_for_bookings(words: &[String]) -> bool
-    ensures { MatchBool result
-        ((wish_of (map string_bytes words.now) ≡ None) × (drill_of (map string_bytes words.now) ≡ None)
-        × (book_of (map string_bytes words.now) ≡ value_of book_command (map string_bytes words.now) (codes "feed"))
-        × (league_of (map string_bytes words.now) ≡ None))
-        (book_of (map string_bytes words.now) ≡ None) }
-{
-    if words.is_empty() {
-        return false;
-    }
-    begins(words, "book")
-}
-
-// Whether the words ask for a league, and so for nothing else.
-fn asks_for_league(words: &[String]) -> bool
-    ensures { MatchBool result
-        ((wish_of (map string_bytes words.now) ≡ None) × (drill_of (map string_bytes words.now) ≡ None)
-        × (book_of (map string_bytes words.now) ≡ None) × (league_of (map string_bytes words.now) ≡ league_wish (map string_bytes words.now)))
-        (league_of (map string_bytes words.now) ≡ None) }
-{
-    if words.is_empty() {
-        return false;
-    }
-    begins(words, "league")
-}
-
-// The option of bookings.
-fn book_words(alloc: Global, words: &[String]) -> Result<String, WordsError>
-    ensures { IsTextOf (value_of book_command (map string_bytes words.now) (codes "feed")) result }
-{
-    let given = read_by(book_command(alloc)?, words)?;
-    text(alloc, &given, "feed")
-}
-
-// The options of a league.
-fn league_words(alloc: Global, words: &[String]) -> Result<LeagueNames, WordsError>
-    ensures { AreNamesOf (league_wish (map string_bytes words.now)) result }
-{
-    let given = read_by(league_command(alloc)?, words)?;
-    let (map, first, second) = three_texts(alloc, &given, "map", "fleet", "second")?;
-    let feed = text(alloc, &given, "feed")?;
-    Ok(LeagueNames {
-        map,
-        first,
-        second,
-        feed,
-    })
-}
-
-// The options of a drill.
-fn drill_words(alloc: Global, words: &[String]) -> Result<CityPlan, WordsError>
-    ensures plan { IsPlanOf (drill_wish (map string_bytes words.now)) result }
-    ensures in_range { IfOk result IsPlan }
-{
-    let given = read_by(drill_command(alloc)?, words)?;
-    let side = number(&given, "side", 2, 100)? as u32;
-    let vehicles = number(&given, "vehicles", 0, 1_000)? as u32;
-    let requests = number(&given, "requests", 0, 16_000)? as u32;
-    let seed = number(&given, "seed", 0, 2_147_483_647)? as u32;
-    Ok(CityPlan {
-        side,
-        vehicles,
-        requests,
-        seed,
-    })
-}
-
-// The run over files that the words ask for.
-fn read_words(alloc: Global, words: &[String]) -> Result<Wish, WordsError>
-    ensures wish { IsWishOf (wish_of (map string_bytes words.now)) result }
+    ensures ask { IsAskOf (ask_of (map string_bytes words.now)) result }
     ensures in_range { IfOk result IsInRange }
 {
-    if words.is_empty() {
+    let Some(word) = first_word(words) else {
         return Err(WordsError::Refused);
+    };
+    match word {
+        Word::Replay => replay_words(alloc, words),
+        Word::Ahead => ahead_words(alloc, words),
+        Word::Audit => audit_words(alloc, words),
+        Word::Serve => serve_words(alloc, words),
+        Word::Drill => drill_words(alloc, words),
+        Word::Book => book_words(alloc, words),
+        Word::League => league_words(alloc, words),
     }
-    if begins(words, "replay") {
-        return replay_words(alloc, words);
-    }
-    if begins(words, "audit") {
-        return audit_words(alloc, words);
-    }
-    if begins(words, "serve") {
-        return serve_words(alloc, words);
-    }
-    if begins(words, "ahead") {
-        return ahead_words(alloc, words);
-    }
-    Err(WordsError::Refused)
 }
 
-// Whether this is the first word.
-fn begins(words: &[String], word: &str) -> bool
-    requires { 0 < length words.now }
-    ensures { result ≡ bytes_eq (first_word (map string_bytes words.now)) word.now }
+// The first word, where it is one.
+fn first_word(words: &[String]) -> Option<Word>
+    ensures { result ≡ word_of (first_word (map string_bytes words.now)) }
 {
-    words[0].as_str() == word
+    if words.is_empty() {
+        return None;
+    }
+    Word::named(words[0].as_str())
 }
 
 // The options of a replay.
-fn replay_words(alloc: Global, words: &[String]) -> Result<Wish, WordsError>
-    ensures wish { IsWishOf (replay_wish (map string_bytes words.now)) result }
+fn replay_words(alloc: Global, words: &[String]) -> Result<Ask, WordsError>
+    ensures ask { IsAskOf (replay_asked (map string_bytes words.now)) result }
     ensures in_range { IfOk result IsInRange }
 {
     let given = read_by(replay_command(alloc)?, words)?;
     let (map, fleet, feed) = three_texts(alloc, &given, "map", "fleet", "feed")?;
-    Ok(Wish::Replay { map, fleet, feed })
-}
-
-// The options of an audit.
-fn audit_words(alloc: Global, words: &[String]) -> Result<Wish, WordsError>
-    ensures wish { IsWishOf (audit_wish (map string_bytes words.now)) result }
-    ensures in_range { IfOk result IsInRange }
-{
-    let given = read_by(audit_command(alloc)?, words)?;
-    let (map, fleet, log) = three_texts(alloc, &given, "map", "fleet", "log")?;
-    Ok(Wish::Audit { map, fleet, log })
+    Ok(Ask::Replay { map, fleet, feed })
 }
 
 // The options of idle vehicles sent ahead.
-fn ahead_words(alloc: Global, words: &[String]) -> Result<Wish, WordsError>
-    ensures wish { IsWishOf (ahead_wish (map string_bytes words.now)) result }
+fn ahead_words(alloc: Global, words: &[String]) -> Result<Ask, WordsError>
+    ensures ask { IsAskOf (ahead_asked (map string_bytes words.now)) result }
     ensures in_range { IfOk result IsInRange }
 {
     let given = read_by(ahead_command(alloc)?, words)?;
     let (map, fleet, feed) = three_texts(alloc, &given, "map", "fleet", "feed")?;
     let reach = number(&given, "reach", 1, LONGEST_REACH)?;
-    Ok(Wish::Ahead {
+    Ok(Ask::Ahead {
         map,
         fleet,
         feed,
@@ -251,9 +122,19 @@ fn ahead_words(alloc: Global, words: &[String]) -> Result<Wish, WordsError>
     })
 }
 
+// The options of an audit.
+fn audit_words(alloc: Global, words: &[String]) -> Result<Ask, WordsError>
+    ensures ask { IsAskOf (audit_asked (map string_bytes words.now)) result }
+    ensures in_range { IfOk result IsInRange }
+{
+    let given = read_by(audit_command(alloc)?, words)?;
+    let (map, fleet, log) = three_texts(alloc, &given, "map", "fleet", "log")?;
+    Ok(Ask::Audit { map, fleet, log })
+}
+
 // The options of a service.
-fn serve_words(alloc: Global, words: &[String]) -> Result<Wish, WordsError>
-    ensures wish { IsWishOf (serve_wish (map string_bytes words.now)) result }
+fn serve_words(alloc: Global, words: &[String]) -> Result<Ask, WordsError>
+    ensures ask { IsAskOf (serve_asked (map string_bytes words.now)) result }
     ensures in_range { IfOk result IsInRange }
 {
     let given = read_by(serve_command(alloc)?, words)?;
@@ -261,12 +142,56 @@ fn serve_words(alloc: Global, words: &[String]) -> Result<Wish, WordsError>
     let drivers = text(alloc, &given, "drivers")?;
     let workers = number(&given, "workers", 1, MOST_WORKERS)? as u32;
     let desks = number(&given, "desks", 1, 2)? as u8;
-    Ok(Wish::Serve {
+    Ok(Ask::Serve {
         map,
         fleet,
         riders,
         drivers,
         workers,
         desks,
+    })
+}
+
+// The options of a drill.
+fn drill_words(alloc: Global, words: &[String]) -> Result<Ask, WordsError>
+    ensures ask { IsAskOf (drill_asked (map string_bytes words.now)) result }
+    ensures in_range { IfOk result IsInRange }
+{
+    let given = read_by(drill_command(alloc)?, words)?;
+    let side = number(&given, "side", 2, 100)? as u32;
+    let vehicles = number(&given, "vehicles", 0, 1_000)? as u32;
+    let requests = number(&given, "requests", 0, 16_000)? as u32;
+    let seed = number(&given, "seed", 0, 2_147_483_647)? as u32;
+    Ok(Ask::Drill(CityPlan {
+        side,
+        vehicles,
+        requests,
+        seed,
+    }))
+}
+
+// The option of bookings.
+fn book_words(alloc: Global, words: &[String]) -> Result<Ask, WordsError>
+    ensures ask { IsAskOf (book_asked (map string_bytes words.now)) result }
+    ensures in_range { IfOk result IsInRange }
+{
+    let given = read_by(book_command(alloc)?, words)?;
+    let feed = text(alloc, &given, "feed")?;
+    Ok(Ask::Book { feed })
+}
+
+// The options of a league.
+fn league_words(alloc: Global, words: &[String]) -> Result<Ask, WordsError>
+    ensures ask { IsAskOf (league_asked (map string_bytes words.now)) result }
+    ensures in_range { IfOk result IsInRange }
+{
+    let given = read_by(league_command(alloc)?, words)?;
+    let (map, fleet, second) = three_texts(alloc, &given, "map", "fleet", "second")?;
+    let feed = text(alloc, &given, "feed")?;
+    Ok(Ask::League {
+        map,
+        fleet,
+        second,
+        feed,
     })
 }

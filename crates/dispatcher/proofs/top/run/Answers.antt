@@ -1,7 +1,7 @@
-use Rattle.std.specs.Prelude.{map, string_bytes}
-use Rattle.run_words.specs.Words.{wish_of}
-use Rattle.dispatcher.proofs.Runs.{limit-of}
+use Rattle.run_words.specs.Asks.{asked_by}
+use Rattle.dispatcher.proofs.Mission.{served-some, serves-well}
 use Rattle.dispatcher.proofs.top.run.Goals as goal
 
-pub returns-clause-limit_passed : goal.returns-clause-limit_passed
-returns-clause-limit_passed g c = limit-of (wish_of (map string_bytes c.args.words.now)) _ c.run_words.result c.run_words.ensures.run
+pub returns-in-Ok-clause-served : goal.returns-in-Ok-clause-served
+returns-in-Ok-clause-served g c =
+    served-some _ _ _ _ _ c.in-Ok.ensures.ask (serves-well (asked_by c.in-Ok.ask) _ _ _ c.run_ask.result c.run_ask.ensures)

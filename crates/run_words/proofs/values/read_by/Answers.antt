@@ -1,7 +1,7 @@
 use Rattle.std.proofs.Common.{◌∙◌, map}
 use Rattle.std.specs.Prelude.{string_bytes}
 use Rattle.clap.specs.Simple.{app_of}
-use Rattle.run_words.proofs.Wishes.{refused, taken}
+use Rattle.run_words.proofs.OptionValues.{refused, taken}
 use Rattle.run_words.proofs.values.read_by.Goals as goal
 
 pub returns-in-Ok : goal.returns-in-Ok

@@ -1,6 +1,7 @@
-use Rattle.std.proofs.Common.{◌≤◌, List, length, sym, ap, subst, arith}
+use Rattle.std.proofs.Common.{ℕ, ◌≤◌, List, length, sym, ap, subst, arith}
 use Rattle.std.specs.Prelude.{All, Contains}
 use Rattle.ride_model.specs.declared.vehicle.Vehicle.{Vehicle}
+use Rattle.ride_model.specs.Legal.{IsLegal}
 use Rattle.ride_model.specs.State.{State}
 use Rattle.batch_commit.specs.Table.{IsTableOf}
 use Rattle.board_core.specs.Recorded.{Recorded, state_of}
@@ -75,9 +76,15 @@ award_priced-requires-clause-table c =
 pub returns-clause-awarded : goal.returns-clause-awarded
 returns-clause-awarded c =
     let ensures = c.in_ok-award_priced.ensures in
+    let board : Recorded = c.award_priced.new.self.board in
+    let after : IsLegalBoard board = subst IsLegalBoard c.board-3.ensures.board
+    (record { begins = c.entries-awarded.ensures.start; legal = c.entries-awarded.ensures.legal }) in
+    let legal : IsLegal 1 1 board.start board.history =
+    subst (λ (f : ℕ). IsLegal f 1 board.start board.history) c.board-3.ensures.one_feed
+    (subst (λ (d : ℕ). IsLegal board.feeds d board.start board.history) c.board-3.ensures.one_desk after.legal) in
     subst (λ (s : CompanyState). IsAwarded c.args.brief.now (state_of s.board) (state_of c.award_priced.new.self.board)) c.self.view_is
     (is-awarded c.self.inside.company c.award_priced.new.self c.args.brief.now (ap (λ (s : CompanyState). s.board.start) ensures.others)
-    ensures.no_wins ensures.confirmed)
+    ensures.no_wins ensures.confirmed legal)
 
 pub returns-clause-played : goal.returns-clause-played
 returns-clause-played c =

@@ -1,0 +1,109 @@
+-- What a service keeps that ran whole.
+use Rattle.std.proofs.Common.{◌≡◌, ◌⊎◌, inl, inr, ℕ, List, ◌∷◌, Option, Some, None, IfSome, sym, subst, ◌∙◌, arith}
+use Rattle.ride_ports.specs.Bytes.{Reads}
+use Rattle.ride_ports.specs.Contents.{Contents, GivenBack}
+use Rattle.ride_ports.proofs.ByteLemmas.{Reads-to_end}
+use Rattle.ride_model.specs.declared.command.Actor.TheVariants.{Desk}
+use Rattle.ride_model.specs.declared.command.Command.{Command}
+use Rattle.ride_model.specs.declared.entry.Entry.{Entry}
+use Rattle.ride_model.specs.declared.entry.Event.TheVariants.{Committed}
+use Rattle.ride_model.specs.History.{fed_commands}
+use Rattle.ride_model.specs.Legal.{IsLegal}
+use Rattle.ride_model.specs.State.{State}
+use Rattle.command_lines.specs.Commands.{commands_of}
+use Rattle.command_lines.specs.Feeds.{IsWhole}
+use Rattle.history_laws.specs.Start.{IsStart}
+use Rattle.history_laws.proofs.Unmoved.{unmoved-by_commit}
+use Rattle.model_laws.proofs.Histories.{IsLegal-parts}
+use Rattle.session_run.specs.Serving.{FeedRun}
+use Rattle.run_words.specs.Words.{Asked, a_replay, an_ahead, an_audit, a_service, a_drill, a_booking, a_league, files_of}
+use Rattle.dispatcher.specs.Meanings.{start_of, status_of}
+use Rattle.dispatcher.specs.Mission.{CommitsOnlyStanding, SeatsAtLeastCost, ServesWell}
+use Rattle.dispatcher.specs.Runs.{HasStopped, HasWorked, IsRun, IsUnread}
+use Rattle.dispatcher.specs.Shelves.{IsBackOf, Shelved, Sunk, told_bytes}
+use Rattle.dispatcher.specs.declared.stop.Stop.{Stop}
+use Rattle.dispatcher.specs.declared.stop.Stop.TheVariants.{NoMemory, ShelfFault, LimitPassed, MapRefused, FleetRefused}
+use Rattle.dispatcher.proofs.Statuses.{whole-status}
+
+module _ (feeds desks : ℕ) (start : State) (entries : List Entry) (legal : IsLegal feeds desks start entries) where
+  seats-least : SeatsAtLeastCost start entries
+  unfolding IsLegal
+  seats-least c =
+      let entry : Entry = record { actor = Desk c.desk; event = Committed c.number c.cost c.seats c.prices c.pays c.outcomes } in
+      (IsLegal-parts feeds desks start c.before (entry ∷ c.after) (subst (λ (l : List Entry). IsLegal feeds desks start l) c.stands legal)).1.0
+
+  only-standing : IsStart start → CommitsOnlyStanding start entries
+  only-standing begins c batch id opened moved =
+      let entry : Entry = record { actor = Desk c.desk; event = Committed c.number c.cost c.seats c.prices c.pays c.outcomes } in
+      let before = (IsLegal-parts feeds desks start c.before (entry ∷ c.after) (subst (λ (l : List Entry). IsLegal feeds desks start l) c.stands legal)).0 in
+      unmoved-by_commit feeds desks start c.before c.desk c.number c.cost c.seats c.prices c.pays c.outcomes batch id begins before opened moved
+
+-- all commands of a file's bytes were answered, where its feed was
+answers-all : (log : ℕ) (file : Option (List ℕ)) (source : GivenBack) (feed : FeedRun) (taken : List ℕ) (commands : List Command) → IsBackOf file source feed
+    → Reads feed.bytes feed.left taken → IsWhole log feed.left commands taken → IfSome file (λ bytes. commands ≡ commands_of log bytes)
+answers-all log None source feed taken commands back reads whole = tt
+answers-all log (Some bytes) source feed taken commands back reads whole =
+    let all : taken ≡ bytes = subst (λ (o : Option (List ℕ)). IfSome o (λ b. taken ≡ b)) back.bytes_are (Reads-to_end reads whole.to_end) in
+    subst (λ (b : List ℕ). commands ≡ commands_of log b) all whole.commands_are
+
+-- a run that stopped is not whole
+stop-not-whole : (stop : Stop) → 0 ≡ status_of stop → ⊥
+stop-not-whole NoMemory is = omega (arith, is)
+stop-not-whole ShelfFault is = omega (arith, is)
+stop-not-whole LimitPassed is = omega (arith, is)
+stop-not-whole (MapRefused e) is = omega (arith, is)
+stop-not-whole (FleetRefused e) is = omega (arith, is)
+
+module _ (map fleet riders drivers : List ℕ) (workers desks : ℕ) (old new : Shelved) (out : Sunk) (status : ℕ) where
+  abbrev ask : Asked
+  ask = a_service map fleet riders drivers workers desks
+
+  worked-well : HasWorked ask old new out status → ServesWell ask old.told out status
+  worked-well worked zero =
+      let (over, serves) = worked.did in
+      let m = worked.meaning in
+      let none = whole-status serves.ran (sym serves.status_is ∙ zero) in
+      elim serves.served [
+        | inl not ↦ absurd (cc (not.wanting, none.memory))
+        | inr has ↦
+            let riders_whole = has.of_riders.whole (has.all_of_riders (sym serves.status_is ∙ zero)) in
+            let drivers_whole = has.of_drivers.whole (has.all_of_drivers (sym serves.status_is ∙ zero)) in (
+              m,
+              worked.means,
+              record {
+                history = has.entries;
+                logged = has.written.whole none.sink;
+                one_legal_history = has.legal.legal;
+                riders_answered = answers-all m.settings.log (told_bytes old.told riders) over.first_source over.first has.riders_taken (fed_commands 1 has.entries)
+                    over.of_first has.of_riders.reads riders_whole.0;
+                drivers_answered = answers-all m.settings.log (told_bytes old.told drivers) over.second_source over.second has.drivers_taken
+                    (fed_commands 2 has.entries) over.of_second has.of_drivers.reads drivers_whole.0;
+                seated_at_least_cost = seats-least 2 desks (start_of m) has.entries has.legal.legal;
+                only_standing_committed = only-standing 2 desks (start_of m) has.entries has.legal.legal has.legal.begins;
+                promises_kept = has.legal.promises;
+                finished = has.legal.finished none.memory none.read;
+              },
+            )
+      ]
+
+  ended-well : IsUnread new out status ⊎ HasStopped (files_of ask) old new out status ⊎ HasWorked ask old new out status → ServesWell ask old.told out status
+  ended-well (inl unread) zero = absurd (omega (arith, unread.wanting, zero))
+  ended-well (inr (inl stopped)) zero = absurd (elim stopped.status_is [
+    | inl is ↦ stop-not-whole stopped.stop (sym zero ∙ is)
+    | inr one ↦ omega (arith, one, zero)
+  ])
+  ended-well (inr (inr worked)) zero = worked-well worked zero
+
+pub serves-well : (ask : Asked) (old new : Shelved) (out : Sunk) (status : ℕ) → IsRun ask old new out status → ServesWell ask old.told out status
+serves-well (a_replay map fleet feed) old new out status run = tt
+serves-well (an_ahead map fleet feed reach) old new out status run = tt
+serves-well (an_audit map fleet log) old new out status run = tt
+serves-well (a_service map fleet riders drivers workers desks) old new out status run = ended-well map fleet riders drivers workers desks old new out status run.ended
+serves-well (a_drill plan) old new out status run = tt
+serves-well (a_booking feed) old new out status run = tt
+serves-well (a_league map fleet second feed) old new out status run = tt
+
+-- where the words ask for it
+pub served-some : (o : Option Asked) (asked : Asked) (told : Option Contents) (out : Sunk) (status : ℕ) → o ≡ Some asked → ServesWell asked told out status
+    → IfSome o (λ a. ServesWell a told out status)
+served-some o asked told out status is well = subst (λ (x : Option Asked). IfSome x (λ a. ServesWell a told out status)) (sym is) well

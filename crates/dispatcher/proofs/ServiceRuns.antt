@@ -1,0 +1,114 @@
+-- Runs of a service, whose two feeds are brought one after the other.
+use Rattle.std.proofs.Common.{◌≡◌, inl, inr, ℕ, ◌+◌, List, [], ◌∷◌, ◌++◌, Option, refl, sym, ap, subst, ◌∙◌, arith, length-append}
+use Rattle.std.specs.Prelude.{All, length, map}
+use Rattle.std.proofs.lemmas.List.{append_assoc}
+use Rattle.std.proofs.lemmas.List.Elements.{All-append}
+use Rattle.plain_lemmas.proofs.Each.{all_of_one, all_of_two}
+use Rattle.ride_ports.specs.Contents.{Contents, GivenBack}
+use Rattle.ride_ports.specs.Count.{Rose}
+use Rattle.run_words.specs.Words.{a_service, feed_file, fleet_file, map_file, name_of}
+use Rattle.dispatcher.specs.Meanings.{Meaning, Means}
+use Rattle.dispatcher.specs.Pairs.{BringsOne, HandsBoth, ServesFeeds}
+use Rattle.dispatcher.specs.Readings.{AreRead}
+use Rattle.dispatcher.specs.Runs.{IsRun}
+use Rattle.dispatcher.specs.Shelves.{AreGivenBack, IsBackOf, IsLeftOf, IsSpent, Shelved, Sunk, bytes_of, told_bytes}
+use Rattle.dispatcher.specs.declared.stop.Stop.TheVariants.{ShelfFault}
+use Rattle.dispatcher.proofs.Reading.{back-length, back-next}
+use Rattle.dispatcher.proofs.Running.{any-text, missed-run, run-of}
+use Rattle.dispatcher.proofs.Saying.{says-nothing}
+
+module _ (map_name fleet riders drivers : List ℕ) (workers desks : ℕ) (m : Meaning) (old mid new : Shelved) (out : Sunk) (status : ℕ)
+    (read : AreRead (map_file map_name ∷ fleet_file fleet ∷ []) m old mid) where
+  -- the sources of the texts, of riders, and of drivers
+  in-order-three : (more : List (Option (List ℕ))) (source : GivenBack) (taken : List ℕ) → IsLeftOf (told_bytes mid.told riders) source taken
+      → AreGivenBack (told_bytes old.told map_name ∷ told_bytes old.told fleet ∷ told_bytes old.told riders ∷ more) (mid.back ++ source ∷ [])
+  in-order-three more source taken left =
+      back-next (bytes_of old.told (map_file map_name ∷ fleet_file fleet ∷ [])) (told_bytes old.told riders) more mid.back source read.back.in_order
+      (back-length (map_file map_name ∷ fleet_file fleet ∷ []) m old mid read)
+      (taken, subst (λ (t : Option Contents). IsLeftOf (told_bytes t riders) source taken) read.told left)
+
+  -- riders were brought, and drivers were not
+  one-run : BringsOne riders drivers mid new out status → IsRun (a_service map_name fleet riders drivers workers desks) old new out status
+  one-run one =
+      let asked_is : new.asked ≡ map name_of (map_file map_name ∷ fleet_file fleet ∷ feed_file riders ∷ feed_file drivers ∷ []) =
+      one.asked ∙ ap (λ l. l ++ riders ∷ drivers ∷ []) read.asked in
+      let many : length new.back ≡ length mid.back + 1 = ap length one.back ∙ length-append mid.back (one.source ∷ []) in
+      run-of (a_service map_name fleet riders drivers workers desks) old new out status (inr (inl (record {
+        stop = ShelfFault;
+        reading = record {
+          stands = record {
+            earlier = map_file map_name ∷ fleet_file fleet ∷ feed_file riders ∷ [];
+            file = feed_file drivers;
+            later = [];
+            files_are = refl;
+            asked_are = asked_is;
+            meaning = m;
+            means = All-append (Means old.told m) (map_file map_name ∷ fleet_file fleet ∷ []) (feed_file riders ∷ []) read.means
+                (all_of_one (Means old.told m) (feed_file riders) (any-text _));
+          };
+          why = tt;
+          back = record {
+            all_back = omega (arith, many, one.brought, read.back.all_back);
+            in_order = subst (λ (l : List GivenBack). AreGivenBack (bytes_of old.told (map_file map_name ∷ fleet_file fleet ∷ feed_file riders ∷ feed_file drivers ∷ [])) l)
+                (sym one.back) (in-order-three (told_bytes old.told drivers ∷ []) one.source one.taken one.left);
+          };
+          few = omega (arith, one.brought, read.brought, ap length asked_is);
+          rose = λ is. subst (λ (k : ℕ). Rose k new.faults) read.faults one.rose;
+          before_fault = λ first source is all last. tt;
+        };
+        status_is = inl one.status_is;
+        said = λ is. says-nothing out.before out.after out.faults_before out.faults_after one.untouched;
+        no_memory = λ is. one.untouched;
+      })))
+
+  -- both were brought
+  both-run : HandsBoth m desks riders drivers mid new out status → IsRun (a_service map_name fleet riders drivers workers desks) old new out status
+  both-run both =
+      let many : length new.back ≡ length mid.back + 2 = ap length both.back ∙ length-append mid.back (both.first_source ∷ both.second_source ∷ []) in
+      let asked_is : new.asked ≡ map name_of (map_file map_name ∷ fleet_file fleet ∷ feed_file riders ∷ feed_file drivers ∷ []) =
+      both.asked ∙ ap (λ l. l ++ riders ∷ drivers ∷ []) read.asked in
+      let three = in-order-three [] both.first_source both.first_taken both.first_left in
+      run-of (a_service map_name fleet riders drivers workers desks) old new out status (inr (inr (record {
+        all_asked = asked_is;
+        all_brought = omega (arith, both.brought, read.brought);
+        back = record {
+          all_back = omega (arith, many, both.brought, read.back.all_back);
+          in_order = subst (λ (l : List GivenBack). AreGivenBack (bytes_of old.told (map_file map_name ∷ fleet_file fleet ∷ feed_file riders ∷ feed_file drivers ∷ [])) l)
+              (sym (both.back ∙ sym (append_assoc mid.back (both.first_source ∷ []) (both.second_source ∷ []))))
+              (back-next (bytes_of old.told (map_file map_name ∷ fleet_file fleet ∷ feed_file riders ∷ [])) (told_bytes old.told drivers) []
+              (mid.back ++ both.first_source ∷ []) both.second_source three
+              (omega (arith, length-append mid.back (both.first_source ∷ []), read.back.all_back, read.brought))
+              (both.second_taken, subst (λ (t : Option Contents). IsLeftOf (told_bytes t drivers) both.second_source both.second_taken) read.told both.second_left));
+        };
+        meaning = m;
+        means = All-append (Means old.told m) (map_file map_name ∷ fleet_file fleet ∷ []) (feed_file riders ∷ feed_file drivers ∷ []) read.means
+            (all_of_two (Means old.told m) (feed_file riders) (feed_file drivers) (any-text _) (any-text _));
+        did = (
+          record {
+            first = both.first;
+            second = both.second;
+            first_source = both.first_source;
+            second_source = both.second_source;
+            earlier = mid.back;
+            back_is = both.back;
+            of_first = subst (λ (t : Option Contents). IsBackOf (told_bytes t riders) both.first_source both.first) read.told both.of_first;
+            of_second = subst (λ (t : Option Contents). IsBackOf (told_bytes t drivers) both.second_source both.second) read.told both.of_second;
+          },
+          both.serves,
+        );
+        all_read = λ zero. subst (λ (l : List GivenBack). All IsSpent l) (sym both.back)
+            (All-append IsSpent mid.back (both.first_source ∷ both.second_source ∷ []) read.spent
+            (all_of_two IsSpent both.first_source both.second_source (both.first_spent zero) (both.second_spent zero)));
+        shelf_sound = λ zero. both.shelf_sound zero ∙ read.faults;
+        sink_sound = both.sink_sound;
+        shelf_fault = λ five. subst (λ (k : ℕ). Rose k new.faults) read.faults (both.shelf_fault five);
+        sink_fault = both.sink_fault;
+      })))
+
+  pub serve-run : ServesFeeds m desks riders drivers mid new out status → IsRun (a_service map_name fleet riders drivers workers desks) old new out status
+  serve-run (inl none) =
+      subst (λ (k : ℕ). IsRun (a_service map_name fleet riders drivers workers desks) old new out k) (sym none.status_is)
+      (missed-run (a_service map_name fleet riders drivers workers desks) (map_file map_name ∷ fleet_file fleet ∷ []) (feed_file riders) (feed_file drivers ∷ []) m
+      old mid new out refl (λ s. tt) read none.told none.asked none.back none.brought none.rose none.untouched)
+  serve-run (inr (inl one)) = one-run one
+  serve-run (inr (inr both)) = both-run both

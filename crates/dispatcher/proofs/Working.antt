@@ -1,0 +1,90 @@
+-- What is done over one source.
+use Rattle.std.proofs.Common.{◌≡◌, ◌≢◌, inl, inr, ℕ, ◌<◌, false, List, [], Result, Ok, Err, IfSome, refl, sym, ◌∙◌, arith}
+use Rattle.std.specs.Prelude.{IsTrue}
+use Rattle.ride_ports.specs.Bytes.{Reads}
+use Rattle.ride_ports.specs.Count.{Rose}
+use Rattle.ride_ports.specs.Status.{status_of}
+use Rattle.ride_ports.specs.declared.outcome.Ran.{Ran}
+use Rattle.log_audit.specs.declared.verdict.AuditFault.{AuditFault}
+use Rattle.log_audit.specs.declared.verdict.AuditFault.TheVariants.{ReadFault, TooLong, NoMemory}
+use Rattle.log_audit.specs.declared.verdict.Verdict.{Verdict}
+use Rattle.log_audit.specs.declared.verdict.Verdict.TheVariants.{Yes, No}
+use Rattle.board_core.specs.declared.board.totals.Totals.{Totals}
+use Rattle.session_run.specs.Serving.{FeedRun}
+use Rattle.dispatcher.specs.Shelves.{Sunk}
+use Rattle.dispatcher.specs.Sources.{Did, WorksOver}
+use Rattle.dispatcher.specs.Verdicts.{EndsBy}
+use Rattle.dispatcher.specs.declared.sources.Work.{Work}
+use Rattle.dispatcher.proofs.Statuses.{NoneWanting, sink-status, source-status, whole-status}
+
+-- what is known of a session that ran over a source
+pub record RanOver (feed : FeedRun) (out : Sunk) (ran : Ran) : Type 0 where
+  pub taken : List ℕ
+  pub reads : Reads feed.bytes feed.left taken
+  pub to_end : NoneWanting ran → IfSome feed.left (λ rest. rest ≡ [])
+  pub source_fault : IsTrue ran.source_failed → Rose feed.faults_before feed.faults_after
+  pub source_sound : ran.source_failed ≡ false → feed.faults_after ≡ feed.faults_before
+  pub sink_fault : IsTrue ran.sink_failed → Rose out.faults_before out.faults_after
+  pub sink_sound : ran.sink_failed ≡ false → out.faults_after ≡ out.faults_before
+
+pub ran-works : (work : Work) (feed : FeedRun) (out : Sunk) (ran : Ran) (status : ℕ) → status ≡ status_of ran → RanOver feed out ran
+    → Did work feed out status → WorksOver work feed out status
+ran-works work feed out ran status is over did = record {
+  did = did;
+  taken = over.taken;
+  reads = over.reads;
+  to_end = λ zero. over.to_end (whole-status ran (sym is ∙ zero));
+  source_sound = λ zero. over.source_sound (whole-status ran (sym is ∙ zero)).read.0;
+  sink_sound = λ zero. over.sink_sound (whole-status ran (sym is ∙ zero)).sink;
+  source_fault = λ five. over.source_fault (source-status ran (sym is ∙ five));
+  sink_fault = λ six. over.sink_fault (sink-status ran (sym is ∙ six));
+}
+
+module _ (out : Sunk) where
+  -- a log is right
+  said-zero : (found : Result Verdict AuditFault) (status : ℕ) → EndsBy found status out → status ≡ 0 → (totals : Totals) × (found ≡ Ok (Yes totals))
+  said-zero (Ok (Yes totals)) status said zero = (totals, refl)
+  said-zero (Ok (No line why)) status (inl (is, says)) zero = absurd (omega (arith, is, zero))
+  said-zero (Ok (No line why)) status (inr (is, says)) zero = absurd (omega (arith, is, zero))
+  said-zero (Err TooLong) status (is, says) zero = absurd (omega (arith, is, zero))
+  said-zero (Err ReadFault) status (is, says) zero = absurd (omega (arith, is, zero))
+  said-zero (Err NoMemory) status (is, says) zero = absurd (omega (arith, is, zero))
+
+  -- a log's source failed
+  said-five : (found : Result Verdict AuditFault) (status : ℕ) → EndsBy found status out → status ≡ 5 → found ≡ Err ReadFault
+  said-five (Ok (Yes totals)) status (inl (is, says)) five = absurd (omega (arith, is, five))
+  said-five (Ok (Yes totals)) status (inr (inl (is, says))) five = absurd (omega (arith, is, five))
+  said-five (Ok (Yes totals)) status (inr (inr (is, says))) five = absurd (omega (arith, is, five))
+  said-five (Ok (No line why)) status (inl (is, says)) five = absurd (omega (arith, is, five))
+  said-five (Ok (No line why)) status (inr (is, says)) five = absurd (omega (arith, is, five))
+  said-five (Err TooLong) status (is, says) five = absurd (omega (arith, is, five))
+  said-five (Err ReadFault) status (is, says) five = refl
+  said-five (Err NoMemory) status (is, says) five = absurd (omega (arith, is, five))
+
+-- what is known of an audit of a source
+pub record FoundOver (feed : FeedRun) (out : Sunk) (found : Result Verdict AuditFault) (status : ℕ) : Type 0 where
+  pub said : EndsBy found status out
+  pub taken : List ℕ
+  pub reads : Reads feed.bytes feed.left taken
+  pub to_end : (totals : Totals) → found ≡ Ok (Yes totals) → IfSome feed.left (λ rest. rest ≡ [])
+  pub source_fault : found ≡ Err ReadFault → Rose feed.faults_before feed.faults_after
+  pub source_sound : found ≢ Err ReadFault → feed.faults_after ≡ feed.faults_before
+  pub sink_fault : status ≡ 6 → Rose out.faults_before out.faults_after
+  pub sink_sound : status ≡ 0 → out.faults_after ≡ out.faults_before
+
+pub found-works : (work : Work) (feed : FeedRun) (out : Sunk) (found : Result Verdict AuditFault) (status : ℕ) → FoundOver feed out found status
+    → Did work feed out status → WorksOver work feed out status
+found-works work feed out found status over did = record {
+  did = did;
+  taken = over.taken;
+  reads = over.reads;
+  to_end = λ zero. let (totals, right) = said-zero out found status over.said zero in over.to_end totals right;
+  source_sound = λ zero. let (totals, right) = said-zero out found status over.said zero in over.source_sound (λ fault. absurd (cc (fault, right)));
+  sink_sound = over.sink_sound;
+  source_fault = λ five. over.source_fault (said-five out found status over.said five);
+  sink_fault = over.sink_fault;
+}
+
+-- a count that rose from nothing is above it
+pub rose-above : (before after : ℕ) → before ≡ 0 → Rose before after → 0 < after
+rose-above before after none rose = omega (arith, none, rose (λ most. omega (arith, none, most)))

@@ -1,0 +1,12 @@
+use Rattle.std.proofs.Common.{[], refl}
+use Rattle.std.specs.Prelude.{string_bytes}
+use Rattle.run_words.specs.Words.{a_booking, feed_file}
+use Rattle.dispatcher.proofs.Reading.{none-read}
+use Rattle.dispatcher.proofs.Running.{any-text, work-run}
+use Rattle.dispatcher.proofs.Texts.{nothing}
+use Rattle.dispatcher.proofs.runs.book.Goals as goal
+
+pub returns : goal.returns
+returns g c =
+    work-run (a_booking (string_bytes c.args.feed)) [] (feed_file (string_bytes c.args.feed)) _ nothing _ _ _ _ _ refl
+    (none-read nothing _ c.requires.fresh) (λ s. tt) (any-text _) (λ over did. (over, did)) c.work_over.ensures

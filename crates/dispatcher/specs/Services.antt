@@ -1,0 +1,37 @@
+-- A service of riders and drivers at once.
+use Rattle.std.specs.Prelude.{◌≡◌, ◌⊎◌, ℕ, true, List, IsTrue, IsFalse}
+use Rattle.ride_ports.specs.Count.{Rose}
+use Rattle.ride_ports.specs.Status.{status_of}
+use Rattle.ride_ports.specs.declared.outcome.Ran.{Ran}
+use Rattle.ride_model.specs.Text.{text_of}
+use Rattle.ride_model.specs.declared.entry.Entry.{Entry}
+use Rattle.ride_model.specs.declared.entry.Ending.TheVariants.{Whole}
+use Rattle.command_lines.specs.Limits.{IsTooLong, IsWithinLimits}
+use Rattle.session_run.specs.Serving.{FeedRun, HasNotServed, HasServed, IsFeedOf, IsWrittenOut}
+use Rattle.dispatcher.specs.Meanings.{Meaning, start_of}
+use Rattle.dispatcher.specs.Shelves.{Sunk}
+
+-- what was written is the text of one legal history, in which each feed's commands stand once and in order: all of them at status 0,
+-- which comes only where both feeds are within their limits
+pub record HasAnswered (m : Meaning) (desks : ℕ) (riders drivers : FeedRun) (ran : Ran) (out : Sunk) : Type 0 where
+  pub riders_taken : List ℕ
+  pub drivers_taken : List ℕ
+  pub entries : List Entry
+  pub written : IsWrittenOut ran out.before out.after (text_of m.settings.log 2 desks entries)
+  pub legal : HasServed (start_of m) desks ran entries
+  pub of_riders : IsFeedOf m.settings.log 1 riders ran riders_taken entries
+  pub of_drivers : IsFeedOf m.settings.log 2 drivers ran drivers_taken entries
+  pub all_of_riders : status_of ran ≡ 0 → of_riders.ending ≡ Whole
+  pub all_of_drivers : status_of ran ≡ 0 → of_drivers.ending ≡ Whole
+  pub too_long : ran.too_long ≡ true → IsTooLong riders_taken ⊎ IsTooLong drivers_taken
+  pub within : status_of ran ≡ 0 → IsWithinLimits riders_taken × IsWithinLimits drivers_taken
+
+-- a service ran: it answered both feeds, as far as each was read, or memory was wanting before anything was read or written. It
+-- says that a source failed only where one did
+pub record Serves (m : Meaning) (desks : ℕ) (riders drivers : FeedRun) (out : Sunk) (status : ℕ) : Type 0 where
+  pub ran : Ran
+  pub status_is : status ≡ status_of ran
+  pub served : HasNotServed riders drivers ran out.before out.after ⊎ HasAnswered m desks riders drivers ran out
+  pub source_failed : IsTrue ran.source_failed → Rose riders.faults_before riders.faults_after ⊎ Rose drivers.faults_before drivers.faults_after
+  pub riders_sound : IsFalse ran.source_failed → riders.faults_after ≡ riders.faults_before
+  pub drivers_sound : IsFalse ran.source_failed → drivers.faults_after ≡ drivers.faults_before

@@ -1,0 +1,90 @@
+-- What a shelf and a sink show of a run.
+use Rattle.std.specs.Prelude.{◌≡◌, ℕ, ⊤, List, [], ◌∷◌, length, map, Option, Some, IfSome, option_and_then}
+use Rattle.ride_ports.specs.Bytes.{Reads}
+use Rattle.ride_ports.specs.Contents.{Contents, GivenBack, bytes_at, given_back}
+use Rattle.session_run.specs.Serving.{FeedRun}
+use Rattle.run_words.specs.Words.{File, name_of}
+use Rattle.dispatcher.specs.Refusals.{Says}
+
+-- a shelf at a moment: the contents that it tells, the names that it was asked for, how many sources it brought, those that were
+-- given back, and its count of faults
+pub record Shelved : Type 0 where
+  pub told : Option Contents
+  pub asked : List (List ℕ)
+  pub brought : ℕ
+  pub back : List GivenBack
+  pub faults : ℕ
+
+abbrev pub shelved : {H : Type 0} → (H → Option Contents) → (H → List (List ℕ)) → (H → ℕ) → (H → List GivenBack) → (H → ℕ) → H → Shelved
+shelved contents asked brought back faults shelf = record {
+  told = contents shelf;
+  asked = asked shelf;
+  brought = brought shelf;
+  back = back shelf;
+  faults = faults shelf;
+}
+
+-- a sink before and after a run: what it has taken, and its count of faults
+pub record Sunk : Type 0 where
+  pub before : Option (List ℕ)
+  pub after : Option (List ℕ)
+  pub faults_before : ℕ
+  pub faults_after : ℕ
+
+abbrev pub sunk : {K : Type 0} → (K → Option (List ℕ)) → (K → ℕ) → K → K → Sunk
+sunk written faults old new = record {
+  before = written old;
+  after = written new;
+  faults_before = faults old;
+  faults_after = faults new;
+}
+
+-- nothing was asked of a shelf yet
+pub record IsFresh (shelf : Shelved) : Type 0 where
+  pub none_asked : shelf.asked ≡ []
+  pub none_brought : shelf.brought ≡ 0
+  pub none_back : shelf.back ≡ []
+
+-- the sink took this line, and it took nothing
+abbrev pub SaysTo : Sunk → List ℕ → Type 0
+SaysTo out line = Says out.before out.after out.faults_before out.faults_after line
+
+abbrev pub IsUntouched : Sunk → Type 0
+IsUntouched out = out.after ≡ out.before
+
+-- the bytes of a name, where the shelf tells them
+abbrev pub told_bytes : Option Contents → List ℕ → Option (List ℕ)
+told_bytes told name = option_and_then (λ contents. bytes_at contents name) told
+
+-- the bytes of a source that was brought are those of its name, where the shelf tells them
+abbrev pub AreBytesOf : Option (List ℕ) → Option (List ℕ) → Type 0
+AreBytesOf file bytes = IfSome file (λ told. bytes ≡ Some told)
+
+-- a source was brought for a file without a fault, read, and given back
+pub record IsBackOf (file : Option (List ℕ)) (source : GivenBack) (feed : FeedRun) : Type 0 where
+  pub bytes_are : AreBytesOf file feed.bytes
+  pub fresh : feed.faults_before ≡ 0
+  pub back : source ≡ given_back feed.faults_after feed.left
+
+-- some bytes of a file were taken, and the others were left in the source that was given back
+pub record IsLeftOf (file : Option (List ℕ)) (source : GivenBack) (taken : List ℕ) : Type 0 where
+  pub left : IfSome file (λ bytes. Reads (Some bytes) source.left taken)
+
+-- the sources that were given back are those of the first of these files, in order
+abbrev pub AreGivenBack : List (Option (List ℕ)) → List GivenBack → Type 0
+AreGivenBack files [] = ⊤
+AreGivenBack [] (source ∷ sources) = ⊥
+AreGivenBack (file ∷ files) (source ∷ sources) = ((taken : List ℕ) × IsLeftOf file source taken) × AreGivenBack files sources
+
+abbrev pub bytes_of : Option Contents → List File → List (Option (List ℕ))
+bytes_of told files = map (λ (file : File). told_bytes told (name_of file)) files
+
+-- every source that was brought was given back, in the order of the files
+pub record AreBack (told : Option Contents) (files : List File) (shelf : Shelved) : Type 0 where
+  pub all_back : length shelf.back ≡ shelf.brought
+  pub in_order : AreGivenBack (bytes_of told files) shelf.back
+
+-- nothing is left of a source, and it counted no fault
+pub record IsSpent (source : GivenBack) : Type 0 where
+  pub no_fault : source.faults ≡ 0
+  pub to_end : IfSome source.left (λ rest. rest ≡ [])

@@ -1,0 +1,119 @@
+//! What is done over one source, which is brought by its name and given back.
+ghost use Rattle.std.specs.Prelude.{◌≡◌, ◌<◌, ◌≤◌, [], length, string_bytes, All};
+ghost use Rattle.ride_model.specs.declared.vehicle.Vehicle.{Vehicle};
+ghost use Rattle.ride_model.specs.Limits.{longest_reach};
+ghost use Rattle.ride_model.specs.Settings.{IsSettings};
+ghost use Rattle.ride_model.specs.Vehicle.{IsLawful};
+ghost use Rattle.session_run.specs.Serving.{feed_run};
+ghost use Rattle.dispatcher.specs.Shelves.{shelved, sunk};
+ghost use Rattle.dispatcher.specs.Sources.{DoesWork, OfReach, OfTexts, WorksOver};
+
+use crate::files::Texts;
+use crate::status::Status;
+use crate::verdicts::say_found;
+use ride_ports::{Shelf, Sink, Source};
+use std::alloc::Global;
+use std::thread::Threads;
+
+/// What is done over one source.
+#[derive(Drop)]
+pub enum Work {
+    /// Its log is written.
+    Replay(Texts),
+    /// In place of a log where idle vehicles are best sent ahead, within a reach in seconds.
+    Ahead(Texts, u64),
+    Audit(Texts),
+    League(Texts),
+    Book,
+}
+
+/// Brings the source of a name, does the work over it and gives it back. Returns the exit status.
+pub fn work_over<R: Threads + Sync, H: Shelf, K: Sink>(
+    rt: &R,
+    alloc: Global,
+    work: Work,
+    name: String,
+    shelf: &mut H,
+    out: &mut K,
+) -> u8
+    requires asked_room { length (H.asked shelf.old) < 8 }
+    requires back_room { length (H.back shelf.old) < 8 }
+    requires settings { OfTexts (λ texts. IsSettings texts.settings) work }
+    requires lawful { OfTexts (λ texts. All (IsLawful texts.roads) texts.fleet) work }
+    requires idle { OfTexts (λ texts. All (λ (v : Vehicle). v.stops.items ≡ []) texts.fleet) work }
+    requires first_versions { OfTexts (λ texts. All (λ (v : Vehicle). v.version ≡ 0) texts.fleet) work }
+    requires second_lawful { OfTexts (λ texts. All (IsLawful texts.roads) texts.second) work }
+    requires second_idle { OfTexts (λ texts. All (λ (v : Vehicle). v.stops.items ≡ []) texts.second) work }
+    requires second_versions { OfTexts (λ texts. All (λ (v : Vehicle). v.version ≡ 0) texts.second) work }
+    requires reach { OfReach (λ reach. (1 ≤ reach) × (reach ≤ longest_reach)) work }
+    ensures { DoesWork work (string_bytes name) (shelved H.contents H.asked H.brought H.back H.faults shelf.old)
+        (shelved H.contents H.asked H.brought H.back H.faults shelf.new) (sunk K.written K.faults out.old out.new) result }
+{
+    let Ok(mut source) = shelf.bring(name) else {
+        return Status::SourceFailed.code();
+    };
+    let status = do_work(rt, alloc, work, &mut source, out);
+    shelf.give_back(source);
+    status
+}
+
+// Does the work over a source. Returns the exit status.
+fn do_work<R: Threads + Sync, S: Source, K: Sink>(
+    rt: &R,
+    alloc: Global,
+    work: Work,
+    source: &mut S,
+    out: &mut K,
+) -> u8
+    requires settings { OfTexts (λ texts. IsSettings texts.settings) work }
+    requires lawful { OfTexts (λ texts. All (IsLawful texts.roads) texts.fleet) work }
+    requires idle { OfTexts (λ texts. All (λ (v : Vehicle). v.stops.items ≡ []) texts.fleet) work }
+    requires first_versions { OfTexts (λ texts. All (λ (v : Vehicle). v.version ≡ 0) texts.fleet) work }
+    requires second_lawful { OfTexts (λ texts. All (IsLawful texts.roads) texts.second) work }
+    requires second_idle { OfTexts (λ texts. All (λ (v : Vehicle). v.stops.items ≡ []) texts.second) work }
+    requires second_versions { OfTexts (λ texts. All (λ (v : Vehicle). v.version ≡ 0) texts.second) work }
+    requires reach { OfReach (λ reach. (1 ≤ reach) × (reach ≤ longest_reach)) work }
+    ensures { WorksOver work (feed_run (S.left source.old) (S.left source.new) (S.faults source.old) (S.faults source.new))
+        (sunk K.written K.faults out.old out.new) result }
+{
+    match work {
+        Work::Replay(texts) => {
+            let Texts {
+                roads,
+                settings,
+                fleet,
+                second: _,
+            } = texts;
+            session_run::replay(rt, alloc, &roads, settings, fleet, source, out).status()
+        }
+        Work::Ahead(texts, reach) => {
+            let Texts {
+                roads,
+                settings,
+                fleet,
+                second: _,
+            } = texts;
+            session_run::ahead(rt, alloc, &roads, settings, fleet, source, reach, out).status()
+        }
+        Work::Audit(texts) => {
+            let Texts {
+                roads,
+                settings,
+                fleet,
+                second: _,
+            } = texts;
+            let found = log_audit::audit(rt, alloc, &roads, settings, fleet, source);
+            say_found(alloc, found, out)
+        }
+        Work::League(texts) => {
+            let Texts {
+                roads,
+                settings,
+                fleet,
+                second,
+            } = texts;
+            league_session::league(rt, alloc, &roads, settings, fleet, second, source, out).status()
+        }
+        Work::Book => booking_desk::book_feed(alloc, source, out).status(),
+    }
+}

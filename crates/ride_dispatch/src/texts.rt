@@ -1,0 +1,181 @@
+//! What is said on standard error of a map or a fleet file that is refused: its line, what stands there, and what would be right. No
+//! clause speaks of it. The file is read once more, where it is one that can be.
+use fleet_file::{FleetError, read_fleet};
+use gr_reader::{MapError, read_map};
+use ride_model::Network;
+use ride_ports::SureSource;
+use std::rt::Files;
+use std::{fs, io};
+
+/// Says what is wrong with a map.
+pub fn tell_map<R: Files + Eprint + AllocGlobal>(rt: &R, name: &str) -> io::Result<()> {
+    let Some(text) = text_of(rt, name) else {
+        return eprintln!(rt; "ride_dispatch: {name} is no road map; standard output says why");
+    };
+    match read_map(rt.alloc(), &mut SureSource::new(text.as_bytes())) {
+        Ok(_) => eprintln!(rt; "ride_dispatch: {name} was no road map; standard output says why"),
+        Err(error) => tell_map_error(rt, name, text.as_str(), error),
+    }
+}
+
+/// Says what is wrong with a fleet file over a map.
+pub fn tell_fleet<R: Files + Eprint + AllocGlobal>(
+    rt: &R,
+    map: &str,
+    name: &str,
+) -> io::Result<()> {
+    let (Some(network), Some(text)) = (network_of(rt, map), text_of(rt, name)) else {
+        return eprintln!(rt; "ride_dispatch: {name} is no fleet file; standard output says why");
+    };
+    match read_fleet(rt.alloc(), &mut SureSource::new(text.as_bytes()), &network) {
+        Ok(_) => eprintln!(rt; "ride_dispatch: {name} was no fleet file; standard output says why"),
+        Err(error) => tell_fleet_error(rt, name, text.as_str(), network.nodes(), error),
+    }
+}
+
+// The text of a file, where it is no pipe.
+fn text_of<R: Files + AllocGlobal>(rt: &R, name: &str) -> Option<String> {
+    let about = fs::metadata(rt, name).ok()?;
+    if !about.is_file() {
+        return None;
+    }
+    fs::read_to_string(rt, name).ok()
+}
+
+fn network_of<R: Files + AllocGlobal>(rt: &R, map: &str) -> Option<Network> {
+    let text = text_of(rt, map)?;
+    read_map(rt.alloc(), &mut SureSource::new(text.as_bytes())).ok()
+}
+
+fn tell_map_error<R: Eprint>(rt: &R, name: &str, text: &str, error: MapError) -> io::Result<()> {
+    match error {
+        MapError::NoProblem => eprintln!(rt;
+            "{name}: no line 'p sp NODES ARCS' before the first arc"
+        ),
+        MapError::SecondProblem(line) => eprintln!(rt; "{name}:{line}: a second problem line"),
+        MapError::BadLine(line) => {
+            let said = line_of(text, line);
+            eprintln!(rt; "{name}:{line}: neither a problem, nor an arc, nor a comment: {said}")
+        }
+        MapError::NodeOut(line) => {
+            let nodes = field(problem_of(text), 2);
+            let node = node_out(line_of(text, line), nodes);
+            eprintln!(rt; "{name}:{line}: node {node} is not on the map (1 to {nodes})")
+        }
+        MapError::WeightOut(line) => {
+            let weight = field(line_of(text, line), 3);
+            eprintln!(rt; "{name}:{line}: {weight} seconds are out of range (0 to 1000000000)")
+        }
+        MapError::ArcCount { said, found } => {
+            eprintln!(rt; "{name}: the problem line says {said} arcs, {found} stand there")
+        }
+        MapError::TooLarge(line) => {
+            let said = line_of(text, line);
+            eprintln!(rt; "{name}:{line}: more than 500000 nodes or 2000000 arcs: {said}")
+        }
+        error => eprintln!(rt; "{name}: {error}"),
+    }
+}
+
+fn tell_fleet_error<R: Eprint>(
+    rt: &R,
+    name: &str,
+    text: &str,
+    nodes: u32,
+    error: FleetError,
+) -> io::Result<()> {
+    match error {
+        FleetError::BadLine(line) => tell_bad_line(rt, name, line, line_of(text, line)),
+        FleetError::Repeat(line) => {
+            let said = line_of(text, line);
+            let (what, which) = (field(said, 0), field(said, 1));
+            match what {
+                "set" => eprintln!(rt; "{name}:{line}: {which} is set twice"),
+                _ => eprintln!(rt; "{name}:{line}: vehicle {which} stands twice"),
+            }
+        }
+        FleetError::NodeOut(line) => {
+            let node = field(line_of(text, line), 3);
+            eprintln!(rt; "{name}:{line}: node {node} is not on the map (1 to {nodes})")
+        }
+        FleetError::ValueOut(line) => tell_value(rt, name, line, line_of(text, line)),
+        FleetError::TooMany(line) => eprintln!(rt; "{name}:{line}: more than 1000 vehicles"),
+        error => eprintln!(rt; "{name}: {error}"),
+    }
+}
+
+// A line that is no line of a fleet file.
+fn tell_bad_line<R: Eprint>(rt: &R, name: &str, line: u64, said: &str) -> io::Result<()> {
+    let setting = field(said, 1);
+    match field(said, 0) {
+        "set" if range_of(setting).is_none() => eprintln!(rt;
+            "{name}:{line}: no such setting: {setting}"
+        ),
+        "set" => eprintln!(rt; "{name}:{line}: a setting has one number: {said}"),
+        "vehicle" => eprintln!(rt;
+            "{name}:{line}: a vehicle has four numbers or five (ID SEATS NODE READY CHAIRS): {said}"
+        ),
+        _ => eprintln!(rt;
+            "{name}:{line}: neither a setting, nor a vehicle, nor a comment: {said}"
+        ),
+    }
+}
+
+// A value that is out of its range.
+fn tell_value<R: Eprint>(rt: &R, name: &str, line: u64, said: &str) -> io::Result<()> {
+    let (setting, value) = (field(said, 1), field(said, 2));
+    match (field(said, 0), range_of(setting)) {
+        ("set", Some(range)) => eprintln!(rt;
+            "{name}:{line}: {setting} {value} is out of range ({range})"
+        ),
+        _ => eprintln!(rt;
+            "{name}:{line}: a vehicle has 1 to 16 seats and 0 to 4 chairs, and is ready by second 1000000000: {said}"
+        ),
+    }
+}
+
+// The range of a setting.
+fn range_of(setting: &str) -> Option<&'static str> {
+    match setting {
+        "batch" => Some("1 to 128"),
+        "penalty" => Some("0 to 1000000000000"),
+        "drive" | "wait" => Some("0 to 1000"),
+        "lead" | "dwell" => Some("0 to 3600"),
+        "log" => Some("1 to 2"),
+        _ => None,
+    }
+}
+
+// The first of an arc's nodes that is not on the map.
+fn node_out<'a>(arc: &'a str, nodes: &str) -> &'a str {
+    let from = field(arc, 1);
+    match (from.parse::<u64>(), nodes.parse::<u64>()) {
+        (Ok(node), Ok(nodes)) if 1 <= node && node <= nodes => field(arc, 2),
+        _ => from,
+    }
+}
+
+// The problem line.
+fn problem_of(text: &str) -> &str {
+    for line in text.lines() {
+        if field(line, 0) == "p" {
+            return line;
+        }
+    }
+    ""
+}
+
+// A line by its number from 1, and a field of a line by its place from 0.
+fn line_of(text: &str, number: u64) -> &str {
+    match text.lines().nth((number as usize).saturating_sub(1)) {
+        Some(line) => line,
+        None => "",
+    }
+}
+
+fn field(line: &str, place: usize) -> &str {
+    match line.split_whitespace().nth(place) {
+        Some(field) => field,
+        None => "",
+    }
+}

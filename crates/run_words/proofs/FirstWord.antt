@@ -1,0 +1,11 @@
+-- Words of which there is none.
+use Rattle.std.proofs.Common.{◌≡◌, ℕ, List, [], ◌∷◌, None, refl, length, map, arith}
+use Rattle.run_words.specs.Words.{first_word, word_of}
+
+no-first_word : {S : Type 0} (text : S → List ℕ) (words : List S) → length words ≡ 0 → first_word (map text words) ≡ []
+no-first_word text [] is = refl
+no-first_word text (word ∷ words) is = absurd (omega arith)
+
+pub no-word : {S : Type 0} (text : S → List ℕ) (words : List S) → length words ≡ 0 → None ≡ word_of (first_word (map text words))
+unfolding word_of
+no-word text words is = let none = no-first_word text words is in rw none refl

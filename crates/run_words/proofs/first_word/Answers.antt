@@ -1,0 +1,7 @@
+use Rattle.std.proofs.Common.{rules}
+use Rattle.std.specs.Prelude.{string_bytes}
+use Rattle.run_words.proofs.FirstWord.{no-word}
+use Rattle.run_words.proofs.first_word.Goals as goal
+
+pub returns-then-is_empty : goal.returns-then-is_empty
+returns-then-is_empty c = no-word string_bytes c.args.words.now (search rules)
