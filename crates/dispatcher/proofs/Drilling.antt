@@ -29,4 +29,5 @@ drilled-run plan shelf out status fresh drills fault sound =
       sink_sound = λ zero. sound (whole-status drills.ran (sym drills.status_is ∙ zero)).sink;
       shelf_fault = λ five. absurd (cc (source-status drills.ran (sym drills.status_is ∙ five), drills.no_source));
       sink_fault = λ six. fault (sink-status drills.ran (sym drills.status_is ∙ six));
+      untouched = λ none. refl;
     })))

@@ -103,6 +103,7 @@ module _ (ask : Asked) (files : List File) (file : File) (work : Work) (m : Mean
         sink_sound = done.sink_sound;
         shelf_fault = λ five. subst (λ (k : ℕ). Rose k new.faults) read.faults (done.shelf_fault five);
         sink_fault = done.sink_fault;
+        untouched = λ none. absurd (omega (arith, all, ap (λ (l : List File). length l) none));
       })))
 
   -- or its name was not brought

@@ -103,6 +103,7 @@ module _ (map_name fleet riders drivers : List ℕ) (workers desks : ℕ) (m : M
         sink_sound = both.sink_sound;
         shelf_fault = λ five. subst (λ (k : ℕ). Rose k new.faults) read.faults (both.shelf_fault five);
         sink_fault = both.sink_fault;
+        untouched = λ none. absurd (cc none);
       })))
 
   pub serve-run : ServesFeeds m desks riders drivers mid new out status → IsRun (a_service map_name fleet riders drivers workers desks) old new out status

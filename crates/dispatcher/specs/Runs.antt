@@ -58,7 +58,8 @@ Does (a_drill plan) told m back out status = Drills plan out status
 Does (a_booking feed) told m back out status = (over : IsOver told feed back) × Books over.feed out status
 Does (a_league map fleet second feed) told m back out status = (over : IsOver told feed back) × PlaysLeague m over.feed out status
 
--- all files were brought, and the work was done. A whole run leaves nothing of any source, and no count rose in it
+-- all files were brought, and the work was done. A whole run leaves nothing of any source, and no count rose in it; where no file was
+-- asked for the shelf is as it was
 pub record HasWorked (ask : Asked) (old new : Shelved) (out : Sunk) (status : ℕ) : Type 0 where
   pub all_asked : new.asked ≡ map name_of (files_of ask)
   pub all_brought : new.brought ≡ length (files_of ask)
@@ -71,6 +72,7 @@ pub record HasWorked (ask : Asked) (old new : Shelved) (out : Sunk) (status : �
   pub sink_sound : status ≡ 0 → out.faults_after ≡ out.faults_before
   pub shelf_fault : status ≡ 5 → Rose old.faults new.faults
   pub sink_fault : status ≡ 6 → Rose out.faults_before out.faults_after
+  pub untouched : files_of ask ≡ [] → new ≡ old
 
 -- the words are not in order: that is said, unless memory was wanting, and nothing is asked for
 pub record RefusesWords (shelf : Shelved) (out : Sunk) (status : ℕ) : Type 0 where

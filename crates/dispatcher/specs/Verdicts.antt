@@ -57,4 +57,5 @@ pub record Audits (m : Meaning) (log : FeedRun) (out : Sunk) (status : ℕ) : Ty
       → IfSome log.bytes (λ bytes. (other : Result Verdict AuditFault) → IsAnswer (start_of m) bytes other → other ≡ found)
   pub to_end : (totals : Totals) → found ≡ Ok (Yes totals) → IfSome log.left (λ rest. rest ≡ [])
   pub before_fault : found ≡ Err ReadFault → FailsAfter (start_of m) log.bytes log.left
+  pub sound : found ≢ Err ReadFault → log.faults_after ≡ log.faults_before
   pub said : EndsBy found status out
