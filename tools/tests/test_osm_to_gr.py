@@ -10,10 +10,13 @@ from pathlib import Path
 HERE = os.path.dirname(os.path.abspath(__file__))
 sys.path.insert(0, os.path.dirname(HERE))
 
+import osm_to_gr  # noqa: E402
+import road_network  # noqa: E402
+
 try:
-    import osm_to_gr
+    import osmium
 except ImportError:  # pyosmium is not installed
-    osm_to_gr = None
+    osmium = None
 
 CORNER = os.path.join(HERE, "data", "corner.osm")
 
@@ -25,7 +28,7 @@ STREETS = {
 }
 
 
-@unittest.skipIf(osm_to_gr is None, "pyosmium is not installed")
+@unittest.skipIf(osmium is None, "pyosmium is not installed")
 class Corner(unittest.TestCase):
     def setUp(self):
         with tempfile.TemporaryDirectory() as folder, contextlib.redirect_stdout(io.StringIO()):
@@ -48,37 +51,35 @@ class Corner(unittest.TestCase):
         self.assertEqual([fields[1] for fields in self.table[1:]], ["101", "102", "103", "104", "105", "106", "107"])
 
 
-@unittest.skipIf(osm_to_gr is None, "pyosmium is not installed")
 class Tags(unittest.TestCase):
     def test_speeds(self):
-        for maxspeed, speed in (("50", 50), ("30 mph", 30 * 1.609344), ("walk", 7), ("none", 130), ("signals", 30), ("0", 30), ("", 30)):
+        for maxspeed, speed in (("50", 50), ("30 mph", 30 * 1.609344), ("walk", 7), ("none", 130), ("signals", 30), ("0", 30), ("nan", 30), ("0.001", 30), ("9999", 30), ("", 30)):
             tags = {"highway": "residential", "maxspeed": maxspeed} if maxspeed else {"highway": "residential"}
-            self.assertAlmostEqual(osm_to_gr.speed_of(tags), speed, msg=maxspeed)
+            self.assertAlmostEqual(road_network.speed_of(tags), speed, msg=maxspeed)
 
     def test_directions(self):
         for tags, directions in (({}, (True, True)), ({"oneway": "yes"}, (True, False)), ({"oneway": "-1"}, (False, True)),
                                  ({"junction": "roundabout"}, (True, False)), ({"highway": "motorway"}, (True, False)),
                                  ({"highway": "motorway", "oneway": "no"}, (True, True))):
-            self.assertEqual(osm_to_gr.directions_of({"highway": "residential", **tags}), directions, tags)
+            self.assertEqual(road_network.directions_of({"highway": "residential", **tags}), directions, tags)
 
     def test_who_may_drive(self):
         for tags, is_open in (({}, True), ({"access": "private"}, False), ({"access": "no", "motor_vehicle": "yes"}, True),
                               ({"motor_vehicle": "no"}, False), ({"highway": "footway"}, False), ({"area": "yes"}, False)):
-            self.assertEqual(osm_to_gr.is_open({"highway": "residential", **tags}), is_open, tags)
+            self.assertEqual(road_network.is_open({"highway": "residential", **tags}), is_open, tags)
 
 
-@unittest.skipIf(osm_to_gr is None, "pyosmium is not installed")
 class Parts(unittest.TestCase):
     def test_two_rings_with_a_way_from_one_to_the_other(self):
         rings = {1: {2: 1}, 2: {3: 1}, 3: {1: 1, 4: 1}, 4: {5: 1}, 5: {4: 1}}
-        self.assertEqual(osm_to_gr.strongly_connected(rings), {1, 2, 3})
+        self.assertEqual(road_network.strongly_connected(rings), {1, 2, 3})
 
     def test_a_row_of_one_way(self):
-        self.assertEqual(len(osm_to_gr.strongly_connected({1: {2: 1}, 2: {3: 1}, 3: {}})), 1)
+        self.assertEqual(len(road_network.strongly_connected({1: {2: 1}, 2: {3: 1}, 3: {}})), 1)
 
     def test_a_long_ring(self):
         ring = {node: {(node + 1) % 50_000: 1} for node in range(50_000)}
-        self.assertEqual(len(osm_to_gr.strongly_connected(ring)), 50_000)
+        self.assertEqual(len(road_network.strongly_connected(ring)), 50_000)
 
 
 if __name__ == "__main__":
