@@ -41,7 +41,7 @@ def unit_tests(folder: str, interpreter: str = sys.executable) -> Check:
 
 
 CHECKS = [
-    unit_tests("tools"),
+    unit_tests("tools", DEBIANS),
     unit_tests("inspector"),
     unit_tests("control_room", DEBIANS),
     Check("words that are not in order", ("checks/words.sh",), ("bash",)),
