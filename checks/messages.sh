@@ -8,6 +8,7 @@ feed="$here/crates/ride_dispatch/data/feed.txt"
 scratch="$(mktemp -d)"
 trap 'rm -rf "$scratch"' EXIT
 failed=0
+: > "$scratch/none"
 
 # The status and the line on standard error that these words should give; standard output goes to the file $output.
 output=/dev/null
@@ -81,7 +82,22 @@ refused_fleet ":1: a vehicle has 1 to 16 seats and 0 to 4 chairs, and is ready b
 says 5 "ride_dispatch: $scratch/missing could not be read: No such file or directory (os error 2)" replay --map "$scratch/missing" --fleet "$fleet" --feed "$feed"
 says 5 "ride_dispatch: $scratch could not be read: Is a directory (os error 21)" replay --map "$map" --fleet "$fleet" --feed "$scratch"
 says 5 "ride_dispatch: $scratch could not be read: Is a directory (os error 21)" book --feed "$scratch"
-says 7 "ride_dispatch: $feed is wrong at the line that standard output names" audit --map "$map" --fleet "$fleet" --log "$feed"
+
+# A wrong log: its first wrong line as it stands, and what of it is not as it was due.
+morning="$here/examples"
+wrong_log() {
+    sed "$3" "$morning/morning.log" > "$scratch/wrong"
+    line="$(sed -n "${1}p" "$scratch/wrong")"
+    says 7 "$scratch/wrong:$1: $2: $line" audit --map "$morning/map.gr" --fleet "$morning/fleet.txt" --log "$scratch/wrong"
+}
+says 7 "$feed:1: this is no line of a log, to the byte: $(head -n 1 "$feed")" audit --map "$map" --fleet "$fleet" --log "$feed"
+wrong_log 2 'who speaks here may not do so now' '2s/^f1/f2/'
+wrong_log 3 'another reply is due' '3s/waiting$/refused 2/'
+wrong_log 7 'another number, time, request or version is due' '7s/1@0/1@1/'
+wrong_log 8 "these seats are no seating of the batch's copies, or cost something else" '8s/cost 925/cost 924/'
+wrong_log 8 'the prices and pays do not prove that no seating costs less' '8s/101:380/101:379/'
+wrong_log 8 'another outcome is due' '8s/103:confirmed$/103:away/'
+says 7 "$scratch/none:1: this is no line of a log, to the byte: " audit --map "$map" --fleet "$fleet" --log "$scratch/none"
 head -c 1048577 /dev/zero | tr '\0' '#' > "$scratch/long"
 says 8 "ride_dispatch: $scratch/long has more than 1,048,576 bytes" replay --map "$map" --fleet "$scratch/long" --feed "$feed"
 says 8 "ride_dispatch: $scratch/long has more than 1,048,576 bytes" league --map "$map" --fleet "$fleet" --second "$scratch/long" --feed "$feed"

@@ -3,17 +3,20 @@
 
 mod messages;
 mod options;
+mod overheard;
 mod texts;
+mod verdicts;
 
 use dispatcher::{WORDS_REFUSED, run};
 use messages::{Report, tell_threads};
+use overheard::Overheard;
 use ride_ports::{FileShelf, OpenGate, Sink, StdoutSink, write_all};
 use std::env::{self, Env};
 use std::io;
 use std::process::ExitCode;
 
 fn main(rt: HostRuntime) -> ExitCode {
-    let mut out = StdoutSink::new(&rt);
+    let mut out = Overheard::new(StdoutSink::new(&rt));
     let words = match command_words(&rt) {
         Ok(words) => words,
         Err(error) => return ExitCode::from(status_without_words(&error, &mut out)),
@@ -33,7 +36,8 @@ fn main(rt: HostRuntime) -> ExitCode {
         words: words.as_slice(),
         asked: shelf.asked(),
         file_fault: shelf.last_fault(),
-        output_fault: out.last_fault(),
+        output_fault: out.sink().last_fault(),
+        said: out.first(),
     };
     report.tell(&rt);
     ExitCode::from(status)

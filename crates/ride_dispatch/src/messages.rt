@@ -2,6 +2,7 @@
 //! it.
 use crate::options::tell_words;
 use crate::texts::{tell_fleet, tell_map};
+use crate::verdicts::tell_wrong;
 use ride_ports::FileFault;
 use std::io;
 use std::rt::Files;
@@ -20,6 +21,8 @@ pub struct Report<'a> {
     pub asked: &'a [String],
     pub file_fault: Option<FileFault>,
     pub output_fault: Option<io::Error>,
+    /// The first bytes of what standard output took.
+    pub said: &'a [u8],
 }
 
 // What is said of a file, or of one of two.
@@ -38,6 +41,7 @@ impl<'a> Report<'a> {
             2 => tell_words(rt, self.words),
             3 => tell_map(rt, self.name(1)),
             4 => tell_fleet(rt, self.name(1), self.name(self.asked.len())),
+            7 => tell_wrong(rt, self.name(3), self.said),
             _ => self.tell_fault(rt),
         };
     }
@@ -61,10 +65,6 @@ impl<'a> Report<'a> {
             1 => self.memory_wanting(),
             5 => said_of(self.name_of_fault(), " could not be read"),
             6 => said_of("standard output", self.output_failed()),
-            7 => said_of(
-                self.name(3),
-                " is wrong at the line that standard output names",
-            ),
             _ => self.limit_passed(),
         }
     }

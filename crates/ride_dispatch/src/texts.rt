@@ -33,8 +33,8 @@ pub fn tell_fleet<R: Files + Eprint + AllocGlobal>(
     }
 }
 
-// The text of a file, where it is no pipe.
-fn text_of<R: Files + AllocGlobal>(rt: &R, name: &str) -> Option<String> {
+/// Returns the text of a file, where it is no pipe.
+pub fn text_of<R: Files + AllocGlobal>(rt: &R, name: &str) -> Option<String> {
     let about = fs::metadata(rt, name).ok()?;
     if !about.is_file() {
         return None;
@@ -165,14 +165,15 @@ fn problem_of(text: &str) -> &str {
     ""
 }
 
-// A line by its number from 1, and a field of a line by its place from 0.
-fn line_of(text: &str, number: u64) -> &str {
+/// Returns a line by its number from 1.
+pub fn line_of(text: &str, number: u64) -> &str {
     match text.lines().nth((number as usize).saturating_sub(1)) {
         Some(line) => line,
         None => "",
     }
 }
 
+// A field of a line by its place from 0.
 fn field(line: &str, place: usize) -> &str {
     match line.split_whitespace().nth(place) {
         Some(field) => field,
