@@ -64,7 +64,9 @@ def _run_words(words: argparse.ArgumentParser) -> None:
     which = words.add_mutually_exclusive_group()
     which.add_argument("--town", action="store_true", help="the town of examples/ (this is what runs without a choice)")
     which.add_argument("--city", type=number(2, 100), metavar="SIDE", help="a drawn city, a grid of SIDE times SIDE crossings")
-    which.add_argument("--own", metavar="FOLDER", help="your own map.gr and fleet.txt, and nodes.co with coordinates where there is one")
+    which.add_argument("--own", metavar="FOLDER", action="append",
+                       help="your own map.gr and fleet.txt, and nodes.co with coordinates where there is one; a zone that is named after "
+                            "the folder, and one more for each time that it is given")
     words.add_argument("--vehicles", type=number(1, 1_000), default=30, metavar="N", help="vehicles of a drawn city (default 30)")
     words.add_argument("--zones", type=number(1, 9), default=1, metavar="N",
                        help="so many drawn cities, each a session of its own (default 1)")
@@ -73,6 +75,8 @@ def _run_words(words: argparse.ArgumentParser) -> None:
                        help="seconds of the day between two batches, of which a session has 2,000 (default 15)")
     words.add_argument("--begin", type=number(0, 86_400), default=0, metavar="SECOND",
                        help="the day's second at which an own zone begins (default 0)")
+    words.add_argument("--columns", type=number(0, 1_000), default=0, metavar="N",
+                       help="crossings in a row of an own map that is a grid and has no nodes.co (default 0: the page draws a square)")
     words.add_argument("--nobody", action="store_true", help="no simulated riders and drivers")
     words.add_argument("--for", dest="minutes", type=number(0, 100_000), default=0, metavar="MINUTES",
                        help="end after so long (default 0: Ctrl-C)")

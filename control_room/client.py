@@ -61,7 +61,7 @@ class Client:
         while True:
             try:
                 await self._follow_once(told)
-            except (aiohttp.ClientError, asyncio.TimeoutError, OSError, ValueError):
+            except (aiohttp.ClientError, asyncio.TimeoutError, OSError, json.JSONDecodeError):
                 pass
             await asyncio.sleep(PAUSE)
 

@@ -1,6 +1,7 @@
 """Zones to begin with: the town of examples/, and drawn cities."""
 import os
 import random
+import re
 import shutil
 from dataclasses import dataclass
 from pathlib import Path
@@ -11,7 +12,7 @@ from player.roads import grid_city
 
 from control_room import HERE
 from control_room.day_clock import unix_now
-from control_room.zones import Zone, ZoneError
+from control_room.zones import ZONE_NAME, Zone, ZoneError
 
 EXAMPLES = HERE.parent / "examples"
 TOWN_COLUMNS = 6
@@ -24,6 +25,13 @@ class Plan:
     side: int
     vehicles: int
     seed: int
+
+
+@dataclass(frozen=True)
+class OwnPlan:
+    """How own zones begin and are drawn: the day's second, and the crossings in a row of a map that is a grid (0 where it is none)."""
+    begin: int
+    columns: int
 
 
 def new_folder(folder: Path, name: str) -> Path:
@@ -53,16 +61,19 @@ def drawn_city(folder: Path, program: str, speed: int, every: int, name: str, pl
     return _saved(Zone(name, str(path), program, unix_now(), BEGIN, speed, every, columns=plan.side))
 
 
-def own_zone(folder: Path, program: str, speed: int, every: int, source: Path, begin: int) -> Zone:
-    """Returns a zone over one's own map.gr, fleet.txt and perhaps nodes.co, which are copied."""
+def own_zone(folder: Path, program: str, speed: int, every: int, source: Path, plan: OwnPlan) -> Zone:
+    """Returns the zone, named after the folder, over one's own map.gr, fleet.txt and perhaps nodes.co, which are copied."""
+    name = re.sub("[^a-z0-9-]+", "-", source.resolve().name.lower())
+    if not ZONE_NAME.fullmatch(name):
+        raise ZoneError(f"a zone is named after its folder: a letter and up to 30 letters, digits and -; {name!r} is none")
     for needed in ("map.gr", "fleet.txt"):
         if not (source / needed).is_file():
             raise ZoneError(f"{source / needed} is not there")
-    path = new_folder(folder, "own")
+    path = new_folder(folder, name)
     for file in ("map.gr", "fleet.txt", "nodes.co"):
         if (source / file).is_file():
             shutil.copy(source / file, path / file)
-    return _saved(Zone("own", str(path), program, unix_now(), begin, speed, every))
+    return _saved(Zone(name, str(path), program, unix_now(), plan.begin, speed, every, columns=plan.columns))
 
 
 def _saved(zone: Zone) -> Zone:

@@ -108,6 +108,7 @@ class Simulation:
         self.crowd.riders.taken += 1
         self.crowd.asked[told.said["request"]] = f"rider:{name}"
         self.crowd.wishes[told.said["request"]] = {"from": origin, "to": destination}
+        self._note(told.said)
         await self._listen(client, told.said["request"], mood)
 
     async def _listen(self, client: Client, request: int, mood: float) -> None:

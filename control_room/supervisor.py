@@ -64,7 +64,8 @@ def make_room(words: argparse.Namespace) -> Tuple[Path, List[Zone]]:
 def make_zones(words: argparse.Namespace, folder: Path, program: str) -> List[Zone]:
     """Returns the new zones that the words ask for."""
     if words.own:
-        return [made_zones.own_zone(folder, program, words.speed, words.every, Path(words.own), words.begin)]
+        plan = made_zones.OwnPlan(words.begin, words.columns)
+        return [made_zones.own_zone(folder, program, words.speed, words.every, Path(source), plan) for source in words.own]
     if not words.city:
         return [made_zones.town(folder, program, words.speed, words.every)]
     names = [f"city{place}" for place in range(1, words.zones + 1)] if words.zones > 1 else ["city"]

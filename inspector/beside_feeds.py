@@ -30,8 +30,8 @@ def read_log(path: str) -> tuple[int, list[Told]]:
     """Returns the log's version and what it tells of each feed."""
     version, told = 0, []
     for number, line in enumerate(log_lines(path), start=1):
-        head = read_head(line[:-1]) if number == 1 and line.endswith(b"\n") else None
-        entry = read_entry(line[:-1], version) if number > 1 and line.endswith(b"\n") else None
+        head = read_head(line) if number == 1 else None
+        entry = read_entry(line, version) if number > 1 else None
         if head is not None:
             version, told = head[0], [Told() for _ in range(head[1])]
         elif entry is None or entry.actor.startswith(b"f") and int(entry.actor[1:]) > len(told):

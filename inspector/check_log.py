@@ -17,7 +17,7 @@ from command_line import parser_of, run
 from fleet_file import read_fleet
 from history import History
 from road_map import read_map
-from texts import Ended, unreadable
+from texts import Ended, refused, unreadable
 from travel_times import TravelTimes
 
 MOST_BYTES, MOST_LINES, MOST_LINE = 1 << 30, 2_100_000, 131_072  # of a log; a line is counted without its LF
@@ -54,15 +54,15 @@ def check(map_path: str, fleet_path: str, log_path: str) -> str:
     """Returns the answer to a log that is right; every other end is raised."""
     history = History(read_board(map_path, fleet_path))
     for number, line in enumerate(log_lines(log_path), start=1):
-        why = history.wrong(line)
-        if why:
-            raise Ended(7, f"no {number} {why}", f"{log_path} is wrong at the line that standard output names")
+        if why := history.wrong(line):
+            raise refused(7, log_path, f"no {number} {why}")
     return history.summary()
 
 
 def main() -> int:
     """Returns the exit status."""
-    words = parser_of(__doc__, {"MAP": "the road map, a .gr file", "FLEET": "the fleet file", "LOG": "the trip log"}).parse_args()
+    meanings = {"MAP": "the road map, a .gr file", "FLEET": "the fleet file", "LOG": "the trip log"}
+    words = parser_of(__doc__, meanings).parse_args()
     print(check(words.map, words.fleet, words.log))
     return 0
 

@@ -6,8 +6,8 @@ MOST_PLACE, MOST_CODE = (1 << 32) - 1, 255  # the greatest place of a seat and c
 
 
 def form(pattern: bytes) -> re.Pattern[bytes]:
-    """Returns the pattern in which each `N` stands for a number without leading zeros."""
-    return re.compile(pattern.replace(b"N", rb"(?:0|[1-9][0-9]{0,17})"))
+    """Returns the pattern of a line, with its LF, in which each `N` stands for a number without leading zeros."""
+    return re.compile(pattern.replace(b"N", rb"(?:0|[1-9][0-9]{0,17})") + b"\n")
 
 
 HEAD = form(rb"log ([12]) feeds ([12]) desks ([12])")
@@ -42,13 +42,13 @@ class Entry:
 
 
 def read_head(line: bytes) -> tuple[int, ...] | None:
-    """Returns the log's version and the numbers of feeds and desks, or None where the line is no head."""
+    """Returns the log's version and the numbers of feeds and desks, or None where the line, with its LF, is no head."""
     match = HEAD.fullmatch(line)
     return tuple(map(int, match.groups())) if match else None
 
 
 def read_entry(line: bytes, version: int) -> Entry | None:
-    """Returns the entry that the line, without its LF, spells in a log of this version, or None."""
+    """Returns the entry that the line, with its LF, spells in a log of this version, or None."""
     if match := FED.fullmatch(line):
         return fed_entry(match, version)
     if match := COMMIT.fullmatch(line):

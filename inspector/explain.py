@@ -10,13 +10,14 @@ import json
 import sys
 from dataclasses import dataclass, field
 
+from board import WAITING
 from certificate import Batch
 from check_log import log_lines, read_board
 from command_line import parser_of, run
 from entries import Entry, read_entry
 from history import History
 from reasons import Reason, in_words, reason_of
-from texts import Ended, NUMBER
+from texts import NUMBER, Ended, refused
 
 REFUSALS = {
     1: "this number was given to a request before", 2: "a node is not on the map", 3: "from and to are the same",
@@ -56,7 +57,7 @@ class Story:
 
     def _read_opening(self, line: int, history: History) -> None:
         board = history.board
-        if any(name == self.request for _, name in board.waiting):
+        if self.request in board.requests and board.requests[self.request].state == WAITING:
             self.tell(line, event="not in the batch", batch=board.opened, taken=board.settings.batch)
 
     def _read_closing(self, line: int, entry: Entry, batch: Batch) -> None:
@@ -76,11 +77,10 @@ def story_of(map_path: str, fleet_path: str, log_path: str, request: int) -> Sto
     history, story = History(read_board(map_path, fleet_path)), Story(request)
     for number, line in enumerate(log_lines(log_path), start=1):
         batches = dict(history.board.batches)
-        why = history.wrong(line)
-        if why:
-            raise Ended(2, "", f"{log_path} is wrong at line {number}: {why}")
+        if why := history.wrong(line):
+            raise refused(2, log_path, f"no {number} {why}")
         if number > 1:
-            story.read(number, read_entry(line[:-1], history.board.settings.log), history, batches)
+            story.read(number, read_entry(line, history.board.settings.log), history, batches)
     if not story.events:
         raise Ended(2, "", f"{log_path} has no line about request {request}")
     return story
@@ -137,7 +137,7 @@ def main() -> int:
     try:
         story = story_of(words.map, words.fleet, words.log, int(words.request))
     except Ended as end:
-        raise Ended(2, "", f"{end.message}{': ' + end.answer if end.answer else ''}") from None
+        raise Ended(2, "", end.message) from None
     print(json.dumps({"request": story.request, "events": story.events}) if words.json else words_of(story))
     return 0
 

@@ -3,7 +3,7 @@
 from dataclasses import dataclass
 
 from plans import Vehicle
-from texts import Ended, fields_of, numbered_lines, numbers_of
+from texts import fields_of, numbered_lines, numbers_of, refused
 
 MOST_BYTES, MOST_VEHICLES, MOST_SEATS, MOST_CHAIRS, MOST_STAMP = 1 << 20, 1_000, 16, 4, 10**9
 RANGES = {b"batch": (1, 128), b"penalty": (0, 10**12), b"drive": (0, 1_000), b"wait": (0, 1_000),
@@ -56,5 +56,5 @@ def read_fleet(path: str, nodes: int) -> tuple[Settings, dict[int, Vehicle]]:
             code = fault_of_vehicle(values, fleet, nodes)
             fleet.setdefault(values[0], Vehicle(values[0], values[1], sum(values[4:]), values[2], values[3]))
         if code:
-            raise Ended(4, f"fleet refused {code} line {number}", f"{path} is no fleet file; standard output says why")
+            raise refused(4, path, f"fleet refused {code} line {number}")
     return settings, fleet

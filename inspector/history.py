@@ -20,12 +20,12 @@ class History:
         """Takes the next line, with its LF; returns the word that says why it is wrong, or None where it is right."""
         version = self.board.settings.log
         if not self.actors:
-            head = read_head(line[:-1]) if line.endswith(b"\n") else None
+            head = read_head(line)
             if head is None or head[0] != version:
                 return "spelling"
             self.actors = [b"%s%d" % (kind, n + 1) for kind, most in zip((b"f", b"d"), head[1:]) for n in range(most)]
             return None
-        entry = read_entry(line[:-1], version) if line.endswith(b"\n") else None
+        entry = read_entry(line, version)
         if entry is None:
             return "spelling"
         if entry.actor not in self.actors or entry.actor in self.ended or not self._may(entry):
@@ -62,11 +62,11 @@ class History:
         return None
 
     def _due(self, desk: bytes) -> bytes:
-        """Opens the batch that is due and returns its line."""
+        """Opens the batch that is due and returns its line, with its LF."""
         batch = self.board.open_batch(desk)
         plans = [f"{copy.id}@{copy.version}" for copy in batch.copies.values()]
         head = f"{desk.decode()} open {batch.number} at {batch.market.now}"
-        return " ".join([head, "requests", *map(str, batch.rides), "plans", *plans]).encode()
+        return " ".join([head, "requests", *map(str, batch.rides), "plans", *plans]).encode() + b"\n"
 
     def _wrong_commit(self, entry: Entry) -> str | None:
         batch = self.board.batches[entry.numbers[0]]

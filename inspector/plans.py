@@ -1,7 +1,6 @@
 """Vehicles and their plans: the times of stops, what a plan promises, and plans with a ride more or less."""
-
 from dataclasses import dataclass, replace
-from itertools import accumulate
+from itertools import accumulate, pairwise
 
 from travel_times import TravelTimes
 
@@ -24,18 +23,17 @@ class Ride:
 
 @dataclass(frozen=True)
 class Stop:
-    """A pickup or drop-off at a node; `leg` is the seconds from the stop before, or from where the vehicle is, and None
-    only until it is looked up."""
+    """A pickup or drop-off at a node."""
 
     ride: int
     pickup: bool
     node: int
-    leg: int | None = None
 
 
 @dataclass(frozen=True)
 class Vehicle:
-    """A vehicle that is at node `at` from the second `ready` on, with its rides in order of confirmation."""
+    """A vehicle that is at node `at` from the second `ready` on, with its rides in order of confirmation. `legs` has the
+    seconds to each stop from the one before, to the first from `at`."""
 
     id: int
     seats: int
@@ -46,16 +44,22 @@ class Vehicle:
     version: int = 0
     rides: tuple[Ride, ...] = ()
     stops: tuple[Stop, ...] = ()
+    legs: tuple[int, ...] = ()
+
+
+def nodes_of(vehicle: Vehicle) -> list[int]:
+    """Returns the nodes of a vehicle's plan: where it is, and those of its stops."""
+    return [vehicle.at, *(stop.node for stop in vehicle.stops)]
 
 
 def times(vehicle: Vehicle, start: int, dwell: int) -> list[int]:
     """Returns the second of arrival at each stop, from a start: legs add up, and each stop takes `dwell` seconds."""
-    return [time - dwell for time in accumulate((stop.leg + dwell for stop in vehicle.stops), initial=start)][1:]
+    return [time - dwell for time in accumulate((leg + dwell for leg in vehicle.legs), initial=start)][1:]
 
 
 def driving(vehicle: Vehicle, dwell: int) -> int:
     """Returns the seconds from the start to the last stop, 0 of an idle vehicle."""
-    return sum(stop.leg + dwell for stop in vehicle.stops) - dwell if vehicle.stops else 0
+    return times(vehicle, 0, dwell)[-1] if vehicle.stops else 0
 
 
 def broken(vehicle: Vehicle, start: int, dwell: int) -> list[int]:
@@ -67,17 +71,17 @@ def broken(vehicle: Vehicle, start: int, dwell: int) -> list[int]:
             or drops[ride.id] - pickups[ride.id] > ride.longest]
 
 
+def fits(vehicle: Vehicle, places: int, taken: dict[int, int]) -> bool:
+    """Returns whether the riders aboard, each of whom takes so many of the places, find room now and after each stop."""
+    aboard = sum(taken[ride.id] for ride in vehicle.rides if ride.picked is not None)
+    changes = (taken[stop.ride] if stop.pickup else -taken[stop.ride] for stop in vehicle.stops)
+    return max(accumulate(changes, initial=aboard)) <= places
+
+
 def has_room(vehicle: Vehicle) -> bool:
-    """Returns whether the seats and chairs of the riders aboard suffice, now and after each stop."""
-    rides = {ride.id: (ride.seats, ride.chairs) for ride in vehicle.rides}
-    aboard = [rides[ride.id] for ride in vehicle.rides if ride.picked is not None]
-    seats, chairs = vehicle.seats - sum(load[0] for load in aboard), vehicle.chairs - sum(load[1] for load in aboard)
-    for stop in vehicle.stops:
-        if seats < 0 or chairs < 0:
-            return False
-        sign = -1 if stop.pickup else 1
-        seats, chairs = seats + sign * rides[stop.ride][0], chairs + sign * rides[stop.ride][1]
-    return True
+    """Returns whether seats and chairs suffice."""
+    return (fits(vehicle, vehicle.seats, {ride.id: ride.seats for ride in vehicle.rides})
+            and fits(vehicle, vehicle.chairs, {ride.id: ride.chairs for ride in vehicle.rides}))
 
 
 def keeps(vehicle: Vehicle, start: int, dwell: int) -> bool:
@@ -85,31 +89,22 @@ def keeps(vehicle: Vehicle, start: int, dwell: int) -> bool:
     return len(vehicle.stops) <= MOST_STOPS and has_room(vehicle) and not broken(vehicle, start, dwell)
 
 
-def with_legs(vehicle: Vehicle, stops: list[Stop], roads: TravelTimes) -> Vehicle | None:
-    """Returns the vehicle with these stops, of which missing legs are looked up, or None where there is no way."""
-    before = [vehicle.at, *(stop.node for stop in stops)]
-    told = tuple(replace(stop, leg=roads.between(here, stop.node)) if stop.leg is None else stop
-                 for here, stop in zip(before, stops))
-    return None if any(stop.leg is None for stop in told) else replace(vehicle, stops=told)
+def changed(vehicle: Vehicle, roads: TravelTimes, **changes: object) -> Vehicle | None:
+    """Returns the vehicle with another node, stops or rides, or None where no way leads along its stops."""
+    after = replace(vehicle, **changes)
+    known = dict(zip(pairwise(nodes_of(vehicle)), vehicle.legs))
+    legs = tuple(known.get(ends) or roads.between(*ends) for ends in pairwise(nodes_of(after)))
+    return None if None in legs else replace(after, legs=legs)
 
 
 def insert(vehicle: Vehicle, ride: Ride, i: int, j: int, roads: TravelTimes) -> Vehicle | None:
     """Returns the vehicle with the ride last among its rides, its pickup directly before old place i and its drop-off
     directly before old place j; or None where there is no way."""
-    stops = [replace(stop, leg=None) if place in (i, j) else stop for place, stop in enumerate(vehicle.stops)]
-    stops.insert(j, Stop(ride.id, False, ride.target))
-    stops.insert(i, Stop(ride.id, True, ride.origin))
-    return with_legs(replace(vehicle, rides=(*vehicle.rides, ride)), stops, roads)
+    stops, pickup, drop = vehicle.stops, Stop(ride.id, True, ride.origin), Stop(ride.id, False, ride.target)
+    return changed(vehicle, roads, rides=(*vehicle.rides, ride), stops=(*stops[:i], pickup, *stops[i:j], drop, *stops[j:]))
 
 
 def remove(vehicle: Vehicle, ride: int, roads: TravelTimes) -> Vehicle:
     """Returns the vehicle without the ride and its stops."""
-    stops = [replace(stop, leg=None) if before.ride == ride else stop
-             for before, stop in zip((*vehicle.stops[:1], *vehicle.stops), vehicle.stops) if stop.ride != ride]
-    return with_legs(replace(vehicle, rides=tuple(other for other in vehicle.rides if other.id != ride)), stops, roads)
-
-
-def moved_to(vehicle: Vehicle, node: int, roads: TravelTimes) -> Vehicle | None:
-    """Returns the vehicle at another node, or None where no way leads from there to its first stop."""
-    stops = [replace(stop, leg=stop.leg if place else None) for place, stop in enumerate(vehicle.stops)]
-    return with_legs(replace(vehicle, at=node), stops, roads)
+    return changed(vehicle, roads, rides=tuple(other for other in vehicle.rides if other.id != ride),
+                   stops=tuple(stop for stop in vehicle.stops if stop.ride != ride))

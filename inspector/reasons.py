@@ -4,40 +4,41 @@ from itertools import combinations_with_replacement
 
 from certificate import Batch
 from entries import Entry
-from offers import Market, is_open, start_of
+from offers import Market, Offers
 from plans import MOST_STOPS, Ride, Vehicle, broken, has_room, insert, times
 
 Reason = dict[str, object]
 WORDS = {
     "off duty": "closed: off duty",
     "silent": "closed: its last report is of second {ready}, before the batch's {now}",
-    "small": "no offer: it has {seats} seats and {chairs} places for wheelchairs",
+    "small": "no offer: its seats are {seats}, its places for wheelchairs {chairs}",
     "no room for stops": "no offer: its plan has {stops} stops, and 16 are the most",
     "promise broken": "no offer: it is too late for its own riders {rides} already",
     "no way": "no offer: no way leads to the pickup, or on from there",
     "late": "no offer: picked up {seconds} s too late at best",
     "long": "no offer: the ride takes {seconds} s more than allowed at best",
-    "no place": "no offer: {full} places are full, at {late} the rider is picked up too late, at {long} rides too long, "
-                "{others} break promises to {rides}",
+    "no place": "no offer at any of {places} places of its plan: ",
     "takes it": "takes it for {cost}",
     "dear": "for {cost}, no less than the penalty of {penalty} for turning the rider away",
     "worth more": "for {cost}, but it takes request {other} and is worth {pay} more to the batch",
     "dearer": "for {cost}, which costs the batch at least {more} more",
     "as good": "for {cost}, which is as good for the batch",
 }
+CAUSES = {"full": "no room at {full}", "late": "picked up too late at {late}", "long": "too long a ride at {long}",
+          "others": "a promise to {rides} broken at {others}"}  # of places that are none
 
 
 def in_words(reason: Reason) -> str:
     """Returns the reason as a half sentence."""
-    told = {name: ", ".join(map(str, value)) or "nobody" if isinstance(value, list) else value
-            for name, value in reason.items()}
-    return WORDS[str(reason["why"])].format(**told)
+    told = {name: ", ".join(map(str, value)) if isinstance(value, list) else value for name, value in reason.items()}
+    causes = [text for cause, text in CAUSES.items() if reason["why"] == "no place" and reason[cause]]
+    return (WORDS[str(reason["why"])] + ", ".join(causes)).format(**told)
 
 
 def reason_of(batch: Batch, commit: Entry, request: int, vehicle: int) -> Reason:
     """Returns why this vehicle of the batch takes the request or does not, by the commit and its prices."""
     market, copy, ride = batch.market, batch.copies[vehicle], batch.rides[request]
-    offer = market.least_offer(copy, ride, below=1 << 62)
+    offer = Offers(market, ride).least(copy, below=1 << 62)
     if offer is None:
         return why_no_offer(market, copy, ride)
     cost, pay, price = offer[0], dict(commit.pays).get(vehicle, 0), dict(commit.prices)[request]
@@ -53,10 +54,10 @@ def reason_of(batch: Batch, commit: Entry, request: int, vehicle: int) -> Reason
 
 def why_no_offer(market: Market, copy: Vehicle, ride: Ride) -> Reason:
     """Returns why a vehicle has no offer for a ride: the first cause that already decides alone."""
-    start, dwell = start_of(copy, market.now, market.settings), market.settings.dwell
+    start, dwell = market.start_of(copy), market.settings.dwell
     if not copy.duty:
         return {"why": "off duty"}
-    if not is_open(copy, market.now):
+    if not market.is_open(copy):
         return {"why": "silent", "ready": copy.ready, "now": market.now}
     if ride.seats > copy.seats or ride.chairs > copy.chairs:
         return {"why": "small", "seats": copy.seats, "chairs": copy.chairs}
@@ -76,7 +77,7 @@ def why_no_offer(market: Market, copy: Vehicle, ride: Ride) -> Reason:
 
 def why_no_place(market: Market, copy: Vehicle, ride: Ride) -> Reason:
     """Returns the causes for which each place of the plan is none, with how many places each rules out."""
-    start, dwell = start_of(copy, market.now, market.settings), market.settings.dwell
+    start, dwell = market.start_of(copy), market.settings.dwell
     causes, others = Counter(), set()
     for i, j in combinations_with_replacement(range(len(copy.stops) + 1), 2):
         plan = insert(copy, ride, i, j, market.roads)
@@ -94,5 +95,5 @@ def why_no_place(market: Market, copy: Vehicle, ride: Ride) -> Reason:
             others.update(late)
     if not causes:
         return {"why": "no way"}
-    return {"why": "no place", **{cause: causes[cause] for cause in ("full", "late", "long", "others")},
+    return {"why": "no place", "places": causes.total(), **{cause: causes[cause] for cause in CAUSES},
             "rides": [other.id for other in copy.rides if other.id in others]}

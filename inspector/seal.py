@@ -18,11 +18,12 @@ import os
 import platform
 import sys
 from pathlib import Path
-from typing import Iterable, Iterator
+from typing import Iterator
 
 from chain import BEGINNING, Head, Receipt, heads, link, read_head, receipt_of
-from check_log import MOST_LINE, log_lines
+from check_log import MOST_LINE, lines_of, log_lines
 from command_line import OneLineParser, run
+from entries import read_head as read_head_of_log
 from signatures import is_signed, sign
 from texts import PIECE, Ended
 
@@ -64,13 +65,15 @@ def read_json(path: str) -> object:
 
 def whole_lines(path: str) -> Iterator[bytes]:
     """Yields the lines of a log that have their LF; `-` is standard input."""
-    lines: Iterable[bytes] = sys.stdin.buffer if path == "-" else log_lines(path)
+    lines = lines_of(path, sys.stdin.buffer) if path == "-" else log_lines(path)
     try:
-        for line in lines:
-            if len(line) > MOST_LINE:
-                raise Ended(2, "", f"{path} has a line that is too long for a log")
+        for number, line in enumerate(lines, start=1):
+            if number == 1 and read_head_of_log(line) is None:
+                raise Ended(2, "", f"{path} is no trip log")
             if line.endswith(b"\n"):
                 yield line
+            elif len(line) > MOST_LINE:
+                raise Ended(2, "", f"{path} has a line that is too long for a log")
     except Ended as end:
         raise Ended(2, "", end.message) from None
 
@@ -90,6 +93,8 @@ def seal_heads(words: argparse.Namespace) -> int:
 def write_head(words: argparse.Namespace, head: Head) -> None:
     """Writes a head and its signature into the folder of heads and names it on standard output."""
     path = Path(words.seals) / f"head_{head.line:07}"
+    if path.exists() and read_file(path) != head.text():
+        raise Ended(1, "", f"{shown(path)} was signed over another log")
     write_file(path, head.text())
     write_file(path.with_suffix(".sig"), sign(words.key, head.text()).encode())
     print(shown(path), flush=True)

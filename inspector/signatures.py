@@ -1,11 +1,11 @@
 """Signatures of files, by `ssh-keygen -Y`: whoever has the operator's public key checks them."""
 import subprocess
 import tempfile
-from pathlib import Path
 
-from texts import Ended
+from texts import Ended, read_up_to, unreadable
 
 NAMESPACE = "ride_dispatch"
+MOST_BYTES = 1 << 20  # of a file of allowed signers that are looked at, to see whether it can be read
 
 
 def run_keygen(*words: str, text: bytes = b"") -> subprocess.CompletedProcess:
@@ -27,8 +27,9 @@ def sign(key: str, text: bytes) -> str:
 
 def is_signed(signers: str, identity: str, text: bytes, signature: str) -> bool:
     """Returns whether the signature is one of the text by this identity of a file of allowed signers."""
-    if not Path(signers).is_file():
-        raise Ended(2, "", f"{signers} is no file of allowed signers")
+    _, fault = read_up_to(signers, MOST_BYTES)
+    if fault is not None:
+        raise Ended(2, "", unreadable(signers, fault).message)
     with tempfile.NamedTemporaryFile(suffix=".sig") as kept:
         kept.write(signature.encode())
         kept.flush()

@@ -16,6 +16,11 @@ class Ended(Exception):
         self.status, self.answer, self.message = status, answer, message
 
 
+def refused(status: int, path: str, answer: str) -> Ended:
+    """Returns the end of an inspection whose file is not in order, as the answer says."""
+    return Ended(status, answer, f"{path}: {answer}")
+
+
 def unreadable(path: str, fault: OSError) -> Ended:
     """Returns the end, with status 5, of an inspection whose file cannot be read."""
     return Ended(5, "", f"{path} cannot be read: {fault.strerror or fault}")

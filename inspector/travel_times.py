@@ -1,11 +1,11 @@
-"""Travel times: the least seconds of all ways from one node to another.
+"""Travel times: the least seconds of all ways from one node to another, by Dijkstra's search.
 
-A row holds the times from one node to all others, or from all others to it. It is Dijkstra's search, which goes on only
-as far as it is asked, and rows are kept.
+A row has the times from one node to all others, or from all others to it. It is searched only as far as it is asked for,
+and kept.
 """
-
 from array import array
 from heapq import heappop, heappush
+from typing import Iterator
 
 from road_map import RoadMap
 
@@ -13,70 +13,65 @@ MOST_CELLS = 100_000_000  # of all kept rows together
 
 
 class Row:
-    """Times from (or to) one node. Those up to `frontier` are final; a greater one may still fall, but not below it."""
+    """Times from (or to) one node. Those up to `frontier` are final, and all others are longer; `unseen` stands for no way."""
 
     def __init__(self, neighbours: list[list[tuple[int, int]]], source: int, unseen: int) -> None:
-        self.neighbours, self.unseen, self.frontier = neighbours, unseen, -1
         self.times = array("i" if unseen < 1 << 31 else "q", [unseen]) * len(neighbours)
-        self.times[source] = 0
-        self.heap = [source]  # each item is time * number of nodes + node
+        self.frontier, self.unseen = -1, unseen
+        self.frontiers = self._search(neighbours, source)
+
+    def _search(self, neighbours: list[list[tuple[int, int]]], source: int) -> Iterator[int]:
+        """Yields the frontier after each node that is reached."""
+        times, heap = self.times, [(0, source)]
+        times[source] = 0
+        while heap:
+            time, here = heappop(heap)
+            if time > times[here]:
+                continue
+            yield time - 1
+            for there, leg in neighbours[here]:
+                if time + leg < times[there]:
+                    times[there] = time + leg
+                    heappush(heap, (time + leg, there))
+        yield self.unseen
 
     def within(self, seconds: int) -> array:
         """Returns the times, of which those up to `seconds` are final and all others are longer than that."""
-        if self.frontier <= seconds:
-            self._grow(seconds + 1, 0)
+        last = min(seconds, self.unseen)
+        while self.frontier < last:
+            self.frontier = next(self.frontiers)
         return self.times
 
-    def to(self, node: int) -> int | None:
-        """Returns the seconds between the row's node and this one, or None where there is no way."""
-        if self.times[node] > self.frontier:
-            self._grow(self.unseen, node)
-        return None if self.times[node] == self.unseen else self.times[node]
-
-    def _grow(self, seconds: int, node: int) -> None:
-        """Searches on until all times below `seconds`, or that of `node` where it is not 0, are final."""
-        times, heap, neighbours, size = self.times, self.heap, self.neighbours, len(self.neighbours)
-        frontier = self.frontier
-        while heap and frontier < seconds and (not node or times[node] > frontier):
-            frontier, here = divmod(heappop(heap), size)
-            if frontier > times[here]:
-                continue
-            for there, leg in neighbours[here]:
-                if frontier + leg < times[there]:
-                    times[there] = frontier + leg
-                    heappush(heap, (frontier + leg) * size + there)
-        self.frontier = frontier if heap else self.unseen
+    def to(self, node: int) -> int:
+        """Returns the seconds between the row's node and this one, `unseen` where there is no way."""
+        while self.times[node] > self.frontier:
+            self.frontier = next(self.frontiers)
+        return self.times[node]
 
 
 class TravelTimes:
     """The travel times of a map."""
 
     def __init__(self, road_map: RoadMap) -> None:
-        self.sides = tuple([[] for _ in range(road_map.nodes + 1)] for _ in range(2))  # node 0 is nobody's
+        self.sides = tuple([[] for _ in range(road_map.nodes + 1)] for _ in range(2))  # arcs out of each node, and into it
         for tail, head, seconds in road_map.arcs:
             self.sides[0][tail].append((head, seconds))
             self.sides[1][head].append((tail, seconds))
         self.same = all(sorted(out) == sorted(back) for out, back in zip(*self.sides))  # each arc is there both ways
         longest = road_map.nodes * max((arc[2] for arc in road_map.arcs), default=0)
         self.unseen = max(longest, 2 * 10**9) + 1  # above every time and every stamp
-        self.rows: dict[int, Row] = {}
+        self.rows: dict[tuple[int, int], Row] = {}
 
-    def _row(self, node: int, side: int) -> Row:
-        key = 2 * node + (0 if self.same else side)
-        row = self.rows.pop(key, None) or Row(self.sides[side], node, self.unseen)
-        self.rows[key] = row
-        if len(self.rows) * len(row.times) > MOST_CELLS:
+    def row(self, node: int, side: int) -> Row:
+        """Returns the times from the node (side 0) or to it (side 1)."""
+        key = (node, 0 if self.same else side)
+        self.rows[key] = self.rows.pop(key, None) or Row(self.sides[side], node, self.unseen)
+        if len(self.rows) * len(self.sides[0]) > MOST_CELLS:
             del self.rows[next(iter(self.rows))]  # the one that was not asked for the longest
-        return row
-
-    def out(self, node: int) -> Row:
-        """Returns the times from the node."""
-        return self._row(node, 0)
-
-    def back(self, node: int) -> Row:
-        """Returns the times to the node."""
-        return self._row(node, 1)
+        return self.rows[key]
 
     def between(self, tail: int, head: int) -> int | None:
         """Returns the least seconds from one node to the other, or None where there is no way."""
-        return self.back(head).to(tail) if 2 * head + 1 in self.rows else self.out(tail).to(head)
+        kept = (head, 0 if self.same else 1) in self.rows
+        seconds = self.row(head, 1).to(tail) if kept else self.row(tail, 0).to(head)
+        return seconds if seconds < self.unseen else None

@@ -7,16 +7,20 @@ import sys
 import threading
 import unittest
 from dataclasses import replace
+from pathlib import Path
+from typing import List
 
-from room_tests import ROOT, ROW_LOG, WithFolder
+from room_tests import ROOT, ROW_FLEET, ROW_LOG, ROW_MAP, WithFolder
 
 from trip_log import TripLog
 
 from control_room import remnants
+from control_room.__main__ import parser
 from control_room.auditor import audit
 from control_room.day_clock import DayClock, read_moment, written
 from control_room.limits import RateLimit
 from control_room.schedule import Schedule
+from control_room.supervisor import make_zones
 from control_room.tokens import BadToken, Person, read_token, secret_of, sign
 from control_room.words import REFUSALS, Problem, refused
 from control_room.zones import Zone, ZoneError, load_zone
@@ -87,9 +91,9 @@ class Rates(unittest.TestCase):
 class Words(unittest.TestCase):
     def test_codes_are_those_of_the_page_of_formats(self) -> None:
         text = (ROOT / "docs/formats.md").read_text()
-        about_logs = text.split("\n## Log\n")[1].split("\n## ")[0]
-        codes = {int(code) for code in re.findall(r"\| (\d+) (?=\|)", about_logs)}
-        self.assertEqual(codes, set(REFUSALS))
+        about_refusals = text.split("\n## Refusals\n")[1].split("\n## ")[0]
+        codes = {int(code) for code in re.findall(r"^\| (\d+) (?=\|)", about_refusals, re.MULTILINE)}
+        self.assertEqual(codes - {18}, set(REFUSALS))  # 18 is said by a league alone
 
     def test_a_refusal_has_its_code_its_name_and_its_line(self) -> None:
         problem = refused(8, "f1 cancel 7 = refused 8")
@@ -170,6 +174,38 @@ class Remnants(WithFolder):
     def test_a_folder_that_is_no_room(self) -> None:
         with self.assertRaises(ValueError):
             remnants.living(self.folder)
+
+
+class OwnZones(WithFolder):
+    def own(self, name: str, fleet: str) -> str:
+        """Returns a new folder of this name with a row's map and this fleet file."""
+        folder = self.folder / name
+        folder.mkdir()
+        (folder / "map.gr").write_text(ROW_MAP)
+        (folder / "fleet.txt").write_text(fleet)
+        return str(folder)
+
+    def zones(self, *folders: str) -> List[Zone]:
+        """Returns the zones that `run` makes of these folders."""
+        words = [word for folder in folders for word in ("--own", folder)]
+        return make_zones(parser().parse_args(["run", *words, "--begin", "100", "--columns", "4"]), self.folder / "room", "/bin/true")
+
+    def test_each_company_is_a_zone_with_its_fleet_and_its_streams(self) -> None:
+        fleets = {"north": "vehicle 1 4 1 0\n", "South_Cabs": "vehicle 1 2 4 0\n"}
+        north, south = self.zones(*(self.own(name, fleet) for name, fleet in fleets.items()))
+        self.assertEqual([north.name, south.name], ["north", "south-cabs"])
+        self.assertEqual([(zone.begin, zone.columns) for zone in (north, south)], [(100, 4)] * 2)
+        self.assertEqual([Path(zone.fleet).read_text() for zone in (north, south)], list(fleets.values()))
+        self.assertFalse(set(north.streams()) & set(south.streams()))
+        self.assertNotEqual(north.kept_log, south.kept_log)
+        self.assertFalse(Person("rider", "north", "ada").may_enter("south-cabs"))
+
+    def test_folders_that_name_no_zone_or_the_same(self) -> None:
+        with self.assertRaises(ZoneError):
+            self.zones(self.own("7", ROW_FLEET))
+        folder = self.own("north", ROW_FLEET)
+        with self.assertRaises(ZoneError):
+            self.zones(folder, folder)
 
 
 class Commands(WithFolder):

@@ -88,8 +88,8 @@ def confirmed_now(zone: Zone) -> Dict[int, int]:
     with open(zone.kept_log) as lines:
         for line in lines:
             if " commit " in line and line.endswith("\n"):
-                named = {int(part.split(":")[0]): int(part.split(":")[1])
-                         for part in line.split(" seats ")[1].split(" prices")[0].split() if ":" in part}
+                listed = line.split(" seats", 1)[1].split(" prices", 1)[0].split()
+                named = {int(seat.split(":")[0]): int(seat.split(":")[1]) for seat in listed}
                 confirmed = [int(word.split(":")[0]) for word in line.split() if word.endswith(":confirmed")]
                 seats.update({request: named[request] for request in confirmed})
     return seats

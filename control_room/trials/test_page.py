@@ -1,5 +1,6 @@
 """The office's page in a real browser: a ride from its request to the drop-off, keys, a telephone's width, and 1,000 vehicles."""
 import asyncio
+import itertools
 import os
 import threading
 import time
@@ -101,16 +102,15 @@ class Moves(threading.Thread):
         next_node = {tail: head for tail, head, _seconds in roads.arcs}
         at = {vehicle.id: vehicle.at for vehicle in read_fleet(self.zone.fleet).vehicles}
         async with aiohttp.ClientSession() as http:
-            while not self.over:
-                for vehicle in at:
-                    if self.over:
-                        break
-                    at[vehicle] = next_node[at[vehicle]]
-                    token = sign(self.secret, Person("driver", self.zone.name, str(vehicle)), 4_000_000_000)
-                    client = Client(http, self.server, self.zone.name, token)
-                    body = {"report": "at", "node": at[vehicle], "in": 60}
-                    asyncio.create_task(client.surely("POST", f"vehicles/{vehicle}/reports", body, os.urandom(8).hex()))
-                    await asyncio.sleep(0.01)
+            for vehicle in itertools.cycle(list(at)):
+                if self.over:
+                    return
+                at[vehicle] = next_node[at[vehicle]]
+                token = sign(self.secret, Person("driver", self.zone.name, str(vehicle)), 4_000_000_000)
+                client = Client(http, self.server, self.zone.name, token)
+                body = {"report": "at", "node": at[vehicle], "in": 60}
+                asyncio.create_task(client.surely("POST", f"vehicles/{vehicle}/reports", body, os.urandom(8).hex()))
+                await asyncio.sleep(0.01)
 
 
 @needs_broker
@@ -138,8 +138,9 @@ class Page(unittest.TestCase):
             wait_until("an idle fleet", lambda: count(driver, "idle") == 5)
             wait_until("the audit's yes", lambda: driver.find_element("id", "audit").text.startswith("audit: yes"), 120)
             rides.join(30)
-            self.assertEqual([state for place, state in enumerate(rides.states) if state not in rides.states[:place]],
-                             ["waiting", "confirmed", "aboard", "dropped"])
+            told = list(dict.fromkeys(rides.states))
+            self.assertGreaterEqual(len(told), 3)  # A seat may come before the rider is told of the waiting.
+            self.assertEqual(told, ["waiting", "confirmed", "aboard", "dropped"][-len(told):])
             self.assertEqual(complaints(driver), [])
 
     def keys(self, driver: Any) -> None:

@@ -14,6 +14,7 @@ from certificate import Batch  # noqa: E402
 from check_log import read_board  # noqa: E402
 from entries import read_entry  # noqa: E402
 from history import History  # noqa: E402
+from offers import Offers  # noqa: E402
 from plans import Ride, Vehicle  # noqa: E402
 
 PROGRAM = Path(__file__).resolve().parents[2] / "crates/ride_dispatch/out/ride_dispatch"
@@ -96,8 +97,7 @@ def next_report(vehicle: Vehicle, clock: int, late: int) -> str | None:
     """Returns what a driver who follows the map reports at this clock, `late` seconds later than planned, or None."""
     if not vehicle.stops:
         return None
-    stop = vehicle.stops[0]
-    arrival = vehicle.ready + stop.leg
+    stop, arrival = vehicle.stops[0], vehicle.ready + vehicle.legs[0]
     if vehicle.at == stop.node and arrival <= clock:
         return f"done {vehicle.id}"
     if arrival <= clock or vehicle.ready < clock:
@@ -255,7 +255,7 @@ class Writer:
             self.draw, self.world, self.history, self.names)
         if command.startswith("request") and version == 2 and len(command.split()) == 7:
             command += " 0"
-        entry = read_entry(f"{actor} {command} = duty".encode(), version)
+        entry = read_entry(f"{actor} {command} = duty\n".encode(), version)
         if entry is None:
             self.say(f"{actor} bad {len(self.lines)}")
         else:
@@ -267,7 +267,7 @@ class Writer:
         opened = next((batch for batch in board.batches.values() if batch.desk == desk), None)
         if opened is None and board.opened < board.asked:
             copies = " ".join(f" {vehicle.id}@{vehicle.version}" for vehicle in board.vehicles.values())
-            due = "".join(f" {name}" for _, name in board.waiting[:1])
+            due = "".join(f" {name}" for name in board.due())
             line = f"{desk.decode()} open {board.opened + 1} at {board.clock} requests{due} plans{copies}".replace("  ", " ")
             self.say(line)
         elif opened is None:
@@ -294,7 +294,7 @@ class Writer:
 def all_offers(batch: Batch, copy: Vehicle, ride: Ride) -> list[tuple[int, int, int, int]]:
     """Returns (cost, vehicle, i, j) of each offer of the vehicle, of which each place is judged whole."""
     places = [(i, j) for j in range(len(copy.stops) + 1) for i in range(j + 1)]
-    costs = [(batch.market.cost_at(copy, ride, i, j), copy.id, i, j) for i, j in places]
+    costs = [(Offers(batch.market, ride).cost_at(copy, i, j), copy.id, i, j) for i, j in places]
     return [cost for cost in costs if cost[0] is not None]
 
 
@@ -303,7 +303,7 @@ def same_cost_seat(draw: random.Random, world: World, log: bytes) -> bytes:
     history, lines = History(read_board(str(world.map), str(world.fleet))), log.splitlines(keepends=True)
     choices = []
     for place, line in enumerate(lines):
-        entry = read_entry(line[:-1], history.board.settings.log)
+        entry = read_entry(line, history.board.settings.log)
         if entry and entry.word == b"commit":
             batch = history.board.batches[entry.numbers[0]]
             for name, vehicle, i, j in entry.seats:
@@ -323,7 +323,7 @@ def same_cost_seat(draw: random.Random, world: World, log: bytes) -> bytes:
 def commands_of(log: bytes, version: int) -> list[str]:
     """Returns the commands of a log's feeds in its order, a bad line as one."""
     told = []
-    for line in log.splitlines():
+    for line in log.splitlines(keepends=True):
         entry = read_entry(line, version)
         if entry is not None and entry.actor.startswith(b"f") and entry.word not in (b"end", b"cut"):
             told.append(" ".join([entry.word.decode(), *map(str, entry.numbers)]))

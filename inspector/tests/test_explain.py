@@ -65,8 +65,8 @@ f1 batch = asked 2
 d1 open 2 at 0 requests 9 plans 1@1
 d1 commit 2 cost 3600 seats prices 9:3600 pays outcomes 9:away
 """
-        self.assertIn("vehicle 1: no offer: 0 places are full, at 1 the rider is picked up too late, at 2 rides too long, "
-                      "3 break promises to 7", told(log, 9))
+        self.assertIn("vehicle 1: no offer at any of 6 places of its plan: picked up too late at 1, too long a ride at 2, "
+                      "a promise to 7 broken at 3\n", told(log, 9) + "\n")
 
     def test_the_whole_life_of_a_request(self):
         log = BEGUN + "f1 at 1 2 700 = late 640 broken 7\nf1 done 1 = picked 7\nf1 cancel 7 = refused 8\n"
@@ -125,7 +125,7 @@ class BesideBruteForce(unittest.TestCase):
         history = History(read_board(str(world.map), str(world.fleet)))
         travel_times = brute_force.all_times(read_map(str(world.map)))
         for line in log.splitlines(keepends=True):
-            entry = read_entry(line[:-1], history.board.settings.log)
+            entry = read_entry(line, history.board.settings.log)
             if entry and entry.word == b"commit":
                 self.check_commit(history.board.batches[entry.numbers[0]], entry, travel_times)
             self.assertIsNone(history.wrong(line))

@@ -10,7 +10,7 @@ sys.path.insert(0, str(Path(__file__).resolve().parent))
 from worked import FLEET, MAP, answer, verdict, write
 
 from check_log import read_board
-from offers import Market, is_open, start_of
+from offers import Market, Offers
 from plans import Ride, Vehicle, driving, insert, keeps, times
 
 PAGE = (Path(__file__).resolve().parents[2] / "docs/rules.md").read_text(encoding="utf-8")
@@ -58,14 +58,13 @@ class Page(unittest.TestCase):
             self.assertEqual(" ".join(f"{'+' if stop.pickup else '-'}{stop.ride}" for stop in stops), told)
 
     def test_start_and_open(self):
-        settings = self.board("set lead 10\n").settings
-        idle = Vehicle(1, 2, 0, 1, 0)
-        self.assertEqual(start_of(idle, 25, settings), 35)
-        self.assertEqual(start_of(Vehicle(1, 2, 0, 1, 100), 25, settings), 100)
-        board = self.board()
+        board = self.board("set lead 10\n")
+        market = Market(board.settings, board.roads, 25)
+        self.assertEqual(market.start_of(Vehicle(1, 2, 0, 1, 0)), 35)
+        self.assertEqual(market.start_of(Vehicle(1, 2, 0, 1, 100)), 100)
         for ready, opened in ((25, True), (24, False)):
             driver = insert(Vehicle(1, 2, 0, 1, ready), Ride(7, 2, 4, 1, 0, 600, 300), 0, 0, board.roads)
-            self.assertEqual((is_open(driver, 25), start_of(driver, 25, settings)), (opened, ready))
+            self.assertEqual((market.is_open(driver), market.start_of(driver)), (opened, ready))
 
     def test_the_table_of_offers(self):
         rows = re.findall(r"^\| (\d), (\d) \| [1-4 ]+ \| (\d+) \| (\d+) \| (\d+) \| (\d+) \|$", PAGE, flags=re.M)
@@ -77,7 +76,7 @@ class Page(unittest.TestCase):
             after = insert(plan, ride, i, j, plain.roads)
             self.assertEqual((driving(after, 0), times(after, 0, 0)[i]), (seconds, pickup))
             for board, expected in ((plain, cost), (waits, with_wait)):
-                self.assertEqual(Market(board.settings, board.roads, 0).cost_at(plan, ride, i, j), expected)
+                self.assertEqual(Offers(Market(board.settings, board.roads, 0), ride).cost_at(plan, i, j), expected)
 
 
 if __name__ == "__main__":

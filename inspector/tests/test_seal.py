@@ -82,6 +82,19 @@ class Rounds(unittest.TestCase):
         self.assertEqual(self.check("check-heads", shorter, seals), (
             "the log ends at line 6, before its head of line 7\n", 1))
 
+    def test_heads_are_not_signed_over_those_of_another_log(self):
+        seals = self.sealed()
+        self.assertEqual(self.seal("heads", self.log, seals, "--every", "3", "--key", self.at("operator"))[1], 0)  # begun anew
+        other = write(self.folder, "other", LOG.replace("asked 1", "asked 2"))
+        self.assertEqual(self.seal("heads", other, seals, "--every", "3", "--key", self.at("operator")), ("", 1))
+        self.assertEqual(self.check("check-heads", self.log, seals)[1], 0)
+
+    def test_the_longest_line_of_a_log_and_a_longer_one(self):
+        head = LOG.splitlines(keepends=True)[0]
+        for length, status in ((131_072, 0), (131_073, 2)):
+            log = write(self.folder, "long", head + "x" * length + "\n")
+            self.assertEqual(self.seal("heads", log, self.at(f"seals_{length}"), "--key", self.at("operator"))[1], status)
+
     def test_heads_of_another_key(self):
         self.assertEqual(self.check("check-heads", self.log, self.sealed("other"))[1], 1)
 
