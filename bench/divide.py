@@ -74,33 +74,33 @@ class Day:
         return Rider(number, time, origin, destination, draw.choice((1, 1, 1, 2)), 0, time + LATEST, longest)
 
     def is_north(self, node: int) -> bool:
-        """Whether a node is in the northern zone."""
+        """Returns whether a node is in the northern zone."""
         return (node - 1) // self.side < self.side // 2
 
     def is_south(self, node: int) -> bool:
-        """Whether a node is in the southern zone."""
+        """Returns whether a node is in the southern zone."""
         return not self.is_north(node)
 
     def fleet(self, name: str, nodes: Sequence[int]) -> Tuple[Fleet, str]:
-        """A fleet with a vehicle at each of these nodes, and its file."""
+        """Returns a fleet with a vehicle at each of these nodes, and its file."""
         fleet = Fleet(dict(SETTINGS), [Vehicle(number, at=node, seats=SEATS) for number, node in enumerate(nodes, 1)])
         path = f"{self.folder}/{name}.txt"
         write_fleet(path, fleet)
         return fleet, path
 
     def service(self, name: str, nodes: Sequence[int], riders: Sequence[Rider], is_inside: Optional[Inside] = None) -> Sums:
-        """A fleet that is served by itself, for a day. Vehicles that are idle drive back inside."""
+        """Returns what a fleet comes to that is served by itself for a day. Vehicles that are idle drive back inside."""
         fleet, path = self.fleet(name, nodes)
         log_path = f"{self.folder}/{name}.log"
         return self.play(Session(self.program, (self.map_path, path), fresh(fleet), log_path), riders, (path, log_path), is_inside)
 
     def zone(self, name: str, is_inside: Inside) -> Sums:
-        """A session of the vehicles and riders of a zone, for a day."""
+        """Returns what a session of the vehicles and riders of a zone comes to in a day."""
         riders = [rider for rider in self.riders if is_inside(rider.origin)]
         return self.service(name, [node for node in self.nodes if is_inside(node)], riders, is_inside)
 
     def league(self, first: Sequence[int], second: Sequence[int]) -> Sums:
-        """Two companies in a league, for a day."""
+        """Returns what two companies in a league come to in a day."""
         fleets = [self.fleet(name, nodes) for name, nodes in (("one", first), ("two", second))]
         both = of_both(fleets[0][0], fleets[1][0])
         write_fleet(f"{self.folder}/both.txt", both)
@@ -109,7 +109,7 @@ class Day:
         return self.play(League(self.program, paths, self.roads, fresh(both), files[1]), self.riders, files)
 
     def play(self, dispatcher: Dispatcher, riders: Sequence[Rider], files: Tuple[str, str], is_inside: Optional[Inside] = None) -> Sums:
-        """Plays a day, audits its log over the fleet file, and sums it up."""
+        """Plays a day, audits its log over the fleet file, and returns its sums."""
         collector = Collector(self.roads, dispatcher.log, Scope(reasons=False))
         dispatcher.watchers.append(collector.take)
         drivers = Drivers(self.roads, dispatcher.log, Habits(), random.Random(0), homes(dispatcher, is_inside))
@@ -124,13 +124,13 @@ class Day:
 
 
 def homes(dispatcher: Dispatcher, is_inside: Optional[Inside]) -> Callable[[Vehicle], Optional[int]]:
-    """Where an idle vehicle goes: to its stand until it is inside, or nowhere."""
+    """Returns where an idle vehicle goes: to its stand until it is inside, or nowhere."""
     stands: Dict[int, int] = {vehicle.id: vehicle.at for vehicle in dispatcher.log.vehicles.values()}
     return lambda vehicle: None if is_inside is None or is_inside(vehicle.at) else stands[vehicle.id]
 
 
 def asking_time(draw: random.Random) -> int:
-    """When a rider asks."""
+    """Returns when a rider asks."""
     kind = draw.randrange(5)
     begin, end = PEAKS[kind // 2] if kind < 4 else (BEGIN, END)
     return int(draw.triangular(begin, end)) if kind < 4 else draw.randint(begin, end)

@@ -10,6 +10,7 @@
   live.py plans PROGRAM     batches of 128 over 1,000 vehicles on a map of New York's size, from their opening to their commit, as all
                             plans grow to 14 stops; on two processors, and then on four
 """
+import errno
 import os
 import random
 import select
@@ -18,22 +19,39 @@ import subprocess
 import sys
 import tempfile
 import time
+from dataclasses import dataclass
+from typing import Any, BinaryIO, Callable, Dict, Iterable, Iterator, List, NamedTuple, Sequence, Tuple
+
+HERE = os.path.dirname(os.path.abspath(__file__))
+sys.path.insert(0, os.path.join(HERE, "..", "tools"))
+from player.files import InputError, Parser, run_main  # noqa: E402
 
 LINE_MAP = "p sp 4 6\na 1 2 60\na 2 1 60\na 2 3 60\na 3 2 60\na 3 4 60\na 4 3 60\n"
+NEW_YORK = 264_346  # crossings of the map that write_map.py writes
+FULL = 7  # rides of a vehicle whose plan has 14 stops
 
 
-def write(path, text):
-    with open(path, "w") as file:
+class Used(NamedTuple):
+    """What a run took: seconds by the clock and of processors, and megabytes."""
+    clock: float
+    busy: float
+    memory: float
+
+
+def write(path: str, text: str) -> None:
+    """Writes a file."""
+    with open(path, "w", encoding="ascii") as file:
         file.write(text)
 
 
-def words(folder, workers=2, desks=1):
+def serve_words(folder: str, workers: int = 2, desks: int = 1) -> List[str]:
+    """Returns the words of a session over the files of a folder."""
     return ["serve", "--map", f"{folder}/map", "--fleet", f"{folder}/fleet", "--riders", f"{folder}/riders",
             "--drivers", f"{folder}/drivers", "--workers", str(workers), "--desks", str(desks)]
 
 
-def lines(many, seed):
-    """Commands of a town, of which two in a hundred are requests."""
+def lines(many: int, seed: int) -> Iterator[str]:
+    """Yields commands of a town, of which two in a hundred are requests."""
     draw = random.Random(seed)
     clock = 0
     for number in range(many):
@@ -51,28 +69,33 @@ def lines(many, seed):
             yield f"clock {clock}\n"
 
 
-def run(command, **options):
-    """Runs to the end; answers seconds by the clock and of processors, and megabytes."""
+def run(command: Sequence[str], stdout: Any = subprocess.DEVNULL) -> Used:
+    """Runs a command to its end, and returns what it took. Raises InputError where its status is not 0."""
     began = time.monotonic()
-    process = subprocess.Popen(command, stdout=options.pop("stdout", subprocess.DEVNULL), **options)
+    process = subprocess.Popen(command, stdout=stdout)
     _, status, usage = os.wait4(process.pid, 0)
     process.returncode = os.waitstatus_to_exitcode(status)
     if process.returncode != 0:
-        sys.exit(f"{command[1]} ended with status {process.returncode}")
-    return time.monotonic() - began, usage.ru_utime + usage.ru_stime, usage.ru_maxrss / 1024
+        raise InputError(f"{command[0]} {command[1]} ended with status {process.returncode}")
+    return Used(time.monotonic() - began, usage.ru_utime + usage.ru_stime, usage.ru_maxrss / 1024)
 
 
-def fill(path, text):
-    """Writes a text into a pipe from a process of its own."""
+def fill(path: str, text: str) -> int:
+    """Writes a text into a pipe from a process of its own; returns its number."""
     child = os.fork()
     if child == 0:
-        with open(path, "w") as pipe:
-            pipe.write(text)
+        write(path, text)
         os._exit(0)
     return child
 
 
-def speed(program, folder):
+def made(name: str, *words: str) -> None:
+    """Runs a script of this folder."""
+    subprocess.run([sys.executable, f"{HERE}/{name}", *words], check=True)
+
+
+def speed(program: str, folder: str) -> None:
+    """Prints commands a second of a replay, and of a session of the same lines from files and through pipes."""
     write(f"{folder}/map", LINE_MAP)
     write(f"{folder}/fleet", "".join(f"vehicle {v} 4 1 0\n" for v in range(1, 6)))
     feeds = ["".join(lines(500_000, seed)) for seed in (1, 2)]
@@ -81,180 +104,235 @@ def speed(program, folder):
     write(f"{folder}/both", "".join(feeds))
     for name, command in [
         ("replay", ["replay", "--map", f"{folder}/map", "--fleet", f"{folder}/fleet", "--feed", f"{folder}/both"]),
-        ("serve, files", words(folder)),
+        ("serve, files", serve_words(folder)),
     ]:
-        clock, busy, memory = run([program] + command)
-        print(f"{name}: {1_000_000 / clock:,.0f} commands a second, {clock:.2f} s by the clock, {busy:.2f} s of processors, {memory:.0f} MB")
+        used = run([program] + command)
+        print(f"{name}: {1_000_000 / used.clock:,.0f} commands a second, {used.clock:.2f} s by the clock, {used.busy:.2f} s of processors, "
+              f"{used.memory:.0f} MB")
     os.remove(f"{folder}/riders")
     os.remove(f"{folder}/drivers")
     os.mkfifo(f"{folder}/riders")
     os.mkfifo(f"{folder}/drivers")
     writers = [fill(f"{folder}/riders", feeds[0]), fill(f"{folder}/drivers", feeds[1])]
-    clock, busy, memory = run([program] + words(folder))
+    used = run([program] + serve_words(folder))
     for writer in writers:
         os.waitpid(writer, 0)
-    print(f"serve, pipes: {1_000_000 / clock:,.0f} commands a second, {clock:.2f} s by the clock, {busy:.2f} s of processors, {memory:.0f} MB")
+    print(f"serve, pipes: {1_000_000 / used.clock:,.0f} commands a second, {used.clock:.2f} s by the clock, {used.busy:.2f} s of "
+          f"processors, {used.memory:.0f} MB")
 
 
-def pipes(program, folder, workers, desks):
-    """Starts a session on named pipes; answers it and both pipes."""
-    os.mkfifo(f"{folder}/riders")
-    os.mkfifo(f"{folder}/drivers")
-    session = subprocess.Popen([program] + words(folder, workers, desks), stdout=subprocess.PIPE)
-    return session, open(f"{folder}/riders", "wb", buffering=0), open(f"{folder}/drivers", "wb", buffering=0)
+class Live:
+    """A session on named pipes."""
+
+    def __init__(self, program: str, folder: str, workers: int, desks: int):
+        os.mkfifo(f"{folder}/riders")
+        os.mkfifo(f"{folder}/drivers")
+        self.process = subprocess.Popen([program] + serve_words(folder, workers, desks), stdout=subprocess.PIPE)
+        self.riders = self._opened(f"{folder}/riders")
+        self.drivers = self._opened(f"{folder}/drivers")
+
+    def _opened(self, path: str) -> BinaryIO:
+        """Returns the writer's end of a pipe. Raises InputError where the program has ended, so that nobody opens the other."""
+        while True:
+            try:
+                end = os.open(path, os.O_WRONLY | os.O_NONBLOCK)
+            except OSError as fault:
+                if fault.errno != errno.ENXIO:
+                    raise
+                if self.process.poll() is not None:
+                    self.process.stdout.close()
+                    raise InputError(f"the program ended with status {self.process.returncode}") from fault
+                time.sleep(0.005)
+                continue
+            os.set_blocking(end, True)
+            return os.fdopen(end, "wb", buffering=0)
+
+    def until(self, wanted: bytes, log: bytes = b"") -> bytes:
+        """Reads the log until it has these bytes; returns what was read. Raises InputError where the log ends before."""
+        while wanted not in log:
+            select.select([self.process.stdout], [], [])
+            piece = os.read(self.process.stdout.fileno(), 1 << 16)
+            if not piece:
+                raise InputError("the program ended before its session did")
+            log += piece
+        return log
+
+    def kill(self) -> None:
+        """Gives the session up."""
+        self.process.kill()
+        self.process.wait()
 
 
-def until(session, wanted, buffer):
-    """Reads the log until it has these bytes; answers what was read."""
-    while wanted not in buffer:
-        select.select([session.stdout], [], [])
-        buffer += os.read(session.stdout.fileno(), 1 << 16)
-    return buffer
-
-
-def answers(program, folder):
-    here = os.path.dirname(os.path.abspath(__file__))
-    subprocess.run([sys.executable, f"{here}/write_map.py", f"{folder}/map"], check=True)
+def answers(program: str, folder: str) -> None:
+    """Prints how long the answer to a cancellation takes while a batch is priced."""
+    made("write_map.py", f"{folder}/map")
     draw = random.Random(1)
-    nodes = 264_346
-    fleet = "".join(f"vehicle {v} 16 {draw.randint(1, nodes)} 0\n" for v in range(1, 1001))
+    fleet = "".join(f"vehicle {v} 16 {draw.randint(1, NEW_YORK)} 0\n" for v in range(1, 1001))
     write(f"{folder}/fleet", "set batch 128\n" + fleet)
-    session, riders, drivers = pipes(program, folder, 2, 1)
+    live = Live(program, folder, 2, 1)
+    half = NEW_YORK // 2
     for request in range(1, 129):
-        riders.write(f"request {request} {draw.randint(1, nodes // 2)} {draw.randint(nodes // 2 + 1, nodes)} 1 1000000 1000000\n".encode())
-    riders.write(b"batch\n")
-    log = until(session, b"d1 open 1", b"")
-    waits = []
+        ends = f"{draw.randint(1, half)} {draw.randint(half + 1, NEW_YORK)}"
+        live.riders.write(f"request {request} {ends} 1 1000000 1000000\n".encode())
+    live.riders.write(b"batch\n")
+    log = live.until(b"d1 open 1")
+    waits: List[float] = []
     while b"d1 commit 1" not in log and len(waits) < 2_000:
         number = 1_000_000 + len(waits)
         began = time.monotonic()
-        drivers.write(f"cancel {number}\n".encode())
-        log = until(session, f"f2 cancel {number} = ".encode(), log[-4096:])
+        live.drivers.write(f"cancel {number}\n".encode())
+        log = live.until(f"f2 cancel {number} = ".encode(), log[-4096:])
         waits.append((time.monotonic() - began) * 1000)
         time.sleep(0.005)
     waits.sort()
     print(f"{len(waits)} cancellations: median {statistics.median(waits):.2f} ms, 99 of 100 below {waits[len(waits) * 99 // 100]:.2f} ms, "
           f"slowest {waits[-1]:.2f} ms")
-    session.kill()
+    live.kill()
 
 
-def silence(program, folder):
+def silence(program: str, folder: str) -> None:
+    """Prints what a session takes of the processors while nothing is written."""
     write(f"{folder}/map", LINE_MAP)
     write(f"{folder}/fleet", "vehicle 1 2 1 0\n")
-    session, riders, drivers = pipes(program, folder, 2, 2)
-    riders.write(b"clock 1\n")
-    until(session, b"now 1\n", b"")
-    ticks = os.sysconf("SC_CLK_TCK")
-
-    def busy():
-        fields = open(f"/proc/{session.pid}/stat").read().rsplit(")", 1)[1].split()
-        return (int(fields[11]) + int(fields[12])) / ticks
-
-    before = busy()
+    live = Live(program, folder, 2, 2)
+    live.riders.write(b"clock 1\n")
+    live.until(b"now 1\n")
+    before = busy_seconds(live.process.pid)
     time.sleep(10)
-    print(f"ten silent seconds: {busy() - before:.2f} s of processors")
-    riders.close()
-    drivers.close()
-    session.stdout.read()
-    session.wait()
+    print(f"ten silent seconds: {busy_seconds(live.process.pid) - before:.2f} s of processors")
+    live.riders.close()
+    live.drivers.close()
+    live.process.stdout.read()
+    live.process.wait()
 
 
-def memory(program, folder):
+def busy_seconds(process: int) -> float:
+    """Returns the seconds of processors that a process has used."""
+    with open(f"/proc/{process}/stat", encoding="ascii") as file:
+        fields = file.read().rsplit(")", 1)[1].split()
+    return (int(fields[11]) + int(fields[12])) / os.sysconf("SC_CLK_TCK")
+
+
+def memory(program: str, folder: str) -> None:
+    """Prints the megabytes of the longest feeds, and of the most desks and workers on the largest map."""
     write(f"{folder}/map", LINE_MAP)
     write(f"{folder}/fleet", "".join(f"vehicle {v} 4 1 0\n" for v in range(1, 6)))
     for name, seed in (("riders", 1), ("drivers", 2)):
-        with open(f"{folder}/{name}", "w") as file:
-            file.writelines(lines(1_000_000, seed))
-    _, _, megabytes = run([program] + words(folder))
-    print(f"two feeds of 1,000,000 lines: {megabytes:.0f} MB")
-    with open(f"{folder}/map", "w") as file:
+        write(f"{folder}/{name}", "".join(lines(1_000_000, seed)))
+    print(f"two feeds of 1,000,000 lines: {run([program] + serve_words(folder)).memory:.0f} MB")
+    with open(f"{folder}/map", "w", encoding="ascii") as file:
         file.write("p sp 500000 2000000\n")
         file.writelines(f"a {a % 500_000 + 1} {a * 7919 % 500_000 + 1} {a % 60}\n" for a in range(2_000_000))
     write(f"{folder}/riders", "clock 1\n")
     write(f"{folder}/drivers", "clock 1\n")
-    _, _, megabytes = run([program] + words(folder, 8, 2))
-    print(f"two desks of 8 workers on the largest map: {megabytes:.0f} MB")
+    print(f"two desks of 8 workers on the largest map: {run([program] + serve_words(folder, 8, 2)).memory:.0f} MB")
 
 
-def day(program, folder):
-    here = os.path.dirname(os.path.abspath(__file__))
-    subprocess.run([sys.executable, f"{here}/write_day.py", "city", f"{folder}/map", f"{folder}/fleet", f"{folder}/feed"], check=True)
-    feed = open(f"{folder}/feed").readlines()
+def day(program: str, folder: str) -> None:
+    """Prints what the city's day takes: as a replay, in an audit, and with one and two desks."""
+    made("write_day.py", "city", f"{folder}/map", f"{folder}/fleet", f"{folder}/feed")
+    with open(f"{folder}/feed", encoding="ascii") as file:
+        feed = file.readlines()
     write(f"{folder}/riders", "".join(line for line in feed if not line.startswith("cancel")))
     write(f"{folder}/drivers", "".join(line for line in feed if line.startswith("cancel")))
     files = ["--map", f"{folder}/map", "--fleet", f"{folder}/fleet"]
     with open(f"{folder}/log", "wb") as log:
-        clock, busy, _ = run([program, "replay", *files, "--feed", f"{folder}/feed"], stdout=log)
-    print(f"replay: {clock:.1f} s by the clock, {busy:.1f} s of processors")
-    clock, busy, megabytes = run([program, "audit", *files, "--log", f"{folder}/log"])
-    print(f"audit: {clock:.1f} s by the clock, {busy:.1f} s of processors, {megabytes:.0f} MB")
+        used = run([program, "replay", *files, "--feed", f"{folder}/feed"], stdout=log)
+    print(f"replay: {used.clock:.1f} s by the clock, {used.busy:.1f} s of processors")
+    used = run([program, "audit", *files, "--log", f"{folder}/log"])
+    print(f"audit: {used.clock:.1f} s by the clock, {used.busy:.1f} s of processors, {used.memory:.0f} MB")
     for desks in (1, 2):
-        clock, busy, megabytes = run([program] + words(folder, 4 // desks, desks))
-        print(f"desks {desks}: {2_000 / clock * 3600:,.0f} batches an hour, {clock:.1f} s by the clock, {busy:.1f} s of processors, {megabytes:.0f} MB")
+        used = run([program] + serve_words(folder, 4 // desks, desks))
+        print(f"desks {desks}: {2_000 / used.clock * 3600:,.0f} batches an hour, {used.clock:.1f} s by the clock, {used.busy:.1f} s of "
+              f"processors, {used.memory:.0f} MB")
 
 
-def plans(program, folder):
-    here = os.path.dirname(os.path.abspath(__file__))
-    subprocess.run([sys.executable, f"{here}/write_map.py", f"{folder}/map"], check=True)
+def plans(program: str, folder: str) -> None:
+    """Prints how long batches take as plans grow, on two processors and on four."""
+    made("write_map.py", f"{folder}/map")
     for processors in (2, 4):
-        grow(program, folder, processors)
+        draw = random.Random(1)
+        fleet = "".join(f"vehicle {v} 16 {draw.randint(1, NEW_YORK)} 0\n" for v in range(1, 1001))
+        write(f"{folder}/fleet", "set batch 128\nset penalty 1000000000000\nset wait 1\n" + fleet)
+        all_processors = os.sched_getaffinity(0)
+        os.sched_setaffinity(0, set(sorted(all_processors)[:processors]))
+        live = Live(program, folder, processors, 1)
+        os.sched_setaffinity(0, all_processors)
+        print(f"{processors} processors: {Growth(live, draw).measured()}")
+        live.kill()
         os.remove(f"{folder}/riders")
         os.remove(f"{folder}/drivers")
 
 
-def one_batch(session, riders, draw, nodes, number, count, batch):
-    """A batch of so many requests: the vehicles that have a seat, and the seconds from its opening to its commit."""
-    ends = (draw.sample(range(1, nodes + 1), 2) for _ in range(count))
-    asked = "".join(f"request {number + place} {origin} {end} 1 1000000000 1000000\n" for place, (origin, end) in enumerate(ends, 1))
-    riders.write((asked + "batch\n").encode())
-    log = until(session, f"d1 open {batch} ".encode(), b"")
-    began = time.monotonic()
-    log = until(session, f"d1 commit {batch} ".encode(), log)
-    seconds = time.monotonic() - began
-    line = until(session, b"\n", log.split(f"d1 commit {batch} ".encode())[1]).decode().split()
-    return [int(seat.split(":")[1]) for seat in line[line.index("seats") + 1:line.index("prices")]], seconds
+@dataclass
+class Growth:
+    """Gives each of 1,000 vehicles so many rides, by batches of those that have fewer, and then times batches over all of them. A few
+    stand where no way leads, and never get a ride."""
+    live: Live
+    draw: random.Random
+    asked: int = 0
+    batches: int = 0
+
+    def one_batch(self, count: int) -> Tuple[List[int], float]:
+        """Returns the vehicles that a batch of so many requests seats, and the seconds from its opening to its commit."""
+        self.batches += 1
+        wanted = []
+        for _ in range(count):
+            origin, target = self.draw.sample(range(1, NEW_YORK + 1), 2)
+            self.asked += 1
+            wanted.append(f"request {self.asked} {origin} {target} 1 1000000000 1000000\n")
+        self.live.riders.write(("".join(wanted) + "batch\n").encode())
+        log = self.live.until(f"d1 open {self.batches} ".encode())
+        began = time.monotonic()
+        commit = f"d1 commit {self.batches} ".encode()
+        log = self.live.until(commit, log)
+        seconds = time.monotonic() - began
+        words = self.live.until(b"\n", log.split(commit)[1]).decode().split()
+        return [int(seat.split(":")[1]) for seat in words[words.index("seats") + 1:words.index("prices")]], seconds
+
+    def report(self, word: str, vehicles: Iterable[int]) -> None:
+        """Sends vehicles on or off duty, and waits for the last answer."""
+        reports = [f"{word} {vehicle}" for vehicle in vehicles]
+        if reports:
+            self.live.drivers.write("".join(line + "\n" for line in reports).encode())
+            self.live.until(f"f2 {reports[-1]} = ".encode())
+
+    def measured(self) -> str:
+        """Grows all plans, and returns what the batches took."""
+        rides: Dict[int, int] = dict.fromkeys(range(1, 1001), 0)
+        times: List[float] = []
+        while waiting := sum(count < FULL for count in rides.values()):
+            seated, seconds = self.one_batch(min(128, waiting))
+            times.append(seconds)
+            if not seated:
+                break
+            for vehicle in seated:
+                rides[vehicle] += 1
+            self.report("off", [vehicle for vehicle in seated if rides[vehicle] == FULL])
+        self.report("on", rides)
+        last = [self.one_batch(128)[1] for _ in range(3)]
+        grown = sum(count == FULL for count in rides.values())
+        return (f"{len(times)} batches until {grown} plans have 14 stops, the first {times[0]:.2f} s, the longest {max(times):.2f} s, the "
+                f"longest of the later half {max(times[len(times) // 2:]):.2f} s; then of 128 over all "
+                + ", ".join(f"{seconds:.2f} s" for seconds in last))
 
 
-def report(session, drivers, lines):
-    """Writes reports, and waits for the answer to the last."""
-    if lines:
-        drivers.write("".join(line + "\n" for line in lines).encode())
-        until(session, f"f2 {lines[-1]} = ".encode(), b"")
+WHAT: Dict[str, Callable[[str, str], None]] = {
+    "speed": speed, "answers": answers, "silence": silence, "memory": memory, "day": day, "plans": plans}
 
 
-def grow(program, folder, processors):
-    """Gives each vehicle 7 rides, by batches of those that have fewer, and then times batches over all of them. A few stand where no way
-    leads, and never get a ride."""
-    draw = random.Random(1)
-    nodes, vehicles, full = 264_346, range(1, 1001), 7
-    fleet = "".join(f"vehicle {v} 16 {draw.randint(1, nodes)} 0\n" for v in vehicles)
-    write(f"{folder}/fleet", "set batch 128\nset penalty 1000000000000\nset wait 1\n" + fleet)
-    all_processors = os.sched_getaffinity(0)
-    os.sched_setaffinity(0, set(sorted(all_processors)[:processors]))
-    session, riders, drivers = pipes(program, folder, processors, 1)
-    os.sched_setaffinity(0, all_processors)
-    rides, number, batches = dict.fromkeys(vehicles, 0), 0, []
-    while waiting := sum(count < full for count in rides.values()):
-        count = min(128, waiting)
-        seats, seconds = one_batch(session, riders, draw, nodes, number, count, len(batches) + 1)
-        batches.append(seconds)
-        number += count
-        if not seats:
-            break
-        for vehicle in seats:
-            rides[vehicle] += 1
-        leaving = [vehicle for vehicle in seats if rides[vehicle] == full]
-        report(session, drivers, [f"off {vehicle}" for vehicle in leaving])
-    report(session, drivers, [f"on {vehicle}" for vehicle in vehicles])
-    last = [one_batch(session, riders, draw, nodes, number + 128 * place, 128, len(batches) + 1 + place)[1] for place in range(3)]
-    grown = sum(count == full for count in rides.values())
-    print(f"{processors} processors: {len(batches)} batches until {grown} plans have 14 stops, the first {batches[0]:.2f} s, the longest "
-          f"{max(batches):.2f} s, the longest of the later half {max(batches[len(batches) // 2:]):.2f} s; then of 128 over all "
-          + ", ".join(f"{s:.2f} s" for s in last))
-    session.kill()
+def main(words: Sequence[str]) -> int:
+    """Prints what is measured; returns 0."""
+    parser = Parser(description=__doc__)
+    parser.add_argument("what", choices=WHAT, help="what is measured")
+    parser.add_argument("program", help="the built ride_dispatch")
+    wishes = parser.parse_args(words)
+    if not os.access(wishes.program, os.X_OK) or os.path.isdir(wishes.program):
+        raise InputError(f"{wishes.program}: no program")
+    with tempfile.TemporaryDirectory() as folder:
+        WHAT[wishes.what](wishes.program, folder)
+    return 0
 
 
 if __name__ == "__main__":
-    with tempfile.TemporaryDirectory() as folder:
-        {"speed": speed, "answers": answers, "silence": silence, "memory": memory, "day": day,
-         "plans": plans}[sys.argv[1]](sys.argv[2], folder)
+    run_main(main)

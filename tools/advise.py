@@ -18,18 +18,18 @@ from typing import Iterator, Sequence
 
 sys.path.insert(0, os.path.dirname(os.path.abspath(__file__)))
 from player.ahead import Advisor  # noqa: E402
-from player.files import Parser, open_fleet, reading_log, run_main, whole  # noqa: E402
+from player.files import Parser, entries_of, open_fleet, reading_log, run_main, seconds, whole  # noqa: E402
 from player.roads import read_map  # noqa: E402
 from trip_log import TripLog  # noqa: E402
 
 
 def has_ended(log: TripLog) -> bool:
-    """Whether all feeds and desks of the log have ended."""
+    """Returns whether all feeds and desks of the log have ended."""
     return log.lines > 0 and len(log.ended) == log.feeds + log.desks
 
 
 def followed(path: str, log: TripLog, pause: float) -> Iterator[str]:
-    """The whole lines of a log, as it grows, until it has ended; of standard input until that ends."""
+    """Yields the whole lines of a log, as it grows, until it has ended; of standard input until that ends."""
     if path == "-":
         yield from sys.stdin
         return
@@ -53,16 +53,15 @@ def main(words: Sequence[str]) -> int:
     parser.add_argument("--reach", type=whole(1, 10 ** 6), required=True, metavar="SECONDS",
                         help="vehicles within so many seconds of a pickup are sent")
     parser.add_argument("--check", action="store_true", help="certifies each sheet (no)")
-    parser.add_argument("--pause", type=float, default=0.2, metavar="S", help="seconds between looks at a file that has not grown (0.2)")
+    parser.add_argument("--pause", type=seconds, default=0.2, metavar="S", help="seconds between looks at a file that has not grown (0.2)")
     wishes = parser.parse_args(words)
     roads = read_map(wishes.map)
     log = TripLog(open_fleet(wishes.fleet, roads.nodes))
     advisor = Advisor(roads, log, wishes.reach, checks=wishes.check)
     print(f"ahead 1 reach {wishes.reach}", flush=True)
     with reading_log(wishes.log, log):
-        for line in followed(wishes.log, log, wishes.pause):
-            entry = log.read(line)
-            if entry and (sheet := advisor.take(entry)):
+        for entry in entries_of(wishes.log, followed(wishes.log, log, wishes.pause), log):
+            if sheet := advisor.take(entry):
                 print(sheet.line(), flush=True)
     if has_ended(log):
         print("cut" if "cut" in log.ended.values() else "end", flush=True)

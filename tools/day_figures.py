@@ -5,7 +5,7 @@
 
 LOG2 and further logs are of the same map, and of the same fleet file where no --fleet2 is given.
 
-    day_figures.py examples/morning.log examples/fleet.txt examples/map.gr --page morning.html
+    day_figures.py examples/morning.log examples/fleet.txt examples/map.gr --page morning.html --batches
 
 A rider's wait is from asking to pickup. The delay aboard is what a ride takes beyond the fastest way, stops included. Pooled is a ride
 during which somebody else is aboard. Driven are a vehicle's seconds between reports while it has a plan, and of an idle one those of
@@ -22,31 +22,26 @@ from typing import List, Sequence, Tuple
 
 sys.path.insert(0, os.path.dirname(os.path.abspath(__file__)))
 from player.figures import Collector, Figures, Scope  # noqa: E402
-from player.files import InputError, Parser, open_fleet, reading_log, run_main, whole  # noqa: E402
-from player.page import page_path, table_text, write_page  # noqa: E402
+from player.files import InputError, Parser, entries_of, open_fleet, reading_log, run_main, whole  # noqa: E402
+from player.page import batch_text, page_path, table_text, write_page  # noqa: E402
 from player.roads import Roads, read_map  # noqa: E402
 from trip_log import Fleet, TripLog  # noqa: E402
 
 
 def figures_of(path: str, roads: Roads, fleet: Fleet, scope: Scope) -> Figures:
-    """The figures of a log. Raises InputError where it is none, or none of this fleet and map."""
+    """Returns the figures of a log. Raises InputError where it is none, or none of this fleet and map."""
     log = TripLog(fleet)
     collector = Collector(roads, log, scope)
-    known = set(log.vehicles)
     with reading_log(path, log), open(path, encoding="utf-8") as lines:
-        for line in lines:
-            entry = log.read(line)
-            if entry:
-                collector.take(entry)
+        for entry in entries_of(path, lines, log):
+            collector.take(entry)
     if not log.lines:
         raise InputError(f"{path}: an empty file is no log")
-    if set(log.vehicles) != known:
-        raise InputError(f"{path}: the log has vehicles that the fleet file has not")
     return collector.figures()
 
 
 def wishes_of(words: Sequence[str]) -> argparse.Namespace:
-    """The command line."""
+    """Returns the command line."""
     parser = Parser(description=__doc__.split("\n\n")[0], epilog=__doc__.split("\n\n", 2)[2])
     add = parser.add_argument
     add("log", help="the trip log")
@@ -54,11 +49,12 @@ def wishes_of(words: Sequence[str]) -> argparse.Namespace:
     add("map", help="its map, a .gr file")
     add("others", nargs="*", metavar="LOG2", help="further logs")
     add("--fleet2", metavar="FLEET", help="the fleet file of the further logs (that of the first)")
-    add("--json", action="store_true", help="prints JSON, an object for each log")
+    add("--json", action="store_true", help="prints JSON, an object for each log, with each batch")
+    add("--batches", action="store_true", help="prints a line for each batch below the table")
     add("--page", type=page_path, metavar="FILE", help="writes a page with plots, .html or .svg")
     add("--since", type=whole(0, 10 ** 9), default=0, metavar="T", help="only riders who asked, and driving, from this second on (0)")
     add("--until", type=whole(0, 10 ** 9), default=10 ** 10, metavar="T", help="only those before this second (all)")
-    add("--again", type=whole(1, 10 ** 17), metavar="STEP", 
+    add("--again", type=whole(1, 10 ** 17), metavar="STEP",
         help="request numbers that differ by multiples of STEP are one rider who asks again (none)")
     add("--no-reasons", action="store_true", help="does not look for why requests were turned away, which takes longest")
     return parser.parse_args(words)
@@ -76,7 +72,7 @@ def main(words: Sequence[str]) -> int:
     if wishes.json:
         print(json.dumps([{"log": name, **figures.values(), "batch": figures.batch_rows()} for name, figures in columns], indent=1))
     else:
-        print(table_text(columns))
+        print(table_text(columns) + (f"\n\n{batch_text(columns)}" if wishes.batches else ""))
     if wishes.page:
         write_page(wishes.page, columns, [f"{name}: {figures.totals}" for name, figures in columns])
     return 0

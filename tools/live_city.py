@@ -46,14 +46,14 @@ FEEDS = ("riders", "drivers")
 
 
 def made_fleet(roads: Roads, vehicles: int, speed: int, draw: random.Random) -> Fleet:
-    """A fleet of vehicles at drawn crossings."""
+    """Returns a fleet of vehicles at drawn crossings."""
     stands = [Vehicle(number, seats=draw.choice([4, 4, 6]), at=draw.randint(1, roads.nodes), ready=BEGIN)
               for number in range(1, vehicles + 1)]
     return Fleet({**SETTINGS, "lead": LEAD + speed // 2}, stands)
 
 
 def made_riders(roads: Roads, requests: int, seconds: int, draw: random.Random) -> List[Rider]:
-    """The riders of a morning of so many seconds; most ask in its middle."""
+    """Returns the riders of a morning of so many seconds; most ask in its middle."""
     riders = []
     for number in range(1, requests + 1):
         asks = BEGIN + int(draw.triangular(0, seconds))
@@ -73,11 +73,11 @@ class Clock:
         self.began = time.monotonic()
 
     def now(self) -> int:
-        """The second of the city's day."""
+        """Returns the second of the city's day."""
         return BEGIN + int((time.monotonic() - self.began) * self.speed)
 
     def seconds_until(self, moment: float) -> float:
-        """The system's seconds until a moment of the city's day."""
+        """Returns the system's seconds until a moment of the city's day."""
         return max(0.0, (moment - BEGIN) / self.speed - (time.monotonic() - self.began))
 
 
@@ -134,12 +134,12 @@ class LiveSession:
             self.desk_seconds.append(time.monotonic() - self.opened_at[entry.commit.number])
 
     def at_rest(self) -> bool:
-        """Whether each rider's line is answered, nobody waits, and every vehicle is idle. Called with `changed` held."""
+        """Returns whether each rider's line is answered, nobody waits, and every vehicle is idle. Called with `changed` held."""
         answered = self.answered["f1"] == self.sent[0]
         return answered and not self.log.waiting() and not any(vehicle.stops for vehicle in self.log.vehicles.values())
 
     def may_ask(self) -> bool:
-        """Whether somebody waits for a batch and none is under way. Called with `changed` held."""
+        """Returns whether somebody waits for a batch and none is under way. Called with `changed` held."""
         return bool(self.log.waiting()) and self.log.asked == self.log.opened and not self.log.open_batches
 
     def wait(self, seconds: float) -> None:
@@ -199,13 +199,13 @@ def play_drivers(session: LiveSession, clock: Clock, drivers: Drivers) -> None:
 
 
 def spread(seconds: Sequence[int]) -> str:
-    """Median, the ninth of ten, and the longest."""
+    """Returns the median, the ninth of ten, and the longest."""
     ordered = sorted(seconds)
     return f"median {statistics.median(ordered):.0f} s, 9 of 10 within {ordered[(len(ordered) * 9 - 1) // 10]} s, longest {ordered[-1]} s"
 
 
 def report(log: TripLog, desk_seconds: Sequence[float], seconds: int) -> List[str]:
-    """What an operator wants to know of a morning of so many seconds."""
+    """Returns what an operator wants to know of a morning of so many seconds."""
     requests = list(log.requests.values())
     states = {state: sum(request.state == state for request in requests) for state in State}
     picked = [request for request in requests if request.picked_at is not None]

@@ -31,7 +31,7 @@ from trip_log import Fleet  # noqa: E402
 
 
 def wishes_of(words: Sequence[str]) -> argparse.Namespace:
-    """The command line."""
+    """Returns the command line."""
     parser = Parser(description=__doc__.split("\n\n")[0], epilog=__doc__.split("\n\n", 2)[2])
     add = parser.add_argument
     add("map", help="the road map, a .gr file")
@@ -53,7 +53,7 @@ def wishes_of(words: Sequence[str]) -> argparse.Namespace:
     add("--seed", type=int, default=1, help="of hold-ups, breaks and who asks again (1)")
     add("--program", default=default_program(), help="the built ride_dispatch (crates/ride_dispatch/out/ride_dispatch)")
     add("--workers", type=whole(1, 16), default=2, help="threads that price a batch (2)")
-    add("--keep", metavar="FOLDER", help="the fleet file, the log and figures.json stay there")
+    add("--keep", metavar="FOLDER", help="the fleet file, the log, figures.json and the page figures.html stay there")
     add("--page", type=page_path, metavar="FILE", help="writes the figures as a page, .html or .svg")
     add("--json", action="store_true", help="prints the figures as JSON in place of the table")
     add("--quiet", action="store_true", help="no progress on standard error")
@@ -61,7 +61,7 @@ def wishes_of(words: Sequence[str]) -> argparse.Namespace:
 
 
 def overridden(fleet: Fleet, words: Sequence[str]) -> Fleet:
-    """The fleet with settings NAME=VALUE in place of its own. Raises InputError where one is none."""
+    """Returns the fleet with settings NAME=VALUE in place of its own. Raises InputError where one is none."""
     settings = dict(fleet.settings)
     for word in words:
         name, _, value = word.partition("=")
@@ -73,7 +73,7 @@ def overridden(fleet: Fleet, words: Sequence[str]) -> Fleet:
 
 
 def setup_of(wishes: argparse.Namespace) -> Tuple[Setup, int]:
-    """The evening that the words ask for, and how many of the feed's lines are left out."""
+    """Returns the evening that the words ask for, and how many of the feed's lines are left out."""
     roads = read_map(wishes.map)
     fleet = overridden(open_fleet(wishes.fleet, roads.nodes), wishes.set)
     riders, left_out = read_riders(wishes.requests, roads, Limits(wishes.wait, wishes.detour))
@@ -88,7 +88,7 @@ def setup_of(wishes: argparse.Namespace) -> Tuple[Setup, int]:
 
 
 def notes_of(outcome: Outcome, left_out: int) -> List[str]:
-    """What is printed below the figures."""
+    """Returns what is printed below the figures."""
     notes = [f"audit: {outcome.audit}"]
     if outcome.sheets:
         notes.append(f"ahead: {outcome.sheets} sheets, each certified; {outcome.orders} orders obeyed, {outcome.late_orders} late")
@@ -99,25 +99,31 @@ def notes_of(outcome: Outcome, left_out: int) -> List[str]:
     return notes
 
 
+def keep_figures(folder: str, name: str, outcome: Outcome, notes: Sequence[str]) -> None:
+    """Leaves the figures in a folder, as JSON and as a page."""
+    with open(f"{folder}/figures.json", "w", encoding="utf-8") as file:
+        json.dump({**outcome.figures.values(), "batch": outcome.figures.batch_rows()}, file, indent=1)
+    write_page(f"{folder}/figures.html", [(name, outcome.figures)], notes)
+
+
 def main(words: Sequence[str]) -> int:
     """Plays a day; returns 0 where the audit says yes."""
     wishes = wishes_of(words)
     setup, left_out = setup_of(wishes)
+    name = os.path.basename(wishes.requests)
     with tempfile.TemporaryDirectory() as scratch:
         folder = wishes.keep or scratch
         os.makedirs(folder, exist_ok=True)
         outcome = play_program(setup, wishes.program, folder, wishes.workers)
         if setup.progress:
             print(file=sys.stderr)
-        values = outcome.figures.values()
+        notes = notes_of(outcome, left_out)
         if wishes.keep:
-            with open(f"{folder}/figures.json", "w", encoding="utf-8") as file:
-                json.dump({**values, "batch": outcome.figures.batch_rows()}, file, indent=1)
-    name = os.path.basename(wishes.requests)
-    print(json.dumps(values, indent=1) if wishes.json else table_text([(name, outcome.figures)]))
-    print("\n".join(notes_of(outcome, left_out)), file=sys.stderr if wishes.json else sys.stdout)
+            keep_figures(folder, name, outcome, notes)
     if wishes.page:
-        write_page(wishes.page, [(name, outcome.figures)], notes_of(outcome, left_out))
+        write_page(wishes.page, [(name, outcome.figures)], notes)
+    print(json.dumps(outcome.figures.values(), indent=1) if wishes.json else table_text([(name, outcome.figures)]))
+    print("\n".join(notes), file=sys.stderr if wishes.json else sys.stdout)
     return 0 if outcome.clean else 1
 
 

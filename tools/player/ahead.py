@@ -8,12 +8,12 @@ import functools
 import importlib.util
 import pathlib
 from dataclasses import dataclass
-from typing import Dict, List, Optional, Tuple
+from typing import Callable, Dict, List, Optional, Sequence, Tuple
 
 from player.drivers import Order
 from player.files import InputError
 from player.pairing import least_pairing
-from player.roads import Roads
+from player.roads import Arc, Roads
 from trip_log import Batch, Commit, Entry, TripLog
 
 CHECKER = pathlib.Path(__file__).resolve().parents[2] / "checks" / "sheets.py"
@@ -39,14 +39,14 @@ class Sheet:
     pays: Dict[int, int]
 
     def line(self) -> str:
-        """The line `moves ..`, as `ahead` writes it."""
+        """Returns the line `moves ..`, as `ahead` writes it."""
         goes = [f"{go.request}:{go.vehicle}@{go.version}:{go.node}:{go.seconds}" for go in self.goes]
         prices = [f"{request}:{price}" for request, price in self.prices.items()]
         pays = [f"{vehicle}:{pay}" for vehicle, pay in self.pays.items()]
         return " ".join(["moves", str(self.batch), "cost", str(self.cost), "goes", *goes, "prices", *prices, "pays", *pays])
 
     def orders(self) -> List[Order]:
-        """The orders as drivers take them."""
+        """Returns the orders as drivers take them."""
         return [Order(go.vehicle, go.version, go.node) for go in self.goes]
 
 
@@ -65,7 +65,7 @@ class Advisor:
         self._batches: Dict[int, Batch] = {}
 
     def take(self, entry: Entry) -> Optional[Sheet]:
-        """The sheet that is due behind an entry, None where that is no commit."""
+        """Returns the sheet that is due behind an entry, None where that is no commit."""
         if entry.batch:
             self._batches[entry.batch.number] = entry.batch
             self._idle[entry.batch.number] = {
@@ -108,17 +108,18 @@ class Advisor:
                      {vehicles[column]: pay for column, pay in pays.items()})
 
 
-def load_checker(reach: int):
-    """The certificate of sheets that checks/sheets.py has, for a reach. It searches travel times itself, those to a pickup once."""
+def load_checker(reach: int) -> Callable[..., None]:
+    """Returns the certificate of sheets that checks/sheets.py has, for a reach. It searches travel times itself, those to a pickup
+    once."""
     spec = importlib.util.spec_from_file_location("sheets", CHECKER)
     sheets = importlib.util.module_from_spec(spec)
     spec.loader.exec_module(sheets)
     sheets.REACH = reach
     searched = sheets.times_to
-    kept: Dict[int, object] = {}
+    kept: Dict[int, Dict[int, int]] = {}
 
     @functools.wraps(searched)
-    def times_to(arcs, target):
+    def times_to(arcs: Sequence[Arc], target: int) -> Dict[int, int]:
         if target not in kept:
             kept[target] = searched(arcs, target)
         return kept[target]

@@ -26,11 +26,11 @@ class Board:
         self._order: List[int] = []
 
     def submit(self, feed: int, lines: Sequence[str]) -> List[Entry]:
-        """Answers lines of a feed."""
+        """Takes lines of a feed, and returns their answers."""
         return [self._take(f"f{feed + 1} {line} = {self._reply(line)}") for line in lines]
 
     def seat(self) -> Commit:
-        """Seats the request that has waited longest, or turns it away."""
+        """Seats the request that has waited longest, or turns it away; returns the commit."""
         log = self.log
         self._take(f"f1 batch = asked {log.asked + 1}")
         number, now = self._next(), log.clock
@@ -51,7 +51,7 @@ class Board:
             self._take(f"{actor} end")
 
     def _next(self) -> int:
-        """Takes the first request that still waits."""
+        """Takes and returns the first request that still waits."""
         while self.log.requests[self._order[0]].state != State.WAITING:
             self._order.pop(0)
         return self._order.pop(0)
@@ -103,7 +103,7 @@ class Board:
         return f"late {late}" + (f" broken {broken}" if broken else "")
 
     def _broken(self, vehicle: Vehicle, node: int, moment: int) -> List[int]:
-        """The rides whose limits do not hold when a vehicle is at a node at a moment."""
+        """Returns the rides whose limits do not hold when a vehicle is at a node at a moment."""
         picked: Dict[int, Optional[int]] = {number: self.log.requests[number].picked_at for number in vehicle.rides}
         broken, leaves = set(), moment
         for stop in vehicle.stops:
@@ -119,7 +119,7 @@ class Board:
 
 
 def cheapest_insertion(book: PlanBook, ride: Ride, now: int) -> Optional[Choice]:
-    """The seat that costs least of all vehicles, below the penalty."""
+    """Returns the seat that costs least of all vehicles, below the penalty."""
     best, below = None, book.log.settings["penalty"]
     near = [plan for plan in open_plans(book, now) if book.reaches(plan, ride, now)]
     for plan in near:
@@ -129,7 +129,7 @@ def cheapest_insertion(book: PlanBook, ride: Ride, now: int) -> Optional[Choice]
 
 
 def nearest_idle(book: PlanBook, ride: Ride, now: int) -> Optional[Choice]:
-    """The idle vehicle that is at the pickup first, if that is in time: nobody shares."""
+    """Returns the idle vehicle that is at the pickup first, if that is in time: nobody shares."""
     toward = book.roads.toward(ride.origin).seconds
     idle = [(plan.start(now, book.lead) + toward[plan.at], place, plan) for place, plan in enumerate(open_plans(book, now))
             if not plan.stops and book.reaches(plan, ride, now) and plan.seats >= ride.seats and plan.chairs >= ride.chairs]
@@ -141,5 +141,5 @@ def nearest_idle(book: PlanBook, ride: Ride, now: int) -> Optional[Choice]:
 
 
 def open_plans(book: PlanBook, now: int) -> List[Plan]:
-    """The vehicles that may take a ride now."""
+    """Returns the vehicles that may take a ride now."""
     return [plan for plan in book.plans() if plan.is_open(now)]

@@ -64,7 +64,7 @@ class Drivers:
                 self.breaks[vehicle] = self.draw.randint(begin, max(begin, end))
 
     def reports(self, now: int, unless: Iterable[int] = ()) -> List[str]:
-        """What is reported now, at most one line of each vehicle, in fleet order; of vehicles in `unless` nothing."""
+        """Returns what is reported now, at most one line of each vehicle, in fleet order; of vehicles in `unless` nothing."""
         lines = []
         for vehicle in self.log.vehicles.values():
             if vehicle.id not in unless and (line := self.report(vehicle, now)):
@@ -72,8 +72,8 @@ class Drivers:
         return lines
 
     def all_reports(self, now: int) -> List[str]:
-        """What is reported until every driver is on the way to a moment after now, or idle, when nothing else happens meanwhile: all lines
-        of the first vehicle, then those of the next."""
+        """Returns what is reported until every driver is on the way to a moment after now, or idle, when nothing else happens
+        meanwhile: all lines of the first vehicle, then those of the next."""
         lines = []
         for vehicle in self.log.vehicles.values():
             line = self.report(vehicle, now)
@@ -97,17 +97,17 @@ class Drivers:
             vehicle.on_duty = word == "on"
 
     def report(self, vehicle: Vehicle, now: int) -> Optional[str]:
-        """What the driver of a vehicle reports now, None where that is nothing."""
+        """Returns what the driver of a vehicle reports now, None where that is nothing."""
         if vehicle.stops:
             return self._drive_report(vehicle, now) if vehicle.ready <= now else None
         return self._duty_report(vehicle, now) or self._ahead_report(vehicle, now)
 
     def are_moving(self) -> bool:
-        """Whether any vehicle drives, or has a plan."""
+        """Returns whether any vehicle drives, or has a plan."""
         return bool(self.ahead) or any(vehicle.stops or self.home(vehicle) is not None for vehicle in self.log.vehicles.values())
 
     def next_break(self) -> Optional[int]:
-        """When the next break begins or ends, None where none does."""
+        """Returns when the next break begins or ends, None where none does."""
         return min(itertools.chain(self.breaks.values(), self._back.values()), default=None)
 
     def obey(self, orders: Iterable[Order], now: int) -> None:
@@ -131,7 +131,7 @@ class Drivers:
         return f"at {vehicle.id} {node} {vehicle.ready + seconds + self._hold_up()}"
 
     def _whole_way(self, node: int, target: int) -> int:
-        """The seconds to a target, with those of all hold-ups on the way."""
+        """Returns the seconds to a target, with those of all hold-ups on the way."""
         seconds = 0
         while node != target:
             node, more = self.roads.next_node(node, target)
@@ -156,7 +156,7 @@ class Drivers:
         return None
 
     def _ahead_report(self, vehicle: Vehicle, now: int) -> Optional[str]:
-        """The next crossing on the way that an order sends an idle vehicle, or on its way home."""
+        """Returns the next crossing on the way that an order sends an idle vehicle, or on its way home."""
         way = self.ahead.get(vehicle.id)
         if way is None:
             return self._home_report(vehicle, now)

@@ -23,10 +23,10 @@ class Dispatcher(Protocol):
     most_batches: int
 
     def submit(self, feed: int, lines: Sequence[str]) -> List[Entry]:
-        """Answers lines of a feed."""
+        """Takes lines of a feed, and returns their answers."""
 
     def seat(self) -> Commit:
-        """Makes a batch of those who wait."""
+        """Makes a batch of those who wait, and returns its commit."""
 
     def end(self) -> None:
         """Ends the session."""
@@ -65,7 +65,7 @@ class Evening:
         self.dispatcher.end()
 
     def _next(self, now: int) -> int:
-        """The next second at which something may happen, by whole steps."""
+        """Returns the next second at which something may happen, by whole steps."""
         tick = self.rules.tick
         if self.waiting or self.drivers.are_moving():
             return now + tick

@@ -165,7 +165,7 @@ class Collector:
                                       words["moved"] + words["behind"], sum(commit.prices.values())))
 
     def _reason(self, number: int, time: int, plans: Sequence[Plan]) -> str:
-        """Why a request of a batch was turned away, by the plans of the vehicles that were open."""
+        """Returns why a request of a batch was turned away, by the plans of the vehicles that were open."""
         ride = self.book.ride(number)
         if not plans:
             return "no vehicle"
@@ -186,7 +186,7 @@ class Collector:
         return number % self.scope.again if self.scope.again else number
 
     def _asked_at(self, number: int) -> int:
-        """When a request's rider asked first."""
+        """Returns when a request's rider asked first."""
         first = self.log.requests.get(self._rider(number))
         return (first or self.log.requests[number]).asked_at
 
@@ -194,7 +194,7 @@ class Collector:
         return self.scope.since <= asked_at < self.scope.until
 
     def riders(self) -> Dict[int, int]:
-        """For each rider who counts the last request."""
+        """Returns the riders who count, each with the last request."""
         last: Dict[int, int] = {}
         for number, request in self.log.requests.items():
             if self._is_counted(self._asked_at(number)):
@@ -202,7 +202,7 @@ class Collector:
         return last
 
     def figures(self) -> "Figures":
-        """What was collected, at the log's end."""
+        """Returns what was collected, at the log's end."""
         self._close()
         figures = Figures()
         last = self.riders()
@@ -268,11 +268,11 @@ class Figures:
     totals: str = ""
 
     def batch_rows(self) -> List[Dict[str, int]]:
-        """Each batch: its time, cost, requests, how many were seated, away and stale, and the sum of their prices."""
+        """Returns each batch: its time, cost, requests, how many were seated, away and stale, and the sum of their prices."""
         return [asdict(note) for note in self.batches]
 
     def values(self) -> Dict[str, object]:
-        """All figures by name, numbers rounded as they are printed, None where there is nothing to divide by."""
+        """Returns all figures by name, numbers rounded as they are printed, None where there is nothing to divide by."""
         return {**self._rider_values(), **self._vehicle_values(), **self._batch_values()}
 
     def _rider_values(self) -> Dict[str, object]:
@@ -326,20 +326,20 @@ class Figures:
 
 
 def share(part: int, whole: int) -> Optional[float]:
-    """So many of a hundred, to a tenth."""
+    """Returns so many of a hundred, to a tenth."""
     return round(100 * part / whole, 1) if whole else None
 
 
 def ratio(part: int, whole: int, digits: int) -> Optional[float]:
-    """A quotient, to so many digits, a whole number where those are 0."""
+    """Returns a quotient, to so many digits, a whole number where those are 0."""
     return round(part / whole, digits or None) if whole else None
 
 
 def mean(values: Sequence[int]) -> Optional[float]:
-    """The mean, to a tenth."""
+    """Returns the mean, to a tenth."""
     return round(sum(values) / len(values), 1) if values else None
 
 
 def nth(values: Sequence[int], part: float) -> Optional[int]:
-    """The least of sorted values that a part of them, at least, does not pass."""
+    """Returns the least of sorted values that a part of them, at least, does not pass."""
     return values[max(math.ceil(len(values) * part) - 1, 0)] if values else None

@@ -4,12 +4,17 @@ import contextlib
 import os
 import signal
 import sys
-from typing import Callable, Iterator, List, Sequence
+from collections import Counter
+from typing import Any, Callable, Iterable, Iterator, List, NoReturn, Sequence
 
-from trip_log import Fleet, LogError, TripLog, read_fleet
+from trip_log import Entry, Fleet, TripLog, Vehicle, read_fleet
 
 RANGES = {"batch": (1, 128), "penalty": (0, 10 ** 12), "drive": (0, 1000), "wait": (0, 1000), "lead": (0, 3600), "dwell": (0, 3600),
           "log": (1, 2)}
+
+
+MOST_SEATS, MOST_CHAIRS = 16, 4
+MOST_TIME = 10 ** 9
 
 
 class InputError(ValueError):
@@ -17,7 +22,7 @@ class InputError(ValueError):
 
 
 def read_lines(path: str) -> List[str]:
-    """The lines of a text. Raises InputError where it cannot be read or is no text."""
+    """Returns the lines of a text. Raises InputError where it cannot be read or is no text."""
     try:
         with open(path, encoding="utf-8") as file:
             return file.read().splitlines()
@@ -28,7 +33,7 @@ def read_lines(path: str) -> List[str]:
 
 
 def open_fleet(path: str, nodes: int) -> Fleet:
-    """The fleet file at a path, over a map of so many nodes. Raises InputError where it is none."""
+    """Returns the fleet file at a path, over a map of so many nodes. Raises InputError where it is none."""
     read_lines(path)
     try:
         fleet = read_fleet(path)
@@ -39,9 +44,22 @@ def open_fleet(path: str, nodes: int) -> Fleet:
     if not fleet.vehicles:
         raise InputError(f"{path}: no vehicle stands in it")
     for vehicle in fleet.vehicles:
-        if not 1 <= vehicle.at <= nodes:
-            raise InputError(f"{path}: vehicle {vehicle.id} stands at node {vehicle.at}, and the map has 1 to {nodes}")
+        if fault := fault_of_vehicle(vehicle, nodes):
+            raise InputError(f"{path}: vehicle {vehicle.id} {fault}")
+    counts = Counter(vehicle.id for vehicle in fleet.vehicles)
+    if twice := [number for number, count in counts.items() if count > 1]:
+        raise InputError(f"{path}: vehicle {twice[0]} stands twice")
     return fleet
+
+
+def fault_of_vehicle(vehicle: Vehicle, nodes: int) -> str:
+    """Returns what is wrong with a vehicle over a map of so many nodes, empty where nothing is."""
+    if not 1 <= vehicle.at <= nodes:
+        return f"stands at node {vehicle.at}, and the map has 1 to {nodes}"
+    if not (1 <= vehicle.seats <= MOST_SEATS and 0 <= vehicle.chairs <= MOST_CHAIRS):
+        return (f"has {vehicle.seats} seats and {vehicle.chairs} places for wheelchairs, and may have 1 to {MOST_SEATS} and 0 to "
+                f"{MOST_CHAIRS}")
+    return "" if 0 <= vehicle.ready <= MOST_TIME else f"is ready at {vehicle.ready}, and may be from 0 to {MOST_TIME}"
 
 
 def check_setting(name: str, value: int) -> None:
@@ -64,29 +82,42 @@ def write_fleet(path: str, fleet: Fleet) -> None:
 
 @contextlib.contextmanager
 def reading_log(path: str, log: TripLog) -> Iterator[None]:
-    """Where a log is read: each fault of the file or of a line is an InputError."""
+    """Makes an InputError of each fault of a log's file, or of one of its lines, while it is read."""
     try:
         yield
+    except InputError:
+        raise
     except OSError as fault:
         raise InputError(f"{path}: {fault.strerror}") from fault
     except UnicodeDecodeError as fault:
         raise InputError(f"{path}: no text, but bytes that are no UTF-8") from fault
-    except (LogError, IndexError, KeyError) as fault:
+    except (ValueError, IndexError, KeyError) as fault:
         raise InputError(f"{path}: line {log.lines} is no line of a log of this fleet and map ({fault})") from fault
+
+
+def entries_of(path: str, lines: Iterable[str], log: TripLog) -> Iterator[Entry]:
+    """Reads a log's lines, and yields their entries. Raises InputError where one has a vehicle that the fleet file has not."""
+    known = len(log.vehicles)
+    for line in lines:
+        entry = log.read(line)
+        if len(log.vehicles) != known:
+            raise InputError(f"{path}: line {log.lines} has a vehicle that the fleet file has not")
+        if entry:
+            yield entry
 
 
 class Parser(argparse.ArgumentParser):
     """A reader of command lines whose faults are one line. `epilog` and description stand as they are written."""
 
-    def __init__(self, **words):
+    def __init__(self, **words: Any):
         super().__init__(formatter_class=argparse.RawDescriptionHelpFormatter, **words)
 
-    def error(self, message: str):
+    def error(self, message: str) -> NoReturn:
         raise InputError(f"{message} (--help says more)")
 
 
 def whole(least: int, most: int) -> Callable[[str], int]:
-    """A reader of options that are whole numbers in a range."""
+    """Returns a reader of options that are whole numbers in a range."""
     def read(text: str) -> int:
         value = int(text) if text.isdecimal() else None
         if value is None or not least <= value <= most:
@@ -96,13 +127,24 @@ def whole(least: int, most: int) -> Callable[[str], int]:
 
 
 def part(text: str) -> float:
-    """A reader of options that are numbers from 0 to 1."""
+    """Returns the number from 0 to 1 that an option names."""
     try:
         value = float(text)
     except ValueError:
         value = -1.0
     if not 0 <= value <= 1:
         raise argparse.ArgumentTypeError(f"{text} is no number from 0 to 1")
+    return value
+
+
+def seconds(text: str) -> float:
+    """Returns the seconds, above 0 and at most an hour, that an option names."""
+    try:
+        value = float(text)
+    except ValueError:
+        value = 0.0
+    if not 0 < value <= 3600:
+        raise argparse.ArgumentTypeError(f"{text} is no number of seconds above 0 and up to 3,600")
     return value
 
 

@@ -3,7 +3,7 @@
 A pair of places is priced by the legs that change, and a whole plan is judged only where that is below the best so far.
 """
 from dataclasses import dataclass
-from typing import Dict, List, NamedTuple, Optional, Tuple
+from typing import Dict, List, NamedTuple, Optional, Sequence, Tuple
 
 from player.roads import Roads
 from trip_log import Stop, TripLog, Vehicle
@@ -46,11 +46,11 @@ class Plan:
     times: Tuple[int, ...]
 
     def is_open(self, time: int) -> bool:
-        """Whether it may take a ride in a batch of this time."""
+        """Returns whether it may take a ride in a batch of this time."""
         return self.on_duty and (not self.stops or self.ready >= time)
 
     def start(self, time: int, lead: int) -> int:
-        """When it would leave with a ride of a batch of this time."""
+        """Returns when it would leave with a ride of a batch of this time."""
         return self.ready if self.stops else max(self.ready, time + lead)
 
 
@@ -64,18 +64,18 @@ class PlanBook:
         self._plans: Dict[int, Tuple[int, Plan]] = {}
 
     def plan(self, vehicle: Vehicle) -> Plan:
-        """The plan of a vehicle as it stands."""
+        """Returns the plan of a vehicle as it stands."""
         kept = self._plans.get(vehicle.id)
         if kept is None or kept[0] != vehicle.version:
             kept = self._plans[vehicle.id] = vehicle.version, self._made(vehicle)
         return kept[1]
 
     def plans(self) -> List[Plan]:
-        """All plans as they stand, in fleet order."""
+        """Returns all plans as they stand, in fleet order."""
         return [self.plan(vehicle) for vehicle in self.log.vehicles.values()]
 
     def ride(self, number: int) -> Ride:
-        """The ride of an accepted request."""
+        """Returns the ride of an accepted request."""
         request = self.log.requests[number]
         return Ride(number, request.origin, request.destination, request.seats, request.chairs, request.latest, request.longest,
                     request.picked_at)
@@ -91,12 +91,12 @@ class PlanBook:
                     {number: self.ride(number) for number in vehicle.rides}, tuple(legs), tuple(times))
 
     def reaches(self, plan: Plan, ride: Ride, time: int) -> bool:
-        """Whether an open vehicle would be at the pickup in time, if it drove there at once."""
+        """Returns whether an open vehicle would be at the pickup in time, if it drove there at once."""
         seconds = self.roads.toward(ride.origin).seconds[plan.at]
         return seconds >= 0 and plan.start(time, self.lead) + seconds <= ride.latest
 
     def best_offer(self, plan: Plan, ride: Ride, time: int, below: int) -> Optional[Offer]:
-        """The cheapest offer of an open vehicle at a batch's time, the first of such places; None where none costs less than `below`."""
+        """Returns the cheapest offer of an open vehicle at a batch's time, that of the first places; None where none is below `below`."""
         best, start, count = None, plan.start(time, self.lead), len(plan.stops)
         if count + 2 > MOST_STOPS:
             return None
@@ -121,12 +121,12 @@ class PlanBook:
         return best
 
     def _leg(self, plan: Plan, place: int, node: int) -> int:
-        """The seconds to a node from where the vehicle is before a place of its plan, -1 where no way leads there."""
+        """Returns the seconds to a node from where the vehicle is before a place of its plan, -1 where no way leads there."""
         before = plan.stops[place - 1].node if place else plan.at
         return self.roads.toward(node).seconds[before]
 
     def _added(self, plan: Plan, ride: Ride, places: Tuple[int, int], there: int, direct: int) -> Optional[int]:
-        """The seconds that a ride adds to a plan at these places, None where a way is missing."""
+        """Returns the seconds that a ride adds to a plan at these places, None where a way is missing."""
         (i, j), count = places, len(plan.stops)
         toward = self.roads.toward
         added = there + (2 * self.dwell if count else self.dwell)
@@ -146,12 +146,12 @@ class PlanBook:
         return added
 
     def keeps(self, plan: Plan, ride: Ride, places: Tuple[int, int], start: int) -> bool:
-        """Whether the vehicle keeps all limits with a ride at these places."""
+        """Returns whether the vehicle keeps all limits with a ride at these places."""
         rides = {**plan.rides, ride.id: ride}
         return self.keeps_stops(plan, with_ride(plan.stops, ride, *places), rides, start)
 
-    def keeps_stops(self, plan: Plan, stops, rides: Dict[int, Ride], start: int) -> bool:
-        """Whether these stops keep the limits of all rides and the vehicle's seats."""
+    def keeps_stops(self, plan: Plan, stops: Sequence[Stop], rides: Dict[int, Ride], start: int) -> bool:
+        """Returns whether these stops keep the limits of all rides and the vehicle's seats."""
         picked = {number: other.picked for number, other in rides.items() if other.picked is not None}
         seats = sum(rides[number].seats for number in picked)
         chairs = sum(rides[number].chairs for number in picked)
@@ -173,8 +173,8 @@ class PlanBook:
         return True
 
 
-def with_ride(stops, ride: Ride, pickup: int, dropoff: int) -> Tuple[Stop, ...]:
-    """Stops with a ride's pickup before one old place and its drop-off before another."""
+def with_ride(stops: Sequence[Stop], ride: Ride, pickup: int, dropoff: int) -> Tuple[Stop, ...]:
+    """Returns the stops with a ride's pickup before one old place and its drop-off before another."""
     stops = tuple(stops)
     first, last = Stop(ride.id, True, ride.origin), Stop(ride.id, False, ride.destination)
     return stops[:pickup] + (first,) + stops[pickup:dropoff] + (last,) + stops[dropoff:]

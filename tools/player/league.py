@@ -17,7 +17,7 @@ SECOND = 1000  # is added to the numbers of the second company's vehicles
 
 
 def of_both(first: Fleet, second: Fleet) -> Fleet:
-    """One fleet with the vehicles of both, and the settings of the first."""
+    """Returns one fleet with the vehicles of both, and the settings of the first."""
     more = [Vehicle(v.id + SECOND, v.at, v.ready, seats=v.seats, chairs=v.chairs) for v in second.vehicles]
     return Fleet(dict(first.settings), list(first.vehicles) + more)
 
@@ -38,7 +38,7 @@ class League:
         self._take(f"log {fleet.settings['log']} feeds 2 desks 1")
 
     def submit(self, feed: int, lines: Sequence[str]) -> List[Entry]:
-        """Writes lines, those of drivers as their company's, and waits for their answers."""
+        """Writes lines, those of drivers as their company's, waits for their answers and returns them."""
         entries = []
         for begin in range(0, len(lines), CHUNK):
             chunk = lines[begin:begin + CHUNK]
@@ -49,7 +49,7 @@ class League:
         return entries
 
     def seat(self) -> Commit:
-        """Makes a round."""
+        """Makes a round, and returns it as a commit."""
         before = self.process.processors()
         self.process.send(0, ["batch"])
         fields = self._line().split()
@@ -105,23 +105,23 @@ class League:
 
 
 def merged(company: int, vehicle: int) -> int:
-    """The number of a company's vehicle in the fleet of both."""
+    """Returns the number of a company's vehicle in the fleet of both."""
     return vehicle + SECOND * (company - 1)
 
 
 def company_line(line: str) -> str:
-    """A driver's line as one of its company."""
+    """Returns a driver's line as one of its company."""
     word, number, *rest = line.split()
     company = 2 if int(number) > SECOND else 1
     return " ".join(["company", str(company), word, str(int(number) - SECOND * (company - 1)), *rest])
 
 
 def parts_of(fields: List[str], words: Sequence[str]) -> List[List[str]]:
-    """The lists of items behind these words."""
+    """Returns the lists of items behind these words."""
     places = [fields.index(word) for word in words] + [len(fields)]
     return [fields[begin + 1:end] for begin, end in zip(places, places[1:])]
 
 
 def numbers_of(items: Sequence[str]) -> List[Tuple[int, ...]]:
-    """The numbers of items that are parted by colons."""
+    """Returns the numbers of items that are parted by colons."""
     return [tuple(map(int, item.split(":"))) for item in items]

@@ -12,7 +12,7 @@ import bisect
 import itertools
 import math
 import random
-from typing import List, Optional, Sequence
+from typing import List, Optional, Sequence, Tuple
 
 from player.riders import Rider
 from player.roads import Arc, Roads
@@ -28,10 +28,10 @@ NEAR = 0.1  # a ride's way may differ by so much from the drawn length
 
 
 def manhattan(draw: random.Random, streets: int = STREETS) -> Roads:
-    """The network of so many streets, whose blocks take drawn seconds."""
+    """Returns the network of so many streets, whose blocks take drawn seconds."""
     arcs: List[Arc] = []
 
-    def join(tail: int, head: int, forward: bool, two_way: bool, block) -> None:
+    def join(tail: int, head: int, forward: bool, two_way: bool, block: Tuple[int, int]) -> None:
         if forward or two_way:
             arcs.append((tail, head, draw.randint(*block)))
         if two_way or not forward:
@@ -48,7 +48,7 @@ def manhattan(draw: random.Random, streets: int = STREETS) -> Roads:
 
 
 def density(node: int, streets: int) -> float:
-    """How often riders are picked up and dropped at a node, to that of the densest."""
+    """Returns how often riders are picked up and dropped at a node, to that of the densest."""
     street, avenue = divmod(node - 1, AVENUES)
     along = (street / (streets - 1) - MIDTOWN) / SPREAD
     across = (avenue / (AVENUES - 1) - 0.5) / 0.6
@@ -63,16 +63,16 @@ class Places:
         self._sums = list(itertools.accumulate(self.weights))
 
     def any(self, draw: random.Random) -> int:
-        """A node of the whole map."""
+        """Returns a node of the whole map."""
         return bisect.bisect_right(self._sums, draw.random() * self._sums[-1], hi=len(self._sums) - 1)
 
     def of(self, nodes: Sequence[int], draw: random.Random) -> int:
-        """One of these nodes."""
+        """Returns one of these nodes."""
         return draw.choices(nodes, [self.weights[node] for node in nodes])[0]
 
 
 def asking_times(begin: int, end: int, an_hour: float, draw: random.Random) -> List[int]:
-    """When riders ask, in order: so many in the first hour's rate, and in proportion to its share of a day's rides later."""
+    """Returns when riders ask, in order: so many in the first hour's rate, and in proportion to its share of a day's rides later."""
     first = HOUR_SHARES[begin // 3600 % 24]
     times, moment = [], float(begin)
     while True:
@@ -84,7 +84,8 @@ def asking_times(begin: int, end: int, an_hour: float, draw: random.Random) -> L
 
 
 def evening_riders(roads: Roads, places: Places, times: Sequence[int], wait: int, draw: random.Random) -> List[Rider]:
-    """The riders who ask at these times: each waits at most so many seconds, and rides at most as much longer than the fastest way."""
+    """Returns the riders who ask at these times: each waits at most so many seconds, and rides at most as much longer than the
+    fastest way."""
     riders = []
     for number, asks in enumerate(times, 1):
         origin, destination, way = drawn_ride(roads, places, draw)
@@ -92,8 +93,8 @@ def evening_riders(roads: Roads, places: Places, times: Sequence[int], wait: int
     return riders
 
 
-def drawn_ride(roads: Roads, places: Places, draw: random.Random):
-    """Origin, destination and seconds of a ride of a drawn length. Where no node is at about that length another is drawn."""
+def drawn_ride(roads: Roads, places: Places, draw: random.Random) -> Tuple[int, int, int]:
+    """Returns origin, destination and seconds of a ride of a drawn length. Where no node is at about that length another is drawn."""
     middle = math.log(MEAN_RIDE) - RIDE_SPREAD ** 2 / 2
     while True:
         destination = places.any(draw)

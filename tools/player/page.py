@@ -1,10 +1,10 @@
 """The figures of logs side by side: as a table of text, and as a page with plots that needs nothing else."""
 import argparse
 from html import escape
-from typing import Dict, List, Sequence, Tuple
+from typing import Dict, List, Optional, Sequence, Tuple, Union
 
-from player.figures import Figures
-from player.plots import COLOURS, HEIGHT, WIDTH, Plot, Series, plot_svg, text, time_label
+from player.figures import Figures, ratio
+from player.plots import COLOURS, HEIGHT, WIDTH, Plot, Series, plot_svg, second_label, text, time_label
 
 Columns = Sequence[Tuple[str, Figures]]
 
@@ -14,13 +14,13 @@ MOST_BARS = 30
 ROW = 15  # pixels of a line of text in an SVG page
 
 
-def number_text(value) -> str:
-    """A figure as text: whole numbers with commas, '-' for none."""
+def number_text(value: Optional[float]) -> str:
+    """Returns a figure as text: whole numbers with commas, '-' for none."""
     return "-" if value is None else f"{value:,}"
 
 
 def table_text(columns: Columns) -> str:
-    """The figures as a table of text, a column for each log."""
+    """Returns the figures as a table of text, a column for each log."""
     values = [figures.values() for _, figures in columns]
     rooms = [max(len(name), *(len(number_text(value)) for value in column.values())) + 2
              for (name, _), column in zip(columns, values)]
@@ -30,8 +30,26 @@ def table_text(columns: Columns) -> str:
     return "\n".join(lines)
 
 
+def batch_text(columns: Columns) -> str:
+    """Returns a line for each batch of each log: its time, cost, requests and what became of them, and the mean of their prices."""
+    blocks = []
+    for name, figures in columns:
+        heads = ("batch", "time", "cost", "requests", "seated", "away", "stale", "price, mean")
+        rows = [(note.number, second_label(note.time), note.cost, note.requests, note.seated, note.away, note.stale,
+                 ratio(note.prices, note.requests, 1)) for note in figures.batches]
+        blocks.append("\n".join([name] * (len(columns) > 1) + columns_of([heads, *rows])))
+    return "\n\n".join(blocks)
+
+
+def columns_of(rows: Sequence[Sequence[Union[str, float, None]]]) -> List[str]:
+    """Returns the lines of a table whose columns are as wide as they have to be."""
+    cells = [[cell if isinstance(cell, str) else number_text(cell) for cell in row] for row in rows]
+    rooms = [max(map(len, column)) for column in zip(*cells)]
+    return ["  ".join(f"{cell:>{room}}" for cell, room in zip(row, rooms)) for row in cells]
+
+
 def page_path(path: str) -> str:
-    """The reader of an option that names a page."""
+    """Returns the path of a page that an option names."""
     if not path.endswith((".html", ".svg")):
         raise argparse.ArgumentTypeError(f"{path}: a page is an .html or an .svg file")
     return path
@@ -47,7 +65,7 @@ def write_page(path: str, columns: Columns, notes: Sequence[str]) -> None:
 # Plots.
 
 def plots(columns: Columns) -> List[Plot]:
-    """The plots of a page."""
+    """Returns the plots of a page."""
     return [
         Plot("How long riders wait", "minutes from asking to pickup", "riders",
              [Series(name, wait_bars(figures)) for name, figures in columns], bars=True),
@@ -66,7 +84,7 @@ def plots(columns: Columns) -> List[Plot]:
 
 
 def wait_bars(figures: Figures) -> List[Tuple[float, float]]:
-    """How many riders wait so many whole minutes; those who wait longest stand in the last bar."""
+    """Returns how many riders wait so many whole minutes; those who wait longest stand in the last bar."""
     counts: Dict[int, int] = {}
     for _, wait in figures.waits:
         place = min(wait // WAIT_STEP, MOST_BARS)
@@ -75,13 +93,13 @@ def wait_bars(figures: Figures) -> List[Tuple[float, float]]:
 
 
 def span_of(columns: Columns) -> int:
-    """Seconds of a point of a line: a fortieth of the day, in whole minutes."""
+    """Returns the seconds of a point of a line: a fortieth of the day, in whole minutes."""
     moments = [moment for _, figures in columns for moment, _ in figures.waits]
     return max((max(moments) - min(moments)) // 40 // 60 * 60, 60) if moments else 60
 
 
 def sums_of(pairs: Sequence[Tuple[int, float]], span: int) -> List[Tuple[float, float]]:
-    """The sum of the values of each span of time."""
+    """Returns the sum of the values of each span of time."""
     sums: Dict[int, float] = {}
     for moment, value in pairs:
         sums[moment // span] = sums.get(moment // span, 0) + value
@@ -89,7 +107,7 @@ def sums_of(pairs: Sequence[Tuple[int, float]], span: int) -> List[Tuple[float, 
 
 
 def means_of(pairs: Sequence[Tuple[int, float]], span: int) -> List[Tuple[float, float]]:
-    """The mean of the values of each span of time."""
+    """Returns the mean of the values of each span of time."""
     counts = dict(sums_of([(moment, 1) for moment, _ in pairs], span))
     return [(place, value / counts[place]) for place, value in sums_of(pairs, span)]
 
@@ -97,7 +115,7 @@ def means_of(pairs: Sequence[Tuple[int, float]], span: int) -> List[Tuple[float,
 # Pages.
 
 def html_page(columns: Columns, notes: Sequence[str]) -> str:
-    """A page with a table and plots."""
+    """Returns a page with a table and plots."""
     values = [figures.values() for _, figures in columns]
     heads = "".join(f'<th style="color:{COLOURS[number % len(COLOURS)]}">{escape(name)}</th>' for number, (name, _) in enumerate(columns))
     rows = "\n".join(f"<tr><td>{escape(name)}</td>" + "".join(f"<td>{number_text(column[name])}</td>" for column in values) + "</tr>"
@@ -119,7 +137,7 @@ td:first-child {{ text-align: left }} tr:nth-child(even) {{ background: #f4f4f4 
 
 
 def svg_page(columns: Columns, notes: Sequence[str]) -> str:
-    """The same as one drawing."""
+    """Returns the table and the plots as one drawing."""
     lines = list(notes) + [""] + table_text(columns).splitlines()
     tall = max(ROW * (len(lines) + 2), HEIGHT * 5)
     room = 8 * max(len(line) for line in lines) + 30

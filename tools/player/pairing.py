@@ -5,7 +5,7 @@ FAR = 1 << 60
 
 
 def least_pairing(rows: Sequence[Dict[int, int]], without: int) -> Tuple[List[Optional[int]], List[int], Dict[int, int]]:
-    """The least pairing of rows, each with the costs of the columns that it may have; a row without a column costs `without`.
+    """Returns the least pairing of rows, each with the costs of the columns that it may have; a row without a column costs `without`.
 
     Returns each row's column or None, each row's price, and what each column pays where that is above 0. A price is at most `without`
     and at most each cost and what its column pays, and the prices less the payments are the pairing's cost.
@@ -63,7 +63,8 @@ def enter(row: int, costs: Sequence[List[int]], holders: List[int], ups: List[in
         at = earlier
 
 
-def raise_by(step, row, done, open_columns, holders, ups, falls, least) -> None:
+def raise_by(step: int, row: int, done: Sequence[int], open_columns: Sequence[int], holders: Sequence[int], ups: List[int],
+             falls: List[int], least: List[int]) -> None:
     """Raises the potentials of the rows in the search by a step, and lowers those of their columns."""
     if not step:
         return

@@ -9,6 +9,7 @@ LEFT, RIGHT, TOP, BOTTOM = 58, 12, 30, 44
 DAY = 2 * 86_400  # larger times are not taken for seconds of a day
 
 Point = Tuple[float, float]
+Placing = Callable[[Point], Point]  # from values to pixels
 
 
 @dataclass
@@ -30,12 +31,17 @@ class Plot:
 
 
 def time_label(moment: float) -> str:
-    """A second of the day as HH:MM, or plain."""
+    """Returns a second of the day as HH:MM, or plain."""
     return f"{int(moment) // 3600:02}:{int(moment) % 3600 // 60:02}" if 0 <= moment < DAY else f"{moment:.0f}"
 
 
+def second_label(moment: int) -> str:
+    """Returns a second of the day as HH:MM:SS, or plain."""
+    return f"{time_label(moment)}:{moment % 60:02}" if 0 <= moment < DAY else str(moment)
+
+
 def steps(low: float, high: float, most: int, units: Sequence[float] = (1, 2, 5, 10)) -> List[float]:
-    """Round values from low to high, at most so many."""
+    """Returns round values from low to high, at most so many."""
     scale = 1.0
     while True:
         for unit in units[:-1]:
@@ -48,7 +54,7 @@ def steps(low: float, high: float, most: int, units: Sequence[float] = (1, 2, 5,
 
 
 def plot_svg(plot: Plot, x: float = 0, y: float = 0) -> str:
-    """The plot as a group at a place of a page."""
+    """Returns the plot as a group at a place of a page."""
     points = [point for series in plot.series for point in series.points]
     low, high = (min(p[0] for p in points), max(p[0] for p in points)) if points else (0, 1)
     top = max([p[1] for p in points] + [0]) or 1
@@ -69,19 +75,19 @@ def plot_svg(plot: Plot, x: float = 0, y: float = 0) -> str:
 
 
 def spacing(plot: Plot) -> float:
-    """The least distance of two values of x."""
+    """Returns the least distance of two values of x."""
     values = sorted({point[0] for series in plot.series for point in series.points})
     return min((b - a for a, b in zip(values, values[1:])), default=1)
 
 
 def text(x: float, y: float, words: str, weight: str = "normal", anchor: str = "start", size: int = 12, colour: str = "#222") -> str:
-    """A line of text."""
+    """Returns a line of text."""
     return (f'<text x="{x:.1f}" y="{y:.1f}" font-family="sans-serif" font-size="{size}" font-weight="{weight}" '
             f'text-anchor="{anchor}" fill="{colour}">{escape(words)}</text>')
 
 
-def grid(plot: Plot, low: float, high: float, top: float, place) -> List[str]:
-    """Axes with their steps and words."""
+def grid(plot: Plot, low: float, high: float, top: float, place: Placing) -> List[str]:
+    """Returns axes with their steps and words."""
     parts = []
     units = (60, 300, 600, 900, 1800, 3600, 7200, 14400, 36000) if plot.label is time_label else (1, 2, 5, 10)
     for value in steps(low, high, 8, units):
@@ -97,8 +103,8 @@ def grid(plot: Plot, low: float, high: float, top: float, place) -> List[str]:
     return parts
 
 
-def bar_marks(plot: Plot, number: int, room: float, colour: str, place) -> List[str]:
-    """The bars of one series, beside those of the others."""
+def bar_marks(plot: Plot, number: int, room: float, colour: str, place: Placing) -> List[str]:
+    """Returns the bars of one series, beside those of the others."""
     width = max(room * 0.8 / len(plot.series), 0.8)
     parts = []
     for point in plot.series[number].points:
@@ -108,7 +114,7 @@ def bar_marks(plot: Plot, number: int, room: float, colour: str, place) -> List[
     return parts
 
 
-def line_mark(series: Series, colour: str, place) -> str:
-    """The points of a series, joined."""
+def line_mark(series: Series, colour: str, place: Placing) -> str:
+    """Returns the points of a series, joined."""
     dots = " ".join(f"{x:.1f},{y:.1f}" for x, y in map(place, series.points))
     return f'<polyline points="{dots}" fill="none" stroke="{colour}" stroke-width="1.5" stroke-linejoin="round"/>'

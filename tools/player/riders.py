@@ -8,11 +8,12 @@ import random
 from dataclasses import dataclass
 from typing import Dict, List, Optional, Tuple
 
-from player.files import InputError, read_lines
+from player.files import MOST_TIME, InputError, read_lines
 from player.roads import Roads
 
 COLUMNS = ("time", "from", "to", "id", "seats", "chairs", "latest", "longest", "cancel")
 NEEDED = ("time", "from", "to")
+MOST_NUMBER = 10 ** 12  # of a rider, so that there is room for the numbers of those who ask again
 
 
 @dataclass(frozen=True)
@@ -29,7 +30,7 @@ class Rider:
     cancels: Optional[int] = None
 
     def line(self, number: int) -> str:
-        """The rider's request under a number of its own."""
+        """Returns the rider's request under a number of its own."""
         chairs = f" {self.chairs}" if self.chairs else ""
         return f"request {number} {self.origin} {self.destination} {self.seats} {self.latest} {self.longest}{chairs}"
 
@@ -42,8 +43,8 @@ class Limits:
 
 
 def read_riders(path: str, roads: Roads, limits: Limits) -> Tuple[List[Rider], int]:
-    """The riders of a feed or a table in order of asking, and how many lines of a feed are left out, as they are drivers' or faulty.
-    Raises InputError where nobody asks."""
+    """Returns the riders of a feed or a table in order of asking, and how many lines of a feed are left out, as they are drivers' or
+    faulty. Raises InputError where nobody asks."""
     lines = read_lines(path)
     first = next((split(line) for line in lines if line.strip() and not line.lstrip().startswith("#")), [])
     if set(NEEDED) <= set(first):
@@ -56,14 +57,14 @@ def read_riders(path: str, roads: Roads, limits: Limits) -> Tuple[List[Rider], i
 
 
 def split(line: str) -> List[str]:
-    """The fields of a table's line."""
+    """Returns the fields of a table's line."""
     return [field.strip() for field in line.split(",")] if "," in line else line.split()
 
 
 # Feeds.
 
 def riders_of_feed(path: str, lines: List[str], nodes: int) -> Tuple[List[Rider], int]:
-    """The riders of a feed, and how many lines are left out."""
+    """Returns the riders of a feed, and how many lines are left out."""
     clock, left_out = 0, 0
     riders: Dict[int, Rider] = {}
     for line in lines:
@@ -89,12 +90,12 @@ def riders_of_feed(path: str, lines: List[str], nodes: int) -> Tuple[List[Rider]
 
 
 def with_cancel(rider: Rider, moment: int) -> Rider:
-    """The rider who cancels at a moment, or has done so earlier."""
+    """Returns the rider who cancels at a moment, or has done so earlier."""
     return rider if rider.cancels is not None else Rider(**{**rider.__dict__, "cancels": max(moment, rider.asks)})
 
 
 def asked_rider(word: str, numbers: List[int], clock: int, nodes: int) -> Rider:
-    """The rider of a line `request ..` or `book RELEASE ..`. Raises ValueError where it is another line, or one that the program
+    """Returns the rider of a line `request ..` or `book RELEASE ..`. Raises ValueError where it is another line, or one that the program
     refuses."""
     asks = clock
     if word == "book":
@@ -109,7 +110,7 @@ def asked_rider(word: str, numbers: List[int], clock: int, nodes: int) -> Rider:
 
 
 def seemly(origin: int, destination: int, seats: int, chairs: int, nodes: int) -> bool:
-    """Whether the program would take a request from and to these nodes, of so many seats and places for wheelchairs."""
+    """Returns whether the program would take a request from and to these nodes, of so many seats and places for wheelchairs."""
     on_map = 1 <= origin <= nodes and 1 <= destination <= nodes and origin != destination
     return on_map and 0 <= seats <= 8 and 0 <= chairs <= 4 and seats + chairs > 0
 
@@ -117,7 +118,7 @@ def seemly(origin: int, destination: int, seats: int, chairs: int, nodes: int) -
 # Tables.
 
 def riders_of_table(path: str, lines: List[str], roads: Roads, limits: Limits) -> List[Rider]:
-    """The riders of a table. Raises InputError at its first faulty line."""
+    """Returns the riders of a table. Raises InputError at its first faulty line."""
     names: List[str] = []
     riders: List[Rider] = []
     seen = set()
@@ -141,7 +142,7 @@ def riders_of_table(path: str, lines: List[str], roads: Roads, limits: Limits) -
 
 
 def table_rider(row: Dict[str, str], number: int, roads: Roads, limits: Limits) -> Rider:
-    """The rider of a table's row, the number-th. Raises ValueError or KeyError where it is none."""
+    """Returns the rider of a table's row, the number-th. Raises ValueError or KeyError where it is none."""
     asks, origin, destination = seconds_of(row["time"]), int(row["from"]), int(row["to"])
     seats, chairs = int(row.get("seats") or 1), int(row.get("chairs") or 0)
     if not seemly(origin, destination, seats, chairs, roads.nodes):
@@ -149,13 +150,16 @@ def table_rider(row: Dict[str, str], number: int, roads: Roads, limits: Limits) 
     latest = seconds_of(row["latest"]) if row.get("latest") else asks + limits.wait
     longest = int(row.get("longest") or 0) or (roads.seconds(origin, destination) or 1) + limits.detour
     cancels = seconds_of(row["cancel"]) if row.get("cancel") else None
-    return Rider(int(row.get("id") or number), asks, origin, destination, seats, chairs, latest, longest, cancels)
+    number = int(row.get("id") or number)
+    if not (1 <= number <= MOST_NUMBER and 1 <= longest <= MOST_TIME and max(asks, latest, cancels or 0) <= MOST_TIME):
+        raise ValueError
+    return Rider(number, asks, origin, destination, seats, chairs, latest, longest, cancels)
 
 
 def seconds_of(text: str) -> int:
-    """Seconds of a time: plain, or HH:MM or HH:MM:SS. Raises ValueError where it is none."""
+    """Returns the seconds of a time: plain, or HH:MM or HH:MM:SS. Raises ValueError where it is none."""
     parts = [int(part) for part in text.split(":")]
-    if len(parts) > 3 or any(part < 0 for part in parts):
+    if len(parts) > 3 or any(part < 0 for part in parts) or any(part > 59 for part in parts[1:]):
         raise ValueError
     if len(parts) == 1:
         return parts[0]
@@ -165,7 +169,7 @@ def seconds_of(text: str) -> int:
 # Asking.
 
 def again_step(riders: List[Rider]) -> int:
-    """The power of ten above all riders' numbers: a rider's request number is the rider's and a multiple of it."""
+    """Returns the power of ten above all riders' numbers: a rider's request number is the rider's and a multiple of it."""
     return 10 ** len(str(max(rider.id for rider in riders)))
 
 
@@ -189,11 +193,11 @@ class Office:
         self._plan.sort(reverse=True)
 
     def next_moment(self) -> Optional[int]:
-        """When somebody asks or cancels next, None where nobody does."""
+        """Returns when somebody asks or cancels next, None where nobody does."""
         return self._plan[-1][0] if self._plan else None
 
     def due(self, now: int) -> List[Tuple[int, str]]:
-        """Takes the lines that are due, with their times, in order."""
+        """Takes and returns the lines that are due, with their times, in order."""
         lines = []
         while self._plan and self._plan[-1][0] <= now:
             moment, _, _, line = self._plan.pop()

@@ -1,5 +1,6 @@
 """A road map and its travel times: the seconds of the fastest way from any node to a target, and the next node on that way."""
 import heapq
+import random
 from array import array
 from dataclasses import dataclass
 from typing import Dict, Iterable, List, Optional, Tuple
@@ -30,18 +31,18 @@ class Roads:
         self._trees: Dict[int, Tree] = {}
 
     def seconds(self, origin: int, target: int) -> Optional[int]:
-        """Seconds of the fastest way, None where there is none."""
+        """Returns the seconds of the fastest way, None where there is none."""
         time = self.toward(target).seconds[origin]
         return None if time < 0 else time
 
     def next_node(self, origin: int, target: int) -> Tuple[int, int]:
-        """The next node on the fastest way to a target that can be reached, and the seconds to it."""
+        """Returns the next node on the fastest way to a target that can be reached, and the seconds to it."""
         tree = self.toward(target)
         following = tree.following[origin]
         return following, tree.seconds[origin] - tree.seconds[following]
 
     def toward(self, target: int) -> Tree:
-        """The fastest ways to a target. Trees are kept, the oldest are dropped where they take too much room."""
+        """Returns the fastest ways to a target. Trees are kept, the oldest are dropped where they take too much room."""
         tree = self._trees.get(target)
         if tree is None:
             while self._trees and (len(self._trees) + 1) * self.nodes > MOST_KEPT:
@@ -50,7 +51,7 @@ class Roads:
         return tree
 
     def _search(self, target: int) -> Tree:
-        """Dijkstra 1959, backwards from the target. Of ways that are equally fast the one is taken that is found first."""
+        """Returns the fastest ways to a target (Dijkstra 1959, backwards). Of equally fast ones it is the one that is found first."""
         seconds = array("q", [-1]) * (self.nodes + 1)
         following = array("l", [0]) * (self.nodes + 1)
         queue = [(0, target, target)]
@@ -73,7 +74,7 @@ class Roads:
 
 
 def read_map(path: str) -> Roads:
-    """The map in a `.gr` file. Raises InputError where it is none."""
+    """Returns the map in a `.gr` file. Raises InputError where it is none."""
     nodes, said, arcs = 0, 0, []
     for number, line in enumerate(read_lines(path), 1):
         fields = line.split()
@@ -94,7 +95,7 @@ def read_map(path: str) -> Roads:
 
 
 def arc_of(fields: List[str], nodes: int) -> Arc:
-    """The arc of a line `a U V W`. Raises ValueError where it is none of a map of so many nodes."""
+    """Returns the arc of a line `a U V W`. Raises ValueError where it is none of a map of so many nodes."""
     _, tail, head, seconds = fields
     arc = int(tail), int(head), int(seconds)
     if not (1 <= arc[0] <= nodes and 1 <= arc[1] <= nodes and 0 <= arc[2] <= 10 ** 9):
@@ -102,8 +103,8 @@ def arc_of(fields: List[str], nodes: int) -> Arc:
     return arc
 
 
-def grid_city(side: int, draw, least: int = 20, most: int = 90) -> Roads:
-    """A square grid of two-way streets, each direction of a drawn number of seconds."""
+def grid_city(side: int, draw: random.Random, least: int = 20, most: int = 90) -> Roads:
+    """Returns a square grid of two-way streets, each direction of a drawn number of seconds."""
     arcs: List[Arc] = []
     for node in range(1, side * side + 1):
         for other in ([node + 1] if node % side else []) + ([node + side] if node + side <= side * side else []):

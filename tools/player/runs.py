@@ -50,17 +50,17 @@ class Outcome:
     sheets: int = 0
 
     def mean_batch(self) -> float:
-        """Milliseconds of processors that a batch takes in the mean."""
+        """Returns the milliseconds of processors that a batch takes in the mean."""
         return 1000 * sum(self.batch_seconds) / max(len(self.batch_seconds), 1)
 
 
 def fresh(fleet: Fleet) -> Fleet:
-    """A copy of a fleet as it stands at the start, which a log may change."""
+    """Returns a copy of a fleet as it stands at the start, which a log may change."""
     return Fleet(dict(fleet.settings), [replace(v, rides=[], stops=[]) for v in fleet.vehicles])
 
 
 def play_program(setup: Setup, program: str, folder: str, workers: int = 2) -> Outcome:
-    """Plays an evening against the program, whose files and log stay in a folder, and audits it."""
+    """Plays an evening against the program, whose files and log stay in a folder, and returns what comes of it with the audit."""
     fleet_path, log_path = f"{folder}/fleet.txt", f"{folder}/log"
     write_fleet(fleet_path, setup.fleet)
     session = Session(program, (setup.map_path, fleet_path), fresh(setup.fleet), log_path, workers)
@@ -76,7 +76,7 @@ def play_program(setup: Setup, program: str, folder: str, workers: int = 2) -> O
 
 
 def play_against(setup: Setup, dispatcher: Dispatcher) -> Outcome:
-    """Plays an evening against a dispatcher, and counts it."""
+    """Plays an evening against a dispatcher, and returns what comes of it."""
     log = dispatcher.log
     office = Office(list(setup.riders), setup.again, setup.again_share, random.Random(f"{setup.seed} riders"))
     collector = Collector(setup.roads, log, Scope(setup.since, setup.until, office.step, setup.reasons))
@@ -90,7 +90,7 @@ def play_against(setup: Setup, dispatcher: Dispatcher) -> Outcome:
 
 
 def teller(setup: Setup) -> Callable[[int, TripLog], None]:
-    """Prints how far an evening is, on standard error, where that is wanted and somebody sits there."""
+    """Returns what prints how far an evening is, on standard error, where that is wanted and somebody sits there."""
     if not setup.progress:
         return lambda now, log: None
     begin, end = setup.riders[0].asks, setup.riders[-1].asks
@@ -104,16 +104,16 @@ def teller(setup: Setup) -> Callable[[int, TripLog], None]:
 
 
 def clock_text(moment: int) -> str:
-    """A second of the day as HH:MM."""
+    """Returns a second of the day as HH:MM."""
     return f"{moment // 3600:02}:{moment % 3600 // 60:02}"
 
 
 def smaller(vehicles: Sequence[Vehicle], count: Optional[int]) -> List[Vehicle]:
-    """The first so many vehicles, or all."""
+    """Returns the first so many vehicles, or all."""
     return list(vehicles[:count] if count else vehicles)
 
 
 def default_program() -> str:
-    """Where `rt run` leaves the program."""
+    """Returns where `rt run` leaves the program."""
     top = os.path.dirname(os.path.dirname(os.path.dirname(os.path.abspath(__file__))))
     return os.path.join(top, "crates", "ride_dispatch", "out", "ride_dispatch")

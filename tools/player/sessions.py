@@ -10,7 +10,7 @@ import os
 import subprocess
 import tempfile
 import time
-from typing import Callable, List, Optional, Sequence
+from typing import Callable, List, Optional, Sequence, TextIO
 
 from player.figures import MOST_BATCHES
 from player.files import InputError
@@ -41,8 +41,8 @@ class Process:
                 raise SessionError(f"{words[0]}: {fault.strerror}") from fault
             self.feeds = [self._open(path) for path in paths]
 
-    def _open(self, path: str):
-        """The writer's end of a pipe. Where the program has ended nobody ever opens the other."""
+    def _open(self, path: str) -> TextIO:
+        """Returns the writer's end of a pipe. Where the program has ended nobody ever opens the other."""
         while True:
             try:
                 end = os.open(path, os.O_WRONLY | os.O_NONBLOCK)
@@ -66,7 +66,7 @@ class Process:
             raise SessionError("the program reads no more") from fault
 
     def line(self) -> str:
-        """The next line of the program's output, empty at its end."""
+        """Returns the next line of the program's output, empty at its end."""
         return self.process.stdout.readline()
 
     def close(self, feed: int) -> None:
@@ -78,6 +78,7 @@ class Process:
         for feed in self.feeds:
             feed.close()
         rest = self.process.stdout.read()
+        self.process.stdout.close()
         if self.process.wait() != 0:
             raise SessionError(f"the program ended with status {self.process.returncode}")
         return rest
@@ -86,9 +87,10 @@ class Process:
         """Gives the program up."""
         self.process.kill()
         self.process.wait()
+        self.process.stdout.close()
 
     def processors(self) -> float:
-        """Seconds of processors that the program has used, in steps of 10 ms."""
+        """Returns the seconds of processors that the program has used, in steps of 10 ms."""
         with open(f"/proc/{self.process.pid}/stat", encoding="ascii") as file:
             fields = file.read().rsplit(")", 1)[1].split()
         return (int(fields[11]) + int(fields[12])) / TICKS
@@ -115,7 +117,7 @@ class Session:
         self._read()
 
     def submit(self, feed: int, lines: Sequence[str]) -> List[Entry]:
-        """Writes lines to a feed, and waits for their answers."""
+        """Writes lines to a feed, waits for their answers and returns them."""
         entries = []
         for begin in range(0, len(lines), CHUNK):
             chunk = lines[begin:begin + CHUNK]
@@ -124,7 +126,7 @@ class Session:
         return entries
 
     def seat(self) -> Commit:
-        """Asks for a batch, and waits for its commit; adds the processors' seconds of both to `batch_seconds`."""
+        """Asks for a batch, and returns its commit; adds the processors' seconds of both to `batch_seconds`."""
         before = self.process.processors()
         self.process.send(RIDERS, ["batch"])
         while not (entry := self._read()).commit:
@@ -172,13 +174,13 @@ class Session:
 
 
 def audit(program: str, map_path: str, fleet_path: str, log_path: str) -> str:
-    """What the program's audit says of a log."""
+    """Returns what the program's audit says of a log."""
     words = [program, "audit", "--map", map_path, "--fleet", fleet_path, "--log", log_path]
     done = subprocess.run(words, stdout=subprocess.PIPE, stderr=subprocess.DEVNULL, text=True, check=False)
     return done.stdout.strip() or f"the audit ended with status {done.returncode}"
 
 
 def is_clean(said: str, log: TripLog) -> bool:
-    """Whether an audit says yes, with the totals of a log that was read, and all has ended whole."""
+    """Returns whether an audit says yes, with the totals of a log that was read, and all has ended whole."""
     return said == f"yes {log.totals()}" and log.finished()
 

@@ -41,7 +41,7 @@ class Router:
         self.roads, self.dwell, self.rides, self.due = roads, dwell, rides, due
 
     def best(self, vehicle: Vehicle, start: int, aboard: Sequence[int], more: Members) -> Optional[Route]:
-        """The order of least delay that drops who is aboard and serves more riders; None where none keeps all limits."""
+        """Returns the order of least delay that drops who is aboard and serves more riders; None where none keeps all limits."""
         self._vehicle, self._best = vehicle, None
         self._picked = {number: self.rides[number].picked for number in aboard}
         load = sum(self.rides[number].seats for number in aboard)
@@ -73,7 +73,7 @@ class Router:
             stops.pop()
 
     def _can_keep(self, at: int, leaves: int, to_pick: set, to_drop: set) -> bool:
-        """Whether each limit alone can still be kept, by the direct way."""
+        """Returns whether each limit alone can still be kept, by the direct way."""
         for number in to_drop:
             ride = self.rides[number]
             if leaves + self.roads.toward(ride.destination).seconds[at] - self._picked[number] > ride.longest:
@@ -91,7 +91,7 @@ class Trips(Board):
         self._assigned: Dict[int, int] = {}
 
     def seat(self) -> Commit:
-        """Deals all riders who are not aboard, and turns away those whose latest pickup has passed."""
+        """Deals all riders who are not aboard, turns away those whose latest pickup has passed, and returns both as a commit."""
         self._take(f"f1 batch = asked {self.log.asked + 1}")
         self.log.opened += 1
         began = time.process_time()
@@ -122,7 +122,7 @@ class Trips(Board):
         return outcomes
 
     def _deal(self, pool: List[int]) -> List[Tuple[Vehicle, Members, Route]]:
-        """The vehicles whose plans are to be made anew, with their trips."""
+        """Returns the vehicles whose plans are to be made anew, with their trips."""
         rides = {number: self.book.ride(number) for vehicle in self.log.vehicles.values() for number in vehicle.rides}
         rides.update({number: self.book.ride(number) for number in pool})
         due = {number: self._due(ride) for number, ride in rides.items()}
@@ -138,11 +138,11 @@ class Trips(Board):
         return dealt
 
     def _due(self, ride: Ride) -> int:
-        """When the rider could be there at the earliest."""
+        """Returns when the rider could be there at the earliest."""
         return self.log.requests[ride.id].asked_at + self.roads.toward(ride.destination).seconds[ride.origin]
 
     def _trips(self, router: Router, vehicle: Vehicle, pool: List[int]) -> Dict[Members, Route]:
-        """All trips of a vehicle, the one without further riders among them."""
+        """Returns all trips of a vehicle, the one without further riders among them."""
         start = vehicle.ready if vehicle.stops else max(vehicle.ready, self.log.clock + self.log.settings["lead"])
         aboard = [number for number in vehicle.rides if router.rides[number].picked is not None]
         trips = {frozenset(): router.best(vehicle, start, aboard, frozenset())}
@@ -182,7 +182,7 @@ class Trips(Board):
 
 
 def solved(trips: Sequence[Dict[Members, Route]], pool: Sequence[int], promised: Dict[int, bool]) -> List[Members]:
-    """The trip of each vehicle by which the sum of all delays is least."""
+    """Returns the trip of each vehicle by which the sum of all delays is least."""
     none: Members = frozenset()
     place = {number: len(trips) + row for row, number in enumerate(pool)}
     columns = [(vehicle, members) for vehicle, options in enumerate(trips) for members in options if members]

@@ -157,6 +157,15 @@ class Program(unittest.TestCase):
         said = json.loads(self.run_main(MORNING, FLEET, MAP, "--json"))
         self.assertEqual((len(said), said[0]["log"], said[0]["served"]), (1, "morning.log", 5))
 
+    def test_batches(self):
+        said = self.run_main(MORNING, FLEET, MAP, "--batches").splitlines()[-6:]
+        self.assertEqual(said[0].split(), ["batch", "time", "cost", "requests", "seated", "away", "stale", "price,", "mean"])
+        # Of the third batch the log says `cost 1005` and prices of 860 and 145; in the fourth request 109 is turned away.
+        self.assertEqual(said[3].split(), ["3", "07:01:00", "1,005", "2", "2", "0", "0", "502.5"])
+        self.assertEqual(said[4].split(), ["4", "07:05:00", "900", "1", "0", "1", "0", "900.0"])
+        both = self.run_main(MORNING, FLEET, MAP, MORNING, "--batches").splitlines()
+        self.assertEqual((both.count("morning.log"), both.count(said[3])), (2, 2))
+
     def test_pages_are_whole(self):
         with tempfile.TemporaryDirectory() as folder:
             for name in ("page.svg", "page.html"):
@@ -177,7 +186,10 @@ class Program(unittest.TestCase):
                     with self.assertRaises(InputError) as caught:
                         day_figures.main(words)
                     self.assertNotIn("\n", str(caught.exception))
-            for words in ((str(torn), FLEET, MAP), (MAP, FLEET, MAP), (MORNING, MORNING, MAP), (MORNING, FLEET, FLEET)):
+            few = Path(f"{folder}/few")
+            few.write_text("vehicle 1 4 1 0\n")
+            for words in ((str(torn), FLEET, MAP), (MAP, FLEET, MAP), (MORNING, MORNING, MAP), (MORNING, FLEET, FLEET),
+                          (MORNING, str(few), MAP)):
                 with self.assertRaises(InputError):
                     day_figures.main(words)
 

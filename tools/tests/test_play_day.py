@@ -64,7 +64,9 @@ class Days:
             kept = json.loads(Path(f"{folder}/figures.json").read_text())
             self.assertEqual(len(kept.pop("batch")), kept["batches"])
             self.assertEqual(json.loads("\n".join(lines)), kept)
-            self.assertIn("How long riders wait", Path(f"{folder}/page.html").read_text())
+            page = Path(f"{folder}/page.html").read_text()
+            self.assertIn("How long riders wait", page)
+            self.assertEqual(Path(f"{folder}/figures.html").read_text(), page)
 
     def test_vehicles_sent_ahead_have_certified_sheets(self):
         with tempfile.TemporaryDirectory() as folder:
@@ -113,6 +115,22 @@ class Advice(unittest.TestCase):
         self.assertEqual(lines[4], "moves 4 cost 155 goes 109:3@0:30:155 prices 109:155 pays")
         self.assertEqual([lines[0], lines[1], lines[-1]], ["ahead 1 reach 600", "moves 1 cost 0 goes prices pays", "end"])
 
+    def test_bad_input(self):
+        with tempfile.TemporaryDirectory() as folder:
+            binary = Path(f"{folder}/binary")
+            binary.write_bytes(bytes(range(256)))
+            words = [os.path.join(EXAMPLES, "morning.log"), FLEET, MAP, "--reach", "600"]
+            for place in range(3):
+                for bad in (f"{folder}/missing", str(binary), folder):
+                    self.refuses(words[:place] + [bad] + words[place + 1:])
+        for option in (("--reach", "0"), ("--reach", "x"), ("--pause", "0"), ("--pause", "-1"), ("--pause", "nan"), ("--pause", "x")):
+            self.refuses(words + list(option))
+        self.refuses(words[:3])
+
+    def refuses(self, words):
+        with self.assertRaises(InputError) as caught:
+            said_by(advise.main, *words)
+        self.assertNotIn("\n", str(caught.exception))
 
     def test_a_log_that_grows(self):
         with tempfile.TemporaryDirectory() as folder:

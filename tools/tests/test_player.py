@@ -98,7 +98,9 @@ class Riders(unittest.TestCase):
 
     def test_faulty_tables(self):
         for text in ("", "clock 5\n", "time from to\n", "time from to price\n1 2 3 4\n", "time from to\n1 2\n", "time from to\nx 2 3\n",
-                     "time from to\n5 2 9\n", "id time from to\n1 5 2 3\n1 5 2 4\n"):
+                     "time from to\n5 2 9\n", "time from to\n07:60 2 3\n", "time from to id\n5 2 3 0\n",
+                     "time from to longest\n5 2 3 -1\n",
+                     "time from to latest\n5 2 3 9999999999\n", "id time from to\n1 5 2 3\n1 5 2 4\n"):
             with self.assertRaises(InputError, msg=text):
                 self.riders_of(text)
 
@@ -376,7 +378,8 @@ class FleetFiles(unittest.TestCase):
             write_fleet(path, fleet)
             self.assertEqual(open_fleet(path, 4), fleet)
             for text in ("", "vehicle 1 4\n", "set batch\n", "set penlty 5\nvehicle 1 4 1 0\n", "set batch 200\nvehicle 1 4 1 0\n",
-                         "vehicle 1 4 9 0\n", "vehicle x 4 1 0\n"):
+                         "vehicle 1 4 9 0\n", "vehicle x 4 1 0\n", "vehicle 1 4 1 0\nvehicle 1 4 1 0\n", "vehicle 1 17 1 0\n",
+                         "vehicle 1 4 1 0 5\n", "vehicle 1 4 1 1000000001\n"):
                 Path(path).write_text(text)
                 with self.assertRaises(InputError, msg=text):
                     open_fleet(path, 4)
