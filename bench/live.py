@@ -10,7 +10,6 @@
   live.py plans PROGRAM     batches of 128 over 1,000 vehicles on a map of New York's size, from their opening to their commit, as all
                             plans grow to 14 stops; on two processors, and then on four
 """
-import errno
 import os
 import random
 import select
@@ -20,11 +19,12 @@ import sys
 import tempfile
 import time
 from dataclasses import dataclass
-from typing import Any, BinaryIO, Callable, Dict, Iterable, Iterator, List, NamedTuple, Sequence, Tuple
+from typing import Any, Callable, Dict, Iterable, Iterator, List, NamedTuple, Sequence, Tuple
 
 HERE = os.path.dirname(os.path.abspath(__file__))
 sys.path.insert(0, os.path.join(HERE, "..", "tools"))
 from player.files import InputError, Parser, run_main  # noqa: E402
+from player.sessions import open_feed  # noqa: E402
 
 LINE_MAP = "p sp 4 6\na 1 2 60\na 2 1 60\na 2 3 60\na 3 2 60\na 3 4 60\na 4 3 60\n"
 NEW_YORK = 264_346  # crossings of the map that write_map.py writes
@@ -127,25 +127,9 @@ class Live:
     def __init__(self, program: str, folder: str, workers: int, desks: int):
         os.mkfifo(f"{folder}/riders")
         os.mkfifo(f"{folder}/drivers")
-        self.process = subprocess.Popen([program] + serve_words(folder, workers, desks), stdout=subprocess.PIPE)
-        self.riders = self._opened(f"{folder}/riders")
-        self.drivers = self._opened(f"{folder}/drivers")
-
-    def _opened(self, path: str) -> BinaryIO:
-        """Returns the writer's end of a pipe. Raises InputError where the program has ended, so that nobody opens the other."""
-        while True:
-            try:
-                end = os.open(path, os.O_WRONLY | os.O_NONBLOCK)
-            except OSError as fault:
-                if fault.errno != errno.ENXIO:
-                    raise
-                if self.process.poll() is not None:
-                    self.process.stdout.close()
-                    raise InputError(f"the program ended with status {self.process.returncode}") from fault
-                time.sleep(0.005)
-                continue
-            os.set_blocking(end, True)
-            return os.fdopen(end, "wb", buffering=0)
+        self.process = subprocess.Popen([program] + serve_words(folder, workers, desks), stdout=subprocess.PIPE, text=True)
+        self.riders, self.drivers = (
+            os.fdopen(open_feed(f"{folder}/{name}", self.process), "wb", buffering=0) for name in ("riders", "drivers"))
 
     def until(self, wanted: bytes, log: bytes = b"") -> bytes:
         """Reads the log until it has these bytes; returns what was read. Raises InputError where the log ends before."""

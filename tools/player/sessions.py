@@ -26,6 +26,23 @@ class SessionError(InputError):
     """A program that cannot be run or has ended, or an answer that is not due."""
 
 
+def open_feed(path: str, program: "subprocess.Popen[str]") -> int:
+    """Returns the writer's end of a named pipe, once the program has opened the other. Raises SessionError where it has ended."""
+    while True:
+        try:
+            end = os.open(path, os.O_WRONLY | os.O_NONBLOCK)
+        except OSError as fault:
+            if fault.errno != errno.ENXIO:
+                raise
+            if program.poll() is not None:
+                said = program.communicate()[0].strip()
+                raise SessionError(f"the program ended with status {program.returncode}" + f": {said}" * bool(said)) from fault
+            time.sleep(0.005)
+            continue
+        os.set_blocking(end, True)
+        return end
+
+
 class Process:
     """A running program with its feeds, which are named pipes."""
 
@@ -39,23 +56,7 @@ class Process:
                 self.process = subprocess.Popen([*words, *options], stdout=subprocess.PIPE, text=True)
             except OSError as fault:
                 raise SessionError(f"{words[0]}: {fault.strerror}") from fault
-            self.feeds = [self._open(path) for path in paths]
-
-    def _open(self, path: str) -> TextIO:
-        """Returns the writer's end of a pipe. Where the program has ended nobody ever opens the other."""
-        while True:
-            try:
-                end = os.open(path, os.O_WRONLY | os.O_NONBLOCK)
-            except OSError as fault:
-                if fault.errno != errno.ENXIO:
-                    raise
-                if self.process.poll() is not None:
-                    said = self.process.communicate()[0].strip()
-                    raise SessionError(f"the program ended with status {self.process.returncode}: {said}") from fault
-                time.sleep(0.005)
-                continue
-            os.set_blocking(end, True)
-            return os.fdopen(end, "w")
+            self.feeds: List[TextIO] = [os.fdopen(open_feed(path, self.process), "w") for path in paths]
 
     def send(self, feed: int, lines: Sequence[str]) -> None:
         """Writes lines to a feed. Raises SessionError where the program has ended."""

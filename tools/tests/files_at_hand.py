@@ -3,7 +3,7 @@ import contextlib
 import io
 import os
 import sys
-from typing import Callable, Sequence, Tuple
+from typing import Callable, Dict, Sequence, Tuple
 from unittest import mock
 
 HERE = os.path.dirname(os.path.abspath(__file__))
@@ -49,3 +49,11 @@ def written(folder: str, name: str, text: str) -> str:
     with open(path, "w", encoding="utf-8") as file:
         file.write(text)
     return path
+
+
+def bad_files(folder: str) -> Dict[str, str]:
+    """Returns the paths of what no tool takes for a file of its own: none, a folder, an empty file, and bytes of all kinds."""
+    binary = os.path.join(folder, "binary")
+    with open(binary, "wb") as file:
+        file.write(bytes(range(256)) * 20)
+    return {"missing": os.path.join(folder, "nowhere"), "directory": folder, "empty": written(folder, "empty", ""), "binary": binary}

@@ -5,7 +5,7 @@ import tempfile
 import unittest
 from typing import Callable, Dict, List, Sequence, Tuple
 
-from files_at_hand import ABOARD, ONE_VEHICLE, ROW_MAP, run, written
+from files_at_hand import ABOARD, ONE_VEHICLE, ROW_MAP, bad_files, run, written
 
 import day_page
 import day_picture
@@ -52,11 +52,8 @@ class BadFiles(unittest.TestCase):
         self.good = {"log": written(folder, "log", ABOARD), "fleet": written(folder, "fleet.txt", ONE_VEHICLE),
                      "map": written(folder, "map.gr", ROW_MAP),
                      "places": written(folder, "map.co", "v 1 0 0\nv 2 60 0\nv 3 120 0\nv 4 180 0\n")}
-        self.bad = {"missing": f"{folder}/nowhere", "directory": folder, "empty": written(folder, "empty", ""),
-                    "binary": f"{folder}/binary", "foreign": written(folder, "foreign", "Dear Sir,\nwe thank you for your letter.\n"),
+        self.bad = {**bad_files(folder), "foreign": written(folder, "foreign", "Dear Sir,\nwe thank you for your letter.\n"),
                     "numbers": written(folder, "numbers", "1 2 3\n4 5 6\n")}
-        with open(self.bad["binary"], "wb") as file:
-            file.write(bytes(range(256)) * 20)
 
     def refuses(self, main: Callable, words: Sequence[str], what: str = "") -> None:
         status, out, said = run(main, words)

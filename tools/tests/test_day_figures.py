@@ -3,23 +3,19 @@ import contextlib
 import io
 import json
 import os
-import sys
 import tempfile
 import unittest
 from pathlib import Path
 from xml.etree import ElementTree
 
-HERE = os.path.dirname(os.path.abspath(__file__))
-ROOT = os.path.dirname(os.path.dirname(HERE))
-sys.path.insert(0, os.path.dirname(HERE))
+from files_at_hand import EXAMPLES, bad_files
 
-import day_figures  # noqa: E402
-from player.figures import Scope, nth  # noqa: E402
-from player.files import InputError, open_fleet  # noqa: E402
-from player.roads import Roads, read_map  # noqa: E402
-from trip_log import Fleet, Vehicle  # noqa: E402
+import day_figures
+from player.figures import Scope, nth
+from player.files import InputError, open_fleet
+from player.roads import Roads, read_map
+from trip_log import Fleet, Vehicle
 
-EXAMPLES = os.path.join(ROOT, "examples")
 MORNING, FLEET, MAP = (os.path.join(EXAMPLES, name) for name in ("morning.log", "fleet.txt", "map.gr"))
 
 
@@ -177,11 +173,9 @@ class Program(unittest.TestCase):
 
     def test_bad_input_is_one_line(self):
         with tempfile.TemporaryDirectory() as folder:
-            empty, binary, torn = (Path(f"{folder}/{name}") for name in ("empty", "binary", "torn"))
-            empty.write_text("")
-            binary.write_bytes(bytes(range(256)))
+            torn = Path(f"{folder}/torn")
             torn.write_bytes(Path(MORNING).read_bytes()[:1000])
-            for bad in (f"{folder}/missing", str(empty), str(binary), folder):
+            for bad in bad_files(folder).values():
                 for words in ((bad, FLEET, MAP), (MORNING, bad, MAP), (MORNING, FLEET, bad)):
                     with self.assertRaises(InputError) as caught:
                         day_figures.main(words)

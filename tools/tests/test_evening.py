@@ -9,9 +9,9 @@ import unittest
 from dataclasses import replace
 from pathlib import Path
 
-HERE = os.path.dirname(os.path.abspath(__file__))
-ROOT = os.path.dirname(os.path.dirname(HERE))
-sys.path[:0] = [os.path.dirname(HERE), os.path.join(ROOT, "bench")]
+from files_at_hand import EXAMPLES, HERE, ROOT, bad_files
+
+sys.path.insert(0, os.path.join(ROOT, "bench"))
 
 import evening  # noqa: E402
 from evening_rows import TABLES  # noqa: E402
@@ -20,7 +20,7 @@ from player.files import InputError  # noqa: E402
 from player.runs import default_program  # noqa: E402
 from player.second_auditor import second_audit  # noqa: E402
 
-TOWN = os.path.join(ROOT, "examples", "map.gr")
+TOWN = os.path.join(EXAMPLES, "map.gr")
 STAND_IN = os.path.join(HERE, "data", "stand_in.py")
 PROGRAM = os.environ.get("RIDE_DISPATCH", default_program())
 SMALL = ("--map", TOWN, "--vehicles", "4", "--requests", "90", "--minutes", "12", "--warm", "2", "--tick", "30")
@@ -160,10 +160,7 @@ class BadInput(unittest.TestCase):
 
     def test_files(self):
         with tempfile.TemporaryDirectory() as folder:
-            empty, binary = Path(f"{folder}/empty"), Path(f"{folder}/binary")
-            empty.write_text("")
-            binary.write_bytes(bytes(range(256)))
-            for bad in (f"{folder}/missing", str(empty), str(binary), folder):
+            for bad in bad_files(folder).values():
                 self.refuses("one", "--map", bad, "--jobs", "2")
                 self.refuses("one", *SMALL, "--into", bad)
         self.assertIn("No such file", self.refuses("one", *SMALL, program="/nowhere/ride_dispatch"))

@@ -4,23 +4,19 @@ import io
 import json
 import os
 import subprocess
-import sys
 import tempfile
 import threading
 import unittest
 from pathlib import Path
 
-HERE = os.path.dirname(os.path.abspath(__file__))
-ROOT = os.path.dirname(os.path.dirname(HERE))
-sys.path.insert(0, os.path.dirname(HERE))
+from files_at_hand import EXAMPLES, HERE, bad_files
 
-import advise  # noqa: E402
-import play_day  # noqa: E402
-from player.files import InputError  # noqa: E402
-from player.runs import default_program  # noqa: E402
-from trip_log import TripLog  # noqa: E402
+import advise
+import play_day
+from player.files import InputError
+from player.runs import default_program
+from trip_log import TripLog
 
-EXAMPLES = os.path.join(ROOT, "examples")
 MAP, FLEET, MORNING = (os.path.join(EXAMPLES, name) for name in ("map.gr", "fleet.txt", "morning.txt"))
 STAND_IN = os.path.join(HERE, "data", "stand_in.py")
 PROGRAM = os.environ.get("RIDE_DISPATCH", default_program())
@@ -117,11 +113,11 @@ class Advice(unittest.TestCase):
 
     def test_bad_input(self):
         with tempfile.TemporaryDirectory() as folder:
-            binary = Path(f"{folder}/binary")
-            binary.write_bytes(bytes(range(256)))
             words = [os.path.join(EXAMPLES, "morning.log"), FLEET, MAP, "--reach", "600"]
             for place in range(3):
-                for bad in (f"{folder}/missing", str(binary), folder):
+                for kind, bad in bad_files(folder).items():
+                    if place == 0 and kind == "empty":
+                        continue  # a log that has not begun yet
                     self.refuses(words[:place] + [bad] + words[place + 1:])
         for option in (("--reach", "0"), ("--reach", "x"), ("--pause", "0"), ("--pause", "-1"), ("--pause", "nan"), ("--pause", "x")):
             self.refuses(words + list(option))
@@ -161,10 +157,7 @@ class BadInput(unittest.TestCase):
 
     def test_files(self):
         with tempfile.TemporaryDirectory() as folder:
-            empty, binary = Path(f"{folder}/empty"), Path(f"{folder}/binary")
-            empty.write_text("")
-            binary.write_bytes(bytes(range(256)))
-            for bad in (f"{folder}/missing", str(empty), str(binary), folder):
+            for bad in bad_files(folder).values():
                 for words in ((bad, FLEET, MORNING), (MAP, bad, MORNING), (MAP, FLEET, bad)):
                     self.refuses(*words, "--program", STAND_IN)
             self.refuses(MAP, FLEET, MAP, "--program", STAND_IN)
