@@ -52,6 +52,7 @@ CHECKS = [
     Check("each allocation refused in turn", (sys.executable, "-B", "checks/allocations.py"), ("gcc",)),
     Check("certified sheets", (sys.executable, "-B", "checks/sheets.py"), ("checks/sheets.py",)),
     Check("the page of the headline beside the sources", (sys.executable, "-B", "checks/headline.py", "--check")),
+    Check("the width of clauses", (sys.executable, "-B", "checks/figures.py", "--check")),
 ]
 
 

@@ -1,4 +1,4 @@
-pub mod Shared
-pub mod Stage
+pub mod Made
+pub mod Seen
 pub mod Selections
 pub mod Batch

@@ -1,13 +1,13 @@
 //! Travel times for a batch by searches, or by sweeps and climbs, whichever is at hand: the times are the same.
-ghost use Rattle.std.specs.Prelude.{◌≡◌, ◌≤◌, length, map, All, IfSome};
+ghost use Rattle.std.specs.Prelude.{◌≡◌, length, map, All, IfSome};
 ghost use Rattle.ride_model.specs.Road.{IsRoadMap, IsNode, travel};
 ghost use Rattle.road_times.specs.Turned.{travel_by};
-ghost use Rattle.adaptive_roads.specs.Batch.{places_of};
 ghost use Rattle.adaptive_roads.specs.Selections.{IsSelectedOf};
 
-use crate::rooms::RowRoom;
+use crate::Roads;
+use crate::scratch::Scratch;
 use crate::selections::Selections;
-use road_times::{Roads, Scratch, Side};
+use road_times::Side;
 use std::marker::Model;
 
 /// Rows of travel times between any node and the wanted nodes of a batch, and times from any node to another.
@@ -15,7 +15,7 @@ use std::marker::Model;
 pub struct BatchRoads<'a> {
     roads: &'a Roads,
     wanted: &'a [u32],
-    selections: Option<&'a Selections<'a>>,
+    selections: Option<Selections<'a>>,
 }
 
 impl<'a> Model for BatchRoads<'a> {
@@ -23,35 +23,24 @@ impl<'a> Model for BatchRoads<'a> {
 
     ghost Value = { Wants };
 
-    ghost use Rattle.adaptive_roads.specs.Batch.{AreServed, places_of};
+    ghost use Rattle.adaptive_roads.specs.Batch.{AreServed};
 
-    ghost view = { λ b. record { roads = b.roads.now; wanted = b.wanted.now; places = places_of b.selections } };
+    ghost view = { λ b. record { roads = b.roads.now; wanted = b.wanted.now } };
 
     ghost invariant = { λ b. AreServed b.roads.now b.wanted.now b.selections };
 }
 
 impl<'a> BatchRoads<'a> {
-    /// By searches of the roads.
-    pub fn by_searches(roads: &'a Roads, wanted: &'a [u32]) -> BatchRoads<'a>
-        requires { All (IsNode roads.now) wanted.now }
-        ensures roads { result.roads ≡ roads.now }
-        ensures wanted { result.wanted ≡ wanted.now }
-        ensures places { result.places ≡ 0 }
-    {
-        BatchRoads::over(roads, wanted, None)
-    }
-
     /// By sweeps over what was selected and by climbs, if anything was selected, and else by searches.
-    pub fn over(
+    pub(crate) fn over(
         roads: &'a Roads,
         wanted: &'a [u32],
-        selections: Option<&'a Selections<'a>>,
+        selections: Option<Selections<'a>>,
     ) -> BatchRoads<'a>
         requires nodes { All (IsNode roads.now) wanted.now }
-        requires selected { IfSome selections (λ s. IsSelectedOf roads.now wanted.now s.now) }
+        requires selected { IfSome selections (IsSelectedOf roads.now wanted.now) }
         ensures roads { result.roads ≡ roads.now }
         ensures wanted { result.wanted ≡ wanted.now }
-        ensures places { result.places ≡ places_of selections.entry }
     {
         BatchRoads {
             roads,
@@ -60,61 +49,47 @@ impl<'a> BatchRoads<'a> {
         }
     }
 
-    /// How many places a worker's room must have.
-    pub fn places(&self) -> usize
-        ensures { result ≡ self.now.places }
-    {
-        match self.selections {
-            None => 0,
-            Some(selections) => selections.places(),
-        }
+    /// Whether rows come by sweeps.
+    pub fn is_swept(&self) -> bool {
+        self.selections.is_some()
     }
 
     /// Fills a row with the travel times from x to each of the wanted nodes, or from each of them to x. Takes no memory.
-    pub fn rows(
-        &self,
-        scratch: &mut Scratch,
-        room: &mut RowRoom,
-        x: u32,
-        side: Side,
-        into: &mut [Option<u64>],
-    )
+    pub fn rows(&self, scratch: &mut Scratch, x: u32, side: Side, into: &mut [Option<u64>])
         requires scratch { scratch.old.nodes ≡ self.now.roads.nodes }
-        requires room { self.now.places ≤ room.old.places }
         requires node { IsNode self.now.roads x }
         requires places { length self.now.wanted ≡ length into.old }
         ensures row { into.new ≡ map (travel_by side self.now.roads x) self.now.wanted }
         ensures scratch { scratch.new ≡ scratch.old }
-        ensures room { room.new ≡ room.old }
         ensures fits { IsRoadMap self.now.roads }
     {
         // This call tells that the roads are a map.
         let _nodes = self.roads.nodes();
-        if let Some(selections) = self.selections {
-            selections.row(&mut room.sweep, x, side, into);
+        if let Some(selections) = &self.selections {
+            selections.row(&mut scratch.sweep, x, side, into);
             return;
         }
-        self.roads.rows(scratch, x, side, self.wanted, into);
-        room.count(scratch.settled());
+        self.roads
+            .searched()
+            .rows(&mut scratch.search, x, side, self.wanted, into);
+        scratch.count();
     }
 
     /// The travel time from x to y. Takes no memory.
-    pub fn time(&self, scratch: &mut Scratch, room: &mut RowRoom, x: u32, y: u32) -> Option<u64>
+    pub fn time(&self, scratch: &mut Scratch, x: u32, y: u32) -> Option<u64>
         requires scratch { scratch.old.nodes ≡ self.now.roads.nodes }
-        requires room { self.now.places ≤ room.old.places }
         requires from { IsNode self.now.roads x }
         requires to { IsNode self.now.roads y }
         ensures time { result ≡ travel self.now.roads x y }
         ensures scratch { scratch.new ≡ scratch.old }
-        ensures room { room.new ≡ room.old }
     {
         // This call tells that the roads are a map.
         let _nodes = self.roads.nodes();
-        if let Some(selections) = self.selections {
-            return selections.time(&mut room.sweep, x, y);
+        if let Some(selections) = &self.selections {
+            return selections.time(&mut scratch.sweep, x, y);
         }
-        let time = self.roads.time(scratch, x, y);
-        room.count(scratch.settled());
+        let time = self.roads.searched().time(&mut scratch.search, x, y);
+        scratch.count();
         time
     }
 }

@@ -1,179 +1,141 @@
-//! The roads of a session: searched at first, and swept by a hierarchy once that pays.
+//! The roads of a city: searched at first, and by a hierarchy once that pays. To contracts they are the map, and that they adapt is
+//! nobody else's matter: whoever asks for travel times has them by whichever is at hand.
 //!
-//! Making a hierarchy takes about as long as 120 searches of the whole map. So roads are searched until that much was searched, and
-//! then their map is contracted, a piece for each batch, about as long as one worker's searches of the last one. What is counted is
-//! nodes and links, never time: the same input always does the same. Where memory is wanting, or a map does not contract, rows come by
-//! searches for good. The rows are the same either way.
-//!
-//! Owners of the same roads, each in a thread of its own, may share a hierarchy. What they search together counts then, and one of
-//! them makes it for all. Which of them that is, and when the others come to sweep, depends on how their threads run; no row does.
+//! Making a hierarchy takes about as long as 120 searches of the whole map. So it is made before the rows of a batch where these and what
+//! was searched before come to so much, and in pieces while its owner has nothing else to do. What is counted is nodes and links, never
+//! time. One thread makes it, for all that read the roads; the others search meanwhile, and none waits. Where memory is wanting, or a map
+//! does not contract, it is searched for good. The times are the same either way.
 #![tactic(auto)]
 
-ghost use Rattle.std.specs.Prelude.{◌≡◌, All, IfSome};
-ghost use Rattle.ride_model.specs.Road.{IsNode};
-ghost use Rattle.adaptive_roads.specs.Selections.{IsSelectedOf};
-ghost use Rattle.adaptive_roads.specs.Shared.{IsMadeOf};
+ghost use Rattle.std.specs.Prelude.{◌≡◌, IfOk, IfSome};
+ghost use Rattle.ride_model.specs.Road.{IsRoadMap};
+ghost use Rattle.adaptive_roads.specs.Made.{IsMadeOf};
 
+use made::Made;
+use making::{Making, Progress, contract_more};
+use ride_model::{Network, NoMemory};
 use road_hierarchy::Hierarchy;
-use road_times::Roads;
-use stages::Stage;
 use std::alloc::Global;
 use std::marker::Model;
 use std::mem;
+use std::sync::atomic::{AtomicBool, AtomicU64, Ordering};
+use std::sync::{Mutex, OnceLock};
 
 mod batch_roads;
-mod rooms;
+mod made;
+mod making;
+mod scratch;
 mod selections;
-mod shared;
-mod stages;
 mod travel_times;
 
 pub use batch_roads::BatchRoads;
-pub use rooms::RowRoom;
-pub use selections::Selections;
-pub use shared::SharedHierarchy;
+pub use scratch::{Scratch, scratches};
 pub use travel_times::TravelTimes;
 
 /// How many times as many nodes as the map has are settled by searches before its contraction pays.
 const MAPS_BEFORE: u64 = 120;
 
-/// How many links a contraction looks at in about the time in which a search settles a node.
-const LINKS_A_NODE: u64 = 4;
+/// How many links are looked at in a piece of a contraction: some 50 milliseconds.
+const LINKS_A_PIECE: u64 = 1_000_000;
 
-// Memory: while the map is contracted, what a contraction takes, and while that begins a network; after that, what a hierarchy takes,
-// once for all who share it. Who takes it from another makes two networks, to compare them, and frees them. Travel times take what a
-// search takes, and 16 bytes a node more once they climb, as a worker's room does once a batch is swept.
+// Memory: while the map is contracted, what a contraction takes, and a network; after that, what a hierarchy takes, and the network, by
+// which others see that it is one of their roads. Who takes it makes another network to compare them, and frees it.
 
-/// How many nodes the searches of a batch settled: all workers together, and the worker that settled the most.
-#[derive(Clone, Copy, Debug, Default, PartialEq, Eq)]
-pub struct Searched {
-    pub together: u64,
-    pub most: u64,
-}
-
-/// Roads, and a hierarchy of them as far as it is made. To contracts they mean the map.
+/// The roads of a map, and a hierarchy of them as far as it is made. Threads share them by reference. To contracts they are the map.
 #[derive(Drop)]
-pub struct AdaptiveRoads<'r> {
-    roads: &'r Roads,
-    settled: u64,
-    most: u64,
-    stage: Stage<'r>,
+pub struct Roads {
+    searched: road_times::Roads,
+    made: OnceLock<Made>,
+    making: Mutex<Making>,
+    /// Whether the hierarchy is made, or given up.
+    is_over: AtomicBool,
+    /// How many nodes searches have settled.
+    settled: AtomicU64,
 }
 
-impl<'r> Model for AdaptiveRoads<'r> {
+impl Model for Roads {
     ghost use Rattle.ride_model.specs.Road.{RoadMap};
 
     ghost Value = { RoadMap };
 
-    ghost use Rattle.adaptive_roads.specs.Stage.{IsStage};
-
-    ghost view = { λ a. a.roads.now };
-
-    ghost invariant = { λ a. IsStage a.roads.now a.stage };
+    ghost view = { λ roads. roads.searched };
 }
 
-impl<'r> AdaptiveRoads<'r> {
-    /// Roads that were not searched yet.
-    pub fn new(roads: &'r Roads) -> AdaptiveRoads<'r>
-        ensures { result ≡ roads.now }
+impl Roads {
+    /// The roads of a map, of which nothing was searched.
+    pub fn new(alloc: Global, map: &Network) -> Result<Roads, NoMemory>
+        ensures { IfOk result (λ roads. roads ≡ map.now) }
     {
-        AdaptiveRoads {
-            roads,
-            settled: 0,
-            most: 0,
-            stage: Stage::Searching,
+        Ok(Roads {
+            searched: road_times::Roads::new(alloc, map)?,
+            made: OnceLock::new(),
+            making: Mutex::new(Making::NotBegun),
+            is_over: AtomicBool::new(false),
+            settled: AtomicU64::new(0),
+        })
+    }
+
+    /// The number of nodes.
+    pub fn nodes(&self) -> u32
+        ensures nodes { result ≡ self.now.nodes }
+        ensures fits { IsRoadMap self.now }
+    {
+        self.searched.nodes()
+    }
+
+    /// Notes how many nodes searches settled: by that it is chosen when to contract, and no time depends on it.
+    pub fn note(&self, settled: u64) {
+        self.settled.fetch_add(settled, Ordering::SeqCst);
+    }
+
+    /// Makes the hierarchy at once, where so many rows and what was searched before would take longer, and no other thread makes it.
+    pub fn prepare_for(&self, alloc: Global, rows: usize) {
+        let nodes = u64::from(self.nodes());
+        let before = self.settled.load(Ordering::SeqCst);
+        let together = nodes.saturating_mul(rows as u64).saturating_add(before);
+        if together >= nodes.saturating_mul(MAPS_BEFORE) {
+            self.go_on(alloc, u64::MAX);
         }
     }
 
-    /// The roads.
-    pub fn roads(&self) -> &'r Roads
+    /// Goes on with the hierarchy, some 50 milliseconds. Returns whether something was done: not where it is made or given up, or where
+    /// another thread makes it.
+    pub fn prepare(&self, alloc: Global) -> bool {
+        self.go_on(alloc, LINKS_A_PIECE)
+    }
+
+    // Looks at so many links more, where no other thread does. Returns whether something was done.
+    fn go_on(&self, alloc: Global, links: u64) -> bool {
+        if self.is_over.load(Ordering::SeqCst) {
+            return false;
+        }
+        let Some(mut making) = self.making.try_lock() else {
+            return false;
+        };
+        let before = mem::replace(&mut *making, Making::Over);
+        match contract_more(alloc, &self.searched, before, links) {
+            Ok(Progress::More(contracting)) => *making = Making::Contracting(contracting),
+            Ok(Progress::Made(made)) => self.keep(made),
+            Ok(Progress::Never) | Err(_) => self.is_over.store(true, Ordering::SeqCst),
+        }
+        true
+    }
+
+    // Keeps the hierarchy for all.
+    fn keep(&self, made: Made) {
+        let _ = self.made.try_set(made);
+        self.is_over.store(true, Ordering::SeqCst);
+    }
+
+    /// What was made, once it is. Of what it keeps its type alone is known: who takes it sees first that it is of these roads.
+    pub(crate) fn made(&self) -> Option<&Made> {
+        self.made.get()
+    }
+
+    /// The roads as searches know them.
+    pub(crate) fn searched(&self) -> &road_times::Roads
         ensures { result.now ≡ self.now }
     {
-        self.roads
-    }
-
-    /// Notes how many nodes searches settled, one after another.
-    pub fn note(&mut self, settled: u64)
-        ensures { self.new ≡ self.old }
-    {
-        self.note_batch(Searched {
-            together: settled,
-            most: settled,
-        });
-    }
-
-    /// Notes how many nodes the searches of a batch settled.
-    pub fn note_batch(&mut self, searched: Searched)
-        ensures { self.new ≡ self.old }
-    {
-        self.settled = self.settled.saturating_add(searched.together);
-        self.most = self.most.max(searched.most);
-    }
-
-    /// How many nodes are settled by searches before a hierarchy pays.
-    fn enough(&self) -> u64 {
-        u64::from(self.roads.nodes()).saturating_mul(MAPS_BEFORE)
-    }
-
-    /// Whether the hierarchy is to be made: enough was searched, and it is neither made nor given up, nor made by another with whom it is
-    /// shared. Until it is made, rows come by searches.
-    pub fn is_making(&self) -> bool {
-        match self.stage {
-            Stage::Searching => self.settled >= self.enough(),
-            Stage::Due | Stage::Contracting(_) => true,
-            _ => false,
-        }
-    }
-
-    /// Meets the others with whom the hierarchy is shared, between batches: notes what was searched, gives the hierarchy if this one has
-    /// made it, or takes it if another has. The first that meets them once enough was searched by all is to make it. From the first
-    /// meeting on, it is made for all or not at all. Waits for nobody.
-    pub fn share<'q>(&mut self, alloc: Global, shared: &'r SharedHierarchy<'q>)
-        requires { shared.now ≡ self.old }
-        ensures { self.new ≡ self.old }
-    {
-        let together = shared.note(self.settled);
-        self.settled = 0;
-        let is_due = together >= self.enough();
-        let stage = mem::replace(&mut self.stage, Stage::SearchingOnly);
-        if let Ok(next) = stage.met(alloc, self.roads, shared, is_due) {
-            self.stage = next;
-        }
-    }
-
-    /// Goes on with the hierarchy, about as long as the searches took that were noted since the last time. Where memory is wanting it
-    /// is given up.
-    pub fn prepare(&mut self, alloc: Global)
-        ensures { self.new ≡ self.old }
-    {
-        if !self.is_making() {
-            return;
-        }
-        let fuel = self.most.saturating_mul(LINKS_A_NODE);
-        self.most = 0;
-        let stage = mem::replace(&mut self.stage, Stage::SearchingOnly);
-        if let Ok(next) = stage.next(alloc, self.roads, fuel) {
-            self.stage = next;
-        }
-    }
-
-    /// Selects what rows to these nodes need. None where rows and times come by searches: a hierarchy is not made, or memory is wanting
-    /// for the selection.
-    pub fn select(&self, alloc: Global, wanted: &[u32]) -> Option<Selections<'_>>
-        requires { All (IsNode self.now) wanted.now }
-        ensures { IfSome result (IsSelectedOf self.now wanted.now) }
-    {
-        let hierarchy = self.stage.hierarchy()?;
-        Selections::of(alloc, hierarchy, wanted).ok()
-    }
-
-    /// The hierarchy that is shared, once this one has given or taken it.
-    pub fn shared(&self) -> Option<&'r Hierarchy>
-        ensures { IfSome result (λ hierarchy. IsMadeOf self.now hierarchy.now) }
-    {
-        match self.stage {
-            Stage::Sharing(hierarchy) => Some(hierarchy),
-            _ => None,
-        }
+        &self.searched
     }
 }

@@ -51,13 +51,6 @@ impl<'h> Selections<'h> {
         })
     }
 
-    /// How many places a room must have: for two climbs, or for one and a sweep, in which no more nodes are selected than there are.
-    pub(crate) fn places(&self) -> usize
-        ensures { result ≡ self.now.hierarchy.nodes + self.now.hierarchy.nodes }
-    {
-        2 * self.hierarchy.nodes() as usize
-    }
-
     /// Fills a row with the travel times from x to each of the wanted nodes, or from each of them to x.
     pub(crate) fn row(&self, room: &mut SweepRoom, x: u32, side: Side, into: &mut [Option<u64>])
         requires room { self.now.hierarchy.nodes + self.now.hierarchy.nodes ≤ room.old.places }
@@ -82,7 +75,8 @@ impl<'h> Selections<'h> {
         requires from { x ≤ self.now.hierarchy.nodes }
         requires some_to { 1 ≤ y }
         requires to { y ≤ self.now.hierarchy.nodes }
-        ensures time { (roads : RoadMap) → IsRoadMap roads → IsContractionOf roads self.now.hierarchy → result ≡ travel roads x y }
+        ensures time { (roads : RoadMap) → IsRoadMap roads
+            → IsContractionOf roads self.now.hierarchy → result ≡ travel roads x y }
         ensures room { room.new ≡ room.old }
     {
         self.hierarchy.time(room, x, y)

@@ -25,7 +25,13 @@ impl Answer {
         prices: AmountList,
         pays: AmountList,
     ) -> Result<Answer, NoMemory>
-        ensures { IfOk result (λ answer. answer ≡ record { seating = seating; prices = prices; pays = pays; outcomes = undecided prices }) }
+        ensures { IfOk result (λ answer. answer
+            ≡ record {
+              seating = seating;
+              prices = prices;
+              pays = pays;
+              outcomes = undecided prices;
+            }) }
     {
         let outcomes = undecided_outcomes(alloc, prices.items())?;
         Ok(Answer {

@@ -48,7 +48,8 @@ fn find_seat(seats: &[Seat], id: u64) -> Option<Seat>
 
 // The outcome of a seated request.
 fn outcome_of_seat(batch: &Batch, seat: &Seat, now: u64, vehicles: &[Vehicle]) -> Outcome
-    ensures { (s : State) → s.vehicles ≡ vehicles.now → s.clock ≡ now → result ≡ seated_outcome batch.now s seat.now }
+    ensures { (s : State) → s.vehicles ≡ vehicles.now → s.clock ≡ now
+        → result ≡ seated_outcome batch.now s seat.now }
 {
     let copies = batch.vehicles().vehicles();
     let named = version_in(copies, seat.vehicle);
@@ -118,10 +119,12 @@ pub fn decide_each(
     outcomes: &mut OutcomeList,
 )
     requires one_flag_each { length cancelled.now ≡ length batch.now.requests }
-    requires one_each { map (λ (item : ℕ × Outcome). item.0) outcomes.old ≡ ride_ids batch.now.requests }
+    requires one_each { map (λ (item : ℕ × Outcome). item.0) outcomes.old
+        ≡ ride_ids batch.now.requests }
     ensures decided { (s : State) → StandsSo batch.now now vehicles.now cancelled.now s
         → outcomes.new ≡ outcomes_of batch.now seats.now s }
-    ensures one_each_still { map (λ (item : ℕ × Outcome). item.0) outcomes.new ≡ ride_ids batch.now.requests }
+    ensures one_each_still { map (λ (item : ℕ × Outcome). item.0) outcomes.new
+        ≡ ride_ids batch.now.requests }
 {
     let requests = batch.requests();
     for r in 0..requests.len() {

@@ -47,7 +47,8 @@ impl Solved {
     /// Ties an answer to its batch and its table.
     pub fn tie(batch: Batch, table: PriceTable, answer: Answer) -> Solved
         requires fits { FitsBatch batch table }
-        requires certified { CertifiesOverCells batch table answer.seating answer.prices answer.pays }
+        requires certified { CertifiesOverCells batch table
+            answer.seating answer.prices answer.pays }
         requires undecided { answer.outcomes ≡ undecided answer.prices }
         ensures { result ≡ record { batch = batch; table = table; answer = answer } }
     {
@@ -73,7 +74,8 @@ impl Solved {
 
     pub fn answer(&self) -> &Answer
         ensures answer { result.now ≡ self.now.answer }
-        ensures certified { CertifiesOverCells self.now.batch self.now.table self.now.answer.seating self.now.answer.prices
+        ensures certified { CertifiesOverCells self.now.batch self.now.table
+            self.now.answer.seating self.now.answer.prices
             self.now.answer.pays }
     {
         &self.answer
@@ -101,7 +103,10 @@ pub fn decide(solved: &mut Solved, now: u64, vehicles: &[Vehicle], cancelled: &[
     requires one_flag_each { length cancelled.now ≡ length solved.old.batch.requests }
     ensures decided { (s : State) → StandsSo solved.old.batch now vehicles.now cancelled.now s
         → solved.new.answer.outcomes ≡ outcomes_of solved.old.batch solved.old.answer.seating s }
-    ensures others { solved.new ≡ record solved.old { answer = record solved.old.answer { outcomes = solved.new.answer.outcomes } } }
+    ensures others { solved.new
+        ≡ record solved.old {
+          answer = record solved.old.answer { outcomes = solved.new.answer.outcomes };
+        } }
 {
     decide_each(
         &solved.batch,

@@ -51,7 +51,10 @@ impl PriceTable {
     pub fn put(&mut self, request: u32, vehicle: u32, offer: Offer)
         requires request_in { request < self.old.rows }
         requires vehicle_in { vehicle < self.old.columns }
-        ensures { self.new ≡ record self.old { cells = slice_set self.old.cells (request * self.old.columns + vehicle) (Some offer) } }
+        ensures { self.new ≡ record self.old {
+          cells = slice_set self.old.cells
+              (request * self.old.columns + vehicle) (Some offer);
+        } }
     {
         let at = place(request, vehicle, self.vehicles);
         self.cells[at] = Some(offer);

@@ -14,7 +14,7 @@ use Rattle.ride_model.specs.declared.entry.Event.TheVariants.{Fed}
 use Rattle.ride_model.specs.declared.reply.Reply.{Reply}
 use Rattle.ride_model.specs.declared.settings.Settings.{Settings}
 use Rattle.ride_model.specs.declared.vehicle.Vehicle.{Vehicle}
-use Rattle.ride_model.specs.Fleet.{IsFleet}
+use Rattle.ride_model.specs.Fleet.{IsFleet, MayStart}
 use Rattle.ride_model.specs.History.{entries_of, fed_commands, is_abandoned}
 use Rattle.ride_model.specs.Legal.{replay, IsLegal, IsLegalEntry, IsNumbered}
 use Rattle.ride_model.specs.Road.{RoadMap, IsRoadMap}
@@ -87,7 +87,7 @@ board-in_order setup service kept capacity board is =
     let vehicles_are : s.vehicles ≡ service.vehicles.items = ap (λ (t : State). t.vehicles) same in
     record {
       map_fits = subst IsRoadMap roads_are is.recorded.start_fits.map_fits;
-      settings_fit = subst IsSettings settings_are is.recorded.start_fits.settings_fit;
+      settings_fit = subst IsSettings settings_are is.recorded.start_fits.may_start.settings_fit;
       clock_fits = subst (λ (t : State). t.clock ≤ 1000000000) same c.clock_fits;
       few_asked = subst (λ (t : State). t.asked ≤ 2000) same c.few_asked;
       fleet_fits = fleet-same service.vehicles.items board.start.vehicles (ap vehicle_ids (sym vehicles_are) ∙ c.fleet_stays)
@@ -170,23 +170,19 @@ board-fed setup service after kept capacity room board feed command reply spare 
 
 -- a board on which nothing happened yet
 pub board-new : (roads : RoadMap) (settings : Settings) (fleet : List Vehicle) (feeds desks : ℕ) (service : Service) (capacity : ℕ)
-    → IsRoadMap roads → IsSettings settings → IsFleet fleet → All (IsLawful roads) fleet → All (λ (v : Vehicle). v.stops.items ≡ []) fleet
-    → All (λ (v : Vehicle). v.version ≡ 0) fleet → IsOneOrTwo feeds → IsOneOrTwo desks
+    → IsRoadMap roads → IsFleet fleet → MayStart roads settings fleet → IsOneOrTwo feeds → IsOneOrTwo desks
     → service.clock ≡ 0 → service.vehicles.items ≡ fleet → service.requests ≡ [] → service.asked ≡ 0 → 4 ≤ capacity
     → IsBoard (record { roads = roads; settings = settings; ids = vehicle_ids fleet }) service none_yet capacity
     (record { start = start_state roads settings fleet; feeds = feeds; desks = desks; history = []; spare = 0 })
 unfolding replay IsLegal entries_of
-board-new roads settings fleet feeds desks service capacity map_fits settings_fit fleet_fits lawful idle versions feeds_fit desks_fit
+board-new roads settings fleet feeds desks service capacity map_fits fleet_fits may_start feeds_fit desks_fit
     clock vehicles requests asked room = record {
       ids_are = refl;
       recorded = record {
         start_fits = record {
           map_fits = map_fits;
-          settings_fit = settings_fit;
           fleet_fits = fleet_fits;
-          lawful = lawful;
-          idle = idle;
-          first_versions = versions;
+          may_start = may_start;
           nothing_yet = refl;
         };
         feeds_fit = feeds_fit;

@@ -1,5 +1,5 @@
 -- Batches that are no longer open.
-use Rattle.std.proofs.Common.{◌≡◌, ℕ, ◌+◌, ◌≤◌, Bool, true, false, not, ◌&&◌, ◌||◌, cond, inl, inr, List, [], ◌∷◌, ◌++◌, eqb, refl, sym, ◌∙◌, ap, subst, length-append, arith}
+use Rattle.std.proofs.Common.{◌≡◌, ℕ, ◌+◌, ◌≤◌, Bool, true, false, not, ◌&&◌, cond, inl, inr, List, [], ◌∷◌, ◌++◌, eqb, refl, sym, ◌∙◌, ap, subst, length-append, arith}
 use Rattle.std.specs.Prelude.{◌==◌, Option, Some, None, option_map, find, IsSome, IsSomeAnd}
 use Rattle.std.specs.List.{filter, list_any}
 use Rattle.std.proofs.lemmas.Bool.{eqb-true, eq-eqb}
@@ -8,14 +8,14 @@ use Rattle.std.proofs.Math.Bool.{or-true}
 use Rattle.std.proofs.lemmas.Option.{same_Some}
 use Rattle.ride_model.specs.declared.command.Actor.TheVariants.{Desk}
 use Rattle.ride_model.specs.declared.entry.Entry.{Entry}
-use Rattle.ride_model.specs.declared.entry.Event.TheVariants.{Committed, Abandoned}
+use Rattle.ride_model.specs.declared.entry.Event.TheVariants.{Committed}
 use Rattle.ride_model.specs.declared.entry.Outcome.{Outcome}
 use Rattle.ride_model.specs.declared.offer.Seat.{Seat}
 use Rattle.ride_model.specs.Text.{IsOneOrTwo}
-use Rattle.ride_model.specs.Batch.{with_request_states, standing_rides, without_batch, after_abandon, after_commit, after_outcomes}
+use Rattle.ride_model.specs.Batch.{with_request_states, standing_rides, without_batch, after_outcomes}
 use Rattle.ride_model.specs.declared.reply.RequestState.TheVariants.{Waiting}
 use Rattle.ride_model.specs.History.{is_abandoned}
-use Rattle.ride_model.specs.Legal.{after_event, after_entry, IsLegalEntry, CommitsBatch}
+use Rattle.ride_model.specs.Legal.{after_entry, IsLegalEntry, CommitsBatch}
 use Rattle.ride_model.specs.Seating.{BatchCopy}
 use Rattle.ride_model.specs.State.{State, is_batch, open_batch_of, open_batch_numbered}
 use Rattle.plain_lemmas.proofs.Among.{Among, found_among}

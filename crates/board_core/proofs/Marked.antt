@@ -2,11 +2,10 @@
 use Rattle.std.proofs.Common.{◌≡◌, ℕ, zero, suc, ◌+◌, ◌<◌, Bool, List, [], ◌∷◌, ◌++◌, length, map, take, get_or, refl, ◌∙◌, ap, arith, sym, add-one}
 use Rattle.ride_model.specs.declared.reply.RequestState.{RequestState}
 use Rattle.ride_model.specs.declared.vehicle.Ride.{Ride}
-use Rattle.ride_model.specs.Batch.{with_request_states, standing_rides}
-use Rattle.ride_model.specs.Seating.{BatchCopy}
+use Rattle.ride_model.specs.Batch.{with_request_states}
 use Rattle.ride_model.specs.State.{State, with_request_state}
 use Rattle.ride_model.specs.Vehicle.{ride_ids}
-use Rattle.board_core.specs.Marking.{marked_in, still_in}
+use Rattle.board_core.specs.Marking.{marked_in}
 
 -- the state with these rides' requests in one state has their ids marked
 pub with_states-marked : (state : RequestState) (rides : List Ride) (s : State)

@@ -1,13 +1,11 @@
 -- Reports of a vehicle.
-use Rattle.std.proofs.Common.{◌≡◌, ℕ, ◌+◌, ◌≤◌, List, [], ◌∷◌, sym, ◌∙◌, ap, subst}
-use Rattle.std.specs.Prelude.{Option, Some, None}
-use Rattle.ride_model.specs.declared.reply.Reply.TheVariants.{OnMap, Refused}
+use Rattle.std.proofs.Common.{◌≡◌, ℕ, ◌+◌, ◌≤◌, List, ◌∷◌, sym, ◌∙◌, ap, subst}
+use Rattle.std.specs.Prelude.{Option, Some}
 use Rattle.ride_model.specs.declared.settings.Settings.{Settings}
 use Rattle.ride_model.specs.declared.vehicle.Stop.{Stop}
 use Rattle.ride_model.specs.declared.vehicle.Vehicle.{Vehicle}
 use Rattle.ride_model.specs.Road.{RoadMap, IsRoadMap, IsNode, travel}
 use Rattle.ride_model.specs.Vehicle.{HasLegs, IsLawful}
-use Rattle.ride_model.specs.Insertion.{routed}
 use Rattle.ride_model.specs.State.{State, with_vehicle}
 use Rattle.ride_model.specs.Step.{raised, reported, report, report_driving}
 use Rattle.model_laws.proofs.Routes.{with_leg}

@@ -1,12 +1,12 @@
 -- A commit, request by request.
 use Rattle.std.proofs.Common.{◌≡◌, ℕ, zero, suc, ◌+◌, ◌<◌, ◌≤◌, ◌^◌, Bool, true, false, not, ◌&&◌, cond, inl, inr, List, [], ◌∷◌, ◌++◌, length, drop, get_or, eqb, leb, leb-true, refl, sym, ◌∙◌, ap, subst, arith, add-one}
-use Rattle.std.specs.Prelude.{◌==◌, map, max, Some, None, option_map, unwrap_or, find, slice_set, All, Contains, IsSomeAnd, MatchOption, IfSome}
+use Rattle.std.specs.Prelude.{◌==◌, map, max, Some, None, option_map, unwrap_or, find, slice_set, All, Contains, IsSomeAnd, MatchOption}
 use Rattle.std.specs.List.{IsDistinct, list_all, enumerate_from}
 use Rattle.std.proofs.lemmas.Map.Keys.{IsDistinct-head, IsDistinct-tail}
 use Rattle.std.proofs.lemmas.Bool.{eqb-true, eq-eqb, ne_eqb, and_parts}
 use Rattle.std.proofs.lemmas.List.{length-map, get_or-map}
-use Rattle.std.proofs.lemmas.List.Elements.{All-weaker, Contains-get_or}
-use Rattle.std.proofs.lemmas.Option.{IfSome_then, same_Some}
+use Rattle.std.proofs.lemmas.List.Elements.{Contains-get_or}
+use Rattle.std.proofs.lemmas.Option.{same_Some}
 use Rattle.ride_model.specs.declared.entry.Outcome.{Outcome}
 use Rattle.ride_model.specs.declared.entry.Outcome.TheVariants.{Confirmed, Moved}
 use Rattle.ride_model.specs.declared.offer.Offer.{Offer}

@@ -1,5 +1,5 @@
 -- A wish against which nothing speaks may be accepted.
-use Rattle.std.proofs.Common.{◌≡◌, ℕ, ◌+◌, ◌^◌, ◌<◌, ◌||◌, Bool, true, false, List, length, eqb, leb, ltb, ltb-false, refl, arith}
+use Rattle.std.proofs.Common.{◌≡◌, ℕ, ◌+◌, ◌^◌, ◌<◌, ◌||◌, true, false, List, length, eqb, leb, ltb, ltb-false, refl, arith}
 use Rattle.std.specs.Prelude.{Option, Some, None, is_some}
 use Rattle.std.proofs.lemmas.Bool.{leb-false, or_parts, and_parts}
 use Rattle.ride_model.specs.Road.{RoadMap, IsRoadMap, IsNode}

@@ -1,16 +1,13 @@
 //! The board, and what it shows.
-ghost use Rattle.std.specs.Prelude.{◌≡◌, ◌≤◌, ◌↔◌, [], ◌++◌, ◌∷◌, option_map, option_copied, All, IfOk, OnOk, IsTrue};
+ghost use Rattle.std.specs.Prelude.{◌≡◌, ◌≤◌, ◌↔◌, [], ◌++◌, ◌∷◌, option_map, option_copied, IfOk, OnOk, IsTrue};
 ghost use Rattle.ride_model.specs.declared.entry.Entry.{Entry};
-ghost use Rattle.ride_model.specs.declared.vehicle.Vehicle.{Vehicle};
-ghost use Rattle.ride_model.specs.Settings.{IsSettings};
-ghost use Rattle.ride_model.specs.Vehicle.{IsLawful};
+ghost use Rattle.ride_model.specs.Fleet.{MayStart};
 ghost use Rattle.ride_model.specs.Seating.{BatchCopy, find_vehicle};
 ghost use Rattle.ride_model.specs.State.{start_state, request_state, has_ended, open_batch_of};
 ghost use Rattle.ride_model.specs.Legal.{IsLegal};
 ghost use Rattle.ride_model.specs.History.{IsFinished};
 ghost use Rattle.ride_model.specs.Text.{IsOneOrTwo, HasText};
 ghost use Rattle.history_laws.specs.Start.{IsStart};
-ghost use Rattle.adaptive_roads.specs.Shared.{IsMadeOf};
 ghost use Rattle.board_core.specs.Recorded.{Recorded, state_of};
 
 mod batches;
@@ -20,9 +17,8 @@ pub(crate) mod totals;
 use crate::desks::Desks;
 use crate::service::Service;
 use crate::setup::Setup;
+use adaptive_roads::Roads;
 use ride_model::{Actor, Entry, Fleet, NoMemory, RequestState, Settings, Vehicle};
-use road_hierarchy::Hierarchy;
-use road_times::Roads;
 use std::alloc::Global;
 use std::marker::Model;
 
@@ -97,12 +93,9 @@ impl<'r> Board<'r> {
         feeds: u8,
         desks: u8,
     ) -> Result<Board<'r>, NoMemory>
-        requires settings { IsSettings settings }
+        requires start { MayStart roads.now settings fleet }
         requires feeds { IsOneOrTwo feeds }
         requires desks { IsOneOrTwo desks }
-        requires lawful { All (IsLawful roads.now) fleet }
-        requires idle { All (λ (v : Vehicle). v.stops.items ≡ []) fleet }
-        requires first_versions { All (λ (v : Vehicle). v.version ≡ 0) fleet }
         ensures start { IfOk result (λ board. board.start ≡ start_state roads.now settings fleet) }
         ensures feeds { IfOk result (λ board. board.feeds ≡ feeds) }
         ensures desks { IfOk result (λ board. board.desks ≡ desks) }
@@ -138,20 +131,12 @@ impl<'r> Board<'r> {
         Ok(())
     }
 
-    /// Goes on by a hierarchy of the roads, by which the board finds travel times sooner. Where memory is wanting it searches, as
-    /// before.
-    pub fn climb_by(&mut self, alloc: Global, hierarchy: &'r Hierarchy)
-        requires { IsMadeOf self.old.start.roads hierarchy.now }
-        ensures { self.new ≡ self.old }
-    {
-        self.setup.climb_by(alloc, hierarchy);
-    }
-
     /// The history: legal, and with a text.
     pub fn entries(&self) -> &[Entry]
         ensures items { result.now ≡ self.now.history }
         ensures legal { IsLegal self.now.feeds self.now.desks self.now.start self.now.history }
-        ensures text { HasText self.now.start.settings.log self.now.feeds self.now.desks self.now.history }
+        ensures text { HasText self.now.start.settings.log self.now.feeds
+            self.now.desks self.now.history }
         ensures start { IsStart self.now.start }
     {
         self.history.as_slice()
@@ -188,7 +173,8 @@ impl<'r> Board<'r> {
 
     /// Whether all feeds and desks ended whole, each batch that was asked for was opened, and none is open or was given up.
     pub fn finished(&self) -> bool
-        ensures { IsTrue result ↔ IsFinished self.now.feeds self.now.desks self.now.start self.now.history }
+        ensures { IsTrue result ↔ IsFinished self.now.feeds self.now.desks
+            self.now.start self.now.history }
     {
         self.kept
             .is_finished(self.feeds, self.desks, self.service.asked)
@@ -229,7 +215,8 @@ impl<'r> Board<'r> {
 
     /// The number of a desk's open batch.
     pub fn open_of(&self, desk: u8) -> Option<u64>
-        ensures { result ≡ option_map (λ (batch : BatchCopy). batch.number) (open_batch_of (state_of self.now) desk) }
+        ensures { result ≡ option_map (λ (batch : BatchCopy). batch.number)
+            (open_batch_of (state_of self.now) desk) }
     {
         self.kept.batches.of(desk)
     }

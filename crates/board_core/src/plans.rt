@@ -56,7 +56,8 @@ fn nodes_without(vehicle: &Vehicle, id: u64) -> ArrayVec<u32, 17>
 fn push_others(nodes: &mut ArrayVec<u32, 17>, stops: &[Stop], id: u64)
     requires one { length nodes.old.items ≡ 1 }
     requires few { length stops.now ≤ most_stops }
-    ensures { nodes.new.items ≡ nodes.old.items ++ map (λ (stop : Stop). stop.node) (stops_without id stops.now) }
+    ensures { nodes.new.items ≡ nodes.old.items
+        ++ map (λ (stop : Stop). stop.node) (stops_without id stops.now) }
 {
     for stop in stops {
         if stop.ride != id {

@@ -66,9 +66,11 @@ impl Service {
     /// The place of the vehicle of an id.
     pub(crate) fn place_of(&self, places: &Places, id: u64) -> Option<usize>
         requires { places.now ≡ vehicle_ids self.now.vehicles.items }
-        ensures within { MatchOption result (placed_in self.now.vehicles.items id ≡ None) (λ place. place < length self.now.vehicles.items) }
+        ensures within { MatchOption result (placed_in self.now.vehicles.items id ≡ None)
+            (λ place. place < length self.now.vehicles.items) }
         ensures placed { MatchOption result (placed_in self.now.vehicles.items id ≡ None)
-            (λ place. (v : Vehicle) → placed_in self.now.vehicles.items id ≡ Some (place, slice_index_or self.now.vehicles.items place v)) }
+            (λ place. (v : Vehicle) → placed_in self.now.vehicles.items id
+            ≡ Some (place, slice_index_or self.now.vehicles.items place v)) }
     {
         places.of(id)
     }
@@ -77,7 +79,8 @@ impl Service {
     pub(crate) fn answer(&mut self, setup: &mut Setup, command: &Command) -> Result<Reply, NoMemory>
         requires { IsInOrder setup.old self.old }
         ensures answered { (rest : State) → IfOk result (λ reply.
-            step (state_at setup.old self.old rest) command.now ≡ answered_at setup.old self.new rest reply) }
+            step (state_at setup.old self.old rest) command.now
+            ≡ answered_at setup.old self.new rest reply) }
         ensures no_memory { OnErr result (self.new ≡ self.old) }
         ensures only_requests { IsErr result → IsRequest command.now }
         ensures setup { setup.new ≡ setup.old }
@@ -122,7 +125,8 @@ impl Service {
     #[tactic(auto, unfolding(ride_model::specs::Step::clock_step))]
     fn advance(&mut self, time: u64) -> Reply
         ensures { (setup : Given) (rest : State)
-            → clock_step (state_at setup self.old rest) time ≡ answered_at setup self.new rest result }
+            → clock_step (state_at setup self.old rest) time
+            ≡ answered_at setup self.new rest result }
     {
         if time > LATEST_TIME {
             return Reply::Refused { code: ODD_TIME };

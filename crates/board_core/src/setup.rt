@@ -4,13 +4,10 @@ ghost use Rattle.ride_model.specs.Fleet.{IsFleet};
 ghost use Rattle.ride_model.specs.Seating.{vehicle_ids};
 ghost use Rattle.ride_model.specs.Road.{IsRoadMap, IsNode, travel};
 ghost use Rattle.ride_model.specs.Step.{is_node};
-ghost use Rattle.adaptive_roads.specs.Shared.{IsMadeOf};
 
 use crate::places::Places;
-use adaptive_roads::TravelTimes;
+use adaptive_roads::{Roads, TravelTimes};
 use ride_model::{NoMemory, Settings, Vehicle};
-use road_hierarchy::Hierarchy;
-use road_times::Roads;
 use std::alloc::Global;
 use std::marker::Model;
 
@@ -49,7 +46,8 @@ impl<'r> Setup<'r> {
         fleet: &[Vehicle],
     ) -> Result<Setup<'r>, NoMemory>
         requires fleet { IsFleet fleet.now }
-        ensures setup { IfOk result (λ setup. setup ≡ record { roads = roads.now; settings = settings; ids = vehicle_ids fleet.now }) }
+        ensures setup { IfOk result (λ setup. setup
+            ≡ record { roads = roads.now; settings = settings; ids = vehicle_ids fleet.now }) }
         ensures fits { IsRoadMap roads.now }
     {
         let times = TravelTimes::new(alloc, roads)?;
@@ -81,12 +79,11 @@ impl<'r> Setup<'r> {
         1 <= number && number <= u64::from(self.times.roads().nodes())
     }
 
-    /// Goes on by a hierarchy of the roads. Where memory is wanting travel times come as before.
-    pub(crate) fn climb_by(&mut self, alloc: Global, hierarchy: &'r Hierarchy)
-        requires { IsMadeOf self.old.roads hierarchy.now }
+    /// Looks whether a hierarchy of the roads is there. May take memory; where it is wanting, travel times come as before.
+    pub(crate) fn look(&mut self)
         ensures { self.new ≡ self.old }
     {
-        self.times.climb_by(alloc, hierarchy);
+        self.times.look();
     }
 
     /// The travel time between two nodes, None where there is no way. Takes no memory.

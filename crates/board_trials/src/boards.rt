@@ -7,8 +7,8 @@ mod days;
 mod searches;
 mod shared;
 
+use adaptive_roads::Roads;
 use ride_model::Command;
-use road_times::Roads;
 use std::alloc::Global;
 use std::process::Abort;
 

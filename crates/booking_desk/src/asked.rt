@@ -76,7 +76,8 @@ fn booking_of(fields: &mut Fields<'_>) -> Option<Asked>
 
 /// The unbooking of an id.
 fn unbooking_of(fields: &mut Fields<'_>) -> Option<Asked>
-    ensures call { option_map as_call result ≡ option_and_then unbooking_of (numbers_of fields.old) }
+    ensures call { option_map as_call result
+        ≡ option_and_then unbooking_of (numbers_of fields.old) }
     ensures spelled { IfSome result IsSpelledAsked }
 {
     let numbers = fields.numbers::<1>()?;

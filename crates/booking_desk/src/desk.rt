@@ -134,7 +134,8 @@ impl BookingDesk {
     pub fn take_due(&mut self)
         requires { IsSome (due_of self.old) }
         ensures taken { self.new ≡ after_take self.old }
-        ensures stood_first { IfSome (due_of self.old) (λ booking. self.old.held ≡ booking ∷ self.new.held) }
+        ensures stood_first { IfSome (due_of self.old)
+            (λ booking. self.old.held ≡ booking ∷ self.new.held) }
     {
         self.held.pop_first();
     }

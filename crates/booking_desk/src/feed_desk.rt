@@ -58,11 +58,14 @@ impl FeedDesk {
     ) -> Result<(), NoMemory>
         requires few { self.old.lines < most_lines }
         requires spelled { AreSpelled self.old.desk.held }
-        ensures booked { (before : Option (List ℕ)) (faults : ℕ) (lines : List (List ℕ)) (whole : List ℕ)
+        ensures booked { (before : Option (List ℕ)) (faults : ℕ)
+            (lines : List (List ℕ)) (whole : List ℕ)
             → HasBooked before (K.written out.old) faults (K.faults out.old) self.old lines
             → line.now ≡ take 200 whole → over ≡ is_over_long whole → MatchResult result
-            (λ _. HasBooked before (K.written out.new) faults (K.faults out.new) self.new (lines ++ whole ∷ []))
-            (λ _. HasPut before (K.written out.new) faults (K.faults out.new) self.new.output (text_of_lines lines)) }
+            (λ _. HasBooked before (K.written out.new) faults (K.faults out.new)
+            self.new (lines ++ whole ∷ []))
+            (λ _. HasPut before (K.written out.new) faults (K.faults out.new)
+            self.new.output (text_of_lines lines)) }
         ensures spelled { IfOk result (λ _. AreSpelled self.new.desk.held) }
     {
         self.lines += 1;
@@ -92,9 +95,11 @@ impl FeedDesk {
     fn put_over_long<K: Sink>(&mut self, out: &mut K, line: &[u8])
         ensures desk { self.new.desk ≡ self.old.desk }
         ensures lines { self.new.lines ≡ self.old.lines }
-        ensures put { (before : Option (List ℕ)) (faults : ℕ) (text whole : List ℕ) → line.now ≡ take 200 whole
+        ensures put { (before : Option (List ℕ)) (faults : ℕ) (text whole : List ℕ)
+            → line.now ≡ take 200 whole
             → HasPut before (K.written out.old) faults (K.faults out.old) self.old.output text
-            → HasPut before (K.written out.new) faults (K.faults out.new) self.new.output (text ++ over_long_line whole) }
+            → HasPut before (K.written out.new) faults (K.faults out.new) self.new.output
+            (text ++ over_long_line whole) }
     {
         if is_comment(line) {
             put_line(&mut self.output, out, b"#");
@@ -113,14 +118,18 @@ impl FeedDesk {
         requires request { IsRequest request.now }
         requires text { IsSpelledCommand 2 request.now }
         requires spelled { AreSpelled self.old.desk.held }
-        ensures desk { IfOk result (λ _. self.new.desk ≡ after_book self.old.desk release request.now) }
+        ensures desk { IfOk result (λ _. self.new.desk
+            ≡ after_book self.old.desk release request.now) }
         ensures lines { self.new.lines ≡ self.old.lines }
         ensures spelled { IfOk result (λ _. AreSpelled self.new.desk.held) }
         ensures put { (before : Option (List ℕ)) (faults : ℕ) (text : List ℕ)
-            → HasPut before (K.written out.old) faults (K.faults out.old) self.old.output text → MatchResult result
+            → HasPut before (K.written out.old) faults (K.faults out.old) self.old.output text
+            → MatchResult result
             (λ _. HasPut before (K.written out.new) faults (K.faults out.new) self.new.output
-            (text ++ reply_text (reply_to_book self.old.desk release request.now) self.old.lines request.now))
-            (λ _. HasPut before (K.written out.new) faults (K.faults out.new) self.new.output text) }
+            (text ++ reply_text (reply_to_book self.old.desk release
+            request.now) self.old.lines request.now))
+            (λ _. HasPut before (K.written out.new) faults
+            (K.faults out.new) self.new.output text) }
     {
         let reply = self.desk.book(release, request)?;
         match reply {
@@ -145,7 +154,8 @@ impl FeedDesk {
         ensures put { (before : Option (List ℕ)) (faults : ℕ) (text : List ℕ)
             → HasPut before (K.written out.old) faults (K.faults out.old) self.old.output text
             → HasPut before (K.written out.new) faults (K.faults out.new) self.new.output
-            (text ++ (if is_held id self.old.desk.held then [] else refusal_line 21 self.old.lines)) }
+            (text ++ (if is_held id self.old.desk.held then []
+            else refusal_line 21 self.old.lines)) }
     {
         if self.desk.unbook(id) {
             return;
@@ -160,7 +170,8 @@ impl FeedDesk {
         ensures spelled { AreSpelled self.new.desk.held }
         ensures desk { (calls : List DeskCall) → self.old.desk ≡ desk_after most_bookings calls
             → self.new.desk ≡ desk_after most_bookings (calls ++ clock time ∷ []) }
-        ensures put { (calls : List DeskCall) (before : Option (List ℕ)) (faults : ℕ) (text : List ℕ)
+        ensures put { (calls : List DeskCall)
+            (before : Option (List ℕ)) (faults : ℕ) (text : List ℕ)
             → self.old.desk ≡ desk_after most_bookings calls
             → HasPut before (K.written out.old) faults (K.faults out.old) self.old.output text
             → HasPut before (K.written out.new) faults (K.faults out.new) self.new.output
@@ -175,7 +186,9 @@ impl FeedDesk {
         ensures desk { self.new.desk ≡ self.old.desk }
         ensures put { (before : Option (List ℕ)) (faults : ℕ) (text : List ℕ)
             → HasPut before (K.written out.old) faults (K.faults out.old) self.old.output text
-            → HasPut before (K.written out.new) faults (K.faults out.new) self.new.output (text ++ held_line (length self.old.desk.held)) }
+            → HasPut before (K.written out.new) faults (K.faults out.new) self.new.output
+            (text ++ held_line (length self.old.desk.held)) }
+        ensures still_failed { self.old.output.failed ≡ true → self.new.output.failed ≡ true }
     {
         put_held(&mut self.output, out, self.desk.held());
     }
@@ -198,12 +211,15 @@ impl FeedDesk {
 fn release_due<K: Sink>(desk: &mut BookingDesk, output: &mut Output, out: &mut K)
     requires spelled { AreSpelled desk.old.held }
     ensures spelled { AreSpelled desk.new.held }
-    ensures desk { (calls : List DeskCall) (due : List Booking) → desk.old ≡ with_due calls due → AreDue (clock_of calls) due
+    ensures desk { (calls : List DeskCall) (due : List Booking) → desk.old ≡ with_due calls due
+        → AreDue (clock_of calls) due
         → desk.new ≡ desk_after most_bookings calls }
-    ensures put { (calls : List DeskCall) (due : List Booking) (before : Option (List ℕ)) (faults : ℕ) (text : List ℕ)
+    ensures put { (calls : List DeskCall) (due : List Booking)
+        (before : Option (List ℕ)) (faults : ℕ) (text : List ℕ)
         → desk.old ≡ with_due calls due → AreDue (clock_of calls) due
         → HasPut before (K.written out.old) faults (K.faults out.old) output.old text
-        → HasPut before (K.written out.new) faults (K.faults out.new) output.new (text ++ released_text due) }
+        → HasPut before (K.written out.new) faults (K.faults out.new)
+        output.new (text ++ released_text due) }
 {
     while let Some(request) = desk.due() {
         put_request(output, out, &request);

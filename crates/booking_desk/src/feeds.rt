@@ -1,8 +1,8 @@
 //! Feeds with bookings, and the plain feeds that they give.
 ghost use Rattle.std.specs.List.{list_any};
-ghost use Rattle.std.specs.Prelude.{◌≡◌, ◌==◌, ℕ, ◌≤◌, [], true, false, List, Option, IfNone, IfOk, IfSome, IsTrue};
+ghost use Rattle.std.specs.Prelude.{◌≡◌, ◌==◌, ℕ, [], false, List, Option, IfNone, IfOk, IfSome};
 ghost use Rattle.ride_ports.specs.Bytes.{Reads};
-ghost use Rattle.ride_ports.specs.Count.{Rose};
+ghost use Rattle.ride_ports.specs.Count.{KeepsCount};
 ghost use Rattle.line_reader.specs.FeedRuns.{HasRun, IsReadWhole, IsUnhindered, is_source_failed};
 ghost use Rattle.line_reader.specs.Limits.{IsWithinLimits};
 ghost use Rattle.line_reader.specs.Reader.{HasGiven};
@@ -17,9 +17,8 @@ ghost use Rattle.booking_desk.specs.Desk.{most_bookings};
 
 use crate::NoMemory;
 use crate::feed_desk::FeedDesk;
-use command_lines::limits::{MOST_BYTES, MOST_LINES};
-use line_reader::{Limits, LineReader, NextLine, Stop, ran_of};
-use line_text::MOST_LINE;
+use command_lines::FEED_LIMITS;
+use line_reader::{LineReader, NextLine, Stop, ran_of};
 use ride_ports::{Ran, Sink, Source};
 use std::alloc::Global;
 
@@ -32,14 +31,13 @@ pub fn book_feed<S: Source, K: Sink>(alloc: Global, feed: &mut S, out: &mut K) -
     // What was written is the plain feed of what was taken.
     ensures text { (taken : List ℕ) × Reads (S.left feed.old) (S.left feed.new) taken
         × IsBooked result (S.left feed.old) taken (K.written out.old) (K.written out.new) }
-    ensures to_end { IsUnhindered result → IsReadWhole result → IfSome (S.left feed.new) (λ bytes. bytes ≡ []) }
-    ensures short_enough { IfSome (S.left feed.old) (λ bytes. IsWithinLimits feed_limits bytes → result.too_long ≡ false) }
-    ensures source_fault { IsTrue result.source_failed → Rose (S.faults feed.old) (S.faults feed.new) }
-    ensures source_counts_none { result.source_failed ≡ false → S.faults feed.new ≡ S.faults feed.old }
-    ensures source_never_falls { S.faults feed.old ≤ S.faults feed.new }
-    ensures sink_fault { IsTrue result.sink_failed → Rose (K.faults out.old) (K.faults out.new) }
-    ensures sink_counts_none { result.sink_failed ≡ false → K.faults out.new ≡ K.faults out.old }
-    ensures sink_never_falls { K.faults out.old ≤ K.faults out.new }
+    ensures to_end { IsUnhindered result → IsReadWhole result
+        → IfSome (S.left feed.new) (λ bytes. bytes ≡ []) }
+    ensures short_enough { IfSome (S.left feed.old)
+        (λ bytes. IsWithinLimits feed_limits bytes → result.too_long ≡ false) }
+    ensures source_faults { KeepsCount result.source_failed
+        (S.faults feed.old) (S.faults feed.new) }
+    ensures sink_faults { KeepsCount result.sink_failed (K.faults out.old) (K.faults out.new) }
 {
     let Ok((mut reader, mut desk)) = begun(alloc) else {
         return ran_of(Some(Stop::NoMemory), false);
@@ -56,17 +54,12 @@ fn begun(alloc: Global) -> Result<(LineReader, FeedDesk), NoMemory>
     ensures nothing_pending { IfOk result (λ made. made.0.pending ≡ []) }
     ensures nothing_done { IfOk result (λ made. IsNew made.1) }
 {
-    let limits = Limits {
-        line: MOST_LINE,
-        bytes: MOST_BYTES,
-        lines: MOST_LINES,
-    };
-    let reader = LineReader::new(alloc, limits)?;
+    let reader = LineReader::new(alloc, FEED_LIMITS)?;
     let desk = FeedDesk::new(alloc)?;
     Ok((reader, desk))
 }
 
-/// Books a feed to its end, with the last line, or until something stops it.
+/// Books a feed to its end, with the last line, or until something stops it or the sink fails.
 fn run_feed<S: Source, K: Sink>(
     reader: &mut LineReader,
     desk: &mut FeedDesk,
@@ -78,11 +71,11 @@ fn run_feed<S: Source, K: Sink>(
     requires nothing_pending { reader.old.pending ≡ [] }
     requires nothing_done { IsNew desk.old }
     ensures ran { (taken : List ℕ) × (lines : List (List ℕ))
-        × HasRun feed_limits (S.left feed.old) (S.left feed.new) result desk.new.output.failed taken lines
-        × HasPut (K.written out.old) (K.written out.new) (K.faults out.old) (K.faults out.new) desk.new.output (run_text result lines) }
-    ensures fault { IsTrue (is_source_failed result) → Rose (S.faults feed.old) (S.faults feed.new) }
-    ensures other_counts_none { is_source_failed result ≡ false → S.faults feed.new ≡ S.faults feed.old }
-    ensures count_never_falls { S.faults feed.old ≤ S.faults feed.new }
+        × HasRun feed_limits (S.left feed.old) (S.left feed.new) result
+        desk.new.output.failed taken lines
+        × HasPut (K.written out.old) (K.written out.new) (K.faults out.old) (K.faults out.new)
+        desk.new.output (run_text result lines) }
+    ensures faults { KeepsCount (is_source_failed result) (S.faults feed.old) (S.faults feed.new) }
 {
     match take_lines(reader, desk, feed, out) {
         None => {
@@ -93,7 +86,7 @@ fn run_feed<S: Source, K: Sink>(
     }
 }
 
-/// Takes the lines of a feed to its end, or until something stops it.
+/// Takes the lines of a feed to its end, or until something stops it or the sink fails.
 fn take_lines<S: Source, K: Sink>(
     reader: &mut LineReader,
     desk: &mut FeedDesk,
@@ -105,12 +98,12 @@ fn take_lines<S: Source, K: Sink>(
     requires nothing_pending { reader.old.pending ≡ [] }
     requires nothing_done { IsNew desk.old }
     ensures ran { (taken : List ℕ) × (lines : List (List ℕ))
-        × HasRun feed_limits (S.left feed.old) (S.left feed.new) result desk.new.output.failed taken lines
-        × HasPut (K.written out.old) (K.written out.new) (K.faults out.old) (K.faults out.new) desk.new.output (text_of_lines lines)
+        × HasRun feed_limits (S.left feed.old) (S.left feed.new) result
+        desk.new.output.failed taken lines
+        × HasPut (K.written out.old) (K.written out.new) (K.faults out.old) (K.faults out.new)
+        desk.new.output (text_of_lines lines)
         × IfNone result (desk.new.desk ≡ desk_after most_bookings (calls_in lines)) }
-    ensures fault { IsTrue (is_source_failed result) → Rose (S.faults feed.old) (S.faults feed.new) }
-    ensures other_counts_none { is_source_failed result ≡ false → S.faults feed.new ≡ S.faults feed.old }
-    ensures count_never_falls { S.faults feed.old ≤ S.faults feed.new }
+    ensures faults { KeepsCount (is_source_failed result) (S.faults feed.old) (S.faults feed.new) }
 {
     'lines: loop {
         match reader.next(feed) {
@@ -129,14 +122,15 @@ fn take_lines<S: Source, K: Sink>(
         }
         write_before_wait(reader, desk, out);
         if desk.failed() {
-            return Some(Stop::SinkFailed);
+            return None;
         }
     }
 }
 
 /// Writes all that is not written yet, where the feed's next line may have to be waited for.
 fn write_before_wait<K: Sink>(reader: &LineReader, desk: &mut FeedDesk, out: &mut K)
-    ensures written { list_any (λ byte. byte == 10) reader.now.pending ≡ false → desk.new.output.failed ≡ false → desk.new.output.page ≡ [] }
+    ensures written { list_any (λ byte. byte == 10) reader.now.pending ≡ false
+        → desk.new.output.failed ≡ false → desk.new.output.page ≡ [] }
     ensures desk { desk.new.desk ≡ desk.old.desk }
     ensures lines { desk.new.lines ≡ desk.old.lines }
     ensures put { (before : Option (List ℕ)) (faults : ℕ) (text : List ℕ)

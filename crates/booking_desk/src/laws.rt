@@ -21,7 +21,8 @@ pub fn bookings_are_taken_once()
     // Once an id was booked and is unbooked, no steps take it.
     ensures not_after_unbook { (most : ℕ) (before after : List DeskStep) (id : ℕ)
         → let desk = after_steps (new_desk most) before
-        in is_booked id desk.booked ≡ true → is_held id (taken_by (after_unbook desk id) after) ≡ false }
+        in is_booked id desk.booked ≡ true
+        → is_held id (taken_by (after_unbook desk id) after) ≡ false }
 {}
 
 /// Where all that are due are taken after each call, the bookings that are taken are those that are released and were not

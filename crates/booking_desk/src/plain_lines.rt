@@ -1,5 +1,5 @@
 //! The lines of the plain feed that a feed with bookings gives.
-ghost use Rattle.std.specs.Prelude.{◌≡◌};
+ghost use Rattle.std.specs.Prelude.{◌≡◌, true};
 ghost use Rattle.ride_model.specs.Text.{IsSpelledCommand};
 ghost use Rattle.command_lines.specs.Commands.{spelling_of};
 ghost use Rattle.text_page.specs.Output.{Puts};
@@ -14,7 +14,8 @@ use text_page::Output;
 
 /// Puts bytes as a line.
 pub(crate) fn put_line<K: Sink>(output: &mut Output, out: &mut K, bytes: &[u8])
-    ensures { Puts (K.written out.old) (K.faults out.old) output.old (K.written out.new) (K.faults out.new) output.new (with_lf bytes.now) }
+    ensures { Puts (K.written out.old) (K.faults out.old) output.old (K.written out.new)
+        (K.faults out.new) output.new (with_lf bytes.now) }
 {
     output.put(out, bytes);
     output.put(out, b"\n");
@@ -24,7 +25,8 @@ pub(crate) fn put_line<K: Sink>(output: &mut Output, out: &mut K, bytes: &[u8])
 pub(crate) fn put_request<K: Sink>(output: &mut Output, out: &mut K, request: &Command)
     requires request { IsRequest request.now }
     requires spelled { IsSpelledCommand 2 request.now }
-    ensures { Puts (K.written out.old) (K.faults out.old) output.old (K.written out.new) (K.faults out.new) output.new (request_line request.now) }
+    ensures { Puts (K.written out.old) (K.faults out.old) output.old (K.written out.new)
+        (K.faults out.new) output.new (request_line request.now) }
 {
     put_spelling(output, out, request);
     output.put(out, b"\n");
@@ -34,7 +36,8 @@ pub(crate) fn put_request<K: Sink>(output: &mut Output, out: &mut K, request: &C
 fn put_spelling<K: Sink>(output: &mut Output, out: &mut K, request: &Command)
     requires request { IsRequest request.now }
     requires spelled { IsSpelledCommand 2 request.now }
-    ensures { Puts (K.written out.old) (K.faults out.old) output.old (K.written out.new) (K.faults out.new) output.new
+    ensures { Puts (K.written out.old) (K.faults out.old) output.old
+        (K.written out.new) (K.faults out.new) output.new
         (spelling_of (spelled_for request.now) request.now) }
 {
     if output.failed() {
@@ -54,7 +57,8 @@ fn put_spelling<K: Sink>(output: &mut Output, out: &mut K, request: &Command)
 
 /// Puts the line of a refusal of the line of a number.
 pub(crate) fn put_refusal<K: Sink>(output: &mut Output, out: &mut K, code: u8, number: u64)
-    ensures { Puts (K.written out.old) (K.faults out.old) output.old (K.written out.new) (K.faults out.new) output.new (refusal_line code number) }
+    ensures { Puts (K.written out.old) (K.faults out.old) output.old (K.written out.new)
+        (K.faults out.new) output.new (refusal_line code number) }
 {
     output.put(out, b"# refused ");
     output.put(out, put_number(u64::from(code)).as_slice());
@@ -65,7 +69,9 @@ pub(crate) fn put_refusal<K: Sink>(output: &mut Output, out: &mut K, code: u8, n
 
 /// Puts the line of how many bookings are held.
 pub(crate) fn put_held<K: Sink>(output: &mut Output, out: &mut K, count: u32)
-    ensures { Puts (K.written out.old) (K.faults out.old) output.old (K.written out.new) (K.faults out.new) output.new (held_line count) }
+    ensures put { Puts (K.written out.old) (K.faults out.old) output.old
+        (K.written out.new) (K.faults out.new) output.new (held_line count) }
+    ensures still_failed { output.old.failed ≡ true → output.new.failed ≡ true }
 {
     output.put(out, b"# held ");
     output.put(out, put_number(u64::from(count)).as_slice());

@@ -24,7 +24,8 @@ impl BookingDesk {
         requires feed { MayFeed board.now pass.old }
         requires few { length (commands_in (knowledge pass.old).own) ≤ most_earlier_commands }
         requires spelled { All (λ (booking : Booking).
-            IsSpelledCommand (root_of (knowledge pass.old)).start.settings.log booking.request) self.old.held }
+            IsSpelledCommand (root_of (knowledge pass.old)).start.settings.log
+            booking.request) self.old.held }
         ensures feed { MayFeed board.now pass.new }
         ensures released { (released : List Booking)
             × HasSubmitted self.old self.new (knowledge pass.old) (knowledge pass.new) released

@@ -1,7 +1,7 @@
 //! Requests in their canonical spelling.
-ghost use Rattle.std.specs.Prelude.{◌≡◌, ◌≢◌, ◌≤◌, ℕ, OnOk, OnErr};
+ghost use Rattle.std.specs.Prelude.{◌≡◌, ◌≢◌, ◌≤◌, ℕ, OnOk, OnErr, is_err};
 ghost use Rattle.ride_ports.specs.Bytes.{Writes, WritesPrefix};
-ghost use Rattle.ride_ports.specs.Count.{Rose};
+ghost use Rattle.ride_ports.specs.Count.{KeepsCount};
 ghost use Rattle.ride_model.specs.declared.command.Command.TheVariants.{Bad};
 ghost use Rattle.ride_model.specs.Text.{IsOneOrTwo, IsSpelledCommand};
 ghost use Rattle.command_lines.specs.Commands.{spelling_of};
@@ -16,12 +16,12 @@ use ride_ports::{Failed, Sink};
 pub(crate) fn print_request<K: Sink>(request: &Command, sink: &mut K) -> Result<(), Failed>
     requires request { IsRequest request.now }
     requires spelled { IsSpelledCommand 2 request.now }
-    ensures whole { OnOk result (Writes (K.written sink.old) (K.written sink.new) (spelling_of (spelled_for request.now) request.now)) }
+    ensures whole { OnOk result (Writes (K.written sink.old) (K.written sink.new)
+        (spelling_of (spelled_for request.now) request.now)) }
     ensures prefix { OnErr result
-        (WritesPrefix (K.written sink.old) (K.written sink.new) (spelling_of (spelled_for request.now) request.now)) }
-    ensures failed_only_at_fault { OnErr result (Rose (K.faults sink.old) (K.faults sink.new)) }
-    ensures ok_counts_none { OnOk result (K.faults sink.new ≡ K.faults sink.old) }
-    ensures count_never_falls { K.faults sink.old ≤ K.faults sink.new }
+        (WritesPrefix (K.written sink.old) (K.written sink.new)
+        (spelling_of (spelled_for request.now) request.now)) }
+    ensures faults { KeepsCount (is_err result) (K.faults sink.old) (K.faults sink.new) }
 {
     print_command(request, spelled_for(request), sink)
 }

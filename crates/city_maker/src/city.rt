@@ -1,9 +1,7 @@
 //! Cities.
-ghost use Rattle.std.specs.Prelude.{◌≡◌, [], All, IfOk};
-ghost use Rattle.ride_model.specs.declared.vehicle.Vehicle.{Vehicle};
-ghost use Rattle.ride_model.specs.Settings.{IsSettings};
+ghost use Rattle.std.specs.Prelude.{◌≡◌, All, IfOk};
+ghost use Rattle.ride_model.specs.Fleet.{MayStart};
 ghost use Rattle.ride_model.specs.Text.{IsSpelledCommand};
-ghost use Rattle.ride_model.specs.Vehicle.{IsLawful};
 ghost use Rattle.city_maker.specs.Plan.{IsPlan};
 ghost use Rattle.city_maker.specs.Roads.{network_of};
 ghost use Rattle.city_maker.specs.Fleets.{default_settings, fleet_of};
@@ -48,11 +46,7 @@ pub fn make_city(alloc: Global, plan: &CityPlan) -> Result<City, NoMemory>
     ensures fleet { IfOk result (λ city. city.fleet ≡ fleet_of plan.now) }
     ensures commands { IfOk result (λ city. city.commands ≡ commands_of plan.now) }
 
-    // The settings are within their ranges, and each vehicle is as a fleet starts: lawful over the map, idle, of version 0.
-    ensures settings_fit { IfOk result (λ city. IsSettings city.settings) }
-    ensures lawful { IfOk result (λ city. All (IsLawful city.network) city.fleet) }
-    ensures idle { IfOk result (λ city. All (λ (v : Vehicle). v.stops.items ≡ []) city.fleet) }
-    ensures first_versions { IfOk result (λ city. All (λ (v : Vehicle). v.version ≡ 0) city.fleet) }
+    ensures start { IfOk result (λ city. MayStart city.network city.settings city.fleet) }
 
     // Each command has a text, and each node that it names is on the map.
     ensures spelled { IfOk result (λ city. All (IsSpelledCommand 1) city.commands) }

@@ -29,7 +29,8 @@ impl Draws {
     pub fn draw(&mut self, bound: u32) -> u32
         requires { 0 < bound }
         ensures below { result < bound }
-        ensures value { (seed before : ℕ) → self.old.state ≡ state_after seed before → result ≡ draw_at seed before bound }
+        ensures value { (seed before : ℕ) → self.old.state ≡ state_after seed before
+            → result ≡ draw_at seed before bound }
         ensures state { (seed before : ℕ) → self.old.state ≡ state_after seed before
             → self.new.state ≡ state_after seed (before + 1) }
     {

@@ -44,10 +44,13 @@ fn push_group(
 ) -> Result<(), NoMemory>
     requires plan { IsPlan plan.now }
     requires in_feed { group < groups_of plan.now }
-    requires drawn { draws.old.state ≡ state_after plan.now.seed (draws_before plan.now (8 * group)) }
-    ensures commands { OnOk result (commands.new.items ≡ commands.old.items ++ group_of plan.now group) }
+    requires drawn { draws.old.state
+        ≡ state_after plan.now.seed (draws_before plan.now (8 * group)) }
+    ensures commands { OnOk result
+        (commands.new.items ≡ commands.old.items ++ group_of plan.now group) }
     ensures drawn { OnOk result (draws.new.state
-        ≡ state_after plan.now.seed (draws_before plan.now (min plan.now.requests (8 * (group + 1))))) }
+        ≡ state_after plan.now.seed (draws_before plan.now
+        (min plan.now.requests (8 * (group + 1))))) }
 {
     let clock = GROUP_SECONDS * u64::from(group);
     commands.push(Command::Clock { time: clock })?;
@@ -65,10 +68,13 @@ fn push_requests(
 ) -> Result<(), NoMemory>
     requires plan { IsPlan plan.now }
     requires in_feed { group < groups_of plan.now }
-    requires drawn { draws.old.state ≡ state_after plan.now.seed (draws_before plan.now (8 * group)) }
-    ensures commands { OnOk result (commands.new.items ≡ commands.old.items ++ requests_in plan.now group) }
+    requires drawn { draws.old.state
+        ≡ state_after plan.now.seed (draws_before plan.now (8 * group)) }
+    ensures commands { OnOk result
+        (commands.new.items ≡ commands.old.items ++ requests_in plan.now group) }
     ensures drawn { OnOk result (draws.new.state
-        ≡ state_after plan.now.seed (draws_before plan.now (min plan.now.requests (8 * (group + 1))))) }
+        ≡ state_after plan.now.seed (draws_before plan.now
+        (min plan.now.requests (8 * (group + 1))))) }
 {
     let first = group * GROUP;
     let end = plan.requests.min(first + GROUP);
@@ -84,7 +90,8 @@ fn request(plan: &CityPlan, before: u32, draws: &mut Draws) -> Command
     requires in_feed { before < plan.now.requests }
     requires drawn { draws.old.state ≡ state_after plan.now.seed (draws_before plan.now before) }
     ensures request { result ≡ request_of plan.now before }
-    ensures drawn { draws.new.state ≡ state_after plan.now.seed (draws_before plan.now (before + 1)) }
+    ensures drawn { draws.new.state
+        ≡ state_after plan.now.seed (draws_before plan.now (before + 1)) }
 {
     let nodes = plan.side * plan.side;
     let from = 1 + draws.draw(nodes);

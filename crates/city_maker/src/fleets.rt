@@ -34,7 +34,8 @@ fn vehicle(plan: &CityPlan, before: u32, draws: &mut Draws) -> Vehicle
     requires in_fleet { before < plan.now.vehicles }
     requires drawn { draws.old.state ≡ state_after plan.now.seed (road_draws plan.now + before) }
     ensures vehicle { result ≡ vehicle_of plan.now before }
-    ensures drawn { draws.new.state ≡ state_after plan.now.seed (road_draws plan.now + (before + 1)) }
+    ensures drawn { draws.new.state
+        ≡ state_after plan.now.seed (road_draws plan.now + (before + 1)) }
 {
     Vehicle {
         id: u64::from(before) + 1,

@@ -20,7 +20,8 @@ pub fn seed_1_draws_known_numbers()
 
 /// Each request is given once, in order, whatever the groups.
 pub fn requests_are_given_in_order()
-    ensures { (plan : CityPlan) → filter is_request (commands_of plan) ≡ map (request_of plan) (range_with_len 0 plan.requests) }
+    ensures { (plan : CityPlan) → filter is_request (commands_of plan)
+        ≡ map (request_of plan) (range_with_len 0 plan.requests) }
 {}
 
 /// What the steps of a drill give is what feed 1 gives, in order.

@@ -6,15 +6,14 @@ use Rattle.ride_model.specs.declared.command.Command.{Command}
 use Rattle.ride_model.specs.Text.{IsOneOrTwo}
 use Rattle.line_text.specs.Lines.{ended_after, ended_lines, last_line, lines_of}
 use Rattle.line_text.proofs.LineLemmas.{last_line-some}
-use Rattle.line_reader.specs.declared.answers.ReadStop.TheVariants.{SourceFailed as ReadFailed, TooLong as ReadTooLong}
+use Rattle.line_reader.specs.declared.answers.ReadStop.{ReadStop}
 use Rattle.line_reader.specs.declared.limits.Limits.{Limits}
-use Rattle.line_reader.specs.Limits.{IsTooLong as IsTooLongText, IsWithinLimits as IsWithin, lines_within}
-use Rattle.line_reader.specs.Reader.{ReaderState, IsAtEnd, IsNextLine, HasGiven as HasGivenLines, IsStopped as IsStoppedText}
+use Rattle.line_reader.specs.Limits.{IsWithinLimits, lines_within}
+use Rattle.line_reader.specs.Reader.{ReaderState, StopsAt, IsAtEnd, IsNextLine, HasGiven as HasGivenLines, IsStopped as IsStoppedText}
 use Rattle.line_reader.proofs.FeedLines.{lines-at_end}
-use Rattle.command_lines.specs.declared.pieces.FeedStop.TheVariants.{SourceFailed, TooLong}
 use Rattle.command_lines.specs.Commands.{before, commands_from, commands_of, said_by}
 use Rattle.command_lines.specs.Feeds.{FeedState, HasCut, HasGiven, IsStopped, IsWhole}
-use Rattle.command_lines.specs.Limits.{AreFirst, IsTooLong, IsWithinLimits, ended_commands, feed_limits}
+use Rattle.command_lines.specs.Limits.{AreFirst, ended_commands, feed_limits}
 use Rattle.command_lines.proofs.LineCommands.{commands_from-append, commands_from-one, ended-first, length-commands_from-le}
 
 -- what a reader that goes on has given
@@ -106,16 +105,11 @@ module _ (old new : FeedState) (left : Option (List ℕ)) (commands : List Comma
             ∙ ap (λ n. commands_from n 1 (ended_lines (has.cut ++ line ++ 10 ∷ []))) (sym log);
       })
 
-  within-feed : (l : List ℕ) → IsWithin old.lines.limits l → IsWithinLimits l
-  within-feed l within = record {
-    few_bytes = omega (arith, within.few_bytes, ap (λ (limits : Limits). limits.bytes) has.limits);
-    few_lines = omega (arith, within.few_lines, ap (λ (limits : Limits). limits.lines) has.limits);
-  }
-
   whole : (all : List Command) → new.ended ≡ true → IsAtEnd left old.lines.limits has.cut (old.lines.pending ++ more)
       → all ≡ commands_of old.log (has.cut ++ (old.lines.pending ++ more)) → HasGiven new left all (bytes ++ more)
   whole all ended end are = given-whole new left all (bytes ++ more) ended (subst IsOneOrTwo (sym log) fits) (record {
-    within = subst IsWithinLimits (sym came-is) (within-feed (has.cut ++ (old.lines.pending ++ more)) end.within);
+    within = subst (λ (l : List ℕ). IsWithinLimits feed_limits l) (sym came-is)
+        (subst (λ (l : Limits). IsWithinLimits l (has.cut ++ (old.lines.pending ++ more))) has.limits end.within);
     commands_are = are ∙ ap (commands_of old.log) (sym came-is) ∙ ap (λ n. commands_of n (bytes ++ more)) (sym log);
     to_end = end.to_end;
   })
@@ -146,17 +140,11 @@ module _ (old new : FeedState) (left : Option (List ℕ)) (commands : List Comma
       ∙ ap (λ (l : Limits). commands_from old.log 1 (lines_within l (has.cut ++ (old.lines.pending ++ more)))) has.limits
       ∙ ap (ended_commands old.log) (sym came-is)
 
-  pub stopped-failed : IsStoppedText old.lines.limits has.cut (old.lines.pending ++ more) ReadFailed → IsStopped old.log SourceFailed commands (bytes ++ more)
-  stopped-failed stopped = (
-    subst IsWithinLimits (sym came-is) (within-feed (has.cut ++ (old.lines.pending ++ more)) stopped.why),
-    ended-are stopped.lines_are,
-  )
-
-  pub stopped-long : IsStoppedText old.lines.limits has.cut (old.lines.pending ++ more) ReadTooLong → IsStopped old.log TooLong commands (bytes ++ more)
-  stopped-long stopped = (
-    subst IsTooLong (sym came-is)
-        (subst (λ (l : Limits). IsTooLongText l (has.cut ++ (old.lines.pending ++ more))) has.limits stopped.why),
-    ended-are stopped.lines_are,
+  pub stopped : (stop : ReadStop) → IsStoppedText old.lines.limits has.cut (old.lines.pending ++ more) stop → IsStopped old.log stop commands (bytes ++ more)
+  stopped stop has_stopped = (
+    subst (λ (l : List ℕ). StopsAt feed_limits l stop) (sym came-is)
+        (subst (λ (l : Limits). StopsAt l (has.cut ++ (old.lines.pending ++ more)) stop) has.limits has_stopped.why),
+    ended-are has_stopped.lines_are,
   )
 
 -- a feed gives at most 1,000,000 commands

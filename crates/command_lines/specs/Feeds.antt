@@ -4,23 +4,23 @@ use Rattle.std.specs.Prelude.{◌≡◌, ◌==◌, ◌&&◌, ℕ, ◌+◌, Bool,
 use Rattle.ride_model.specs.declared.command.Command.{Command}
 use Rattle.ride_model.specs.Text.{IsOneOrTwo}
 use Rattle.line_text.specs.Lines.{ended_lines}
-use Rattle.line_reader.specs.Reader.{ReaderState, HasGiven as HasGivenLines}
-use Rattle.command_lines.specs.declared.pieces.FeedStop.{FeedStop}
-use Rattle.command_lines.specs.declared.pieces.FeedStop.TheVariants.{SourceFailed, TooLong}
+use Rattle.line_reader.specs.declared.answers.ReadStop.{ReadStop}
+use Rattle.line_reader.specs.Limits.{IsWithinLimits}
+use Rattle.line_reader.specs.Reader.{ReaderState, StopsAt, HasGiven as HasGivenLines}
 use Rattle.command_lines.specs.Commands.{commands_from, commands_of}
-use Rattle.command_lines.specs.Limits.{IsTooLong, IsWithinLimits, ended_commands, feed_limits}
+use Rattle.command_lines.specs.Limits.{ended_commands, feed_limits}
 
 -- a feed was read to its end: these are the commands of all its bytes, of which none is left
 pub record IsWhole (log : ℕ) (left : Option (List ℕ)) (commands : List Command) (bytes : List ℕ) : Type 0 where
-  pub within : IsWithinLimits bytes
+  pub within : IsWithinLimits feed_limits bytes
   pub commands_are : commands ≡ commands_of log bytes
   pub to_end : IfSome left (λ rest. rest ≡ [])
 
 -- a feed was stopped after these bytes: these are the commands of the lines that an LF ends within the limits. The source
 -- failed within the limits, or the bytes pass them
-abbrev pub IsStopped : ℕ → FeedStop → List Command → List ℕ → Type 0
-IsStopped log SourceFailed commands bytes = IsWithinLimits bytes × (commands ≡ ended_commands log bytes)
-IsStopped log TooLong commands bytes = IsTooLong bytes × (commands ≡ ended_commands log bytes)
+abbrev pub IsStopped : ℕ → ReadStop → List Command → List ℕ → Type 0
+IsStopped log stop commands bytes =
+    StopsAt feed_limits bytes stop × (commands ≡ ended_commands log bytes)
 
 -- a reader of a feed: the version of the log, the reader of its lines, and whether it was read to its end
 pub record FeedState : Type 0 where

@@ -1,19 +1,16 @@
 //! The commands of a feed, one after the other.
-ghost use Rattle.std.specs.Prelude.{◌≡◌, ◌≢◌, ℕ, ◌<◌, ◌≤◌, ◌++◌, ◌∷◌, [], false, List, Option, Err, IfOk, IfSome, MatchBool, MatchOption, MatchResult};
+ghost use Rattle.std.specs.Prelude.{◌≡◌, ℕ, ◌<◌, ◌≤◌, ◌++◌, ◌∷◌, [], false, List, Option, IfOk, IfSome, MatchBool, MatchOption, MatchResult};
 ghost use Rattle.ride_model.specs.declared.command.Command.{Command};
 ghost use Rattle.ride_model.specs.Text.{IsOneOrTwo, IsSpelledCommand};
 ghost use Rattle.ride_ports.specs.Bytes.{Reads};
-ghost use Rattle.ride_ports.specs.Count.{Rose};
-ghost use Rattle.line_reader.specs.Reader.{IsShown};
-ghost use Rattle.command_lines.specs.declared.pieces.FeedStop.TheVariants.{SourceFailed};
+ghost use Rattle.ride_ports.specs.Count.{KeepsCount};
+ghost use Rattle.line_reader.specs.Reader.{IsShown, is_fault};
 ghost use Rattle.command_lines.specs.Commands.{before, said_by};
 ghost use Rattle.command_lines.specs.Feeds.{HasCut, HasGiven, IsStopped, IsWhole, begins_with_letter, is_ready, lines_ahead};
 
-use crate::limits::{MOST_BYTES, MOST_LINES};
-use crate::pieces::FeedStop;
+use crate::limits::FEED_LIMITS;
 use crate::reading::read_feed_line;
-use line_reader::{Limits, LineReader, NextLine, ReadStop};
-use line_text::MOST_LINE;
+use line_reader::{LineReader, NextLine, ReadStop};
 use ride_model::{Command, NoMemory};
 use ride_ports::Source;
 use std::alloc::Global;
@@ -41,14 +38,10 @@ impl FeedReader {
     pub fn new(alloc: Global, log: u8) -> Result<FeedReader, NoMemory>
         requires { IsOneOrTwo log }
         ensures log { IfOk result (λ reader. reader.log ≡ log) }
-        ensures nothing_given { IfOk result (λ reader. (left : Option (List ℕ)) → HasGiven reader left [] []) }
+        ensures nothing_given { IfOk result
+            (λ reader. (left : Option (List ℕ)) → HasGiven reader left [] []) }
     {
-        let limits = Limits {
-            line: MOST_LINE,
-            bytes: MOST_BYTES,
-            lines: MOST_LINES,
-        };
-        let lines = LineReader::new(alloc, limits)?;
+        let lines = LineReader::new(alloc, FEED_LIMITS)?;
         Ok(FeedReader {
             log,
             lines,
@@ -65,22 +58,23 @@ impl FeedReader {
     }
 
     /// The next command, or None after the last. A bad line is a command too. After an error no more is read.
-    pub fn next_command<S: Source>(&mut self, source: &mut S) -> Result<Option<Command>, FeedStop>
-        requires given { (commands : List Command) × (bytes : List ℕ) × HasGiven self.old (S.left source.old) commands bytes }
+    pub fn next_command<S: Source>(&mut self, source: &mut S) -> Result<Option<Command>, ReadStop>
+        requires given { (commands : List Command) × (bytes : List ℕ)
+            × HasGiven self.old (S.left source.old) commands bytes }
 
         // The commands are those of the feed's bytes, each once and in order.
         ensures given { (more : List ℕ) × Reads (S.left source.old) (S.left source.new) more
-            × ((commands : List Command) (bytes : List ℕ) → HasGiven self.old (S.left source.old) commands bytes
+            × ((commands : List Command) (bytes : List ℕ)
+            → HasGiven self.old (S.left source.old) commands bytes
             → MatchResult result
             (λ said. MatchOption said
             (IsWhole self.old.log (S.left source.new) commands (bytes ++ more))
-            (λ command. HasGiven self.new (S.left source.new) (commands ++ command ∷ []) (bytes ++ more)))
+            (λ command. HasGiven self.new (S.left source.new)
+            (commands ++ command ∷ []) (bytes ++ more)))
             (λ stop. IsStopped self.old.log stop commands (bytes ++ more))) }
         ensures log { self.new.log ≡ self.old.log }
         ensures spelled { IfOk result (λ said. IfSome said (IsSpelledCommand self.old.log)) }
-        ensures fault { result ≡ Err SourceFailed → Rose (S.faults source.old) (S.faults source.new) }
-        ensures other_counts_none { result ≢ Err SourceFailed → S.faults source.new ≡ S.faults source.old }
-        ensures count_never_falls { S.faults source.old ≤ S.faults source.new }
+        ensures faults { KeepsCount (is_fault result) (S.faults source.old) (S.faults source.new) }
     {
         while !self.ended {
             if let Some(command) = self.next_line(source)? {
@@ -91,20 +85,21 @@ impl FeedReader {
     }
 
     /// Reads the next line, and answers what it says, if anything.
-    fn next_line<S: Source>(&mut self, source: &mut S) -> Result<Option<Command>, FeedStop>
+    fn next_line<S: Source>(&mut self, source: &mut S) -> Result<Option<Command>, ReadStop>
         requires log { IsOneOrTwo self.old.log }
         requires going { self.old.ended ≡ false }
-        requires given { (commands : List Command) × (bytes : List ℕ) × HasCut self.old commands bytes }
+        requires given { (commands : List Command) × (bytes : List ℕ)
+            × HasCut self.old commands bytes }
         ensures given { (more : List ℕ) × Reads (S.left source.old) (S.left source.new) more
-            × ((commands : List Command) (bytes : List ℕ) → HasCut self.old commands bytes → MatchResult result
-            (λ said. HasGiven self.new (S.left source.new) (commands ++ before said []) (bytes ++ more))
+            × ((commands : List Command) (bytes : List ℕ) → HasCut self.old commands bytes
+            → MatchResult result
+            (λ said. HasGiven self.new (S.left source.new)
+            (commands ++ before said []) (bytes ++ more))
             (λ stop. IsStopped self.old.log stop commands (bytes ++ more))) }
         ensures log { self.new.log ≡ self.old.log }
         ensures spelled { IfOk result (λ said. IfSome said (IsSpelledCommand self.old.log)) }
         ensures fewer { IfOk result (λ _. lines_ahead self.new < lines_ahead self.old) }
-        ensures fault { result ≡ Err SourceFailed → Rose (S.faults source.old) (S.faults source.new) }
-        ensures other_counts_none { result ≢ Err SourceFailed → S.faults source.new ≡ S.faults source.old }
-        ensures count_never_falls { S.faults source.old ≤ S.faults source.new }
+        ensures faults { KeepsCount (is_fault result) (S.faults source.old) (S.faults source.new) }
     {
         match self.lines.next(source) {
             Ok(NextLine::Line) => Ok(self.said()),
@@ -116,17 +111,18 @@ impl FeedReader {
                 self.ended = true;
                 Ok(None)
             }
-            Err(ReadStop::SourceFailed) => Err(FeedStop::SourceFailed),
-            Err(ReadStop::TooLong) => Err(FeedStop::TooLong),
+            Err(stop) => Err(stop),
         }
     }
 
     /// What the line says that was read last.
     fn said(&self) -> Option<Command>
         requires log { IsOneOrTwo self.now.log }
-        requires line { (number : ℕ) × (line : List ℕ) × (number ≤ 1000000) × IsShown self.now.lines number line }
+        requires line { (number : ℕ) × (line : List ℕ) × (number ≤ 1000000)
+            × IsShown self.now.lines number line }
         requires limit { self.now.lines.limits.line ≡ 200 }
-        ensures said { (number : ℕ) (line : List ℕ) → number ≤ 1000000 → IsShown self.now.lines number line
+        ensures said { (number : ℕ) (line : List ℕ) → number ≤ 1000000
+            → IsShown self.now.lines number line
             → result ≡ said_by self.now.log number line }
         ensures spelled { IfSome result (IsSpelledCommand self.now.log) }
     {

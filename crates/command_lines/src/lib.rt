@@ -4,13 +4,12 @@
 
 mod feeds;
 pub mod laws;
-pub mod limits;
-mod pieces;
+mod limits;
 mod printing;
 mod reading;
 mod verbs;
 
 pub use feeds::FeedReader;
-pub use pieces::FeedStop;
+pub use limits::FEED_LIMITS;
 pub use printing::print_command;
 pub use reading::{read_command, read_feed_line, read_fields};

@@ -1,7 +1,10 @@
 //! The limits of a feed.
+use line_reader::Limits;
+use line_text::MOST_LINE;
 
-/// The most bytes of a feed.
-pub const MOST_BYTES: usize = 1 << 26;
-
-/// The most lines of a feed.
-pub const MOST_LINES: u32 = 1_000_000;
+/// The limits of a feed: at most 2^26 bytes and 1,000,000 lines.
+pub const FEED_LIMITS: Limits = Limits {
+    line: MOST_LINE,
+    bytes: 1 << 26,
+    lines: 1_000_000,
+};

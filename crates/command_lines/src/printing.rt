@@ -1,8 +1,8 @@
 //! Prints commands.
-ghost use Rattle.std.specs.Prelude.{◌≡◌, ◌≢◌, ◌≤◌, ◌+◌, ◌*◌, ◌∷◌, ◌++◌, ℕ, List, length, map, All, IfSome, decimal, OnOk, OnErr, codes};
+ghost use Rattle.std.specs.Prelude.{◌≡◌, ◌≢◌, ◌≤◌, ◌+◌, ◌*◌, ◌∷◌, ◌++◌, ℕ, List, length, map, All, IfSome, decimal, OnOk, OnErr, is_err, codes};
 ghost use Rattle.std.specs.List.{join_with_byte};
 ghost use Rattle.ride_ports.specs.Bytes.{Writes, WritesPrefix};
-ghost use Rattle.ride_ports.specs.Count.{Rose};
+ghost use Rattle.ride_ports.specs.Count.{KeepsCount};
 ghost use Rattle.ride_model.specs.declared.command.Command.TheVariants.{Bad};
 ghost use Rattle.ride_model.specs.Text.{IsOneOrTwo, IsSpelled, IsSpelledCommand};
 ghost use Rattle.command_lines.specs.Commands.{spelling_of};
@@ -20,11 +20,11 @@ pub fn print_command<K: Sink>(command: &Command, log: u8, sink: &mut K) -> Resul
     requires log { IsOneOrTwo log }
     requires not_bad { (number : ℕ) → command.now ≢ Bad number }
     requires spelled { IsSpelledCommand log command.now }
-    ensures whole { OnOk result (Writes (K.written sink.old) (K.written sink.new) (spelling_of log command.now)) }
-    ensures prefix { OnErr result (WritesPrefix (K.written sink.old) (K.written sink.new) (spelling_of log command.now)) }
-    ensures failed_only_at_fault { OnErr result (Rose (K.faults sink.old) (K.faults sink.new)) }
-    ensures ok_counts_none { OnOk result (K.faults sink.new ≡ K.faults sink.old) }
-    ensures count_never_falls { K.faults sink.old ≤ K.faults sink.new }
+    ensures whole { OnOk result (Writes (K.written sink.old) (K.written sink.new)
+        (spelling_of log command.now)) }
+    ensures prefix { OnErr result
+        (WritesPrefix (K.written sink.old) (K.written sink.new) (spelling_of log command.now)) }
+    ensures faults { KeepsCount (is_err result) (K.faults sink.old) (K.faults sink.new) }
 {
     write_all(sink, spelling(command, log).as_slice())
 }

@@ -183,8 +183,11 @@ impl Graph {
     ) -> Result<(), AllocError>
         requires graph { IsGraph self.now }
         requires node { node ≤ self.now.nodes }
-        ensures sound { (neighbor : Neighbor) → Contains list.new.items neighbor → IsNeighbor side self.now node neighbor }
-        ensures complete { OnOk result ((neighbor : Neighbor) → IsNeighbor side self.now node neighbor → Contains list.new.items neighbor) }
+        ensures sound { (neighbor : Neighbor) → Contains list.new.items neighbor
+            → IsNeighbor side self.now node neighbor }
+        ensures complete { OnOk result
+            ((neighbor : Neighbor) → IsNeighbor side self.now node neighbor
+            → Contains list.new.items neighbor) }
     {
         list.clear();
         let mut cursor = self.first(side, node);

@@ -126,7 +126,8 @@ impl Contraction {
         ensures arcs { IfOk result (λ contraction. contraction.arcs ≡ map.now.arcs) }
         ensures order { IfOk result (λ contraction. contraction.order ≡ []) }
         ensures unspent { IfOk result (λ contraction. IsFalse contraction.is_spent) }
-        ensures core { IfOk result (λ contraction. All (λ level. level ≡ 4294967295) contraction.levels) }
+        ensures core { IfOk result (λ contraction.
+            All (λ level. level ≡ 4294967295) contraction.levels) }
     {
         let arcs = map.arcs().len();
         let most_links = arcs + arcs / 2 + arcs;
@@ -152,7 +153,8 @@ impl Contraction {
     fn take(&mut self, node: u32, depth: u32) -> Result<Option<u64>, NoMemory>
         requires some { 1 ≤ node }
         requires node { node ≤ self.old.nodes }
-        ensures hierarchy { (roads : RoadMap) → IsContractionOf roads self.old → IsContractionOf roads self.new }
+        ensures hierarchy { (roads : RoadMap) → IsContractionOf roads self.old
+            → IsContractionOf roads self.new }
         ensures nodes { self.new.nodes ≡ self.old.nodes }
         ensures spent { self.new.is_spent ≡ self.old.is_spent }
     {
@@ -176,7 +178,8 @@ impl Contraction {
     /// Judges the next node, and contracts it if no other is to come before it. Answers how many links were looked at, and None
     /// where nothing is left to contract, or the budget is spent.
     fn step(&mut self) -> Result<Option<u64>, NoMemory>
-        ensures hierarchy { (roads : RoadMap) → IsContractionOf roads self.old → IsContractionOf roads self.new }
+        ensures hierarchy { (roads : RoadMap) → IsContractionOf roads self.old
+            → IsContractionOf roads self.new }
         ensures nodes { self.new.nodes ≡ self.old.nodes }
         ensures spent { self.new.is_spent ≡ self.old.is_spent }
     {
@@ -215,7 +218,8 @@ impl Contraction {
     /// Contracts nodes until so many links were looked at. Answers whether more is left to contract: false where no node is
     /// left, or where the budget of shortcuts or of work is spent; then the rest stays as the core, for good.
     pub fn contract_some(&mut self, fuel: u64) -> Result<bool, NoMemory>
-        ensures hierarchy { (roads : RoadMap) → IsContractionOf roads self.old → IsContractionOf roads self.new }
+        ensures hierarchy { (roads : RoadMap) → IsContractionOf roads self.old
+            → IsContractionOf roads self.new }
         ensures nodes { self.new.nodes ≡ self.old.nodes }
         ensures spent { IfOk result (λ more. IsFalse more ↔ IsTrue self.new.is_spent) }
         ensures over { IsTrue self.old.is_spent → (self.new ≡ self.old) × (result ≡ Ok false) }

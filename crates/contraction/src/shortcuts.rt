@@ -36,7 +36,8 @@ fn cover_pair(
     requires room { IsRoomy graph.old.nodes witness.now }
     requires into { IsIncoming graph.old node into }
     requires onward { IsOutgoing graph.old node onward }
-    requires ways { (base : Graph) × HasShortcuts node base graph.old × IsWitness base node into.node witness.now }
+    requires ways { (base : Graph) × HasShortcuts node base graph.old
+        × IsWitness base node into.node witness.now }
     ensures graph { IsGraph graph.new }
     ensures grown { HasShortcuts node graph.old graph.new }
     ensures covered { IfOk result (λ done. IsTrue done → IsCovered graph.new node into onward) }
@@ -83,11 +84,14 @@ fn cover(
     requires graph { IsGraph graph.old }
     requires room { IsRoomy graph.old.nodes witness.old }
     requires into { IsIncoming graph.old node into }
-    requires outs { (onward : Neighbor) → Contains outs.now onward → IsOutgoing graph.old node onward }
+    requires outs { (onward : Neighbor) → Contains outs.now onward
+        → IsOutgoing graph.old node onward }
     ensures graph { IsGraph graph.new }
     ensures room { IsRoomy graph.new.nodes witness.new }
     ensures grown { HasShortcuts node graph.old graph.new }
-    ensures covered { IfOk result (λ work. IsSome work → (onward : Neighbor) → Contains outs.now onward → IsCovered graph.new node into onward) }
+    ensures covered { IfOk result
+        (λ work. IsSome work → (onward : Neighbor) → Contains outs.now onward
+        → IsCovered graph.new node into onward) }
 {
     let limit = u64::from(into.seconds) + u64::from(longest(outs));
     let Some(work) = witness.search(graph, node, into.node, limit, MOST_SETTLED) else {
@@ -112,11 +116,14 @@ fn cover_all(
     requires graph { IsGraph graph.old }
     requires room { IsRoomy graph.old.nodes witness.old }
     requires ins { (into : Neighbor) → Contains ins.now into → IsIncoming graph.old node into }
-    requires outs { (onward : Neighbor) → Contains outs.now onward → IsOutgoing graph.old node onward }
+    requires outs { (onward : Neighbor) → Contains outs.now onward
+        → IsOutgoing graph.old node onward }
     ensures graph { IsGraph graph.new }
     ensures room { IsRoomy graph.new.nodes witness.new }
     ensures grown { HasShortcuts node graph.old graph.new }
-    ensures covered { IfOk result (λ work. IsSome work → (into onward : Neighbor) → Contains ins.now into → Contains outs.now onward
+    ensures covered { IfOk result
+        (λ work. IsSome work → (into onward : Neighbor) → Contains ins.now into
+        → Contains outs.now onward
         → IsCovered graph.new node into onward) }
 {
     let mut work = 0u64;
@@ -144,7 +151,8 @@ fn take_out(
     ensures graph { IsGraph graph.new }
     ensures nodes { graph.new.nodes ≡ graph.old.nodes }
     ensures room { IsRoomy graph.new.nodes witness.new }
-    ensures hierarchy { (roads : RoadMap) → IsHierarchyGraph roads graph.old → IsHierarchyGraph roads graph.new }
+    ensures hierarchy { (roads : RoadMap) → IsHierarchyGraph roads graph.old
+        → IsHierarchyGraph roads graph.new }
 {
     if !graph.is_in_core(node) {
         return Ok(None);
@@ -190,7 +198,8 @@ pub(crate) fn contract(
     ensures graph { IsGraph graph.new }
     ensures nodes { graph.new.nodes ≡ graph.old.nodes }
     ensures room { IsRoomy graph.new.nodes witness.new }
-    ensures hierarchy { (roads : RoadMap) → IsHierarchyGraph roads graph.old → IsHierarchyGraph roads graph.new }
+    ensures hierarchy { (roads : RoadMap) → IsHierarchyGraph roads graph.old
+        → IsHierarchyGraph roads graph.new }
 {
     let work = take_out(graph, witness, node, ins, outs)?;
     prune_all(graph, Side::Out, ins.as_slice());
@@ -218,7 +227,8 @@ fn judge_from(
     requires graph { IsGraph graph.now }
     requires room { IsRoomy graph.now.nodes witness.old }
     requires into { IsIncoming graph.now node into }
-    requires outs { (onward : Neighbor) → Contains outs.now onward → IsOutgoing graph.now node onward }
+    requires outs { (onward : Neighbor) → Contains outs.now onward
+        → IsOutgoing graph.now node onward }
     ensures { IsRoomy graph.now.nodes witness.new }
 {
     let limit = u64::from(into.seconds) + u64::from(longest(outs));
@@ -267,7 +277,8 @@ fn judge_all(
     requires graph { IsGraph graph.now }
     requires room { IsRoomy graph.now.nodes witness.old }
     requires ins { (into : Neighbor) → Contains ins.now into → IsIncoming graph.now node into }
-    requires outs { (onward : Neighbor) → Contains outs.now onward → IsOutgoing graph.now node onward }
+    requires outs { (onward : Neighbor) → Contains outs.now onward
+        → IsOutgoing graph.now node onward }
     ensures { IsRoomy graph.now.nodes witness.new }
 {
     let mut shortcuts = 0u64;

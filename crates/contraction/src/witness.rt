@@ -67,7 +67,8 @@ impl Witness {
         requires room { (nodes : ℕ) × IsRoomy nodes self.old × (source ≤ nodes) }
         ensures room { (nodes : ℕ) → IsRoomy nodes self.old → IsRoomy nodes self.new }
         ensures floor { IsTrue result → self.new.queue.floor ≡ 0 }
-        ensures ways { IsTrue result → (graph : Graph) (avoided : ℕ) → IsFound graph avoided source source 0
+        ensures ways { IsTrue result → (graph : Graph) (avoided : ℕ)
+            → IsFound graph avoided source source 0
             → IsWitness graph avoided source self.new }
     {
         if self.round == u32::MAX {
@@ -89,7 +90,8 @@ impl Witness {
         ensures room { IsRoomy graph.now.nodes self.new }
         ensures floor { self.new.queue.floor ≡ time }
         ensures ways { (source : ℕ) → IsFound graph.now avoided source node time
-            → IsWitness graph.now avoided source self.old → IsWitness graph.now avoided source self.new }
+            → IsWitness graph.now avoided source self.old
+            → IsWitness graph.now avoided source self.new }
     {
         let mut work = 0u64;
         let mut cursor = graph.first(Side::Out, node);
@@ -116,7 +118,8 @@ impl Witness {
         requires low { limit < 2 ^ 62 }
         requires some { (source : ℕ) × IsWitness graph.now avoided source self.old }
         ensures room { IsRoomy graph.now.nodes self.new }
-        ensures ways { (source : ℕ) → IsWitness graph.now avoided source self.old → IsWitness graph.now avoided source self.new }
+        ensures ways { (source : ℕ) → IsWitness graph.now avoided source self.old
+            → IsWitness graph.now avoided source self.new }
     {
         let (node, time) = self.queue.take_least()?;
         if time > limit {
@@ -160,8 +163,10 @@ impl Witness {
     /// Whether a way to a node was found that weighs no more than the limit.
     pub(crate) fn reaches(&self, node: u32, limit: u64) -> bool
         requires room { (nodes : ℕ) × IsRoomy nodes self.now × (node ≤ nodes) }
-        ensures { IsTrue result → (graph : Graph) (avoided source : ℕ) → IsWitness graph avoided source self.now
-            → ReachesPast graph.arcs.items graph.levels.items (length graph.order.items) avoided source node limit }
+        ensures { IsTrue result → (graph : Graph) (avoided source : ℕ)
+            → IsWitness graph avoided source self.now
+            → ReachesPast graph.arcs.items graph.levels.items
+            (length graph.order.items) avoided source node limit }
     {
         let reached = self.reached[node as usize];
         reached.round == self.round && reached.time <= limit

@@ -3,11 +3,11 @@ ghost use Rattle.std.specs.Prelude.{◌≡◌, ◌≤◌, All};
 ghost use Rattle.ride_model.specs.declared.vehicle.Ride.{Ride};
 ghost use Rattle.ride_model.specs.declared.vehicle.Vehicle.{Vehicle};
 
+use adaptive_roads::{Roads, TravelTimes};
 use arrayvec::ArrayVec;
 use batch_commit::{Answer, Batch};
 use idle_moves::{Move, MoveSheet, plan_moves};
 use ride_model::{AmountList, Fleet, Ride, Seat, SeatList, Stop, Vehicle};
-use road_times::{Roads, Scratch};
 use std::alloc::Global;
 use std::process::Abort;
 use trial_town::settings;
@@ -209,10 +209,10 @@ fn sheet(rt: &impl Abort, alloc: Global, roads: &Roads, case: &Case) -> MoveShee
     assert!(rt; case.reach <= 1_000_000);
     let batch = batch(rt, alloc, case);
     let answer = answer(rt, alloc, case);
-    let Ok(mut scratch) = Scratch::new(alloc, roads) else {
+    let Ok(mut times) = TravelTimes::new(alloc, roads) else {
         panic!(rt; "there is memory");
     };
-    let sheet = plan_moves(alloc, &batch, &answer, case.reach, roads, &mut scratch);
+    let sheet = plan_moves(alloc, &batch, &answer, case.reach, &mut times);
     sheet.expect(rt, "there is memory")
 }
 
@@ -236,10 +236,19 @@ fn expect(rt: &impl Abort, sheet: &MoveSheet, case: &Case) {
     expect_amounts(rt, sheet.prices.items(), sheet.pays.items(), case);
 }
 
+fn expect_all(rt: &impl Abort, alloc: Global, roads: &Roads)
+    requires { roads.now.nodes ≡ 4 }
+{
+    for case in CASES.as_slice() {
+        expect(rt, &sheet(rt, alloc, roads, case), case);
+    }
+}
+
 #[test]
 fn idle_vehicles_are_sent_ahead(rt: HostRuntime) {
     let roads = trial_town::roads(rt.alloc()).expect(&rt, "there is memory");
-    for case in CASES.as_slice() {
-        expect(&rt, &sheet(&rt, rt.alloc(), &roads, case), case);
-    }
+    expect_all(&rt, rt.alloc(), &roads);
+    // The same by a hierarchy, which is made in one piece.
+    assert!(&rt; roads.prepare(rt.alloc()) && !roads.prepare(rt.alloc()));
+    expect_all(&rt, rt.alloc(), &roads);
 }

@@ -14,7 +14,8 @@ use Rattle.gr_reader.specs.MapText.{map_text}
 use Rattle.fleet_file.specs.declared.errors.FleetError.{FleetError}
 use Rattle.fleet_file.specs.declared.errors.FleetError.TheVariants.{TooLong as TooLongFleet}
 use Rattle.fleet_file.specs.FleetText.{fleet_text}
-use Rattle.command_lines.specs.Limits.{IsTooLong}
+use Rattle.line_reader.specs.Limits.{IsTooLong}
+use Rattle.command_lines.specs.Limits.{feed_limits}
 use Rattle.log_audit.specs.Audit.{IsAnswer}
 use Rattle.log_audit.specs.declared.verdict.AuditFault.{AuditFault}
 use Rattle.log_audit.specs.declared.verdict.AuditFault.TheVariants.{ReadFault, TooLong, NoMemory as AuditNoMemory}
@@ -158,7 +159,7 @@ stopped-ends ask old new out status stopped (m, whole) no_fault =
 
 -- a feed within its limits is not too long
 feed-not-long : (told : Option Contents) (m : Meaning) (name : List ℕ) (source : GivenBack) (feed : FeedRun) (taken : List ℕ)
-    → IsWhole told m (feed_file name) → IsBackOf (told_bytes told name) source feed → Reads feed.bytes feed.left taken → IsTooLong taken → ⊥
+    → IsWhole told m (feed_file name) → IsBackOf (told_bytes told name) source feed → Reads feed.bytes feed.left taken → IsTooLong feed_limits taken → ⊥
 feed-not-long told m name source feed taken whole back reads long =
     let bytes : feed.bytes ≡ Some whole.bytes = subst (λ (o : Option (List ℕ)). AreBytesOf o feed.bytes) whole.bytes_are back.bytes_are in
     within-not-long whole.bytes taken feed.left whole.within (subst (λ (o : Option (List ℕ)). Reads o feed.left taken) bytes reads) long

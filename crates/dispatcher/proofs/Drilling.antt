@@ -1,7 +1,7 @@
 -- A drill, which asks for no file.
 use Rattle.std.proofs.Common.{◌≡◌, ℕ, false, inr, refl, sym, ◌∙◌}
 use Rattle.std.specs.Prelude.{IsTrue}
-use Rattle.ride_ports.specs.Count.{Rose}
+use Rattle.ride_ports.specs.Count.{KeepsCount}
 use Rattle.city_maker.specs.declared.plan.CityPlan.{CityPlan}
 use Rattle.run_words.specs.Words.{a_drill}
 use Rattle.dispatcher.specs.Runs.{IsRun}
@@ -13,9 +13,9 @@ use Rattle.dispatcher.proofs.Statuses.{sink-status, source-status, whole-status}
 use Rattle.dispatcher.proofs.Texts.{nothing}
 
 pub drilled-run : (plan : CityPlan) (shelf : Shelved) (out : Sunk) (status : ℕ) → IsFresh shelf → (drills : Drills plan out status)
-    → (IsTrue drills.ran.sink_failed → Rose out.faults_before out.faults_after) → (drills.ran.sink_failed ≡ false → out.faults_after ≡ out.faults_before)
+    → KeepsCount drills.ran.sink_failed out.faults_before out.faults_after
     → IsRun (a_drill plan) shelf shelf out status
-drilled-run plan shelf out status fresh drills fault sound =
+drilled-run plan shelf out status fresh drills faults =
     let read = none-read nothing shelf fresh in
     run-of (a_drill plan) shelf shelf out status (inr (inr (record {
       all_asked = read.asked;
@@ -26,8 +26,8 @@ drilled-run plan shelf out status fresh drills fault sound =
       did = drills;
       all_read = λ zero. read.spent;
       shelf_sound = λ zero. refl;
-      sink_sound = λ zero. sound (whole-status drills.ran (sym drills.status_is ∙ zero)).sink;
+      sink_sound = λ zero. faults.stays (whole-status drills.ran (sym drills.status_is ∙ zero)).sink;
       shelf_fault = λ five. absurd (cc (source-status drills.ran (sym drills.status_is ∙ five), drills.no_source));
-      sink_fault = λ six. fault (sink-status drills.ran (sym drills.status_is ∙ six));
+      sink_fault = λ six. faults.rose (sink-status drills.ran (sym drills.status_is ∙ six));
       untouched = λ none. refl;
     })))

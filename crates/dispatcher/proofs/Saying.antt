@@ -1,19 +1,19 @@
 -- Lines that were written.
 use Rattle.std.proofs.Common.{◌≡◌, ℕ, List, [], ◌∷◌, ◌++◌, Option, Result, Ok, Err, refl, sym, subst, ◌∙◌}
-use Rattle.std.specs.Prelude.{OnOk, OnErr}
+use Rattle.std.specs.Prelude.{OnOk, OnErr, is_err}
 use Rattle.ride_ports.specs.Bytes.{Writes, WritesPrefix}
-use Rattle.ride_ports.specs.Count.{Rose}
+use Rattle.ride_ports.specs.Count.{KeepsCount}
 use Rattle.ride_ports.proofs.ByteLemmas.{WritesPrefix-whole, append_known-nil}
 use Rattle.dispatcher.specs.Refusals.{Says}
 
 -- what a write says
 pub says : {T E : Type 0} (outcome : Result T E) (before after : Option (List ℕ)) (faults_before faults_after : ℕ) (line : List ℕ)
     → OnOk outcome (Writes before after line) → OnErr outcome (WritesPrefix before after line)
-    → OnErr outcome (Rose faults_before faults_after) → Says before after faults_before faults_after line
-says (Ok x) before after faults_before faults_after line whole prefix rose =
+    → KeepsCount (is_err outcome) faults_before faults_after → Says before after faults_before faults_after line
+says (Ok x) before after faults_before faults_after line whole prefix faults =
     record { prefix = WritesPrefix-whole whole; whole = λ _. whole }
-says (Err e) before after faults_before faults_after line whole prefix rose =
-    record { prefix = prefix; whole = λ not. absurd (not rose) }
+says (Err e) before after faults_before faults_after line whole prefix faults =
+    record { prefix = prefix; whole = λ not. absurd (not (faults.rose refl)) }
 
 nothing-front : (done rest : List ℕ) → [] ≡ done ++ rest → done ≡ []
 nothing-front [] rest is = refl

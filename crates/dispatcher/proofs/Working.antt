@@ -2,7 +2,7 @@
 use Rattle.std.proofs.Common.{◌≡◌, ◌≢◌, inl, inr, ℕ, ◌<◌, false, List, [], Result, Ok, Err, IfSome, refl, sym, ◌∙◌, arith}
 use Rattle.std.specs.Prelude.{IsTrue}
 use Rattle.ride_ports.specs.Bytes.{Reads}
-use Rattle.ride_ports.specs.Count.{Rose}
+use Rattle.ride_ports.specs.Count.{KeepsCount, Rose}
 use Rattle.ride_ports.specs.Status.{status_of}
 use Rattle.ride_ports.specs.declared.outcome.Ran.{Ran}
 use Rattle.log_audit.specs.declared.verdict.AuditFault.{AuditFault}
@@ -22,10 +22,8 @@ pub record RanOver (feed : FeedRun) (out : Sunk) (ran : Ran) : Type 0 where
   pub taken : List ℕ
   pub reads : Reads feed.bytes feed.left taken
   pub to_end : NoneWanting ran → IfSome feed.left (λ rest. rest ≡ [])
-  pub source_fault : IsTrue ran.source_failed → Rose feed.faults_before feed.faults_after
-  pub source_sound : ran.source_failed ≡ false → feed.faults_after ≡ feed.faults_before
-  pub sink_fault : IsTrue ran.sink_failed → Rose out.faults_before out.faults_after
-  pub sink_sound : ran.sink_failed ≡ false → out.faults_after ≡ out.faults_before
+  pub source_faults : KeepsCount ran.source_failed feed.faults_before feed.faults_after
+  pub sink_faults : KeepsCount ran.sink_failed out.faults_before out.faults_after
 
 pub ran-works : (work : Work) (feed : FeedRun) (out : Sunk) (ran : Ran) (status : ℕ) → status ≡ status_of ran → RanOver feed out ran
     → Did work feed out status → WorksOver work feed out status
@@ -34,10 +32,10 @@ ran-works work feed out ran status is over did = record {
   taken = over.taken;
   reads = over.reads;
   to_end = λ zero. over.to_end (whole-status ran (sym is ∙ zero));
-  source_sound = λ zero. over.source_sound (whole-status ran (sym is ∙ zero)).read.0;
-  sink_sound = λ zero. over.sink_sound (whole-status ran (sym is ∙ zero)).sink;
-  source_fault = λ five. over.source_fault (source-status ran (sym is ∙ five));
-  sink_fault = λ six. over.sink_fault (sink-status ran (sym is ∙ six));
+  source_sound = λ zero. over.source_faults.stays (whole-status ran (sym is ∙ zero)).read.0;
+  sink_sound = λ zero. over.sink_faults.stays (whole-status ran (sym is ∙ zero)).sink;
+  source_fault = λ five. over.source_faults.rose (source-status ran (sym is ∙ five));
+  sink_fault = λ six. over.sink_faults.rose (sink-status ran (sym is ∙ six));
 }
 
 module _ (out : Sunk) where

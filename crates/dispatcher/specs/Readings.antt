@@ -1,6 +1,7 @@
 -- A file that was brought, read and given back.
 use Rattle.std.specs.Prelude.{◌≡◌, ℕ, ◌+◌, ◌≤◌, List, [], ◌∷◌, ◌++◌, length, map, All, Option, None, Some, Result, Err, Ok, MatchResult}
 use Rattle.line_text.specs.Texts.{Format}
+use Rattle.ride_model.specs.Fleet.{MayStart}
 use Rattle.ride_ports.specs.Contents.{Contents, GivenBack}
 use Rattle.ride_ports.specs.Count.{Rose}
 use Rattle.run_words.specs.Words.{File, name_of, map_file, fleet_file, second_fleet_file}
@@ -79,6 +80,11 @@ text_files map fleet (Some second) = map_file map ∷ fleet_file fleet ∷ secon
 -- what texts that were read mean
 abbrev pub meaning_of : Texts → Meaning
 meaning_of texts = record { network = texts.roads; settings = texts.settings; vehicles = texts.fleet; second = texts.second }
+
+-- a session may start with either fleet of the texts
+pub record MayBegin (texts : Texts) : Type 0 where
+  pub first : MayStart texts.roads texts.settings texts.fleet
+  pub second : MayStart texts.roads texts.settings texts.second
 
 -- the texts of a run were read, or it stopped at one
 abbrev pub ReadsTexts : List File → Shelved → Shelved → Result Texts Stop → Type 0

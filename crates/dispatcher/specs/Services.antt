@@ -6,7 +6,8 @@ use Rattle.ride_ports.specs.declared.outcome.Ran.{Ran}
 use Rattle.ride_model.specs.Text.{text_of}
 use Rattle.ride_model.specs.declared.entry.Entry.{Entry}
 use Rattle.ride_model.specs.declared.entry.Ending.TheVariants.{Whole}
-use Rattle.command_lines.specs.Limits.{IsTooLong, IsWithinLimits}
+use Rattle.line_reader.specs.Limits.{IsTooLong, IsWithinLimits}
+use Rattle.command_lines.specs.Limits.{feed_limits}
 use Rattle.session_run.specs.Serving.{FeedRun, HasNotServed, HasServed, IsFeedOf, IsWrittenOut}
 use Rattle.dispatcher.specs.Meanings.{Meaning, start_of}
 use Rattle.dispatcher.specs.Shelves.{Sunk}
@@ -23,8 +24,8 @@ pub record HasAnswered (m : Meaning) (desks : ℕ) (riders drivers : FeedRun) (r
   pub of_drivers : IsFeedOf m.settings.log 2 drivers ran drivers_taken entries
   pub all_of_riders : status_of ran ≡ 0 → of_riders.ending ≡ Whole
   pub all_of_drivers : status_of ran ≡ 0 → of_drivers.ending ≡ Whole
-  pub too_long : ran.too_long ≡ true → IsTooLong riders_taken ⊎ IsTooLong drivers_taken
-  pub within : status_of ran ≡ 0 → IsWithinLimits riders_taken × IsWithinLimits drivers_taken
+  pub too_long : ran.too_long ≡ true → IsTooLong feed_limits riders_taken ⊎ IsTooLong feed_limits drivers_taken
+  pub within : status_of ran ≡ 0 → IsWithinLimits feed_limits riders_taken × IsWithinLimits feed_limits drivers_taken
 
 -- a service ran: it answered both feeds, as far as each was read, or memory was wanting before anything was read or written. It
 -- says that a source failed only where one did

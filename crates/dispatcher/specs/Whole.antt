@@ -1,7 +1,8 @@
 -- Files with which a run can be whole.
 use Rattle.std.specs.Prelude.{◌≡◌, ◌⊎◌, ℕ, ⊤, List, All, Option, Some}
 use Rattle.ride_ports.specs.Contents.{Contents}
-use Rattle.command_lines.specs.Limits.{IsWithinLimits}
+use Rattle.line_reader.specs.Limits.{IsWithinLimits}
+use Rattle.command_lines.specs.Limits.{feed_limits}
 use Rattle.log_audit.specs.Limits.{IsTooLong}
 use Rattle.run_words.specs.Words.{Asked, an_audit, File, feed_file, files_of, log_file, name_of}
 use Rattle.dispatcher.specs.Meanings.{IsTextOf, Meaning}
@@ -9,7 +10,7 @@ use Rattle.dispatcher.specs.Shelves.{told_bytes}
 
 -- feeds and logs are within their limits
 abbrev pub IsWithin : File → List ℕ → Type 0
-IsWithin (feed_file name) bytes = IsWithinLimits bytes
+IsWithin (feed_file name) bytes = IsWithinLimits feed_limits bytes
 IsWithin (log_file name) bytes = IsTooLong bytes → ⊥
 IsWithin _ bytes = ⊤
 

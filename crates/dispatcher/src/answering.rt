@@ -1,5 +1,5 @@
 //! What is answered where a run stops before its work.
-ghost use Rattle.std.specs.Prelude.{◌≡◌, ◌≤◌, ◌⊎◌};
+ghost use Rattle.std.specs.Prelude.{◌≡◌, ◌⊎◌};
 ghost use Rattle.dispatcher.specs.Meanings.{said_of, status_of};
 ghost use Rattle.dispatcher.specs.Shelves.{sunk, IsUntouched, SaysTo};
 ghost use Rattle.dispatcher.specs.Statuses.{code_of};
@@ -13,7 +13,8 @@ use std::alloc::Global;
 /// Says why a run stopped, and returns its status.
 pub fn answer<K: Sink>(alloc: Global, stop: Stop, out: &mut K) -> u8
     ensures status { (result ≡ status_of stop) ⊎ (result ≡ 1) }
-    ensures said { result ≡ status_of stop → SaysTo (sunk K.written K.faults out.old out.new) (said_of stop) }
+    ensures said { result ≡ status_of stop
+        → SaysTo (sunk K.written K.faults out.old out.new) (said_of stop) }
     ensures no_memory { result ≡ 1 → IsUntouched (sunk K.written K.faults out.old out.new) }
 {
     let Ok(line) = line_of_stop(alloc, stop) else {

@@ -1,21 +1,21 @@
 //! The texts of a run: each is brought by its name, read to its answer and given back.
-ghost use Rattle.std.specs.Prelude.{◌≡◌, ◌+◌, ◌<◌, ◌≤◌, [], length, option_map, string_bytes, All, Err, IfOk, OnErr};
-ghost use Rattle.ride_model.specs.declared.vehicle.Vehicle.{Vehicle};
+ghost use Rattle.std.specs.Prelude.{◌≡◌, ◌+◌, ◌<◌, ◌≤◌, length, option_map, string_bytes, Err, IfOk, OnErr};
+ghost use Rattle.ride_model.specs.declared.settings.Settings.{Settings};
+ghost use Rattle.ride_model.specs.Fleet.{MayStart};
 ghost use Rattle.ride_model.specs.Settings.{IsSettings};
-ghost use Rattle.ride_model.specs.Vehicle.{IsLawful};
 ghost use Rattle.ride_ports.specs.Contents.{given_back};
 ghost use Rattle.gr_reader.specs.MapText.{map_format};
 ghost use Rattle.fleet_file.specs.FleetText.{fleet_format};
-ghost use Rattle.dispatcher.specs.Readings.{stop_in, text_files, AsksOnce, IsReadBy, ReadsTexts};
+ghost use Rattle.dispatcher.specs.Readings.{stop_in, text_files, AsksOnce, IsReadBy, MayBegin, ReadsTexts};
 ghost use Rattle.dispatcher.specs.Shelves.{shelved, told_bytes, IsFresh};
 ghost use Rattle.dispatcher.specs.Stops.{stop_of_fleet, stop_of_map, BringsSecond, ReadsFleet, ReadsMap};
 
 use crate::stop::Stop;
+use adaptive_roads::Roads;
 use fleet_file::{FleetError, read_fleet};
 use gr_reader::{MapError, read_map};
 use ride_model::{Fleet, Network, Settings};
 use ride_ports::{Shelf, Source};
-use road_times::Roads;
 use std::alloc::Global;
 
 /// The names of a map and of a fleet file over it.
@@ -34,7 +34,7 @@ pub struct Texts {
     pub second: Fleet,
 }
 
-/// Brings a map, a fleet file over it, and a second one where there is, and makes the map's roads.
+/// Brings a map, a fleet file over it, and a second one where there is, and makes the map's roads. A session may start with either fleet.
 pub fn bring_texts<H: Shelf>(
     alloc: Global,
     shelf: &mut H,
@@ -42,15 +42,11 @@ pub fn bring_texts<H: Shelf>(
     second: Option<String>,
 ) -> Result<Texts, Stop>
     requires fresh { IsFresh (shelved H.contents H.asked H.brought H.back H.faults shelf.old) }
-    ensures texts { ReadsTexts (text_files (string_bytes names.map) (string_bytes names.fleet) (option_map string_bytes second))
-        (shelved H.contents H.asked H.brought H.back H.faults shelf.old) (shelved H.contents H.asked H.brought H.back H.faults shelf.new) result }
-    ensures settings { IfOk result (λ texts. IsSettings texts.settings) }
-    ensures lawful { IfOk result (λ texts. All (IsLawful texts.roads) texts.fleet) }
-    ensures idle { IfOk result (λ texts. All (λ (v : Vehicle). v.stops.items ≡ []) texts.fleet) }
-    ensures first_versions { IfOk result (λ texts. All (λ (v : Vehicle). v.version ≡ 0) texts.fleet) }
-    ensures second_lawful { IfOk result (λ texts. All (IsLawful texts.roads) texts.second) }
-    ensures second_idle { IfOk result (λ texts. All (λ (v : Vehicle). v.stops.items ≡ []) texts.second) }
-    ensures second_versions { IfOk result (λ texts. All (λ (v : Vehicle). v.version ≡ 0) texts.second) }
+    ensures texts { ReadsTexts (text_files (string_bytes names.map) (string_bytes names.fleet)
+        (option_map string_bytes second))
+        (shelved H.contents H.asked H.brought H.back H.faults shelf.old)
+        (shelved H.contents H.asked H.brought H.back H.faults shelf.new) result }
+    ensures start { IfOk result MayBegin }
 {
     let TextNames { map, fleet } = names;
     let map = bring_map(alloc, shelf, map)?;
@@ -70,7 +66,8 @@ fn bring_map<H: Shelf>(alloc: Global, shelf: &mut H, name: String) -> Result<Net
     requires asked_room { length (H.asked shelf.old) < 8 }
     requires back_room { length (H.back shelf.old) < 8 }
     ensures map { ReadsMap (told_bytes (H.contents shelf.old) (string_bytes name)) result }
-    ensures asks { AsksOnce map_format (string_bytes name) (shelved H.contents H.asked H.brought H.back H.faults shelf.old)
+    ensures asks { AsksOnce map_format (string_bytes name)
+        (shelved H.contents H.asked H.brought H.back H.faults shelf.old)
         (shelved H.contents H.asked H.brought H.back H.faults shelf.new) (stop_in result) }
     ensures one_asked { length (H.asked shelf.new) ≡ length (H.asked shelf.old) + 1 }
     ensures one_back { length (H.back shelf.new) ≤ length (H.back shelf.old) + 1 }
@@ -87,7 +84,8 @@ fn bring_map<H: Shelf>(alloc: Global, shelf: &mut H, name: String) -> Result<Net
 fn map_from<S: Source>(alloc: Global, source: &mut S) -> Result<Network, Stop>
     requires { S.faults source.old ≡ 0 }
     ensures map { ReadsMap (S.left source.old) result }
-    ensures read { IsReadBy map_format (S.left source.old) (given_back (S.faults source.new) (S.left source.new)) (stop_in result) }
+    ensures read { IsReadBy map_format (S.left source.old)
+        (given_back (S.faults source.new) (S.left source.new)) (stop_in result) }
     ensures source_fault { result ≡ Err Stop.ShelfFault → 0 < S.faults source.new }
 {
     match read_map(alloc, source) {
@@ -117,11 +115,11 @@ fn bring_second<H: Shelf>(
 ) -> Result<Fleet, Stop>
     requires asked_room { length (H.asked shelf.old) < 8 }
     requires back_room { length (H.back shelf.old) < 8 }
-    ensures brings { BringsSecond map.now (option_map string_bytes name) (shelved H.contents H.asked H.brought H.back H.faults shelf.old)
+    ensures brings { BringsSecond map.now (option_map string_bytes name)
+        (shelved H.contents H.asked H.brought H.back H.faults shelf.old)
         (shelved H.contents H.asked H.brought H.back H.faults shelf.new) result }
-    ensures lawful { IfOk result (λ fleet. All (IsLawful map.now) fleet) }
-    ensures idle { IfOk result (λ fleet. All (λ (v : Vehicle). v.stops.items ≡ []) fleet) }
-    ensures first_versions { IfOk result (λ fleet. All (λ (v : Vehicle). v.version ≡ 0) fleet) }
+    ensures start { IfOk result (λ fleet. (settings : Settings) → IsSettings settings
+        → MayStart map.now settings fleet) }
 {
     let Some(name) = name else {
         return Ok(Fleet::new(Vec::new(alloc)));
@@ -141,15 +139,14 @@ fn bring_fleet<H: Shelf>(
 ) -> Result<(Settings, Fleet), Stop>
     requires asked_room { length (H.asked shelf.old) < 8 }
     requires back_room { length (H.back shelf.old) < 8 }
-    ensures fleet { ReadsFleet map.now.nodes (told_bytes (H.contents shelf.old) (string_bytes name)) result }
-    ensures asks { AsksOnce (fleet_format map.now.nodes) (string_bytes name) (shelved H.contents H.asked H.brought H.back H.faults shelf.old)
+    ensures fleet { ReadsFleet map.now.nodes
+        (told_bytes (H.contents shelf.old) (string_bytes name)) result }
+    ensures asks { AsksOnce (fleet_format map.now.nodes) (string_bytes name)
+        (shelved H.contents H.asked H.brought H.back H.faults shelf.old)
         (shelved H.contents H.asked H.brought H.back H.faults shelf.new) (stop_in result) }
     ensures one_asked { length (H.asked shelf.new) ≡ length (H.asked shelf.old) + 1 }
     ensures one_back { length (H.back shelf.new) ≤ length (H.back shelf.old) + 1 }
-    ensures settings { IfOk result (λ read. IsSettings read.0) }
-    ensures lawful { IfOk result (λ read. All (IsLawful map.now) read.1) }
-    ensures idle { IfOk result (λ read. All (λ (v : Vehicle). v.stops.items ≡ []) read.1) }
-    ensures first_versions { IfOk result (λ read. All (λ (v : Vehicle). v.version ≡ 0) read.1) }
+    ensures start { IfOk result (λ read. MayStart map.now read.0 read.1) }
 {
     let Ok(mut source) = shelf.bring(name) else {
         return Err(Stop::ShelfFault);
@@ -167,11 +164,9 @@ fn fleet_from<S: Source>(
 ) -> Result<(Settings, Fleet), Stop>
     requires { S.faults source.old ≡ 0 }
     ensures fleet { ReadsFleet map.now.nodes (S.left source.old) result }
-    ensures read { IsReadBy (fleet_format map.now.nodes) (S.left source.old) (given_back (S.faults source.new) (S.left source.new)) (stop_in result) }
-    ensures settings { IfOk result (λ read. IsSettings read.0) }
-    ensures lawful { IfOk result (λ read. All (IsLawful map.now) read.1) }
-    ensures idle { IfOk result (λ read. All (λ (v : Vehicle). v.stops.items ≡ []) read.1) }
-    ensures first_versions { IfOk result (λ read. All (λ (v : Vehicle). v.version ≡ 0) read.1) }
+    ensures read { IsReadBy (fleet_format map.now.nodes) (S.left source.old)
+        (given_back (S.faults source.new) (S.left source.new)) (stop_in result) }
+    ensures start { IfOk result (λ read. MayStart map.now read.0 read.1) }
     ensures source_fault { result ≡ Err Stop.ShelfFault → 0 < S.faults source.new }
 {
     match read_fleet(alloc, source, map) {

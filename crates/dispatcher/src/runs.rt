@@ -1,5 +1,5 @@
 //! A call for each word. None but `serve` waits.
-ghost use Rattle.std.specs.Prelude.{◌≡◌, ◌≤◌, string_bytes};
+ghost use Rattle.std.specs.Prelude.{◌≤◌, string_bytes};
 ghost use Rattle.city_maker.specs.Plan.{IsPlan};
 ghost use Rattle.ride_model.specs.Limits.{longest_reach, most_workers};
 ghost use Rattle.ride_model.specs.Text.{IsOneOrTwo};
@@ -27,8 +27,10 @@ pub fn replay<R: Threads + Sync, H: Shelf, K: Sink>(
     out: &mut K,
 ) -> u8
     requires fresh { IsFresh (shelved H.contents H.asked H.brought H.back H.faults shelf.old) }
-    ensures { IsRun (a_replay (string_bytes names.map) (string_bytes names.fleet) (string_bytes feed))
-        (shelved H.contents H.asked H.brought H.back H.faults shelf.old) (shelved H.contents H.asked H.brought H.back H.faults shelf.new)
+    ensures { IsRun (a_replay (string_bytes names.map)
+        (string_bytes names.fleet) (string_bytes feed))
+        (shelved H.contents H.asked H.brought H.back H.faults shelf.old)
+        (shelved H.contents H.asked H.brought H.back H.faults shelf.new)
         (sunk K.written K.faults out.old out.new) result }
 {
     match bring_texts(alloc, shelf, names, None) {
@@ -50,8 +52,10 @@ pub fn ahead<R: Threads + Sync, H: Shelf, K: Sink>(
 ) -> u8
     requires fresh { IsFresh (shelved H.contents H.asked H.brought H.back H.faults shelf.old) }
     requires reach { (1 ≤ reach) × (reach ≤ longest_reach) }
-    ensures { IsRun (an_ahead (string_bytes names.map) (string_bytes names.fleet) (string_bytes feed) reach)
-        (shelved H.contents H.asked H.brought H.back H.faults shelf.old) (shelved H.contents H.asked H.brought H.back H.faults shelf.new)
+    ensures { IsRun (an_ahead (string_bytes names.map)
+        (string_bytes names.fleet) (string_bytes feed) reach)
+        (shelved H.contents H.asked H.brought H.back H.faults shelf.old)
+        (shelved H.contents H.asked H.brought H.back H.faults shelf.new)
         (sunk K.written K.faults out.old out.new) result }
 {
     match bring_texts(alloc, shelf, names, None) {
@@ -70,8 +74,10 @@ pub fn audit<R: Threads + Sync, H: Shelf, K: Sink>(
     out: &mut K,
 ) -> u8
     requires fresh { IsFresh (shelved H.contents H.asked H.brought H.back H.faults shelf.old) }
-    ensures { IsRun (an_audit (string_bytes names.map) (string_bytes names.fleet) (string_bytes log))
-        (shelved H.contents H.asked H.brought H.back H.faults shelf.old) (shelved H.contents H.asked H.brought H.back H.faults shelf.new)
+    ensures { IsRun (an_audit (string_bytes names.map)
+        (string_bytes names.fleet) (string_bytes log))
+        (shelved H.contents H.asked H.brought H.back H.faults shelf.old)
+        (shelved H.contents H.asked H.brought H.back H.faults shelf.new)
         (sunk K.written K.faults out.old out.new) result }
 {
     match bring_texts(alloc, shelf, names, None) {
@@ -92,8 +98,10 @@ pub fn league<R: Threads + Sync, H: Shelf, K: Sink>(
     out: &mut K,
 ) -> u8
     requires fresh { IsFresh (shelved H.contents H.asked H.brought H.back H.faults shelf.old) }
-    ensures { IsRun (a_league (string_bytes names.map) (string_bytes names.fleet) (string_bytes second) (string_bytes feed))
-        (shelved H.contents H.asked H.brought H.back H.faults shelf.old) (shelved H.contents H.asked H.brought H.back H.faults shelf.new)
+    ensures { IsRun (a_league (string_bytes names.map) (string_bytes names.fleet)
+        (string_bytes second) (string_bytes feed))
+        (shelved H.contents H.asked H.brought H.back H.faults shelf.old)
+        (shelved H.contents H.asked H.brought H.back H.faults shelf.new)
         (sunk K.written K.faults out.old out.new) result }
 {
     match bring_texts(alloc, shelf, names, Some(second)) {
@@ -111,8 +119,10 @@ pub fn book<R: Threads + Sync, H: Shelf, K: Sink>(
     out: &mut K,
 ) -> u8
     requires fresh { IsFresh (shelved H.contents H.asked H.brought H.back H.faults shelf.old) }
-    ensures { IsRun (a_booking (string_bytes feed)) (shelved H.contents H.asked H.brought H.back H.faults shelf.old)
-        (shelved H.contents H.asked H.brought H.back H.faults shelf.new) (sunk K.written K.faults out.old out.new) result }
+    ensures { IsRun (a_booking (string_bytes feed))
+        (shelved H.contents H.asked H.brought H.back H.faults shelf.old)
+        (shelved H.contents H.asked H.brought H.back H.faults shelf.new)
+        (sunk K.written K.faults out.old out.new) result }
 {
     work_over(rt, alloc, Work::Book, feed, shelf, out)
 }
@@ -127,8 +137,10 @@ pub fn drill<R: Threads + Sync, H: Shelf, K: Sink>(
 ) -> u8
     requires plan { IsPlan plan.now }
     requires fresh { IsFresh (shelved H.contents H.asked H.brought H.back H.faults shelf.now) }
-    ensures { IsRun (a_drill plan.now) (shelved H.contents H.asked H.brought H.back H.faults shelf.now)
-        (shelved H.contents H.asked H.brought H.back H.faults shelf.now) (sunk K.written K.faults out.old out.new) result }
+    ensures { IsRun (a_drill plan.now)
+        (shelved H.contents H.asked H.brought H.back H.faults shelf.now)
+        (shelved H.contents H.asked H.brought H.back H.faults shelf.now)
+        (sunk K.written K.faults out.old out.new) result }
 {
     let _shelf = shelf;
     session_run::drill(rt, alloc, plan, out).status()
@@ -148,8 +160,10 @@ pub fn serve<R: Threads + Wait + Sync, H: Shelf, K: Sink, G: Gate>(
     requires workers { (1 ≤ crew.workers) × (crew.workers ≤ most_workers) }
     requires desks { IsOneOrTwo crew.desks }
     requires fresh { IsFresh (shelved H.contents H.asked H.brought H.back H.faults shelf.old) }
-    ensures { IsRun (a_service (string_bytes names.map) (string_bytes names.fleet) (string_bytes feeds.riders) (string_bytes feeds.drivers) crew.workers crew.desks)
-        (shelved H.contents H.asked H.brought H.back H.faults shelf.old) (shelved H.contents H.asked H.brought H.back H.faults shelf.new)
+    ensures { IsRun (a_service (string_bytes names.map) (string_bytes names.fleet)
+        (string_bytes feeds.riders) (string_bytes feeds.drivers) crew.workers crew.desks)
+        (shelved H.contents H.asked H.brought H.back H.faults shelf.old)
+        (shelved H.contents H.asked H.brought H.back H.faults shelf.new)
         (sunk K.written K.faults out.old out.new) result }
 {
     match bring_texts(alloc, shelf, names, None) {

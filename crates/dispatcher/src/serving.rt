@@ -1,12 +1,9 @@
 //! Services of two feeds, which are brought by their names and given back.
-ghost use Rattle.std.specs.Prelude.{◌≡◌, ◌<◌, ◌≤◌, [], length, string_bytes, All};
-ghost use Rattle.ride_model.specs.declared.vehicle.Vehicle.{Vehicle};
+ghost use Rattle.std.specs.Prelude.{◌<◌, ◌≤◌, length, string_bytes};
 ghost use Rattle.ride_model.specs.Limits.{most_workers};
-ghost use Rattle.ride_model.specs.Settings.{IsSettings};
 ghost use Rattle.ride_model.specs.Text.{IsOneOrTwo};
-ghost use Rattle.ride_model.specs.Vehicle.{IsLawful};
 ghost use Rattle.dispatcher.specs.Pairs.{ServesFeeds};
-ghost use Rattle.dispatcher.specs.Readings.{meaning_of};
+ghost use Rattle.dispatcher.specs.Readings.{MayBegin, meaning_of};
 ghost use Rattle.dispatcher.specs.Shelves.{shelved, sunk};
 
 use crate::files::Texts;
@@ -41,16 +38,15 @@ pub fn serve_feeds<R: Threads + Wait + Sync, H: Shelf, K: Sink, G: Gate>(
     out: &mut K,
     gate: &G,
 ) -> u8
+    requires start { MayBegin texts }
     requires workers { (1 ≤ crew.workers) × (crew.workers ≤ most_workers) }
     requires desks { IsOneOrTwo crew.desks }
     requires asked_room { length (H.asked shelf.old) < 7 }
     requires back_room { length (H.back shelf.old) < 7 }
-    requires settings { IsSettings texts.settings }
-    requires lawful { All (IsLawful texts.roads) texts.fleet }
-    requires idle { All (λ (v : Vehicle). v.stops.items ≡ []) texts.fleet }
-    requires first_versions { All (λ (v : Vehicle). v.version ≡ 0) texts.fleet }
-    ensures { ServesFeeds (meaning_of texts) crew.desks (string_bytes feeds.riders) (string_bytes feeds.drivers)
-        (shelved H.contents H.asked H.brought H.back H.faults shelf.old) (shelved H.contents H.asked H.brought H.back H.faults shelf.new)
+    ensures { ServesFeeds (meaning_of texts) crew.desks
+        (string_bytes feeds.riders) (string_bytes feeds.drivers)
+        (shelved H.contents H.asked H.brought H.back H.faults shelf.old)
+        (shelved H.contents H.asked H.brought H.back H.faults shelf.new)
         (sunk K.written K.faults out.old out.new) result }
 {
     let Texts {

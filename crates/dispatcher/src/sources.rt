@@ -1,11 +1,9 @@
 //! What is done over one source, which is brought by its name and given back.
-ghost use Rattle.std.specs.Prelude.{◌≡◌, ◌<◌, ◌≤◌, [], length, string_bytes, All};
-ghost use Rattle.ride_model.specs.declared.vehicle.Vehicle.{Vehicle};
+ghost use Rattle.std.specs.Prelude.{◌<◌, ◌≤◌, length, string_bytes};
 ghost use Rattle.ride_model.specs.Limits.{longest_reach};
-ghost use Rattle.ride_model.specs.Settings.{IsSettings};
-ghost use Rattle.ride_model.specs.Vehicle.{IsLawful};
 ghost use Rattle.session_run.specs.Serving.{feed_run};
 ghost use Rattle.dispatcher.specs.Shelves.{shelved, sunk};
+ghost use Rattle.dispatcher.specs.Readings.{MayBegin};
 ghost use Rattle.dispatcher.specs.Sources.{DoesWork, OfReach, OfTexts, WorksOver};
 
 use crate::files::Texts;
@@ -38,16 +36,12 @@ pub fn work_over<R: Threads + Sync, H: Shelf, K: Sink>(
 ) -> u8
     requires asked_room { length (H.asked shelf.old) < 8 }
     requires back_room { length (H.back shelf.old) < 8 }
-    requires settings { OfTexts (λ texts. IsSettings texts.settings) work }
-    requires lawful { OfTexts (λ texts. All (IsLawful texts.roads) texts.fleet) work }
-    requires idle { OfTexts (λ texts. All (λ (v : Vehicle). v.stops.items ≡ []) texts.fleet) work }
-    requires first_versions { OfTexts (λ texts. All (λ (v : Vehicle). v.version ≡ 0) texts.fleet) work }
-    requires second_lawful { OfTexts (λ texts. All (IsLawful texts.roads) texts.second) work }
-    requires second_idle { OfTexts (λ texts. All (λ (v : Vehicle). v.stops.items ≡ []) texts.second) work }
-    requires second_versions { OfTexts (λ texts. All (λ (v : Vehicle). v.version ≡ 0) texts.second) work }
+    requires start { OfTexts MayBegin work }
     requires reach { OfReach (λ reach. (1 ≤ reach) × (reach ≤ longest_reach)) work }
-    ensures { DoesWork work (string_bytes name) (shelved H.contents H.asked H.brought H.back H.faults shelf.old)
-        (shelved H.contents H.asked H.brought H.back H.faults shelf.new) (sunk K.written K.faults out.old out.new) result }
+    ensures { DoesWork work (string_bytes name)
+        (shelved H.contents H.asked H.brought H.back H.faults shelf.old)
+        (shelved H.contents H.asked H.brought H.back H.faults shelf.new)
+        (sunk K.written K.faults out.old out.new) result }
 {
     let Ok(mut source) = shelf.bring(name) else {
         return Status::SourceFailed.code();
@@ -65,15 +59,10 @@ fn do_work<R: Threads + Sync, S: Source, K: Sink>(
     source: &mut S,
     out: &mut K,
 ) -> u8
-    requires settings { OfTexts (λ texts. IsSettings texts.settings) work }
-    requires lawful { OfTexts (λ texts. All (IsLawful texts.roads) texts.fleet) work }
-    requires idle { OfTexts (λ texts. All (λ (v : Vehicle). v.stops.items ≡ []) texts.fleet) work }
-    requires first_versions { OfTexts (λ texts. All (λ (v : Vehicle). v.version ≡ 0) texts.fleet) work }
-    requires second_lawful { OfTexts (λ texts. All (IsLawful texts.roads) texts.second) work }
-    requires second_idle { OfTexts (λ texts. All (λ (v : Vehicle). v.stops.items ≡ []) texts.second) work }
-    requires second_versions { OfTexts (λ texts. All (λ (v : Vehicle). v.version ≡ 0) texts.second) work }
+    requires start { OfTexts MayBegin work }
     requires reach { OfReach (λ reach. (1 ≤ reach) × (reach ≤ longest_reach)) work }
-    ensures { WorksOver work (feed_run (S.left source.old) (S.left source.new) (S.faults source.old) (S.faults source.new))
+    ensures { WorksOver work (feed_run (S.left source.old) (S.left source.new)
+        (S.faults source.old) (S.faults source.new))
         (sunk K.written K.faults out.old out.new) result }
 {
     match work {

@@ -31,17 +31,21 @@ pub fn run<R: Threads + Wait + Sync, H: Shelf, K: Sink, G: Gate>(
     requires fresh { IsFresh (shelved H.contents H.asked H.brought H.back H.faults shelf.old) }
 
     // Words that are not in order are refused, and nothing is asked for.
-    ensures refused { ask_of (map string_bytes words.now) ≡ None → RefusesWords (shelved H.contents H.asked H.brought H.back H.faults shelf.new)
+    ensures refused { ask_of (map string_bytes words.now) ≡ None
+        → RefusesWords (shelved H.contents H.asked H.brought H.back H.faults shelf.new)
         (sunk K.written K.faults out.old out.new) result }
 
     // What they ask for is done: names are asked for in order, texts are read, every source is given back, and each status has its cause.
-    ensures run { IfSome (ask_of (map string_bytes words.now)) (λ ask. IsRun ask (shelved H.contents H.asked H.brought H.back H.faults shelf.old)
-        (shelved H.contents H.asked H.brought H.back H.faults shelf.new) (sunk K.written K.faults out.old out.new) result) }
+    ensures run { IfSome (ask_of (map string_bytes words.now))
+        (λ ask. IsRun ask (shelved H.contents H.asked H.brought H.back H.faults shelf.old)
+        (shelved H.contents H.asked H.brought H.back H.faults shelf.new)
+        (sunk K.written K.faults out.old out.new) result) }
 
     // Of a service that ran whole one legal history is logged, in which each feed's commands stand once and in order, all of them; every
     // batch is seated at least cost over the versions that it names, as its printed prices prove; only standing pairs are committed;
     // and every confirmed ride keeps its promises until a late report names it.
-    ensures served { IfSome (ask_of (map string_bytes words.now)) (λ ask. ServesWell ask (H.contents shelf.old)
+    ensures served { IfSome (ask_of (map string_bytes words.now))
+        (λ ask. ServesWell ask (H.contents shelf.old)
         (sunk K.written K.faults out.old out.new) result) }
 {
     match read_ask(alloc, words) {
@@ -66,7 +70,8 @@ fn run_ask<R: Threads + Wait + Sync, H: Shelf, K: Sink, G: Gate>(
     requires in_range { IsInRange ask }
     requires fresh { IsFresh (shelved H.contents H.asked H.brought H.back H.faults shelf.old) }
     ensures { IsRun (asked_by ask) (shelved H.contents H.asked H.brought H.back H.faults shelf.old)
-        (shelved H.contents H.asked H.brought H.back H.faults shelf.new) (sunk K.written K.faults out.old out.new) result }
+        (shelved H.contents H.asked H.brought H.back H.faults shelf.new)
+        (sunk K.written K.faults out.old out.new) result }
 {
     match ask {
         Ask::Replay { map, fleet, feed } => {

@@ -28,7 +28,8 @@ pub fn say_found<K: Sink>(alloc: Global, found: Result<Verdict, AuditFault>, out
 
 // Says that a log is right.
 fn say_yes<K: Sink>(alloc: Global, totals: Totals, out: &mut K) -> u8
-    ensures said { EndsBy (Ok (Verdict.Yes totals)) result (sunk K.written K.faults out.old out.new) }
+    ensures said { EndsBy (Ok (Verdict.Yes totals)) result
+        (sunk K.written K.faults out.old out.new) }
     ensures sink_fault { result ≡ 6 → Rose (K.faults out.old) (K.faults out.new) }
     ensures counts_none { result ≡ 0 → K.faults out.new ≡ K.faults out.old }
 {
@@ -43,7 +44,8 @@ fn say_yes<K: Sink>(alloc: Global, totals: Totals, out: &mut K) -> u8
 
 // Says which line of a log is wrong first.
 fn say_no<K: Sink>(alloc: Global, line: u64, why: Why, out: &mut K) -> u8
-    ensures said { EndsBy (Ok (Verdict.No line why)) result (sunk K.written K.faults out.old out.new) }
+    ensures said { EndsBy (Ok (Verdict.No line why)) result
+        (sunk K.written K.faults out.old out.new) }
     ensures one_or_seven { (result ≡ 1) ⊎ (result ≡ 7) }
 {
     let Ok(line) = no_line(alloc, line, why) else {

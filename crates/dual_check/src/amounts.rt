@@ -61,7 +61,8 @@ impl Amounts for PriceTable {
 // Whether a price is above none of a row's amounts and the column's payment.
 fn are_cells_covered(cells: &[Cell], price: u64, pays: &[u64]) -> bool
     requires { length pays.now ≡ length cells.now }
-    ensures { MatchBool result (CoversCells cells.now price pays.now) (CoversCells cells.now price pays.now → ⊥) }
+    ensures { MatchBool result (CoversCells cells.now price pays.now)
+        (CoversCells cells.now price pays.now → ⊥) }
 {
     // Without an early end the cells are compared several at a time.
     let mut covered = true;
@@ -74,7 +75,8 @@ fn are_cells_covered(cells: &[Cell], price: u64, pays: &[u64]) -> bool
 // Whether a price is at most the amount of a cell, if any, and a payment.
 #[inline(always)]
 fn is_cell_covered(cell: Cell, price: u64, pay: u64) -> bool
-    ensures { MatchBool result (IfSome cell (λ amount. price ≤ amount + pay)) (IfSome cell (λ amount. price ≤ amount + pay) → ⊥) }
+    ensures { MatchBool result (IfSome cell (λ amount. price ≤ amount + pay))
+        (IfSome cell (λ amount. price ≤ amount + pay) → ⊥) }
 {
     price.saturating_sub(pay) <= cell.amount_or_most()
 }

@@ -26,7 +26,8 @@ pub fn certifies(
 ) -> bool
     requires fits { FitsBatch batch.now table.now }
     requires small { HasSmallCosts table.now }
-    requires in_cells { All (λ seat. (r : ℕ) × (c : ℕ) × IsSeatAt batch.now table.now seat r c) seating.now }
+    requires in_cells { All (λ seat. (r : ℕ) × (c : ℕ)
+        × IsSeatAt batch.now table.now seat r c) seating.now }
     ensures exact { MatchBool result
         (CertifiesOverCells batch.now table.now seating.now prices.now pays.now)
         (CertifiesOverCells batch.now table.now seating.now prices.now pays.now → ⊥) }
@@ -58,7 +59,8 @@ fn certifies_over_cells(
     pays: &[(u64, u64)],
 ) -> bool
     requires fits { FitsBatch batch.now table.now }
-    requires in_cells { All (λ seat. (r : ℕ) × (c : ℕ) × IsSeatAt batch.now table.now seat r c) seats.now }
+    requires in_cells { All (λ seat. (r : ℕ) × (c : ℕ)
+        × IsSeatAt batch.now table.now seat r c) seats.now }
     requires requests_are { requests.now ≡ ride_ids batch.now.requests }
     requires few { length requests.now ≤ largest_batch }
     requires requests_differ { IsDistinct nat_eq requests.now }

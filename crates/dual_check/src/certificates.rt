@@ -63,7 +63,8 @@ fn is_balanced<T: Amounts>(
     requires paired { IsPairing (T.as_grid table.now) columns.now }
     ensures { MatchBool result
         (sum prices.now ≡ pairing_cost (T.as_grid table.now) penalty columns.now + sum pays.now)
-        (sum prices.now ≡ pairing_cost (T.as_grid table.now) penalty columns.now + sum pays.now → ⊥) }
+        (sum prices.now ≡ pairing_cost (T.as_grid table.now) penalty columns.now + sum pays.now
+        → ⊥) }
 {
     total(prices) == cost_of(table, penalty, columns) + total(pays)
 }

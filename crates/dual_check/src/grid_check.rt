@@ -9,7 +9,8 @@ use crate::{Grid, Paired};
 pub fn certifies_grid(grid: &Grid, penalty: u64, paired: &Paired) -> bool
     ensures { MatchBool result
         (CertifiesPairing grid.now penalty paired.now.columns paired.now.prices paired.now.pays)
-        (CertifiesPairing grid.now penalty paired.now.columns paired.now.prices paired.now.pays → ⊥) }
+        (CertifiesPairing grid.now penalty paired.now.columns paired.now.prices paired.now.pays
+        → ⊥) }
 {
     let columns = paired.columns.items();
     let prices = paired.prices.items();

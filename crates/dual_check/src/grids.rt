@@ -31,7 +31,8 @@ impl Grid {
     pub fn new(alloc: Global, rows: u32, columns: u32) -> Result<Grid, NoMemory>
         requires rows_limit { rows ≤ largest_batch }
         requires columns_limit { columns ≤ widest_grid }
-        ensures { IfOk result (λ grid. grid ≡ record { rows = rows; columns = columns; cells = replicate (rows * columns) None }) }
+        ensures { IfOk result (λ grid. grid
+            ≡ record { rows = rows; columns = columns; cells = replicate (rows * columns) None }) }
     {
         let cells = vec![in alloc; Cell::empty(); rows as usize * columns as usize]?;
         Ok(Grid {
@@ -46,7 +47,10 @@ impl Grid {
         requires row_in { row < self.old.rows }
         requires column_in { column < self.old.columns }
         requires amount_limit { amount < 2 ^ 42 }
-        ensures { self.new ≡ record self.old { cells = slice_set self.old.cells (row * self.old.columns + column) (Some amount) } }
+        ensures { self.new ≡ record self.old {
+          cells = slice_set self.old.cells
+              (row * self.old.columns + column) (Some amount);
+        } }
     {
         let place = row as usize * self.columns as usize + column as usize;
         self.cells[place] = Cell::of(amount);
@@ -66,7 +70,8 @@ impl Grid {
     #[inline]
     pub fn row(&self, row: u32) -> &[Cell]
         requires { row < self.now.rows }
-        ensures cells { result.now ≡ take self.now.columns (drop (row * self.now.columns) self.now.cells) }
+        ensures cells { result.now ≡ take self.now.columns
+            (drop (row * self.now.columns) self.now.cells) }
         ensures one_each { length result.now ≡ self.now.columns }
         ensures amounts_limit { All IsSmall result.now }
     {

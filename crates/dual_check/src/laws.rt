@@ -11,7 +11,8 @@ use ride_model::{AmountList, SeatList};
 
 /// A pairing that prices certify is least.
 pub fn weak_duality_grid(grid: &Grid, penalty: u64, paired: &Paired)
-    requires { CertifiesPairing grid.now penalty paired.now.columns paired.now.prices paired.now.pays }
+    requires { CertifiesPairing grid.now penalty paired.now.columns
+        paired.now.prices paired.now.pays }
     ensures { IsLeastPairing grid.now penalty paired.now.columns }
 {}
 
@@ -26,7 +27,8 @@ pub fn weak_duality(
     requires fits { FitsBatch batch.now table.now }
     requires small { HasSmallCosts table.now }
     requires certified { CertifiesOverCells batch.now table.now seating.now prices.now pays.now }
-    ensures { (roads : RoadMap) → IsTableOf roads batch.now table.now → IsLeastSeating roads batch.now seating.now }
+    ensures { (roads : RoadMap) → IsTableOf roads batch.now table.now
+        → IsLeastSeating roads batch.now seating.now }
 {
     // These calls tell that the requests differ, and the vehicles.
     let _requests = batch.requests();

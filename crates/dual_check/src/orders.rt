@@ -69,7 +69,8 @@ pub fn items_by_id<T: HasId + Copy, const N: usize>(
     requires ids_differ { IsDistinct nat_eq ids.now }
     ensures { MatchOption result
         (StandsInOrder T.id_of ids.now items.now → ⊥)
-        (λ each. StandsInOrder T.id_of ids.now items.now × (each.items ≡ map (item_of T.id_of items.now) ids.now)) }
+        (λ each. StandsInOrder T.id_of ids.now items.now
+        × (each.items ≡ map (item_of T.id_of items.now) ids.now)) }
 {
     let mut each = ArrayVec::new();
     let mut next = 0;

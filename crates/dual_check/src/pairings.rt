@@ -11,7 +11,8 @@ pub fn is_pairing<T: Amounts>(table: &T, columns: &[Option<u32>], many: u32) -> 
     requires few { length columns.now ≤ largest_batch }
     requires columns_each { length columns.now ≡ (T.as_grid table.now).rows }
     requires many_is { many ≡ (T.as_grid table.now).columns }
-    ensures { MatchBool result (IsPairing (T.as_grid table.now) columns.now) (IsPairing (T.as_grid table.now) columns.now → ⊥) }
+    ensures { MatchBool result (IsPairing (T.as_grid table.now) columns.now)
+        (IsPairing (T.as_grid table.now) columns.now → ⊥) }
 {
     stands_in_cells(table, columns, many) && has_columns_once(columns)
 }

@@ -6,8 +6,8 @@ use Rattle.std.proofs.lemmas.Bool.{eqb-true}
 use Rattle.std.specs.declared.alloc.AllocError.{AllocError}
 use Rattle.std.proofs.lemmas.Option.{same_Some}
 use Rattle.ride_model.specs.declared.entry.Entry.{Entry}
-use Rattle.ride_model.specs.Batch.{next_batch, outcomes_of, after_commit}
-use Rattle.ride_model.specs.Legal.{after_entry, replay, IsLegal, CommitsBatch}
+use Rattle.ride_model.specs.Batch.{next_batch, outcomes_of}
+use Rattle.ride_model.specs.Legal.{replay, IsLegal, CommitsBatch}
 use Rattle.ride_model.specs.Seating.{BatchCopy, seating_cost}
 use Rattle.ride_model.specs.State.{State, is_batch, open_batch_of, open_batch_numbered}
 use Rattle.plain_lemmas.proofs.Among.{Among, found_among}

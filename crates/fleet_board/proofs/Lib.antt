@@ -7,4 +7,3 @@ pub mod MayEnd
 pub mod Closing
 pub mod Tails
 pub mod Starting
-pub mod Counts

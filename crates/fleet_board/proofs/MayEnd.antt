@@ -3,7 +3,7 @@ use Rattle.std.proofs.Common.{◌≡◌, ℕ, ◌-◌, ◌≤◌, Bool, true, fa
 use Rattle.std.specs.Prelude.{nat_le, nat_lt, is_some}
 use Rattle.ride_model.specs.declared.command.Actor.TheVariants.{Feed, Desk}
 use Rattle.ride_model.specs.declared.entry.Ending.{Ending}
-use Rattle.ride_model.specs.declared.entry.Ending.TheVariants.{Whole, Cut}
+use Rattle.ride_model.specs.declared.entry.Ending.TheVariants.{Whole}
 use Rattle.ride_model.specs.declared.entry.Event.TheVariants.{Finish}
 use Rattle.ride_model.specs.Batch.{next_batch}
 use Rattle.ride_model.specs.Legal.{IsLegal, IsLegalEvent, all_feeds_ended}
@@ -14,7 +14,7 @@ use Rattle.history_laws.proofs.Others.{NoneToCome, none_to_come}
 use Rattle.history_laws.proofs.HistoryTexts.{one_or_two}
 use Rattle.board_core.specs.declared.opening.Opening.TheVariants.{Batch, Idle, Ended}
 use Rattle.board_core.specs.Recorded.{Recorded, state_of}
-use Rattle.fleet_board.specs.Openings.{HasNoneOpen, OpensNone}
+use Rattle.fleet_board.specs.Openings.{OpensNone}
 use Rattle.fleet_board.specs.Passes.{Known, pass_number, actor_of, root_of, seen_state, desk_of, IsPoint, IsFeed, IsDesk}
 use Rattle.fleet_board.specs.Turns.{Finds}
 use Rattle.fleet_board.proofs.Actors.{feed-found, desk-found}

@@ -1,6 +1,5 @@
 //! What desks do: they open batches, commit them and give them up.
 ghost use Rattle.std.specs.Prelude.{IfOk, OnErr};
-ghost use Rattle.adaptive_roads.specs.Shared.{IsMadeOf};
 ghost use Rattle.batch_commit.specs.Table.{IsTableOf};
 ghost use Rattle.board_core.specs.Recorded.{committed_entry, abandoned_entry};
 ghost use Rattle.turn_lock.specs.Passes.{knowledge};
@@ -13,8 +12,6 @@ use crate::{ActorPass, SharedBoard};
 use batch_commit::{Batch, Solved};
 use board_core::Opening;
 use ride_model::NoMemory;
-use road_hierarchy::Hierarchy;
-use std::alloc::Global;
 use std::sync::Wait;
 
 impl<'r> SharedBoard<'r> {
@@ -59,14 +56,17 @@ impl<'r> SharedBoard<'r> {
         requires point { IsPoint (knowledge pass.old) }
         requires desk { IsDesk (knowledge pass.old) }
         requires is_open { HasOpen (knowledge pass.old) solved.batch }
-        requires table { IsTableOf (root_of (knowledge pass.old)).start.roads solved.batch solved.table }
+        requires table { IsTableOf (root_of
+            (knowledge pass.old)).start.roads solved.batch solved.table }
         ensures pass { MayUse self.now pass.new }
         ensures point { IsPoint (knowledge pass.new) }
         ensures desk { IsDesk (knowledge pass.new) }
         ensures none_open { HasNoneOpen (knowledge pass.new) }
-        ensures entry { AddsEntry (knowledge pass.old) (knowledge pass.new) (committed_entry (state_before (knowledge pass.new)) solved) }
+        ensures entry { AddsEntry (knowledge pass.old) (knowledge pass.new)
+            (committed_entry (state_before (knowledge pass.new)) solved) }
         ensures certified { CommitsSolved (state_before (knowledge pass.new)) solved }
-        ensures standing { ChangesOnlyStanding (state_before (knowledge pass.new)) solved.batch (seen_state (knowledge pass.new)) }
+        ensures standing { ChangesOnlyStanding (state_before (knowledge pass.new)) solved.batch
+            (seen_state (knowledge pass.new)) }
     {
         let mut kept = self.take_turn(rt, pass);
         kept.board.commit(solved);
@@ -84,35 +84,11 @@ impl<'r> SharedBoard<'r> {
         ensures point { IsPoint (knowledge pass.new) }
         ensures desk { IsDesk (knowledge pass.new) }
         ensures none_open { HasNoneOpen (knowledge pass.new) }
-        ensures entry { AddsEntry (knowledge pass.old) (knowledge pass.new) (abandoned_entry batch) }
+        ensures entry { AddsEntry (knowledge pass.old)
+            (knowledge pass.new) (abandoned_entry batch) }
     {
         let mut kept = self.take_turn(rt, pass);
         kept.board.abandon(batch);
         self.leave_with(pass, kept);
-    }
-
-    /// Lets the board go on by a hierarchy of its roads, by which it finds travel times sooner, between two batches of the pass's
-    /// desk. Adds nothing. Where memory is wanting the board searches, as before.
-    pub fn climb_by<R: Wait>(
-        &self,
-        rt: &R,
-        pass: &mut ActorPass<'r>,
-        alloc: Global,
-        hierarchy: &'r Hierarchy,
-    )
-        requires pass { MayUse self.now pass.old }
-        requires point { IsPoint (knowledge pass.old) }
-        requires desk { IsDesk (knowledge pass.old) }
-        requires none_open { HasNoneOpen (knowledge pass.old) }
-        requires made { IsMadeOf (root_of (knowledge pass.old)).start.roads hierarchy.now }
-        ensures pass { MayUse self.now pass.new }
-        ensures point { IsPoint (knowledge pass.new) }
-        ensures desk { IsDesk (knowledge pass.new) }
-        ensures none { AddsNone (knowledge pass.old) (knowledge pass.new) }
-        ensures none_open { HasNoneOpen (knowledge pass.new) }
-    {
-        let mut kept = self.take_turn(rt, pass);
-        kept.board.climb_by(alloc, hierarchy);
-        self.lock.leave_same(pass, kept);
     }
 }

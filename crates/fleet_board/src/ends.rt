@@ -16,11 +16,14 @@ impl<'r> SharedBoard<'r> {
     pub fn end<R: Wait>(&self, rt: &R, pass: &mut ActorPass<'r>, ending: Ending)
         requires pass { MayUse self.now pass.old }
         requires point { IsPoint (knowledge pass.old) }
-        requires may_end { IsLegalEvent (root_of (knowledge pass.old)).feeds (root_of (knowledge pass.old)).desks
-            (seen_state (knowledge pass.old)) (actor_of (knowledge pass.old).number) (Finish ending) }
+        requires may_end { IsLegalEvent (root_of (knowledge pass.old)).feeds
+            (root_of (knowledge pass.old)).desks
+            (seen_state (knowledge pass.old))
+            (actor_of (knowledge pass.old).number) (Finish ending) }
         ensures pass { MayUse self.now pass.new }
         ensures point { IsPoint (knowledge pass.new) }
-        ensures entry { AddsEntry (knowledge pass.old) (knowledge pass.new) (end_entry (actor_of (knowledge pass.old).number) ending) }
+        ensures entry { AddsEntry (knowledge pass.old) (knowledge pass.new)
+            (end_entry (actor_of (knowledge pass.old).number) ending) }
     {
         let mut kept = self.take_turn(rt, pass);
         let actor = actor_of(pass.number());

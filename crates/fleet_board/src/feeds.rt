@@ -25,13 +25,15 @@ impl<'r> SharedBoard<'r> {
         requires point { IsPoint (knowledge pass.old) }
         requires feed { IsFeed (knowledge pass.old) }
         requires few { length (commands_in (knowledge pass.old).own) < most_commands }
-        requires spelled { IsSpelledCommand (root_of (knowledge pass.old)).start.settings.log command.now }
+        requires spelled { IsSpelledCommand
+            (root_of (knowledge pass.old)).start.settings.log command.now }
         ensures pass { MayUse self.now pass.new }
         ensures point { IsPoint (knowledge pass.new) }
         ensures feed { IsFeed (knowledge pass.new) }
         ensures entry { IfOk result (λ reply. AddsEntry (knowledge pass.old) (knowledge pass.new)
             (record { actor = Feed (knowledge pass.old).number; event = Fed command.now reply })) }
-        ensures reply { IfOk result (λ reply. reply ≡ (step (state_before (knowledge pass.new)) command.now).reply) }
+        ensures reply { IfOk result (λ reply. reply
+            ≡ (step (state_before (knowledge pass.new)) command.now).reply) }
         ensures no_memory { OnErr result (AddsNone (knowledge pass.old) (knowledge pass.new)) }
     {
         let mut kept = self.take_turn(rt, pass);

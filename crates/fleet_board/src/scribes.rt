@@ -34,9 +34,11 @@ impl<'r> SharedBoard<'r> {
         ensures pass { MayUse self.now pass.new }
         ensures point { IsPoint (knowledge pass.new) }
         ensures none { AddsNone (knowledge pass.old) (knowledge pass.new) }
-        ensures entries { IfOk result (λ tail. tail.entries.items ≡ take most (drop from (knowledge pass.new).seen)) }
+        ensures entries { IfOk result
+            (λ tail. tail.entries.items ≡ take most (drop from (knowledge pass.new).seen)) }
         ensures settled { IfOk result (λ tail. tail.settled
-            ≡ all_ended (root_of (knowledge pass.new)).feeds (root_of (knowledge pass.new)).desks (seen_state (knowledge pass.new))) }
+            ≡ all_ended (root_of (knowledge pass.new)).feeds (root_of (knowledge pass.new)).desks
+            (seen_state (knowledge pass.new))) }
     {
         let kept = self.take_turn(rt, pass);
         let tail = tail_of(alloc, &kept.board, from, most);
@@ -55,8 +57,10 @@ impl<'r> SharedBoard<'r> {
 
 // Entries of a board from a place on, and whether its actors have all ended.
 fn tail_of(alloc: Global, board: &Board<'_>, from: u64, most: u32) -> Result<Tail, NoMemory>
-    ensures entries { IfOk result (λ tail. tail.entries.items ≡ take most (drop from board.now.history)) }
-    ensures settled { IfOk result (λ tail. tail.settled ≡ all_ended board.now.feeds board.now.desks (state_of board.now)) }
+    ensures entries { IfOk result
+        (λ tail. tail.entries.items ≡ take most (drop from board.now.history)) }
+    ensures settled { IfOk result
+        (λ tail. tail.settled ≡ all_ended board.now.feeds board.now.desks (state_of board.now)) }
 {
     let entries = copies_of(alloc, board.entries(), from as usize, most as usize)?;
     Ok(Tail {

@@ -37,17 +37,20 @@ impl<'r> SharedBoard<'r> {
         board: Board<'r>,
     ) -> Result<(SharedBoard<'r>, PassSet<'r>), NoMemory>
         requires { board.history ≡ [] }
-        ensures feed_1 { IfOk result (λ r. IsSomeAnd r.1.feed_1 (IsNewFeed r.0 (as_began board.entry) 1)) }
+        ensures feed_1 { IfOk result (λ r.
+            IsSomeAnd r.1.feed_1 (IsNewFeed r.0 (as_began board.entry) 1)) }
         ensures feed_2 { IfOk result (λ r. MatchOption r.1.feed_2 (board.entry.feeds ≢ 2)
             (λ pass. (board.entry.feeds ≡ 2) × IsNewFeed r.0 (as_began board.entry) 2 pass)) }
-        ensures desk_1 { IfOk result (λ r. IsSomeAnd r.1.desk_1 (IsNewDesk r.0 (as_began board.entry) 3)) }
+        ensures desk_1 { IfOk result (λ r.
+            IsSomeAnd r.1.desk_1 (IsNewDesk r.0 (as_began board.entry) 3)) }
         ensures desk_2 { IfOk result (λ r. MatchOption r.1.desk_2 (board.entry.desks ≢ 2)
             (λ pass. (board.entry.desks ≡ 2) × IsNewDesk r.0 (as_began board.entry) 4 pass)) }
         ensures scribe { IfOk result (λ r. IsBack r.0 0 r.1.scribe) }
         ensures scribe_point { IfOk result (λ r. IsPoint (knowledge r.1.scribe)) }
         ensures scribe_seen { IfOk result (λ r. (knowledge r.1.scribe).seen ≡ []) }
         ensures root { IfOk result (λ r. (knowledge r.1.scribe).root ≡ as_began board.entry ∷ []) }
-        ensures out { IfOk result (λ r. (knowledge r.1.scribe).out ≡ one_if_some r.1.feed_1 + one_if_some r.1.feed_2
+        ensures out { IfOk result (λ r. (knowledge r.1.scribe).out
+            ≡ one_if_some r.1.feed_1 + one_if_some r.1.feed_2
             + one_if_some r.1.desk_1 + one_if_some r.1.desk_2) }
     {
         let two_feeds = board.feeds() == 2;
@@ -82,18 +85,27 @@ impl<'r> SharedBoard<'r> {
         requires feed_2 { IfSome passes.feed_2 (IsBack self 2) }
         requires desk_1 { IfSome passes.desk_1 (IsBack self 3) }
         requires desk_2 { IfSome passes.desk_2 (IsBack self 4) }
-        requires out { (knowledge passes.scribe).out ≡ one_if_some passes.feed_1 + one_if_some passes.feed_2
+        requires out { (knowledge passes.scribe).out
+            ≡ one_if_some passes.feed_1 + one_if_some passes.feed_2
             + one_if_some passes.desk_1 + one_if_some passes.desk_2 }
         ensures done { IsOk result }
-        ensures root { IfOk result (λ board. (knowledge passes.entry.scribe).root ≡ as_began board ∷ []) }
+        ensures root { IfOk result (λ board. (knowledge passes.entry.scribe).root
+            ≡ as_began board ∷ []) }
         ensures start { IfOk result (λ board. IsStart board.start) }
-        ensures legal { IfOk result (λ board. IsLegal board.feeds board.desks board.start board.history) }
-        ensures text { IfOk result (λ board. HasText board.start.settings.log board.feeds board.desks board.history) }
-        ensures seen { IfOk result (λ board. IsPrefix (knowledge passes.entry.scribe).seen board.history) }
-        ensures feed_1 { IfOk result (λ board. IfSome passes.entry.feed_1 (λ pass. IsPartOf board.history (Feed 1) (knowledge pass))) }
-        ensures feed_2 { IfOk result (λ board. IfSome passes.entry.feed_2 (λ pass. IsPartOf board.history (Feed 2) (knowledge pass))) }
-        ensures desk_1 { IfOk result (λ board. IfSome passes.entry.desk_1 (λ pass. IsPartOf board.history (Desk 1) (knowledge pass))) }
-        ensures desk_2 { IfOk result (λ board. IfSome passes.entry.desk_2 (λ pass. IsPartOf board.history (Desk 2) (knowledge pass))) }
+        ensures legal { IfOk result (λ board.
+            IsLegal board.feeds board.desks board.start board.history) }
+        ensures text { IfOk result (λ board.
+            HasText board.start.settings.log board.feeds board.desks board.history) }
+        ensures seen { IfOk result (λ board.
+            IsPrefix (knowledge passes.entry.scribe).seen board.history) }
+        ensures feed_1 { IfOk result (λ board.
+            IfSome passes.entry.feed_1 (λ pass. IsPartOf board.history (Feed 1) (knowledge pass))) }
+        ensures feed_2 { IfOk result (λ board.
+            IfSome passes.entry.feed_2 (λ pass. IsPartOf board.history (Feed 2) (knowledge pass))) }
+        ensures desk_1 { IfOk result (λ board.
+            IfSome passes.entry.desk_1 (λ pass. IsPartOf board.history (Desk 1) (knowledge pass))) }
+        ensures desk_2 { IfOk result (λ board.
+            IfSome passes.entry.desk_2 (λ pass. IsPartOf board.history (Desk 2) (knowledge pass))) }
     {
         let PassSet {
             feed_1,
@@ -149,8 +161,10 @@ fn kept_if<'r>(
     requires numbered { (knowledge pass).number ≢ 0 }
     ensures scribe { IsBackTo lock.now 0 scribe.new }
     ensures kept { MatchOption result
-        ((has_actor ≡ false) × (knowledge scribe.new ≡ after_join (knowledge scribe.old) (knowledge pass.entry)))
-        (λ p. (has_actor ≡ true) × (knowledge scribe.new ≡ knowledge scribe.old) × (p ≡ pass.entry)) }
+        ((has_actor ≡ false) × (knowledge scribe.new
+        ≡ after_join (knowledge scribe.old) (knowledge pass.entry)))
+        (λ p. (has_actor ≡ true) × (knowledge scribe.new ≡ knowledge scribe.old)
+        × (p ≡ pass.entry)) }
 {
     if has_actor {
         return Some(pass);
@@ -167,8 +181,10 @@ fn join_some<'r>(lock: &TurnLock<Kept<'r>>, scribe: &mut ActorPass<'r>, pass: Op
     ensures joined { MatchOption pass.entry (knowledge scribe.new ≡ knowledge scribe.old)
         (λ p. knowledge scribe.new ≡ after_join (knowledge scribe.old) (knowledge p)) }
     ensures seen { IsPrefix (knowledge scribe.old).seen (knowledge scribe.new).seen }
-    ensures pass_seen { IfSome pass.entry (λ p. IsPrefix (knowledge p).seen (knowledge scribe.new).seen) }
+    ensures pass_seen { IfSome pass.entry
+        (λ p. IsPrefix (knowledge p).seen (knowledge scribe.new).seen) }
     ensures out { (knowledge scribe.new).out + one_if_some pass.entry ≡ (knowledge scribe.old).out }
+    ensures root { (knowledge scribe.new).root ≡ (knowledge scribe.old).root }
 {
     if let Some(pass) = pass {
         lock.join(scribe, pass);

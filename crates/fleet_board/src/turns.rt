@@ -30,10 +30,13 @@ impl<'r> SharedBoard<'r> {
     pub(crate) fn leave_with(&self, pass: &mut ActorPass<'r>, kept: Kept<'r>)
         requires pass { MayLeave self.now.lock pass.old }
         requires root { HasRoot pass.old (as_began kept.board) }
-        requires grown { GrowsByOne maker_of (knowledge pass.old).number (knowledge pass.old).seen kept.board.history }
+        requires grown { GrowsByOne maker_of (knowledge pass.old).number
+            (knowledge pass.old).seen kept.board.history }
         ensures pass { MayEnter self.now.lock pass.new }
-        ensures knows { knowledge pass.new ≡ after_leave (after_note (knowledge pass.old) kept.entry.board.history) }
-        ensures own { (entry : Entry) → kept.entry.board.history ≡ (knowledge pass.old).seen ++ entry ∷ []
+        ensures knows { knowledge pass.new
+            ≡ after_leave (after_note (knowledge pass.old) kept.entry.board.history) }
+        ensures own { (entry : Entry)
+            → kept.entry.board.history ≡ (knowledge pass.old).seen ++ entry ∷ []
             → (knowledge pass.new).own ≡ (knowledge pass.old).own ++ entry ∷ [] }
         ensures told { IsTold kept.entry.board }
     {

@@ -1,6 +1,6 @@
 -- Vehicles that a fleet file gives are lawful over its map, idle and of version 0.
-use Rattle.std.proofs.Common.{◌≡◌, ℕ, zero, suc, ◌+◌, ◌==◌, ◌||◌, nat_lt, nat_le, Bool, true, false, cond, List, [], ◌∷◌, length, take, Option, Some, None, Result, Ok, Err, refl, ap, sym, subst, arith, true≢false}
-use Rattle.std.specs.Prelude.{All, codes}
+use Rattle.std.proofs.Common.{◌≡◌, ℕ, ◌+◌, ◌==◌, ◌||◌, nat_lt, nat_le, Bool, true, false, cond, List, [], ◌∷◌, length, take, Option, Some, None, Result, Ok, Err, refl, ap, sym, subst, arith}
+use Rattle.std.specs.Prelude.{All, codes, is_some}
 use Rattle.std.specs.List.{IsDistinct, list_any}
 use Rattle.std.specs.Str.{bytes_eq}
 use Rattle.std.proofs.lemmas.Bool.{eqb-false, le-leb, ltb-false, or_parts}
@@ -11,13 +11,14 @@ use Rattle.line_text.specs.Lines.{lines_of}
 use Rattle.line_text.specs.Texts.{and_then, after_lines, after_ended}
 use Rattle.ride_model.specs.declared.settings.Settings.{Settings}
 use Rattle.ride_model.specs.declared.vehicle.Vehicle.{Vehicle}
+use Rattle.ride_model.specs.Fleet.{MayStart}
 use Rattle.ride_model.specs.Road.{RoadMap}
+use Rattle.ride_model.specs.Settings.{IsSettings}
 use Rattle.ride_model.specs.Vehicle.{IsLawful}
-use Rattle.fleet_file.specs.declared.settings.Name.{Name}
 use Rattle.fleet_file.specs.declared.vehicles.NewVehicle.{NewVehicle}
 use Rattle.fleet_file.specs.declared.errors.FleetError.{FleetError}
 use Rattle.fleet_file.specs.declared.errors.FleetError.TheVariants.{BadLine, TooLong}
-use Rattle.fleet_file.specs.FleetText.{FleetSoFar, fleet_format, fleet_text, nothing_said, after_words, setting_line, setting_of, vehicle_line, vehicle_from, idle_vehicle, has_seen, least, greatest, has_value_out}
+use Rattle.fleet_file.specs.FleetText.{FleetSoFar, fleet_format, fleet_text, nothing_said, after_words, setting_line, setting_of, vehicle_line, vehicle_from, idle_vehicle, is_out, set_at, settings_of, has_value_out}
 
 -- as a fleet starts
 pub record IsStarting (map : RoadMap) (v : Vehicle) : Type 0 where
@@ -63,12 +64,12 @@ same-ok a b is = cc is
 abbrev AllStarting : RoadMap → FleetSoFar → Type 0
 AllStarting map so_far = All (IsStarting map) so_far.vehicles
 
-after-setting : (map : RoadMap) (number : ℕ) (so_far next : FleetSoFar) (o : Option (Name × ℕ)) → AllStarting map so_far
+after-setting : (map : RoadMap) (number : ℕ) (so_far next : FleetSoFar) (o : Option (ℕ × ℕ)) → AllStarting map so_far
     → setting_line number so_far o ≡ Ok next → AllStarting map next
 after-setting map number so_far next None starting is = absurd (cc is)
-after-setting map number so_far next (Some s) all is =
-    let (_, in_range) = passed (has_seen so_far.seen s.0) _ _ next is in
-    let (_, taken) = passed (nat_lt s.1 (least s.0) || nat_lt (greatest s.0) s.1) _ _ next in_range in
+after-setting map number so_far next (Some (place, value)) all is =
+    let (_, in_range) = passed (is_some (set_at so_far.values place)) _ _ next is in
+    let (_, taken) = passed (is_out place value) _ _ next in_range in
     subst (λ (f : FleetSoFar). All (IsStarting map) f.vehicles) (same-ok _ next taken) all
 
 after-vehicle : (map : RoadMap) (number : ℕ) (so_far next : FleetSoFar) (o : Option NewVehicle) → AllStarting map so_far
@@ -118,7 +119,7 @@ text-starting : (map : RoadMap) (bytes : List ℕ) (settings : Settings) (vehicl
 text-starting map bytes settings vehicles is =
     elim (nat_lt 1048576 (length bytes))
     as (λ b. cond b (and_then {B = Settings × List Vehicle} (after_ended (fleet_format map.nodes) (take 1048576 bytes)) (λ _. Err TooLong))
-    (and_then {B = Settings × List Vehicle} (after_lines (fleet_format map.nodes) 1 nothing_said (lines_of bytes)) (λ so_far. Ok (so_far.settings, so_far.vehicles))) ≡ Ok (settings, vehicles) → All (IsStarting map) vehicles) [
+    (and_then {B = Settings × List Vehicle} (after_lines (fleet_format map.nodes) 1 nothing_said (lines_of bytes)) (λ so_far. Ok (settings_of so_far.values, so_far.vehicles))) ≡ Ok (settings, vehicles) → All (IsStarting map) vehicles) [
       | true ↦ λ h. absurd (too_long (after_ended (fleet_format map.nodes) (take 1048576 bytes)) h)
       | false ↦ λ h. whole (after_lines (fleet_format map.nodes) 1 nothing_said (lines_of bytes))
           (λ next k. after-all map 1 nothing_said next (lines_of bytes) (all_of_none _) k) h
@@ -129,30 +130,19 @@ text-starting map bytes settings vehicles is =
     too_long (Err e) h = cc h
 
     whole : (r : Result FleetSoFar FleetError) → ((next : FleetSoFar) → r ≡ Ok next → AllStarting map next)
-        → and_then {B = Settings × List Vehicle} r (λ so_far. Ok (so_far.settings, so_far.vehicles)) ≡ Ok (settings, vehicles) → All (IsStarting map) vehicles
-    whole (Ok so_far) all h = let same : so_far.vehicles ≡ vehicles = ap (λ (p : Settings × List Vehicle). p.1) (same-ok (so_far.settings, so_far.vehicles) (settings, vehicles) h) in subst (All (IsStarting map)) same (all so_far refl)
+        → and_then {B = Settings × List Vehicle} r (λ so_far. Ok (settings_of so_far.values, so_far.vehicles)) ≡ Ok (settings, vehicles) → All (IsStarting map) vehicles
+    whole (Ok so_far) all h = let same : so_far.vehicles ≡ vehicles = ap (λ (p : Settings × List Vehicle). p.1) (same-ok (settings_of so_far.values, so_far.vehicles) (settings, vehicles) h) in subst (All (IsStarting map)) same (all so_far refl)
     whole (Err e) all h = absurd (cc h)
 
--- the same of a fleet of these vehicles over a map of so many nodes, all_of_one fact at a time
-starting-fleet : (map : RoadMap) (nodes : ℕ) (bytes : List ℕ) (settings : Settings) (vehicles fleet : List Vehicle)
-    → nodes ≡ map.nodes → fleet ≡ vehicles → fleet_text nodes bytes ≡ Ok (settings, vehicles) → All (IsStarting map) fleet
-starting-fleet map nodes bytes settings vehicles fleet among same is =
-    subst (All (IsStarting map)) (sym same)
-    (text-starting map bytes settings vehicles (subst (λ (n : ℕ). fleet_text n bytes ≡ Ok (settings, vehicles)) among is))
-
-pub fleet-lawful : (map : RoadMap) (nodes : ℕ) (bytes : List ℕ) (settings : Settings) (vehicles fleet : List Vehicle)
-    → nodes ≡ map.nodes → fleet ≡ vehicles → fleet_text nodes bytes ≡ Ok (settings, vehicles) → All (IsLawful map) fleet
-fleet-lawful map nodes bytes settings vehicles fleet among same is k d below =
-    (starting-fleet map nodes bytes settings vehicles fleet among same is k d below).lawful
-
-pub fleet-idle : (map : RoadMap) (nodes : ℕ) (bytes : List ℕ) (settings : Settings) (vehicles fleet : List Vehicle)
-    → nodes ≡ map.nodes → fleet ≡ vehicles → fleet_text nodes bytes ≡ Ok (settings, vehicles)
-    → All (λ (v : Vehicle). v.stops.items ≡ []) fleet
-fleet-idle map nodes bytes settings vehicles fleet among same is k d below =
-    (starting-fleet map nodes bytes settings vehicles fleet among same is k d below).idle
-
-pub fleet-first_versions : (map : RoadMap) (nodes : ℕ) (bytes : List ℕ) (settings : Settings) (vehicles fleet : List Vehicle)
-    → nodes ≡ map.nodes → fleet ≡ vehicles → fleet_text nodes bytes ≡ Ok (settings, vehicles)
-    → All (λ (v : Vehicle). v.version ≡ 0) fleet
-fleet-first_versions map nodes bytes settings vehicles fleet among same is k d below =
-    (starting-fleet map nodes bytes settings vehicles fleet among same is k d below).first_version
+-- a session may start with a fleet of these vehicles, over a map of so many nodes
+pub fleet-may_start : (map : RoadMap) (nodes : ℕ) (bytes : List ℕ) (settings : Settings) (vehicles fleet : List Vehicle)
+    → nodes ≡ map.nodes → fleet ≡ vehicles → fleet_text nodes bytes ≡ Ok (settings, vehicles) → IsSettings settings → MayStart map settings fleet
+fleet-may_start map nodes bytes settings vehicles fleet among same is fit = record {
+  settings_fit = fit;
+  lawful = λ k d below. (each k d below).lawful;
+  idle = λ k d below. (each k d below).idle;
+  first_versions = λ k d below. (each k d below).first_version;
+} where
+  each : All (IsStarting map) fleet
+  each = subst (All (IsStarting map)) (sym same)
+      (text-starting map bytes settings vehicles (subst (λ (n : ℕ). fleet_text n bytes ≡ Ok (settings, vehicles)) among is))

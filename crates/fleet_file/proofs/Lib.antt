@@ -1,3 +1,4 @@
+mod SettingLemmas
 mod FleetLemmas
 mod NamedLemmas
 mod ReadLemmas

@@ -1,29 +1,27 @@
 -- A text's refusal is neither want of memory nor a fault of reading.
-use Rattle.std.proofs.Common.{◌≡◌, ◌≢◌, ℕ, ◌+◌, nat_lt, nat_le, ◌==◌, ◌||◌, Bool, true, false, cond, List, [], ◌∷◌, length, take, Option, Some, None, Result, Ok, Err, IfErr, refl, ap, sym, ◌∙◌, true≢false}
-use Rattle.std.specs.Prelude.{codes}
+use Rattle.std.proofs.Common.{◌≢◌, ℕ, nat_lt, nat_le, ◌==◌, ◌||◌, Bool, true, false, List, [], ◌∷◌, length, Option, Some, None, Err, refl}
+use Rattle.std.specs.Prelude.{codes, is_some}
 use Rattle.std.specs.List.{list_any}
 use Rattle.std.specs.Str.{bytes_eq}
 use Rattle.line_text.specs.Fields.{numbers_of, words_of}
-use Rattle.line_text.specs.Lines.{ended_lines, lines_of}
-use Rattle.line_text.specs.Texts.{and_then, after_lines, after_ended}
-use Rattle.line_text.proofs.NamedRefusals.{IsNamed, named-cond, named-and_then, named-lines, named-text as text-named, unnamed}
+use Rattle.line_text.specs.Texts.{after_lines}
+use Rattle.line_text.proofs.NamedRefusals.{IsNamed, named-cond, named-lines, named-text as text-named, unnamed}
 use Rattle.ride_model.specs.declared.vehicle.Vehicle.{Vehicle}
-use Rattle.fleet_file.specs.declared.settings.Name.{Name}
 use Rattle.fleet_file.specs.declared.vehicles.NewVehicle.{NewVehicle}
 use Rattle.fleet_file.specs.declared.errors.FleetError.{FleetError}
 use Rattle.fleet_file.specs.declared.errors.FleetError.TheVariants.{NoMemory, ReadFault}
-use Rattle.fleet_file.specs.FleetText.{FleetSoFar, fleet_format, fleet_text, nothing_said, after_words, setting_line, setting_of, vehicle_line, vehicle_from, has_seen, least, greatest, has_value_out}
+use Rattle.fleet_file.specs.FleetText.{FleetSoFar, fleet_format, fleet_text, nothing_said, after_words, setting_line, setting_of, vehicle_line, vehicle_from, is_out, set_at, has_value_out}
 
 is_named : FleetError → Bool
 is_named NoMemory = false
 is_named ReadFault = false
 is_named _ = true
 
-named-setting : (number : ℕ) (so_far : FleetSoFar) (o : Option (Name × ℕ)) → IsNamed is_named (setting_line number so_far o)
+named-setting : (number : ℕ) (so_far : FleetSoFar) (o : Option (ℕ × ℕ)) → IsNamed is_named (setting_line number so_far o)
 unfolding IsNamed is_named
 named-setting number so_far None = refl
-named-setting number so_far (Some s) =
-    named-cond is_named (has_seen so_far.seen s.0) _ _ refl (named-cond is_named (nat_lt s.1 (least s.0) || nat_lt (greatest s.0) s.1) _ _ refl tt)
+named-setting number so_far (Some (place, value)) =
+    named-cond is_named (is_some (set_at so_far.values place)) _ _ refl (named-cond is_named (is_out place value) _ _ refl tt)
 
 named-vehicle : (nodes number : ℕ) (so_far : FleetSoFar) (o : Option NewVehicle) → IsNamed is_named (vehicle_line nodes number so_far o)
 unfolding IsNamed is_named

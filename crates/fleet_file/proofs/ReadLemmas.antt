@@ -1,5 +1,5 @@
 -- What the reader has taken after one more line, and what the text gives then.
-use Rattle.std.proofs.Common.{◌≡◌, ◌≢◌, ℕ, ◌+◌, ◌<◌, ◌≤◌, Option, Some, None, IfSome, List, [], ◌∷◌, ◌++◌, length, Result, Ok, Err, MatchResult, refl, ap, sym, ◌∙◌, arith}
+use Rattle.std.proofs.Common.{◌≡◌, ◌≢◌, false, ℕ, ◌+◌, ◌≤◌, Option, Some, None, IfSome, List, [], ◌∷◌, ◌++◌, length, Result, Ok, Err, MatchResult, refl, ap, sym, ◌∙◌}
 use Rattle.plain_lemmas.proofs.Lists.{some_bytes}
 use Rattle.line_text.specs.Fields.{words_of}
 use Rattle.line_text.specs.Lines.{ended_lines, lines_of}
@@ -9,8 +9,8 @@ use Rattle.line_text.proofs.TextLemmas.{after_lines-push, text_value-refused, te
 use Rattle.fleet_file.specs.declared.errors.FleetError.{FleetError}
 use Rattle.fleet_file.specs.declared.errors.FleetError.TheVariants.{NoMemory, ReadFault, TooLong}
 use Rattle.fleet_file.specs.declared.lines.FleetLines.{FleetLines}
-use Rattle.fleet_file.specs.FleetText.{FleetSoFar, after_words, fleet_format, fleet_text, nothing_said}
-use Rattle.fleet_file.specs.Reading.{HasTaken, IsWithin, Gives, Refuses, said}
+use Rattle.fleet_file.specs.FleetText.{FleetSoFar, after_words, fleet_format, fleet_text, nothing_said, settings_of}
+use Rattle.fleet_file.specs.Reading.{HasTaken, IsWithin, Gives, Refuses, is_read_fault, said}
 use Rattle.fleet_file.proofs.NamedLemmas.{after_all-no_fault}
 
 -- nothing was taken before the first line
@@ -37,7 +37,7 @@ taken-line {T} outcome first old new lines line number words taken counted says 
 
 -- what all lines of the text give
 pub taken-text : (nodes : ℕ) (first now : FleetLines) (bytes : List ℕ) → first.nodes ≡ nodes → length bytes ≤ 1048576 → HasTaken first (lines_of bytes) now →
-    fleet_text nodes bytes ≡ Ok (now.settings, now.vehicles.items)
+    fleet_text nodes bytes ≡ Ok (settings_of now.values, now.vehicles.items)
 taken-text nodes first now bytes among short taken =
     ap (λ n. fleet_text n bytes) (sym among) ∙ text_value-taken (fleet_format first.nodes) (said now) bytes short taken.after
 
@@ -63,3 +63,8 @@ fault-not-memory is = cc
 pub line-no_fault : (first : FleetLines) (lines : List (List ℕ)) (e : FleetError) → Refuses first lines e → e ≢ ReadFault
 line-no_fault first lines e refuses same =
     after_all-no_fault first.nodes lines (refuses (λ memory. fault-not-memory (sym same ∙ memory)) ∙ ap (λ d. Err d) same)
+
+-- an error that is none of the source
+pub not-fault : (e : FleetError) → e ≢ ReadFault → is_read_fault {T = Unit {0}} (Err e) ≡ false
+not-fault ReadFault other = absurd (other refl)
+not-fault _ other = refl

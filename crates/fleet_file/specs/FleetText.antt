@@ -1,12 +1,9 @@
 -- The texts of fleet files: settings and vehicles.
-use Rattle.std.specs.Prelude.{ℕ, ◌==◌, ◌||◌, nat_lt, nat_le, Bool, true, false, if◌then◌else◌, List, [], ◌∷◌, ◌++◌, length, Option, Some, None, Result, Ok, Err, codes}
+use Rattle.std.specs.Prelude.{ℕ, ◌==◌, ◌||◌, nat_lt, nat_le, Bool, true, if◌then◌else◌, List, [], ◌∷◌, ◌++◌, length, map, position, slice_get, slice_set, Option, Some, None, is_some, unwrap_or, Result, Ok, Err, codes}
 use Rattle.std.specs.List.{list_any}
 use Rattle.std.specs.Str.{bytes_eq}
 use Rattle.line_text.specs.Fields.{numbers_of, words_of}
 use Rattle.line_text.specs.Texts.{Format, text_value}
-use Rattle.fleet_file.specs.declared.settings.Name.{Name}
-use Rattle.fleet_file.specs.declared.settings.Name.TheVariants.{Batch, Penalty, Drive, Wait, Lead, Dwell, Log}
-use Rattle.fleet_file.specs.declared.settings.Seen.{Seen}
 use Rattle.ride_model.specs.declared.settings.Settings.{Settings}
 use Rattle.ride_model.specs.declared.vehicle.Vehicle.{Vehicle}
 use Rattle.ride_model.specs.Limits.{greatest_penalty, greatest_weight, largest_batch, latest_time, longest_dwell, longest_lead, most_vehicle_seats, most_vehicle_chairs, most_vehicles}
@@ -14,91 +11,80 @@ use Rattle.fleet_file.specs.declared.vehicles.NewVehicle.{NewVehicle}
 use Rattle.fleet_file.specs.declared.errors.FleetError.{FleetError}
 use Rattle.fleet_file.specs.declared.errors.FleetError.TheVariants.{BadLine, Repeat, NodeOut, ValueOut, TooMany, TooLong}
 
--- the setting of a name
-abbrev pub name_of : List ℕ → Option Name
-name_of word =
-    if bytes_eq word (codes "batch") then Some Batch
-    else (if bytes_eq word (codes "penalty") then Some Penalty
-    else (if bytes_eq word (codes "drive") then Some Drive
-    else (if bytes_eq word (codes "wait") then Some Wait
-    else (if bytes_eq word (codes "lead") then Some Lead
-    else (if bytes_eq word (codes "dwell") then Some Dwell
-    else (if bytes_eq word (codes "log") then Some Log
-    else None))))))
+-- a setting: its name, the range of its values, and the value that it has where no line sets it
+pub record Setting : Type 0 where
+  pub name : List ℕ
+  pub least : ℕ
+  pub greatest : ℕ
+  pub default : ℕ
 
--- whether a setting's line stood before
-abbrev pub has_seen : Seen → Name → Bool
-has_seen seen Batch = seen.batch
-has_seen seen Penalty = seen.penalty
-has_seen seen Drive = seen.drive
-has_seen seen Wait = seen.wait
-has_seen seen Lead = seen.lead
-has_seen seen Dwell = seen.dwell
-has_seen seen Log = seen.log
+abbrev pub setting : List ℕ → ℕ → ℕ → ℕ → Setting
+setting name least greatest default =
+    record { name = name; least = least; greatest = greatest; default = default }
 
-abbrev pub with_seen : Seen → Name → Seen
-with_seen seen Batch = record seen { batch = true }
-with_seen seen Penalty = record seen { penalty = true }
-with_seen seen Drive = record seen { drive = true }
-with_seen seen Wait = record seen { wait = true }
-with_seen seen Lead = record seen { lead = true }
-with_seen seen Dwell = record seen { dwell = true }
-with_seen seen Log = record seen { log = true }
+-- the settings, in the order in which their values are kept
+abbrev pub all_settings : List Setting
+all_settings =
+    setting (codes "batch") 1 largest_batch 32
+    ∷ setting (codes "penalty") 0 greatest_penalty 3600
+    ∷ setting (codes "drive") 0 greatest_weight 1
+    ∷ setting (codes "wait") 0 greatest_weight 0
+    ∷ setting (codes "lead") 0 longest_lead 0
+    ∷ setting (codes "dwell") 0 longest_dwell 0
+    ∷ setting (codes "log") 1 2 1
+    ∷ []
 
--- the settings with a value of one
-abbrev pub with_value : Settings → Name → ℕ → Settings
-with_value settings Batch value = record settings { batch = value }
-with_value settings Penalty value = record settings { penalty = value }
-with_value settings Drive value = record settings { drive = value }
-with_value settings Wait value = record settings { wait = value }
-with_value settings Lead value = record settings { lead = value }
-with_value settings Dwell value = record settings { dwell = value }
-with_value settings Log value = record settings { log = value }
+-- the place of the setting of a name, and the setting at a place
+abbrev pub place_of : List ℕ → Option ℕ
+place_of name = position (λ (s : Setting). bytes_eq s.name name) all_settings
 
--- the range of a setting's value
-abbrev pub least : Name → ℕ
-least Batch = 1
-least Penalty = 0
-least Drive = 0
-least Wait = 0
-least Lead = 0
-least Dwell = 0
-least Log = 1
+abbrev pub setting_at : ℕ → Setting
+setting_at place = unwrap_or (slice_get all_settings place) (setting [] 0 0 0)
 
-abbrev pub greatest : Name → ℕ
-greatest Batch = largest_batch
-greatest Penalty = greatest_penalty
-greatest Drive = greatest_weight
-greatest Wait = greatest_weight
-greatest Lead = longest_lead
-greatest Dwell = longest_dwell
-greatest Log = 2
+-- whether a value is out of the range of the setting at a place
+abbrev pub is_out : ℕ → ℕ → Bool
+is_out place value =
+    nat_lt value (setting_at place).least || nat_lt (setting_at place).greatest value
 
--- what the lines so far said: settings with the defaults of those that were not set, which were set, and vehicles
+-- the value that was set at a place, if one was, and the value that the setting has there
+abbrev pub set_at : List (Option ℕ) → ℕ → Option ℕ
+set_at values place = unwrap_or (slice_get values place) None
+
+abbrev pub value_at : List (Option ℕ) → ℕ → ℕ
+value_at values place = unwrap_or (set_at values place) (setting_at place).default
+
+-- the settings with these values
+abbrev pub settings_of : List (Option ℕ) → Settings
+settings_of values = record {
+  batch = value_at values 0;
+  penalty = value_at values 1;
+  drive = value_at values 2;
+  wait = value_at values 3;
+  lead = value_at values 4;
+  dwell = value_at values 5;
+  log = value_at values 6;
+}
+
+-- what the lines so far said: the value of each setting that was set, by its place, and vehicles
 pub record FleetSoFar : Type 0 where
-  pub settings : Settings
-  pub seen : Seen
+  pub values : List (Option ℕ)
   pub vehicles : List Vehicle
 
 abbrev pub nothing_said : FleetSoFar
-nothing_said = record {
-  settings = record { batch = 32; penalty = 3600; drive = 1; wait = 0; lead = 0; dwell = 0; log = 1 };
-  seen = record { batch = false; penalty = false; drive = false; wait = false; lead = false; dwell = false; log = false };
-  vehicles = [];
-}
+nothing_said = record { values = map (λ _. None) all_settings; vehicles = [] }
 
--- the name and the value after `set`
+-- the place of the setting and the value after `set`
 abbrev pub value_from : Option (List ℕ) → Option ℕ
 value_from (Some (value ∷ [])) = Some value
 value_from _ = None
 
-abbrev pub setting_from : Option Name → Option ℕ → Option (Name × ℕ)
-setting_from (Some name) (Some value) = Some (name, value)
+abbrev pub setting_from : Option ℕ → Option ℕ → Option (ℕ × ℕ)
+setting_from (Some place) (Some value) = Some (place, value)
 setting_from _ _ = None
 
-abbrev pub setting_of : List (List ℕ) → Option (Name × ℕ)
+abbrev pub setting_of : List (List ℕ) → Option (ℕ × ℕ)
 setting_of [] = None
-setting_of (word ∷ fields) = setting_from (name_of word) (value_from (numbers_of fields))
+setting_of (name ∷ fields) = setting_from (place_of name) (value_from (numbers_of fields))
 
 -- the vehicle after `vehicle`
 abbrev pub vehicle_from : Option (List ℕ) → Option NewVehicle
@@ -121,17 +107,14 @@ idle_vehicle new = record {
 }
 
 -- the tests of a setting, in a line of this number
-abbrev pub setting_line : ℕ → FleetSoFar → Option (Name × ℕ) → Result FleetSoFar FleetError
+abbrev pub setting_line : ℕ → FleetSoFar → Option (ℕ × ℕ) → Result FleetSoFar FleetError
 setting_line number so_far None = Err (BadLine number)
-setting_line number so_far (Some setting) =
-    if has_seen so_far.seen setting.0
+setting_line number so_far (Some (place, value)) =
+    if is_some (set_at so_far.values place)
     then Err (Repeat number)
-    else (if nat_lt setting.1 (least setting.0) || nat_lt (greatest setting.0) setting.1
+    else (if is_out place value
     then Err (ValueOut number)
-    else Ok (record so_far {
-      settings = with_value so_far.settings setting.0 setting.1;
-      seen = with_seen so_far.seen setting.0;
-    }))
+    else Ok (record so_far { values = slice_set so_far.values place (Some value) }))
 
 -- whether a value of a vehicle is out of its range
 abbrev pub has_value_out : NewVehicle → Bool
@@ -168,7 +151,7 @@ fleet_format nodes = record {
   most = 1048576;
   start = nothing_said;
   line = λ number so_far line. after_words nodes number so_far (words_of 35 line);
-  finish = λ so_far. Ok (so_far.settings, so_far.vehicles);
+  finish = λ so_far. Ok (settings_of so_far.values, so_far.vehicles);
   too_long = TooLong;
 }
 

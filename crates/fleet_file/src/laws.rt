@@ -9,8 +9,10 @@ ghost use Rattle.fleet_file.specs.FleetText.{fleet_text};
 /// Every text gives one answer, settings and vehicles or a refusal, and no other; want of memory
 /// and faults of reading are none.
 pub fn a_text_has_one_answer()
-    ensures total { (nodes : ℕ) (bytes : List ℕ) → (answer : Result (Settings × List Vehicle) FleetError) × (fleet_text nodes bytes ≡ answer)
-        × ((other : Result (Settings × List Vehicle) FleetError) → fleet_text nodes bytes ≡ other → other ≡ answer) }
+    ensures total { (nodes : ℕ) (bytes : List ℕ)
+        → (answer : Result (Settings × List Vehicle) FleetError) × (fleet_text nodes bytes ≡ answer)
+        × ((other : Result (Settings × List Vehicle) FleetError) → fleet_text nodes bytes ≡ other
+        → other ≡ answer) }
     ensures no_memory { (nodes : ℕ) (bytes : List ℕ) → fleet_text nodes bytes ≢ Err NoMemory }
     ensures no_fault { (nodes : ℕ) (bytes : List ℕ) → fleet_text nodes bytes ≢ Err ReadFault }
 {}

@@ -1,12 +1,12 @@
 //! The lines of a fleet file.
-ghost use Rattle.std.specs.Prelude.{◌≡◌};
+ghost use Rattle.std.specs.Prelude.{◌≡◌, ◌<◌, IfSome};
 ghost use Rattle.fleet_file.specs.FleetText.{setting_of};
 
 use crate::FleetError;
-use crate::settings::{Name, Seen, greatest, has_seen, least, name_of, see, set};
+use crate::settings::{Values, is_out, place_of};
 use crate::vehicles::{has_id, has_value_out, idle_vehicle, read_vehicle};
 use line_text::{Fields, LineReader, words_of};
-use ride_model::{Fleet, Settings, Vehicle};
+use ride_model::{Fleet, Vehicle};
 use std::alloc::Global;
 
 /// What the lines so far said.
@@ -14,9 +14,7 @@ use std::alloc::Global;
 pub struct FleetLines {
     /// The nodes of the map.
     pub nodes: u32,
-    /// With the defaults of those that were not set.
-    pub settings: Settings,
-    pub seen: Seen,
+    pub values: Values,
     pub vehicles: Vec<Vehicle>,
 }
 
@@ -33,24 +31,7 @@ impl FleetLines {
     {
         FleetLines {
             nodes,
-            settings: Settings {
-                batch: 32,
-                penalty: 3_600,
-                drive: 1,
-                wait: 0,
-                lead: 0,
-                dwell: 0,
-                log: 1,
-            },
-            seen: Seen {
-                batch: false,
-                penalty: false,
-                drive: false,
-                wait: false,
-                lead: false,
-                dwell: false,
-                log: false,
-            },
+            values: [None; 7],
             vehicles: Vec::new(alloc),
         }
     }
@@ -60,7 +41,8 @@ impl FleetLines {
         requires { IsWithin self.old }
         ensures within { IsWithin self.new }
         ensures map { self.new.nodes ≡ self.old.nodes }
-        ensures given { Gives result self.new (after_words self.old.nodes number (said self.old) words.entry) }
+        ensures given { Gives result self.new
+            (after_words self.old.nodes number (said self.old) words.entry) }
     {
         let Some(mut fields) = words else {
             return Err(FleetError::BadLine(number));
@@ -82,19 +64,19 @@ impl FleetLines {
         requires { IsWithin self.old }
         ensures within { IsWithin self.new }
         ensures map { self.new.nodes ≡ self.old.nodes }
-        ensures given { Gives result self.new (setting_line number (said self.old) (setting_of fields.old)) }
+        ensures given { Gives result self.new
+            (setting_line number (said self.old) (setting_of fields.old)) }
     {
-        let Some((name, value)) = read_setting(fields) else {
+        let Some((place, value)) = read_setting(fields) else {
             return Err(FleetError::BadLine(number));
         };
-        if has_seen(&self.seen, name) {
+        if self.values[place].is_some() {
             return Err(FleetError::Repeat(number));
         }
-        if value < least(name) || value > greatest(name) {
+        if is_out(place, value) {
             return Err(FleetError::ValueOut(number));
         }
-        set(&mut self.settings, name, value);
-        see(&mut self.seen, name);
+        self.values[place] = Some(value);
         Ok(())
     }
 
@@ -103,7 +85,9 @@ impl FleetLines {
         requires { IsWithin self.old }
         ensures within { IsWithin self.new }
         ensures map { self.new.nodes ≡ self.old.nodes }
-        ensures given { Gives result self.new (vehicle_line self.old.nodes number (said self.old) (vehicle_from (numbers_of fields.old))) }
+        ensures given { Gives result self.new
+            (vehicle_line self.old.nodes number (said self.old)
+            (vehicle_from (numbers_of fields.old))) }
     {
         let Some(new) = read_vehicle(fields) else {
             return Err(FleetError::BadLine(number));
@@ -141,13 +125,14 @@ impl LineReader for FleetLines {
     }
 }
 
-/// Reads the fields after `set`.
-fn read_setting(fields: &mut Fields<'_>) -> Option<(Name, u64)>
-    ensures { result ≡ setting_of fields.old }
+/// Reads the fields after `set`: the place of a setting, and its value.
+fn read_setting(fields: &mut Fields<'_>) -> Option<(usize, u64)>
+    ensures setting { result ≡ setting_of fields.old }
+    ensures within { IfSome result (λ setting. setting.0 < 7) }
 {
-    let name = name_of(fields.next_field()?)?;
+    let place = place_of(fields.next_field()?)?;
     match fields.numbers::<1>()?.as_slice() {
-        [value] => Some((name, *value)),
+        [value] => Some((place, *value)),
         _ => None,
     }
 }

@@ -1,16 +1,16 @@
 //! The reader of a fleet file's bytes.
-ghost use Rattle.std.specs.Prelude.{All, ◌≡◌, ◌≢◌, ◌≤◌, ℕ, List, [], length, Ok, Err, OnOk, IfOk, IfErr, IfSome, IsOk};
+ghost use Rattle.std.specs.Prelude.{◌≡◌, ◌≢◌, ◌≤◌, ℕ, List, [], length, Ok, Err, OnOk, IfOk, IfErr, IfSome, IsOk};
 ghost use Rattle.line_text.specs.Texts.{after_ended};
-ghost use Rattle.ride_model.specs.declared.vehicle.Vehicle.{Vehicle};
-ghost use Rattle.ride_model.specs.Settings.{IsSettings};
-ghost use Rattle.ride_model.specs.Vehicle.{IsLawful};
+ghost use Rattle.ride_model.specs.Fleet.{MayStart};
 ghost use Rattle.ride_ports.specs.Bytes.{Reads};
-ghost use Rattle.ride_ports.specs.Count.{Rose};
+ghost use Rattle.ride_ports.specs.Count.{KeepsCount};
 ghost use Rattle.fleet_file.specs.declared.errors.FleetError.TheVariants.{NoMemory, ReadFault};
 ghost use Rattle.fleet_file.specs.FleetText.{fleet_format, fleet_text};
+ghost use Rattle.fleet_file.specs.Reading.{is_read_fault};
 
 use crate::FleetError;
 use crate::lines::FleetLines;
+use crate::settings::settings_of;
 use line_text::{ReadError, read_lines};
 use ride_model::{Fleet, Network, Settings};
 use ride_ports::Source;
@@ -28,12 +28,7 @@ pub fn read_fleet<S: Source>(
 ) -> Result<(Settings, Fleet), FleetError>
     ensures fleet { IfOk result (λ read.
         IfSome (S.left src.old) (λ bytes. fleet_text map.now.nodes bytes ≡ Ok (read.0, read.1))) }
-    ensures settings { IfOk result (λ read. IsSettings read.0) }
-
-    // Each vehicle is as a fleet starts: lawful over the map, idle and of version 0.
-    ensures lawful { IfOk result (λ read. All (IsLawful map.now) read.1) }
-    ensures idle { IfOk result (λ read. All (λ (v : Vehicle). v.stops.items ≡ []) read.1) }
-    ensures first_versions { IfOk result (λ read. All (λ (v : Vehicle). v.version ≡ 0) read.1) }
+    ensures start { IfOk result (λ read. MayStart map.now read.0 read.1) }
     ensures to_end { OnOk result (IfSome (S.left src.new) (λ bytes. bytes ≡ [])) }
     ensures refused { IfErr result (λ e. e ≢ NoMemory → e ≢ ReadFault →
         IfSome (S.left src.old) (λ bytes. fleet_text map.now.nodes bytes ≡ Err e)) }
@@ -42,16 +37,14 @@ pub fn read_fleet<S: Source>(
     ensures taken { (taken : List ℕ) × Reads (S.left src.old) (S.left src.new) taken }
 
     // A fault of reading is the source's, within the limit, and no line was faulty that was read whole.
-    ensures read_fault { result ≡ Err ReadFault → Rose (S.faults src.old) (S.faults src.new) }
+    ensures faults { KeepsCount (is_read_fault result) (S.faults src.old) (S.faults src.new) }
     ensures before_fault { result ≡ Err ReadFault → (bytes : List ℕ)
         × Reads (S.left src.old) (S.left src.new) bytes × (length bytes ≤ 1048576)
         × IsOk (after_ended (fleet_format map.now.nodes) bytes) }
-    ensures other_counts_none { result ≢ Err ReadFault → S.faults src.new ≡ S.faults src.old }
-    ensures count_never_falls { S.faults src.old ≤ S.faults src.new }
 {
     let mut lines = FleetLines::new(alloc, map.nodes());
     match read_lines(alloc, src, MOST_BYTES, &mut lines) {
-        Ok(()) => Ok((lines.settings, Fleet::new(lines.vehicles))),
+        Ok(()) => Ok((settings_of(&lines.values), Fleet::new(lines.vehicles))),
         Err(ReadError::Refused(error)) => Err(error),
         Err(ReadError::TooLong) => Err(FleetError::TooLong),
         Err(ReadError::ReadFault) => Err(FleetError::ReadFault),

@@ -1,6 +1,9 @@
 //! Settings by name.
-ghost use Rattle.std.specs.Prelude.{◌≡◌, ◌≤◌};
-ghost use Rattle.fleet_file.specs.FleetText.{greatest, has_seen, least, name_of, with_seen, with_value};
+ghost use Rattle.std.specs.Prelude.{◌≡◌, ◌<◌, IfSome, position};
+ghost use Rattle.std.specs.Str.{bytes_eq};
+ghost use Rattle.fleet_file.specs.declared.settings.Setting.{Setting};
+ghost use Rattle.fleet_file.specs.FleetText.{is_out, place_of, settings_of, value_at};
+ghost use Rattle.fleet_file.specs.Reading.{AreInRange};
 ghost use Rattle.ride_model.specs.Settings.{IsSettings};
 
 use ride_model::Settings;
@@ -8,128 +11,108 @@ use ride_model::limits::{
     GREATEST_PENALTY, GREATEST_WEIGHT, LARGEST_BATCH, LONGEST_DWELL, LONGEST_LEAD,
 };
 
-/// A setting.
-#[derive(Clone, Copy)]
-pub enum Name {
-    Batch,
-    Penalty,
-    Drive,
-    Wait,
-    Lead,
-    Dwell,
-    Log,
+/// A setting: its name, the range of its values, and the value that it has where no line sets it.
+pub struct Setting {
+    name: &'static [u8],
+    least: u64,
+    greatest: u64,
+    default: u64,
 }
 
-/// Which settings were set.
-#[derive(Clone, Copy)]
-pub struct Seen {
-    pub batch: bool,
-    pub penalty: bool,
-    pub drive: bool,
-    pub wait: bool,
-    pub lead: bool,
-    pub dwell: bool,
-    pub log: bool,
-}
+/// The settings, in the order in which their values are kept.
+static SETTINGS: [Setting; 7] = [
+    Setting {
+        name: b"batch",
+        least: 1,
+        greatest: LARGEST_BATCH,
+        default: 32,
+    },
+    Setting {
+        name: b"penalty",
+        least: 0,
+        greatest: GREATEST_PENALTY,
+        default: 3_600,
+    },
+    Setting {
+        name: b"drive",
+        least: 0,
+        greatest: GREATEST_WEIGHT,
+        default: 1,
+    },
+    Setting {
+        name: b"wait",
+        least: 0,
+        greatest: GREATEST_WEIGHT,
+        default: 0,
+    },
+    Setting {
+        name: b"lead",
+        least: 0,
+        greatest: LONGEST_LEAD,
+        default: 0,
+    },
+    Setting {
+        name: b"dwell",
+        least: 0,
+        greatest: LONGEST_DWELL,
+        default: 0,
+    },
+    Setting {
+        name: b"log",
+        least: 1,
+        greatest: 2,
+        default: 1,
+    },
+];
 
-/// The setting of a name.
-pub fn name_of(word: &[u8]) -> Option<Name>
-    ensures { result ≡ name_of word.now }
+/// The value of each setting that was set, by its place in the list.
+pub type Values = [Option<u64>; 7];
+
+/// The settings with these values.
+pub fn settings_of(values: &Values) -> Settings
+    requires { AreInRange values.now }
+    ensures value { result ≡ settings_of values.now }
+    ensures fit { IsSettings result }
 {
-    if word == b"batch".as_slice() {
-        return Some(Name::Batch);
-    }
-    if word == b"penalty".as_slice() {
-        return Some(Name::Penalty);
-    }
-    if word == b"drive".as_slice() {
-        return Some(Name::Drive);
-    }
-    if word == b"wait".as_slice() {
-        return Some(Name::Wait);
-    }
-    if word == b"lead".as_slice() {
-        return Some(Name::Lead);
-    }
-    if word == b"dwell".as_slice() {
-        return Some(Name::Dwell);
-    }
-    if word == b"log".as_slice() {
-        return Some(Name::Log);
-    }
-    None
-}
-
-/// The least value of a setting.
-pub fn least(name: Name) -> u64
-    ensures { result ≡ least name }
-{
-    match name {
-        Name::Batch | Name::Log => 1,
-        _ => 0,
+    Settings {
+        batch: value_at(values, 0) as u32,
+        penalty: value_at(values, 1),
+        drive: value_at(values, 2),
+        wait: value_at(values, 3),
+        lead: value_at(values, 4),
+        dwell: value_at(values, 5),
+        log: value_at(values, 6) as u8,
     }
 }
 
-/// The greatest value of a setting.
-pub fn greatest(name: Name) -> u64
-    ensures { result ≡ greatest name }
+/// The value of the setting at a place.
+fn value_at(values: &Values, place: usize) -> u64
+    requires { place < 7 }
+    ensures { result ≡ value_at values.now place }
 {
-    match name {
-        Name::Batch => LARGEST_BATCH,
-        Name::Penalty => GREATEST_PENALTY,
-        Name::Drive => GREATEST_WEIGHT,
-        Name::Wait => GREATEST_WEIGHT,
-        Name::Lead => LONGEST_LEAD,
-        Name::Dwell => LONGEST_DWELL,
-        Name::Log => 2,
-    }
+    values[place].unwrap_or(SETTINGS[place].default)
 }
 
-/// Whether a setting was set.
-pub fn has_seen(seen: &Seen, name: Name) -> bool
-    ensures { result ≡ has_seen seen.now name }
+/// The place of the setting of a name.
+pub fn place_of(name: &[u8]) -> Option<usize>
+    ensures place { result ≡ place_of name.now }
+    ensures within { IfSome result (λ place. place < 7) }
 {
-    match name {
-        Name::Batch => seen.batch,
-        Name::Penalty => seen.penalty,
-        Name::Drive => seen.drive,
-        Name::Wait => seen.wait,
-        Name::Lead => seen.lead,
-        Name::Dwell => seen.dwell,
-        Name::Log => seen.log,
-    }
+    place_in(&SETTINGS, name)
 }
 
-/// Notes that a setting was set.
-pub fn see(seen: &mut Seen, name: Name)
-    ensures { seen.new ≡ with_seen seen.old name }
+/// The place of the setting of a name in a list.
+fn place_in(settings: &[Setting], name: &[u8]) -> Option<usize>
+    ensures { result ≡ position (λ (s : Setting). bytes_eq s.name.now name.now) settings.now }
 {
-    match name {
-        Name::Batch => seen.batch = true,
-        Name::Penalty => seen.penalty = true,
-        Name::Drive => seen.drive = true,
-        Name::Wait => seen.wait = true,
-        Name::Lead => seen.lead = true,
-        Name::Dwell => seen.dwell = true,
-        Name::Log => seen.log = true,
-    }
+    settings.iter().position(|setting| setting.name == name)
 }
 
-/// Sets a setting.
-pub fn set(settings: &mut Settings, name: Name, value: u64)
-    requires settings { IsSettings settings.old }
-    requires low { least name ≤ value }
-    requires high { value ≤ greatest name }
-    ensures value { settings.new ≡ with_value settings.old name value }
-    ensures settings { IsSettings settings.new }
+/// Whether a value is out of the range of the setting at a place.
+pub fn is_out(place: usize, value: u64) -> bool
+    requires { place < 7 }
+    ensures { result ≡ is_out place value }
 {
-    match name {
-        Name::Batch => settings.batch = value as u32,
-        Name::Penalty => settings.penalty = value,
-        Name::Drive => settings.drive = value,
-        Name::Wait => settings.wait = value,
-        Name::Lead => settings.lead = value,
-        Name::Dwell => settings.dwell = value,
-        Name::Log => settings.log = value as u8,
-    }
+    let setting = &SETTINGS[place];
+    value < setting.least || value > setting.greatest
 }

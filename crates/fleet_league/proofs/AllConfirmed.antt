@@ -1,8 +1,8 @@
 -- A batch that is committed directly after its opening, and of which each request has a seat: each is confirmed.
-use Rattle.std.proofs.Common.{◌≡◌, ℕ, ◌+◌, ◌≤◌, inl, inr, Bool, true, false, not, cond, List, [], ◌∷◌, length, Option, Some, None, eqb, ltb, leb-true, refl, sym, ap, ◌∙◌, arith}
-use Rattle.std.specs.Prelude.{map, max, nat_le, nat_eq, ◌||◌, ◌==◌, All, IsSome}
+use Rattle.std.proofs.Common.{◌≡◌, ℕ, inl, inr, Bool, true, false, cond, List, [], ◌∷◌, length, Option, Some, None, eqb, refl, ap, ◌∙◌}
+use Rattle.std.specs.Prelude.{map, nat_eq, ◌==◌, All, IsSome}
 use Rattle.std.specs.List.{IsDistinct}
-use Rattle.std.proofs.lemmas.Bool.{eq-eqb, and_parts, le-ltb}
+use Rattle.std.proofs.lemmas.Bool.{eq-eqb}
 use Rattle.std.proofs.lemmas.List.{length-map}
 use Rattle.ride_model.specs.declared.entry.Outcome.{Outcome}
 use Rattle.ride_model.specs.declared.entry.Outcome.TheVariants.{Confirmed}
@@ -10,19 +10,12 @@ use Rattle.ride_model.specs.declared.offer.Seat.{Seat}
 use Rattle.ride_model.specs.declared.reply.RequestState.TheVariants.{Confirmed as ConfirmedState}
 use Rattle.ride_model.specs.declared.vehicle.Ride.{Ride}
 use Rattle.ride_model.specs.declared.vehicle.Vehicle.{Vehicle}
-use Rattle.ride_model.specs.Batch.{version_of, priced_start, was_cancelled, seat_of, outcome_by, outcome_of, confirm, after_outcome, after_outcomes}
-use Rattle.ride_model.specs.Offers.{is_idle, is_open, start_of}
-use Rattle.ride_model.specs.Seating.{BatchCopy, find_vehicle, vehicle_ids, seat_offer}
+use Rattle.ride_model.specs.Batch.{was_cancelled, seat_of, outcome_by, outcome_of, confirm, after_outcome, after_outcomes}
+use Rattle.ride_model.specs.Seating.{BatchCopy, vehicle_ids, seat_offer}
 use Rattle.ride_model.specs.State.{State, placed_vehicle}
 use Rattle.ride_model.specs.Vehicle.{ride_ids}
 use Rattle.plain_lemmas.proofs.Among.{Among, found_among}
-use Rattle.plain_lemmas.proofs.Each.{of_all}
-use Rattle.model_laws.proofs.Certificates.{seat_facts}
-use Rattle.model_laws.proofs.Costs.{offer_plan}
 use Rattle.model_laws.proofs.RequestStates.{marked}
-use Rattle.model_laws.proofs.Starts.{start-not_before}
-use Rattle.history_laws.proofs.Confirming.{priced_start-found}
-use Rattle.history_laws.proofs.Lookups.{found_by}
 use Rattle.history_laws.proofs.StandingSeats.{seated-confirmed}
 use Rattle.fleet_league.specs.declared.briefs.Win.{Win}
 use Rattle.fleet_league.specs.Awards.{won_rides, AreSeatsOf}

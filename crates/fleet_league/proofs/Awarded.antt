@@ -1,14 +1,14 @@
 -- A board during an award: the batch of wins is opened, committed or given up.
-use Rattle.std.proofs.Common.{◌≡◌, ℕ, zero, suc, ◌+◌, ◌≤◌, inr, true, not, cond, List, [], ◌∷◌, ◌++◌, length, take, Some, None, lt-ltb, refl, sym, ap, subst, ◌∙◌, arith, append_assoc, append-nil, length-append}
-use Rattle.std.specs.Prelude.{map, find, count_by, nat_lt, All, IsSome}
-use Rattle.std.specs.List.{filter, filter_map, sum_by}
+use Rattle.std.proofs.Common.{◌≡◌, ℕ, zero, suc, ◌+◌, ◌≤◌, inr, true, cond, List, [], ◌∷◌, ◌++◌, length, take, Some, lt-ltb, refl, sym, ap, subst, ◌∙◌, arith, append_assoc, append-nil, length-append}
+use Rattle.std.specs.Prelude.{map, count_by, nat_lt, All, IsSome}
+use Rattle.std.specs.List.{filter_map, sum_by}
 use Rattle.std.proofs.lemmas.List.{length-map, take_all}
 use Rattle.std.proofs.lemmas.List.Sums.{sum_by-append, sum_by-cons, sum-map}
 use Rattle.ride_model.specs.declared.command.Actor.TheVariants.{Feed, Desk}
 use Rattle.ride_model.specs.declared.command.Command.{Command}
 use Rattle.ride_model.specs.declared.command.Command.TheVariants.{Ask}
 use Rattle.ride_model.specs.declared.entry.Entry.{Entry}
-use Rattle.ride_model.specs.declared.entry.Event.TheVariants.{Fed, Committed, Abandoned}
+use Rattle.ride_model.specs.declared.entry.Event.TheVariants.{Fed, Committed}
 use Rattle.ride_model.specs.declared.entry.Outcome.{Outcome}
 use Rattle.ride_model.specs.declared.entry.Outcome.TheVariants.{Confirmed}
 use Rattle.ride_model.specs.declared.offer.Seat.{Seat}
@@ -19,10 +19,10 @@ use Rattle.ride_model.specs.declared.vehicle.Ride.{Ride}
 use Rattle.ride_model.specs.Batch.{was_cancelled, waiting_rides, next_batch, after_opening, outcome_of, outcomes_of, after_outcomes, after_commit, after_abandon}
 use Rattle.ride_model.specs.Fleet.{IsFleet}
 use Rattle.ride_model.specs.History.{entries_of, command_of, fed_commands}
-use Rattle.ride_model.specs.Legal.{after_event, replay, all_feeds_ended}
+use Rattle.ride_model.specs.Legal.{replay, all_feeds_ended}
 use Rattle.ride_model.specs.Road.{RoadMap}
 use Rattle.ride_model.specs.Seating.{BatchCopy, Certifies, vehicle_ids, seat_offer, seating_cost}
-use Rattle.ride_model.specs.State.{State, is_actor, open_batch_numbered, is_batch}
+use Rattle.ride_model.specs.State.{State, is_actor, open_batch_numbered}
 use Rattle.ride_model.specs.Step.{step}
 use Rattle.batch_commit.specs.Answer.{CertifiesOverCells}
 use Rattle.batch_commit.specs.Solved.{SolvedBatch}
@@ -32,7 +32,6 @@ use Rattle.model_laws.proofs.Histories.{replay-append}
 use Rattle.plain_lemmas.proofs.Among.{Among, among_map, among_map_back}
 use Rattle.plain_lemmas.proofs.Sums.{sum_by-map}
 use Rattle.model_laws.proofs.RequestStates.{marked, opening-is, others-opening, abandon-is}
-use Rattle.history_laws.proofs.Leaving.{is_batch-own}
 use Rattle.history_laws.proofs.Untouched.{leaves-step, stays-outcomes}
 use Rattle.history_laws.proofs.OpenedBatches.{opened-not_cancelled, none-left, committed-state, abandoned-state, open-found}
 use Rattle.dual_check.specs.Grid.{pairing_cost}

@@ -1,18 +1,16 @@
 -- A batch of all that wait was opened.
-use Rattle.std.proofs.Common.{◌≡◌, ℕ, Bool, true, false, cond, inl, inr, List, [], ◌∷◌, Option, Some, None, refl, sym, ap, subst, ◌∙◌}
-use Rattle.std.specs.Prelude.{map, option_map}
+use Rattle.std.proofs.Common.{◌≡◌, ℕ, Bool, true, false, cond, inl, inr, List, [], ◌∷◌, refl, sym, subst}
+use Rattle.std.specs.Prelude.{map}
 use Rattle.std.specs.List.{filter}
 use Rattle.ride_model.specs.declared.reply.RequestState.{RequestState}
 use Rattle.ride_model.specs.declared.reply.RequestState.TheVariants.{InBatch}
-use Rattle.ride_model.specs.declared.vehicle.Ride.{Ride}
-use Rattle.ride_model.specs.Batch.{is_cancelled, is_waiting, was_cancelled, waiting_rides, after_opening}
+use Rattle.ride_model.specs.Batch.{is_waiting, waiting_rides, after_opening}
 use Rattle.ride_model.specs.Seating.{BatchCopy}
-use Rattle.ride_model.specs.State.{State, AcceptedRequest, request_state}
+use Rattle.ride_model.specs.State.{State, AcceptedRequest}
 use Rattle.model_laws.specs.Requests.{is_of}
 use Rattle.plain_lemmas.proofs.Among.{Among, among_map, among_filter}
-use Rattle.model_laws.proofs.RequestStates.{marked, opening-is, request_state-opening}
+use Rattle.model_laws.proofs.RequestStates.{marked, opening-is}
 use Rattle.history_laws.proofs.Opening.{is_of-among}
-use Rattle.history_laws.proofs.OpenedBatches.{opened-not_cancelled}
 use Rattle.fleet_league.proofs.Reports.{NoneWaits}
 
 -- none waits where each that waited was marked

@@ -33,7 +33,7 @@ may-price board rides is few new =
     record {
       in_time = sure.clock_fits;
       over_map = record {
-        settings_fit = subst IsSettings (sym sure.settings_stay) is.begins.settings_fit;
+        settings_fit = subst IsSettings (sym sure.settings_stay) is.begins.may_start.settings_fit;
         few = few;
         vehicles_fit = all_of (IsRouted board.start.roads) s.vehicles (λ v there.
             (of_all (IsLawful board.start.roads) s.vehicles v lawful there).routed);

@@ -85,13 +85,13 @@ may-win company quote brief is_open may stands =
 pub few-wins : (company : CompanyState) (rides : List Ride) (brief : Brief) → IsLegalBoard company.board → MayWin company rides brief
     → length brief.wins ≤ 128
 few-wins company rides brief legal may =
-    let batch : company.board.start.settings.batch ≤ 128 = legal.begins.settings_fit.batch_limit in
+    let batch : company.board.start.settings.batch ≤ 128 = legal.begins.may_start.settings_fit.batch_limit in
     omega (arith, may.few, may.may.few, batch)
 
 -- what may be won may be confirmed
-pub may-confirm : (roads : RoadMap) (settings : Settings) (company : CompanyState) (rides : List Ride) (brief : Brief)
-    → IsCompany roads settings company → IsLegalBoard company.board → MayWin company rides brief → MayConfirm company.board brief
-may-confirm roads settings company rides brief is legal may =
+pub may-confirm : (settings : Settings) (company : CompanyState) (rides : List Ride) (brief : Brief)
+    → IsCompany settings company → IsLegalBoard company.board → MayWin company rides brief → MayConfirm company.board brief
+may-confirm settings company rides brief is legal may =
     let board : Recorded = company.board in
     let idle : IsIdle board = is.idle may.may.is_open in
     let many : length (won_rides brief.wins) ≡ length brief.wins = length-map brief.wins (λ (w : Win). w.ride) in

@@ -239,18 +239,17 @@ few-fed board is idle =
     omega (arith, idle.few_others, sure.few_requests, sure.few_asked)
 
 -- a company is in order after a report was answered, or was not for want of memory
-pub company-reported : (roads : RoadMap) (settings : Settings) (old new : Recorded) (is_open : Bool) (command : Command)
-    (r : Result Reply AllocError) → IsCompany roads settings (record { board = old; is_open = is_open }) → is_report command ≡ true
+pub company-reported : (settings : Settings) (old new : Recorded) (is_open : Bool) (command : Command)
+    (r : Result Reply AllocError) → IsCompany settings (record { board = old; is_open = is_open }) → is_report command ≡ true
     → report_count old.history < most_reports
     → new ≡ record old { history = new.history; spare = new.spare }
     → OnOk r (new.history ≡ old.history ++ fed_entry (state_of old) 1 command ∷ []) → OnErr r (new ≡ old)
-    → IsCompany roads settings (record { board = new; is_open = is_open })
-company-reported roads settings old new is_open command (Err e) company is few others entry same =
-    subst (λ (b : Recorded). IsCompany roads settings (record { board = b; is_open = is_open })) (sym same) company
-company-reported roads settings old new is_open command (Ok reply) company is few others entry same =
+    → IsCompany settings (record { board = new; is_open = is_open })
+company-reported settings old new is_open command (Err e) company is few others entry same =
+    subst (λ (b : Recorded). IsCompany settings (record { board = b; is_open = is_open })) (sym same) company
+company-reported settings old new is_open command (Ok reply) company is few others entry same =
     let start : new.start ≡ old.start = ap (λ (b : Recorded). b.start) others in
     record {
-      roads_are = ap (λ (t : State). t.roads) start ∙ company.roads_are;
       settings_are = ap (λ (t : State). t.settings) start ∙ company.settings_are;
       one_feed = ap (λ (b : Recorded). b.feeds) others ∙ company.one_feed;
       one_desk = ap (λ (b : Recorded). b.desks) others ∙ company.one_desk;

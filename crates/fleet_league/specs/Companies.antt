@@ -6,7 +6,6 @@ use Rattle.ride_model.specs.declared.entry.Entry.{Entry}
 use Rattle.ride_model.specs.declared.settings.Settings.{Settings}
 use Rattle.ride_model.specs.Batch.{waiting_rides}
 use Rattle.ride_model.specs.History.{fed_commands}
-use Rattle.ride_model.specs.Road.{RoadMap}
 use Rattle.board_core.specs.Recorded.{Recorded, state_of}
 
 -- a company's board, and whether the company is open
@@ -44,8 +43,7 @@ pub record IsIdle (board : Recorded) : Type 0 where
       ≤ report_count board.history + length (state_of board).requests + (state_of board).asked
 
 -- a company in order: its board has one feed and one desk, and stands idle while the company is open
-pub record IsCompany (roads : RoadMap) (settings : Settings) (company : CompanyState) : Type 0 where
-  pub roads_are : company.board.start.roads ≡ roads
+pub record IsCompany (settings : Settings) (company : CompanyState) : Type 0 where
   pub settings_are : company.board.start.settings ≡ settings
   pub one_feed : company.board.feeds ≡ 1
   pub one_desk : company.board.desks ≡ 1

@@ -1,5 +1,5 @@
 -- What a company may be awarded of a round.
-use Rattle.std.specs.Prelude.{ℕ, ◌+◌, ◌<◌, ◌≤◌, List, length, All, Contains, IsTrue, nat_eq}
+use Rattle.std.specs.Prelude.{◌+◌, ◌<◌, ◌≤◌, List, length, All, Contains, IsTrue, nat_eq}
 use Rattle.std.specs.List.{IsDistinct}
 use Rattle.ride_model.specs.declared.vehicle.Ride.{Ride}
 use Rattle.ride_model.specs.Text.{IsSpelledCommand}

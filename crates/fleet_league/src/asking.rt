@@ -13,10 +13,15 @@ use ride_model::{Command, NoMemory, Ride};
 pub(crate) fn ask(board: &mut Board<'_>, wins: &[Win]) -> Result<(), NoMemory>
     requires may { MayAsk board.old (won_rides wins.now) }
     requires few_asked { (state_of board.old).asked + 1 ≤ most_batches }
-    ensures asked { OnOk result (board.new.history ≡ board.old.history ++ asking_entries (state_of board.old) wins.now) }
+    ensures asked { OnOk result (board.new.history
+        ≡ board.old.history ++ asking_entries (state_of board.old) wins.now) }
     ensures cut { OnErr result ((many : ℕ)
-        × (board.new.history ≡ board.old.history ++ take many (asking_entries (state_of board.old) wins.now))) }
-    ensures others { board.new ≡ record board.old { history = board.new.history; spare = board.new.spare } }
+        × (board.new.history ≡ board.old.history
+        ++ take many (asking_entries (state_of board.old) wins.now))) }
+    ensures others { board.new ≡ record board.old {
+      history = board.new.history;
+      spare = board.new.spare;
+    } }
 {
     request_each(board, wins)?;
     board.apply(1, &Command::Ask)?;
@@ -26,9 +31,14 @@ pub(crate) fn ask(board: &mut Board<'_>, wins: &[Win]) -> Result<(), NoMemory>
 // Requests the rides of wins.
 fn request_each(board: &mut Board<'_>, wins: &[Win]) -> Result<(), NoMemory>
     requires may { MayAsk board.old (won_rides wins.now) }
-    ensures asked { OnOk result (board.new.history ≡ board.old.history ++ request_entries wins.now) }
-    ensures cut { OnErr result ((many : ℕ) × (board.new.history ≡ board.old.history ++ take many (request_entries wins.now))) }
-    ensures others { board.new ≡ record board.old { history = board.new.history; spare = board.new.spare } }
+    ensures asked { OnOk result (board.new.history
+        ≡ board.old.history ++ request_entries wins.now) }
+    ensures cut { OnErr result ((many : ℕ)
+        × (board.new.history ≡ board.old.history ++ take many (request_entries wins.now))) }
+    ensures others { board.new ≡ record board.old {
+      history = board.new.history;
+      spare = board.new.spare;
+    } }
 {
     for win in wins {
         board.apply(1, &request_of(&win.ride))?;

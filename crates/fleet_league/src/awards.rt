@@ -16,8 +16,8 @@ ghost use Rattle.fleet_league.specs.Awards.{won_rides, AreOfOneState, first_move
 use crate::confirming::confirm;
 use crate::{Brief, Company, Quote, Settled};
 use batch_commit::PriceTable;
+use pricing_workers::Pricer;
 use ride_model::{NoMemory, Vehicle};
-use road_times::Scratch;
 use std::alloc::AllocError;
 use std::thread::Threads;
 
@@ -28,38 +28,46 @@ impl<'r> Company<'r> {
     pub fn award<R: Threads + Sync>(
         &mut self,
         rt: &R,
-        scratches: &mut [Scratch],
+        pricer: &mut Pricer,
         quote: &Quote,
         brief: &Brief,
     ) -> Result<Settled, NoMemory>
-        requires some_scratch { 1 ≤ length scratches.old }
-        requires scratches { All (λ scratch. scratch.nodes ≡ self.old.board.start.roads.nodes) scratches.old }
+        requires roads { pricer.old ≡ self.old.board.start.roads }
         requires is_open { IsTrue self.old.is_open }
         requires of_one_state { AreOfOneState self.old.board quote.now brief.now }
         requires rides { All (IsNewRide (state_of self.old.board)) (won_rides brief.now.wins) }
         requires ids_differ { IsDistinct nat_eq (ride_ids (won_rides brief.now.wins)) }
         requires ids_spelled { All (λ (ride : Ride). IsSpelled ride.id) (won_rides brief.now.wins) }
-        requires chairs { self.old.board.start.settings.log ≡ 1 → All (λ (ride : Ride). ride.chairs ≡ 0) (won_rides brief.now.wins) }
+        requires chairs { self.old.board.start.settings.log ≡ 1
+            → All (λ (ride : Ride). ride.chairs ≡ 0) (won_rides brief.now.wins) }
         requires few { length brief.now.wins ≤ self.old.board.start.settings.batch }
-        requires room { length (state_of self.old.board).requests + length brief.now.wins ≤ most_requests }
+        requires room { length (state_of self.old.board).requests + length brief.now.wins
+            ≤ most_requests }
         requires few_asked { (state_of self.old.board).asked < most_batches }
         ensures settled { IfOk result (λ settled. settled
-            ≡ settled_at (state_of self.old.board).clock (state_of self.old.board).vehicles quote.now) }
+            ≡ settled_at (state_of self.old.board).clock
+            (state_of self.old.board).vehicles quote.now) }
         ensures unsettled { result ≢ Ok Confirmed → OnOk result (self.new ≡ self.old) }
         ensures no_wins { brief.now.wins ≡ [] → self.new ≡ self.old }
         ensures confirmed { result ≡ Ok Confirmed → brief.now.wins ≢ []
-            → AddsAward (state_of self.old.board) brief.now self.old.board.history self.new.board.history }
+            → AddsAward (state_of self.old.board) brief.now
+            self.old.board.history self.new.board.history }
         ensures stays_open { OnOk result (IsTrue self.new.is_open) }
         ensures no_memory { IsErr result
-            → settled_at (state_of self.old.board).clock (state_of self.old.board).vehicles quote.now ≡ Confirmed }
+            → settled_at (state_of self.old.board).clock
+            (state_of self.old.board).vehicles quote.now ≡ Confirmed }
         ensures spent { OnErr result (IsFalse self.new.is_open) }
-        ensures part { OnErr result (AddsPart (state_of self.old.board) brief.now.wins self.old.board.history self.new.board.history) }
+        ensures part { OnErr result (AddsPart (state_of self.old.board) brief.now.wins
+            self.old.board.history self.new.board.history) }
         ensures none_open { OnErr result ((state_of self.new.board).batches ≡ []) }
         ensures others { self.new ≡ record self.old {
-          board = record self.old.board { history = self.new.board.history; spare = self.new.board.spare };
+          board = record self.old.board {
+            history = self.new.board.history;
+            spare = self.new.board.spare;
+          };
           is_open = self.new.is_open;
         } }
-        ensures scratches { scratches.new ≡ scratches.old }
+        ensures pricer { pricer.new ≡ pricer.old }
     {
         // This call tells that the history is legal.
         let _history = self.board.entries();
@@ -67,7 +75,7 @@ impl<'r> Company<'r> {
         if !matches!(settled, Settled::Confirmed) || brief.wins.items().is_empty() {
             return Ok(settled);
         }
-        let Ok(table) = self.price_won(rt, scratches, brief.wins.items()) else {
+        let Ok(table) = self.price_won(rt, pricer, brief.wins.items()) else {
             self.open = false;
             return Err(AllocError);
         };
@@ -82,13 +90,18 @@ impl<'r> Company<'r> {
             (quoting_batch (state_of self.old.board) (won_rides brief.now.wins)) table }
         ensures no_wins { brief.now.wins ≡ [] → self.new ≡ self.old }
         ensures confirmed { brief.now.wins ≢ []
-            → OnOk result (AddsAward (state_of self.old.board) brief.now self.old.board.history self.new.board.history) }
+            → OnOk result (AddsAward (state_of self.old.board) brief.now
+            self.old.board.history self.new.board.history) }
         ensures stays_open { OnOk result (IsTrue self.new.is_open) }
         ensures spent { OnErr result (IsFalse self.new.is_open) }
-        ensures part { OnErr result (AddsPart (state_of self.old.board) brief.now.wins self.old.board.history self.new.board.history) }
+        ensures part { OnErr result (AddsPart (state_of self.old.board) brief.now.wins
+            self.old.board.history self.new.board.history) }
         ensures none_open { OnErr result ((state_of self.new.board).batches ≡ []) }
         ensures others { self.new ≡ record self.old {
-          board = record self.old.board { history = self.new.board.history; spare = self.new.board.spare };
+          board = record self.old.board {
+            history = self.new.board.history;
+            spare = self.new.board.spare;
+          };
           is_open = self.new.is_open;
         } }
     {

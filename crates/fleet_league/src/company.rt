@@ -1,17 +1,15 @@
 //! A company, with its vehicles on a board of its own.
-ghost use Rattle.std.specs.Prelude.{◌≡◌, ◌<◌, [], ◌++◌, ◌∷◌, All, IfOk, OnOk, OnErr, IsTrue};
-ghost use Rattle.ride_model.specs.declared.vehicle.Vehicle.{Vehicle};
-ghost use Rattle.ride_model.specs.Settings.{IsSettings};
+ghost use Rattle.std.specs.Prelude.{◌≡◌, ◌<◌, [], ◌++◌, ◌∷◌, IfOk, OnOk, OnErr, IsTrue};
+ghost use Rattle.ride_model.specs.Fleet.{MayStart};
 ghost use Rattle.ride_model.specs.State.{start_state};
 ghost use Rattle.ride_model.specs.Step.{step};
 ghost use Rattle.ride_model.specs.Text.{IsSpelledCommand};
-ghost use Rattle.ride_model.specs.Vehicle.{IsLawful};
 ghost use Rattle.board_core.specs.Recorded.{state_of, fed_entry};
 ghost use Rattle.fleet_league.specs.Companies.{is_report, report_count, most_reports};
 
+use adaptive_roads::Roads;
 use board_core::Board;
 use ride_model::{Command, Fleet, NoMemory, Reply, Settings};
-use road_times::Roads;
 use std::alloc::Global;
 use std::marker::Model;
 
@@ -20,7 +18,6 @@ use std::marker::Model;
 #[derive(Drop)]
 pub struct Company<'r> {
     pub(crate) alloc: Global,
-    pub(crate) roads: &'r Roads,
     pub(crate) settings: Settings,
     pub(crate) board: Board<'r>,
     pub(crate) open: bool,
@@ -33,7 +30,7 @@ impl<'r> Model for Company<'r> {
 
     ghost view = { λ c. record { board = c.board; is_open = c.open } };
 
-    ghost invariant = { λ c. IsCompany c.roads.now c.settings (record { board = c.board; is_open = c.open }) };
+    ghost invariant = { λ c. IsCompany c.settings (record { board = c.board; is_open = c.open }) };
 }
 
 impl<'r> Company<'r> {
@@ -44,18 +41,15 @@ impl<'r> Company<'r> {
         settings: Settings,
         fleet: Fleet,
     ) -> Result<Company<'r>, NoMemory>
-        requires settings { IsSettings settings }
-        requires lawful { All (IsLawful roads.now) fleet }
-        requires idle { All (λ (v : Vehicle). v.stops.items ≡ []) fleet }
-        requires first_versions { All (λ (v : Vehicle). v.version ≡ 0) fleet }
-        ensures start { IfOk result (λ company. company.board.start ≡ start_state roads.now settings fleet) }
+        requires start { MayStart roads.now settings fleet }
+        ensures start { IfOk result (λ company. company.board.start
+            ≡ start_state roads.now settings fleet) }
         ensures history { IfOk result (λ company. company.board.history ≡ []) }
         ensures open { IfOk result (λ company. IsTrue company.is_open) }
     {
         let board = Board::new(alloc, roads, settings, fleet, 1, 1)?;
         Ok(Company {
             alloc,
-            roads,
             settings,
             board,
             open: true,
@@ -84,12 +78,16 @@ impl<'r> Company<'r> {
         requires a_report { IsTrue (is_report command.now) }
         requires few { report_count self.old.board.history < most_reports }
         requires spelled { IsSpelledCommand self.old.board.start.settings.log command.now }
-        ensures reply { IfOk result (λ reply. reply ≡ (step (state_of self.old.board) command.now).reply) }
+        ensures reply { IfOk result (λ reply. reply
+            ≡ (step (state_of self.old.board) command.now).reply) }
         ensures entry { OnOk result (self.new.board.history
             ≡ self.old.board.history ++ fed_entry (state_of self.old.board) 1 command.now ∷ []) }
         ensures no_memory { OnErr result (self.new ≡ self.old) }
         ensures others { self.new ≡ record self.old {
-          board = record self.old.board { history = self.new.board.history; spare = self.new.board.spare };
+          board = record self.old.board {
+            history = self.new.board.history;
+            spare = self.new.board.spare;
+          };
         } }
     {
         // This call tells that the history is legal.

@@ -24,12 +24,18 @@ pub(crate) fn confirm(
     brief: &Brief,
 ) -> Result<(), NoMemory>
     requires may { MayConfirm board.old brief.now }
-    requires table { IsTableOf board.old.start.roads (quoting_batch (state_of board.old) (won_rides brief.now.wins)) table }
-    ensures added { OnOk result (AddsAward (state_of board.old) brief.now board.old.history board.new.history) }
+    requires table { IsTableOf board.old.start.roads
+        (quoting_batch (state_of board.old) (won_rides brief.now.wins)) table }
+    ensures added { OnOk result (AddsAward (state_of board.old) brief.now
+        board.old.history board.new.history) }
     ensures idle { OnOk result (IsIdle board.new) }
-    ensures part { OnErr result (AddsPart (state_of board.old) brief.now.wins board.old.history board.new.history) }
+    ensures part { OnErr result (AddsPart (state_of board.old) brief.now.wins
+        board.old.history board.new.history) }
     ensures none_open { OnErr result ((state_of board.new).batches ≡ []) }
-    ensures others { board.new ≡ record board.old { history = board.new.history; spare = board.new.spare } }
+    ensures others { board.new ≡ record board.old {
+      history = board.new.history;
+      spare = board.new.spare;
+    } }
 {
     ask(board, brief.wins.items())?;
     let Opening::Batch(batch) = board.open_batch(1)? else {

@@ -16,9 +16,11 @@ pub fn restriction(
     own_penalty: u64,
     own: &Paired,
 )
-    requires certified { CertifiesPairing grid.now penalty paired.now.columns paired.now.prices paired.now.pays }
+    requires certified { CertifiesPairing grid.now penalty paired.now.columns
+        paired.now.prices paired.now.pays }
     requires chosen { length chosen.now ≡ grid.now.columns }
-    requires part { IsPart grid.now (rows_into chosen.now paired.now.columns) (chosen_columns chosen.now) part.now }
+    requires part { IsPart grid.now (rows_into chosen.now paired.now.columns)
+        (chosen_columns chosen.now) part.now }
     requires penalty { penalty ≤ own_penalty }
     requires own { IsRestrictedTo chosen.now paired.now.columns paired.now.prices paired.now.pays
         own.now.columns own.now.prices own.now.pays }

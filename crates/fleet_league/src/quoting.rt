@@ -15,12 +15,10 @@ ghost use Rattle.fleet_league.specs.Round.{IsPriced};
 
 use crate::{Company, PriceRows, Quote, Win};
 use batch_commit::{Batch, PriceTable};
-use pricing_workers::{Pricer, Search, price_batch, price_batch_adapting};
+use pricing_workers::{Pricer, price_batch};
 use ride_model::{Fleet, NoMemory, Ride, Vehicle, VersionList};
 use ride_ports::OpenGate;
-use road_times::Scratch;
 use std::alloc::Global;
-use std::slice::from_mut;
 use std::thread::Threads;
 
 /// A quote with the table that its prices are of.
@@ -35,61 +33,52 @@ impl<'r> Company<'r> {
     pub fn quote<R: Threads + Sync>(
         &self,
         rt: &R,
-        scratch: &mut Scratch,
+        pricer: &mut Pricer,
         rides: &[Ride],
     ) -> Result<Quote, NoMemory>
         requires is_open { IsTrue self.now.is_open }
-        requires scratch { scratch.old.nodes ≡ self.now.board.start.roads.nodes }
+        requires roads { pricer.old ≡ self.now.board.start.roads }
         requires few { length rides.now ≤ largest_batch }
         requires rides { All (IsNewRide (state_of self.now.board)) rides.now }
         requires ids_differ { IsDistinct nat_eq (ride_ids rides.now) }
         ensures time { IfOk result (λ quote. quote.time ≡ (state_of self.now.board).clock) }
-        ensures plans { IfOk result (λ quote. quote.plans ≡ versions_of (state_of self.now.board).vehicles) }
-        ensures prices { IfOk result (λ quote. quote.prices ≡ prices_of (state_of self.now.board) rides.now) }
+        ensures plans { IfOk result (λ quote. quote.plans
+            ≡ versions_of (state_of self.now.board).vehicles) }
+        ensures prices { IfOk result (λ quote. quote.prices
+            ≡ prices_of (state_of self.now.board) rides.now) }
         ensures priced { IfOk result (λ quote. IsPriced quote.prices) }
-        ensures scratch { scratch.new ≡ scratch.old }
+        ensures pricer { pricer.new ≡ pricer.old }
     {
-        let mut pricer = Pricer::new(self.roads);
-        let priced = self.quote_adapting(rt, &mut pricer, scratch, rides)?;
+        let priced = self.quote_with_table(rt, pricer, rides)?;
         Ok(priced.quote)
     }
 
-    /// The same by a pricer, with the table of the rides.
-    pub fn quote_adapting<R: Threads + Sync>(
+    /// The same, with the table of the rides.
+    pub fn quote_with_table<R: Threads + Sync>(
         &self,
         rt: &R,
-        pricer: &mut Pricer<'_>,
-        scratch: &mut Scratch,
+        pricer: &mut Pricer,
         rides: &[Ride],
     ) -> Result<PricedQuote, NoMemory>
         requires is_open { IsTrue self.now.is_open }
         requires roads { pricer.old ≡ self.now.board.start.roads }
-        requires scratch { scratch.old.nodes ≡ self.now.board.start.roads.nodes }
         requires few { length rides.now ≤ largest_batch }
         requires rides { All (IsNewRide (state_of self.now.board)) rides.now }
         requires ids_differ { IsDistinct nat_eq (ride_ids rides.now) }
         ensures time { IfOk result (λ priced. priced.quote.time ≡ (state_of self.now.board).clock) }
-        ensures plans { IfOk result (λ priced. priced.quote.plans ≡ versions_of (state_of self.now.board).vehicles) }
-        ensures prices { IfOk result (λ priced. priced.quote.prices ≡ prices_of (state_of self.now.board) rides.now) }
+        ensures plans { IfOk result (λ priced. priced.quote.plans
+            ≡ versions_of (state_of self.now.board).vehicles) }
+        ensures prices { IfOk result (λ priced. priced.quote.prices
+            ≡ prices_of (state_of self.now.board) rides.now) }
         ensures priced { IfOk result (λ priced. IsPriced priced.quote.prices) }
         ensures table { IfOk result (λ priced. IsTableOf self.now.board.start.roads
             (quoting_batch (state_of self.now.board) rides.now) priced.table) }
-        ensures scratch { scratch.new ≡ scratch.old }
         ensures pricer { pricer.new ≡ pricer.old }
     {
         // This call tells that the history is legal.
         let _history = self.board.entries();
         let batch = self.batch_of(rides)?;
-        let scratches = from_mut(scratch);
-        let table = price_batch_adapting(
-            rt,
-            self.alloc,
-            Search::BySlack,
-            &batch,
-            pricer,
-            scratches,
-            &OpenGate,
-        )?;
+        let table = price_batch(rt, &batch, pricer, &OpenGate)?;
         let plans = versions_of(self.alloc, self.board.vehicles())?;
         let prices = prices_in(self.alloc, &batch, &table)?;
         let quote = Quote {
@@ -104,23 +93,20 @@ impl<'r> Company<'r> {
     pub(crate) fn price_won<R: Threads + Sync>(
         &self,
         rt: &R,
-        scratches: &mut [Scratch],
+        pricer: &mut Pricer,
         wins: &[Win],
     ) -> Result<PriceTable, NoMemory>
-        requires some_scratch { 1 ≤ length scratches.old }
-        requires scratches { All (λ scratch. scratch.nodes ≡ self.now.board.start.roads.nodes) scratches.old }
+        requires roads { pricer.old ≡ self.now.board.start.roads }
         requires few { length wins.now ≤ largest_batch }
         requires rides { All (IsNewRide (state_of self.now.board)) (won_rides wins.now) }
         requires ids_differ { IsDistinct nat_eq (ride_ids (won_rides wins.now)) }
         ensures table { IfOk result (IsTableOf self.now.board.start.roads
             (quoting_batch (state_of self.now.board) (won_rides wins.now))) }
-        ensures scratches { scratches.new ≡ scratches.old }
+        ensures pricer { pricer.new ≡ pricer.old }
     {
-        // This call tells that the history is legal.
-        let _history = self.board.entries();
         let rides = won_rides(self.alloc, wins)?;
         let batch = self.batch_of(&rides)?;
-        price_batch(rt, self.alloc, &batch, self.roads, scratches, &OpenGate)
+        price_batch(rt, &batch, pricer, &OpenGate)
     }
 
     // Rides as the requests of a batch that no desk has opened, over the vehicles as they stand.
@@ -128,10 +114,12 @@ impl<'r> Company<'r> {
         requires few { length rides.now ≤ largest_batch }
         requires rides { All (IsNewRide (state_of self.now.board)) rides.now }
         requires ids_differ { IsDistinct nat_eq (ride_ids rides.now) }
-        ensures batch { IfOk result (λ batch. batch ≡ quoting_batch (state_of self.now.board) rides.now) }
+        ensures batch { IfOk result (λ batch. batch
+            ≡ quoting_batch (state_of self.now.board) rides.now) }
         ensures time { IfOk result (λ batch. batch.time ≤ latest_time) }
         ensures over_map { IfOk result (IsBatchOver self.now.board.start.roads) }
-        ensures lawful { IfOk result (λ batch. All (IsLawful self.now.board.start.roads) batch.vehicles) }
+        ensures lawful { IfOk result (λ batch.
+            All (IsLawful self.now.board.start.roads) batch.vehicles) }
     {
         // This call tells that the history is legal.
         let _history = self.board.entries();

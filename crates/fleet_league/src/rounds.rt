@@ -17,7 +17,8 @@ pub fn settle(alloc: Global, penalty: u64, quotes: &[Quote]) -> Result<Paired, N
     requires some_company { 1 ≤ length quotes.now }
     requires few_companies { length quotes.now ≤ 8 }
     requires priced { All (λ (quote : Quote). IsPriced quote.prices) quotes.now }
-    requires same_rides { (rides : ℕ) × All (λ (quote : Quote). quote.prices.rows ≡ rides) quotes.now }
+    requires same_rides { (rides : ℕ)
+        × All (λ (quote : Quote). quote.prices.rows ≡ rides) quotes.now }
     ensures round { IfOk result (IsRound penalty (company_prices quotes.now)) }
 {
     let grid = union_of(alloc, quotes)?;

@@ -23,10 +23,12 @@ pub(crate) fn solved(
     table: PriceTable,
     brief: &Brief,
 ) -> Result<Solved, Batch>
-    requires won { (roads : RoadMap) × IsTableOf roads batch table × IsWonBatch roads batch brief.now }
+    requires won { (roads : RoadMap) × IsTableOf roads batch table
+        × IsWonBatch roads batch brief.now }
     ensures batch { IfOk result (λ solved. solved.batch ≡ batch) }
     ensures table { IfOk result (λ solved. solved.table ≡ table) }
-    ensures certified { IfOk result (λ solved. CertifiesOverCells batch solved.table solved.answer.seating solved.answer.prices
+    ensures certified { IfOk result
+        (λ solved. CertifiesOverCells batch solved.table solved.answer.seating solved.answer.prices
         solved.answer.pays) }
     ensures seats { IfOk result (λ solved. AreSeatsOf brief.now.wins solved.answer.seating) }
     ensures prices { IfOk result (λ solved. solved.answer.prices ≡ price_list brief.now.wins) }
@@ -51,8 +53,10 @@ fn answer_by(
 ) -> Result<Answer, NoMemory>
     requires fits { FitsBatch batch.now table.now }
     requires requests { batch.now.requests ≡ won_rides brief.now.wins }
-    ensures seats { IfOk result (λ answer. answer.seating ≡ seats_by table.now (ride_ids (won_rides brief.now.wins))
-        (vehicle_ids batch.now.vehicles) (won_columns batch.now.vehicles brief.now.wins) (length brief.now.wins)) }
+    ensures seats { IfOk result (λ answer. answer.seating
+        ≡ seats_by table.now (ride_ids (won_rides brief.now.wins))
+        (vehicle_ids batch.now.vehicles)
+        (won_columns batch.now.vehicles brief.now.wins) (length brief.now.wins)) }
     ensures prices { IfOk result (λ answer. answer.prices ≡ price_list brief.now.wins) }
     ensures pays { IfOk result (λ answer. answer.pays ≡ brief.now.pays) }
     ensures undecided { IfOk result (λ answer. answer.outcomes ≡ undecided answer.prices) }
@@ -77,7 +81,8 @@ fn seats_of(
     requires rows_are { table.now.rows ≡ length wins.now }
     requires columns_are { table.now.columns ≡ length vehicles.now }
     requires few_vehicles { length vehicles.now ≤ most_vehicles }
-    ensures { IfOk result (λ seats. seats ≡ seats_by table.now (ride_ids (won_rides wins.now)) (vehicle_ids vehicles.now)
+    ensures { IfOk result (λ seats. seats
+        ≡ seats_by table.now (ride_ids (won_rides wins.now)) (vehicle_ids vehicles.now)
         (won_columns vehicles.now wins.now) (length wins.now)) }
 {
     let mut seats = Vec::with_capacity(alloc, wins.len())?;
@@ -95,7 +100,8 @@ fn seat_of(table: &PriceTable, vehicles: &[Vehicle], row: u32, win: &Win) -> Opt
     requires columns_are { table.now.columns ≡ length vehicles.now }
     requires few_vehicles { length vehicles.now ≤ most_vehicles }
     ensures { (requests : List ℕ) → slice_index requests row ≡ win.now.ride.id
-        → result ≡ seat_at table.now requests (vehicle_ids vehicles.now) row (won_column vehicles.now win.now) }
+        → result ≡ seat_at table.now requests (vehicle_ids vehicles.now) row
+        (won_column vehicles.now win.now) }
 {
     let column = column_of(vehicles, win.vehicle)?;
     let offer = table.cell(row, column as u32)?;

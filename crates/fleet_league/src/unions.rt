@@ -14,7 +14,8 @@ pub(crate) fn union_of(alloc: Global, quotes: &[Quote]) -> Result<Grid, NoMemory
     requires some_company { 1 ≤ length quotes.now }
     requires few_companies { length quotes.now ≤ 8 }
     requires priced { All (λ (quote : Quote). IsPriced quote.prices) quotes.now }
-    requires same_rides { (rides : ℕ) × All (λ (quote : Quote). quote.prices.rows ≡ rides) quotes.now }
+    requires same_rides { (rides : ℕ)
+        × All (λ (quote : Quote). quote.prices.rows ≡ rides) quotes.now }
     ensures { IfOk result (IsUnion (company_prices quotes.now)) }
 {
     let rides = quotes[0].prices.rides();
@@ -48,10 +49,12 @@ fn fill_block(grid: &mut Grid, first: u32, prices: &PriceRows)
     requires priced { IsPriced prices.now }
     requires rows { prices.now.rows ≡ grid.old.rows }
     requires columns { first + prices.now.columns ≤ grid.old.columns }
-    requires bare { (row column : ℕ) → row < prices.now.rows → first ≤ column → column < first + prices.now.columns
+    requires bare { (row column : ℕ) → row < prices.now.rows → first ≤ column
+        → column < first + prices.now.columns
         → cell_at grid.old row column ≡ None }
     ensures stands { StandsFrom first prices.now grid.new }
-    ensures others { ChangesOnly (λ _ column. (first ≤ column) × (column < first + prices.now.columns)) grid.old grid.new }
+    ensures others { ChangesOnly (λ _ column. (first ≤ column)
+        × (column < first + prices.now.columns)) grid.old grid.new }
 {
     for row in 0..prices.rides() {
         fill_row(grid, first, prices, row);
@@ -64,9 +67,12 @@ fn fill_row(grid: &mut Grid, first: u32, prices: &PriceRows, row: u32)
     requires row_in { row < prices.now.rows }
     requires rows { prices.now.rows ≡ grid.old.rows }
     requires columns { first + prices.now.columns ≤ grid.old.columns }
-    requires bare { (column : ℕ) → column < prices.now.columns → cell_at grid.old row (first + column) ≡ None }
-    ensures filled { (column : ℕ) → column < prices.now.columns → cell_at grid.new row (first + column) ≡ cell_at prices.now row column }
-    ensures others { ChangesOnly (λ other column. (other ≡ row) × (first ≤ column) × (column < first + prices.now.columns))
+    requires bare { (column : ℕ) → column < prices.now.columns
+        → cell_at grid.old row (first + column) ≡ None }
+    ensures filled { (column : ℕ) → column < prices.now.columns
+        → cell_at grid.new row (first + column) ≡ cell_at prices.now row column }
+    ensures others { ChangesOnly (λ other column. (other ≡ row) × (first ≤ column)
+        × (column < first + prices.now.columns))
         grid.old grid.new }
 {
     // This call tells that a grid has at most 8,000 columns.
@@ -83,7 +89,8 @@ fn write_cell(grid: &mut Grid, row: u32, column: u32, amount: Option<u64>)
     requires small { IfSome amount (λ a. a < 2 ^ 42) }
     requires bare { cell_at grid.old row column ≡ None }
     ensures cell { cell_at grid.new row column ≡ amount }
-    ensures others { ChangesOnly (λ other place. (other ≡ row) × (place ≡ column)) grid.old grid.new }
+    ensures others { ChangesOnly (λ other place. (other ≡ row)
+        × (place ≡ column)) grid.old grid.new }
 {
     // This call tells that each row has its cells.
     let _rows = grid.rows();

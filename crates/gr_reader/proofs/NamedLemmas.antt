@@ -1,12 +1,12 @@
 -- A text's refusal is neither want of memory nor a fault of reading.
-use Rattle.std.proofs.Common.{◌≡◌, ◌≢◌, ℕ, ◌+◌, nat_lt, ◌==◌, ◌||◌, Bool, true, false, cond, List, [], ◌∷◌, length, take, Option, Some, None, Result, Ok, Err, IfErr, refl, ap, sym, ◌∙◌, true≢false}
+use Rattle.std.proofs.Common.{◌≢◌, ℕ, nat_lt, ◌==◌, ◌||◌, Bool, true, false, List, [], ◌∷◌, length, Option, Some, None, Err, refl}
 use Rattle.std.specs.Prelude.{codes}
 use Rattle.std.specs.Str.{bytes_eq}
 use Rattle.line_text.specs.Fields.{numbers_of, words_of}
-use Rattle.line_text.specs.Lines.{ended_lines, lines_of}
-use Rattle.line_text.specs.Texts.{and_then, after_lines, after_ended}
+use Rattle.line_text.specs.Texts.{after_lines}
 use Rattle.line_text.proofs.NamedRefusals.{IsNamed, named-cond, named-and_then, named-lines, named-text as text-named, unnamed}
 use Rattle.ride_model.specs.declared.network.RoadArc.{RoadArc}
+use Rattle.ride_model.specs.Limits.{longest_arc}
 use Rattle.gr_reader.specs.declared.lines.Problem.{Problem}
 use Rattle.gr_reader.specs.declared.errors.MapError.{MapError}
 use Rattle.gr_reader.specs.declared.errors.MapError.TheVariants.{NoMemory, ReadFault}
@@ -25,7 +25,7 @@ named-problem number (Some p) = named-cond is_named (p.nodes == 0) _ _ refl (nam
 named-arc : (number nodes : ℕ) (o : Option RoadArc) → IsNamed is_named (checked_arc number nodes o)
 unfolding IsNamed is_named
 named-arc number nodes None = refl
-named-arc number nodes (Some arc) = named-cond is_named (is_out nodes arc.tail || is_out nodes arc.head) _ _ refl (named-cond is_named (nat_lt 1000000000 arc.seconds) _ _ refl tt)
+named-arc number nodes (Some arc) = named-cond is_named (is_out nodes arc.tail || is_out nodes arc.head) _ _ refl (named-cond is_named (nat_lt longest_arc arc.seconds) _ _ refl tt)
 
 named-problem_line : (number : ℕ) (o : Option Problem) (arcs : List RoadArc) (fields : List (List ℕ)) → IsNamed is_named (problem_line number o arcs fields)
 unfolding IsNamed is_named

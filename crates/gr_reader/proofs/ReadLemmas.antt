@@ -1,5 +1,5 @@
 -- What the reader has taken after one more line, and what the text gives then.
-use Rattle.std.proofs.Common.{◌≡◌, ◌≢◌, ℕ, ◌+◌, ◌<◌, ◌≤◌, Option, Some, None, IfSome, List, [], ◌∷◌, ◌++◌, length, Result, Ok, Err, MatchResult, refl, ap, sym, ◌∙◌, arith}
+use Rattle.std.proofs.Common.{◌≡◌, ◌≢◌, false, ℕ, ◌+◌, ◌<◌, ◌≤◌, Option, Some, None, IfSome, List, [], ◌∷◌, ◌++◌, length, Result, Ok, Err, MatchResult, refl, ap, sym, ◌∙◌, arith}
 use Rattle.std.proofs.lemmas.List.{length_push}
 use Rattle.plain_lemmas.proofs.Lists.{some_bytes}
 use Rattle.line_text.specs.Fields.{words_of}
@@ -11,7 +11,7 @@ use Rattle.gr_reader.specs.declared.errors.MapError.{MapError}
 use Rattle.gr_reader.specs.declared.errors.MapError.TheVariants.{NoMemory, ReadFault, TooLong}
 use Rattle.gr_reader.specs.declared.lines.MapLines.{MapLines}
 use Rattle.gr_reader.specs.MapText.{MapSoFar, after_words, map_format, map_text}
-use Rattle.gr_reader.specs.Reading.{HasTaken, Holds, Gives, Refuses}
+use Rattle.gr_reader.specs.Reading.{HasTaken, Holds, Gives, Refuses, is_read_fault}
 use Rattle.gr_reader.proofs.NamedLemmas.{after_all-no_fault}
 
 -- nothing was taken before the first line
@@ -62,3 +62,8 @@ fault-not-memory is = cc
 pub line-no_fault : (lines : List (List ℕ)) (e : MapError) → Refuses lines e → e ≢ ReadFault
 line-no_fault lines e refuses same =
     after_all-no_fault lines (refuses (λ memory. fault-not-memory (sym same ∙ memory)) ∙ ap (λ d. Err d) same)
+
+-- an error that is none of the source
+pub not-fault : (e : MapError) → e ≢ ReadFault → is_read_fault {T = Unit {0}} (Err e) ≡ false
+not-fault ReadFault other = absurd (other refl)
+not-fault _ other = refl

@@ -5,7 +5,7 @@ use Rattle.line_text.specs.Fields.{numbers_of, words_of}
 use Rattle.line_text.specs.Texts.{Format, and_then, text_value}
 use Rattle.ride_model.specs.declared.network.RoadArc.{RoadArc}
 use Rattle.ride_model.specs.Road.{RoadMap}
-use Rattle.ride_model.specs.Limits.{latest_time, most_arcs, most_nodes}
+use Rattle.ride_model.specs.Limits.{longest_arc, most_arcs, most_nodes}
 use Rattle.gr_reader.specs.declared.lines.Problem.{Problem}
 use Rattle.gr_reader.specs.declared.errors.MapError.{MapError}
 use Rattle.gr_reader.specs.declared.errors.MapError.TheVariants.{NoProblem, SecondProblem, BadLine, NodeOut, WeightOut, ArcCount, TooLarge, TooLong}
@@ -47,7 +47,7 @@ checked_arc number nodes None = Err (BadLine number)
 checked_arc number nodes (Some arc) =
     if is_out nodes arc.tail || is_out nodes arc.head
     then Err (NodeOut number)
-    else (if nat_lt latest_time arc.seconds then Err (WeightOut number) else Ok arc)
+    else (if nat_lt longest_arc arc.seconds then Err (WeightOut number) else Ok arc)
 
 -- a problem line, of which there is one
 abbrev pub problem_line : ℕ → Option Problem → List RoadArc → List (List ℕ) → Result MapSoFar MapError

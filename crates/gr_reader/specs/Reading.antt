@@ -1,5 +1,5 @@
 -- What the reader keeps of the lines so far.
-use Rattle.std.specs.Prelude.{◌≡◌, ◌≢◌, ℕ, ◌≤◌, List, [], length, take, All, Option, Some, None, MatchOption, Result, Ok, Err, MatchResult}
+use Rattle.std.specs.Prelude.{◌≡◌, ◌≢◌, ℕ, ◌≤◌, List, [], length, take, All, Option, Some, None, MatchOption, Result, Ok, Err, MatchResult, Bool, true, false}
 use Rattle.line_text.specs.Texts.{after_lines}
 use Rattle.ride_model.specs.declared.network.RoadArc.{RoadArc}
 use Rattle.ride_model.specs.Road.{IsArc}
@@ -7,7 +7,7 @@ use Rattle.ride_model.specs.Limits.{most_arcs, most_nodes}
 use Rattle.gr_reader.specs.declared.lines.Problem.{Problem}
 use Rattle.gr_reader.specs.declared.lines.MapLines.{MapLines}
 use Rattle.gr_reader.specs.declared.errors.MapError.{MapError}
-use Rattle.gr_reader.specs.declared.errors.MapError.TheVariants.{NoMemory}
+use Rattle.gr_reader.specs.declared.errors.MapError.TheVariants.{NoMemory, ReadFault}
 use Rattle.gr_reader.specs.MapText.{MapSoFar, map_format}
 
 -- a problem within the limits
@@ -52,3 +52,8 @@ pub record HasTaken (lines : List (List ℕ)) (now : MapLines) : Type 0 where
 -- the last of these lines of a map is its first faulty one, unless memory ran out
 abbrev pub Refuses : List (List ℕ) → MapError → Type 0
 Refuses lines e = e ≢ NoMemory → after_lines map_format 1 map_format.start lines ≡ Err e
+
+-- whether the source failed
+abbrev pub is_read_fault : {T : Type 0} → Result T MapError → Bool
+is_read_fault (Err ReadFault) = true
+is_read_fault _ = false

@@ -66,7 +66,8 @@ impl MapLines {
     /// Takes the fields after `p`.
     fn problem_line(&mut self, number: u64, fields: &mut Fields<'_>) -> Result<(), MapError>
         ensures { (so_far : MapSoFar) → Holds self.old so_far → length so_far.arcs < number →
-            Gives result self.new number (problem_line number so_far.problem so_far.arcs fields.old) }
+            Gives result self.new number (problem_line number
+            so_far.problem so_far.arcs fields.old) }
     {
         if self.problem.is_some() {
             return Err(MapError::SecondProblem(number));
@@ -96,7 +97,8 @@ impl MapLines {
     fn add(&mut self, most: u32, arc: RoadArc) -> Result<(), MapError>
         ensures problem { self.new.problem ≡ self.old.problem }
         ensures arcs { OnOk result (self.new.arcs.items ≡
-            (if nat_lt self.old.found most then self.old.arcs.items ++ arc ∷ [] else self.old.arcs.items)) }
+            (if nat_lt self.old.found most then self.old.arcs.items ++ arc
+            ∷ [] else self.old.arcs.items)) }
         ensures found { OnOk result (self.new.found ≡ min (self.old.found + 1) (2 ^ 64 - 1)) }
         ensures err { IfErr result (λ e. e ≡ NoMemory) }
     {
@@ -164,7 +166,8 @@ fn read_problem(number: u64, fields: &mut Fields<'_>) -> Result<Problem, MapErro
 
 /// The numbers of nodes and arcs.
 fn problem_numbers(fields: &mut Fields<'_>) -> Option<(u64, u64)>
-    ensures { option_map (λ numbers. record { nodes = numbers.0; arcs = numbers.1 }) result ≡ problem_of fields.old }
+    ensures { option_map (λ numbers. record { nodes = numbers.0; arcs = numbers.1 }) result
+        ≡ problem_of fields.old }
 {
     if fields.next_field()? != b"sp".as_slice() {
         return None;
@@ -198,7 +201,9 @@ fn read_arc(number: u64, nodes: u32, fields: &mut Fields<'_>) -> Result<RoadArc,
 
 /// The numbers of an arc's two nodes and of its seconds.
 fn arc_numbers(fields: &mut Fields<'_>) -> Option<(u64, u64, u64)>
-    ensures { option_map (λ numbers. record { tail = numbers.0; head = numbers.1; seconds = numbers.2 }) result ≡ arc_from (numbers_of fields.old) }
+    ensures { option_map (λ numbers.
+        record { tail = numbers.0; head = numbers.1; seconds = numbers.2 }) result
+        ≡ arc_from (numbers_of fields.old) }
 {
     match fields.numbers::<3>()?.as_slice() {
         [tail, head, seconds] => Some((*tail, *head, *seconds)),

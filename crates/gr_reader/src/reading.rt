@@ -2,9 +2,10 @@
 ghost use Rattle.std.specs.Prelude.{◌≡◌, ◌≢◌, ◌≤◌, ℕ, List, [], length, Ok, Err, OnOk, IfOk, IfErr, IfSome, IsOk};
 ghost use Rattle.line_text.specs.Texts.{after_ended};
 ghost use Rattle.ride_ports.specs.Bytes.{Reads};
-ghost use Rattle.ride_ports.specs.Count.{Rose};
+ghost use Rattle.ride_ports.specs.Count.{KeepsCount};
 ghost use Rattle.gr_reader.specs.declared.errors.MapError.TheVariants.{NoMemory, ReadFault};
 ghost use Rattle.gr_reader.specs.MapText.{map_format, map_text};
+ghost use Rattle.gr_reader.specs.Reading.{is_read_fault};
 
 use crate::MapError;
 use crate::lines::MapLines;
@@ -29,12 +30,10 @@ pub fn read_map<S: Source>(alloc: Global, src: &mut S) -> Result<Network, MapErr
     ensures taken { (taken : List ℕ) × Reads (S.left src.old) (S.left src.new) taken }
 
     // A fault of reading is the source's, within the limit, and no line was faulty that was read whole.
-    ensures read_fault { result ≡ Err ReadFault → Rose (S.faults src.old) (S.faults src.new) }
+    ensures faults { KeepsCount (is_read_fault result) (S.faults src.old) (S.faults src.new) }
     ensures before_fault { result ≡ Err ReadFault → (bytes : List ℕ)
         × Reads (S.left src.old) (S.left src.new) bytes × (length bytes ≤ 134217728)
         × IsOk (after_ended map_format bytes) }
-    ensures other_counts_none { result ≢ Err ReadFault → S.faults src.new ≡ S.faults src.old }
-    ensures count_never_falls { S.faults src.old ≤ S.faults src.new }
 {
     let mut lines = MapLines::new(alloc);
     match read_lines(alloc, src, MOST_BYTES, &mut lines) {

@@ -43,18 +43,18 @@ start_inv desks ok start begins =
       requests_fit = λ r there. absurd (subst (Among r) no_requests there);
       requests_wait = λ r there. absurd (subst (Among r) no_requests there);
       ids_ok = λ r there. absurd (subst (Among r) no_requests there);
-      lawful = λ v there. of_all (IsLawful start.roads) start.vehicles v begins.lawful there;
-      few_stops = λ v there. omega (arith, ap length (of_all (λ (w : Vehicle). w.stops.items ≡ []) start.vehicles v begins.idle there));
+      lawful = λ v there. of_all (IsLawful start.roads) start.vehicles v begins.may_start.lawful there;
+      few_stops = λ v there. omega (arith, ap length (of_all (λ (w : Vehicle). w.stops.items ≡ []) start.vehicles v begins.may_start.idle there));
       promised = λ v there ride ride_there. absurd (no_visits ride ride.picked (
           sym (of_all (λ (r : Ride). map visit_of (stops_of r.id v.stops.items) ≡ visits_due r r.picked) v.rides.items ride
-          (of_all (IsLawful start.roads) start.vehicles v begins.lawful there).routed.planned.each_ride ride_there)
+          (of_all (IsLawful start.roads) start.vehicles v begins.may_start.lawful there).routed.planned.each_ride ride_there)
           ∙ ap (λ stops. map visit_of (stops_of ride.id stops))
-          (of_all (λ (w : Vehicle). w.stops.items ≡ []) start.vehicles v begins.idle there)
+          (of_all (λ (w : Vehicle). w.stops.items ≡ []) start.vehicles v begins.may_start.idle there)
           ));
       with_vehicles = λ r there. absurd (subst (Among r) no_requests there);
       versions_fit = λ v there. omega (
         arith,
-        of_all (λ (w : Vehicle). w.version ≡ 0) start.vehicles v begins.first_versions there,
+        of_all (λ (w : Vehicle). w.version ≡ 0) start.vehicles v begins.may_start.first_versions there,
         ap length no_batches,
       );
       batches_fit = λ b there. absurd (subst (Among b) no_batches there);

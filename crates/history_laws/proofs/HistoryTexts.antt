@@ -198,7 +198,7 @@ fed-le feeds desks s (entry ∷ entries) feeds_in (legal, rest) =
 pub has_text : (feeds desks : ℕ) (start : State) (entries : List Entry) → IsStart start → IsOneOrTwo feeds → IsOneOrTwo desks
     → IsLegal feeds desks start entries → IsFedWithin start.settings.log entries → HasText start.settings.log feeds desks entries
 has_text feeds desks start entries begins feeds_in desks_in legal within = record {
-  log_version = (begins.settings_fit.log_first, begins.settings_fit.log_limit);
+  log_version = (begins.may_start.settings_fit.log_first, begins.may_start.settings_fit.log_limit);
   feeds_number = feeds_in;
   desks_number = desks_in;
   lines = All-from_recursion (HasLine start.settings.log) entries

@@ -59,7 +59,7 @@ map_of desks fed ok start s begins inv = subst IsRoadMap (sym inv.roads_stay) be
 -- the settings are within their ranges
 pub settings_of : (desks fed : ℕ) (ok : ℕ → Type 0) (start s : State) → IsStart start → Inv desks fed ok start s
     → IsSettings s.settings
-settings_of desks fed ok start s begins inv = subst IsSettings (sym inv.settings_stay) begins.settings_fit
+settings_of desks fed ok start s begins inv = subst IsSettings (sym inv.settings_stay) begins.may_start.settings_fit
 
 -- a fleet of the ids of another is one too
 fleet-same : (old new : List Vehicle) → vehicle_ids new ≡ vehicle_ids old → IsFleet old → IsFleet new

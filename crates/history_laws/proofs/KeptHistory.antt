@@ -109,5 +109,5 @@ pub keeps_promises : (feeds desks : ℕ) (start : State) (entries : List Entry) 
 unfolding KeepsPromises
 keeps_promises feeds desks start entries begins legal =
     kept_from feeds desks 0 start start [] entries begins (start_inv desks any_id start begins)
-    (λ v there. keeping-idle start.settings.dwell [] v (of_all (λ (w : Vehicle). w.stops.items ≡ []) start.vehicles v begins.idle there))
+    (λ v there. keeping-idle start.settings.dwell [] v (of_all (λ (w : Vehicle). w.stops.items ≡ []) start.vehicles v begins.may_start.idle there))
     legal

@@ -3,25 +3,18 @@ use Rattle.std.specs.Prelude.{◌≡◌, ℕ, ◌≤◌, ⊤, Bool, true, false,
 use Rattle.ride_model.specs.declared.entry.Entry.{Entry}
 use Rattle.ride_model.specs.declared.entry.Event.{Event}
 use Rattle.ride_model.specs.declared.entry.Event.TheVariants.{Fed}
-use Rattle.ride_model.specs.declared.vehicle.Vehicle.{Vehicle}
-use Rattle.ride_model.specs.Fleet.{IsFleet}
+use Rattle.ride_model.specs.Fleet.{IsFleet, MayStart}
 use Rattle.ride_model.specs.History.{fed_commands}
 use Rattle.ride_model.specs.Road.{IsRoadMap}
-use Rattle.ride_model.specs.Settings.{IsSettings}
 use Rattle.ride_model.specs.State.{State, start_state}
 use Rattle.ride_model.specs.Text.{IsSpelledCommand}
-use Rattle.ride_model.specs.Vehicle.{IsLawful}
 use Rattle.ride_model.specs.Limits.{most_commands}
 
--- the state of a fleet before anything happened: map and settings are within their ranges, and each vehicle is lawful, idle
--- and of version 0
+-- the state of a fleet before anything happened: the map is within its limits, and a session may start with settings and fleet
 pub record IsStart (s : State) : Type 0 where
   pub map_fits : IsRoadMap s.roads
-  pub settings_fit : IsSettings s.settings
   pub fleet_fits : IsFleet s.vehicles
-  pub lawful : All (IsLawful s.roads) s.vehicles
-  pub idle : All (λ (v : Vehicle). v.stops.items ≡ []) s.vehicles
-  pub first_versions : All (λ (v : Vehicle). v.version ≡ 0) s.vehicles
+  pub may_start : MayStart s.roads s.settings s.vehicles
   pub nothing_yet : s ≡ start_state s.roads s.settings s.vehicles
 
 -- whether an event answers a command

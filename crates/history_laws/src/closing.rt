@@ -30,9 +30,13 @@ pub fn a_request_is_closed_at_most_once()
 
 /// Where a commit confirms a request, its vehicle is as in the batch's copies, over which the seat was priced.
 pub fn confirmed_pairs_stand()
-    ensures { (feeds desks : ℕ) (start : State) (before after : List Entry) (desk number cost : ℕ) (seats : List Seat)
-        (prices pays : List (ℕ × ℕ)) (outcomes : List (ℕ × Outcome)) (batch : BatchCopy) (seat : Seat) → IsStart start
-        → IsLegal feeds desks start (before ++ record { actor = Desk desk; event = Committed number cost seats prices pays outcomes } ∷ after)
+    ensures { (feeds desks : ℕ) (start : State) (before after : List Entry)
+        (desk number cost : ℕ) (seats : List Seat)
+        (prices pays : List (ℕ × ℕ)) (outcomes : List (ℕ × Outcome))
+        (batch : BatchCopy) (seat : Seat) → IsStart start
+        → IsLegal feeds desks start (before
+        ++ record { actor = Desk desk; event = Committed number cost seats prices pays outcomes }
+        ∷ after)
         → open_batch_numbered (replay start before) desk number ≡ Some batch → Contains seats seat
         → Contains outcomes (seat.request, Confirmed)
         → IsSomeAnd (find_vehicle batch.vehicles seat.vehicle)

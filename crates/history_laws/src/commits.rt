@@ -13,10 +13,15 @@ ghost use Rattle.history_laws.specs.Start.{IsStart};
 
 /// A vehicle whose version is not that of the batch's copy is as it was before the commit.
 pub fn a_commit_changes_only_standing_vehicles()
-    ensures { (feeds desks : ℕ) (start : State) (before : List Entry) (desk number cost : ℕ) (seats : List Seat)
-        (prices pays : List (ℕ × ℕ)) (outcomes : List (ℕ × Outcome)) (batch : BatchCopy) (id : ℕ) → IsStart start
-        → IsLegal feeds desks start before → open_batch_numbered (replay start before) desk number ≡ Some batch
+    ensures { (feeds desks : ℕ) (start : State) (before : List Entry)
+        (desk number cost : ℕ) (seats : List Seat)
+        (prices pays : List (ℕ × ℕ)) (outcomes : List (ℕ × Outcome)) (batch : BatchCopy) (id : ℕ)
+        → IsStart start
+        → IsLegal feeds desks start before
+        → open_batch_numbered (replay start before) desk number ≡ Some batch
         → version_of batch.vehicles id ≢ version_of (replay start before).vehicles id
-        → find_vehicle (replay start (before ++ record { actor = Desk desk; event = Committed number cost seats prices pays outcomes } ∷ [])).vehicles id
+        → find_vehicle (replay start (before
+        ++ record { actor = Desk desk; event = Committed number cost seats prices pays outcomes }
+        ∷ [])).vehicles id
         ≡ find_vehicle (replay start before).vehicles id }
 {}

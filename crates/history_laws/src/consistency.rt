@@ -11,7 +11,8 @@ ghost use Rattle.history_laws.specs.Consistent.{IsConsistent};
 /// Each vehicle is lawful and has just the rides of the requests that it has promised or carries; each open batch is in
 /// order; numbers are within their limits.
 pub fn every_state_is_consistent()
-    ensures { (feeds desks : ℕ) (start : State) (entries : List Entry) → IsStart start → IsLegal feeds desks start entries
+    ensures { (feeds desks : ℕ) (start : State) (entries : List Entry) → IsStart start
+        → IsLegal feeds desks start entries
         → IsConsistent desks (fed_total entries) start (replay start entries) }
 {}
 
@@ -19,14 +20,18 @@ pub fn every_state_is_consistent()
 pub fn equal_versions_are_equal_records()
     ensures { (feeds desks : ℕ) (start : State) (first second : List Entry) → IsStart start
         → IsLegal feeds desks start (first ++ second) → (earlier later : Vehicle)
-        → Contains (replay start first).vehicles earlier → Contains (replay start (first ++ second)).vehicles later
+        → Contains (replay start first).vehicles earlier
+        → Contains (replay start (first ++ second)).vehicles later
         → earlier.id ≡ later.id → earlier.version ≡ later.version → earlier ≡ later }
 {}
 
 /// A vehicle has at most 16 stops, and no more rides than stops.
 pub fn plans_have_at_most_16_stops()
-    ensures stops { (feeds desks : ℕ) (start : State) (entries : List Entry) → IsStart start → IsLegal feeds desks start entries
+    ensures stops { (feeds desks : ℕ) (start : State) (entries : List Entry) → IsStart start
+        → IsLegal feeds desks start entries
         → All (λ (v : Vehicle). length v.stops.items ≤ most_stops) (replay start entries).vehicles }
-    ensures rides { (feeds desks : ℕ) (start : State) (entries : List Entry) → IsStart start → IsLegal feeds desks start entries
-        → All (λ (v : Vehicle). length v.rides.items ≤ length v.stops.items) (replay start entries).vehicles }
+    ensures rides { (feeds desks : ℕ) (start : State) (entries : List Entry) → IsStart start
+        → IsLegal feeds desks start entries
+        → All (λ (v : Vehicle). length v.rides.items ≤ length v.stops.items)
+        (replay start entries).vehicles }
 {}

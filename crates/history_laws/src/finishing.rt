@@ -10,5 +10,6 @@ ghost use Rattle.history_laws.specs.Finishing.{AllWhole};
 /// Where every actor ended whole and none gave a batch up, each batch that was asked for was opened, and none is open.
 pub fn whole_histories_are_finished()
     ensures { (feeds desks : ℕ) (start : State) (entries : List Entry) → IsStart start → 1 ≤ desks
-        → IsLegal feeds desks start entries → AllWhole feeds desks entries → IsFinished feeds desks start entries }
+        → IsLegal feeds desks start entries → AllWhole feeds desks entries
+        → IsFinished feeds desks start entries }
 {}

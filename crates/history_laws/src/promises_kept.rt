@@ -9,6 +9,7 @@ ghost use Rattle.history_laws.specs.Start.{IsStart};
 /// In every legal history a late report that names a ride is the only event after which one of the ride's limits may be
 /// exceeded, and every vehicle is lawful.
 pub fn every_legal_history_keeps_its_promises()
-    ensures { (feeds desks : ℕ) (start : State) (entries : List Entry) → IsStart start → IsLegal feeds desks start entries
+    ensures { (feeds desks : ℕ) (start : State) (entries : List Entry) → IsStart start
+        → IsLegal feeds desks start entries
         → KeepsPromises start entries }
 {}

@@ -8,7 +8,8 @@ ghost use Rattle.history_laws.specs.Start.{IsStart, IsFedWithin};
 
 /// The numbers of every legal history have at most 18 digits, where those of its commands have.
 pub fn every_legal_history_has_a_text()
-    ensures { (feeds desks : ℕ) (start : State) (entries : List Entry) → IsStart start → IsOneOrTwo feeds → IsOneOrTwo desks
+    ensures { (feeds desks : ℕ) (start : State) (entries : List Entry) → IsStart start
+        → IsOneOrTwo feeds → IsOneOrTwo desks
         → IsLegal feeds desks start entries → IsFedWithin start.settings.log entries
         → HasText start.settings.log feeds desks entries }
 {}

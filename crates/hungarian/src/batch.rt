@@ -16,7 +16,9 @@ use std::alloc::Global;
 pub fn solve(alloc: Global, batch: &Batch, table: &PriceTable) -> Result<Answer, NoMemory>
     requires fits { FitsBatch batch.now table.now }
     requires small { HasSmallCosts table.now }
-    ensures certified { IfOk result (λ answer. CertifiesOverCells batch.now table.now answer.seating answer.prices answer.pays) }
+    ensures certified { IfOk result
+        (λ answer. CertifiesOverCells batch.now table.now
+        answer.seating answer.prices answer.pays) }
     ensures undecided { IfOk result (λ answer. answer.outcomes ≡ undecided answer.prices) }
     ensures least { IfOk result (λ answer. (roads : RoadMap) → IsTableOf roads batch.now table.now
         → IsLeastSeating roads batch.now answer.seating) }

@@ -34,7 +34,8 @@ fn fill_row(grid: &mut Grid, table: &PriceTable, row: u32, columns: u32)
     ensures sized { length grid.new.cells ≡ grid.new.rows * grid.new.columns }
     ensures rows { grid.new.rows ≡ grid.old.rows }
     ensures columns { grid.new.columns ≡ grid.old.columns }
-    ensures filled { (column : ℕ) → column < columns → cell_at grid.new row column ≡ cost_of (offer_at table.now row column) }
+    ensures filled { (column : ℕ) → column < columns
+        → cell_at grid.new row column ≡ cost_of (offer_at table.now row column) }
     ensures others { (other column : ℕ) → other ≢ row → column < columns
         → cell_at grid.new other column ≡ cell_at grid.old other column }
 {

@@ -32,7 +32,8 @@ impl Matches {
         requires row_in { row < length self.old.columns.items }
         requires column_in { column < length self.old.rows.items }
         ensures had { result ≡ mate self.old.columns.items row }
-        ensures columns { self.new.columns.items ≡ slice_set self.old.columns.items row (Some column) }
+        ensures columns { self.new.columns.items
+            ≡ slice_set self.old.columns.items row (Some column) }
         ensures rows { self.new.rows.items ≡ slice_set self.old.rows.items column (Some row) }
     {
         let had = self.columns[row as usize];
@@ -44,7 +45,8 @@ impl Matches {
     /// Gives each row on the way back from a column to the root the column that was reached from it.
     fn flip(&mut self, search: &Search, last: u32)
         requires { (root : ℕ) × IsFlippable search.now root last self.old }
-        ensures { (root : ℕ) → IsFlippable search.now root last self.old → IsTurned search.now root (λ _. ⊥) self.old self.new }
+        ensures { (root : ℕ) → IsFlippable search.now root last self.old
+            → IsTurned search.now root (λ _. ⊥) self.old self.new }
     {
         let mut column = last;
         while let Some(next) = self.pair(search.sources[column as usize], column) {
@@ -55,7 +57,8 @@ impl Matches {
     /// Takes a path over, up to its exit.
     pub(crate) fn take_over(&mut self, search: &Search, exit: Exit)
         requires { (root : ℕ) × IsReady search.now root exit self.old }
-        ensures { (root : ℕ) → IsReady search.now root exit self.old → IsTurned search.now root (IsLeft exit) self.old self.new }
+        ensures { (root : ℕ) → IsReady search.now root exit self.old
+            → IsTurned search.now root (IsLeft exit) self.old self.new }
     {
         match exit {
             Exit::Column(column) => self.flip(search, column),

@@ -54,7 +54,8 @@ impl Search {
 
     /// Opens all columns, none of them nearer than a limit.
     fn begin(&mut self, limit: u64)
-        ensures distances { self.new.distances.items ≡ replicate (length self.old.distances.items) limit }
+        ensures distances { self.new.distances.items
+            ≡ replicate (length self.old.distances.items) limit }
         ensures sources { self.new.sources.items ≡ self.old.sources.items }
         ensures ranks { self.new.ranks.items ≡ replicate (length self.old.ranks.items) 0 }
         ensures steps { self.new.steps ≡ 0 }
@@ -70,7 +71,8 @@ impl Search {
         requires column_in { column < length self.old.ranks.items }
         requires same { length self.old.distances.items ≡ length self.old.ranks.items }
         ensures distance { result ≡ distance_at self.old column }
-        ensures ranks { self.new.ranks.items ≡ slice_set self.old.ranks.items column (self.old.steps + 1) }
+        ensures ranks { self.new.ranks.items
+            ≡ slice_set self.old.ranks.items column (self.old.steps + 1) }
         ensures steps { self.new.steps ≡ self.old.steps + 1 }
         ensures distances { self.new.distances.items ≡ self.old.distances.items }
         ensures sources { self.new.sources.items ≡ self.old.sources.items }
@@ -87,10 +89,13 @@ impl Search {
         requires sized { IsSized grid.now.columns self.old }
         requires pays_each { length duals.now.pays.items ≡ grid.now.columns }
         requires relaxable { (column : ℕ) → column < grid.now.columns
-            → IsRelaxable reach (cell_at grid.now reach.row column) (price_at duals.now.pays.items column) }
+            → IsRelaxable reach (cell_at grid.now reach.row column)
+            (price_at duals.now.pays.items column) }
         ensures shortened { (column : ℕ) → column < grid.now.columns
-            → IsShortened reach (cell_at grid.now reach.row column) (price_at duals.now.pays.items column)
-            (distance_at self.old column) (source_at self.old column) (distance_at self.new column) (source_at self.new column) }
+            → IsShortened reach (cell_at grid.now reach.row column)
+            (price_at duals.now.pays.items column)
+            (distance_at self.old column) (source_at self.old column)
+            (distance_at self.new column) (source_at self.new column) }
         ensures next { IsNext self.new grid.now.columns limit result }
         ensures ranks { self.new.ranks.items ≡ self.old.ranks.items }
         ensures steps { self.new.steps ≡ self.old.steps }

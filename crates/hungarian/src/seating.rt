@@ -23,7 +23,8 @@ fn seat_at(
     requires rows_are { table.now.rows ≡ length requests.now }
     requires columns_are { table.now.columns ≡ length vehicles.now }
     requires column_in { IfSome column (λ c. c < length vehicles.now) }
-    ensures { result ≡ seat_at table.now (ride_ids requests.now) (vehicle_ids vehicles.now) row column }
+    ensures { result ≡ seat_at table.now (ride_ids requests.now)
+        (vehicle_ids vehicles.now) row column }
 {
     let column = column?;
     let offer = table.cell(row as u32, column)?;
@@ -47,9 +48,11 @@ pub(crate) fn seats_by(
     requires rows_are { table.now.rows ≡ length requests.now }
     requires columns_are { table.now.columns ≡ length vehicles.now }
     requires one_each { length columns.now ≡ length requests.now }
-    requires columns_in { (row column : ℕ) → column_of columns.now row ≡ Some column → column < length vehicles.now }
+    requires columns_in { (row column : ℕ) → column_of columns.now row ≡ Some column
+        → column < length vehicles.now }
     ensures { IfOk result (λ seats. seats
-        ≡ seats_by table.now (ride_ids requests.now) (vehicle_ids vehicles.now) columns.now (length requests.now)) }
+        ≡ seats_by table.now (ride_ids requests.now) (vehicle_ids vehicles.now)
+        columns.now (length requests.now)) }
 {
     let mut seats = Vec::new(alloc);
     for row in 0..requests.len() {
@@ -63,7 +66,8 @@ pub(crate) fn seats_by(
 /// Each request with its row's price.
 pub fn prices_by(alloc: Global, requests: &[Ride], amounts: &[u64]) -> Result<AmountList, NoMemory>
     requires { length amounts.now ≡ length requests.now }
-    ensures { IfOk result (λ prices. prices ≡ prices_by (ride_ids requests.now) amounts.now (length requests.now)) }
+    ensures { IfOk result (λ prices. prices
+        ≡ prices_by (ride_ids requests.now) amounts.now (length requests.now)) }
 {
     let mut prices = Vec::with_capacity(alloc, requests.len())?;
     for row in 0..requests.len() {
@@ -90,7 +94,8 @@ pub(crate) fn pays_by(
     amounts: &[u64],
 ) -> Result<AmountList, NoMemory>
     requires { length amounts.now ≡ length vehicles.now }
-    ensures { IfOk result (λ pays. pays ≡ pays_by (vehicle_ids vehicles.now) amounts.now (length vehicles.now)) }
+    ensures { IfOk result (λ pays. pays
+        ≡ pays_by (vehicle_ids vehicles.now) amounts.now (length vehicles.now)) }
 {
     let mut pays = Vec::new(alloc);
     for column in 0..vehicles.len() {

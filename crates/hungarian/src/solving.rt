@@ -38,7 +38,8 @@ fn add_row(
 /// A least pairing of a grid, with prices that certify it, where each row may be left out at the penalty.
 pub fn solve_grid(alloc: Global, grid: &Grid, penalty: u64) -> Result<Paired, NoMemory>
     requires penalty_limit { penalty ≤ greatest_penalty }
-    ensures certified { IfOk result (λ paired. CertifiesPairing grid.now penalty paired.columns paired.prices paired.pays) }
+    ensures certified { IfOk result
+        (λ paired. CertifiesPairing grid.now penalty paired.columns paired.prices paired.pays) }
     ensures least { IfOk result (λ paired. IsLeastPairing grid.now penalty paired.columns) }
 {
     let mut matches = Matches::new(alloc, grid.rows(), grid.columns())?;

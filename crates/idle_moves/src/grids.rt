@@ -8,9 +8,10 @@ ghost use Rattle.idle_moves.specs.Sheet.{within};
 ghost use Rattle.idle_moves.specs.Standby.{cells_of};
 ghost use Rattle.idle_moves.specs.Filling.{BeginsWith, with_cell};
 
+use adaptive_roads::{BatchRoads, TravelTimes};
 use dual_check::Grid;
 use ride_model::{NoMemory, Ride};
-use road_times::{Roads, Scratch, Side};
+use road_times::Side;
 use std::alloc::Global;
 
 // A travel time that is within reach.
@@ -43,7 +44,8 @@ fn fill_row(grid: &mut Grid, row: u32, reach: u64, times: &[Option<u64>])
     requires reach_limit { reach ≤ longest_reach }
     ensures rows_stay { grid.new.rows ≡ grid.old.rows }
     ensures columns_stay { grid.new.columns ≡ grid.old.columns }
-    ensures filled { (before : List (Option ℕ)) → length before ≡ row * grid.old.columns → BeginsWith before grid.old
+    ensures filled { (before : List (Option ℕ)) → length before ≡ row * grid.old.columns
+        → BeginsWith before grid.old
         → BeginsWith (before ++ map (within reach) times.now) grid.new }
 {
     for column in 0..grid.columns() {
@@ -55,64 +57,56 @@ fn fill_row(grid: &mut Grid, row: u32, reach: u64, times: &[Option<u64>])
 fn fill_rows(
     grid: &mut Grid,
     requests: &[Ride],
-    nodes: &[u32],
+    towards: &BatchRoads,
     reach: u64,
-    roads: &Roads,
-    scratch: &mut Scratch,
-    times: &mut [Option<u64>],
+    times: &mut TravelTimes,
+    row_times: &mut [Option<u64>],
 )
     requires few { length requests.now ≤ largest_batch }
     requires rows { length requests.now ≡ grid.old.rows }
-    requires columns { length nodes.now ≡ grid.old.columns }
-    requires places { length nodes.now ≡ length times.old }
+    requires columns { length towards.now.wanted ≡ grid.old.columns }
+    requires places { length towards.now.wanted ≡ length row_times.old }
     requires reach_limit { reach ≤ longest_reach }
-    requires pickups { All (λ (ride : Ride). IsNode roads.now ride.from) requests.now }
-    requires stands { All (IsNode roads.now) nodes.now }
-    requires scratch { scratch.old.nodes ≡ roads.now.nodes }
+    requires roads { towards.now.roads ≡ times.old }
+    requires pickups { All (λ (ride : Ride). IsNode times.old ride.from) requests.now }
     requires empty { BeginsWith [] grid.old }
     ensures rows_stay { grid.new.rows ≡ grid.old.rows }
     ensures columns_stay { grid.new.columns ≡ grid.old.columns }
-    ensures filled { grid.new.cells ≡ cells_of roads.now reach requests.now nodes.now }
-    ensures scratch { scratch.new ≡ scratch.old }
+    ensures filled { grid.new.cells ≡ cells_of times.old reach requests.now towards.now.wanted }
+    ensures times { times.new ≡ times.old }
 {
     for (row, ride) in requests.iter().enumerate() {
-        roads.rows(scratch, ride.from, Side::Back, nodes, times);
-        fill_row(grid, row as u32, reach, times);
+        times.row(towards, ride.from, Side::Back, row_times);
+        fill_row(grid, row as u32, reach, row_times);
     }
 }
 
-/// The grid of the times within reach, with a row for each request and a column for each of the nodes where vehicles stand.
+/// The grid of the times within reach, with a row for each request and a column for each of the nodes where vehicles stand. It looks
+/// whether a hierarchy of the roads is there.
 pub(crate) fn times_grid(
     alloc: Global,
     requests: &[Ride],
     nodes: &[u32],
     reach: u64,
-    roads: &Roads,
-    scratch: &mut Scratch,
+    times: &mut TravelTimes,
 ) -> Result<Grid, NoMemory>
     requires few_rows { length requests.now ≤ largest_batch }
     requires few_columns { length nodes.now ≤ most_vehicles }
     requires reach_limit { reach ≤ longest_reach }
-    requires pickups { All (λ (ride : Ride). IsNode roads.now ride.from) requests.now }
-    requires stands { All (IsNode roads.now) nodes.now }
-    requires scratch { scratch.old.nodes ≡ roads.now.nodes }
+    requires pickups { All (λ (ride : Ride). IsNode times.old ride.from) requests.now }
+    requires stands { All (IsNode times.old) nodes.now }
     ensures grid { IfOk result (λ grid. grid ≡ record {
       rows = length requests.now;
       columns = length nodes.now;
-      cells = cells_of roads.now reach requests.now nodes.now;
+      cells = cells_of times.old reach requests.now nodes.now;
     }) }
-    ensures scratch { scratch.new ≡ scratch.old }
+    ensures times { times.new ≡ times.old }
 {
     let mut grid = Grid::new(alloc, requests.len() as u32, nodes.len() as u32)?;
-    let mut times = vec![in alloc; None; nodes.len()]?;
-    fill_rows(
-        &mut grid,
-        requests,
-        nodes,
-        reach,
-        roads,
-        scratch,
-        times.as_mut_slice(),
-    );
+    let mut row_times = vec![in alloc; None; nodes.len()]?;
+    times.look();
+    let towards = times.towards(nodes);
+    let row = row_times.as_mut_slice();
+    fill_rows(&mut grid, requests, &towards, reach, times, row);
     Ok(grid)
 }

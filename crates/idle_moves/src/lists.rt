@@ -56,9 +56,11 @@ pub(crate) fn orders_by(
     requires rows_are { grid.now.rows ≡ length requests.now }
     requires columns_are { grid.now.columns ≡ length vehicles.now }
     requires one_each { length columns.now ≡ length requests.now }
-    requires columns_in { (row column : ℕ) → column_of columns.now row ≡ Some column → column < length vehicles.now }
+    requires columns_in { (row column : ℕ) → column_of columns.now row ≡ Some column
+        → column < length vehicles.now }
     ensures { (fleet : List Vehicle) → AreStandbys vehicles.now fleet
-        → IfOk result (λ moves. moves ≡ orders_by grid.now requests.now fleet columns.now (length requests.now)) }
+        → IfOk result (λ moves. moves
+        ≡ orders_by grid.now requests.now fleet columns.now (length requests.now)) }
 {
     let mut moves = Vec::new(alloc);
     for row in 0..requests.len() {

@@ -13,32 +13,31 @@ use crate::MoveSheet;
 use crate::grids::times_grid;
 use crate::lists::{orders_by, pays_by};
 use crate::standby::{Standby, left_out, nodes_of, standing_by};
+use adaptive_roads::TravelTimes;
 use batch_commit::{Answer, Batch};
 use dual_check::{Grid, Paired};
 use hungarian::{prices_by, solve_grid};
 use ride_model::{NoMemory, Ride};
-use road_times::{Roads, Scratch};
 use std::alloc::Global;
 
 /// The orders that send idle vehicles ahead after a batch: towards requests that the answer's seating leaves out, each within
 /// a reach of seconds, by a pairing of least cost in which a request without a vehicle costs the reach. Its prices and payments
 /// certify it.
 ///
-/// Travel times are asked for once a request, from the vehicles that stand by alone.
+/// Travel times are asked for once a request, from the vehicles that stand by alone: by a hierarchy of the roads, once that is
+/// there.
 pub fn plan_moves(
     alloc: Global,
     batch: &Batch,
     answer: &Answer,
     reach: u64,
-    roads: &Roads,
-    scratch: &mut Scratch,
+    times: &mut TravelTimes,
 ) -> Result<MoveSheet, NoMemory>
     requires reach_limit { reach ≤ longest_reach }
-    requires pickups { All (λ (ride : Ride). IsNode roads.now ride.from) batch.now.requests }
-    requires stands { All (λ (v : Vehicle). IsNode roads.now v.at) batch.now.vehicles }
-    requires scratch { scratch.old.nodes ≡ roads.now.nodes }
-    ensures sheet { IfOk result (IsSheet roads.now batch.now answer.now.seating reach) }
-    ensures scratch { scratch.new ≡ scratch.old }
+    requires pickups { All (λ (ride : Ride). IsNode times.old ride.from) batch.now.requests }
+    requires stands { All (λ (v : Vehicle). IsNode times.old v.at) batch.now.vehicles }
+    ensures sheet { IfOk result (IsSheet times.old batch.now answer.now.seating reach) }
+    ensures times { times.new ≡ times.old }
 {
     let seats = answer.seating.items();
     let rides = batch.requests();
@@ -51,8 +50,7 @@ pub fn plan_moves(
         requests.as_slice(),
         vehicles.as_slice(),
         reach,
-        roads,
-        scratch,
+        times,
     )
 }
 
@@ -63,22 +61,20 @@ fn plan_over(
     requests: &[Ride],
     vehicles: &[Standby],
     reach: u64,
-    roads: &Roads,
-    scratch: &mut Scratch,
+    times: &mut TravelTimes,
 ) -> Result<MoveSheet, NoMemory>
     requires few_requests { length requests.now ≤ largest_batch }
     requires few_vehicles { length vehicles.now ≤ most_vehicles }
     requires reach_limit { reach ≤ longest_reach }
-    requires pickups { All (λ (ride : Ride). IsNode roads.now ride.from) requests.now }
-    requires stands { All (λ (vehicle : Standby). IsNode roads.now vehicle.node) vehicles.now }
-    requires scratch { scratch.old.nodes ≡ roads.now.nodes }
+    requires pickups { All (λ (ride : Ride). IsNode times.old ride.from) requests.now }
+    requires stands { All (λ (vehicle : Standby). IsNode times.old vehicle.node) vehicles.now }
     ensures number { IfOk result (λ sheet. sheet.batch ≡ number) }
     ensures sheet { (fleet : List Vehicle) → AreStandbys vehicles.now fleet
-        → IfOk result (IsSheetOver roads.now reach requests.now fleet) }
-    ensures scratch { scratch.new ≡ scratch.old }
+        → IfOk result (IsSheetOver times.old reach requests.now fleet) }
+    ensures times { times.new ≡ times.old }
 {
     let nodes = nodes_of(alloc, vehicles)?;
-    let grid = times_grid(alloc, requests, nodes.as_slice(), reach, roads, scratch)?;
+    let grid = times_grid(alloc, requests, nodes.as_slice(), reach, times)?;
     let paired = solve_grid(alloc, &grid, reach)?;
     sheet_of(alloc, number, &grid, reach, requests, vehicles, &paired)
 }
@@ -97,10 +93,12 @@ fn sheet_of(
     requires rows_are { grid.now.rows ≡ length requests.now }
     requires columns_are { grid.now.columns ≡ length vehicles.now }
     requires reach_limit { reach ≤ longest_reach }
-    requires certified { CertifiesPairing grid.now reach paired.now.columns paired.now.prices paired.now.pays }
+    requires certified { CertifiesPairing grid.now reach paired.now.columns
+        paired.now.prices paired.now.pays }
     ensures number { IfOk result (λ sheet. sheet.batch ≡ number) }
     ensures shown { (fleet : List Vehicle) → AreStandbys vehicles.now fleet → IfOk result
-        (Shows grid.now reach requests.now fleet paired.now.columns paired.now.prices paired.now.pays) }
+        (Shows grid.now reach requests.now fleet paired.now.columns
+        paired.now.prices paired.now.pays) }
 {
     let columns = paired.columns.items();
     let prices = paired.prices.items();

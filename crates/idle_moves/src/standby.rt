@@ -55,7 +55,8 @@ pub(crate) fn left_out(
     requests: &[Ride],
     seats: &[Seat],
 ) -> Result<Vec<Ride>, NoMemory>
-    ensures { IfOk result (λ rides. rides.items ≡ filter (λ (ride : Ride). not (has_seat seats.now ride.id)) requests.now) }
+    ensures { IfOk result (λ rides. rides.items
+        ≡ filter (λ (ride : Ride). not (has_seat seats.now ride.id)) requests.now) }
 {
     requests
         .iter()
@@ -70,7 +71,8 @@ pub(crate) fn standing_by(
     vehicles: &[Vehicle],
     seats: &[Seat],
 ) -> Result<Vec<Standby>, NoMemory>
-    ensures { IfOk result (λ found. found.items ≡ map standby_of (filter (stands_by seats.now) vehicles.now)) }
+    ensures { IfOk result (λ found. found.items
+        ≡ map standby_of (filter (stands_by seats.now) vehicles.now)) }
 {
     vehicles
         .iter()
@@ -81,7 +83,8 @@ pub(crate) fn standing_by(
 
 /// The nodes where vehicles stand.
 pub(crate) fn nodes_of(alloc: Global, vehicles: &[Standby]) -> Result<Vec<u32>, NoMemory>
-    ensures { IfOk result (λ nodes. nodes.items ≡ map (λ (vehicle : Standby). vehicle.node) vehicles.now) }
+    ensures { IfOk result (λ nodes. nodes.items
+        ≡ map (λ (vehicle : Standby). vehicle.node) vehicles.now) }
 {
     vehicles.iter().map(|vehicle| vehicle.node).collect(alloc)
 }

@@ -34,7 +34,8 @@ impl Spelling<Move> for OrderText {
 
 /// Prints the first line of a text of sheets: its version, and the reach in seconds.
 pub fn print_head<K: Sink>(reach: u64, sink: &mut K) -> Result<(), Failed>
-    ensures { Prints result (K.written sink.old) (K.written sink.new) (K.faults sink.old) (K.faults sink.new) (head_line reach) }
+    ensures { Prints result (K.written sink.old) (K.written sink.new) (K.faults sink.old)
+        (K.faults sink.new) (head_line reach) }
 {
     print(
         &[
@@ -48,7 +49,8 @@ pub fn print_head<K: Sink>(reach: u64, sink: &mut K) -> Result<(), Failed>
 
 /// Prints the line of a sheet.
 pub fn print_sheet<K: Sink>(sheet: &MoveSheet, sink: &mut K) -> Result<(), Failed>
-    ensures { Prints result (K.written sink.old) (K.written sink.new) (K.faults sink.old) (K.faults sink.new) (sheet_line sheet.now) }
+    ensures { Prints result (K.written sink.old) (K.written sink.new) (K.faults sink.old)
+        (K.faults sink.new) (sheet_line sheet.now) }
 {
     print_start(sheet.batch, sheet.cost, sink)?;
     print_list::<OrderText, Move, K>(b" goes", sheet.moves.items(), sink)?;
@@ -59,7 +61,8 @@ pub fn print_sheet<K: Sink>(sheet: &MoveSheet, sink: &mut K) -> Result<(), Faile
 
 /// Prints the last line of a text of sheets: whether the feed was read whole, or was cut.
 pub fn print_end<K: Sink>(ending: Ending, sink: &mut K) -> Result<(), Failed>
-    ensures { Prints result (K.written sink.old) (K.written sink.new) (K.faults sink.old) (K.faults sink.new) (last_line ending) }
+    ensures { Prints result (K.written sink.old) (K.written sink.new) (K.faults sink.old)
+        (K.faults sink.new) (last_line ending) }
 {
     put(end_line(ending), sink)
 }
@@ -76,7 +79,8 @@ fn end_line(ending: Ending) -> &'static [u8]
 
 // Prints the start of a sheet's line.
 fn print_start<K: Sink>(batch: u64, cost: u64, sink: &mut K) -> Result<(), Failed>
-    ensures { Prints result (K.written sink.old) (K.written sink.new) (K.faults sink.old) (K.faults sink.new)
+    ensures { Prints result (K.written sink.old) (K.written sink.new)
+        (K.faults sink.old) (K.faults sink.new)
         (codes "moves" ++ fields_then (decimal batch ∷ codes "cost" ∷ decimal cost ∷ []) []) }
 {
     print(

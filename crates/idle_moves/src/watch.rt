@@ -40,7 +40,8 @@ impl Model for VersionWatch {
 impl VersionWatch {
     /// A watch over a fleet, before the first entry.
     pub fn new(alloc: Global, fleet: &Fleet) -> Result<VersionWatch, NoMemory>
-        ensures { IfOk result (λ watch. watch ≡ record { place = 0; versions = versions_of fleet.now }) }
+        ensures { IfOk result (λ watch. watch
+            ≡ record { place = 0; versions = versions_of fleet.now }) }
     {
         let versions = versions_of(alloc, fleet.vehicles())?;
         Ok(VersionWatch { place: 0, versions })
@@ -66,8 +67,11 @@ impl VersionWatch {
         ensures watches { Watches (knowledge pass.new) self.new }
         ensures place { IfOk result (λ _. self.new.place
             ≡ self.old.place + length (take most (drop self.old.place (knowledge pass.new).seen))) }
-        ensures caught_up { IfOk result (λ caught_up. IsTrue caught_up ↔ (length (drop self.old.place (knowledge pass.new).seen) < most)) }
-        ensures at_end { IfOk result (λ caught_up. caught_up ≡ true → self.new.place ≡ length (knowledge pass.new).seen) }
+        ensures caught_up { IfOk result
+            (λ caught_up. IsTrue caught_up
+            ↔ (length (drop self.old.place (knowledge pass.new).seen) < most)) }
+        ensures at_end { IfOk result (λ caught_up. caught_up ≡ true
+            → self.new.place ≡ length (knowledge pass.new).seen) }
         ensures vehicles { watched_ids self.new ≡ watched_ids self.old }
         ensures no_memory { OnErr result (self.new ≡ self.old) }
     {
@@ -86,7 +90,8 @@ impl VersionWatch {
     pub fn stands(&self, order: &Move) -> Result<(), (u64, u64)>
         requires { Contains (watched_ids self.now) order.now.vehicle }
         ensures stands { IsOk result ↔ (order.now.version ≡ version_in self.now order.now.vehicle) }
-        ensures versions { IfErr result (λ versions. versions ≡ (order.now.version, version_in self.now order.now.vehicle)) }
+        ensures versions { IfErr result
+            (λ versions. versions ≡ (order.now.version, version_in self.now order.now.vehicle)) }
     {
         let standing = self.version(order.vehicle);
         if order.version == standing {

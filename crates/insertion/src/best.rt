@@ -26,8 +26,10 @@ pub fn best_place(
     requires { (roads : RoadMap) × IsAsked roads vehicle.now ride.now now settings.now near.now }
     ensures price { (roads : RoadMap) → IsAsked roads vehicle.now ride.now now settings.now near.now
         → cost_if_any result ≡ price roads settings.now vehicle.now ride.now now }
-    ensures an_offer { (roads : RoadMap) → IsAsked roads vehicle.now ride.now now settings.now near.now
-        → IfSome result (λ (offer : Offer). offer_of roads settings.now vehicle.now ride.now now offer.i offer.j ≡ Some offer) }
+    ensures an_offer { (roads : RoadMap)
+        → IsAsked roads vehicle.now ride.now now settings.now near.now
+        → IfSome result (λ (offer : Offer). offer_of roads settings.now vehicle.now ride.now now
+        offer.i offer.j ≡ Some offer) }
 {
     if !is_open(vehicle, now) {
         return None;
@@ -54,15 +56,21 @@ fn best_with_pickup_at(
     near: &Near,
     plan: &Plan,
 ) -> Option<Offer>
-    requires asked { (roads : RoadMap) × IsAsked roads vehicle.now ride.now plan.now.time settings.now near.now }
+    requires asked { (roads : RoadMap)
+        × IsAsked roads vehicle.now ride.now plan.now.time settings.now near.now }
     requires plan { plan.now ≡ plan_of vehicle.now plan.now.time settings.now }
     requires within { i ≤ length vehicle.now.stops.items }
     requires room { length vehicle.now.stops.items ≤ 14 }
-    ensures cost { (roads : RoadMap) → IsAsked roads vehicle.now ride.now plan.now.time settings.now near.now
-        → cost_if_any result ≡ lesser (cost_if_any other) (least_with_pickup roads settings.now vehicle.now ride.now plan.now.time i i) }
-    ensures an_offer { (roads : RoadMap) → IsAsked roads vehicle.now ride.now plan.now.time settings.now near.now
-        → IfSome other (λ (offer : Offer). offer_of roads settings.now vehicle.now ride.now plan.now.time offer.i offer.j ≡ Some offer)
-        → IfSome result (λ (offer : Offer). offer_of roads settings.now vehicle.now ride.now plan.now.time offer.i offer.j ≡ Some offer) }
+    ensures cost { (roads : RoadMap)
+        → IsAsked roads vehicle.now ride.now plan.now.time settings.now near.now
+        → cost_if_any result ≡ lesser (cost_if_any other)
+        (least_with_pickup roads settings.now vehicle.now ride.now plan.now.time i i) }
+    ensures an_offer { (roads : RoadMap)
+        → IsAsked roads vehicle.now ride.now plan.now.time settings.now near.now
+        → IfSome other (λ (offer : Offer). offer_of roads settings.now vehicle.now ride.now
+        plan.now.time offer.i offer.j ≡ Some offer)
+        → IfSome result (λ (offer : Offer). offer_of roads settings.now vehicle.now ride.now
+        plan.now.time offer.i offer.j ≡ Some offer) }
 {
     let pickup = pickup_at(near, settings.dwell, plan, i as usize);
     if !is_by(ride.latest, pickup) {
@@ -84,11 +92,14 @@ fn better(
     drawn: Option<Offer>,
     dwell: u64,
 ) -> Option<Offer>
-    requires drawn { (roads : RoadMap) × (offer : Option Offer) × IsDrawnFor roads vehicle.now ride.now dwell drawn offer }
+    requires drawn { (roads : RoadMap) × (offer : Option Offer)
+        × IsDrawnFor roads vehicle.now ride.now dwell drawn offer }
     requires dwell_limit { dwell ≤ longest_dwell }
-    ensures cost { (roads : RoadMap) (offer : Option Offer) → IsDrawnFor roads vehicle.now ride.now dwell drawn offer
+    ensures cost { (roads : RoadMap) (offer : Option Offer)
+        → IsDrawnFor roads vehicle.now ride.now dwell drawn offer
         → cost_if_any result ≡ lesser (cost_if_any best) (cost_if_any offer) }
-    ensures one { (roads : RoadMap) (offer : Option Offer) → IsDrawnFor roads vehicle.now ride.now dwell drawn offer
+    ensures one { (roads : RoadMap) (offer : Option Offer)
+        → IsDrawnFor roads vehicle.now ride.now dwell drawn offer
         → (result ≡ best) ⊎ (result ≡ offer) }
 {
     match drawn {

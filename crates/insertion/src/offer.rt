@@ -52,10 +52,13 @@ pub fn drawn_at(
     near: &Near,
     plan: &Plan,
 ) -> Option<Offer>
-    requires asked { (roads : RoadMap) × (ride : Ride) × IsAsked roads vehicle.now ride plan.now.time settings.now near.now }
+    requires asked { (roads : RoadMap) × (ride : Ride)
+        × IsAsked roads vehicle.now ride plan.now.time settings.now near.now }
     requires plan { plan.now ≡ plan_of vehicle.now plan.now.time settings.now }
-    ensures { (roads : RoadMap) (ride : Ride) → IsAsked roads vehicle.now ride plan.now.time settings.now near.now
-        → IsDrawnFor roads vehicle.now ride settings.now.dwell result (offer_of roads settings.now vehicle.now ride plan.now.time i j) }
+    ensures { (roads : RoadMap) (ride : Ride)
+        → IsAsked roads vehicle.now ride plan.now.time settings.now near.now
+        → IsDrawnFor roads vehicle.now ride settings.now.dwell result
+        (offer_of roads settings.now vehicle.now ride plan.now.time i j) }
 {
     if !may_offer(vehicle, i as usize, j as usize, plan.time) {
         return None;
@@ -87,8 +90,10 @@ fn priced(vehicle: &Vehicle, offer: Offer, settings: &Settings, plan: &Plan) -> 
     requires start_limit { plan.now.start ≤ latest_ready }
     requires soon { All (λ time. time ≤ 10000000000000000) plan.now.times.items }
     ensures { result ≡ record offer {
-      cost = settings.now.drive * drives_more settings.now.dwell vehicle.now.stops.items offer.i offer.j offer.joins
-          + settings.now.wait * (leave_at plan.now.start settings.now.dwell plan.now.times.items offer.i + offer.joins.to_pickup - plan.now.time);
+      cost = settings.now.drive * drives_more settings.now.dwell
+          vehicle.now.stops.items offer.i offer.j offer.joins
+          + settings.now.wait * (leave_at plan.now.start settings.now.dwell plan.now.times.items
+          offer.i + offer.joins.to_pickup - plan.now.time);
     } }
 {
     let (i, j) = (offer.i as usize, offer.j as usize);
@@ -101,9 +106,11 @@ fn priced(vehicle: &Vehicle, offer: Offer, settings: &Settings, plan: &Plan) -> 
 
 /// The offer that is drawn, where its plan keeps the promises.
 pub fn kept(vehicle: &Vehicle, ride: &Ride, drawn: Offer, dwell: u64) -> Option<Offer>
-    requires drawn { (roads : RoadMap) × (offer : Option Offer) × IsDrawn roads vehicle.now ride.now dwell drawn offer }
+    requires drawn { (roads : RoadMap) × (offer : Option Offer)
+        × IsDrawn roads vehicle.now ride.now dwell drawn offer }
     requires dwell_limit { dwell ≤ longest_dwell }
-    ensures { (roads : RoadMap) (offer : Option Offer) → IsDrawn roads vehicle.now ride.now dwell drawn offer → result ≡ offer }
+    ensures { (roads : RoadMap) (offer : Option Offer)
+        → IsDrawn roads vehicle.now ride.now dwell drawn offer → result ≡ offer }
 {
     let mut new = vehicle.copy();
     insert_ride(&mut new, *ride, &drawn);

@@ -7,7 +7,8 @@ use ride_model::{Settings, Vehicle};
 
 /// Whether a vehicle is open to a batch of this time, and these are places in order and in range of its plan.
 pub fn may_offer(vehicle: &Vehicle, i: usize, j: usize, time: u64) -> bool
-    ensures { result ≡ (is_open vehicle.now time && nat_le i j && nat_le j (length vehicle.now.stops.items)) }
+    ensures { result ≡ (is_open vehicle.now time && nat_le i j
+        && nat_le j (length vehicle.now.stops.items)) }
 {
     is_open(vehicle, time) && i <= j && j <= number_of_stops(vehicle)
 }

@@ -14,10 +14,11 @@ use Rattle.ride_model.specs.declared.reply.RequestState.TheVariants.{Waiting, In
 use Rattle.ride_model.specs.declared.settings.Settings.{Settings}
 use Rattle.ride_model.specs.declared.vehicle.Ride.{Ride}
 use Rattle.ride_model.specs.declared.vehicle.Vehicle.{Vehicle}
-use Rattle.ride_model.specs.Fleet.{IsFleet}
+use Rattle.ride_model.specs.Fleet.{IsFleet, MayStart}
 use Rattle.ride_model.specs.History.{fed_commands}
 use Rattle.ride_model.specs.Legal.{replay}
 use Rattle.ride_model.specs.Road.{RoadMap}
+use Rattle.ride_model.specs.Settings.{IsSettings}
 use Rattle.ride_model.specs.State.{State, AcceptedRequest, accepted_request, placed_vehicle, start_state}
 use Rattle.ride_model.specs.Step.{Answered, cancel_by_state, cancel_found, cancel_step, freed, is_node, request_step, step, with_accepted}
 use Rattle.ride_model.specs.Text.{IsSpelledCommand}
@@ -40,6 +41,15 @@ AreSpelled log requests = All (λ (request : AcceptedRequest). IsSpelledCommand 
 pub no-fleet : IsFleet []
 unfolding IsDistinct
 no-fleet = record { few = omega arith; ids_differ = tt; ids_fit = λ k d low. absurd (omega (arith, low)) }
+
+-- a session may start with no vehicle
+pub none-start : (roads : RoadMap) (settings : Settings) → IsSettings settings → MayStart roads settings []
+none-start roads settings fit = record {
+  settings_fit = fit;
+  lawful = λ k d low. absurd (omega (arith, low));
+  idle = λ k d low. absurd (omega (arith, low));
+  first_versions = λ k d low. absurd (omega (arith, low));
+}
 
 -- a desk at its start
 pub desk-new : (desk : Recorded) (roads : RoadMap) (settings : Settings) → desk.start ≡ start_state roads settings [] → desk.history ≡ []

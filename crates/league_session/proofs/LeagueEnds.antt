@@ -1,8 +1,13 @@
 -- What a league has written when its feed ended or was stopped.
-use Rattle.std.proofs.Common.{◌≡◌, ℕ, true, false, List, [], ◌++◌, inl, inr, Option, Some, None, refl, subst}
+use Rattle.std.proofs.Common.{◌≡◌, ℕ, true, false, List, [], ◌++◌, inl, inr, Option, Some, None, Err, refl, subst}
 use Rattle.line_reader.specs.declared.stops.Stop.{Stop}
-use Rattle.line_reader.specs.declared.stops.Stop.TheVariants.{NoMemory}
-use Rattle.line_reader.specs.FeedRuns.{HasRun, ran_of}
+use Rattle.line_reader.specs.declared.stops.Stop.TheVariants.{NoMemory, OfFeed}
+use Rattle.line_reader.specs.declared.answers.NextLine.{NextLine}
+use Rattle.line_reader.specs.declared.answers.ReadStop.{ReadStop}
+use Rattle.line_reader.specs.declared.answers.ReadStop.TheVariants.{SourceFailed, TooLong}
+use Rattle.line_reader.specs.FeedRuns.{HasRun, is_source_failed, ran_of}
+use Rattle.line_reader.specs.Reader.{is_fault}
+use Rattle.ride_ports.specs.Count.{KeepsCount}
 use Rattle.line_reader.proofs.FeedLines.{are-taken}
 use Rattle.ride_model.specs.declared.entry.Ending.{Ending}
 use Rattle.ride_model.specs.declared.entry.Ending.TheVariants.{Whole}
@@ -17,6 +22,12 @@ use Rattle.text_page.proofs.OutputLemmas.{written-prefix, written-whole}
 use Rattle.league_session.specs.Leagued.{IsLeagued, IsTextOf}
 use Rattle.league_session.specs.LeagueRuns.{ended_text, ending_of, with_ending}
 use Rattle.league_session.specs.LeagueTexts.{last_line}
+
+-- a stop of the source is a fault of it
+pub fault-stops : (stop : ReadStop) (before after : ℕ) → KeepsCount (is_fault {T = NextLine} (Err stop)) before after
+    → KeepsCount (is_source_failed (Some (OfFeed stop))) before after
+fault-stops SourceFailed before after kept = kept
+fault-stops TooLong before after kept = kept
 
 -- what was written is a first part of the text with a last line
 ended-prefix : {before after : Option (List ℕ)} (o : Option Ending) (text : List ℕ) → WritesPrefix before after (with_ending o text)

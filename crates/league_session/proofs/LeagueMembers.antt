@@ -30,7 +30,7 @@ reported old new command (Ok reply) is entry others =
 -- a board of a legal history is sound
 pub sound : (board : Recorded) → IsLegalBoard board → IsSound board
 sound board legal = record {
-  settings_fit = legal.begins.settings_fit;
+  settings_fit = legal.begins.may_start.settings_fit;
   settings_stay = board-settings board legal;
   differ = (board-fleet board legal).ids_differ;
 }

@@ -4,7 +4,7 @@ use Rattle.ride_model.specs.declared.entry.Ending.{Ending}
 use Rattle.ride_model.specs.declared.entry.Ending.TheVariants.{Cut, Whole}
 use Rattle.ride_model.specs.Text.{IsOneOrTwo}
 use Rattle.line_reader.specs.declared.stops.Stop.{Stop}
-use Rattle.line_reader.specs.declared.stops.Stop.TheVariants.{NoMemory, SinkFailed, OfFeed}
+use Rattle.line_reader.specs.declared.stops.Stop.TheVariants.{NoMemory, OfFeed}
 use Rattle.text_page.specs.Output.{IsFresh, OutputState, Puts}
 use Rattle.league_session.specs.declared.scribe.Scribe.{Scribe}
 use Rattle.league_session.specs.Feed.{said_in}
@@ -46,7 +46,6 @@ abbrev pub ending_of : Option Stop → Option Ending
 ending_of None = Some Whole
 ending_of (Some (OfFeed stop)) = Some Cut
 ending_of (Some NoMemory) = None
-ending_of (Some SinkFailed) = None
 
 -- a text with its last line, where it has one
 abbrev pub with_ending : Option Ending → List ℕ → List ℕ

@@ -17,11 +17,11 @@ ghost use Rattle.board_core.specs.Recorded.{state_of};
 ghost use Rattle.league_session.specs.League.{after_round};
 ghost use Rattle.league_session.specs.LeagueBoards.{HasOpened, IsDesk, is_riders};
 
+use adaptive_roads::Roads;
 use batch_commit::Batch;
 use board_core::{Board, Opening};
 use ride_model::limits::MOST_BATCHES;
 use ride_model::{Command, Fleet, NoMemory, Reply, Ride, Settings};
-use road_times::Roads;
 use std::alloc::Global;
 use std::marker::Model;
 
@@ -69,10 +69,14 @@ impl<'r> RequestDesk<'r> {
         requires riders { IsTrue (is_riders command.now) }
         requires few { length (fed_commands 1 self.old.history) < most_commands }
         requires spelled { IsSpelledCommand self.old.start.settings.log command.now }
-        ensures reply { IfOk result (λ reply. reply ≡ (step (state_of self.old) command.now).reply) }
-        ensures state { OnOk result (state_of self.new ≡ (step (state_of self.old) command.now).state) }
+        ensures reply { IfOk result (λ reply. reply
+            ≡ (step (state_of self.old) command.now).reply) }
+        ensures state { OnOk result (state_of self.new
+            ≡ (step (state_of self.old) command.now).state) }
         ensures fits { OnOk result (IsDesk self.new) }
-        ensures one_more { OnOk result (length (fed_commands 1 self.new.history) ≡ length (fed_commands 1 self.old.history) + 1) }
+        ensures one_more { OnOk result
+            (length (fed_commands 1 self.new.history)
+            ≡ length (fed_commands 1 self.old.history) + 1) }
         ensures start { self.new.start ≡ self.old.start }
     {
         self.board.apply(1, command)
@@ -82,14 +86,20 @@ impl<'r> RequestDesk<'r> {
     pub(crate) fn open_round(&mut self) -> Result<Option<Batch>, NoMemory>
         requires fits { IsDesk self.old }
         requires few { length (fed_commands 1 self.old.history) < most_commands }
-        ensures none_left { IfOk result (λ opened. opened ≡ None → (most_batches ≤ (state_of self.old).asked) × (self.new ≡ self.old)) }
+        ensures none_left { IfOk result
+            (λ opened. opened ≡ None → (most_batches ≤ (state_of self.old).asked)
+            × (self.new ≡ self.old)) }
         ensures opened { (batch : BatchCopy) → IfOk result (λ opened. opened ≡ Some batch
-            → ((state_of self.old).asked < most_batches) × HasOpened (state_of self.old) batch self.new) }
+            → ((state_of self.old).asked < most_batches)
+            × HasOpened (state_of self.old) batch self.new) }
         ensures rides { (batch : BatchCopy) → IfOk result (λ opened. opened ≡ Some batch
-            → batch.requests ≡ take (state_of self.old).settings.batch (waiting_rides (state_of self.old))) }
+            → batch.requests ≡ take (state_of self.old).settings.batch
+            (waiting_rides (state_of self.old))) }
         ensures open_now { (batch : BatchCopy) → IfOk result (λ opened. opened ≡ Some batch
             → IsOpenBatch 1 (state_of self.new) batch) }
-        ensures one_more { OnOk result (length (fed_commands 1 self.new.history) ≤ length (fed_commands 1 self.old.history) + 1) }
+        ensures one_more { OnOk result
+            (length (fed_commands 1 self.new.history)
+            ≤ length (fed_commands 1 self.old.history) + 1) }
         ensures start { self.new.start ≡ self.old.start }
     {
         // This call tells that the history is legal.
@@ -110,9 +120,12 @@ impl<'r> RequestDesk<'r> {
     pub(crate) fn close_round(&mut self, batch: Batch) -> Result<(), NoMemory>
         requires opened { (before : State) × HasOpened before batch self.old }
         requires few { length (fed_commands 1 self.old.history) + largest_batch < most_commands }
-        ensures state { (before : State) → HasOpened before batch self.old → OnOk result (state_of self.new ≡ after_round before batch.requests) }
+        ensures state { (before : State) → HasOpened before batch self.old
+            → OnOk result (state_of self.new ≡ after_round before batch.requests) }
         ensures fits { OnOk result (IsDesk self.new) }
-        ensures some_more { OnOk result (length (fed_commands 1 self.new.history) ≤ length (fed_commands 1 self.old.history) + largest_batch) }
+        ensures some_more { OnOk result
+            (length (fed_commands 1 self.new.history)
+            ≤ length (fed_commands 1 self.old.history) + largest_batch) }
         ensures start { self.new.start ≡ self.old.start }
     {
         cancel_all(&mut self.board, batch.requests())?;
@@ -125,14 +138,20 @@ impl<'r> RequestDesk<'r> {
 fn cancel_all(board: &mut Board<'_>, rides: &[Ride]) -> Result<(), NoMemory>
     requires one_feed { board.old.feeds ≡ 1 }
     requires none_ended { (state_of board.old).ended ≡ [] }
-    requires in_batch { (number : ℕ) × All (λ (ride : Ride). request_state (state_of board.old) ride.id ≡ Some (InBatch number)) rides.now }
+    requires in_batch { (number : ℕ)
+        × All (λ (ride : Ride). request_state (state_of board.old) ride.id
+        ≡ Some (InBatch number)) rides.now }
     requires differ { IsDistinct nat_eq (ride_ids rides.now) }
     requires few { length (fed_commands 1 board.old.history) + length rides.now < most_commands }
     requires spelled { All (λ (ride : Ride). IsSpelled ride.id) rides.now }
-    ensures cancelled { OnOk result (state_of board.new ≡ with_request_states Cancelled rides.now (state_of board.old)) }
+    ensures cancelled { OnOk result
+        (state_of board.new ≡ with_request_states Cancelled rides.now (state_of board.old)) }
     ensures counted { OnOk result (length (fed_commands 1 board.new.history)
         ≡ length (fed_commands 1 board.old.history) + length rides.now) }
-    ensures others { board.new ≡ record board.old { history = board.new.history; spare = board.new.spare } }
+    ensures others { board.new ≡ record board.old {
+      history = board.new.history;
+      spare = board.new.spare;
+    } }
 {
     for ride in rides {
         board.apply(1, &Command::Cancel { id: ride.id })?;

@@ -23,11 +23,15 @@ pub fn league_cost(
     requires round { IsRoundBetween first.now second.now rides.now penalty round.now }
     requires first_penalty { penalty ≡ first.now.board.start.settings.penalty }
     requires second_penalty { penalty ≡ second.now.board.start.settings.penalty }
-    requires first_brief { first_brief.now ≡ part_between 1 first.now second.now rides.now round.now }
-    requires second_brief { second_brief.now ≡ part_between 2 first.now second.now rides.now round.now }
-    requires left_out { left_out + length first_brief.now.wins + length second_brief.now.wins ≡ length rides.now }
+    requires first_brief { first_brief.now
+        ≡ part_between 1 first.now second.now rides.now round.now }
+    requires second_brief { second_brief.now
+        ≡ part_between 2 first.now second.now rides.now round.now }
+    requires left_out { left_out + length first_brief.now.wins + length second_brief.now.wins
+        ≡ length rides.now }
     ensures { (least : IsRoundBetween first.now second.now rides.now penalty round.now)
-        → commit_cost (state_of first.now.board) first_brief.now + commit_cost (state_of second.now.board) second_brief.now
+        → commit_cost (state_of first.now.board) first_brief.now
+        + commit_cost (state_of second.now.board) second_brief.now
         + left_out * penalty ≡ pairing_cost least.grid penalty round.now.columns }
 {
     // These calls tell that the histories are legal.

@@ -1,11 +1,9 @@
 //! The companies of a league.
-ghost use Rattle.std.specs.Prelude.{◌≡◌, ◌<◌, [], All, IfOk, OnOk, IsTrue};
-ghost use Rattle.ride_model.specs.declared.vehicle.Vehicle.{Vehicle};
-ghost use Rattle.ride_model.specs.Settings.{IsSettings};
+ghost use Rattle.std.specs.Prelude.{◌≡◌, ◌<◌, [], IfOk, OnOk, IsTrue};
+ghost use Rattle.ride_model.specs.Fleet.{MayStart};
 ghost use Rattle.ride_model.specs.State.{start_state};
 ghost use Rattle.ride_model.specs.Step.{step};
 ghost use Rattle.ride_model.specs.Text.{IsSpelledCommand};
-ghost use Rattle.ride_model.specs.Vehicle.{IsLawful};
 ghost use Rattle.batch_commit.specs.Table.{IsTableOf};
 ghost use Rattle.board_core.specs.Recorded.{state_of};
 ghost use Rattle.fleet_league.specs.Companies.{is_report, most_reports, report_count};
@@ -16,22 +14,21 @@ ghost use Rattle.fleet_league.specs.Prices.{quote_of};
 ghost use Rattle.fleet_league.specs.Quoting.{quoting_batch};
 ghost use Rattle.fleet_league.specs.Round.{IsPriced};
 
+use adaptive_roads::Roads;
 use batch_commit::PriceTable;
 use board_core::Board;
 use fleet_league::{Brief, Company, NoMemory, PricedQuote, table_of_won};
 use pricing_workers::Pricer;
 use ride_model::{Command, Fleet, Reply, Ride, Settings};
-use road_times::{Roads, Scratch};
 use std::alloc::Global;
 use std::marker::Model;
 use std::thread::Threads;
 
-/// A company of a league, with what it prices its vehicles with: a pricer and a scratch.
+/// A company of a league, with what prices its vehicles.
 pub(crate) struct Member<'r> {
     alloc: Global,
     company: Company<'r>,
     pricer: Box<Pricer<'r>>,
-    scratch: Scratch,
 }
 
 impl<'r> Model for Member<'r> {
@@ -42,7 +39,7 @@ impl<'r> Model for Member<'r> {
 
     ghost view = { λ m. m.company };
 
-    ghost invariant = { λ m. (m.pricer.value ≡ m.company.board.start.roads) × (m.scratch.nodes ≡ m.company.board.start.roads.nodes) };
+    ghost invariant = { λ m. m.pricer.value ≡ m.company.board.start.roads };
 }
 
 impl Drop for Member<'_> {
@@ -51,11 +48,9 @@ impl Drop for Member<'_> {
             alloc: _,
             company,
             pricer,
-            scratch,
         } = self;
         drop(company);
         drop(pricer);
-        drop(scratch);
     }
 }
 
@@ -67,22 +62,18 @@ impl<'r> Member<'r> {
         settings: Settings,
         fleet: Fleet,
     ) -> Result<Member<'r>, NoMemory>
-        requires settings { IsSettings settings }
-        requires lawful { All (IsLawful roads.now) fleet }
-        requires idle { All (λ (v : Vehicle). v.stops.items ≡ []) fleet }
-        requires first_versions { All (λ (v : Vehicle). v.version ≡ 0) fleet }
-        ensures start { IfOk result (λ member. member.board.start ≡ start_state roads.now settings fleet) }
+        requires start { MayStart roads.now settings fleet }
+        ensures start { IfOk result (λ member. member.board.start
+            ≡ start_state roads.now settings fleet) }
         ensures history { IfOk result (λ member. member.board.history ≡ []) }
         ensures open { IfOk result (λ member. IsTrue member.is_open) }
     {
-        let scratch = Scratch::new(alloc, roads)?;
-        let pricer = Box::new(alloc, Pricer::new(roads))?;
+        let pricer = Box::new(alloc, Pricer::new(alloc, roads, 1)?)?;
         let company = Company::new(alloc, roads, settings, fleet)?;
         Ok(Member {
             alloc,
             company,
             pricer,
-            scratch,
         })
     }
 
@@ -106,7 +97,8 @@ impl<'r> Member<'r> {
         requires a_report { IsTrue (is_report command.now) }
         requires few { report_count self.old.board.history < most_reports }
         requires spelled { IsSpelledCommand self.old.board.start.settings.log command.now }
-        ensures reply { IfOk result (λ reply. reply ≡ (step (state_of self.old.board) command.now).reply) }
+        ensures reply { IfOk result (λ reply. reply
+            ≡ (step (state_of self.old.board) command.now).reply) }
         ensures reported { OnOk result (IsReported command.now self.old self.new) }
     {
         self.company.report(command)
@@ -119,7 +111,8 @@ impl<'r> Member<'r> {
         rides: &[Ride],
     ) -> Result<PricedQuote, NoMemory>
         requires may { MayPlay self.old rides.now }
-        ensures quote { IfOk result (λ priced. priced.quote ≡ quote_of (state_of self.old.board) rides.now) }
+        ensures quote { IfOk result (λ priced. priced.quote
+            ≡ quote_of (state_of self.old.board) rides.now) }
         ensures priced { IfOk result (λ priced. IsPriced priced.quote.prices) }
         ensures table { IfOk result (λ priced. IsTableOf self.old.board.start.roads
             (quoting_batch (state_of self.old.board) rides.now) priced.table) }
@@ -128,8 +121,7 @@ impl<'r> Member<'r> {
     {
         // This call tells that the history is legal.
         let _history = self.company.board().entries();
-        self.company
-            .quote_adapting(rt, &mut self.pricer, &mut self.scratch, rides)
+        self.company.quote_with_table(rt, &mut self.pricer, rides)
     }
 
     /// Awards the company its part of a round of rides, by the table of the rides over its vehicles as they stand.
@@ -140,8 +132,10 @@ impl<'r> Member<'r> {
         brief: &Brief,
     ) -> Result<(), NoMemory>
         requires may { MayWin self.old rides.now brief.now }
-        requires table { IsTableOf self.old.board.start.roads (quoting_batch (state_of self.old.board) rides.now) table.now }
-        ensures awarded { OnOk result (IsAwarded brief.now (state_of self.old.board) (state_of self.new.board)) }
+        requires table { IsTableOf self.old.board.start.roads
+            (quoting_batch (state_of self.old.board) rides.now) table.now }
+        ensures awarded { OnOk result
+            (IsAwarded brief.now (state_of self.old.board) (state_of self.new.board)) }
         ensures played { OnOk result (IsPlayed rides.now self.old self.new) }
         ensures start { self.new.board.start ≡ self.old.board.start }
     {

@@ -53,7 +53,8 @@ pub(crate) fn play<R: Threads + Sync>(
     requires second { MayPlay second.old rides.now }
     requires first_penalty { penalty ≡ first.old.board.start.settings.penalty }
     requires second_penalty { penalty ≡ second.old.board.start.settings.penalty }
-    ensures played { IfOk result (PlaysRound penalty rides.now (state_of first.old.board) (state_of first.new.board)
+    ensures played { IfOk result (PlaysRound penalty rides.now
+        (state_of first.old.board) (state_of first.new.board)
         (state_of second.old.board) (state_of second.new.board)) }
     ensures first_played { OnOk result (IsPlayed rides.now first.old first.new) }
     ensures second_played { OnOk result (IsPlayed rides.now second.old second.new) }
@@ -78,7 +79,8 @@ fn prices_of<R: Threads + Sync>(
     requires second { MayPlay second.old rides.now }
     ensures quotes { IfOk result (λ prices. prices.quotes
         ≡ quotes_of (state_of first.old.board) (state_of second.old.board) rides.now) }
-    ensures priced { IfOk result (λ prices. All (λ (quote : Quote). IsPriced quote.prices) prices.quotes) }
+    ensures priced { IfOk result (λ prices.
+        All (λ (quote : Quote). IsPriced quote.prices) prices.quotes) }
     ensures first_table { IfOk result (λ prices. IsTableOf first.old.board.start.roads
         (quoting_batch (state_of first.old.board) rides.now) prices.first) }
     ensures second_table { IfOk result (λ prices. IsTableOf second.old.board.start.roads
@@ -92,7 +94,8 @@ fn prices_of<R: Threads + Sync>(
         rt,
         &mut || -> Result<PricedQuote, NoMemory>
             requires { IsSync R.row × MayPlay first.now rides.now }
-            ensures { IfOk result (λ priced. priced.quote ≡ quote_of (state_of first.entry.now.board) rides.entry.now)
+            ensures { IfOk result (λ priced. priced.quote
+                ≡ quote_of (state_of first.entry.now.board) rides.entry.now)
                 × IfOk result (λ priced. IsPriced priced.quote.prices)
                 × IfOk result (λ priced. IsTableOf first.entry.now.board.start.roads
                 (quoting_batch (state_of first.entry.now.board) rides.entry.now) priced.table)
@@ -100,7 +103,8 @@ fn prices_of<R: Threads + Sync>(
         { first.quote(rt, rides) },
         &mut || -> Result<PricedQuote, NoMemory>
             requires { IsSync R.row × MayPlay second.now rides.now }
-            ensures { IfOk result (λ priced. priced.quote ≡ quote_of (state_of second.entry.now.board) rides.entry.now)
+            ensures { IfOk result (λ priced. priced.quote
+                ≡ quote_of (state_of second.entry.now.board) rides.entry.now)
                 × IfOk result (λ priced. IsPriced priced.quote.prices)
                 × IfOk result (λ priced. IsTableOf second.entry.now.board.start.roads
                 (quoting_batch (state_of second.entry.now.board) rides.entry.now) priced.table)

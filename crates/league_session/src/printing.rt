@@ -1,7 +1,7 @@
 //! The lines of a league's text.
-ghost use Rattle.std.specs.Prelude.{◌≡◌, ◌++◌, ◌∷◌, [], ℕ, List, codes, decimal};
-ghost use Rattle.ride_model.specs.Text.{IsOneOrTwo, amount_field, outcome_field};
-ghost use Rattle.trip_log.specs.Prints.{Prints, fields_then, listed};
+ghost use Rattle.std.specs.Prelude.{◌≡◌, ◌++◌, ◌∷◌, [], codes, decimal};
+ghost use Rattle.ride_model.specs.Text.{IsOneOrTwo};
+ghost use Rattle.trip_log.specs.Prints.{Prints, fields_then};
 ghost use Rattle.league_session.specs.Feed.{IsSpelledLine};
 ghost use Rattle.league_session.specs.LeagueTexts.{answer_line, award_field, head_line, last_line, pay_field, round_line, told_line};
 
@@ -78,7 +78,8 @@ pub(crate) fn print_told<K: Sink>(
 ) -> Result<(), Failed>
     requires log { IsOneOrTwo log }
     requires spelled { IsSpelledLine log line.now }
-    ensures { Prints result (K.written sink.old) (K.written sink.new) (K.faults sink.old) (K.faults sink.new)
+    ensures { Prints result (K.written sink.old) (K.written sink.new)
+        (K.faults sink.old) (K.faults sink.new)
         (told_line log line.now told.now) }
 {
     match told {
@@ -91,7 +92,8 @@ pub(crate) fn print_told<K: Sink>(
 fn print_reply<K: Sink>(line: &FeedLine, reply: &Reply, log: u8, sink: &mut K) -> Result<(), Failed>
     requires log { IsOneOrTwo log }
     requires spelled { IsSpelledLine log line.now }
-    ensures { Prints result (K.written sink.old) (K.written sink.new) (K.faults sink.old) (K.faults sink.new)
+    ensures { Prints result (K.written sink.old) (K.written sink.new)
+        (K.faults sink.old) (K.faults sink.new)
         (answer_line log line.now reply.now) }
 {
     match line {
@@ -105,7 +107,8 @@ fn print_reply<K: Sink>(line: &FeedLine, reply: &Reply, log: u8, sink: &mut K) -
 
 // Prints whose report follows.
 fn print_company<K: Sink>(company: u64, sink: &mut K) -> Result<(), Failed>
-    ensures { Prints result (K.written sink.old) (K.written sink.new) (K.faults sink.old) (K.faults sink.new)
+    ensures { Prints result (K.written sink.old) (K.written sink.new)
+        (K.faults sink.old) (K.faults sink.new)
         (codes "company " ++ decimal company ++ codes " ") }
 {
     print(
@@ -120,7 +123,8 @@ fn print_company<K: Sink>(company: u64, sink: &mut K) -> Result<(), Failed>
 
 // Prints the line of the round of a number.
 fn print_round<K: Sink>(number: u64, sheet: &RoundSheet, sink: &mut K) -> Result<(), Failed>
-    ensures { Prints result (K.written sink.old) (K.written sink.new) (K.faults sink.old) (K.faults sink.new)
+    ensures { Prints result (K.written sink.old) (K.written sink.new)
+        (K.faults sink.old) (K.faults sink.new)
         (round_line number sheet.now) }
 {
     print_start(number, sheet.cost, sink)?;
@@ -133,7 +137,8 @@ fn print_round<K: Sink>(number: u64, sheet: &RoundSheet, sink: &mut K) -> Result
 
 // Prints the start of a round's line.
 fn print_start<K: Sink>(number: u64, cost: u64, sink: &mut K) -> Result<(), Failed>
-    ensures { Prints result (K.written sink.old) (K.written sink.new) (K.faults sink.old) (K.faults sink.new)
+    ensures { Prints result (K.written sink.old) (K.written sink.new)
+        (K.faults sink.old) (K.faults sink.new)
         (codes "round" ++ fields_then (decimal number ∷ codes "cost" ∷ decimal cost ∷ []) []) }
 {
     print(

@@ -15,7 +15,8 @@ use ride_model::Command;
 pub(crate) fn read_line(line: &[u8], over: bool, number: u64, log: u8) -> Option<FeedLine>
     requires log { IsOneOrTwo log }
     requires number { number ≤ most_lines }
-    ensures said { (whole : List ℕ) → line.now ≡ take 200 whole → over ≡ is_over_long whole → result ≡ said_by log number whole }
+    ensures said { (whole : List ℕ) → line.now ≡ take 200 whole → over ≡ is_over_long whole
+        → result ≡ said_by log number whole }
     ensures spelled { IfSome result (IsSpelledLine log) }
 {
     let bad = FeedLine::League(Command::Bad { line: number });

@@ -39,7 +39,8 @@ pub(crate) fn columns_of(
 
 // Adds the columns of a company's quote.
 fn add_columns(columns: &mut Vec<RoundColumn>, company: u64, quote: &Quote) -> Result<(), NoMemory>
-    ensures { OnOk result (columns.new.items ≡ columns.old.items ++ columns_of_quote (company, quote.now)) }
+    ensures { OnOk result (columns.new.items
+        ≡ columns.old.items ++ columns_of_quote (company, quote.now)) }
 {
     for plan in quote.plans.items() {
         columns.push(RoundColumn {

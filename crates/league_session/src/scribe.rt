@@ -1,10 +1,8 @@
 //! A league that takes a feed line by line, with its text on the way out.
-ghost use Rattle.std.specs.Prelude.{◌≡◌, ◌<◌, ◌++◌, ◌∷◌, ℕ, [], List, Option, IfOk, OnOk, MatchResult, All, take, true, false};
+ghost use Rattle.std.specs.Prelude.{◌≡◌, ◌<◌, ◌++◌, ◌∷◌, ℕ, [], List, Option, IfOk, OnOk, MatchResult, take, true, false};
+ghost use Rattle.ride_model.specs.Fleet.{MayStart};
 ghost use Rattle.line_text.specs.Fields.{is_over_long};
-ghost use Rattle.ride_model.specs.declared.vehicle.Vehicle.{Vehicle};
-ghost use Rattle.ride_model.specs.Settings.{IsSettings};
 ghost use Rattle.ride_model.specs.Text.{IsOneOrTwo};
-ghost use Rattle.ride_model.specs.Vehicle.{IsLawful};
 ghost use Rattle.text_page.specs.Output.{HasPut, OutputState, Puts};
 ghost use Rattle.command_lines.specs.Limits.{most_lines};
 ghost use Rattle.league_session.specs.Feed.{IsSpelledLine};
@@ -19,10 +17,10 @@ use crate::reading::read_line;
 use crate::sheets::Told;
 use crate::state::League;
 use crate::stops::ending_of;
+use adaptive_roads::Roads;
 use line_reader::Stop;
 use ride_model::{Fleet, NoMemory, Settings};
 use ride_ports::Sink;
-use road_times::Roads;
 use std::alloc::Global;
 use std::thread::Threads;
 use text_page::Output;
@@ -57,15 +55,11 @@ impl<'r> Scribe<'r> {
         first: Fleet,
         second: Fleet,
     ) -> Result<Scribe<'r>, NoMemory>
-        requires settings { IsSettings settings }
-        requires first_lawful { All (IsLawful roads.now) first }
-        requires first_idle { All (λ (v : Vehicle). v.stops.items ≡ []) first }
-        requires first_versions { All (λ (v : Vehicle). v.version ≡ 0) first }
-        requires second_lawful { All (IsLawful roads.now) second }
-        requires second_idle { All (λ (v : Vehicle). v.stops.items ≡ []) second }
-        requires second_versions { All (λ (v : Vehicle). v.version ≡ 0) second }
+        requires first { MayStart roads.now settings first }
+        requires second { MayStart roads.now settings second }
         ensures nothing_done { IfOk result IsNew }
-        ensures start { IfOk result (λ scribe. league_of scribe.league ≡ league_start roads.now settings first second) }
+        ensures start { IfOk result (λ scribe. league_of scribe.league
+            ≡ league_start roads.now settings first second) }
     {
         let output = Output::new(alloc)?;
         let league = League::new(alloc, roads, settings, first, second)?;
@@ -94,11 +88,15 @@ impl<'r> Scribe<'r> {
     ) -> Result<(), NoMemory>
         requires few { self.old.lines < most_lines }
         requires fits { IsScribe self.old }
-        ensures told { (start : LeagueState) (was : Option (List ℕ)) (faults_was : ℕ) (fresh : OutputState) (lines : List (List ℕ)) (whole : List ℕ)
-            → HasTold start was faults_was fresh (K.written out.old) (K.faults out.old) self.old lines
+        ensures told { (start : LeagueState) (was : Option (List ℕ)) (faults_was : ℕ)
+            (fresh : OutputState) (lines : List (List ℕ)) (whole : List ℕ)
+            → HasTold start was faults_was fresh (K.written out.old)
+            (K.faults out.old) self.old lines
             → line.now ≡ take 200 whole → over ≡ is_over_long whole → MatchResult result
-            (λ _. HasTold start was faults_was fresh (K.written out.new) (K.faults out.new) self.new (lines ++ whole ∷ []))
-            (λ _. PutsText start was faults_was fresh (K.written out.new) (K.faults out.new) self.new.output lines) }
+            (λ _. HasTold start was faults_was fresh (K.written out.new) (K.faults out.new)
+            self.new (lines ++ whole ∷ []))
+            (λ _. PutsText start was faults_was fresh (K.written out.new)
+            (K.faults out.new) self.new.output lines) }
         ensures fits { OnOk result (IsScribe self.new) }
     {
         self.lines += 1;
@@ -114,7 +112,8 @@ impl<'r> Scribe<'r> {
     fn put_told<K: Sink>(&mut self, out: &mut K, line: &FeedLine, told: &Told)
         requires log { IsOneOrTwo self.old.log }
         requires spelled { IsSpelledLine self.old.log line.now }
-        ensures put { Puts (K.written out.old) (K.faults out.old) self.old.output (K.written out.new) (K.faults out.new) self.new.output
+        ensures put { Puts (K.written out.old) (K.faults out.old) self.old.output
+            (K.written out.new) (K.faults out.new) self.new.output
             (told_line self.old.log line.now told.now) }
         ensures others { self.new ≡ record self.old { output = self.new.output } }
     {
@@ -135,7 +134,8 @@ impl<'r> Scribe<'r> {
 
     /// Puts the first line.
     pub(crate) fn put_head<K: Sink>(&mut self, out: &mut K)
-        ensures put { Puts (K.written out.old) (K.faults out.old) self.old.output (K.written out.new) (K.faults out.new) self.new.output head_line }
+        ensures put { Puts (K.written out.old) (K.faults out.old) self.old.output
+            (K.written out.new) (K.faults out.new) self.new.output head_line }
         ensures others { self.new ≡ record self.old { output = self.new.output } }
     {
         self.output.put(out, head_line());
@@ -145,7 +145,8 @@ impl<'r> Scribe<'r> {
     pub(crate) fn put_end<K: Sink>(&mut self, out: &mut K, stop: Option<Stop>)
         ensures put { (before : Option (List ℕ)) (faults : ℕ) (text : List ℕ)
             → HasPut before (K.written out.old) faults (K.faults out.old) self.old.output text
-            → HasPut before (K.written out.new) faults (K.faults out.new) self.new.output (ended_text stop text) }
+            → HasPut before (K.written out.new) faults (K.faults out.new)
+            self.new.output (ended_text stop text) }
         ensures still_failed { self.old.output.failed ≡ true → self.new.output.failed ≡ true }
     {
         if let Some(ending) = ending_of(stop) {

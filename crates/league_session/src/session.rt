@@ -1,11 +1,9 @@
 //! The session of a league.
 ghost use Rattle.std.specs.List.{list_any};
-ghost use Rattle.std.specs.Prelude.{◌≡◌, ◌==◌, ℕ, ◌≤◌, [], true, false, List, Option, All, IfOk, IfSome, IsTrue};
-ghost use Rattle.ride_model.specs.declared.vehicle.Vehicle.{Vehicle};
-ghost use Rattle.ride_model.specs.Settings.{IsSettings};
-ghost use Rattle.ride_model.specs.Vehicle.{IsLawful};
+ghost use Rattle.std.specs.Prelude.{◌≡◌, ◌==◌, ℕ, [], false, List, Option, IfOk, IfSome};
+ghost use Rattle.ride_model.specs.Fleet.{MayStart};
 ghost use Rattle.ride_ports.specs.Bytes.{Reads};
-ghost use Rattle.ride_ports.specs.Count.{Rose};
+ghost use Rattle.ride_ports.specs.Count.{KeepsCount};
 ghost use Rattle.line_reader.specs.FeedRuns.{HasRun, IsReadWhole, IsUnhindered, is_source_failed};
 ghost use Rattle.line_reader.specs.Limits.{IsWithinLimits};
 ghost use Rattle.line_reader.specs.Reader.{HasGiven};
@@ -17,12 +15,11 @@ ghost use Rattle.league_session.specs.LeagueRuns.{IsNew, IsScribe, PutsText, end
 ghost use Rattle.league_session.specs.Leagued.{IsLeagueText, IsLeagued};
 
 use crate::scribe::Scribe;
-use command_lines::limits::{MOST_BYTES, MOST_LINES};
-use line_reader::{Limits, LineReader, NextLine, Stop, ran_of};
-use line_text::MOST_LINE;
+use adaptive_roads::Roads;
+use command_lines::FEED_LIMITS;
+use line_reader::{LineReader, NextLine, Stop, ran_of};
 use ride_model::{Fleet, NoMemory, Settings};
 use ride_ports::{Ran, Sink, Source};
-use road_times::Roads;
 use std::alloc::Global;
 use std::thread::Threads;
 
@@ -42,25 +39,20 @@ pub fn league<R: Threads + Sync, S: Source, K: Sink>(
     feed: &mut S,
     out: &mut K,
 ) -> Ran
-    requires settings { IsSettings settings }
-    requires first_lawful { All (IsLawful roads.now) first }
-    requires first_idle { All (λ (v : Vehicle). v.stops.items ≡ []) first }
-    requires first_versions { All (λ (v : Vehicle). v.version ≡ 0) first }
-    requires second_lawful { All (IsLawful roads.now) second }
-    requires second_idle { All (λ (v : Vehicle). v.stops.items ≡ []) second }
-    requires second_versions { All (λ (v : Vehicle). v.version ≡ 0) second }
+    requires first { MayStart roads.now settings first }
+    requires second { MayStart roads.now settings second }
 
     // What was written is the text of a legal league that took what was taken.
     ensures session { (taken : List ℕ) × Reads (S.left feed.old) (S.left feed.new) taken
-        × IsLeagued roads.now settings first second result (S.left feed.old) taken (K.written out.old) (K.written out.new) }
-    ensures to_end { IsUnhindered result → IsReadWhole result → IfSome (S.left feed.new) (λ bytes. bytes ≡ []) }
-    ensures short_enough { IfSome (S.left feed.old) (λ bytes. IsWithinLimits feed_limits bytes → result.too_long ≡ false) }
-    ensures source_fault { IsTrue result.source_failed → Rose (S.faults feed.old) (S.faults feed.new) }
-    ensures source_counts_none { result.source_failed ≡ false → S.faults feed.new ≡ S.faults feed.old }
-    ensures source_never_falls { S.faults feed.old ≤ S.faults feed.new }
-    ensures sink_fault { IsTrue result.sink_failed → Rose (K.faults out.old) (K.faults out.new) }
-    ensures sink_counts_none { result.sink_failed ≡ false → K.faults out.new ≡ K.faults out.old }
-    ensures sink_never_falls { K.faults out.old ≤ K.faults out.new }
+        × IsLeagued roads.now settings first second result (S.left feed.old) taken
+        (K.written out.old) (K.written out.new) }
+    ensures to_end { IsUnhindered result → IsReadWhole result
+        → IfSome (S.left feed.new) (λ bytes. bytes ≡ []) }
+    ensures short_enough { IfSome (S.left feed.old)
+        (λ bytes. IsWithinLimits feed_limits bytes → result.too_long ≡ false) }
+    ensures source_faults { KeepsCount result.source_failed
+        (S.faults feed.old) (S.faults feed.new) }
+    ensures sink_faults { KeepsCount result.sink_failed (K.faults out.old) (K.faults out.new) }
 {
     let Ok((mut reader, mut scribe)) = begun(alloc, roads, settings, first, second) else {
         return ran_of(Some(Stop::NoMemory), false);
@@ -78,25 +70,16 @@ fn begun<'r>(
     first: Fleet,
     second: Fleet,
 ) -> Result<(LineReader, Scribe<'r>), NoMemory>
-    requires settings { IsSettings settings }
-    requires first_lawful { All (IsLawful roads.now) first }
-    requires first_idle { All (λ (v : Vehicle). v.stops.items ≡ []) first }
-    requires first_versions { All (λ (v : Vehicle). v.version ≡ 0) first }
-    requires second_lawful { All (IsLawful roads.now) second }
-    requires second_idle { All (λ (v : Vehicle). v.stops.items ≡ []) second }
-    requires second_versions { All (λ (v : Vehicle). v.version ≡ 0) second }
+    requires first { MayStart roads.now settings first }
+    requires second { MayStart roads.now settings second }
     ensures limits { IfOk result (λ made. made.0.limits ≡ feed_limits) }
     ensures nothing_given { IfOk result (λ made. HasGiven made.0 []) }
     ensures nothing_pending { IfOk result (λ made. made.0.pending ≡ []) }
     ensures nothing_done { IfOk result (λ made. IsNew made.1) }
-    ensures start { IfOk result (λ made. league_of made.1.league ≡ league_start roads.now settings first second) }
+    ensures start { IfOk result (λ made. league_of made.1.league
+        ≡ league_start roads.now settings first second) }
 {
-    let limits = Limits {
-        line: MOST_LINE,
-        bytes: MOST_BYTES,
-        lines: MOST_LINES,
-    };
-    let reader = LineReader::new(alloc, limits)?;
+    let reader = LineReader::new(alloc, FEED_LIMITS)?;
     let scribe = Scribe::new(alloc, roads, settings, first, second)?;
     Ok((reader, scribe))
 }
@@ -114,12 +97,12 @@ fn run_feed<R: Threads + Sync, S: Source, K: Sink>(
     requires nothing_pending { reader.old.pending ≡ [] }
     requires nothing_done { IsNew scribe.old }
     ensures ran { (taken : List ℕ) × (lines : List (List ℕ)) × (text : List ℕ)
-        × HasRun feed_limits (S.left feed.old) (S.left feed.new) result scribe.new.output.failed taken lines
+        × HasRun feed_limits (S.left feed.old) (S.left feed.new) result
+        scribe.new.output.failed taken lines
         × IsLeagueText (league_of scribe.old.league) lines text
-        × HasPut (K.written out.old) (K.written out.new) (K.faults out.old) (K.faults out.new) scribe.new.output (ended_text result text) }
-    ensures fault { IsTrue (is_source_failed result) → Rose (S.faults feed.old) (S.faults feed.new) }
-    ensures other_counts_none { is_source_failed result ≡ false → S.faults feed.new ≡ S.faults feed.old }
-    ensures count_never_falls { S.faults feed.old ≤ S.faults feed.new }
+        × HasPut (K.written out.old) (K.written out.new) (K.faults out.old) (K.faults out.new)
+        scribe.new.output (ended_text result text) }
+    ensures faults { KeepsCount (is_source_failed result) (S.faults feed.old) (S.faults feed.new) }
 {
     scribe.put_head(out);
     let stop = take_lines(rt, reader, scribe, feed, out);
@@ -127,7 +110,7 @@ fn run_feed<R: Threads + Sync, S: Source, K: Sink>(
     stop
 }
 
-// Takes the lines of a feed to its end, or until something stops it.
+// Takes the lines of a feed to its end, or until something stops it or the sink fails.
 fn take_lines<R: Threads + Sync, S: Source, K: Sink>(
     rt: &R,
     reader: &mut LineReader,
@@ -142,17 +125,17 @@ fn take_lines<R: Threads + Sync, S: Source, K: Sink>(
     requires log { scribe.old.log ≡ (league_of scribe.old.league).desk.settings.log }
     requires fits { IsScribe scribe.old }
     ensures ran { (taken : List ℕ) × (lines : List (List ℕ))
-        × HasRun feed_limits (S.left feed.old) (S.left feed.new) result scribe.new.output.failed taken lines
-        × PutsText (league_of scribe.old.league) (K.written out.old) (K.faults out.old) scribe.old.output
+        × HasRun feed_limits (S.left feed.old) (S.left feed.new) result
+        scribe.new.output.failed taken lines
+        × PutsText (league_of scribe.old.league) (K.written out.old)
+        (K.faults out.old) scribe.old.output
         (K.written out.new) (K.faults out.new) scribe.new.output lines }
-    ensures fault { IsTrue (is_source_failed result) → Rose (S.faults feed.old) (S.faults feed.new) }
-    ensures other_counts_none { is_source_failed result ≡ false → S.faults feed.new ≡ S.faults feed.old }
-    ensures count_never_falls { S.faults feed.old ≤ S.faults feed.new }
+    ensures faults { KeepsCount (is_source_failed result) (S.faults feed.old) (S.faults feed.new) }
 {
     'lines: loop {
         write_before_wait(reader, scribe, out);
         if scribe.failed() {
-            return Some(Stop::SinkFailed);
+            return None;
         }
         match reader.next(feed) {
             Ok(NextLine::Line) => match scribe.take_line(rt, out, reader.line(), reader.over()) {
@@ -173,7 +156,8 @@ fn take_lines<R: Threads + Sync, S: Source, K: Sink>(
 
 // Writes all that is not written yet, where the feed's next line may have to be waited for.
 fn write_before_wait<K: Sink>(reader: &LineReader, scribe: &mut Scribe<'_>, out: &mut K)
-    ensures written { list_any (λ byte. byte == 10) reader.now.pending ≡ false → scribe.new.output.failed ≡ false → scribe.new.output.page ≡ [] }
+    ensures written { list_any (λ byte. byte == 10) reader.now.pending ≡ false
+        → scribe.new.output.failed ≡ false → scribe.new.output.page ≡ [] }
     ensures put { (before : Option (List ℕ)) (faults : ℕ) (text : List ℕ)
         → HasPut before (K.written out.old) faults (K.faults out.old) scribe.old.output text
         → HasPut before (K.written out.new) faults (K.faults out.new) scribe.new.output text }

@@ -62,7 +62,8 @@ pub(crate) fn parts_of(
     requires penalty_limit { penalty ≤ greatest_penalty }
     requires priced { All (λ (quote : Quote). IsPriced quote.prices) quotes.now }
     requires same_rides { All (λ (quote : Quote). quote.prices.rows ≡ length rides.now) quotes.now }
-    ensures { IfOk result (λ parts. IsRoundOf penalty quotes.now rides.now parts.sheet parts.first parts.second) }
+    ensures { IfOk result (λ parts.
+        IsRoundOf penalty quotes.now rides.now parts.sheet parts.first parts.second) }
 {
     let round = settle(alloc, penalty, quotes)?;
     let columns = columns_of(alloc, &quotes[0], &quotes[1])?;
@@ -84,7 +85,8 @@ pub fn part_of(
     round: &Paired,
 ) -> Result<Brief, NoMemory>
     ensures { IfOk result (λ part. part
-        ≡ brief_of company (round_rows quotes.now rides.now round.now) (round_columns quotes.now round.now)) }
+        ≡ brief_of company (round_rows quotes.now rides.now round.now)
+        (round_columns quotes.now round.now)) }
 {
     let columns = columns_of(alloc, &quotes[0], &quotes[1])?;
     let rows = rows_of(alloc, &columns, rides, round)?;
@@ -94,9 +96,11 @@ pub fn part_of(
 
 // What a certified pairing costs: what the rows are priced at less what the columns pay.
 fn cost_of(round: &Paired) -> u64
-    requires { (grid : GridCells) × (penalty : ℕ) × (grid.rows ≤ largest_batch) × (penalty ≤ greatest_penalty)
+    requires { (grid : GridCells) × (penalty : ℕ) × (grid.rows ≤ largest_batch)
+        × (penalty ≤ greatest_penalty)
         × CertifiesPairing grid penalty round.now.columns round.now.prices round.now.pays }
-    ensures { (grid : GridCells) (penalty : ℕ) → CertifiesPairing grid penalty round.now.columns round.now.prices round.now.pays
+    ensures { (grid : GridCells) (penalty : ℕ)
+        → CertifiesPairing grid penalty round.now.columns round.now.prices round.now.pays
         → result ≡ pairing_cost grid penalty round.now.columns }
 {
     total(round.prices.items()) - total(round.pays.items())

@@ -1,11 +1,9 @@
 //! A league, and what each line of its feed makes of it.
-ghost use Rattle.std.specs.Prelude.{◌≡◌, ◌≢◌, ◌<◌, ◌+◌, ℕ, [], All, IfOk, OnOk, IsTrue};
+ghost use Rattle.std.specs.Prelude.{◌≡◌, ◌≢◌, ◌<◌, ◌+◌, ℕ, [], IfOk, OnOk, IsTrue};
+ghost use Rattle.ride_model.specs.Fleet.{MayStart};
 ghost use Rattle.ride_model.specs.declared.command.Command.TheVariants.{Ask};
-ghost use Rattle.ride_model.specs.declared.vehicle.Vehicle.{Vehicle};
-ghost use Rattle.ride_model.specs.Settings.{IsSettings};
 ghost use Rattle.ride_model.specs.State.{start_state};
 ghost use Rattle.ride_model.specs.Text.{IsSpelled, IsSpelledCommand};
-ghost use Rattle.ride_model.specs.Vehicle.{IsLawful};
 ghost use Rattle.command_lines.specs.Limits.{most_lines};
 ghost use Rattle.league_session.specs.declared.lines.FeedLine.TheVariants.{League as OfLeague};
 ghost use Rattle.league_session.specs.Feed.{IsSpelledLine, is_driver_report};
@@ -17,9 +15,9 @@ use crate::lines::FeedLine;
 use crate::members::Member;
 use crate::playing::play;
 use crate::sheets::Told;
+use adaptive_roads::Roads;
 use ride_model::refusals::BATCHES_FULL;
 use ride_model::{Command, Fleet, NoMemory, Reply, Settings};
-use road_times::Roads;
 use std::alloc::Global;
 use std::marker::Model;
 use std::thread::Threads;
@@ -72,16 +70,13 @@ impl<'r> League<'r> {
         first: Fleet,
         second: Fleet,
     ) -> Result<League<'r>, NoMemory>
-        requires settings { IsSettings settings }
-        requires first_lawful { All (IsLawful roads.now) first }
-        requires first_idle { All (λ (v : Vehicle). v.stops.items ≡ []) first }
-        requires first_versions { All (λ (v : Vehicle). v.version ≡ 0) first }
-        requires second_lawful { All (IsLawful roads.now) second }
-        requires second_idle { All (λ (v : Vehicle). v.stops.items ≡ []) second }
-        requires second_versions { All (λ (v : Vehicle). v.version ≡ 0) second }
-        ensures start { IfOk result (λ league. league_of league ≡ league_start roads.now settings first second) }
+        requires first { MayStart roads.now settings first }
+        requires second { MayStart roads.now settings second }
+        ensures start { IfOk result (λ league. league_of league
+            ≡ league_start roads.now settings first second) }
         ensures fits { IfOk result (IsLeague 0) }
-        ensures desk { IfOk result (λ league. league.desk.start ≡ start_state roads.now settings []) }
+        ensures desk { IfOk result (λ league. league.desk.start
+            ≡ start_state roads.now settings []) }
     {
         let desk = RequestDesk::new(alloc, roads, settings)?;
         let first = Member::new(alloc, roads, settings, first)?;
@@ -104,7 +99,8 @@ impl<'r> League<'r> {
         requires fits { (lines : ℕ) × (lines < most_lines) × IsLeague lines self.old }
         requires spelled { IsSpelledLine self.old.desk.start.settings.log line.now }
         ensures told { IfOk result (TakesLine (league_of self.old) (league_of self.new) line.now) }
-        ensures fits { (lines : ℕ) → IsLeague lines self.old → OnOk result (IsLeague (lines + 1) self.new) }
+        ensures fits { (lines : ℕ) → IsLeague lines self.old
+            → OnOk result (IsLeague (lines + 1) self.new) }
         ensures start { self.new.desk.start ≡ self.old.desk.start }
     {
         match line {
@@ -121,8 +117,11 @@ impl<'r> League<'r> {
         requires fits { (lines : ℕ) × (lines < most_lines) × IsLeague lines self.old }
         requires spelled { IsSpelledCommand self.old.desk.start.settings.log command.now }
         requires no_batch { command.now ≢ Ask }
-        ensures answered { IfOk result (HasAnswered self.old self.new (league_answer (league_of self.old) (OfLeague command.now))) }
-        ensures fits { (lines : ℕ) → IsLeague lines self.old → OnOk result (IsLeague (lines + 1) self.new) }
+        ensures answered { IfOk result
+            (HasAnswered self.old self.new
+            (league_answer (league_of self.old) (OfLeague command.now))) }
+        ensures fits { (lines : ℕ) → IsLeague lines self.old
+            → OnOk result (IsLeague (lines + 1) self.new) }
         ensures start { self.new.desk.start ≡ self.old.desk.start }
     {
         match command {
@@ -137,8 +136,10 @@ impl<'r> League<'r> {
     fn cancel(&mut self, id: u64) -> Result<Reply, NoMemory>
         requires fits { (lines : ℕ) × (lines < most_lines) × IsLeague lines self.old }
         requires spelled { IsSpelled id }
-        ensures answered { IfOk result (HasAnswered self.old self.new (cancel_answer (league_of self.old) id)) }
-        ensures fits { (lines : ℕ) → IsLeague lines self.old → OnOk result (IsLeague (lines + 1) self.new) }
+        ensures answered { IfOk result
+            (HasAnswered self.old self.new (cancel_answer (league_of self.old) id)) }
+        ensures fits { (lines : ℕ) → IsLeague lines self.old
+            → OnOk result (IsLeague (lines + 1) self.new) }
         ensures start { self.new.desk.start ≡ self.old.desk.start }
     {
         let command = Command::Cancel { id };
@@ -155,8 +156,10 @@ impl<'r> League<'r> {
     fn set_clock(&mut self, time: u64) -> Result<Reply, NoMemory>
         requires fits { (lines : ℕ) × (lines < most_lines) × IsLeague lines self.old }
         requires spelled { IsSpelled time }
-        ensures answered { IfOk result (HasAnswered self.old self.new (clock_answer (league_of self.old) time)) }
-        ensures fits { (lines : ℕ) → IsLeague lines self.old → OnOk result (IsLeague (lines + 1) self.new) }
+        ensures answered { IfOk result
+            (HasAnswered self.old self.new (clock_answer (league_of self.old) time)) }
+        ensures fits { (lines : ℕ) → IsLeague lines self.old
+            → OnOk result (IsLeague (lines + 1) self.new) }
         ensures start { self.new.desk.start ≡ self.old.desk.start }
     {
         let command = Command::Clock { time };
@@ -170,8 +173,11 @@ impl<'r> League<'r> {
         requires fits { (lines : ℕ) × (lines < most_lines) × IsLeague lines self.old }
         requires spelled { IsSpelledCommand self.old.desk.start.settings.log command.now }
         requires a_report { IsTrue (is_driver_report command.now) }
-        ensures answered { IfOk result (HasAnswered self.old self.new (report_answer (league_of self.old) company command.now)) }
-        ensures fits { (lines : ℕ) → IsLeague lines self.old → OnOk result (IsLeague (lines + 1) self.new) }
+        ensures answered { IfOk result
+            (HasAnswered self.old self.new
+            (report_answer (league_of self.old) company command.now)) }
+        ensures fits { (lines : ℕ) → IsLeague lines self.old
+            → OnOk result (IsLeague (lines + 1) self.new) }
         ensures start { self.new.desk.start ≡ self.old.desk.start }
     {
         match company {
@@ -186,8 +192,10 @@ impl<'r> League<'r> {
     // Makes a round of the first requests that wait.
     fn make_round<R: Threads + Sync>(&mut self, rt: &R) -> Result<Told, NoMemory>
         requires fits { (lines : ℕ) × (lines < most_lines) × IsLeague lines self.old }
-        ensures told { IfOk result (TakesLine (league_of self.old) (league_of self.new) (OfLeague Ask)) }
-        ensures fits { (lines : ℕ) → IsLeague lines self.old → OnOk result (IsLeague (lines + 1) self.new) }
+        ensures told { IfOk result (TakesLine (league_of self.old)
+            (league_of self.new) (OfLeague Ask)) }
+        ensures fits { (lines : ℕ) → IsLeague lines self.old
+            → OnOk result (IsLeague (lines + 1) self.new) }
         ensures start { self.new.desk.start ≡ self.old.desk.start }
     {
         // These calls tell that the histories are legal.

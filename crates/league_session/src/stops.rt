@@ -12,6 +12,6 @@ pub(crate) fn ending_of(stop: Option<Stop>) -> Option<Ending>
     match stop {
         None => Some(Ending::Whole),
         Some(Stop::OfFeed(_)) => Some(Ending::Cut),
-        Some(Stop::NoMemory | Stop::SinkFailed) => None,
+        Some(Stop::NoMemory) => None,
     }
 }

@@ -5,15 +5,16 @@ use Rattle.std.specs.List.{IsDistinct}
 use Rattle.std.proofs.lemmas.Bool.{eq-eqb, ne_eqb}
 use Rattle.std.proofs.lemmas.List.{append-nil}
 use Rattle.std.proofs.lemmas.List.Elements.{filter_more}
+use Rattle.ride_model.specs.declared.settings.Settings.{Settings}
 use Rattle.ride_model.specs.declared.vehicle.Vehicle.{Vehicle}
-use Rattle.ride_model.specs.Fleet.{IsFleet}
+use Rattle.ride_model.specs.Fleet.{IsFleet, MayStart}
 use Rattle.ride_model.specs.Road.{RoadMap}
 use Rattle.ride_model.specs.Seating.{vehicle_ids}
 use Rattle.ride_model.specs.Vehicle.{IsLawful}
 use Rattle.plain_lemmas.proofs.Among.{among_filter_back}
 use Rattle.plain_lemmas.proofs.Each.{of_all, all_of}
 use Rattle.plain_lemmas.proofs.Lists.{distinct-filter}
-use Rattle.league_trials.specs.Sides.{has_rest, IsNewFleet, half_of}
+use Rattle.league_trials.specs.Sides.{has_rest, half_of}
 
 -- what holds of each vehicle holds of the half
 half-each : (P : Vehicle → Type 0) (rest : ℕ) (vehicles : List Vehicle) → All P vehicles → All P (half_of rest vehicles)
@@ -46,8 +47,10 @@ half-fleet rest vehicles is = record {
   ids_fit = half-each (λ (v : Vehicle). v.id < 10 ^ 18) rest vehicles is.ids_fit;
 }
 
-pub half-new : (roads : RoadMap) (rest : ℕ) (vehicles : List Vehicle) → IsNewFleet roads vehicles → IsNewFleet roads (half_of rest vehicles)
-half-new roads rest vehicles is = record {
+pub half-start : (roads : RoadMap) (settings : Settings) (rest : ℕ) (vehicles : List Vehicle) → MayStart roads settings vehicles
+    → MayStart roads settings (half_of rest vehicles)
+half-start roads settings rest vehicles is = record {
+  settings_fit = is.settings_fit;
   lawful = half-each (IsLawful roads) rest vehicles is.lawful;
   idle = half-each (λ (v : Vehicle). v.stops.items ≡ []) rest vehicles is.idle;
   first_versions = half-each (λ (v : Vehicle). v.version ≡ 0) rest vehicles is.first_versions;

@@ -22,6 +22,7 @@ use Rattle.fleet_league.specs.declared.briefs.Brief.{Brief}
 use Rattle.fleet_league.specs.declared.briefs.Win.{Win}
 use Rattle.fleet_league.specs.declared.quotes.Quote.{Quote}
 use Rattle.fleet_league.specs.Prices.{IsNewRide, prices_of}
+use Rattle.trial_town.proofs.IdleVehicle.{may-start}
 use Rattle.league_trials.specs.OneVehicle.{IsNewCompany, IsOneVehicle, IsOneVehicleFleet, IsQuoteOf, IsTownNode, IsTownRide, one_price, won_alone}
 
 -- the one cell of a grid
@@ -230,8 +231,6 @@ clear-new board ride start nothing =
 pub idle-fleet : (roads : RoadMap) (v : Vehicle) → IsLawful roads v → v.stops.items ≡ [] → v.version ≡ 0 → v.id ≡ 1
     → IsOneVehicleFleet roads (v ∷ [])
 idle-fleet roads v lawful idle first one = record {
-  lawful = All-from_recursion (IsLawful roads) (v ∷ []) (lawful, tt);
-  idle = All-from_recursion (λ (w : Vehicle). w.stops.items ≡ []) (v ∷ []) (idle, tt);
-  first_versions = All-from_recursion (λ (w : Vehicle). w.version ≡ 0) (v ∷ []) (first, tt);
+  start = may-start roads v lawful idle first;
   one = ap (λ id. id ∷ []) one;
 }

@@ -1,12 +1,14 @@
 -- Companies of one vehicle in a town of four nodes, rides there, and what the vehicle wins.
 use Rattle.std.specs.Prelude.{◌≡◌, ◌≢◌, ℕ, ◌≤◌, List, [], ◌∷◌, Some, All, IsTrue}
 use Rattle.ride_model.specs.declared.vehicle.Ride.{Ride}
+use Rattle.ride_model.specs.declared.settings.Settings.{Settings}
 use Rattle.ride_model.specs.declared.vehicle.Vehicle.{Vehicle}
+use Rattle.ride_model.specs.Fleet.{MayStart}
 use Rattle.ride_model.specs.Legal.{versions_of}
 use Rattle.ride_model.specs.Road.{RoadMap}
 use Rattle.ride_model.specs.Seating.{vehicle_ids}
 use Rattle.ride_model.specs.State.{State}
-use Rattle.ride_model.specs.Vehicle.{IsLawful}
+use Rattle.ride_model.specs.Settings.{IsSettings}
 use Rattle.dual_check.specs.Cells.{GridCells}
 use Rattle.fleet_league.specs.Awards.{AddsAward}
 use Rattle.fleet_league.specs.Companies.{CompanyState}
@@ -35,9 +37,7 @@ pub record AreTownRides (rides : List Ride) : Type 0 where
 
 -- the fleet of vehicle 1 before anything happened
 pub record IsOneVehicleFleet (roads : RoadMap) (fleet : List Vehicle) : Type 0 where
-  pub lawful : All (IsLawful roads) fleet
-  pub idle : All (λ (v : Vehicle). v.stops.items ≡ []) fleet
-  pub first_versions : All (λ (v : Vehicle). v.version ≡ 0) fleet
+  pub start : (settings : Settings) → IsSettings settings → MayStart roads settings fleet
   pub one : vehicle_ids fleet ≡ 1 ∷ []
 
 -- the state of it in a map of four nodes

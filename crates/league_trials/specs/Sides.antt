@@ -25,12 +25,6 @@ pub record IsFreshRide (nodes : ℕ) (s : State) (ride : Ride) : Type 0 where
   pub of_map : IsRideOf nodes ride
   pub not_accepted : accepted_request s ride.id ≡ None
 
--- a fleet before anything happened
-pub record IsNewFleet (roads : RoadMap) (fleet : List Vehicle) : Type 0 where
-  pub lawful : All (IsLawful roads) fleet
-  pub idle : All (λ (v : Vehicle). v.stops.items ≡ []) fleet
-  pub first_versions : All (λ (v : Vehicle). v.version ≡ 0) fleet
-
 -- the vehicles of a fleet whose ids have this rest by 2
 abbrev pub has_rest : ℕ → ℕ → Bool
 has_rest rest id = id % 2 == rest

@@ -1,14 +1,16 @@
 //! A day of two companies that share the vehicles of a generated city: what each has on its board in the end is a log that audits.
 ghost use Rattle.std.specs.Prelude.{◌≡◌, length, All, IfOk};
+ghost use Rattle.ride_model.specs.declared.settings.Settings.{Settings};
+ghost use Rattle.ride_model.specs.Fleet.{MayStart};
 ghost use Rattle.ride_model.specs.Road.{RoadMap};
-ghost use Rattle.ride_model.specs.Settings.{IsSettings};
 ghost use Rattle.ride_model.specs.Text.{HasLine};
 ghost use Rattle.city_maker.specs.Fleets.{default_settings};
 ghost use Rattle.fleet_league.specs.declared.quotes.Quote.{Quote};
 ghost use Rattle.fleet_league.specs.Round.{IsPriced};
-ghost use Rattle.league_trials.specs.Sides.{AreParts, IsNewFleet};
+ghost use Rattle.league_trials.specs.Sides.{AreParts};
 
 use super::sides::Side;
+use adaptive_roads::Roads;
 use board_core::{Board, Totals};
 use city_maker::{City, CityPlan, make_city};
 use fleet_league::{Brief, NoMemory, Quote, settle};
@@ -16,7 +18,6 @@ use league_session::part_of;
 use log_audit::{Verdict, audit};
 use ride_model::{Command, Entry, Fleet, Reply, Ride, Settings};
 use ride_ports::{MemSink, MemSource};
-use road_times::Roads;
 use std::alloc::Global;
 use std::process::Abort;
 use std::thread::Threads;
@@ -39,8 +40,7 @@ const CANCELLING: u64 = 5;
 // The city, before anything happened.
 fn city_of_day(alloc: Global) -> Result<City, NoMemory>
     ensures settings { IfOk result (λ city. city.settings ≡ default_settings) }
-    ensures settings_fit { IfOk result (λ city. IsSettings city.settings) }
-    ensures fleet { IfOk result (λ city. IsNewFleet city.network city.fleet) }
+    ensures start { IfOk result (λ city. MayStart city.network city.settings city.fleet) }
 {
     let city = make_city(alloc, &PLAN)?;
     Ok(city)
@@ -81,7 +81,8 @@ impl Drop for Day<'_> {
 
 // The vehicles of a fleet whose ids have this rest by 2.
 fn half_of(alloc: Global, fleet: &Fleet, rest: u64) -> Result<Fleet, NoMemory>
-    ensures { (roads : RoadMap) → IsNewFleet roads fleet.now → IfOk result (IsNewFleet roads) }
+    ensures { (roads : RoadMap) (settings : Settings) → MayStart roads settings fleet.now
+        → IfOk result (MayStart roads settings) }
 {
     let mut vehicles = Vec::new(alloc);
     for vehicle in fleet.vehicles() {
@@ -94,7 +95,8 @@ fn half_of(alloc: Global, fleet: &Fleet, rest: u64) -> Result<Fleet, NoMemory>
 
 // The same, with ample memory.
 fn half(rt: &impl Abort, alloc: Global, fleet: &Fleet, rest: u64) -> Fleet
-    ensures { (roads : RoadMap) → IsNewFleet roads fleet.now → IsNewFleet roads result }
+    ensures { (roads : RoadMap) (settings : Settings) → MayStart roads settings fleet.now
+        → MayStart roads settings result }
 {
     let Ok(half) = half_of(alloc, fleet, rest) else {
         panic!(rt; "there is memory");
@@ -186,8 +188,7 @@ impl<'r> Day<'r> {
         fleet: &Fleet,
     ) -> Day<'r>
         requires settings { settings ≡ default_settings }
-        requires settings_fit { IsSettings settings }
-        requires fleet { IsNewFleet roads.now fleet.now }
+        requires start { MayStart roads.now settings fleet.now }
     {
         let first = half(rt, alloc, fleet, 1);
         let second = half(rt, alloc, fleet, 0);
@@ -309,8 +310,7 @@ fn audited<R: Threads + Sync + Abort>(
     fleet: Fleet,
     log: &[u8],
 ) -> Totals
-    requires settings { IsSettings settings }
-    requires fleet { IsNewFleet roads.now fleet }
+    requires { MayStart roads.now settings fleet }
 {
     let mut source = MemSource::new(log, &[], &[]);
     match audit(rt, alloc, roads, settings, fleet, &mut source) {
@@ -330,8 +330,7 @@ fn totals_of<R: Threads + Sync + Abort>(
     rest: u64,
     side: &Side<'_>,
 ) -> Totals
-    requires settings { IsSettings settings }
-    requires fleet { IsNewFleet roads.now fleet.now }
+    requires { MayStart roads.now settings fleet.now }
 {
     let log = MemSink::new(alloc, 1_000_000, &[], &[]);
     let mut log = log.expect(rt, "there is memory");
@@ -349,8 +348,7 @@ fn expect_logs<R: Threads + Sync + Abort>(
     fleet: &Fleet,
     day: &Day<'_>,
 )
-    requires settings { IsSettings settings }
-    requires fleet { IsNewFleet roads.now fleet.now }
+    requires { MayStart roads.now settings fleet.now }
 {
     let first = totals_of(rt, alloc, roads, settings, fleet, 1, &day.first);
     let second = totals_of(rt, alloc, roads, settings, fleet, 0, &day.second);
@@ -367,8 +365,7 @@ fn expect_tally(rt: &impl Abort, tally: &Tally) {
 // Plays the city's day, and looks at what it has given.
 fn expect_day<R: Threads + Sync + Abort>(rt: &R, alloc: Global, roads: &Roads, city: &City)
     requires settings { city.now.settings ≡ default_settings }
-    requires settings_fit { IsSettings city.now.settings }
-    requires fleet { IsNewFleet roads.now city.now.fleet }
+    requires start { MayStart roads.now city.now.settings city.now.fleet }
 {
     let mut day = Day::new(rt, alloc, roads, city.settings, &city.fleet);
     day.take_all(rt, alloc, roads.nodes(), city.commands.items());

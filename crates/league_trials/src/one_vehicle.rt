@@ -4,9 +4,10 @@ ghost use Rattle.ride_model.specs.Text.{IsSpelled};
 ghost use Rattle.dual_check.specs.Cells.{cell_at};
 ghost use Rattle.league_trials.specs.OneVehicle.{IsNewCompany, IsOneVehicleFleet, IsQuoteOf, IsTownNode, IsTownRide, won_alone};
 
+use adaptive_roads::Roads;
 use fleet_league::{Brief, Company, NoMemory, Quote, Win, WinList};
+use pricing_workers::Pricer;
 use ride_model::{AmountList, Fleet, Ride};
-use road_times::{Roads, Scratch};
 use std::alloc::Global;
 use std::process::Abort;
 use std::thread::Threads;
@@ -56,7 +57,8 @@ pub(crate) fn company_of<'r>(
 ) -> Result<Company<'r>, NoMemory>
     requires nodes { roads.now.nodes ≡ 4 }
     requires fleet { IsOneVehicleFleet roads.now fleet }
-    ensures { IfOk result IsNewCompany }
+    ensures new { IfOk result IsNewCompany }
+    ensures roads { IfOk result (λ company. company.board.start.roads ≡ roads.now) }
 {
     Company::new(alloc, roads, trial_town::settings(1), fleet)
 }
@@ -64,7 +66,8 @@ pub(crate) fn company_of<'r>(
 /// The company of the town's fleet.
 pub(crate) fn company<'r>(alloc: Global, roads: &'r Roads) -> Result<Company<'r>, NoMemory>
     requires { roads.now.nodes ≡ 4 }
-    ensures { IfOk result IsNewCompany }
+    ensures new { IfOk result IsNewCompany }
+    ensures roads { IfOk result (λ company. company.board.start.roads ≡ roads.now) }
 {
     let fleet = trial_town::fleet(alloc, roads)?;
     company_of(alloc, roads, fleet)
@@ -74,17 +77,17 @@ pub(crate) fn company<'r>(alloc: Global, roads: &'r Roads) -> Result<Company<'r>
 pub(crate) fn quote<R: Threads + Sync + Abort>(
     rt: &R,
     company: &Company<'_>,
-    scratch: &mut Scratch,
+    pricer: &mut Pricer<'_>,
     ride: Ride,
     price: u64,
 ) -> Result<Quote, NoMemory>
     requires company { IsNewCompany company.now }
-    requires scratch { scratch.old.nodes ≡ company.now.board.start.roads.nodes }
+    requires pricer { pricer.old ≡ company.now.board.start.roads }
     requires ride { IsTownRide ride }
     ensures quote { IfOk result (IsQuoteOf company.now.board.start ride price) }
-    ensures scratch { scratch.new ≡ scratch.old }
+    ensures pricer { pricer.new ≡ pricer.old }
 {
-    let quote = company.quote(rt, scratch, &[ride])?;
+    let quote = company.quote(rt, pricer, &[ride])?;
     expect_price(rt, &quote, price);
     Ok(quote)
 }

@@ -1,10 +1,9 @@
 //! A company that plays a day of a city. What its calls ask is looked at before each of them.
-ghost use Rattle.std.specs.Prelude.{◌≡◌, ◌≤◌, [], ◌<◌, length, get_or, nat_eq, true, All, IsTrue};
+ghost use Rattle.std.specs.Prelude.{◌≡◌, ◌≤◌, ◌<◌, nat_eq, true, All, IsTrue};
+ghost use Rattle.ride_model.specs.Fleet.{MayStart};
 ghost use Rattle.std.specs.List.{IsDistinct};
-ghost use Rattle.ride_model.specs.declared.vehicle.Vehicle.{Vehicle};
-ghost use Rattle.ride_model.specs.Settings.{IsSettings};
 ghost use Rattle.ride_model.specs.Text.{IsSpelledCommand};
-ghost use Rattle.ride_model.specs.Vehicle.{IsLawful, ride_ids};
+ghost use Rattle.ride_model.specs.Vehicle.{ride_ids};
 ghost use Rattle.board_core.specs.Recorded.{state_of};
 ghost use Rattle.city_maker.specs.Fleets.{default_settings};
 ghost use Rattle.fleet_league.specs.Companies.{is_report, report_count};
@@ -14,15 +13,15 @@ ghost use Rattle.fleet_league.specs.Prices.{quote_of};
 ghost use Rattle.fleet_league.specs.Round.{IsPriced};
 ghost use Rattle.league_trials.specs.Sides.{IsFreshRide, IsRideOf};
 
+use adaptive_roads::Roads;
 use board_core::Board;
 use city_maker::next_report;
 use fleet_league::{Brief, Company, Quote, Settled};
+use pricing_workers::Pricer;
 use ride_model::{Command, Fleet, Reply, Ride, Settings};
-use road_times::{Roads, Scratch};
 use std::alloc::Global;
 use std::marker::Model;
 use std::process::Abort;
-use std::slice::from_mut;
 use std::thread::Threads;
 
 /// The numbers of a command are below this.
@@ -38,7 +37,7 @@ const MOST_REPORTS: u32 = 64;
 pub(crate) struct Side<'r> {
     company: Company<'r>,
     roads: &'r Roads,
-    scratch: Scratch,
+    pricer: Pricer<'r>,
 }
 
 impl<'r> Model for Side<'r> {
@@ -50,7 +49,7 @@ impl<'r> Model for Side<'r> {
 
     ghost view = { λ s. s.company };
 
-    ghost invariant = { λ s. (s.company.board.start.roads ≡ s.roads.now) × (s.scratch.nodes ≡ s.company.board.start.roads.nodes)
+    ghost invariant = { λ s. (s.company.board.start.roads ≡ s.roads.now) × (s.pricer ≡ s.company.board.start.roads)
         × (s.company.board.start.settings ≡ default_settings) };
 }
 
@@ -59,10 +58,10 @@ impl Drop for Side<'_> {
         let Side {
             company,
             roads: _,
-            scratch,
+            pricer,
         } = self;
         drop(company);
-        drop(scratch);
+        drop(pricer);
     }
 }
 
@@ -76,12 +75,9 @@ impl<'r> Side<'r> {
         fleet: Fleet,
     ) -> Side<'r>
         requires settings { settings ≡ default_settings }
-        requires settings_fit { IsSettings settings }
-        requires lawful { All (IsLawful roads.now) fleet }
-        requires idle { All (λ (v : Vehicle). v.stops.items ≡ []) fleet }
-        requires first_versions { All (λ (v : Vehicle). v.version ≡ 0) fleet }
+        requires start { MayStart roads.now settings fleet }
     {
-        let Ok(scratch) = Scratch::new(alloc, roads) else {
+        let Ok(pricer) = Pricer::new(alloc, roads, 1) else {
             panic!(rt; "there is memory");
         };
         let Ok(company) = Company::new(alloc, roads, settings, fleet) else {
@@ -90,7 +86,7 @@ impl<'r> Side<'r> {
         Side {
             company,
             roads,
-            scratch,
+            pricer,
         }
     }
 
@@ -152,7 +148,7 @@ impl<'r> Side<'r> {
         // This call tells that the history is legal.
         let _history = self.company.board().entries();
         assert!(rt; self.may_play(rides));
-        let Ok(quote) = self.company.quote(rt, &mut self.scratch, rides) else {
+        let Ok(quote) = self.company.quote(rt, &mut self.pricer, rides) else {
             panic!(rt; "there is memory");
         };
         quote
@@ -171,8 +167,7 @@ impl<'r> Side<'r> {
     {
         // This call tells that the history is legal.
         let _history = self.company.board().entries();
-        let scratches = from_mut(&mut self.scratch);
-        let settled = self.company.award(rt, scratches, quote, brief);
+        let settled = self.company.award(rt, &mut self.pricer, quote, brief);
         assert!(rt; settled == Ok(Settled::Confirmed));
     }
 
@@ -263,7 +258,8 @@ fn fits(nodes: u32, ride: &Ride) -> bool
 
 // Whether two nodes of a map of so many differ.
 fn is_way(nodes: u32, from: u32, to: u32) -> bool
-    ensures { IsTrue result → (1 ≤ from) × (from ≤ nodes) × (1 ≤ to) × (to ≤ nodes) × (from ≡ to → ⊥) }
+    ensures { IsTrue result → (1 ≤ from) × (from ≤ nodes) × (1 ≤ to) × (to ≤ nodes)
+        × (from ≡ to → ⊥) }
 {
     1 <= from && from <= nodes && 1 <= to && to <= nodes && from != to
 }

@@ -4,11 +4,12 @@ ghost use Rattle.league_trials.specs.OneVehicle.{AreTownRides, IsOneVehicleFleet
 
 use super::one_vehicle::{company_of, ride};
 use super::rounds::write;
+use adaptive_roads::Roads;
 use arrayvec::ArrayVec;
 use dual_check::{Grid, Paired, certifies_grid};
 use fleet_league::{NoMemory, Quote, settle};
+use pricing_workers::Pricer;
 use ride_model::{Fleet, Ride, Vehicle};
-use road_times::{Roads, Scratch};
 use std::alloc::Global;
 use std::process::Abort;
 use std::thread::Threads;
@@ -60,8 +61,8 @@ fn quote_of<R: Threads + Sync>(
     ensures { IfOk result IsQuoteOfTwo }
 {
     let company = company_of(alloc, roads, fleet)?;
-    let mut scratch = Scratch::new(alloc, roads)?;
-    company.quote(rt, &mut scratch, rides)
+    let mut pricer = Pricer::new(alloc, roads, 1)?;
+    company.quote(rt, &mut pricer, rides)
 }
 
 // What the company of the town's fleet quotes.

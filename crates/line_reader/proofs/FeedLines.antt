@@ -14,7 +14,7 @@ use Rattle.line_reader.specs.declared.answers.ReadStop.{ReadStop}
 use Rattle.line_reader.specs.declared.answers.ReadStop.TheVariants.{SourceFailed, TooLong}
 use Rattle.line_reader.specs.declared.limits.Limits.{Limits}
 use Rattle.line_reader.specs.declared.stops.Stop.{Stop}
-use Rattle.line_reader.specs.declared.stops.Stop.TheVariants.{NoMemory, SinkFailed, OfFeed}
+use Rattle.line_reader.specs.declared.stops.Stop.TheVariants.{NoMemory, OfFeed}
 use Rattle.line_reader.specs.FeedRuns.{AreFirstLines, HasRun, IsBetween, IsEnded, IsReadWhole, IsUnhindered, ran_of}
 use Rattle.line_reader.specs.Limits.{IsTooLong, IsWithinLimits, lines_within}
 use Rattle.line_reader.specs.Reader.{HasGiven, ReaderState, IsAtEnd, IsNext, IsNextLine, IsShown, IsStopped}
@@ -94,12 +94,15 @@ run-cut limits feed left stop failed bytes more whole reads ended = record {
   ended = ended;
 }
 
--- a feed that was stopped between two lines, as the sink failed
+-- a feed of which no more was read, as the sink failed
 pub run-sink_failed : (limits : Limits) (feed left : Option (List ℕ)) (reader : ReaderState) (failed : Bool) (bytes : List ℕ)
     → IsBetween feed left reader bytes → failed ≡ true
-    → HasRun limits feed left (Some SinkFailed) failed (bytes ++ reader.pending) (ended_lines bytes)
-run-sink_failed limits feed left reader failed bytes between fell =
-    run-cut limits feed left SinkFailed failed bytes reader.pending between.given.whole between.reads fell
+    → HasRun limits feed left None failed (bytes ++ reader.pending) (ended_lines bytes)
+run-sink_failed limits feed left reader failed bytes between fell = record {
+  reads = between.reads;
+  first = whole-first feed left bytes reader.pending between.given.whole between.reads;
+  ended = λ stood. absurd (cc (fell, stood));
+}
 
 -- a feed that was taken to its end
 run-whole : (limits : Limits) (feed left : Option (List ℕ)) (failed : Bool) (bytes rest : List ℕ) (lines : List (List ℕ)) → Reads feed left (bytes ++ rest)
@@ -109,7 +112,7 @@ run-whole limits feed left failed bytes rest lines reads end are =
     record {
       reads = reads;
       first = subst (λ (ls : List (List ℕ)). AreFirstLines feed (bytes ++ rest) ls) (sym all) (all-first feed left (bytes ++ rest) reads end.to_end);
-      ended = (all, end.within, end.to_end);
+      ended = λ _. (all, end.within, end.to_end);
     }
 
 -- fewer lines than the limit were taken where one more is read
@@ -208,9 +211,8 @@ pub run-still : (limits : Limits) (feed left : Option (List ℕ)) (stop : Option
 run-still limits feed left stop failed later taken lines still run = record { reads = run.reads; first = run.first; ended = each stop run.ended }
   where
     each : (s : Option Stop) → IsEnded limits s left taken failed lines → IsEnded limits s left taken later lines
-    each None ended = ended
+    each None ended = λ stood. ended (false_from_ne_true failed (λ fell. absurd (cc (still fell, stood))))
     each (Some NoMemory) ended = tt
-    each (Some SinkFailed) ended = still ended
     each (Some (OfFeed why)) ended = ended
 
 -- which lines were taken, by what kept a session from running whole
@@ -224,13 +226,13 @@ pub record AreTaken (limits : Limits) (ran : Ran) (stop : Option Stop) (left : O
 
 pub are-taken : (limits : Limits) (stop : Option Stop) (left : Option (List ℕ)) (taken : List ℕ) (failed : Bool) (lines : List (List ℕ))
     → IsEnded limits stop left taken failed lines → AreTaken limits (ran_of stop failed) stop left taken lines
-are-taken limits None left taken failed lines (are, within, end) = record {
-  whole = λ _ _. (refl, are);
+are-taken limits None left taken failed lines ended = record {
+  whole = λ written _. (refl, (ended written.0).0);
   cut = λ _ short. absurd (short (refl, refl));
   no_memory = λ _ wanting. absurd (cc wanting);
-  within = λ _ _. within;
+  within = λ written _. (ended written.0).1;
   too_long = λ is. absurd (cc is);
-  none_left = λ _ _. end;
+  none_left = λ written _. (ended written.0).2;
 }
 are-taken limits (Some NoMemory) left taken failed lines none = record {
   whole = λ written _. absurd (let no : true ≡ false = written.1 in cc);
@@ -239,14 +241,6 @@ are-taken limits (Some NoMemory) left taken failed lines none = record {
   within = λ written _. absurd (let no : true ≡ false = written.1 in cc);
   too_long = λ is. absurd (cc is);
   none_left = λ written _. absurd (let no : true ≡ false = written.1 in cc);
-}
-are-taken limits (Some SinkFailed) left taken failed lines fell = record {
-  whole = λ written _. absurd (let no : true ≡ false = sym fell ∙ written.0 in cc);
-  cut = λ written _. absurd (let no : true ≡ false = sym fell ∙ written.0 in cc);
-  no_memory = λ _ wanting. absurd (cc wanting);
-  within = λ written _. absurd (let no : true ≡ false = sym fell ∙ written.0 in cc);
-  too_long = λ is. absurd (cc is);
-  none_left = λ written _. absurd (let no : true ≡ false = sym fell ∙ written.0 in cc);
 }
 are-taken limits (Some (OfFeed SourceFailed)) left taken failed lines (are, why) = record {
   whole = λ _ read. absurd (let no : true ≡ false = read.0 in cc);

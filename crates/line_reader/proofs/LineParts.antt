@@ -7,7 +7,7 @@ use Rattle.std.proofs.lemmas.Bool.{eqb-true, eqb-false}
 use Rattle.std.proofs.lemmas.Grind.{flat_map-append}
 use Rattle.std.proofs.lemmas.List.{append_cancel_left, take-append-drop}
 use Rattle.plain_lemmas.proofs.Lists.{some_bytes}
-use Rattle.line_text.specs.Cutter.{CutterState, HasTaken, EndsLine, Continues, ShowsRest}
+use Rattle.line_text.specs.Cutter.{CutterState, HasTaken, EndsLine, Continues}
 use Rattle.line_text.specs.Lines.{ended_after, rest_after, ended_lines, rest_of, last_line, lines_of}
 use Rattle.line_text.proofs.LineLemmas.{ended_lines-append, lines-grow, rest_after-append, some-line}
 use Rattle.line_reader.specs.declared.answers.NextLine.{NextLine}

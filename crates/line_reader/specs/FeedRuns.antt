@@ -7,7 +7,7 @@ use Rattle.ride_ports.specs.declared.outcome.Ran.{Ran}
 use Rattle.line_reader.specs.declared.answers.ReadStop.TheVariants.{SourceFailed, TooLong}
 use Rattle.line_reader.specs.declared.limits.Limits.{Limits}
 use Rattle.line_reader.specs.declared.stops.Stop.{Stop}
-use Rattle.line_reader.specs.declared.stops.Stop.TheVariants.{NoMemory, SinkFailed, OfFeed}
+use Rattle.line_reader.specs.declared.stops.Stop.TheVariants.{NoMemory, OfFeed}
 use Rattle.line_reader.specs.Limits.{IsWithinLimits, lines_within}
 use Rattle.line_reader.specs.Reader.{HasGiven, ReaderState, StopsAt}
 
@@ -29,15 +29,15 @@ pub record IsBetween (feed left : Option (List ℕ)) (reader : ReaderState) (byt
   pub given : HasGiven reader bytes
   pub reads : Reads feed left (bytes ++ reader.pending)
 
--- why no more lines of a feed were taken than these: they are all of them; or memory was wanting; or the sink failed; or they are
--- those that count of a feed that was not read to its end
+-- why no more lines of a feed were taken than these: they are all of them, or the sink failed; or
+-- memory was wanting; or they are those that count of a feed that was not read to its end
 abbrev pub IsEnded : Limits → Option Stop → Option (List ℕ) → List ℕ → Bool → List (List ℕ) → Type 0
-IsEnded limits None left taken failed lines = (lines ≡ lines_of taken) × IsWithinLimits limits taken × IfSome left (λ rest. rest ≡ [])
+IsEnded limits None left taken failed lines = failed ≡ false
+    → (lines ≡ lines_of taken) × IsWithinLimits limits taken × IfSome left (λ rest. rest ≡ [])
 IsEnded limits (Some NoMemory) left taken failed lines = Unit {0}
-IsEnded limits (Some SinkFailed) left taken failed lines = failed ≡ true
 IsEnded limits (Some (OfFeed stop)) left taken failed lines = (lines ≡ lines_within limits taken) × StopsAt limits taken stop
 
--- of a feed these bytes and these lines were taken, until its end or a stop
+-- of a feed these bytes and these lines were taken, until its end, a stop, or a failure of the sink
 pub record HasRun (limits : Limits) (feed left : Option (List ℕ)) (stop : Option Stop) (failed : Bool) (taken : List ℕ) (lines : List (List ℕ))
     : Type 0 where
   pub reads : Reads feed left taken

@@ -1,5 +1,5 @@
 -- What a reader of lines has read and given.
-use Rattle.std.specs.Prelude.{◌≡◌, ◌≢◌, ℕ, ◌+◌, ◌-◌, ◌^◌, min, nat_lt, Bool, MatchBool, List, [], ◌∷◌, ◌++◌, length, take, Option, IfSome}
+use Rattle.std.specs.Prelude.{◌≡◌, ◌≢◌, ℕ, ◌+◌, ◌-◌, ◌^◌, min, nat_lt, Bool, true, false, MatchBool, List, [], ◌∷◌, ◌++◌, length, take, Option, IfSome, Result, Err}
 use Rattle.std.specs.List.{AllByRecursion}
 use Rattle.line_text.specs.Cutter.{CutterState, HasTaken}
 use Rattle.line_text.specs.Lines.{ended_lines, rest_of}
@@ -64,6 +64,11 @@ IsNext left reader bytes came Line = (line : List ℕ) × IsNextLine reader byte
 IsNext left reader bytes came Unfinished =
     IsAtEnd left reader.limits bytes came × (came ≢ []) × IsShown reader (length (ended_lines bytes) + 1) came
 IsNext left reader bytes came End = IsAtEnd left reader.limits bytes came × (came ≡ [])
+
+-- whether the source failed
+abbrev pub is_fault : {T : Type 0} → Result T ReadStop → Bool
+is_fault (Err SourceFailed) = true
+is_fault _ = false
 
 -- why a text is not read on: a read failed within the limits, or it passes them
 abbrev pub StopsAt : Limits → List ℕ → ReadStop → Type 0

@@ -11,7 +11,7 @@ mod stops;
 pub use answers::{NextLine, ReadStop};
 pub use limits::Limits;
 pub use reader::LineReader;
-pub use stops::{Stop, ran_of};
+pub use stops::{Stop, is_no_memory, is_source_failed, is_too_long, ran_of};
 
 /// Want of memory.
 pub type NoMemory = std::alloc::AllocError;

@@ -1,8 +1,9 @@
 //! The bytes that were read and are not cut into lines yet.
-ghost use Rattle.std.specs.Prelude.{◌≡◌, ◌≢◌, ◌<◌, ◌≤◌, [], drop, length, take, Err, IfErr, IfOk, IfSome, OnErr};
+ghost use Rattle.std.specs.Prelude.{◌≡◌, ◌<◌, ◌≤◌, [], drop, length, take, IfErr, IfOk, IfSome, OnErr};
 ghost use Rattle.ride_ports.specs.Bytes.{Reads};
-ghost use Rattle.ride_ports.specs.Count.{Rose};
+ghost use Rattle.ride_ports.specs.Count.{KeepsCount};
 ghost use Rattle.line_reader.specs.declared.answers.ReadStop.TheVariants.{SourceFailed};
+ghost use Rattle.line_reader.specs.Reader.{is_fault};
 
 use crate::{NoMemory, ReadStop};
 use ride_ports::Source;
@@ -67,12 +68,11 @@ impl Piece {
         ensures count { IfOk result (λ count. count ≡ length self.new) }
         ensures within { IfOk result (λ count. count ≤ most) }
         ensures bytes { IfOk result (λ _. Reads (S.left source.old) (S.left source.new) self.new) }
-        ensures end { IfOk result (λ count. count ≡ 0 → IfSome (S.left source.new) (λ bytes. bytes ≡ [])) }
+        ensures end { IfOk result (λ count. count ≡ 0
+            → IfSome (S.left source.new) (λ bytes. bytes ≡ [])) }
         ensures only_faults { IfErr result (λ stop. stop ≡ SourceFailed) }
         ensures failed_stays { OnErr result (S.left source.new ≡ S.left source.old) }
-        ensures fault { result ≡ Err SourceFailed → Rose (S.faults source.old) (S.faults source.new) }
-        ensures other_counts_none { result ≢ Err SourceFailed → S.faults source.new ≡ S.faults source.old }
-        ensures count_never_falls { S.faults source.old ≤ S.faults source.new }
+        ensures faults { KeepsCount (is_fault result) (S.faults source.old) (S.faults source.new) }
     {
         let count = read_into(source, self.buffer.as_mut_slice(), PIECE.min(most))?;
         self.start = 0;
@@ -87,13 +87,13 @@ fn read_into<S: Source>(source: &mut S, buffer: &mut [u8], room: usize) -> Resul
     requires within { room ≤ length buffer.old }
     ensures same_length { length buffer.new ≡ length buffer.old }
     ensures within { IfOk result (λ count. count ≤ room) }
-    ensures bytes { IfOk result (λ count. Reads (S.left source.old) (S.left source.new) (take count buffer.new)) }
-    ensures end { IfOk result (λ count. count ≡ 0 → IfSome (S.left source.new) (λ bytes. bytes ≡ [])) }
+    ensures bytes { IfOk result (λ count.
+        Reads (S.left source.old) (S.left source.new) (take count buffer.new)) }
+    ensures end { IfOk result (λ count. count ≡ 0
+        → IfSome (S.left source.new) (λ bytes. bytes ≡ [])) }
     ensures only_faults { IfErr result (λ stop. stop ≡ SourceFailed) }
     ensures failed_stays { OnErr result (S.left source.new ≡ S.left source.old) }
-    ensures fault { result ≡ Err SourceFailed → Rose (S.faults source.old) (S.faults source.new) }
-    ensures other_counts_none { result ≢ Err SourceFailed → S.faults source.new ≡ S.faults source.old }
-    ensures count_never_falls { S.faults source.old ≤ S.faults source.new }
+    ensures faults { KeepsCount (is_fault result) (S.faults source.old) (S.faults source.new) }
 {
     match source.read(&mut buffer[..room]) {
         Ok(count) => Ok(count),

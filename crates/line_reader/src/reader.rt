@@ -2,11 +2,11 @@
 ghost use Rattle.std.specs.List.{list_any};
 ghost use Rattle.std.specs.Prelude.{◌≡◌, ◌≢◌, ◌==◌, ℕ, ◌+◌, ◌<◌, ◌++◌, ◌∷◌, ◌≤◌, [], List, Ok, Err, false, length, IfOk, IfSome, MatchBool, MatchResult};
 ghost use Rattle.ride_ports.specs.Bytes.{Reads};
-ghost use Rattle.ride_ports.specs.Count.{Rose};
+ghost use Rattle.ride_ports.specs.Count.{KeepsCount};
 ghost use Rattle.line_text.specs.Cutter.{Continues, EndsLine};
 ghost use Rattle.line_reader.specs.declared.answers.NextLine.TheVariants.{Line};
 ghost use Rattle.line_reader.specs.declared.answers.ReadStop.TheVariants.{SourceFailed, TooLong};
-ghost use Rattle.line_reader.specs.Reader.{HasGiven, HasRead, IsCutOff, IsFilled, IsLast, IsNext, IsStopped};
+ghost use Rattle.line_reader.specs.Reader.{HasGiven, HasRead, IsCutOff, IsFilled, IsLast, IsNext, IsStopped, is_fault};
 
 use crate::piece::Piece;
 use crate::{Limits, NextLine, NoMemory, ReadStop};
@@ -107,9 +107,7 @@ impl LineReader {
             (IsStopped self.old.limits bytes (self.old.pending ++ more))) }
         ensures limits { self.new.limits ≡ self.old.limits }
         ensures fewer { result ≡ Ok Line → self.new.lines_left < self.old.lines_left }
-        ensures fault { result ≡ Err SourceFailed → Rose (S.faults source.old) (S.faults source.new) }
-        ensures other_counts_none { result ≢ Err SourceFailed → S.faults source.new ≡ S.faults source.old }
-        ensures count_never_falls { S.faults source.old ≤ S.faults source.new }
+        ensures faults { KeepsCount (is_fault result) (S.faults source.old) (S.faults source.new) }
     {
         'parts: loop {
             if !self.has_pending(source)? {
@@ -146,12 +144,11 @@ impl LineReader {
 
     /// Whether bytes are pending; where none are, the next piece is read.
     fn has_pending<S: Source>(&mut self, source: &mut S) -> Result<bool, ReadStop>
-        ensures read { (more : List ℕ) × Reads (S.left source.old) (S.left source.new) more × MatchResult result
+        ensures read { (more : List ℕ) × Reads (S.left source.old) (S.left source.new) more
+            × MatchResult result
             (IsFilled (S.left source.new) self.old self.new more)
             (IsCutOff self.old more) }
-        ensures fault { result ≡ Err SourceFailed → Rose (S.faults source.old) (S.faults source.new) }
-        ensures other_counts_none { result ≢ Err SourceFailed → S.faults source.new ≡ S.faults source.old }
-        ensures count_never_falls { S.faults source.old ≤ S.faults source.new }
+        ensures faults { KeepsCount (is_fault result) (S.faults source.old) (S.faults source.new) }
         ensures limits { self.new.limits ≡ self.old.limits }
     {
         if !self.is_drained() {
@@ -163,12 +160,11 @@ impl LineReader {
     /// Reads the next piece, where none is pending; answers whether there is one.
     fn refill<S: Source>(&mut self, source: &mut S) -> Result<bool, ReadStop>
         requires none_pending { self.old.pending ≡ [] }
-        ensures read { (more : List ℕ) × Reads (S.left source.old) (S.left source.new) more × MatchResult result
+        ensures read { (more : List ℕ) × Reads (S.left source.old) (S.left source.new) more
+            × MatchResult result
             (IsFilled (S.left source.new) self.old self.new more)
             (IsCutOff self.old more) }
-        ensures fault { result ≡ Err SourceFailed → Rose (S.faults source.old) (S.faults source.new) }
-        ensures other_counts_none { result ≢ Err SourceFailed → S.faults source.new ≡ S.faults source.old }
-        ensures count_never_falls { S.faults source.old ≤ S.faults source.new }
+        ensures faults { KeepsCount (is_fault result) (S.faults source.old) (S.faults source.new) }
         ensures limits { self.new.limits ≡ self.old.limits }
     {
         if self.bytes_left == 0 {
@@ -184,12 +180,15 @@ impl LineReader {
         requires read { (bytes : List ℕ) × HasRead self.old bytes }
         requires some { self.old.pending ≢ [] }
         requires line { self.old.lines_left ≢ 0 }
-        ensures read { (bytes : List ℕ) → HasRead self.old bytes → (part : List ℕ) × (self.old.pending ≡ part ++ self.new.pending)
-            × HasRead self.new (bytes ++ part) × MatchBool result (EndsLine self.new.cutter bytes part) (Continues bytes part) }
+        ensures read { (bytes : List ℕ) → HasRead self.old bytes
+            → (part : List ℕ) × (self.old.pending ≡ part ++ self.new.pending)
+            × HasRead self.new (bytes ++ part)
+            × MatchBool result (EndsLine self.new.cutter bytes part) (Continues bytes part) }
         ensures work { length self.new.pending < length self.old.pending }
         ensures limits { self.new.limits ≡ self.old.limits }
         ensures bytes_left { self.new.bytes_left ≡ self.old.bytes_left }
-        ensures lines_left { MatchBool result (self.new.lines_left + 1 ≡ self.old.lines_left) (self.new.lines_left ≡ self.old.lines_left) }
+        ensures lines_left { MatchBool result (self.new.lines_left + 1 ≡ self.old.lines_left)
+            (self.new.lines_left ≡ self.old.lines_left) }
     {
         let cut = self.cutter.take(self.piece.bytes());
         self.piece.use_up(cut.used);
@@ -202,13 +201,13 @@ impl LineReader {
 
 /// Whether a source has no more bytes after as many as a text may have.
 fn ends<S: Source>(source: &mut S) -> Result<bool, ReadStop>
-    ensures end { IfOk result (λ more. (more ≡ false) × IfSome (S.left source.new) (λ bytes. bytes ≡ [])) }
+    ensures end { IfOk result (λ more. (more ≡ false)
+        × IfSome (S.left source.new) (λ bytes. bytes ≡ [])) }
     ensures same { IfOk result (λ _. S.left source.new ≡ S.left source.old) }
-    ensures too_long { result ≡ Err TooLong → (byte : ℕ) × Reads (S.left source.old) (S.left source.new) (byte ∷ []) }
+    ensures too_long { result ≡ Err TooLong
+        → (byte : ℕ) × Reads (S.left source.old) (S.left source.new) (byte ∷ []) }
     ensures failed_stays { result ≡ Err SourceFailed → S.left source.new ≡ S.left source.old }
-    ensures fault { result ≡ Err SourceFailed → Rose (S.faults source.old) (S.faults source.new) }
-    ensures other_counts_none { result ≢ Err SourceFailed → S.faults source.new ≡ S.faults source.old }
-    ensures count_never_falls { S.faults source.old ≤ S.faults source.new }
+    ensures faults { KeepsCount (is_fault result) (S.faults source.old) (S.faults source.new) }
 {
     let mut byte = [0];
     match source.read(&mut byte) {

@@ -1,17 +1,15 @@
-//! What stops the taking of a feed's lines.
+//! What stops the reading of a feed.
 ghost use Rattle.std.specs.Prelude.{◌≡◌};
 ghost use Rattle.line_reader.specs.FeedRuns.{is_no_memory, is_source_failed, is_too_long, ran_of};
 
 use crate::ReadStop;
 use ride_ports::Ran;
 
-/// What stops the taking of a feed's lines before its end.
+/// What stops the reading of a feed before its end.
 #[derive(Clone, Copy, PartialEq, Eq)]
 pub enum Stop {
     /// Memory was wanting.
     NoMemory,
-    /// The sink of what the lines give failed.
-    SinkFailed,
     /// The feed gives no more lines.
     OfFeed(ReadStop),
 }
@@ -29,21 +27,21 @@ pub fn ran_of(stop: Option<Stop>, sink_failed: bool) -> Ran
 }
 
 /// Whether a feed was stopped for want of memory.
-fn is_no_memory(stop: Option<Stop>) -> bool
+pub fn is_no_memory(stop: Option<Stop>) -> bool
     ensures { result ≡ is_no_memory stop }
 {
     matches!(stop, Some(Stop::NoMemory))
 }
 
 /// Whether a feed was stopped by its source.
-fn is_source_failed(stop: Option<Stop>) -> bool
+pub fn is_source_failed(stop: Option<Stop>) -> bool
     ensures { result ≡ is_source_failed stop }
 {
     matches!(stop, Some(Stop::OfFeed(ReadStop::SourceFailed)))
 }
 
 /// Whether a feed was stopped by its length.
-fn is_too_long(stop: Option<Stop>) -> bool
+pub fn is_too_long(stop: Option<Stop>) -> bool
     ensures { result ≡ is_too_long stop }
 {
     matches!(stop, Some(Stop::OfFeed(ReadStop::TooLong)))

@@ -1,5 +1,7 @@
 -- What a reader of lines has read.
-use Rattle.std.specs.Prelude.{◌≡◌, ◌≢◌, ℕ, nat_lt, if◌then◌else◌, List, [], ◌++◌, length, take}
+use Rattle.std.specs.Prelude.{◌≡◌, ◌≢◌, ℕ, nat_lt, if◌then◌else◌, Bool, true, false, List, [], ◌++◌, length, take, Result, Err}
+use Rattle.line_text.specs.declared.reading.ReadError.{ReadError}
+use Rattle.line_text.specs.declared.reading.ReadError.TheVariants.{ReadFault}
 use Rattle.line_text.specs.Cutter.{CutterState, HasTaken}
 use Rattle.line_text.specs.Lines.{ended_lines, lines_of}
 
@@ -25,3 +27,8 @@ pub record HasRead {L : Type 0} (takes : L → List (List ℕ) → L → Type 0)
 -- the reader refused a line that the bytes end, after those before it
 abbrev pub IsRefused : {L E : Type 0} → (L → List (List ℕ) → E → Type 0) → L → List ℕ → E → Type 0
 IsRefused refuses first bytes e = (lines : List (List ℕ)) × refuses first lines e × AreFirst lines (ended_lines bytes)
+
+-- whether the source failed
+abbrev pub is_read_fault : {T E : Type 0} → Result T (ReadError E) → Bool
+is_read_fault (Err ReadFault) = true
+is_read_fault _ = false

@@ -168,7 +168,8 @@ fn first_line(piece: &[u8]) -> (&[u8], bool)
 fn put_at(buffer: &mut [u8], place: usize, bytes: &[u8])
     requires { place + length bytes.now ≤ length buffer.old }
     ensures same_length { length buffer.new ≡ length buffer.old }
-    ensures written { take (place + length bytes.now) buffer.new ≡ take place buffer.old ++ bytes.now }
+    ensures written { take (place + length bytes.now) buffer.new
+        ≡ take place buffer.old ++ bytes.now }
 {
     buffer[place..place + bytes.len()].copy_from_slice(bytes);
 }

@@ -49,7 +49,8 @@ impl<'a> Fields<'a> {
     pub fn numbers<const N: usize>(&mut self) -> Option<ArrayVec<u64, N>>
         ensures numbers { IfSome result (λ numbers. numbers_of self.old ≡ Some numbers.items) }
         ensures all_taken { OnSome result (self.new ≡ []) }
-        ensures none { IfNone result (IfSome (numbers_of self.old) (λ numbers. N < length numbers)) }
+        ensures none { IfNone result (IfSome (numbers_of self.old)
+            (λ numbers. N < length numbers)) }
     {
         let mut numbers = ArrayVec::new();
         while let Some(field) = self.next_field() {

@@ -1,11 +1,11 @@
 //! The reading of a source line by line.
 ghost use Rattle.std.specs.Prelude.{◌≡◌, ◌≢◌, ◌≤◌, ◌<◌, ◌+◌, ◌^◌, ◌++◌, ◌∷◌, ℕ, List, [], length, take, Err, IfOk, IfSome, OnOk, MatchResult};
 ghost use Rattle.ride_ports.specs.Bytes.{Reads};
-ghost use Rattle.ride_ports.specs.Count.{Rose};
+ghost use Rattle.ride_ports.specs.Count.{KeepsCount};
 ghost use Rattle.line_text.specs.declared.reading.ReadError.TheVariants.{NoMemory, Refused, TooLong, ReadFault};
 ghost use Rattle.line_text.specs.Fields.{is_over_long};
 ghost use Rattle.line_text.specs.Lines.{ended_lines, lines_of};
-ghost use Rattle.line_text.specs.Reading.{AreFirst, GoesOn, HasRead, IsRefused, counted_lines};
+ghost use Rattle.line_text.specs.Reading.{AreFirst, GoesOn, HasRead, IsRefused, counted_lines, is_read_fault};
 
 use crate::{LineCutter, MOST_LINE};
 use ride_ports::Source;
@@ -74,12 +74,10 @@ pub fn read_lines<S: Source, L: LineReader>(
         × IfSome (S.left src.old) (GoesOn bytes) }
 
     // A fault of reading is the source's, and no line was refused that was read whole.
-    ensures read_fault { result ≡ Err ReadFault → Rose (S.faults src.old) (S.faults src.new) }
+    ensures faults { KeepsCount (is_read_fault result) (S.faults src.old) (S.faults src.new) }
     ensures before_fault { result ≡ Err ReadFault → (bytes : List ℕ)
         × Reads (S.left src.old) (S.left src.new) bytes
         × (length bytes ≤ most) × L.takes reader.old (ended_lines bytes) reader.new }
-    ensures other_counts_none { result ≢ Err ReadFault → S.faults src.new ≡ S.faults src.old }
-    ensures count_never_falls { S.faults src.old ≤ S.faults src.new }
 
     // Memory is taken before the first read.
     ensures no_memory { result ≡ Err NoMemory → (src.new ≡ src.old) × (reader.new ≡ reader.old) }
@@ -112,12 +110,10 @@ fn read_pieces<S: Source, L: LineReader>(
     ensures too_long { result ≡ Err TooLong → (bytes : List ℕ) × (length bytes ≡ most)
         × L.takes reader.old (ended_lines bytes) reader.new
         × IfSome (S.left src.old) (GoesOn bytes) }
-    ensures read_fault { result ≡ Err ReadFault → Rose (S.faults src.old) (S.faults src.new) }
+    ensures faults { KeepsCount (is_read_fault result) (S.faults src.old) (S.faults src.new) }
     ensures before_fault { result ≡ Err ReadFault → (bytes : List ℕ)
         × Reads (S.left src.old) (S.left src.new) bytes
         × (length bytes ≤ most) × L.takes reader.old (ended_lines bytes) reader.new }
-    ensures other_counts_none { result ≢ Err ReadFault → S.faults src.new ≡ S.faults src.old }
-    ensures count_never_falls { S.faults src.old ≤ S.faults src.new }
     ensures takes_no_memory { result ≢ Err NoMemory }
 {
     let mut buffer = [0; PIECE];

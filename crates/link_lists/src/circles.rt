@@ -15,7 +15,8 @@ pub(crate) struct Link {
 #[tactic(auto, unfolding(crate::specs::Circles::next_of))]
 pub(crate) fn alone(alloc: Global, places: u32) -> Result<Vec<Link>, AllocError>
     ensures places { IfOk result (λ table. length table.items ≡ places) }
-    ensures alone { IfOk result (λ table. (place : ℕ) → place < places → IsAlone table.items place) }
+    ensures alone { IfOk result (λ table. (place : ℕ) → place < places
+        → IsAlone table.items place) }
 {
     let mut table = Vec::with_capacity(alloc, places as usize)?;
     for place in 0..places {

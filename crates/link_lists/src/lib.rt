@@ -59,7 +59,8 @@ impl Links {
         requires node_in { node < self.old.nodes }
         requires free { ¬ (IsHeld self.old node) }
         ensures added { list_at self.new list ≡ list_at self.old list ++ node ∷ [] }
-        ensures others { (other : ℕ) → other ≢ list → list_at self.new other ≡ list_at self.old other }
+        ensures others { (other : ℕ) → other ≢ list
+            → list_at self.new other ≡ list_at self.old other }
         ensures size { IsSameSize self.old self.new }
         ensures family { IsFamily self.new }
     {
@@ -74,7 +75,8 @@ impl Links {
         requires node_in { node < self.old.nodes }
         requires free { ¬ (IsHeld self.old node) }
         ensures added { list_at self.new list ≡ node ∷ list_at self.old list }
-        ensures others { (other : ℕ) → other ≢ list → list_at self.new other ≡ list_at self.old other }
+        ensures others { (other : ℕ) → other ≢ list
+            → list_at self.new other ≡ list_at self.old other }
         ensures size { IsSameSize self.old self.new }
         ensures family { IsFamily self.new }
     {
@@ -87,7 +89,8 @@ impl Links {
         requires place_in { IsHeld self.old place }
         requires node_in { node < self.old.nodes }
         requires free { ¬ (IsHeld self.old node) }
-        ensures added { (list : ℕ) → list_at self.new list ≡ with_behind place node (list_at self.old list) }
+        ensures added { (list : ℕ) → list_at self.new list
+            ≡ with_behind place node (list_at self.old list) }
         ensures size { IsSameSize self.old self.new }
         ensures family { IsFamily self.new }
     {
@@ -97,7 +100,8 @@ impl Links {
     /// Takes a node out of its list.
     pub fn unlink(&mut self, node: u32)
         requires { IsHeld self.old node }
-        ensures taken_out { (list : ℕ) → list_at self.new list ≡ without node (list_at self.old list) }
+        ensures taken_out { (list : ℕ)
+            → list_at self.new list ≡ without node (list_at self.old list) }
         ensures size { IsSameSize self.old self.new }
         ensures family { IsFamily self.new }
     {

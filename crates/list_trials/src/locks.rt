@@ -40,7 +40,8 @@ impl<'a> Chronicle for Numbers<'a> {
 trait Write: Chronicle {
     fn write(&mut self, by: u32, number: u32) -> Result<(), AllocError>
         ensures root { Self.root self.new ≡ Self.root self.old }
-        ensures wrote { OnOk result (GrowsByOne Self.maker by (Self.history self.old) (Self.history self.new)) }
+        ensures wrote { OnOk result (GrowsByOne Self.maker by
+            (Self.history self.old) (Self.history self.new)) }
         ensures countable { OnOk result (length (Self.history self.new) < 2 ^ 64) };
 
     fn count(&self) -> usize;
@@ -100,18 +101,22 @@ fn write_both<T: Write + Send, R: Threads + Wait + Abort + Sync>(
 ) -> (Pass<T>, Pass<T>)
     requires one { MayEnter lock.now one }
     requires two { MayEnter lock.now two }
-    ensures one { MayEnter lock.now result.0 × ((knowledge result.0).number ≡ (knowledge one).number) }
-    ensures two { MayEnter lock.now result.1 × ((knowledge result.1).number ≡ (knowledge two).number) }
+    ensures one { MayEnter lock.now result.0
+        × ((knowledge result.0).number ≡ (knowledge one).number) }
+    ensures two { MayEnter lock.now result.1
+        × ((knowledge result.1).number ≡ (knowledge two).number) }
 {
     join(
         rt,
         move || -> Pass<T>
             requires { MayEnter lock.now one }
-            ensures { MayEnter lock.entry.now result × ((knowledge result).number ≡ (knowledge one).number) }
+            ensures { MayEnter lock.entry.now result
+                × ((knowledge result).number ≡ (knowledge one).number) }
         { write_all(rt, lock, one, count) },
         move || -> Pass<T>
             requires { MayEnter lock.now two }
-            ensures { MayEnter lock.entry.now result × ((knowledge result).number ≡ (knowledge two).number) }
+            ensures { MayEnter lock.entry.now result
+                × ((knowledge result).number ≡ (knowledge two).number) }
         { write_all(rt, lock, two, count) },
     )
 }
@@ -124,7 +129,8 @@ fn share_by_two<T: Write + Send, R: Threads + Wait + Abort + Sync>(
     count: u32,
 ) -> T
     requires pass { MayEnter lock first }
-    requires first { ((knowledge first).number ≡ 0) × (3 ≤ (knowledge first).room) × ((knowledge first).out ≡ 0) }
+    requires first { ((knowledge first).number ≡ 0) × (3 ≤ (knowledge first).room)
+        × ((knowledge first).out ≡ 0) }
     ensures root { HasRoot first (T.root result) }
 {
     let one = lock.split(&mut first);
@@ -177,7 +183,8 @@ fn join_in_turn<T: Write + Send, R: Wait + Abort>(
     mut first: Pass<T>,
 ) -> ([u32; 3], T)
     requires pass { MayEnter lock first }
-    requires first { ((knowledge first).number ≡ 0) × (4 ≤ (knowledge first).room) × ((knowledge first).out ≡ 0) }
+    requires first { ((knowledge first).number ≡ 0) × (4 ≤ (knowledge first).room)
+        × ((knowledge first).out ≡ 0) }
 {
     let one = lock.split(&mut first);
     let one = write_all(rt, &lock, one, 2);

@@ -186,7 +186,7 @@ few-of feeds desks start entries begins legal =
     let s : State = replay start entries in
     let c = consistent feeds desks start entries begins legal in
     record {
-      batch = omega (arith, ap (λ k. k.batch) c.settings_stay, begins.settings_fit.batch_limit);
+      batch = omega (arith, ap (λ k. k.batch) c.settings_stay, begins.may_start.settings_fit.batch_limit);
       vehicles = omega (
         arith,
         ap length c.fleet_stays,

@@ -1,10 +1,8 @@
 //! Audits.
-ghost use Rattle.std.specs.Prelude.{◌≡◌, ◌≢◌, ℕ, ◌<◌, ◌≤◌, ◌++◌, ◌∷◌, [], nat_lt, length, take, All, List, Option, Result, Ok, Err, IfOk, IfNone, IfSome, MatchOption, MatchResult};
-ghost use Rattle.ride_model.specs.declared.vehicle.Vehicle.{Vehicle};
-ghost use Rattle.ride_model.specs.Settings.{IsSettings};
+ghost use Rattle.std.specs.Prelude.{◌≡◌, ◌≢◌, ℕ, ◌<◌, ◌≤◌, ◌++◌, ◌∷◌, [], nat_lt, length, take, List, Option, Result, Ok, Err, IfOk, IfNone, IfSome, MatchOption, MatchResult};
+ghost use Rattle.ride_model.specs.Fleet.{MayStart};
 ghost use Rattle.ride_model.specs.State.{start_state};
 ghost use Rattle.ride_model.specs.Text.{IsOneOrTwo, head_line};
-ghost use Rattle.ride_model.specs.Vehicle.{IsLawful};
 ghost use Rattle.ride_ports.specs.Count.{Rose};
 ghost use Rattle.log_audit.specs.declared.verdict.AuditFault.{AuditFault};
 ghost use Rattle.log_audit.specs.declared.verdict.AuditFault.TheVariants.{NoMemory, ReadFault};
@@ -13,7 +11,7 @@ ghost use Rattle.log_audit.specs.declared.verdict.Verdict.{Verdict};
 ghost use Rattle.log_audit.specs.declared.verdict.Verdict.TheVariants.{Yes};
 ghost use Rattle.log_audit.specs.Audit.{IsAnswer};
 ghost use Rattle.log_audit.specs.Audited.{FailsAfter, HasReadHead, HasReadNoHead, IsWrongLineAfter, text_so_far};
-ghost use Rattle.log_audit.specs.Auditing.{GoesOn, IsAuditing};
+ghost use Rattle.log_audit.specs.Auditing.{IsAuditing};
 ghost use Rattle.log_audit.specs.Limits.{most_line, most_lines};
 ghost use Rattle.line_reader.specs.Reader.{HasNoLf};
 ghost use Rattle.log_audit.specs.LogLines.{HasRead, IsStop, TakesSome};
@@ -21,11 +19,10 @@ ghost use Rattle.log_audit.specs.LogLines.{HasRead, IsStop, TakesSome};
 use crate::auditor::Auditor;
 use crate::lines::{log_reader, next_line};
 use crate::{AuditFault, Verdict, Why};
-use adaptive_roads::SharedHierarchy;
+use adaptive_roads::Roads;
 use line_reader::{LineReader, NextLine};
 use ride_model::{Fleet, NoMemory, Settings};
 use ride_ports::Source;
-use road_times::Roads;
 use std::alloc::Global;
 use std::thread::Threads;
 use trip_log::{Head, read_entry, read_head};
@@ -40,21 +37,23 @@ pub fn audit<R: Threads + Sync, S: Source>(
     fleet: Fleet,
     log: &mut S,
 ) -> Result<Verdict, AuditFault>
-    requires settings { IsSettings settings }
-    requires lawful { All (IsLawful roads.now) fleet }
-    requires idle { All (λ (v : Vehicle). v.stops.items ≡ []) fleet }
-    requires first_versions { All (λ (v : Vehicle). v.version ≡ 0) fleet }
+    requires start { MayStart roads.now settings fleet }
 
     // What the log's bytes are decides, and they are nothing else.
-    ensures answer { result ≢ Err NoMemory → result ≢ Err ReadFault → IfSome (S.left log.old) (λ bytes.
+    ensures answer { result ≢ Err NoMemory → result ≢ Err ReadFault
+        → IfSome (S.left log.old) (λ bytes.
         IsAnswer (start_state roads.now settings fleet) bytes result) }
-    ensures no_other { result ≢ Err NoMemory → result ≢ Err ReadFault → IfSome (S.left log.old) (λ bytes.
-        (other : Result Verdict AuditFault) → IsAnswer (start_state roads.now settings fleet) bytes other → other ≡ result) }
-    ensures to_end { (totals : Totals) → result ≡ Ok (Yes totals) → IfSome (S.left log.new) (λ bytes. bytes ≡ []) }
+    ensures no_other { result ≢ Err NoMemory → result ≢ Err ReadFault
+        → IfSome (S.left log.old) (λ bytes.
+        (other : Result Verdict AuditFault)
+        → IsAnswer (start_state roads.now settings fleet) bytes other → other ≡ result) }
+    ensures to_end { (totals : Totals) → result ≡ Ok (Yes totals)
+        → IfSome (S.left log.new) (λ bytes. bytes ≡ []) }
 
     // A fault of reading is the source's, and no line was wrong that was read whole.
     ensures read_fault { result ≡ Err ReadFault → Rose (S.faults log.old) (S.faults log.new) }
-    ensures before_fault { result ≡ Err ReadFault → FailsAfter (start_state roads.now settings fleet) (S.left log.old) (S.left log.new) }
+    ensures before_fault { result ≡ Err ReadFault
+        → FailsAfter (start_state roads.now settings fleet) (S.left log.old) (S.left log.new) }
     ensures taken { TakesSome (S.left log.old) (S.left log.new) }
     ensures other_counts_none { result ≢ Err ReadFault → S.faults log.new ≡ S.faults log.old }
     ensures count_never_falls { S.faults log.old ≤ S.faults log.new }
@@ -69,8 +68,7 @@ pub fn audit<R: Threads + Sync, S: Source>(
             why: Why::Spelling,
         });
     };
-    let shared = SharedHierarchy::new(roads);
-    let mut auditor = Auditor::new(rt, alloc, roads, &shared, settings, fleet, head)?;
+    let mut auditor = Auditor::new(rt, alloc, roads, settings, fleet, head)?;
     further_lines(&mut auditor, &mut lines, rt, alloc, log)
 }
 
@@ -89,9 +87,12 @@ fn first_line<S: Source>(
     version: u8,
 ) -> Result<Option<Head>, AuditFault>
     requires version { IsOneOrTwo version }
-    requires nothing_read { (before : Option (List ℕ)) × HasRead before (S.left log.old) lines.old [] }
-    ensures head { (before : Option (List ℕ)) → HasRead before (S.left log.old) lines.old [] → MatchResult result
-        (λ head. MatchOption head (HasReadNoHead before version) (HasReadHead before (S.left log.new) lines.new version))
+    requires nothing_read { (before : Option (List ℕ))
+        × HasRead before (S.left log.old) lines.old [] }
+    ensures head { (before : Option (List ℕ)) → HasRead before (S.left log.old) lines.old []
+        → MatchResult result
+        (λ head. MatchOption head (HasReadNoHead before version)
+        (HasReadHead before (S.left log.new) lines.new version))
         (IsStop before (S.left log.new) []) }
     ensures taken { TakesSome (S.left log.old) (S.left log.new) }
     ensures fault { result ≡ Err ReadFault → Rose (S.faults log.old) (S.faults log.new) }
@@ -112,9 +113,11 @@ fn first_line<S: Source>(
 
 // The head of this version that a line spells, if any.
 fn head_of(line: &[u8], version: u8) -> Option<Head>
-    ensures head { IfSome result (λ head. (head.log ≡ version) × IsOneOrTwo head.feeds × IsOneOrTwo head.desks
+    ensures head { IfSome result (λ head. (head.log ≡ version) × IsOneOrTwo head.feeds
+        × IsOneOrTwo head.desks
         × (head_line version head.feeds head.desks ≡ line.now ++ 10 ∷ [])) }
-    ensures none { IfNone result ((feeds desks : ℕ) → IsOneOrTwo version → IsOneOrTwo feeds → IsOneOrTwo desks
+    ensures none { IfNone result ((feeds desks : ℕ) → IsOneOrTwo version → IsOneOrTwo feeds
+        → IsOneOrTwo desks
         → head_line version feeds desks ≢ line.now ++ 10 ∷ []) }
 {
     let head = read_head(line)?;
@@ -127,18 +130,23 @@ fn head_of(line: &[u8], version: u8) -> Option<Head>
 
 // Judges the lines after the head.
 fn further_lines<R: Threads + Sync, S: Source>(
-    auditor: &mut Auditor<'_, '_>,
+    auditor: &mut Auditor<'_>,
     lines: &mut LineReader,
     rt: &R,
     alloc: Global,
     log: &mut S,
 ) -> Result<Verdict, AuditFault>
     requires auditing { IsAuditing auditor.old }
-    requires read { (before : Option (List ℕ)) × HasRead before (S.left log.old) lines.old (text_so_far auditor.old.board) }
-    ensures answer { (before : Option (List ℕ)) → HasRead before (S.left log.old) lines.old (text_so_far auditor.old.board)
-        → result ≢ Err NoMemory → result ≢ Err ReadFault → IfSome before (λ bytes. IsAnswer auditor.old.board.start bytes result) }
-    ensures to_end { (totals : Totals) → result ≡ Ok (Yes totals) → IfSome (S.left log.new) (λ bytes. bytes ≡ []) }
-    ensures before_fault { (before : Option (List ℕ)) → HasRead before (S.left log.old) lines.old (text_so_far auditor.old.board)
+    requires read { (before : Option (List ℕ))
+        × HasRead before (S.left log.old) lines.old (text_so_far auditor.old.board) }
+    ensures answer { (before : Option (List ℕ))
+        → HasRead before (S.left log.old) lines.old (text_so_far auditor.old.board)
+        → result ≢ Err NoMemory → result ≢ Err ReadFault
+        → IfSome before (λ bytes. IsAnswer auditor.old.board.start bytes result) }
+    ensures to_end { (totals : Totals) → result ≡ Ok (Yes totals)
+        → IfSome (S.left log.new) (λ bytes. bytes ≡ []) }
+    ensures before_fault { (before : Option (List ℕ))
+        → HasRead before (S.left log.old) lines.old (text_so_far auditor.old.board)
         → result ≡ Err ReadFault → FailsAfter auditor.old.board.start before (S.left log.new) }
     ensures taken { TakesSome (S.left log.old) (S.left log.new) }
     ensures fault { result ≡ Err ReadFault → Rose (S.faults log.old) (S.faults log.new) }
@@ -165,7 +173,7 @@ fn further_lines<R: Threads + Sync, S: Source>(
 
 // Judges the line that was read last.
 fn judge_line<R: Threads + Sync>(
-    auditor: &mut Auditor<'_, '_>,
+    auditor: &mut Auditor<'_>,
     rt: &R,
     alloc: Global,
     lines: &LineReader,
@@ -173,7 +181,8 @@ fn judge_line<R: Threads + Sync>(
     requires auditing { IsAuditing auditor.old }
     requires few { length auditor.old.board.history < most_lines }
     ensures { (line : List ℕ) → HasNoLf line → lines.now.cutter.shown ≡ take most_line line
-        → lines.now.cutter.over ≡ nat_lt most_line (length line) → IfOk result (λ why. MatchOption why
+        → lines.now.cutter.over ≡ nat_lt most_line (length line)
+        → IfOk result (λ why. MatchOption why
         (IsAuditing auditor.new × (auditor.new.board.start ≡ auditor.old.board.start)
         × (text_so_far auditor.new.board ≡ text_so_far auditor.old.board ++ line ++ 10 ∷ []))
         (λ word. IsWrongLineAfter auditor.old.board line word)) }

@@ -1,37 +1,33 @@
 //! What an audit keeps, and how it judges an entry.
-ghost use Rattle.std.specs.Prelude.{◌≡◌, ◌≢◌, ◌<◌, ◌++◌, ◌∷◌, [], None, Some, All, List, length, IfOk};
+ghost use Rattle.std.specs.Prelude.{◌≡◌, ◌≢◌, ◌<◌, ◌++◌, ◌∷◌, [], None, Some, List, length, IfOk};
+ghost use Rattle.ride_model.specs.Fleet.{MayStart};
 ghost use Rattle.ride_model.specs.declared.entry.Entry.{Entry};
-ghost use Rattle.ride_model.specs.declared.vehicle.Vehicle.{Vehicle};
-ghost use Rattle.ride_model.specs.Settings.{IsSettings};
 ghost use Rattle.ride_model.specs.State.{start_state};
 ghost use Rattle.ride_model.specs.Text.{IsOneOrTwo, entry_line};
-ghost use Rattle.ride_model.specs.Vehicle.{IsLawful};
 ghost use Rattle.log_audit.specs.Auditing.{IsAuditing, IsJudged, IsLineOf};
 ghost use Rattle.log_audit.specs.Limits.{most_lines};
 
 use crate::Why;
 use crate::commits::Commit;
 use crate::open_batches::OpenBatches;
-use crate::pricing::Pricing;
-use adaptive_roads::SharedHierarchy;
+use adaptive_roads::Roads;
 use board_core::Board;
-use pricing_workers::workers_at_hand;
+use pricing_workers::{Pricer, workers_at_hand};
 use ride_model::{Actor, Entry, Event, Fleet, NoMemory, Settings};
-use road_times::Roads;
 use std::alloc::Global;
 use std::thread::Threads;
 use trip_log::{Head, spells};
 
 /// The history so far, replayed on a board, with the batches that are open and what prices them.
-pub(crate) struct Auditor<'r, 'q> {
+pub(crate) struct Auditor<'r> {
     pub(crate) board: Board<'r>,
     pub(crate) batches: OpenBatches,
-    pub(crate) pricing: Pricing<'r, 'q>,
+    pub(crate) pricing: Pricer<'r>,
     /// The version of the log.
     pub(crate) log: u8,
 }
 
-impl Drop for Auditor<'_, '_> {
+impl Drop for Auditor<'_> {
     fn drop(self) {
         let Auditor {
             board,
@@ -45,31 +41,27 @@ impl Drop for Auditor<'_, '_> {
     }
 }
 
-impl<'r, 'q> Auditor<'r, 'q> {
+impl<'r> Auditor<'r> {
     /// An audit of which no entry is judged.
     pub(crate) fn new(
         rt: &impl Threads,
         alloc: Global,
         roads: &'r Roads,
-        shared: &'r SharedHierarchy<'q>,
         settings: Settings,
         fleet: Fleet,
         head: Head,
-    ) -> Result<Auditor<'r, 'q>, NoMemory>
-        requires shared { shared.now ≡ roads.now }
-        requires settings { IsSettings settings }
+    ) -> Result<Auditor<'r>, NoMemory>
+        requires start { MayStart roads.now settings fleet }
         requires feeds { IsOneOrTwo head.feeds }
         requires desks { IsOneOrTwo head.desks }
-        requires lawful { All (IsLawful roads.now) fleet }
-        requires idle { All (λ (v : Vehicle). v.stops.items ≡ []) fleet }
-        requires first_versions { All (λ (v : Vehicle). v.version ≡ 0) fleet }
-        ensures start { IfOk result (λ auditor. auditor.board.start ≡ start_state roads.now settings fleet) }
+        ensures start { IfOk result (λ auditor. auditor.board.start
+            ≡ start_state roads.now settings fleet) }
         ensures feeds { IfOk result (λ auditor. auditor.board.feeds ≡ head.feeds) }
         ensures desks { IfOk result (λ auditor. auditor.board.desks ≡ head.desks) }
         ensures history { IfOk result (λ auditor. auditor.board.history ≡ []) }
         ensures auditing { IfOk result IsAuditing }
     {
-        let pricing = Pricing::new(alloc, roads, shared, workers_at_hand(rt))?;
+        let pricing = Pricer::new(alloc, roads, workers_at_hand(rt))?;
         let log = settings.log;
         let board = Board::new(alloc, roads, settings, fleet, head.feeds, head.desks)?;
         Ok(Auditor {
@@ -119,10 +111,7 @@ impl<'r, 'q> Auditor<'r, 'q> {
                     pays,
                 };
                 match actor {
-                    Actor::Desk(desk) => {
-                        self.share_hierarchy();
-                        self.judge_committed(rt, desk, commit, line)
-                    }
+                    Actor::Desk(desk) => self.judge_committed(rt, desk, commit, line),
                     Actor::Feed(_) => Ok(Some(Why::Actor)),
                 }
             }
@@ -136,10 +125,13 @@ impl<'r, 'q> Auditor<'r, 'q> {
     /// None where the line is that of the history's last entry, and else the word that says why not.
     pub(crate) fn unless_told(&self, line: &[u8], why: Why) -> Option<Why>
         requires { self.now.log ≡ self.now.board.start.settings.log }
-        ensures told { (entries : List Entry) (last : Entry) → self.now.board.history ≡ entries ++ last ∷ []
+        ensures told { (entries : List Entry) (last : Entry)
+            → self.now.board.history ≡ entries ++ last ∷ []
             → result ≡ None → entry_line self.now.log last ≡ line.now ++ 10 ∷ [] }
-        ensures not_told { (entries : List Entry) (last : Entry) → self.now.board.history ≡ entries ++ last ∷ []
-            → result ≢ None → (result ≡ Some why) × (entry_line self.now.log last ≢ line.now ++ 10 ∷ []) }
+        ensures not_told { (entries : List Entry) (last : Entry)
+            → self.now.board.history ≡ entries ++ last ∷ []
+            → result ≢ None → (result ≡ Some why)
+            × (entry_line self.now.log last ≢ line.now ++ 10 ∷ []) }
     {
         match self.board.entries().last() {
             Some(entry) if spells(entry, self.log, line) => None,

@@ -3,7 +3,7 @@ ghost use Rattle.std.specs.Prelude.{◌≡◌, ℕ, ◌≤◌, List, All, IfOk, 
 ghost use Rattle.ride_model.specs.declared.command.Actor.TheVariants.{Desk};
 ghost use Rattle.ride_model.specs.declared.entry.Event.TheVariants.{Committed};
 ghost use Rattle.ride_model.specs.declared.entry.Outcome.{Outcome};
-ghost use Rattle.ride_model.specs.Road.{RoadMap};
+ghost use Rattle.ride_model.specs.Road.{IsRoadMap, RoadMap};
 ghost use Rattle.ride_model.specs.Seating.{Certifies, IsBatchOver, IsSeating};
 ghost use Rattle.ride_model.specs.Text.{IsOneOrTwo};
 ghost use Rattle.ride_model.specs.Vehicle.{IsLawful};
@@ -18,7 +18,9 @@ use crate::auditor::Auditor;
 use crate::seating::{Placed, seated};
 use batch_commit::{Answer, Batch, PriceTable, Solved};
 use dual_check::certifies;
+use pricing_workers::{Pricer, Search, price_batch_by};
 use ride_model::{AmountList, NoMemory, Seat, SeatList};
+use ride_ports::OpenGate;
 use std::thread::Threads;
 
 /// What a commit says but for the outcomes.
@@ -31,15 +33,7 @@ pub(crate) struct Commit {
     pub(crate) pays: AmountList,
 }
 
-impl<'r, 'q> Auditor<'r, 'q> {
-    /// Lets the pricer and the board share a hierarchy of the roads.
-    pub(crate) fn share_hierarchy(&mut self)
-        requires { IsAuditing self.old }
-        ensures { self.new ≡ self.old }
-    {
-        self.pricing.meet(&mut self.board);
-    }
-
+impl<'r> Auditor<'r> {
     /// Judges the line of a commit.
     pub(crate) fn judge_committed<R: Threads + Sync>(
         &mut self,
@@ -95,12 +89,14 @@ impl<'r, 'q> Auditor<'r, 'q> {
         requires placed { ArePlaced self.old.pricing batch commit.seats placed.now }
         ensures solved { IfOk result (λ solved. MatchOption solved
             (Certifies self.old.pricing batch commit.seats commit.prices commit.pays → ⊥)
-            (λ solved. (solved.batch ≡ batch) × (solved.answer.seating ≡ commit.seats) × (solved.answer.prices ≡ commit.prices)
-            × (solved.answer.pays ≡ commit.pays) × Certifies self.old.pricing batch commit.seats commit.prices commit.pays
+            (λ solved. (solved.batch ≡ batch) × (solved.answer.seating ≡ commit.seats)
+            × (solved.answer.prices ≡ commit.prices)
+            × (solved.answer.pays ≡ commit.pays)
+            × Certifies self.old.pricing batch commit.seats commit.prices commit.pays
             × IsTableOf self.old.pricing batch solved.table)) }
         ensures kept { self.new ≡ self.old }
     {
-        let table = self.pricing.table(rt, &batch)?;
+        let table = table(rt, &mut self.pricing, &batch)?;
         let Some(table) = with_own_offers(table, &batch, commit.seats.items(), placed) else {
             return Ok(None);
         };
@@ -113,6 +109,24 @@ impl<'r, 'q> Auditor<'r, 'q> {
     }
 }
 
+// The table of a batch, found by whole plans.
+fn table<R: Threads + Sync>(
+    rt: &R,
+    pricing: &mut Pricer<'_>,
+    batch: &Batch,
+) -> Result<PriceTable, NoMemory>
+    requires time { batch.now.time ≤ latest_time }
+    requires over_map { IsBatchOver pricing.old batch.now }
+    requires lawful { All (IsLawful pricing.old) batch.now.vehicles }
+    ensures table { IfOk result (λ table. IsTableOf pricing.old batch.now table) }
+    ensures fits { IsRoadMap pricing.old }
+    ensures kept { pricing.new ≡ pricing.old }
+{
+    // This call tells that the map is within its limits.
+    let _nodes = pricing.roads().nodes();
+    price_batch_by(rt, Search::ByWholePlans, batch, pricing, &OpenGate)
+}
+
 // A batch's table with the seats' own offers in their cells, where each costs no more than its pair's price.
 fn with_own_offers(
     table: PriceTable,
@@ -120,12 +134,15 @@ fn with_own_offers(
     seats: &[Seat],
     placed: &[Placed],
 ) -> Option<PriceTable>
-    requires table { (roads : RoadMap) × IsTableOf roads batch.now table × IsSeating roads batch.now seats.now
+    requires table { (roads : RoadMap) × IsTableOf roads batch.now table
+        × IsSeating roads batch.now seats.now
         × ArePlaced roads batch.now seats.now placed.now }
-    ensures table { (roads : RoadMap) → IsTableOf roads batch.now table → IsSeating roads batch.now seats.now
+    ensures table { (roads : RoadMap) → IsTableOf roads batch.now table
+        → IsSeating roads batch.now seats.now
         → ArePlaced roads batch.now seats.now placed.now → MatchOption result
         ((prices pays : List (ℕ × ℕ)) → Certifies roads batch.now seats.now prices pays → ⊥)
-        (λ own. IsTableOf roads batch.now own × All (λ seat. (r : ℕ) × (c : ℕ) × IsSeatAt batch.now own seat r c) seats.now) }
+        (λ own. IsTableOf roads batch.now own
+        × All (λ seat. (r : ℕ) × (c : ℕ) × IsSeatAt batch.now own seat r c) seats.now) }
 {
     // These calls tell that the requests differ, and the vehicles.
     let _requests = batch.requests();

@@ -1,5 +1,5 @@
 //! What desks do but for commits.
-ghost use Rattle.std.specs.Prelude.{◌≡◌, ℕ, ◌≤◌, ◌↔◌, List, None, IfOk, IsTrue, IsFalse};
+ghost use Rattle.std.specs.Prelude.{◌≡◌, ℕ, ◌↔◌, List, None, IfOk, IsTrue, IsFalse};
 ghost use Rattle.ride_model.specs.declared.command.Actor.TheVariants.{Desk};
 ghost use Rattle.ride_model.specs.declared.entry.Event.TheVariants.{Opened, Abandoned};
 ghost use Rattle.ride_model.specs.Batch.{may_open};
@@ -16,14 +16,18 @@ use batch_commit::Batch;
 use board_core::Opening;
 use ride_model::{Actor, Ending, NoMemory};
 
-impl<'r, 'q> Auditor<'r, 'q> {
+impl<'r> Auditor<'r> {
     /// Judges the line of an opening.
     pub(crate) fn judge_opened(&mut self, desk: u8, line: &[u8]) -> Result<Option<Why>, NoMemory>
         requires auditing { IsAuditing self.old }
         requires desk { IsOneOrTwo desk }
         ensures { (batch time : ℕ) (requests : List ℕ) (plans : List (ℕ × ℕ))
-            → IsLineOf self.old.log (record { actor = Desk desk; event = Opened batch time requests plans }) line.now
-            → IfOk result (IsJudged self.old self.new (record { actor = Desk desk; event = Opened batch time requests plans })) }
+            → IsLineOf self.old.log (record {
+              actor = Desk desk;
+              event = Opened batch time requests plans;
+            }) line.now
+            → IfOk result (IsJudged self.old self.new
+            (record { actor = Desk desk; event = Opened batch time requests plans })) }
     {
         if !self.may_open(desk) {
             return Ok(Some(Why::Actor));
@@ -41,7 +45,8 @@ impl<'r, 'q> Auditor<'r, 'q> {
     pub(crate) fn judge_abandoned(&mut self, desk: u8, number: u64) -> Option<Why>
         requires auditing { IsAuditing self.old }
         requires desk { IsOneOrTwo desk }
-        ensures { IsJudged self.old self.new (record { actor = Desk desk; event = Abandoned number }) result }
+        ensures { IsJudged self.old self.new
+            (record { actor = Desk desk; event = Abandoned number }) result }
     {
         // This call tells that the history is legal.
         let _history = self.board.entries();
@@ -57,7 +62,10 @@ impl<'r, 'q> Auditor<'r, 'q> {
         requires auditing { IsAuditing self.old }
         requires desk { IsOneOrTwo desk }
         ensures batch { result ≡ open_batch_numbered (state_of self.old.board) desk number }
-        ensures left { self.new ≡ record self.old { batches = with_batch desk None self.old.batches } }
+        ensures left { self.new ≡ record self.old {
+          batches = with_batch
+              desk None self.old.batches;
+        } }
     {
         // This call tells that the history is legal.
         let _history = self.board.entries();
@@ -71,7 +79,8 @@ impl<'r, 'q> Auditor<'r, 'q> {
 
     // Whether a desk is one of the log's, has not ended, and may end so.
     pub(crate) fn may_end(&self, desk: u8, ending: Ending) -> bool
-        ensures { IsTrue result ↔ (IsNumbered self.now.board.desks desk × IsFalse (has_ended (state_of self.now.board) (Desk desk))
+        ensures { IsTrue result ↔ (IsNumbered self.now.board.desks desk
+            × IsFalse (has_ended (state_of self.now.board) (Desk desk))
             × MayEnd self.now.board.feeds (state_of self.now.board) desk ending) }
     {
         self.is_desk(desk)
@@ -82,7 +91,8 @@ impl<'r, 'q> Auditor<'r, 'q> {
 
     // Whether a desk is one of the log's and may open a batch.
     fn may_open(&self, desk: u8) -> bool
-        ensures { IsTrue result ↔ (IsNumbered self.now.board.desks desk × IsTrue (may_open (state_of self.now.board) desk)) }
+        ensures { IsTrue result ↔ (IsNumbered self.now.board.desks desk
+            × IsTrue (may_open (state_of self.now.board) desk)) }
     {
         self.is_desk(desk)
             && !self.board.has_ended(Actor::Desk(desk))
@@ -98,7 +108,8 @@ impl<'r, 'q> Auditor<'r, 'q> {
 
     // Whether as many batches were opened as were asked for, and all feeds have ended.
     fn is_all_opened(&self) -> bool
-        ensures { IsTrue result ↔ (((state_of self.now.board).opened ≡ (state_of self.now.board).asked)
+        ensures { IsTrue result ↔ (((state_of self.now.board).opened
+            ≡ (state_of self.now.board).asked)
             × IsTrue (all_feeds_ended self.now.board.feeds (state_of self.now.board))) }
     {
         // This call tells that there are one or two feeds.

@@ -1,5 +1,5 @@
 //! What feeds do, and who may end.
-ghost use Rattle.std.specs.Prelude.{◌≡◌, ℕ, ◌≤◌, ◌<◌, ◌↔◌, length, IfOk, IsTrue, IsFalse};
+ghost use Rattle.std.specs.Prelude.{◌<◌, ◌↔◌, length, IfOk, IsTrue, IsFalse};
 ghost use Rattle.ride_model.specs.declared.command.Actor.TheVariants.{Feed};
 ghost use Rattle.ride_model.specs.declared.entry.Event.TheVariants.{Fed, Finish};
 ghost use Rattle.ride_model.specs.declared.reply.Reply.{Reply};
@@ -13,7 +13,7 @@ use crate::Why;
 use crate::auditor::Auditor;
 use ride_model::{Actor, Command, Ending, NoMemory};
 
-impl<'r, 'q> Auditor<'r, 'q> {
+impl<'r> Auditor<'r> {
     /// Judges the line of a feed's command with its reply.
     pub(crate) fn judge_fed(
         &mut self,
@@ -23,9 +23,15 @@ impl<'r, 'q> Auditor<'r, 'q> {
     ) -> Result<Option<Why>, NoMemory>
         requires auditing { IsAuditing self.old }
         requires few { length self.old.board.history < most_lines }
-        requires line { (reply : Reply) × IsLineOf self.old.log (record { actor = Feed feed; event = Fed command.now reply }) line.now }
-        ensures { (reply : Reply) → IsLineOf self.old.log (record { actor = Feed feed; event = Fed command.now reply }) line.now
-            → IfOk result (IsJudged self.old self.new (record { actor = Feed feed; event = Fed command.now reply })) }
+        requires line { (reply : Reply)
+            × IsLineOf self.old.log (record {
+              actor = Feed feed;
+              event = Fed command.now reply;
+            }) line.now }
+        ensures { (reply : Reply) → IsLineOf self.old.log
+            (record { actor = Feed feed; event = Fed command.now reply }) line.now
+            → IfOk result (IsJudged self.old self.new
+            (record { actor = Feed feed; event = Fed command.now reply })) }
     {
         if !self.may_feed(feed) {
             return Ok(Some(Why::Actor));
@@ -50,7 +56,8 @@ impl<'r, 'q> Auditor<'r, 'q> {
 
     // Whether an actor may end so.
     fn may_finish(&self, actor: Actor, ending: Ending) -> bool
-        ensures { IsTrue result ↔ IsLegalEvent self.now.board.feeds self.now.board.desks (state_of self.now.board) actor (Finish ending) }
+        ensures { IsTrue result ↔ IsLegalEvent self.now.board.feeds self.now.board.desks
+            (state_of self.now.board) actor (Finish ending) }
     {
         match actor {
             Actor::Feed(feed) => self.may_feed(feed),
@@ -60,7 +67,8 @@ impl<'r, 'q> Auditor<'r, 'q> {
 
     // Whether a feed is one of the log's and has not ended.
     fn may_feed(&self, feed: u8) -> bool
-        ensures { IsTrue result ↔ (IsNumbered self.now.board.feeds feed × IsFalse (has_ended (state_of self.now.board) (Feed feed))) }
+        ensures { IsTrue result ↔ (IsNumbered self.now.board.feeds feed
+            × IsFalse (has_ended (state_of self.now.board) (Feed feed))) }
     {
         1 <= feed && feed <= self.board.feeds() && !self.board.has_ended(Actor::Feed(feed))
     }

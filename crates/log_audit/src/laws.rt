@@ -12,7 +12,8 @@ ghost use Rattle.log_audit.specs.Words.{Meets};
 
 /// An entry is legal after a legal history exactly where it meets each word.
 pub fn words_together_are_legality()
-    ensures { (feeds desks : ℕ) (start : State) (entries : List Entry) (entry : Entry) → IsStart start
+    ensures { (feeds desks : ℕ) (start : State) (entries : List Entry) (entry : Entry)
+        → IsStart start
         → IsLegal feeds desks start entries
         → IsLegalEntry feeds desks (replay start entries) entry
         ↔ ((why : Why) → Meets why feeds desks (replay start entries) entry.actor entry.event) }
@@ -20,6 +21,7 @@ pub fn words_together_are_legality()
 
 /// A log has at most one answer.
 pub fn a_log_has_one_answer()
-    ensures { (start : State) (bytes : List ℕ) (answer other : Result Verdict AuditFault) → IsStart start
+    ensures { (start : State) (bytes : List ℕ) (answer other : Result Verdict AuditFault)
+        → IsStart start
         → IsAnswer start bytes answer → IsAnswer start bytes other → other ≡ answer }
 {}

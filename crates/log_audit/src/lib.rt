@@ -10,7 +10,6 @@ mod feeds;
 mod laws;
 mod lines;
 mod open_batches;
-mod pricing;
 mod seating;
 mod verdict;
 

@@ -34,8 +34,10 @@ pub(crate) fn next_line<S: Source>(
     lines: &mut LineReader,
     log: &mut S,
 ) -> Result<NextLine, AuditFault>
-    requires read { (before : Option (List ℕ)) × (bytes : List ℕ) × HasRead before (S.left log.old) lines.old bytes }
-    ensures next { (before : Option (List ℕ)) (bytes : List ℕ) → HasRead before (S.left log.old) lines.old bytes → MatchResult result
+    requires read { (before : Option (List ℕ)) × (bytes : List ℕ)
+        × HasRead before (S.left log.old) lines.old bytes }
+    ensures next { (before : Option (List ℕ)) (bytes : List ℕ)
+        → HasRead before (S.left log.old) lines.old bytes → MatchResult result
         (IsNext before (S.left log.new) lines.new bytes)
         (IsStop before (S.left log.new) bytes) }
     ensures taken { TakesSome (S.left log.old) (S.left log.new) }

@@ -10,9 +10,8 @@ ghost use Rattle.ride_model.specs.Limits.{largest_batch, latest_time};
 ghost use Rattle.log_audit.specs.declared.seating.Placed.{Placed};
 ghost use Rattle.log_audit.specs.Seated.{ArePlaced, IsPlaced, IsSeatedAt};
 
-use crate::pricing::Pricing;
 use batch_commit::Batch;
-use pricing_workers::SeatPlaces;
+use pricing_workers::{Pricer, SeatPlaces, offer_of_seat};
 use ride_model::{NoMemory, Offer, Ride, Seat, Vehicle};
 use std::alloc::Global;
 
@@ -26,7 +25,7 @@ pub(crate) struct Placed {
 
 /// The places and offers of seats, where they are a seating of the batch of this cost.
 pub(crate) fn seated(
-    pricing: &mut Pricing<'_, '_>,
+    pricing: &mut Pricer<'_>,
     batch: &Batch,
     seats: &[Seat],
     cost: u64,
@@ -36,7 +35,8 @@ pub(crate) fn seated(
     requires lawful { All (IsLawful pricing.old) batch.now.vehicles }
     ensures seated { IfOk result (λ placed. MatchOption placed
         (IsSeatedAt pricing.old batch.now seats.now cost → ⊥)
-        (λ placed. IsSeatedAt pricing.old batch.now seats.now cost × ArePlaced pricing.old batch.now seats.now placed.items)) }
+        (λ placed. IsSeatedAt pricing.old batch.now seats.now cost
+        × ArePlaced pricing.old batch.now seats.now placed.items)) }
     ensures kept { pricing.new ≡ pricing.old }
 {
     if !stand_in_order(pricing.alloc(), batch.requests(), seats)? || !drive_once(seats) {
@@ -57,7 +57,8 @@ pub(crate) fn seated(
 // Whether seats are of some of these requests, each once and in their order.
 fn stand_in_order(alloc: Global, requests: &[Ride], seats: &[Seat]) -> Result<bool, NoMemory>
     ensures { IfOk result (λ stand. IsTrue stand
-        ↔ (map (λ (seat : Seat). seat.request) seats.now ≡ filter (has_seat seats.now) (ride_ids requests.now))) }
+        ↔ (map (λ (seat : Seat). seat.request) seats.now
+        ≡ filter (has_seat seats.now) (ride_ids requests.now))) }
 {
     let ids = seated_ids(alloc, requests, seats)?;
     let seats = request_ids(alloc, seats)?;
@@ -112,7 +113,7 @@ fn drives(seats: &[Seat], vehicle: u64) -> bool
 
 // The places and offers of seats, where each has an offer.
 fn placed_of(
-    pricing: &mut Pricing<'_, '_>,
+    pricing: &mut Pricer<'_>,
     batch: &Batch,
     seats: &[Seat],
 ) -> Result<Option<Vec<Placed>>, NoMemory>
@@ -136,7 +137,7 @@ fn placed_of(
 
 // The places and the offer of a seat, where it has one.
 fn placed_seat(
-    pricing: &mut Pricing<'_, '_>,
+    pricing: &mut Pricer<'_>,
     batch: &Batch,
     seat: &Seat,
 ) -> Result<Option<Placed>, NoMemory>
@@ -144,7 +145,8 @@ fn placed_seat(
     requires over_map { IsBatchOver pricing.old batch.now }
     requires lawful { All (IsLawful pricing.old) batch.now.vehicles }
     ensures placed { IfOk result (λ placed. MatchOption placed
-        (seat_offer pricing.old batch.now seat.now ≡ None) (IsPlaced pricing.old batch.now seat.now)) }
+        (seat_offer pricing.old batch.now seat.now ≡ None)
+        (IsPlaced pricing.old batch.now seat.now)) }
     ensures kept { pricing.new ≡ pricing.old }
 {
     let Some(request) = place_of_request(batch.requests(), seat.request) else {
@@ -160,7 +162,7 @@ fn placed_seat(
         i: seat.i,
         j: seat.j,
     };
-    match pricing.offer(batch, places)? {
+    match offer_of_seat(batch, pricing, places)? {
         Some(offer) => Ok(Some(Placed {
             request,
             vehicle,

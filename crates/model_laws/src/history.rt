@@ -6,7 +6,8 @@ ghost use Rattle.ride_model.specs.Legal.{IsLegal, replay};
 
 /// Every prefix of a legal history is legal, and what follows is legal from the state after the prefix.
 pub fn parts_of_a_legal_history_are_legal()
-    ensures { (feeds desks : ℕ) (s : State) (first second : List Entry) → IsLegal feeds desks s (first ++ second)
+    ensures { (feeds desks : ℕ) (s : State) (first second : List Entry)
+        → IsLegal feeds desks s (first ++ second)
         ↔ (IsLegal feeds desks s first × IsLegal feeds desks (replay s first) second) }
 {}
 

@@ -15,27 +15,34 @@ ghost use Rattle.ride_model.specs.Seating.{BatchCopy, IsBatchOver, IsSeating, se
 
 /// A plan with a ride more drives no less, so that no cost is cut off at 0.
 pub fn insertion_drives_no_less()
-    ensures { (roads : RoadMap) (v new : Vehicle) (ride : Ride) (i j dwell : ℕ) → IsRoadMap roads → IsRouted roads v
-        → IsRide roads ride → IsFresh v.rides.items ride.id → ride.picked ≡ None → i ≤ j → j ≤ length v.stops.items
+    ensures { (roads : RoadMap) (v new : Vehicle) (ride : Ride) (i j dwell : ℕ) → IsRoadMap roads
+        → IsRouted roads v
+        → IsRide roads ride → IsFresh v.rides.items ride.id → ride.picked ≡ None → i ≤ j
+        → j ≤ length v.stops.items
         → inserted roads v ride i j ≡ Some new → drive_of v dwell ≤ drive_of new dwell }
 {}
 
 /// An offer costs less than 2^42.
 pub fn offer_costs_are_bounded()
-    ensures { (roads : RoadMap) (settings : Settings) (v : Vehicle) (ride : Ride) (time i j : ℕ) (offer : Offer)
-        → IsRoadMap roads → IsSettings settings → IsRouted roads v → IsRide roads ride → IsFresh v.rides.items ride.id
-        → ride.picked ≡ None → offer_of roads settings v ride time i j ≡ Some offer → offer.cost < 2 ^ 42 }
+    ensures { (roads : RoadMap) (settings : Settings) (v : Vehicle) (ride : Ride)
+        (time i j : ℕ) (offer : Offer)
+        → IsRoadMap roads → IsSettings settings → IsRouted roads v → IsRide roads ride
+        → IsFresh v.rides.items ride.id
+        → ride.picked ≡ None → offer_of roads settings v ride time i j ≡ Some offer
+        → offer.cost < 2 ^ 42 }
 {}
 
 /// A batch's seating costs less than 2^50.
 pub fn seating_costs_are_bounded()
-    ensures { (roads : RoadMap) (batch : BatchCopy) (seats : List Seat) → IsRoadMap roads → IsBatchOver roads batch
+    ensures { (roads : RoadMap) (batch : BatchCopy) (seats : List Seat) → IsRoadMap roads
+        → IsBatchOver roads batch
         → IsSeating roads batch seats → seating_cost roads batch seats < 2 ^ 50 }
 {}
 
 /// No offer of a vehicle to a ride costs less than its price.
 pub fn price_is_the_least_cost()
-    ensures { (roads : RoadMap) (settings : Settings) (v : Vehicle) (ride : Ride) (time i j : ℕ) (offer : Offer)
+    ensures { (roads : RoadMap) (settings : Settings) (v : Vehicle) (ride : Ride)
+        (time i j : ℕ) (offer : Offer)
         → offer_of roads settings v ride time i j ≡ Some offer
         → (cost : ℕ) × (price roads settings v ride time ≡ Some cost) × (cost ≤ offer.cost) }
 {}

@@ -9,7 +9,8 @@ pub fn travel_is_least_weight()
 
 /// There is one travel time.
 pub fn travel_is_unique()
-    ensures { (map : RoadMap) (x y : ℕ) (s t : Option ℕ) → IsTravel map x y s → IsTravel map x y t → s ≡ t }
+    ensures { (map : RoadMap) (x y : ℕ) (s t : Option ℕ) → IsTravel map x y s → IsTravel map x y t
+        → s ≡ t }
 {}
 
 /// Staying takes no time.
@@ -19,11 +20,13 @@ pub fn staying_takes_no_time()
 
 /// A detour takes no less time.
 pub fn detour_is_not_shorter()
-    ensures { (map : RoadMap) (x y z s t : ℕ) → IsRoadMap map → travel map x y ≡ Some s → travel map y z ≡ Some t
+    ensures { (map : RoadMap) (x y z s t : ℕ) → IsRoadMap map → travel map x y ≡ Some s
+        → travel map y z ≡ Some t
         → IsSomeAnd (travel map x z) (λ direct. direct ≤ s + t) }
 {}
 
 /// A travel time is at most 5 x 10^14 seconds.
 pub fn travel_is_bounded()
-    ensures { (map : RoadMap) (x y t : ℕ) → IsRoadMap map → travel map x y ≡ Some t → t ≤ 500000000000000 }
+    ensures { (map : RoadMap) (x y t : ℕ) → IsRoadMap map → travel map x y ≡ Some t
+        → t ≤ 500000000000000 }
 {}

@@ -153,7 +153,8 @@ fn neighbours_are_joined_and_requests_are_taken_in_groups_of_eight(rt: HostRunti
 
 // A vehicle on a road of four nodes, a minute between neighbours, that has promised a ride from node 2 to node 4.
 fn driving(at: u32, ready: u64, leg: u64) -> Vehicle
-    ensures { result ≡ vehicle_of at ready (ride_of 7 2 4 None ∷ []) (pickup_at 7 2 leg ∷ dropoff_at 7 4 120 ∷ []) }
+    ensures { result ≡ vehicle_of at ready (ride_of 7 2 4 None ∷ [])
+        (pickup_at 7 2 leg ∷ dropoff_at 7 4 120 ∷ []) }
 {
     let mut rides = ArrayVec::new();
     rides.push(Ride {

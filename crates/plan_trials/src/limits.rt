@@ -21,7 +21,16 @@ fn visit(kind: Kind, node: u32, leg: u64) -> Stop
 }
 
 fn ride(latest: u64, longest: u64, picked: Option<u64>) -> Ride
-    ensures { result ≡ record { id = 7; from = 2; to = 4; seats = 1; chairs = 0; latest = latest; longest = longest; picked = picked } }
+    ensures { result ≡ record {
+      id = 7;
+      from = 2;
+      to = 4;
+      seats = 1;
+      chairs = 0;
+      latest = latest;
+      longest = longest;
+      picked = picked;
+    } }
 {
     Ride {
         id: 7,
@@ -36,7 +45,17 @@ fn ride(latest: u64, longest: u64, picked: Option<u64>) -> Ride
 }
 
 fn vehicle(at: u32, ready: u64, rides: ArrayVec<Ride, 16>, stops: ArrayVec<Stop, 16>) -> Vehicle
-    ensures { result ≡ record { id = 1; seats = 2; chairs = 0; at = at; ready = ready; duty = true; version = 1; rides = rides; stops = stops } }
+    ensures { result ≡ record {
+      id = 1;
+      seats = 2;
+      chairs = 0;
+      at = at;
+      ready = ready;
+      duty = true;
+      version = 1;
+      rides = rides;
+      stops = stops;
+    } }
 {
     Vehicle {
         id: 1,

@@ -16,8 +16,10 @@ use slack_tables::*;
 
 // The answer of the search by slack.
 pub(crate) fn fast(vehicle: &Vehicle, ride: &Ride, settings: &Settings) -> Option<Offer>
-    requires { IsAsked four_nodes vehicle.now ride.now 0 settings.now (near_in_line vehicle.now ride.now) }
-    ensures { IfSome result (λ (offer : Offer). offer_of four_nodes settings.now vehicle.now ride.now 0 offer.i offer.j ≡ Some offer) }
+    requires { IsAsked four_nodes vehicle.now ride.now 0 settings.now
+        (near_in_line vehicle.now ride.now) }
+    ensures { IfSome result (λ (offer : Offer). offer_of four_nodes settings.now vehicle.now
+        ride.now 0 offer.i offer.j ≡ Some offer) }
 {
     let near = near(vehicle, ride);
     let start = start_of(vehicle, settings.lead, 0);
@@ -29,7 +31,8 @@ pub(crate) fn fast(vehicle: &Vehicle, ride: &Ride, settings: &Settings) -> Optio
 fn cost(car: Car, rides: &[Ride], stops: &[Stop], ride: Ride, settings: Settings) -> Option<u64>
     requires few_rides { length rides.now ≤ 16 }
     requires few_stops { length stops.now ≤ 16 }
-    requires asked { IsTrue (may_be_asked (vehicle_with car.at car.ready car.seats car.chairs rides.now stops.now) ride settings) }
+    requires asked { IsTrue (may_be_asked
+        (vehicle_with car.at car.ready car.seats car.chairs rides.now stops.now) ride settings) }
 {
     let vehicle = vehicle(car, rides, stops);
     let fast = fast(&vehicle, &ride, &settings);
@@ -47,7 +50,8 @@ pub(crate) fn agrees(
     ride: &Ride,
     settings: &Settings,
 ) -> bool
-    requires { IsAsked four_nodes vehicle.now ride.now 0 settings.now (near_in_line vehicle.now ride.now) }
+    requires { IsAsked four_nodes vehicle.now ride.now 0 settings.now
+        (near_in_line vehicle.now ride.now) }
 {
     let near = near(vehicle, ride);
     let slow = best_place(vehicle, ride, 0, settings, &near);
@@ -65,7 +69,8 @@ pub(crate) fn agrees(
 
 // Whether no pair of places has an offer below a cost.
 fn none_below(cost: u64, vehicle: &Vehicle, ride: &Ride, settings: &Settings) -> bool
-    requires { IsAsked four_nodes vehicle.now ride.now 0 settings.now (near_in_line vehicle.now ride.now) }
+    requires { IsAsked four_nodes vehicle.now ride.now 0 settings.now
+        (near_in_line vehicle.now ride.now) }
 {
     for i in 0..number_of_stops(vehicle) as u32 + 1 {
         if !none_below_with_pickup_at(i, cost, vehicle, ride, settings) {
@@ -82,7 +87,8 @@ fn none_below_with_pickup_at(
     ride: &Ride,
     settings: &Settings,
 ) -> bool
-    requires { IsAsked four_nodes vehicle.now ride.now 0 settings.now (near_in_line vehicle.now ride.now) }
+    requires { IsAsked four_nodes vehicle.now ride.now 0 settings.now
+        (near_in_line vehicle.now ride.now) }
 {
     let near = near(vehicle, ride);
     for j in i..number_of_stops(vehicle) as u32 + 1 {
@@ -240,7 +246,8 @@ fn each_stop_takes_its_dwell_and_an_hour_at_each_is_driven_too(rt: HostRuntime) 
 fn broken_rides(car: Car, rides: &[Ride], stops: &[Stop], dwell: u64) -> Ids
     requires few_rides { length rides.now ≤ 16 }
     requires few_stops { length stops.now ≤ 16 }
-    requires lawful { IsTrue (is_lawful (vehicle_with car.at car.ready car.seats car.chairs rides.now stops.now)) }
+    requires lawful { IsTrue (is_lawful
+        (vehicle_with car.at car.ready car.seats car.chairs rides.now stops.now)) }
     requires dwell_limit { dwell ≤ 3600 }
 {
     let vehicle = vehicle(car, rides, stops);

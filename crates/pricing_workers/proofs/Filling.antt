@@ -1,29 +1,15 @@
 -- Rows of cells, put together.
-use Rattle.std.proofs.Common.{◌≡◌, ℕ, ◌+◌, ◌-◌, ◌*◌, ◌<◌, ◌≤◌, List, [], ◌∷◌, ◌++◌, length, get_or, take, drop, refl, sym, ap, ◌∙◌, subst, arith, length-append, length-take, length-take-le, length-drop, inl, inr}
+use Rattle.std.proofs.Common.{◌≡◌, ℕ, ◌+◌, ◌-◌, ◌*◌, ◌<◌, List, ◌++◌, length, get_or, take, drop, sym, ap, ◌∙◌, subst, arith, length-append, inl, inr}
 use Rattle.std.specs.Prelude.{Option, None}
 use Rattle.std.proofs.lemmas.Bool.{cases_lt}
-use Rattle.std.proofs.lemmas.Nat.{mul-add-lt, mul-le}
-use Rattle.std.proofs.lemmas.List.{get_or_append_left, get_or-append-add, take_more, take-append-drop}
-use Rattle.std.proofs.lemmas.Slice.{take-put_mid}
-use borrow.Rule.Slice.PartMut.{put_mid}
+use Rattle.std.proofs.lemmas.Nat.{mul-add-lt}
+use Rattle.std.proofs.lemmas.List.{get_or_append_left, get_or-append-add, take-append-drop}
 use Rattle.ride_model.specs.declared.offer.Offer.{Offer}
 use Rattle.ride_model.specs.declared.vehicle.Ride.{Ride}
 use Rattle.ride_model.specs.Road.{RoadMap}
 use Rattle.ride_model.specs.Seating.{BatchCopy}
-use Rattle.pricing_workers.specs.Cells.{IsCellOf, IsRowOf, AreRowsOf}
-
--- the rows of one request
-pub rows-one : (roads : RoadMap) (batch : BatchCopy) (ride : Ride) (cells : List (Option Offer)) → IsRowOf roads batch ride cells
-    → AreRowsOf roads batch (ride ∷ []) cells
-rows-one roads batch ride cells h = record {
-  count = omega (arith, h.count);
-  cells_are = λ r c other v low c_low.
-      let first : r ≡ 0 = omega (arith, low) in
-      let place : r * length batch.vehicles + c ≡ c = rw first (omega arith) in
-      let same : get_or (ride ∷ []) r other ≡ ride = ap (λ k. get_or (ride ∷ []) k other) first in
-      subst (λ x. IsCellOf roads batch x (get_or batch.vehicles c v) (get_or cells (r * length batch.vehicles + c) None)) (sym same)
-      (subst (λ k. IsCellOf roads batch ride (get_or batch.vehicles c v) (get_or cells k None)) (sym place) (h.cells_are c v c_low));
-}
+use Rattle.batch_commit.specs.Table.{Table, IsTableOf}
+use Rattle.pricing_workers.specs.Cells.{IsCellOf, AreRowsOf}
 
 -- rows after rows
 pub rows-append : (roads : RoadMap) (batch : BatchCopy) (xs ys : List Ride) (cs ds : List (Option Offer))
@@ -52,43 +38,6 @@ rows-append roads batch xs ys cs ds h k =
       ];
     }
 
--- the rows so far, where a loop has filled the next
-pub rows-step : (roads : RoadMap) (batch : BatchCopy) (requests : List Ride) (i k w : ℕ) (d : Ride) (cells row : List (Option Offer))
-    → i < length requests → w ≡ length batch.vehicles
-    → AreRowsOf roads batch (take i requests) (take (i * w) cells) → IsRowOf roads batch (get_or requests i d) row
-    → AreRowsOf roads batch (take (i + 1) requests) (take ((i + 1) * w) (put_mid (i * w) k cells row))
-rows-step roads batch requests i k w d cells row low wide h new =
-    let ride = get_or requests i d in
-    let count : length (take (i * w) cells) ≡ i * w
-    = h.count ∙ rw (sym wide, length-take-le i requests (omega (arith, low))) refl in
-    let long : i * w ≤ length cells = omega (arith, count, length-take (i * w) cells) in
-    let next : (i + 1) * w ≡ i * w + length row = rw (new.count, sym wide) (grind arith) in
-    subst (λ rides. AreRowsOf roads batch rides (take ((i + 1) * w) (put_mid (i * w) k cells row)))
-    (sym (take_more requests i d low))
-    (subst (AreRowsOf roads batch (take i requests ++ ride ∷ [])) (sym (take-put_mid (i * w) k cells row ((i + 1) * w) next long))
-    (rows-append roads batch (take i requests) (ride ∷ []) (take (i * w) cells) row h (rows-one roads batch ride row new)))
-
--- a row that is written into the cells leaves them as many
-pub length-put : (cells row : List (Option Offer)) (start k w rows : ℕ) → length row ≡ w → k ≡ w → start + w ≤ length cells
-    → length cells ≡ rows → length (put_mid start k cells row) ≡ rows
-length-put cells row start k w rows row_is k_is fits whole =
-    length-append (take start cells) (row ++ drop k (drop start cells))
-    ∙ omega (
-      arith,
-      length-take-le start cells (omega (arith, fits)),
-      length-append row (drop k (drop start cells)),
-      length-drop k (drop start cells),
-      length-drop start cells,
-      row_is,
-      k_is,
-      fits,
-      whole,
-    )
-
--- a row before the last ends within all
-pub mul-add-le : (i w rows : ℕ) → i < rows → i * w + w ≤ rows * w
-mul-add-le i w rows low = omega (arith, mul-le (i + 1) w rows w (omega (arith, low)) (omega arith))
-
 -- the cells of the rows behind the first
 pub back-cells : (all front back w cells mid len : ℕ) → cells ≡ all * w → mid ≡ front * w → all ≡ front + back → len ≡ cells - mid → len ≡ back * w
 back-cells all front back w cells mid len cells_are mid_is parts len_is =
@@ -106,3 +55,15 @@ pub rows-halves : (roads : RoadMap) (batch : BatchCopy) (front back requests : L
     → AreRowsOf roads batch requests (cs ++ ds)
 rows-halves roads batch front back requests parts cs ds h k =
     subst (λ rides. AreRowsOf roads batch rides (cs ++ ds)) parts (rows-append roads batch front back cs ds h k)
+
+-- a table of the rows of all requests
+pub table-of-rows : (roads : RoadMap) (batch : BatchCopy) (shown : List Ride) (table : Table) → shown ≡ batch.requests
+    → table.rows ≡ length shown → table.columns ≡ length batch.vehicles → AreRowsOf roads batch shown table.cells → IsTableOf roads batch table
+table-of-rows roads batch shown table same rows columns h = record {
+  fits = record { rows_are = rows ∙ ap length same; columns_are = columns };
+  cells_are = λ r c ride v low c_low.
+      let here : r < length shown = omega (arith, low, ap length same) in
+      subst (λ n. IsCellOf roads batch (get_or batch.requests r ride) (get_or batch.vehicles c v) (get_or table.cells (r * n + c) None)) (sym columns)
+      (subst (λ rides. IsCellOf roads batch (get_or rides r ride) (get_or batch.vehicles c v)
+      (get_or table.cells (r * length batch.vehicles + c) None)) same (h.cells_are r c ride v here c_low));
+}

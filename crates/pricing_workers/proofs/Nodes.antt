@@ -1,15 +1,14 @@
 -- The nodes that are wanted are nodes of the map.
-use Rattle.std.proofs.Common.{inl, inr, List, [], ◌∷◌, refl, sym, subst}
+use Rattle.std.proofs.Common.{List, [], ◌∷◌}
 use Rattle.std.specs.Prelude.{All, map}
 use Rattle.std.specs.List.{AllByRecursion}
 use Rattle.std.proofs.lemmas.List.Elements.{All-append, All-map, All-from_recursion, recursion_from_All}
 use Rattle.ride_model.specs.declared.vehicle.Stop.{Stop}
 use Rattle.ride_model.specs.declared.vehicle.Vehicle.{Vehicle}
 use Rattle.ride_model.specs.Road.{RoadMap, IsNode}
-use Rattle.ride_model.specs.Vehicle.{IsRide, IsLawful}
-use Rattle.plain_lemmas.proofs.Among.{Among}
-use Rattle.plain_lemmas.proofs.Each.{of_each, each-among}
-use Rattle.model_laws.proofs.PlanStops.{stop-of-ride, stop-at-node}
+use Rattle.ride_model.specs.Vehicle.{IsLawful}
+use Rattle.plain_lemmas.proofs.Each.{each-among}
+use Rattle.model_laws.proofs.PlanStops.{stop-at-node}
 use Rattle.pricing_workers.specs.Wanted.{nodes_of, all_nodes}
 
 -- the nodes of a lawful vehicle

@@ -1,5 +1,5 @@
 -- What is asked of the offer of a seat's vehicle, whose times alone are found.
-use Rattle.std.proofs.Common.{◌≡◌, ◌+◌, ◌≤◌, ◌<◌, ℕ, List, [], ◌∷◌, length, get_or, sym, ◌∙◌, subst, append-nil, arith}
+use Rattle.std.proofs.Common.{◌≡◌, ◌≤◌, ◌<◌, ℕ, List, [], ◌∷◌, length, get_or, sym, ◌∙◌, subst, append-nil, arith}
 use Rattle.std.specs.Prelude.{All, None}
 use Rattle.std.proofs.lemmas.List.Concat.{flat_map-cons}
 use Rattle.std.proofs.lemmas.List.Elements.{All-get_or, All-from_recursion}
@@ -11,10 +11,10 @@ use Rattle.ride_model.specs.Vehicle.{IsFresh, IsLawful, IsRide}
 use Rattle.insertion.specs.declared.near.Near.{Near}
 use Rattle.insertion.specs.Asked.{HoldsTimes, IsAsked}
 use Rattle.pricing_workers.specs.declared.times.Times.{Times}
-use Rattle.pricing_workers.specs.Rows.{HoldsAt, HoldsRows, IsWide}
+use Rattle.pricing_workers.specs.Rows.{HoldsAt, HoldsRows}
 use Rattle.pricing_workers.specs.Wanted.{nodes_of, all_nodes}
 use Rattle.pricing_workers.proofs.Nodes.{nodes-on-map}
-use Rattle.pricing_workers.proofs.RowTimes.{nodes-fit, rows-wide, holds-at}
+use Rattle.pricing_workers.proofs.RowTimes.{holds-at}
 
 -- the nodes of one vehicle alone
 one-alone : (v : Vehicle) → all_nodes (v ∷ []) ≡ nodes_of v
@@ -27,13 +27,10 @@ one-on-map roads v nodes is lawful =
     (nodes-on-map roads (v ∷ []) (All-from_recursion (IsLawful roads) (v ∷ []) (lawful, tt)))
 
 -- the rows hold the vehicle's times from the first place on
-pub one-held : (roads : RoadMap) (ride : Ride) (v : Vehicle) (nodes : List ℕ) (times : Times) → nodes ≡ nodes_of v
-    → HoldsRows roads ride nodes times → HoldsAt roads ride 0 v times × IsWide (0 + 1 + length v.stops.items) times
-one-held roads ride v nodes times is rows =
-    let all : HoldsRows roads ride (all_nodes (v ∷ [])) times = subst (λ ns. HoldsRows roads ride ns times) (is ∙ sym (one-alone v)) rows in (
-      holds-at roads ride (v ∷ []) times 0 v all (omega arith),
-      rows-wide roads ride (all_nodes (v ∷ [])) times (0 + 1 + length v.stops.items) all (omega (arith, nodes-fit (v ∷ []) 0 v (omega arith))),
-    )
+pub one-held : (roads : RoadMap) (ride : Ride) (v : Vehicle) (times : Times) → HoldsRows roads ride (nodes_of v) times
+    → HoldsAt roads ride 0 v times
+one-held roads ride v times rows =
+    holds-at roads ride (v ∷ []) times 0 v (subst (λ ns. HoldsRows roads ride ns times) (sym (one-alone v)) rows) (omega arith)
 
 -- what may be asked of a seat
 pub seat-asked : (roads : RoadMap) (batch : BatchCopy) (ride : Ride) (v : Vehicle) (request vehicle : ℕ) (near : Near) → IsRoadMap roads

@@ -13,12 +13,6 @@ abbrev pub IsCellOf : RoadMap → BatchCopy → Ride → Vehicle → Option Offe
 IsCellOf roads batch ride v cell =
     MatchOption cell (price roads batch.settings v ride batch.time ≡ None) (IsLeastOffer roads batch ride v)
 
--- the cells of a request: one for each vehicle, in order
-pub record IsRowOf (roads : RoadMap) (batch : BatchCopy) (ride : Ride) (cells : List (Option Offer)) : Type 0 where
-  pub count : length cells ≡ length batch.vehicles
-  pub cells_are : (c : ℕ) (v : Vehicle) → c < length batch.vehicles
-      → IsCellOf roads batch ride (slice_index_or batch.vehicles c v) (slice_index_or cells c None)
-
 -- the cells of requests, row after row
 pub record AreRowsOf (roads : RoadMap) (batch : BatchCopy) (rides : List Ride) (cells : List (Option Offer)) : Type 0 where
   pub count : length cells ≡ length rides * length batch.vehicles

@@ -1,23 +1,21 @@
 //! The cells of a batch, some requests at a time.
-ghost use Rattle.std.specs.Prelude.{◌≡◌, ◌+◌, ◌*◌, ◌^◌, ◌<◌, ◌≤◌, length, take, All};
-ghost use Rattle.std.specs.Result.{OnOk};
+ghost use Rattle.std.specs.Prelude.{◌≡◌, ◌+◌, ◌*◌, ◌^◌, ◌<◌, ◌≤◌, length, All, IfOk};
 ghost use Rattle.ride_model.specs.Limits.{largest_batch};
+ghost use Rattle.ride_model.specs.Seating.{IsBatchOver};
+ghost use Rattle.batch_commit.specs.Table.{IsTableOf};
 ghost use Rattle.pricing_workers.specs.Cells.{ArePairsOf, AreRowsOf};
 ghost use Rattle.pricing_workers.specs.Pairs.{IsRequest, MayFill, MayPriceAll};
 ghost use Rattle.pricing_workers.specs.Rows.{HasRows};
 
 use crate::pairs::{Search, price_pair};
-use crate::pricer::Room;
-use crate::rooms::{WorkerRoom, renew_rooms, settled_by};
 use crate::rows::fill_times;
 use crate::times::{Times, renew_times};
 use crate::wanted::Wanted;
-use adaptive_roads::{BatchRoads, Searched};
-use batch_commit::Batch;
+use adaptive_roads::{BatchRoads, Scratch};
+use batch_commit::{Batch, PriceTable};
 use rayon::prelude::*;
 use ride_model::{Offer, Ride};
 use ride_ports::{Gate, NoMemory};
-use road_times::Scratch;
 use std::alloc::Global;
 use std::thread::Threads;
 
@@ -39,35 +37,34 @@ pub(crate) struct Job<'a> {
     pub(crate) wanted: &'a Wanted,
 }
 
-/// Fills the cells of all requests. Returns what searches settled.
-pub(crate) fn fill_cells<R: Threads + Sync, G: Gate>(
+/// The table of a batch, by as many workers as there are scratches and requests.
+pub(crate) fn table_of<R: Threads + Sync, G: Gate>(
     rt: &R,
     alloc: Global,
     job: &Job,
-    room: &mut Room,
+    rows: &mut Vec<Times>,
     scratches: &mut [Scratch],
     gate: &G,
-    cells: &mut [Option<Offer>],
-) -> Result<Searched, NoMemory>
+) -> Result<PriceTable, NoMemory>
     requires ready { MayFill job.now.roads.now.roads job.now.batch.now job.now.wanted.now }
-    requires few { length job.now.batch.now.requests ≤ largest_batch }
-    requires requests { All (IsRequest job.now.roads.now.roads job.now.batch.now) job.now.batch.now.requests }
+    requires over_map { IsBatchOver job.now.roads.now.roads job.now.batch.now }
     requires wanted { job.now.roads.now.wanted ≡ job.now.wanted.now.nodes.items }
     requires some_scratch { 1 ≤ length scratches.old }
-    requires scratches { All (λ scratch. scratch.nodes ≡ job.now.roads.now.roads.nodes) scratches.old }
-    requires cells { length cells.old ≡ length job.now.batch.now.requests * length job.now.batch.now.vehicles }
-    ensures cells { OnOk result (AreRowsOf job.now.roads.now.roads job.now.batch.now job.now.batch.now.requests cells.new) }
+    requires scratches { All (λ scratch. scratch.nodes ≡ job.now.roads.now.roads.nodes)
+        scratches.old }
+    ensures table { IfOk result (IsTableOf job.now.roads.now.roads job.now.batch.now) }
     ensures scratches { scratches.new ≡ scratches.old }
 {
     let requests = job.batch.requests();
+    let columns = job.batch.vehicles().vehicles().len();
+    let mut cells = vec![in alloc; None; requests.len() * columns]?;
     let count = requests.len().max(1);
     let (workers, at_once) = (count.min(scratches.len()), count.min(MOST_AT_ONCE));
-    renew_rooms(alloc, &mut room.workers, workers, job.roads.places())?;
-    renew_times(alloc, &mut room.times, at_once, job.wanted.nodes.len())?;
-    let rooms = &mut room.workers.as_mut_slice()[..workers];
-    let times = &mut room.times.as_mut_slice()[..at_once];
-    fill_parts(rt, job, requests, scratches, rooms, times, gate, cells);
-    Ok(settled_by(rooms))
+    renew_times(alloc, rows, at_once, job.wanted.nodes.len())?;
+    let own = &mut scratches[..workers];
+    let times = &mut rows.as_mut_slice()[..at_once];
+    fill_parts(rt, job, requests, own, times, gate, cells.as_mut_slice());
+    Ok(PriceTable::of(requests.len() as u32, columns as u32, cells))
 }
 
 // Fills the cells of requests: of all at once where there are times for so many, and else of one half after the other.
@@ -76,7 +73,6 @@ fn fill_parts<R: Threads + Sync, G: Gate>(
     job: &Job,
     requests: &[Ride],
     scratches: &mut [Scratch],
-    rooms: &mut [WorkerRoom],
     times: &mut [Times],
     gate: &G,
     cells: &mut [Option<Offer>],
@@ -85,30 +81,28 @@ fn fill_parts<R: Threads + Sync, G: Gate>(
     requires few { length requests.now ≤ largest_batch }
     requires requests { All (IsRequest job.now.roads.now.roads job.now.batch.now) requests.now }
     requires wanted { job.now.roads.now.wanted ≡ job.now.wanted.now.nodes.items }
-    requires workers { (1 ≤ length rooms.old) × (length rooms.old ≤ largest_batch) }
-    requires own_scratches { length rooms.old ≤ length scratches.old }
-    requires scratches { All (λ scratch. scratch.nodes ≡ job.now.roads.now.roads.nodes) scratches.old }
-    requires rooms { All (λ room. job.now.roads.now.places ≤ room.places) rooms.old }
+    requires workers { (1 ≤ length scratches.old) × (length scratches.old ≤ largest_batch) }
+    requires scratches { All (λ scratch. scratch.nodes ≡ job.now.roads.now.roads.nodes)
+        scratches.old }
     requires some_times { 1 ≤ length times.old }
     requires times { All (HasRows (length job.now.wanted.now.nodes.items)) times.old }
     requires cells { length cells.old ≡ length requests.now * length job.now.batch.now.vehicles }
     ensures cells { AreRowsOf job.now.roads.now.roads job.now.batch.now requests.now cells.new }
     ensures scratches { scratches.new ≡ scratches.old }
-    ensures rooms { rooms.new ≡ rooms.old }
     ensures times { All (HasRows (length job.now.wanted.now.nodes.items)) times.new }
     ensures times_count { length times.new ≡ length times.old }
 {
     if requests.len() <= times.len() {
         let own = &mut times[..requests.len()];
-        fill_times(rt, job.roads, requests, scratches, rooms, own, gate);
+        fill_times(rt, job.roads, requests, scratches, own, gate);
         price_pairs(rt, job, requests, own, cells);
         return;
     }
     let columns = job.batch.vehicles().vehicles().len();
     let (front, back) = requests.split_at(requests.len() / 2);
     let (front_cells, back_cells) = cells.split_at_mut(front.len() * columns);
-    fill_parts(rt, job, front, scratches, rooms, times, gate, front_cells);
-    fill_parts(rt, job, back, scratches, rooms, times, gate, back_cells);
+    fill_parts(rt, job, front, scratches, times, gate, front_cells);
+    fill_parts(rt, job, back, scratches, times, gate, back_cells);
 }
 
 // Prices all pairs of requests whose times are at hand, in parallel.
@@ -119,7 +113,8 @@ fn price_pairs<R: Threads + Sync>(
     times: &[Times],
     cells: &mut [Option<Offer>],
 )
-    requires ready { MayPriceAll job.now.roads.now.roads job.now.batch.now job.now.wanted.now requests.now times.now }
+    requires ready { MayPriceAll job.now.roads.now.roads job.now.batch.now job.now.wanted.now
+        requests.now times.now }
     requires cells { length cells.old ≡ length requests.now * length job.now.batch.now.vehicles }
     ensures { AreRowsOf job.now.roads.now.roads job.now.batch.now requests.now cells.new }
 {
@@ -128,10 +123,13 @@ fn price_pairs<R: Threads + Sync>(
         cells,
         PAIRS_A_CHUNK,
         |first: usize, chunk: &mut [Option<Offer>]|
-            requires { MayPriceAll job.now.roads.now.roads job.now.batch.now job.now.wanted.now requests.now times.now
-                × (first + length chunk.now ≤ length requests.now * length job.now.batch.now.vehicles)
+            requires { MayPriceAll job.now.roads.now.roads job.now.batch.now job.now.wanted.now
+                requests.now times.now
+                × (first + length chunk.now
+                ≤ length requests.now * length job.now.batch.now.vehicles)
                 × (length requests.now * length job.now.batch.now.vehicles < 2 ^ 64) }
-            ensures { ArePairsOf job.entry.now.roads.now.roads job.entry.now.batch.now requests.entry.now first chunk.new
+            ensures { ArePairsOf job.entry.now.roads.now.roads job.entry.now.batch.now
+                requests.entry.now first chunk.new
                 × (length chunk.new ≡ length chunk.old) }
         { fill_pairs(job, requests, times, first, chunk) },
     );
@@ -145,10 +143,13 @@ fn fill_pairs(
     first: usize,
     cells: &mut [Option<Offer>],
 )
-    requires ready { MayPriceAll job.now.roads.now.roads job.now.batch.now job.now.wanted.now requests.now times.now }
-    requires inside { first + length cells.old ≤ length requests.now * length job.now.batch.now.vehicles }
+    requires ready { MayPriceAll job.now.roads.now.roads job.now.batch.now job.now.wanted.now
+        requests.now times.now }
+    requires inside { first + length cells.old
+        ≤ length requests.now * length job.now.batch.now.vehicles }
     requires countable { length requests.now * length job.now.batch.now.vehicles < 2 ^ 64 }
-    ensures pairs { ArePairsOf job.now.roads.now.roads job.now.batch.now requests.now first cells.new }
+    ensures pairs { ArePairsOf job.now.roads.now.roads job.now.batch.now requests.now first
+        cells.new }
     ensures count { length cells.new ≡ length cells.old }
 {
     let columns = job.batch.vehicles().vehicles().len();

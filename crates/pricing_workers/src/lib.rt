@@ -5,7 +5,6 @@ mod batches;
 mod cells;
 mod pairs;
 mod pricer;
-mod rooms;
 mod rows;
 mod seats;
 mod tables;
@@ -13,8 +12,8 @@ mod times;
 mod wanted;
 mod workers;
 
-pub use batches::{price_batch, price_batch_adapting, price_batch_by};
+pub use batches::{price_batch, price_batch_by};
 pub use pairs::Search;
 pub use pricer::Pricer;
 pub use seats::{SeatPlaces, offer_of_seat};
-pub use workers::{scratches_of, workers_at_hand};
+pub use workers::workers_at_hand;

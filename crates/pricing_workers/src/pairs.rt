@@ -41,7 +41,8 @@ pub(crate) fn price_pair(
 ) -> Option<Offer>
     requires place { place < length batch.now.vehicles }
     requires ready { (roads : RoadMap) × MayPrice roads batch.now wanted.now times.now ride.now }
-    ensures { (roads : RoadMap) (v : Vehicle) → MayPrice roads batch.now wanted.now times.now ride.now
+    ensures { (roads : RoadMap) (v : Vehicle)
+        → MayPrice roads batch.now wanted.now times.now ride.now
         → IsCellOf roads batch.now ride.now (slice_index_or batch.now.vehicles place v) result }
 {
     let vehicle = &batch.vehicles().vehicles()[place];
@@ -68,12 +69,16 @@ fn least_offer(
     settings: &Settings,
     near: &Near,
 ) -> Option<Offer>
-    requires asked { (roads : RoadMap) × IsAsked roads vehicle.now ride.now now settings.now near.now }
-    requires slack { slack.now ≡ slack_of vehicle.now (start_of vehicle.now settings.now.lead now) settings.now.dwell }
+    requires asked { (roads : RoadMap)
+        × IsAsked roads vehicle.now ride.now now settings.now near.now }
+    requires slack { slack.now
+        ≡ slack_of vehicle.now (start_of vehicle.now settings.now.lead now) settings.now.dwell }
     ensures price { (roads : RoadMap) → IsAsked roads vehicle.now ride.now now settings.now near.now
         → cost_if_any result ≡ price roads settings.now vehicle.now ride.now now }
-    ensures an_offer { (roads : RoadMap) → IsAsked roads vehicle.now ride.now now settings.now near.now
-        → IfSome result (λ (offer : Offer). offer_of roads settings.now vehicle.now ride.now now offer.i offer.j ≡ Some offer) }
+    ensures an_offer { (roads : RoadMap)
+        → IsAsked roads vehicle.now ride.now now settings.now near.now
+        → IfSome result (λ (offer : Offer).
+        offer_of roads settings.now vehicle.now ride.now now offer.i offer.j ≡ Some offer) }
 {
     match search {
         Search::BySlack => best_place_fast(vehicle, slack, ride, now, settings, near),
@@ -100,7 +105,8 @@ pub(crate) fn near(times: &Times, first: usize, vehicle: &Vehicle) -> Near
 fn near_stops(times: &Times, first: usize, count: usize) -> ArrayVec<NearStop, 16>
     requires few { count ≤ most_stops }
     requires wide { IsWide (first + count) times.now }
-    ensures { result.items ≡ map (λ node. near_at times.now (first + node)) (range_with_len 0 count) }
+    ensures { result.items
+        ≡ map (λ node. near_at times.now (first + node)) (range_with_len 0 count) }
 {
     let mut near = ArrayVec::new();
     for node in 0..count {

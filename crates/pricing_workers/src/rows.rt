@@ -4,105 +4,67 @@ ghost use Rattle.ride_model.specs.Limits.{largest_batch};
 ghost use Rattle.ride_model.specs.Vehicle.{IsRide};
 ghost use Rattle.pricing_workers.specs.Rows.{HasRows, HoldTimes};
 
-use crate::rooms::WorkerRoom;
 use crate::times::Times;
-use adaptive_roads::BatchRoads;
+use adaptive_roads::{BatchRoads, Scratch};
 use ride_model::Ride;
 use ride_ports::Gate;
-use road_times::Scratch;
 use std::thread::{Threads, join_mut};
 
 /// The place at the gate of a worker that is about to search the rows of a request.
 const BEFORE_ROWS: u32 = 7;
 
-/// Fills the times of requests with as many workers as there are rooms: the first half of the workers fills its part of the requests
+/// Fills the times of requests with as many workers as there are scratches: the first half of the workers fills its part of the requests
 /// beside the rest.
 pub(crate) fn fill_times<R: Threads + Sync, G: Gate>(
     rt: &R,
     roads: &BatchRoads,
     requests: &[Ride],
     scratches: &mut [Scratch],
-    rooms: &mut [WorkerRoom],
     times: &mut [Times],
     gate: &G,
 )
     requires few { length requests.now ≤ largest_batch }
     requires requests { All (IsRide roads.now.roads) requests.now }
-    requires workers { (1 ≤ length rooms.old) × (length rooms.old ≤ largest_batch) }
-    requires own_scratches { length rooms.old ≤ length scratches.old }
+    requires workers { (1 ≤ length scratches.old) × (length scratches.old ≤ largest_batch) }
     requires scratches { All (λ scratch. scratch.nodes ≡ roads.now.roads.nodes) scratches.old }
-    requires rooms { All (λ room. roads.now.places ≤ room.places) rooms.old }
     requires count { length times.old ≡ length requests.now }
     requires times { All (HasRows (length roads.now.wanted)) times.old }
     ensures times { HoldTimes roads.now.roads requests.now roads.now.wanted times.new }
     ensures scratches { scratches.new ≡ scratches.old }
-    ensures rooms { rooms.new ≡ rooms.old }
 {
-    let workers = rooms.len();
+    let workers = scratches.len();
     if workers < 2 {
-        fill_own(
-            roads,
-            requests,
-            &mut scratches[0],
-            &mut rooms[0],
-            times,
-            gate,
-        );
+        fill_own(roads, requests, &mut scratches[0], times, gate);
         return;
     }
     let half = workers / 2;
     let (front, back) = requests.split_at(requests.len() * half / workers);
     let (front_scratches, back_scratches) = scratches.split_at_mut(half);
-    let (front_rooms, back_rooms) = rooms.split_at_mut(half);
     let (front_times, back_times) = times.split_at_mut(front.len());
     join_mut(
         rt,
         &mut ||
             requires { (length front.now ≤ largest_batch)
                 × All (IsRide roads.now.roads) front.now
-                × ((1 ≤ length front_rooms.now) × (length front_rooms.now ≤ largest_batch))
-                × (length front_rooms.now ≤ length front_scratches.now)
+                × ((1 ≤ length front_scratches.now) × (length front_scratches.now ≤ largest_batch))
                 × All (λ scratch. scratch.nodes ≡ roads.now.roads.nodes) front_scratches.now
-                × All (λ room. roads.now.places ≤ room.places) front_rooms.now
                 × (length front_times.now ≡ length front.now)
                 × All (HasRows (length roads.now.wanted)) front_times.now }
-            ensures { HoldTimes roads.entry.now.roads front.entry.now roads.entry.now.wanted front_times.exit.now
-                × (front_scratches.exit.now ≡ front_scratches.entry.now)
-                × (front_rooms.exit.now ≡ front_rooms.entry.now) }
-        {
-            fill_times(
-                rt,
-                roads,
-                front,
-                front_scratches,
-                front_rooms,
-                front_times,
-                gate,
-            )
-        },
+            ensures { HoldTimes roads.entry.now.roads front.entry.now roads.entry.now.wanted
+                front_times.exit.now
+                × (front_scratches.exit.now ≡ front_scratches.entry.now) }
+        { fill_times(rt, roads, front, front_scratches, front_times, gate) },
         &mut ||
             requires { (length back.now ≤ largest_batch)
                 × All (IsRide roads.now.roads) back.now
-                × ((1 ≤ length back_rooms.now) × (length back_rooms.now ≤ largest_batch))
-                × (length back_rooms.now ≤ length back_scratches.now)
+                × ((1 ≤ length back_scratches.now) × (length back_scratches.now ≤ largest_batch))
                 × All (λ scratch. scratch.nodes ≡ roads.now.roads.nodes) back_scratches.now
-                × All (λ room. roads.now.places ≤ room.places) back_rooms.now
                 × (length back_times.now ≡ length back.now)
                 × All (HasRows (length roads.now.wanted)) back_times.now }
-            ensures { HoldTimes roads.entry.now.roads back.entry.now roads.entry.now.wanted back_times.exit.now
-                × (back_scratches.exit.now ≡ back_scratches.entry.now)
-                × (back_rooms.exit.now ≡ back_rooms.entry.now) }
-        {
-            fill_times(
-                rt,
-                roads,
-                back,
-                back_scratches,
-                back_rooms,
-                back_times,
-                gate,
-            )
-        },
+            ensures { HoldTimes roads.entry.now.roads back.entry.now roads.entry.now.wanted
+                back_times.exit.now
+                × (back_scratches.exit.now ≡ back_scratches.entry.now) }
+        { fill_times(rt, roads, back, back_scratches, back_times, gate) },
     );
 }
 
@@ -111,21 +73,18 @@ fn fill_own<G: Gate>(
     roads: &BatchRoads,
     requests: &[Ride],
     scratch: &mut Scratch,
-    room: &mut WorkerRoom,
     times: &mut [Times],
     gate: &G,
 )
     requires requests { All (IsRide roads.now.roads) requests.now }
     requires scratch { scratch.old.nodes ≡ roads.now.roads.nodes }
-    requires room { roads.now.places ≤ room.old.places }
     requires count { length times.old ≡ length requests.now }
     requires times { All (HasRows (length roads.now.wanted)) times.old }
     ensures times { HoldTimes roads.now.roads requests.now roads.now.wanted times.new }
     ensures scratch { scratch.new ≡ scratch.old }
-    ensures room { room.new ≡ room.old }
 {
     for place in 0..requests.len() {
         gate.pass(BEFORE_ROWS);
-        times[place].fill(roads, scratch, room, &requests[place]);
+        times[place].fill(roads, scratch, &requests[place]);
     }
 }

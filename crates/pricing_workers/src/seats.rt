@@ -1,22 +1,23 @@
 //! The offer of a vehicle to a request at given places.
 ghost use Rattle.std.specs.Prelude.{◌≡◌, ◌≤◌, ◌<◌, length, slice_index_or, All, IfOk};
+ghost use Rattle.std.specs.Result.{OnOk};
 ghost use Rattle.ride_model.specs.declared.vehicle.Ride.{Ride};
 ghost use Rattle.ride_model.specs.declared.vehicle.Vehicle.{Vehicle};
 ghost use Rattle.ride_model.specs.Offers.{offer_of};
+ghost use Rattle.ride_model.specs.Road.{IsRoadMap};
 ghost use Rattle.ride_model.specs.Seating.{IsBatchOver};
-ghost use Rattle.ride_model.specs.Vehicle.{IsLawful};
+ghost use Rattle.ride_model.specs.Vehicle.{IsLawful, IsRide};
 ghost use Rattle.ride_model.specs.Limits.{latest_time};
+ghost use Rattle.insertion.specs.Asked.{HoldsTimes};
 ghost use Rattle.pricing_workers.specs.Wanted.{nodes_of};
 
 use crate::pairs::near;
-use crate::rooms::WorkerRoom;
+use crate::pricer::Pricer;
 use crate::times::Times;
-use adaptive_roads::BatchRoads;
 use batch_commit::Batch;
-use insertion::offer_at;
-use ride_model::{Offer, Vehicle};
+use insertion::{Near, offer_at};
+use ride_model::{Offer, Ride, Vehicle};
 use ride_ports::NoMemory;
-use road_times::{Roads, Scratch};
 use std::alloc::Global;
 
 /// A seat by the places in the batch of its request and its vehicle, and its places in the vehicle's plan.
@@ -30,32 +31,43 @@ pub struct SeatPlaces {
 
 /// The offer of a seat's vehicle to its request at its places, if there is one.
 pub fn offer_of_seat(
-    alloc: Global,
     batch: &Batch,
-    roads: &Roads,
-    scratch: &mut Scratch,
+    pricer: &mut Pricer,
     seat: SeatPlaces,
 ) -> Result<Option<Offer>, NoMemory>
     requires request_in { seat.request < length batch.now.requests }
     requires vehicle_in { seat.vehicle < length batch.now.vehicles }
-    requires scratch { scratch.old.nodes ≡ roads.now.nodes }
     requires time { batch.now.time ≤ latest_time }
-    requires over_map { IsBatchOver roads.now batch.now }
-    requires lawful { All (IsLawful roads.now) batch.now.vehicles }
-    ensures offer { IfOk result (λ offer. (ride : Ride) (v : Vehicle) → offer ≡ offer_of roads.now batch.now.settings
-        (slice_index_or batch.now.vehicles seat.vehicle v) (slice_index_or batch.now.requests seat.request ride) batch.now.time seat.i seat.j) }
-    ensures scratch { scratch.new ≡ scratch.old }
+    requires over_map { IsBatchOver pricer.old batch.now }
+    requires lawful { All (IsLawful pricer.old) batch.now.vehicles }
+    ensures offer { IfOk result (λ offer. (ride : Ride) (v : Vehicle)
+        → offer ≡ offer_of pricer.old batch.now.settings
+        (slice_index_or batch.now.vehicles seat.vehicle v)
+        (slice_index_or batch.now.requests seat.request ride)
+        batch.now.time seat.i seat.j) }
+    ensures pricer { pricer.new ≡ pricer.old }
 {
     let ride = &batch.requests()[seat.request as usize];
     let vehicle = &batch.vehicles().vehicles()[seat.vehicle as usize];
-    let nodes = nodes_of(alloc, vehicle)?;
-    let rows = BatchRoads::by_searches(roads, nodes.as_slice());
-    let mut room = WorkerRoom::new(alloc, 0)?;
-    let mut times = Times::new(alloc, nodes.len())?;
-    times.fill(&rows, scratch, &mut room, ride);
-    let near = near(&times, 0, vehicle);
+    let near = near_of(pricer, vehicle, ride)?;
     let (time, settings) = (batch.time(), batch.settings());
     Ok(offer_at(vehicle, ride, seat.i, seat.j, time, settings, &near))
+}
+
+// The times between a vehicle's nodes and a ride's.
+fn near_of(pricer: &mut Pricer, vehicle: &Vehicle, ride: &Ride) -> Result<Near, NoMemory>
+    requires lawful { IsLawful pricer.old vehicle.now }
+    requires ride_fits { IsRide pricer.old ride.now }
+    ensures times { IfOk result (HoldsTimes pricer.old vehicle.now ride.now) }
+    ensures map_fits { OnOk result (IsRoadMap pricer.old) }
+    ensures pricer { pricer.new ≡ pricer.old }
+{
+    let nodes = nodes_of(pricer.alloc(), vehicle)?;
+    let mut times = Times::new(pricer.alloc(), nodes.len())?;
+    pricer.times.look();
+    let roads = pricer.times.towards(nodes.as_slice());
+    times.fill(&roads, &mut pricer.scratches[0], ride);
+    Ok(near(&times, 0, vehicle))
 }
 
 // The nodes of a vehicle: where it is, then those of its stops.

@@ -4,12 +4,11 @@ ghost use Rattle.std.specs.Result.{OnOk};
 ghost use Rattle.ride_model.specs.Road.{IsRoadMap, IsNode};
 ghost use Rattle.pricing_workers.specs.Rows.{HasRows, HoldsRows, near_at};
 
-use crate::rooms::WorkerRoom;
-use adaptive_roads::BatchRoads;
+use adaptive_roads::{BatchRoads, Scratch};
 use insertion::NearStop;
 use ride_model::Ride;
 use ride_ports::NoMemory;
-use road_times::{Scratch, Side};
+use road_times::Side;
 use std::alloc::Global;
 
 /// The times between a request's two nodes and each wanted node, and from its pickup to its drop-off, absent where there is no
@@ -53,36 +52,21 @@ impl Times {
     }
 
     /// Fills the rows for a request: four from its nodes, and the time between them.
-    pub(crate) fn fill(
-        &mut self,
-        roads: &BatchRoads,
-        scratch: &mut Scratch,
-        room: &mut WorkerRoom,
-        ride: &Ride,
-    )
+    pub(crate) fn fill(&mut self, roads: &BatchRoads, scratch: &mut Scratch, ride: &Ride)
         requires rows { HasRows (length roads.now.wanted) self.old }
-        requires room { roads.now.places ≤ room.old.places }
         requires scratch { scratch.old.nodes ≡ roads.now.roads.nodes }
         requires from { IsNode roads.now.roads ride.now.from }
         requires to { IsNode roads.now.roads ride.now.to }
         ensures rows { HoldsRows roads.now.roads ride.now roads.now.wanted self.new }
-        ensures room { room.new ≡ room.old }
         ensures scratch { scratch.new ≡ scratch.old }
         ensures fits { IsRoadMap roads.now.roads }
     {
         let (from, to) = (ride.from, ride.to);
-        let room = &mut room.rows;
-        roads.rows(scratch, room, from, Side::Back, self.to_from.as_mut_slice());
-        roads.rows(
-            scratch,
-            room,
-            from,
-            Side::Out,
-            self.from_here.as_mut_slice(),
-        );
-        roads.rows(scratch, room, to, Side::Back, self.to_to.as_mut_slice());
-        roads.rows(scratch, room, to, Side::Out, self.to_here.as_mut_slice());
-        self.direct = roads.time(scratch, room, from, to);
+        roads.rows(scratch, from, Side::Back, self.to_from.as_mut_slice());
+        roads.rows(scratch, from, Side::Out, self.from_here.as_mut_slice());
+        roads.rows(scratch, to, Side::Back, self.to_to.as_mut_slice());
+        roads.rows(scratch, to, Side::Out, self.to_here.as_mut_slice());
+        self.direct = roads.time(scratch, from, to);
     }
 
     /// The times at the wanted node of this number.

@@ -45,7 +45,8 @@ impl Wanted {
     pub(crate) fn renew(&mut self, batch: &Batch) -> Result<(), NoMemory>
         requires lawful { All IsLawfulSomewhere batch.now.vehicles }
         requires time_limit { batch.now.time ≤ latest_time }
-        ensures { OnOk result (IsWanted batch.now.settings batch.now.time batch.now.vehicles self.new) }
+        ensures { OnOk result
+            (IsWanted batch.now.settings batch.now.time batch.now.vehicles self.new) }
     {
         let settings = batch.settings();
         let time = batch.time();
@@ -71,11 +72,14 @@ impl Wanted {
         requires lawful { IsLawfulSomewhere vehicle.now }
         requires settings_fit { IsSettings settings.now }
         requires time_limit { time ≤ latest_time }
-        ensures nodes { OnOk result (self.new.nodes.items ≡ self.old.nodes.items ++ nodes_of vehicle.now) }
-        ensures plans { OnOk result (take (place + 1) self.new.plans.items ≡ take place self.old.plans.items ++ record {
-          first = length self.old.nodes.items;
-          tables = slack_of vehicle.now (start_of vehicle.now settings.now.lead time) settings.now.dwell;
-        } ∷ []) }
+        ensures nodes { OnOk result
+            (self.new.nodes.items ≡ self.old.nodes.items ++ nodes_of vehicle.now) }
+        ensures plans { OnOk result (take (place + 1) self.new.plans.items
+            ≡ take place self.old.plans.items ++ record {
+              first = length self.old.nodes.items;
+              tables = slack_of vehicle.now (start_of vehicle.now settings.now.lead time)
+                  settings.now.dwell;
+            } ∷ []) }
     {
         let first = self.nodes.len();
         self.nodes.push(vehicle.at)?;
@@ -93,7 +97,8 @@ impl Wanted {
 
     // Adds the nodes of stops.
     fn add_stops(&mut self, stops: &[Stop]) -> Result<(), NoMemory>
-        ensures nodes { OnOk result (self.new.nodes.items ≡ self.old.nodes.items ++ map (λ (stop : Stop). stop.node) stops.now) }
+        ensures nodes { OnOk result (self.new.nodes.items
+            ≡ self.old.nodes.items ++ map (λ (stop : Stop). stop.node) stops.now) }
         ensures plans { self.new.plans ≡ self.old.plans }
     {
         for stop in stops {

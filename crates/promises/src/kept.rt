@@ -33,7 +33,8 @@ fn keeps_limits(rides: &[Ride], stops: &[Stop], times: &[u64]) -> bool
     requires one_each { length times.now ≡ length stops.now }
     requires limited { All IsLimited rides.now }
     requires soon { All (λ time. time ≤ 10000000000000000) times.now }
-    ensures { result ≡ list_all (λ (ride : Ride). not (breaks_along stops.now times.now ride)) rides.now }
+    ensures { result ≡ list_all (λ (ride : Ride). not
+        (breaks_along stops.now times.now ride)) rides.now }
 {
     for ride in rides {
         if breaks_limit(ride, stops, times) {

@@ -54,7 +54,8 @@ impl Buckets {
         requires node_in { node < self.old.nodes }
         requires free { ¬ (IsHeld self.old node) }
         ensures added { list_at self.new bucket ≡ node ∷ list_at self.old bucket }
-        ensures others { (other : ℕ) → other ≢ bucket → list_at self.new other ≡ list_at self.old other }
+        ensures others { (other : ℕ) → other ≢ bucket
+            → list_at self.new other ≡ list_at self.old other }
         ensures size { IsSameSize self.old self.new }
         ensures family { IsFamily self.new }
     {
@@ -66,7 +67,8 @@ impl Buckets {
     pub(crate) fn remove(&mut self, bucket: u32, node: u32)
         requires bucket_in { bucket < 65 }
         requires here { Contains (list_at self.old bucket) node }
-        ensures taken_out { (other : ℕ) → list_at self.new other ≡ without node (list_at self.old other) }
+        ensures taken_out { (other : ℕ)
+            → list_at self.new other ≡ without node (list_at self.old other) }
         ensures size { IsSameSize self.old self.new }
         ensures family { IsFamily self.new }
     {

@@ -63,7 +63,8 @@ impl RadixQueue {
         requires node_in { node < length self.old.keys }
         requires floor { self.old.floor ≤ key }
         ensures key { key_of self.new node ≡ Some (lesser_key (key_of self.old node) key) }
-        ensures others { (other : ℕ) → other ≢ node → key_of self.new other ≡ key_of self.old other }
+        ensures others { (other : ℕ) → other ≢ node
+            → key_of self.new other ≡ key_of self.old other }
         ensures same_floor { self.new.floor ≡ self.old.floor }
         ensures size { length self.new.keys ≡ length self.old.keys }
         ensures above { IsAboveFloor self.new }
@@ -85,7 +86,9 @@ impl RadixQueue {
 
         ensures least { IfSome result (λ least. IsLeast self.old least.0 least.1) }
         ensures taken_out { IfSome result (λ least. key_of self.new least.0 ≡ None) }
-        ensures others { IfSome result (λ least. (other : ℕ) → other ≢ least.0 → key_of self.new other ≡ key_of self.old other) }
+        ensures others { IfSome result
+            (λ least. (other : ℕ) → other ≢ least.0
+            → key_of self.new other ≡ key_of self.old other) }
         ensures floor { IfSome result (λ least. self.new.floor ≡ least.1) }
         ensures size { length self.new.keys ≡ length self.old.keys }
         ensures above { IsAboveFloor self.new }

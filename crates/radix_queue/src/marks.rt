@@ -6,7 +6,8 @@ ghost use Rattle.std.specs.Int.{bit_at};
 pub(crate) fn marked(filled: u64, bucket: u32) -> u64
     requires { bucket ≤ 64 }
     ensures set { 0 < bucket → bit_at result (bucket - 1) ≡ 1 }
-    ensures others { (place : ℕ) → place < 64 → place + 1 ≢ bucket → bit_at result place ≡ bit_at filled place }
+    ensures others { (place : ℕ) → place < 64 → place + 1 ≢ bucket
+        → bit_at result place ≡ bit_at filled place }
 {
     if bucket == 0 {
         return filled;
@@ -18,7 +19,8 @@ pub(crate) fn marked(filled: u64, bucket: u32) -> u64
 pub(crate) fn unmarked(filled: u64, bucket: u32) -> u64
     requires { bucket ≤ 64 }
     ensures cleared { 0 < bucket → bit_at result (bucket - 1) ≡ 0 }
-    ensures others { (place : ℕ) → place < 64 → place + 1 ≢ bucket → bit_at result place ≡ bit_at filled place }
+    ensures others { (place : ℕ) → place < 64 → place + 1 ≢ bucket
+        → bit_at result place ≡ bit_at filled place }
 {
     if bucket == 0 {
         return filled;

@@ -32,7 +32,8 @@ fn key_at(keys: &[Option<u64>], node: u32) -> u64
 fn least_in(buckets: &Buckets, keys: &[Option<u64>], lowest: Lowest) -> Least
     requires family { IsFamily buckets.now }
     requires first { slice_get (list_at buckets.now lowest.bucket) 0 ≡ Some lowest.first }
-    requires keyed { (node : ℕ) → Contains (list_at buckets.now lowest.bucket) node → IsSome (key_in keys.now node) }
+    requires keyed { (node : ℕ) → Contains (list_at buckets.now lowest.bucket) node
+        → IsSome (key_in keys.now node) }
     ensures bucket { result.bucket ≡ lowest.bucket }
     ensures here { Contains (list_at buckets.now lowest.bucket) result.node }
     ensures key { key_in keys.now result.node ≡ Some result.key }
@@ -60,7 +61,8 @@ fn least_in(buckets: &Buckets, keys: &[Option<u64>], lowest: Lowest) -> Least
 /// A node of least key. In the first bucket each key is the floor, and any node will do.
 pub(crate) fn find_least(buckets: &Buckets, keys: &[Option<u64>], floor: u64) -> Option<Least>
     requires { IsPlaced buckets.now keys.now floor 65 (length keys.now) }
-    ensures some { IfSome result (λ least. IsLeastPlaced buckets.now keys.now floor least.bucket least.node least.key) }
+    ensures some { IfSome result (λ least.
+        IsLeastPlaced buckets.now keys.now floor least.bucket least.node least.key) }
     ensures none { IfNone result ((node : ℕ) → key_in keys.now node ≡ None) }
 {
     let lowest = buckets.lowest()?;

@@ -69,7 +69,8 @@ impl RequestBook {
 
     /// What has become of the request of an id, None where none of the id was accepted.
     pub fn state(&self, id: u64) -> Option<RequestState>
-        ensures { result ≡ option_map (λ (request : AcceptedRequest). request.state) (request_of self.now id) }
+        ensures { result ≡ option_map
+            (λ (request : AcceptedRequest). request.state) (request_of self.now id) }
     {
         let request = self.requests.get(&id)?;
         Some(request.state)
@@ -79,7 +80,8 @@ impl RequestBook {
     pub fn accept(&mut self, ride: Ride) -> Result<(), NoMemory>
         requires room { length self.old < most_requests }
         requires fresh { request_of self.old ride.id ≡ None }
-        ensures accepted { OnOk result (self.new ≡ self.old ++ (record { ride = ride; state = Waiting }) ∷ []) }
+        ensures accepted { OnOk result
+            (self.new ≡ self.old ++ (record { ride = ride; state = Waiting }) ∷ []) }
         ensures refused { OnErr result (self.new ≡ self.old) }
     {
         let place = self.requests.len() as u32;

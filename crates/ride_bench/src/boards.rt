@@ -1,9 +1,9 @@
 //! A board of one vehicle on the road of a small town.
 ghost use Rattle.std.specs.Prelude.{◌≡◌, [], IfOk};
 
+use adaptive_roads::Roads;
 use board_core::Board;
 use ride_model::{NoMemory, Settings};
-use road_times::Roads;
 use std::alloc::Global;
 use trial_town::fleet;
 

@@ -112,7 +112,8 @@ struct Times {
 fn time(rt: &impl Clock, rides: &[Ride], stops: &[Stop], ride: &Ride, turns: u64) -> Times
     requires few_rides { length rides.now ≤ 16 }
     requires few_stops { length stops.now ≤ 16 }
-    requires asked { IsTrue (may_be_asked (vehicle_with 1 1000 16 0 rides.now stops.now) ride.now settings) }
+    requires asked { IsTrue (may_be_asked
+        (vehicle_with 1 1000 16 0 rides.now stops.now) ride.now settings) }
     requires drives { is_idle (vehicle_with 1 1000 16 0 rides.now stops.now) ≡ false }
     requires turns { turns ≤ 1000 }
 {

@@ -8,10 +8,10 @@ ghost use Rattle.ride_bench.specs.Shared.{MayBegin, MayLook};
 
 use crate::boards::board;
 use crate::stopwatch::Stopwatch;
+use adaptive_roads::Roads;
 use board_core::Board;
 use fleet_board::{ActorPass, PassSet, SharedBoard};
 use ride_model::{Command, Ending, Entry, Event, NoMemory};
-use road_times::Roads;
 use std::alloc::{AllocError, Global};
 use std::io;
 use std::rt::Clock;
@@ -149,7 +149,8 @@ fn look<'r, R: Wait>(
     requires scribe { MayLook board.now scribe.old }
     requires from { from ≤ length (knowledge scribe.old).seen }
     ensures scribe { MayLook board.now scribe.new }
-    ensures next { IfOk result (λ found. (from ≤ found.0) × (found.0 ≤ length (knowledge scribe.new).seen)) }
+    ensures next { IfOk result (λ found. (from ≤ found.0)
+        × (found.0 ≤ length (knowledge scribe.new).seen)) }
 {
     let tail = board.tail(rt, alloc, scribe, from, MOST)?;
     let entries = tail.entries.as_slice();
@@ -219,7 +220,8 @@ fn run_all<'a, 'r, R: Threads + Wait + Sync>(
             ensures { IfOk result (λ count. count ≤ length (knowledge scribe.exit.now).seen) }
         { run_scribe(rt, alloc, board, scribe) },
         &mut || -> (Result<(), NoMemory>, Result<(), NoMemory>)
-            requires { IsSync R.row × MayBegin board.now first.now × MayBegin board.now second.now × (each ≤ 1000000) }
+            requires { IsSync R.row × MayBegin board.now first.now × MayBegin board.now second.now
+                × (each ≤ 1000000) }
             ensures { OnOk result.0 (length (commands_in (knowledge first.exit.now).own) ≡ each)
                 × OnOk result.1 (length (commands_in (knowledge second.exit.now).own) ≡ each) }
         { run_feeds(rt, board, first, second, each) },

@@ -115,12 +115,6 @@ pub record Pass : Type 0 where
   pub seen : List Entry
   pub own : List Entry
 
--- the history began with what the pass has seen, in which its own entries are the actor's, as they are in the history
-pub record IsPassOf (history : List Entry) (actor : Actor) (pass : Pass) : Type 0 where
-  pub seen_first : (later : List Entry) × (history ≡ pass.seen ++ later)
-  pub own_are : pass.own ≡ entries_of actor pass.seen
-  pub own_all : pass.own ≡ entries_of actor history
-
 -- a call that appends nothing stands at a point after what the pass had seen, and it has now seen up to that point
 pub record Sees (old new : Pass) : Type 0 where
   pub goes_on : (between : List Entry) × (new.seen ≡ old.seen ++ between)

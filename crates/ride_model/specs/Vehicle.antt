@@ -8,7 +8,7 @@ use Rattle.ride_model.specs.declared.vehicle.Stop.{Stop}
 use Rattle.ride_model.specs.declared.vehicle.Vehicle.{Vehicle}
 use Rattle.ride_model.specs.Road.{RoadMap, IsRoadMap, IsNode, travel}
 use Rattle.ride_model.specs.Loads.{loads_fit}
-use Rattle.ride_model.specs.Limits.{latest_ready, latest_time, longest_ride, most_seats, most_vehicle_seats, most_vehicle_chairs}
+use Rattle.ride_model.specs.Limits.{latest_ready, latest_time, longest_ride, most_chairs, most_seats, most_vehicle_seats, most_vehicle_chairs}
 
 -- a ride joins two different nodes, has a load and has limits in their ranges
 pub record IsRide (map : RoadMap) (ride : Ride) : Type 0 where
@@ -16,7 +16,7 @@ pub record IsRide (map : RoadMap) (ride : Ride) : Type 0 where
   pub to_node : IsNode map ride.to
   pub nodes_differ : ride.from ≢ ride.to
   pub seats_limit : ride.seats ≤ most_seats
-  pub chairs_limit : ride.chairs ≤ 4
+  pub chairs_limit : ride.chairs ≤ most_chairs
   pub some_load : 1 ≤ ride.seats + ride.chairs
   pub latest_limit : ride.latest ≤ latest_time
   pub some_seconds : 1 ≤ ride.longest

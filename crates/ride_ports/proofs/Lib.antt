@@ -1,4 +1,5 @@
 pub mod ByteLemmas
 pub mod CountLemmas
+pub mod Counts
 pub mod ShelfLemmas
 pub mod FileLemmas

@@ -1,6 +1,5 @@
 -- Looking up a file by its name.
-use Rattle.std.proofs.Common.{◌≡◌, ℕ, Bool, true, false, List, [], ◌∷◌, Option, None, Some, refl, ap, sym, ◌∙◌, map, find, cond, All, IfSome, bytes_eq, rules}
-use Rattle.std.proofs.lemmas.List.Elements.{All-tail}
+use Rattle.std.proofs.Common.{◌≡◌, ℕ, Bool, true, false, List, [], ◌∷◌, Option, None, Some, refl, ap, sym, ◌∙◌, map, find, cond, bytes_eq}
 use Rattle.std.specs.Option.{option_map, option_or}
 use Rattle.ride_ports.specs.Contents.{bytes_at, IsContentOf, StoredFile}
 use Rattle.ride_ports.specs.Memory.{FileState, SourceState, contents_of, file_named, source_of}

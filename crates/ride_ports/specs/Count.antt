@@ -1,5 +1,5 @@
 -- The counts of faults that sources, sinks and shelves keep.
-use Rattle.std.specs.Prelude.{◌≢◌, ℕ, ◌+◌, ◌-◌, ◌^◌, ◌<◌, min}
+use Rattle.std.specs.Prelude.{◌≡◌, ◌≢◌, ℕ, Bool, false, ◌+◌, ◌-◌, ◌^◌, ◌<◌, ◌≤◌, min, IsTrue}
 
 -- where a count stands still, the greatest number of 64 bits
 abbrev pub most_count : ℕ
@@ -12,3 +12,9 @@ raised count = min (count + 1) most_count
 -- a count rose where it is above what it was before, or was at its end before
 abbrev pub Rose : ℕ → ℕ → Type 0
 Rose before after = before ≢ most_count → before < after
+
+-- what a call leaves of a count of faults: it rose where the call failed, and is as it was where it did not
+pub record KeepsCount (failed : Bool) (before after : ℕ) : Type 0 where
+  pub rose : IsTrue failed → Rose before after
+  pub stays : failed ≡ false → after ≡ before
+  pub never_falls : before ≤ after

@@ -1,7 +1,7 @@
 //! What takes bytes.
-ghost use Rattle.std.specs.Prelude.{◌≡◌, ◌<◌, ◌≤◌, ℕ, List, length, take, Option, IfOk, OnOk, OnErr};
+ghost use Rattle.std.specs.Prelude.{◌≡◌, ◌<◌, ◌≤◌, ℕ, List, length, take, Option, IfOk, OnOk, OnErr, is_err};
 ghost use Rattle.ride_ports.specs.Bytes.{Writes, WritesPrefix};
-ghost use Rattle.ride_ports.specs.Count.{Rose};
+ghost use Rattle.ride_ports.specs.Count.{KeepsCount, Rose};
 
 use crate::sources::Failed;
 
@@ -30,9 +30,7 @@ pub fn write_all<K: Sink>(sink: &mut K, piece: &[u8]) -> Result<(), Failed>
     ensures whole { OnOk result (Writes (K.written sink.old) (K.written sink.new) piece.now) }
     ensures prefix { OnErr result
         (WritesPrefix (K.written sink.old) (K.written sink.new) piece.now) }
-    ensures failed_only_at_fault { OnErr result (Rose (K.faults sink.old) (K.faults sink.new)) }
-    ensures ok_counts_none { OnOk result (K.faults sink.new ≡ K.faults sink.old) }
-    ensures count_never_falls { K.faults sink.old ≤ K.faults sink.new }
+    ensures faults { KeepsCount (is_err result) (K.faults sink.old) (K.faults sink.new) }
 {
     let mut done = 0;
     while done < piece.len() {

@@ -25,8 +25,10 @@ fn clear(labels: &mut [u64])
 #[inline]
 fn relax(uppers: &[Upper], levels: &[u32], label: u64, labels: &mut [u64])
     requires low { label ≤ never }
-    requires known { (k : ℕ) → k < length uppers.now → (upper_at uppers.now k).node < length levels.now }
-    requires inside { (k : ℕ) → k < length uppers.now → level_in levels.now (upper_at uppers.now k).node < length labels.old }
+    requires known { (k : ℕ) → k < length uppers.now
+        → (upper_at uppers.now k).node < length levels.now }
+    requires inside { (k : ℕ) → k < length uppers.now
+        → level_in levels.now (upper_at uppers.now k).node < length labels.old }
     ensures { IsRelaxed levels.now uppers.now (length uppers.now) label labels.old labels.new }
 {
     for upper in uppers {
@@ -37,14 +39,18 @@ fn relax(uppers: &[Upper], levels: &[u32], label: u64, labels: &mut [u64])
 
 /// Climbs from the node of a level: labels each level by the least weight of a way up to its node.
 pub(crate) fn climb(ascents: &Descents, levels: &[u32], first: usize, labels: &mut [u64])
-    requires parts { AreParts (length labels.old) ascents.now.starts.items (length ascents.now.uppers.items) }
+    requires parts { AreParts (length labels.old) ascents.now.starts.items
+        (length ascents.now.uppers.items) }
     requires first { first < length labels.old }
-    requires known { (level place : ℕ) → level < length labels.old → IsIn ascents.now.starts.items level place
+    requires known { (level place : ℕ) → level < length labels.old
+        → IsIn ascents.now.starts.items level place
         → (upper_at ascents.now.uppers.items place).node < length levels.now }
-    requires higher { (level place : ℕ) → level < length labels.old → IsIn ascents.now.starts.items level place
+    requires higher { (level place : ℕ) → level < length labels.old
+        → IsIn ascents.now.starts.items level place
         → (level < level_in levels.now (upper_at ascents.now.uppers.items place).node)
         × (level_in levels.now (upper_at ascents.now.uppers.items place).node < length labels.old) }
-    ensures { IsClimb levels.now ascents.now.starts.items ascents.now.uppers.items first (length labels.old) labels.new }
+    ensures { IsClimb levels.now ascents.now.starts.items ascents.now.uppers.items first
+        (length labels.old) labels.new }
 {
     clear(labels);
     labels[first] = 0;

@@ -128,7 +128,8 @@ impl Hierarchy {
         ensures packed { IfOk result (λ made. IfSome made (IsPackingOf contraction)) }
         ensures hierarchy { IfOk result (λ made. IfSome made (λ hierarchy.
             (map : RoadMap) → IsContractionOf map contraction → IsContractionOf map hierarchy)) }
-        ensures none { IfOk result (λ made. IfNone made (length contraction.order ≢ contraction.nodes)) }
+        ensures none { IfOk result (λ made.
+            IfNone made (length contraction.order ≢ contraction.nodes)) }
     {
         let made = contraction.finish();
         if made.order.len() != made.nodes as usize {
@@ -167,7 +168,8 @@ impl Hierarchy {
 
     /// The arcs that lead down to each contracted node, as a search on a side meets them.
     pub(crate) fn descents_by(&self, side: Side) -> &Descents
-        ensures { AreDescents (IsLinkBy side self.now.arcs) self.now.levels (length self.now.order) result.now.starts.items result.now.uppers.items }
+        ensures { AreDescents (IsLinkBy side self.now.arcs) self.now.levels (length self.now.order)
+            result.now.starts.items result.now.uppers.items }
     {
         match side {
             Side::Out => &self.descents,
@@ -177,7 +179,8 @@ impl Hierarchy {
 
     /// The arcs that lead up from each contracted node, as a search on a side meets them the other way round.
     fn ascents_by(&self, side: Side) -> &Descents
-        ensures { AreDescents (IsLinkBy (opposite side) self.now.arcs) self.now.levels (length self.now.order) result.now.starts.items result.now.uppers.items }
+        ensures { AreDescents (IsLinkBy (opposite side) self.now.arcs) self.now.levels
+            (length self.now.order) result.now.starts.items result.now.uppers.items }
     {
         match side {
             Side::Out => &self.ascents,
@@ -192,7 +195,8 @@ impl Hierarchy {
         requires room { length climbs.old ≡ self.now.nodes }
         ensures climbs { AreClimbs side self.now x climbs.new }
         ensures low { (level : ℕ) → node_at climbs.new level ≤ never }
-        ensures inside { (node : ℕ) → 1 ≤ node → node ≤ self.now.nodes → level_in self.now.levels node < self.now.nodes }
+        ensures inside { (node : ℕ) → 1 ≤ node → node ≤ self.now.nodes
+            → level_in self.now.levels node < self.now.nodes }
     {
         let first = self.levels[x as usize] as usize;
         climb(self.ascents_by(side), &self.levels, first, climbs);
@@ -205,8 +209,10 @@ impl Hierarchy {
         requires node { x ≤ self.now.nodes }
         requires climbs { length climbs.old ≡ self.now.nodes }
         requires labels { length selected.now.nodes ≤ length labels.old }
-        ensures labels { (roads : RoadMap) (place : ℕ) → IsRoadMap roads → IsContractionOf roads self.now → place < length selected.now.nodes
-            → node_at labels.new place ≡ label_for (travel_by selected.now.side roads x (node_at selected.now.nodes place)) }
+        ensures labels { (roads : RoadMap) (place : ℕ) → IsRoadMap roads
+            → IsContractionOf roads self.now → place < length selected.now.nodes
+            → node_at labels.new place ≡ label_for
+            (travel_by selected.now.side roads x (node_at selected.now.nodes place)) }
     {
         self.climb(selected.side, x, climbs);
         sweep(
@@ -249,7 +255,8 @@ impl Hierarchy {
         requires from { x ≤ self.now.nodes }
         requires some_to { 1 ≤ y }
         requires to { y ≤ self.now.nodes }
-        ensures time { (roads : RoadMap) → IsRoadMap roads → IsContractionOf roads self.now → result ≡ travel roads x y }
+        ensures time { (roads : RoadMap) → IsRoadMap roads → IsContractionOf roads self.now
+            → result ≡ travel roads x y }
         ensures room { room.new ≡ room.old }
     {
         let nodes = self.order.len();

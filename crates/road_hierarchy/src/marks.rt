@@ -14,7 +14,8 @@ use std::alloc::{AllocError, Global};
 /// Marks the wanted nodes.
 fn mark_wanted(marks: &mut [bool], wanted: &[u32])
     requires { All (λ node. node < length marks.old) wanted.now }
-    ensures { (place : ℕ) → place < length wanted.now → IsMarked marks.new (node_at wanted.now place) }
+    ensures { (place : ℕ) → place < length wanted.now
+        → IsMarked marks.new (node_at wanted.now place) }
 {
     for node in wanted {
         marks[*node as usize] = true;
@@ -23,10 +24,13 @@ fn mark_wanted(marks: &mut [bool], wanted: &[u32])
 
 /// Marks the upper ends of the arcs that lead down to a node.
 fn mark_uppers(marks: &mut [bool], uppers: &[Upper])
-    requires { (place : ℕ) → place < length uppers.now → (upper_at uppers.now place).node < length marks.old }
-    ensures marked { (place : ℕ) → place < length uppers.now → IsMarked marks.new (upper_at uppers.now place).node }
+    requires { (place : ℕ) → place < length uppers.now
+        → (upper_at uppers.now place).node < length marks.old }
+    ensures marked { (place : ℕ) → place < length uppers.now
+        → IsMarked marks.new (upper_at uppers.now place).node }
     ensures kept { (node : ℕ) → IsMarked marks.old node → IsMarked marks.new node }
-    ensures others { (node : ℕ) → ((place : ℕ) → place < length uppers.now → (upper_at uppers.now place).node ≢ node)
+    ensures others { (node : ℕ) → ((place : ℕ) → place < length uppers.now
+        → (upper_at uppers.now place).node ≢ node)
         → IsMarked marks.new node → IsMarked marks.old node }
 {
     for upper in uppers {
@@ -36,14 +40,18 @@ fn mark_uppers(marks: &mut [bool], uppers: &[Upper])
 
 /// Marks what leads down to a marked node, from the lowest node on.
 fn mark_upward(marks: &mut [bool], descents: &Descents, order: &[u32], levels: &[u32])
-    requires parts { AreParts (length order.now) descents.now.starts.items (length descents.now.uppers.items) }
-    requires ordered { (level : ℕ) → level < length order.now → (node_at order.now level < length marks.old)
+    requires parts { AreParts (length order.now) descents.now.starts.items
+        (length descents.now.uppers.items) }
+    requires ordered { (level : ℕ) → level < length order.now
+        → (node_at order.now level < length marks.old)
         × (level_in levels.now (node_at order.now level) ≡ level) }
-    requires higher { (level place : ℕ) → level < length order.now → IsIn descents.now.starts.items level place
+    requires higher { (level place : ℕ) → level < length order.now
+        → IsIn descents.now.starts.items level place
         → ((upper_at descents.now.uppers.items place).node < length marks.old)
         × (level < level_in levels.now (upper_at descents.now.uppers.items place).node) }
     ensures kept { (node : ℕ) → IsMarked marks.old node → IsMarked marks.new node }
-    ensures closed { AreClosedBelow descents.now.starts.items descents.now.uppers.items order.now (length order.now) marks.new }
+    ensures closed { AreClosedBelow descents.now.starts.items descents.now.uppers.items order.now
+        (length order.now) marks.new }
 {
     for (level, node) in order.iter().enumerate() {
         if !marks[*node as usize] {
@@ -62,7 +70,8 @@ pub(crate) fn marks_of(
 ) -> Result<Vec<bool>, AllocError>
     requires { All (λ node. node ≤ hierarchy.now.nodes) wanted.now }
     ensures sized { IfOk result (λ marks. length marks.items ≡ hierarchy.now.nodes + 1) }
-    ensures wanted { IfOk result (λ marks. (place : ℕ) → place < length wanted.now → IsMarked marks.items (node_at wanted.now place)) }
+    ensures wanted { IfOk result (λ marks. (place : ℕ) → place < length wanted.now
+        → IsMarked marks.items (node_at wanted.now place)) }
     ensures closed { IfOk result (λ marks.
         AreClosed (IsLinkBy side hierarchy.now.arcs) (level_in hierarchy.now.levels) marks.items) }
 {

@@ -78,7 +78,8 @@ struct Selecting {
 /// Appends the steps from upper ends.
 fn append_steps(steps: &mut Vec<Step>, uppers: &[Upper], places: &[u32]) -> Result<(), AllocError>
     requires { (k : ℕ) → k < length uppers.now → (upper_at uppers.now k).node < length places.now }
-    ensures { OnOk result (steps.new.items ≡ steps.old.items ++ map (step_from places.now) uppers.now) }
+    ensures { OnOk result (steps.new.items
+        ≡ steps.old.items ++ map (step_from places.now) uppers.now) }
 {
     for upper in uppers {
         steps.push(Step {
@@ -112,9 +113,11 @@ impl Selecting {
         requires node { node < length self.old.places.items }
         requires few { length self.old.nodes.items < 2 ^ 32 }
         ensures nodes { OnOk result (self.new.nodes.items ≡ self.old.nodes.items ++ node ∷ []) }
-        ensures starts { OnOk result (self.new.starts.items ≡ self.old.starts.items ++ length self.old.steps.items ∷ []) }
+        ensures starts { OnOk result (self.new.starts.items
+            ≡ self.old.starts.items ++ length self.old.steps.items ∷ []) }
         ensures steps { OnOk result (self.new.steps.items ≡ self.old.steps.items) }
-        ensures places { OnOk result (self.new.places.items ≡ slice_set self.old.places.items node (length self.old.nodes.items)) }
+        ensures places { OnOk result (self.new.places.items
+            ≡ slice_set self.old.places.items node (length self.old.nodes.items)) }
     {
         self.places[node as usize] = self.nodes.len() as u32;
         self.nodes.push(node)?;
@@ -126,11 +129,15 @@ impl Selecting {
     fn add_below(&mut self, node: u32, uppers: &[Upper]) -> Result<(), AllocError>
         requires node { node < length self.old.places.items }
         requires few { length self.old.nodes.items < 2 ^ 32 }
-        requires inside { (k : ℕ) → k < length uppers.now → (upper_at uppers.now k).node < length self.old.places.items }
+        requires inside { (k : ℕ) → k < length uppers.now
+            → (upper_at uppers.now k).node < length self.old.places.items }
         ensures nodes { OnOk result (self.new.nodes.items ≡ self.old.nodes.items ++ node ∷ []) }
-        ensures starts { OnOk result (self.new.starts.items ≡ self.old.starts.items ++ length self.new.steps.items ∷ []) }
-        ensures steps { OnOk result (self.new.steps.items ≡ self.old.steps.items ++ map (step_from self.old.places.items) uppers.now) }
-        ensures places { OnOk result (self.new.places.items ≡ slice_set self.old.places.items node (length self.old.nodes.items)) }
+        ensures starts { OnOk result (self.new.starts.items
+            ≡ self.old.starts.items ++ length self.new.steps.items ∷ []) }
+        ensures steps { OnOk result (self.new.steps.items
+            ≡ self.old.steps.items ++ map (step_from self.old.places.items) uppers.now) }
+        ensures places { OnOk result (self.new.places.items
+            ≡ slice_set self.old.places.items node (length self.old.nodes.items)) }
     {
         append_steps(&mut self.steps, uppers, self.places.as_slice())?;
         self.add(node)
@@ -144,9 +151,12 @@ impl Selecting {
         marks: &[bool],
     ) -> Result<(), AllocError>
         requires sized { length marks.now ≡ hierarchy.now.nodes + 1 }
-        requires closed { AreClosed (IsLinkBy side hierarchy.now.arcs) (level_in hierarchy.now.levels) marks.now }
-        requires none { IsSelectingOf hierarchy.now side marks.now (IsFrom hierarchy.now.levels (length hierarchy.now.order)) self.old }
-        ensures { OnOk result (IsSelectingOf hierarchy.now side marks.now (IsFrom hierarchy.now.levels 0) self.new) }
+        requires closed { AreClosed (IsLinkBy side hierarchy.now.arcs)
+            (level_in hierarchy.now.levels) marks.now }
+        requires none { IsSelectingOf hierarchy.now side marks.now
+            (IsFrom hierarchy.now.levels (length hierarchy.now.order)) self.old }
+        ensures { OnOk result (IsSelectingOf hierarchy.now side marks.now
+            (IsFrom hierarchy.now.levels 0) self.new) }
     {
         let order = hierarchy.order();
         let descents = hierarchy.descents_by(side);

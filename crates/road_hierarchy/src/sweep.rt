@@ -14,11 +14,14 @@ pub(crate) const NEVER: u64 = 1_000_000_000_000_000;
 /// The least of the label of a climb and of the ways that end with a step.
 #[inline]
 fn least(climb: u64, steps: &[Step], times: &[u64]) -> u64
-    requires inside { (k : ℕ) → k < length steps.now → (step_at steps.now k).place < length times.now }
-    requires low { (k : ℕ) → k < length steps.now → node_at times.now (step_at steps.now k).place ≤ never }
+    requires inside { (k : ℕ) → k < length steps.now
+        → (step_at steps.now k).place < length times.now }
+    requires low { (k : ℕ) → k < length steps.now
+        → node_at times.now (step_at steps.now k).place ≤ never }
     ensures climbed { result ≤ climb }
     ensures stepped { (k : ℕ) → k < length steps.now → result ≤ through steps.now times.now k }
-    ensures attained { (result ≡ climb) ⊎ ((k : ℕ) × (k < length steps.now) × (result ≡ through steps.now times.now k)) }
+    ensures attained { (result ≡ climb)
+        ⊎ ((k : ℕ) × (k < length steps.now) × (result ≡ through steps.now times.now k)) }
 {
     let mut label = climb;
     for step in steps {
@@ -38,9 +41,11 @@ pub(crate) fn sweep(
     requires room { length ranks.now ≤ length labels.old }
     requires parts { AreParts (length ranks.now) starts.now (length steps.now) }
     requires earlier { ComeEarlier (length ranks.now) starts.now steps.now }
-    requires inside { (place : ℕ) → place < length ranks.now → node_at ranks.now place < length climbs.now }
+    requires inside { (place : ℕ) → place < length ranks.now
+        → node_at ranks.now place < length climbs.now }
     requires low { (level : ℕ) → node_at climbs.now level ≤ never }
-    ensures { (place : ℕ) → place < length ranks.now → IsSwept starts.now steps.now (climb_to ranks.now climbs.now) labels.new place }
+    ensures { (place : ℕ) → place < length ranks.now
+        → IsSwept starts.now steps.now (climb_to ranks.now climbs.now) labels.new place }
 {
     for (place, rank) in ranks.iter().enumerate() {
         let part = &steps[starts[place]..starts[place + 1]];

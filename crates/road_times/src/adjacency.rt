@@ -35,7 +35,8 @@ impl Adjacency {
         requires { tails.now ≡ tails_of side map.now.arcs }
         ensures packed { IfOk result (IsAdjacency (turned_map side map.now)) }
         ensures placed { IfOk result (λ adjacency.
-            ArePlaced side map.now.arcs adjacency.starts.items adjacency.neighbors.items (length map.now.arcs)) }
+            ArePlaced side map.now.arcs adjacency.starts.items
+            adjacency.neighbors.items (length map.now.arcs)) }
     {
         let starts = starts(alloc, tails, map.nodes())?;
         let neighbors = pack(alloc, map.arcs(), side, starts.as_slice())?;

@@ -37,7 +37,8 @@ impl Drop for Search {
 /// Relaxes the arcs of a node that was settled with this label.
 fn relax(queue: &mut RadixQueue, labels: &[Option<u64>], neighbors: &[Neighbor], label: u64)
     requires rooms { length queue.old.keys ≡ length labels.now }
-    requires inside { (place : ℕ) (neighbor : Neighbor) → slice_get neighbors.now place ≡ Some neighbor → neighbor.node < length labels.now }
+    requires inside { (place : ℕ) (neighbor : Neighbor)
+        → slice_get neighbors.now place ≡ Some neighbor → neighbor.node < length labels.now }
     requires floor { queue.old.floor ≡ label }
     requires above { IsAboveFloor queue.old }
     requires below { (node had : ℕ) → label_of labels.now node ≡ Some had → had ≤ label }
@@ -89,8 +90,10 @@ impl Search {
     pub(crate) fn begin(&mut self, source: u32)
         requires ready { IsReady self.old }
         requires inside { source < length self.old.labels.items }
-        ensures begun { (roads : RoadMap) (adjacency : Adjacency) → IsRoadMap roads → IsAdjacency roads adjacency
-            → length self.old.labels.items ≡ roads.nodes + 1 → IsOver roads adjacency source self.new }
+        ensures begun { (roads : RoadMap) (adjacency : Adjacency) → IsRoadMap roads
+            → IsAdjacency roads adjacency
+            → length self.old.labels.items ≡ roads.nodes + 1
+            → IsOver roads adjacency source self.new }
         ensures size { length self.new.labels.items ≡ length self.old.labels.items }
         ensures ready { IsReady self.new }
     {
@@ -115,7 +118,8 @@ impl Search {
 
     /// Settles the next node and relaxes its arcs. Answers false where no node is left.
     fn advance(&mut self, adjacency: &Adjacency) -> bool
-        requires over { (roads : RoadMap) × (source : ℕ) × IsOver roads adjacency.now source self.old }
+        requires over { (roads : RoadMap) × (source : ℕ)
+            × IsOver roads adjacency.now source self.old }
         requires ready { IsReady self.old }
         ensures over { (roads : RoadMap) (source : ℕ) → IsOver roads adjacency.now source self.old
             → IsOver roads adjacency.now source self.new }
@@ -140,7 +144,8 @@ impl Search {
 
     /// The travel time from the source to a node: takes the search up again until the node is settled, or nothing is left.
     pub(crate) fn time_to(&mut self, adjacency: &Adjacency, node: u32) -> Option<u64>
-        requires over { (roads : RoadMap) × (source : ℕ) × IsOver roads adjacency.now source self.old × (node ≤ roads.nodes) }
+        requires over { (roads : RoadMap) × (source : ℕ)
+            × IsOver roads adjacency.now source self.old × (node ≤ roads.nodes) }
         requires ready { IsReady self.old }
         ensures time { (roads : RoadMap) (source : ℕ) → IsOver roads adjacency.now source self.old
             → result ≡ travel roads source node }
@@ -166,11 +171,13 @@ impl Search {
         into: &mut [Option<u64>],
     )
         requires over { (roads : RoadMap) × IsRoadMap roads × IsAdjacency roads adjacency.now
-            × (length self.old.labels.items ≡ roads.nodes + 1) × IsNode roads source × All (IsNode roads) wanted.now }
+            × (length self.old.labels.items ≡ roads.nodes + 1) × IsNode roads source
+            × All (IsNode roads) wanted.now }
         requires ready { IsReady self.old }
         requires places { length wanted.now ≡ length into.old }
         ensures row { (roads : RoadMap) → IsRoadMap roads → IsAdjacency roads adjacency.now
-            → length self.old.labels.items ≡ roads.nodes + 1 → into.new ≡ map (travel roads source) wanted.now }
+            → length self.old.labels.items ≡ roads.nodes + 1
+            → into.new ≡ map (travel roads source) wanted.now }
         ensures size { length self.new.labels.items ≡ length self.old.labels.items }
         ensures ready { IsReady self.new }
     {

@@ -1,5 +1,4 @@
 // Maps that are contracted to the last node.
-ghost use Rattle.std.specs.Prelude.{◌≡◌};
 
 use super::maps::network;
 use contraction::*;

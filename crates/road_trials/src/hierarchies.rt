@@ -1,14 +1,13 @@
 //! Small maps, contracted to the last node: rows by sweeps, and times by two climbs.
-ghost use Rattle.std.specs.Prelude.{◌≡◌, ℕ, ◌+◌, ◌≤◌, length, All, IfSome};
+ghost use Rattle.std.specs.Prelude.{◌≡◌, ◌+◌, ◌≤◌, length, IfSome};
 ghost use Rattle.contraction.specs.Contracted.{IsContractionOf};
 ghost use Rattle.road_hierarchy.specs.Selection.{IsSelectionOf};
-ghost use Rattle.adaptive_roads.specs.Shared.{IsMadeOf};
 
 use super::maps::{MAPS, SmallMap, all_nodes, contraction_of, expect_line, network};
-use adaptive_roads::TravelTimes;
+use adaptive_roads::{Roads, TravelTimes};
 use ride_model::Network;
 use road_hierarchy::*;
-use road_times::{Roads, Side};
+use road_times::Side;
 use std::alloc::Global;
 use std::process::Abort;
 
@@ -100,18 +99,11 @@ fn expect_travels(rt: &impl Abort, alloc: Global, times: &mut TravelTimes, table
 }
 
 // Compares times by searches with the table, and then those by climbs.
-fn expect_same_travels<'r>(
-    rt: &impl Abort,
-    alloc: Global,
-    roads: &'r Roads,
-    hierarchy: &'r Hierarchy,
-    table: &[u64],
-)
-    requires { IsMadeOf roads.now hierarchy.now }
-{
+fn expect_same_travels(rt: &impl Abort, alloc: Global, roads: &Roads, table: &[u64]) {
     let mut times = TravelTimes::new(alloc, roads).expect(rt, "there is memory");
     expect_travels(rt, alloc, &mut times, table);
-    times.climb_by(alloc, hierarchy);
+    roads.prepare_for(alloc, 120);
+    times.look();
     expect_travels(rt, alloc, &mut times, table);
 }
 
@@ -130,7 +122,7 @@ fn expect_both(
     expect_side(rt, alloc, hierarchy, Side::Back, table);
     expect_climbs(rt, alloc, hierarchy, table);
     let roads = Roads::new(alloc, network).expect(rt, "there is memory");
-    expect_same_travels(rt, alloc, &roads, hierarchy, table);
+    expect_same_travels(rt, alloc, &roads, table);
 }
 
 // Compares all that a map tells with its table. It is left as it is where no link may be looked at.

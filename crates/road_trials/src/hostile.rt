@@ -1,11 +1,11 @@
 //! Maps that are hard to contract: rows by sweeps are rows by searches, and a contraction that grows too much ends.
-ghost use Rattle.std.specs.Prelude.{◌≡◌, ◌+◌, ◌≤◌, length, All, IfSome};
+ghost use Rattle.std.specs.Prelude.{◌≡◌, ◌+◌, ◌≤◌, length, IfSome};
 ghost use Rattle.road_hierarchy.specs.Selection.{IsSelectionOf};
 ghost use Rattle.ride_model.specs.declared.network.RoadArc.{RoadArc};
 ghost use Rattle.road_trials.specs.Hostile.{IsHostile};
 
 use super::maps::contraction_of;
-use adaptive_roads::{AdaptiveRoads, BatchRoads, RowRoom};
+use adaptive_roads::{BatchRoads, TravelTimes};
 use ride_model::{Network, RoadArc};
 use road_hierarchy::{Hierarchy, Selected, SweepRoom};
 use road_times::{Roads, Scratch, Side};
@@ -191,45 +191,25 @@ fn expect_case(rt: &impl Abort, alloc: Global, case: &Case) {
     }
 }
 
-// Makes a hierarchy piece by piece, as far as it goes.
-fn prepare_all(alloc: Global, adaptive: &mut AdaptiveRoads)
-    ensures { adaptive.new ≡ adaptive.old }
-{
-    for _ in 0..40 {
-        adaptive.prepare(alloc);
-    }
-}
-
 // All rows of a batch, which are those of searches.
-fn compare_searches(
-    rt: &impl Abort,
-    batch: &BatchRoads,
-    roads: &Roads,
-    scratch: &mut Scratch,
-    room: &mut RowRoom,
-)
-    requires nodes { (batch.now.roads.nodes ≡ 60) × (roads.now.nodes ≡ 60) }
+fn compare_searches(rt: &impl Abort, batch: &BatchRoads, searched: &Roads, rooms: &mut Rooms)
+    requires nodes { (batch.now.roads.nodes ≡ 60) × (searched.now.nodes ≡ 60) }
     requires wanted { length batch.now.wanted ≡ 4 }
-    requires scratch { scratch.old.nodes ≡ 60 }
-    requires room { batch.now.places ≤ room.old.places }
+    requires rooms { (rooms.old.adaptive.nodes ≡ 60) × (rooms.old.search.nodes ≡ 60) }
 {
     for place in 0..NODES {
         let mut row = [None; 4];
-        batch.rows(scratch, room, place + 1, Side::Back, &mut row);
+        batch.rows(&mut rooms.adaptive, place + 1, Side::Back, &mut row);
         let mut times = [None; 4];
-        roads.rows(scratch, place + 1, Side::Back, &WANTED, &mut times);
+        searched.rows(
+            &mut rooms.search,
+            place + 1,
+            Side::Back,
+            &WANTED,
+            &mut times,
+        );
         assert!(rt; row == times, "to place {place}");
     }
-}
-
-fn expect_batch(rt: &impl Abort, alloc: Global, batch: &BatchRoads, roads: &Roads)
-    requires roads { batch.now.roads ≡ roads.now }
-    requires wanted { length batch.now.wanted ≡ 4 }
-    requires nodes { roads.now.nodes ≡ 60 }
-{
-    let mut scratch = Scratch::new(alloc, roads).expect(rt, "there is memory");
-    let mut room = RowRoom::new(alloc, batch.places()).expect(rt, "there is memory");
-    compare_searches(rt, batch, roads, &mut scratch, &mut room);
 }
 
 #[test]
@@ -239,31 +219,34 @@ fn sweeps_and_searches_give_the_same_rows(rt: HostRuntime) {
     }
 }
 
-// The roads of a map that does not contract.
-fn complete_roads(rt: &impl Abort, alloc: Global) -> Roads
-    ensures { result.nodes ≡ 60 }
-{
-    let map = map_of(rt, alloc, &CASES[1]);
-    Roads::new(alloc, &map).expect(rt, "there is memory")
+// What roads that adapt are asked with, and what searches are.
+#[derive(Drop)]
+struct Rooms {
+    adaptive: adaptive_roads::Scratch,
+    search: Scratch,
 }
 
-// All rows of roads that may have adapted, which are those of searches. Answers whether they come by sweeps.
-fn adapts(rt: &impl Abort, alloc: Global, roads: &Roads) -> bool
-    requires { roads.now.nodes ≡ 60 }
+// All rows of roads that may have adapted, which are those of searches. Returns whether they come by sweeps.
+fn adapts(rt: &impl Abort, alloc: Global, map: &Network) -> bool
+    requires { map.now.nodes ≡ 60 }
 {
-    let mut adaptive = AdaptiveRoads::new(roads);
-    adaptive.note(1_000_000);
-    prepare_all(alloc, &mut adaptive);
-    let roads = adaptive.roads();
-    let selections = adaptive.select(alloc, &WANTED);
-    let batch = BatchRoads::over(roads, &WANTED, selections.as_ref());
-    expect_batch(rt, alloc, &batch, roads);
-    selections.is_some()
+    let searched = Roads::new(alloc, map).expect(rt, "there is memory");
+    let roads = adaptive_roads::Roads::new(alloc, map).expect(rt, "there is memory");
+    let mut rooms = Rooms {
+        adaptive: adaptive_roads::Scratch::new(alloc, &roads).expect(rt, "there is memory"),
+        search: Scratch::new(alloc, &searched).expect(rt, "there is memory"),
+    };
+    let mut times = TravelTimes::new(alloc, &roads).expect(rt, "there is memory");
+    roads.prepare_for(alloc, 120);
+    times.look();
+    let batch = times.towards(&WANTED);
+    compare_searches(rt, &batch, &searched, &mut rooms);
+    batch.is_swept()
 }
 
 #[test]
 fn a_map_that_does_not_contract_is_searched(rt: HostRuntime) {
-    let roads = complete_roads(&rt, rt.alloc());
-    let sweeps = adapts(&rt, rt.alloc(), &roads);
+    let map = map_of(&rt, rt.alloc(), &CASES[1]);
+    let sweeps = adapts(&rt, rt.alloc(), &map);
     assert!(rt; !sweeps);
 }

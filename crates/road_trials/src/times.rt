@@ -1,5 +1,5 @@
 //! Small maps, searched.
-ghost use Rattle.std.specs.Prelude.{◌≡◌, ℕ, ◌<◌, ◌≤◌, length, All};
+ghost use Rattle.std.specs.Prelude.{◌≡◌, ◌<◌, ◌≤◌, length, All};
 
 use super::maps::{MAPS, NO, SMALL, SMALL_TIMES, all_nodes, expect_line, network};
 use road_times::*;

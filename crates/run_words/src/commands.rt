@@ -95,7 +95,9 @@ fn with_two<'a>(
     first: &'a str,
     second: &'a str,
 ) -> Result<Command<'a>, WordsError>
-    ensures command { IfOk result (λ more. app_of more ≡ with_option (with_option (app_of command.entry) first.now) second.now) }
+    ensures command { IfOk result
+        (λ more. app_of more ≡ with_option
+        (with_option (app_of command.entry) first.now) second.now) }
     ensures stopped { OnErr result (result ≡ Err WordsError.NoMemory) }
 {
     let command = with_option(command, alloc, first)?;
@@ -108,7 +110,8 @@ fn with_option<'a>(
     alloc: Global,
     name: &'a str,
 ) -> Result<Command<'a>, WordsError>
-    ensures command { IfOk result (λ more. app_of more ≡ with_option (app_of command.entry) name.now) }
+    ensures command { IfOk result
+        (λ more. app_of more ≡ with_option (app_of command.entry) name.now) }
     ensures stopped { OnErr result (result ≡ Err WordsError.NoMemory) }
 {
     match command.arg(option(alloc, name)) {

@@ -15,9 +15,11 @@ use std::alloc::Global;
 pub fn read_by<'a>(command: Command<'a>, words: &'a [String]) -> Result<ArgMatches<'a>, WordsError>
     requires simple { is_simple_and_free (app_of command) ≡ true }
     ensures { MatchResult result
-        (λ given. (option : List ℕ) → first_value (found_of given) option ≡ value_of (app_of command.entry) (map string_bytes words.now) option)
+        (λ given. (option : List ℕ) → first_value (found_of given) option
+        ≡ value_of (app_of command.entry) (map string_bytes words.now) option)
         (λ error. error ≡ WordsError.Refused
-        → (option : List ℕ) → value_of (app_of command.entry) (map string_bytes words.now) option ≡ None) }
+        → (option : List ℕ) → value_of (app_of command.entry) (map string_bytes words.now) option
+        ≡ None) }
 {
     match command.try_get_matches_from(words) {
         Ok(given) => Ok(given),
@@ -30,7 +32,8 @@ pub fn read_by<'a>(command: Command<'a>, words: &'a [String]) -> Result<ArgMatch
 
 /// A copy of an option's value.
 pub fn text(alloc: Global, given: &ArgMatches<'_>, option: &str) -> Result<String, WordsError>
-    ensures { MatchResult result (λ text. first_value (found_of given.now) option.now ≡ Some (string_bytes text))
+    ensures { MatchResult result (λ text. first_value (found_of given.now) option.now
+        ≡ Some (string_bytes text))
         (λ error. error ≡ WordsError.Refused → first_value (found_of given.now) option.now ≡ None) }
 {
     let Some(text) = given.get_str(option) else {
@@ -55,7 +58,8 @@ pub fn three_texts(
         × (first_value (found_of given.now) second.now ≡ Some (string_bytes texts.1))
         × (first_value (found_of given.now) third.now ≡ Some (string_bytes texts.2)))
         (λ error. error ≡ WordsError.Refused → (first_value (found_of given.now) first.now ≡ None)
-        ⊎ (first_value (found_of given.now) second.now ≡ None) ⊎ (first_value (found_of given.now) third.now ≡ None)) }
+        ⊎ (first_value (found_of given.now) second.now ≡ None)
+        ⊎ (first_value (found_of given.now) third.now ≡ None)) }
 {
     let one = text(alloc, given, first)?;
     let two = text(alloc, given, second)?;
@@ -71,8 +75,10 @@ pub fn number(
     most: u64,
 ) -> Result<u64, WordsError>
     ensures number { MatchResult result
-        (λ number. option_and_then (number_within least most) (first_value (found_of given.now) option.now) ≡ Some number)
-        (λ error. option_and_then (number_within least most) (first_value (found_of given.now) option.now) ≡ None) }
+        (λ number. option_and_then (number_within least most)
+        (first_value (found_of given.now) option.now) ≡ Some number)
+        (λ error. option_and_then (number_within least most)
+        (first_value (found_of given.now) option.now) ≡ None) }
     ensures within { IfOk result (λ number. (least ≤ number) × (number ≤ most)) }
 {
     let Some(text) = given.get_str(option) else {

@@ -1,5 +1,5 @@
 -- What the turns of a pricer hand over is allowed.
-use Rattle.std.proofs.Common.{◌≡◌, ℕ, ◌<◌, ◌^◌, true, false, Bool, [], ◌∷◌, eqb, eqb-true, refl, sym, subst, arith}
+use Rattle.std.proofs.Common.{◌≡◌, ℕ, ◌≤◌, ◌<◌, ◌^◌, true, false, Bool, [], ◌∷◌, eqb, eqb-true, refl, sym, subst, arith}
 use Rattle.std.specs.Prelude.{All, None}
 use Rattle.std.specs.List.{IsDistinct}
 use Rattle.std.proofs.lemmas.List.Elements.{All-from_recursion}
@@ -7,14 +7,15 @@ use Rattle.std.proofs.lemmas.Bool.{and_parts}
 use Rattle.ride_model.specs.declared.vehicle.Ride.{Ride}
 use Rattle.ride_model.specs.declared.vehicle.Vehicle.{Vehicle}
 use Rattle.ride_model.specs.Fleet.{IsFleet}
-use Rattle.ride_model.specs.Seating.{IsBatchOver}
+use Rattle.ride_model.specs.Limits.{latest_time}
+use Rattle.ride_model.specs.Seating.{BatchCopy, IsBatchOver}
 use Rattle.ride_model.specs.Vehicle.{IsFresh, IsLawful, IsRide, ride_ids}
 use Rattle.plain_lemmas.proofs.Among.{among_from_contains}
 use Rattle.plan_trials.specs.SmallPlans.{four_nodes, ride_of}
 use Rattle.plan_trials.specs.LineRoad.{is_lawful, is_new}
 use Rattle.plan_trials.proofs.LineRoad.{a_ride, fresh, lawful}
 use Rattle.plan_trials.proofs.NearInLine.{settings_fit}
-use Rattle.seating_trials.specs.TwoRequests.{idle, settings}
+use Rattle.seating_trials.specs.TwoRequests.{IsOverLine, idle, settings}
 use Rattle.seating_trials.specs.InTurn.{asked, fleet_of, may_drive, turn_of}
 use Rattle.seating_trials.proofs.TwoRequests.{both-lawful}
 
@@ -36,7 +37,7 @@ drives v h =
 idle-lawful : IsLawful four_nodes (idle 2 4 true)
 idle-lawful = both-lawful [] true 1 (idle 2 4 true) (omega arith)
 
-pub fleet-lawful : (v : Vehicle) (more : Bool) → may_drive v ≡ true → All (IsLawful four_nodes) (fleet_of v more)
+fleet-lawful : (v : Vehicle) (more : Bool) → may_drive v ≡ true → All (IsLawful four_nodes) (fleet_of v more)
 fleet-lawful v false h = All-from_recursion (IsLawful four_nodes) (v ∷ []) ((drives v h).lawful, tt)
 fleet-lawful v true h = All-from_recursion (IsLawful four_nodes) (v ∷ idle 2 4 true ∷ []) ((drives v h).lawful, (idle-lawful, tt))
 
@@ -70,9 +71,8 @@ fresh-there v false id new = All-from_recursion (λ (w : Vehicle). IsFresh w.rid
 fresh-there v true id new =
     All-from_recursion (λ (w : Vehicle). IsFresh w.rides.items id) (v ∷ idle 2 4 true ∷ []) (new, (none-there id, tt))
 
--- the batch is over the line
-pub over-line : (time : ℕ) (v : Vehicle) (more : Bool) → may_drive v ≡ true → IsBatchOver four_nodes (turn_of time v more)
-over-line time v false h = record {
+over-map : (time : ℕ) (v : Vehicle) (more : Bool) → may_drive v ≡ true → IsBatchOver four_nodes (turn_of time v more)
+over-map time v false h = record {
   settings_fit = settings_fit settings refl;
   few = omega arith;
   vehicles_fit = λ k d low. (fleet-lawful v false h k d low).routed;
@@ -81,7 +81,7 @@ over-line time v false h = record {
   rides_fresh = All-from_recursion (λ (ride : Ride). All (λ (w : Vehicle). IsFresh w.rides.items ride.id) (fleet_of v false)) (asked false)
       (fresh-there v false 9 (drives v h).nine, tt);
 }
-over-line time v true h = record {
+over-map time v true h = record {
   settings_fit = settings_fit settings refl;
   few = omega arith;
   vehicles_fit = λ k d low. (fleet-lawful v true h k d low).routed;
@@ -90,3 +90,9 @@ over-line time v true h = record {
   rides_fresh = All-from_recursion (λ (ride : Ride). All (λ (w : Vehicle). IsFresh w.rides.items ride.id) (fleet_of v true)) (asked true)
       (fresh-there v true 9 (drives v h).nine, (fresh-there v true 8 (drives v h).eight, tt));
 }
+
+-- the batch is over the line
+pub over-line : (time : ℕ) (v : Vehicle) (more : Bool) (batch : BatchCopy) → batch ≡ turn_of time v more → time ≤ latest_time
+    → may_drive v ≡ true → IsOverLine batch
+over-line time v more batch is soon h =
+    subst IsOverLine (sym is) (record { in_time = soon; over_map = over-map time v more h; lawful = fleet-lawful v more h })

@@ -1,6 +1,6 @@
 -- What the trials hand over is allowed.
-use Rattle.std.proofs.Common.{◌≡◌, ℕ, ◌<◌, ◌≤◌, ◌^◌, true, false, Bool, List, [], ◌∷◌, length, eqb, refl, arith}
-use Rattle.std.specs.Prelude.{All, Option, Some, None, not, is_none, ◌&&◌}
+use Rattle.std.proofs.Common.{◌≡◌, ℕ, ◌<◌, ◌≤◌, ◌^◌, true, Bool, List, [], ◌∷◌, eqb, refl, arith}
+use Rattle.std.specs.Prelude.{All, None, not, is_none}
 use Rattle.std.specs.List.{IsDistinct}
 use Rattle.std.proofs.lemmas.List.Elements.{All-from_recursion}
 use Rattle.std.proofs.lemmas.Bool.{not-true, and_parts}
@@ -15,7 +15,7 @@ use Rattle.plan_trials.specs.SmallPlans.{four_nodes}
 use Rattle.plan_trials.specs.LineRoad.{is_ride}
 use Rattle.plan_trials.proofs.LineRoad.{a_ride}
 use Rattle.plan_trials.proofs.NearInLine.{settings_fit}
-use Rattle.seating_trials.specs.TwoRequests.{idle, settings, batch_of, may_ask}
+use Rattle.seating_trials.specs.TwoRequests.{IsOverLine, idle, settings, batch_of, may_ask}
 
 one-two : IsDistinct eqb (1 ∷ 2 ∷ [])
 unfolding IsDistinct
@@ -70,8 +70,8 @@ ids-differ first second h =
     let apart = (and_parts _ (not (eqb first.id second.id)) h).1 in
     ((not-true (eqb first.id second.id) apart, tt), (tt, tt))
 
-pub over-line : (first second : Ride) (duty : Bool) → may_ask first second ≡ true → IsBatchOver four_nodes (batch_of (first ∷ second ∷ []) duty)
-over-line first second duty h =
+over-map : (first second : Ride) (duty : Bool) → may_ask first second ≡ true → IsBatchOver four_nodes (batch_of (first ∷ second ∷ []) duty)
+over-map first second duty h =
     let (h4, apart) = and_parts _ (not (eqb first.id second.id)) h in
     let (h3, second_waits) = and_parts _ (is_none second.picked) h4 in
     let (h2, second_fits) = and_parts _ (is_ride second) h3 in
@@ -88,9 +88,16 @@ over-line first second duty h =
           (fresh-in-both duty first.id, (fresh-in-both duty second.id, tt));
     }
 
+pub over-line : (first second : Ride) (duty : Bool) → may_ask first second ≡ true → IsOverLine (batch_of (first ∷ second ∷ []) duty)
+over-line first second duty h = record {
+  in_time = omega arith;
+  over_map = over-map first second duty h;
+  lawful = both-lawful (first ∷ second ∷ []) duty;
+}
+
 -- and so may no ride
-pub none-over-line : (duty : Bool) → IsBatchOver four_nodes (batch_of [] duty)
-none-over-line duty = record {
+none-over-map : (duty : Bool) → IsBatchOver four_nodes (batch_of [] duty)
+none-over-map duty = record {
   settings_fit = settings_fit settings refl;
   few = omega arith;
   vehicles_fit = both-routed duty;
@@ -98,3 +105,6 @@ none-over-line duty = record {
   rides_wait = All-from_recursion _ [] tt;
   rides_fresh = All-from_recursion _ [] tt;
 }
+
+pub none-over-line : (duty : Bool) → IsOverLine (batch_of [] duty)
+none-over-line duty = record { in_time = omega arith; over_map = none-over-map duty; lawful = both-lawful [] duty }

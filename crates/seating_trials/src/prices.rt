@@ -1,14 +1,15 @@
 //! Two requests and two idle vehicles on a road of four nodes in a line, a minute between neighbours.
 ghost use Rattle.std.specs.Prelude.{◌≡◌, ◌≤◌, ◌<◌, true, [], ◌∷◌, IsTrue};
 ghost use Rattle.plan_trials.specs.SmallPlans.{arc, four_nodes};
-ghost use Rattle.seating_trials.specs.TwoRequests.{idle, batch_of, may_ask};
+ghost use Rattle.batch_commit.specs.Table.{FitsBatch};
+ghost use Rattle.seating_trials.specs.TwoRequests.{idle, batch_of, may_ask, IsOverLine};
 
+use adaptive_roads::Roads;
 use arrayvec::ArrayVec;
 use batch_commit::{Batch, PriceTable};
-use pricing_workers::{price_batch, scratches_of};
+use pricing_workers::{Pricer, price_batch};
 use ride_model::{Fleet, Network, Ride, RoadArc, Settings, Vehicle};
 use ride_ports::{Gate, OpenGate};
-use road_times::Roads;
 use std::alloc::Global;
 use std::process::Abort;
 use std::sync::atomic::{AtomicU64, Ordering};
@@ -86,6 +87,34 @@ pub(crate) fn line(rt: &impl Abort, alloc: Global) -> Roads
     Roads::new(alloc, &map).expect(rt, "there is memory")
 }
 
+// A pricer of so many workers.
+pub(crate) fn pricer<'r>(
+    rt: &impl Abort,
+    alloc: Global,
+    roads: &'r Roads,
+    workers: usize,
+) -> Pricer<'r>
+    requires { 1 ≤ workers }
+    ensures { result ≡ roads.now }
+{
+    Pricer::new(alloc, roads, workers).expect(rt, "there is memory")
+}
+
+// The prices of a batch over the road.
+pub(crate) fn priced<G: Gate>(
+    rt: &(impl Threads + Sync + Abort),
+    batch: &Batch,
+    pricer: &mut Pricer,
+    gate: &G,
+) -> PriceTable
+    requires line { pricer.old ≡ four_nodes }
+    requires over_line { IsOverLine batch.now }
+    ensures fits { FitsBatch batch.now result }
+    ensures pricer { pricer.new ≡ pricer.old }
+{
+    price_batch(rt, batch, pricer, gate).expect(rt, "there is memory")
+}
+
 fn vehicles(rt: &impl Abort, alloc: Global, duty: bool) -> Fleet
     ensures { result ≡ idle 1 1 true ∷ idle 2 4 duty ∷ [] }
 {
@@ -130,10 +159,8 @@ fn costs<G: Gate>(
 {
     let roads = line(rt, alloc);
     let batch = batch(rt, alloc, rides.0, rides.1, duty);
-    let scratches = scratches_of(alloc, &roads, workers);
-    let mut scratches = scratches.expect(rt, "there is memory");
-    let table = price_batch(rt, alloc, &batch, &roads, scratches.as_mut_slice(), gate);
-    let table = table.expect(rt, "there is memory");
+    let mut pricer = pricer(rt, alloc, &roads, workers);
+    let table = priced(rt, &batch, &mut pricer, gate);
     [
         cost(&table, 0, 0),
         cost(&table, 0, 1),
@@ -209,15 +236,6 @@ fn an_empty_batch_is_priced(rt: HostRuntime) {
     let alloc = rt.alloc();
     let roads = line(&rt, alloc);
     let batch = empty_batch(&rt, alloc);
-    let scratches = scratches_of(alloc, &roads, 2);
-    let mut scratches = scratches.expect(&rt, "there is memory");
-    let table = price_batch(
-        &rt,
-        alloc,
-        &batch,
-        &roads,
-        scratches.as_mut_slice(),
-        &OpenGate,
-    );
-    table.expect(&rt, "there is memory");
+    let mut pricer = pricer(&rt, alloc, &roads, 2);
+    priced(&rt, &batch, &mut pricer, &OpenGate);
 }

@@ -1,13 +1,16 @@
 //! Batches that a pricer prices in turn, whatever has changed between them.
 ghost use Rattle.std.specs.Prelude.{◌≡◌, ◌≤◌, length, IsTrue};
+ghost use Rattle.ride_model.specs.Limits.{latest_time};
+ghost use Rattle.batch_commit.specs.Table.{FitsBatch};
 ghost use Rattle.plan_trials.specs.LineRoad.{vehicle_with};
 ghost use Rattle.plan_trials.specs.SmallPlans.{four_nodes};
 ghost use Rattle.seating_trials.specs.InTurn.{count_of, fleet_of, may_drive, turn_of};
+ghost use Rattle.seating_trials.specs.TwoRequests.{IsOverLine};
 
-use super::prices::{SETTINGS, cost, idle, line};
+use super::prices::{SETTINGS, cost, idle, line, priced, pricer};
 use batch_commit::{Batch, PriceTable};
 use plan_trials::line_road::{Car, vehicle};
-use pricing_workers::{Pricer, Search, price_batch, price_batch_adapting, scratches_of};
+use pricing_workers::{Pricer, SeatPlaces, offer_of_seat};
 use ride_model::{Fleet, Kind, Ride, Stop, Vehicle};
 use ride_ports::OpenGate;
 use std::alloc::Global;
@@ -87,44 +90,56 @@ fn costs_in(table: &PriceTable, more: bool) -> [Option<u64>; 4]
     ]
 }
 
-// A pricer that has priced other batches gives these costs, and so does a table of its own.
+// Whether the offer of the first vehicle to the first request is the one at its places.
+fn is_offered(rt: &impl Abort, batch: &Batch, pricer: &mut Pricer, table: &PriceTable) -> bool
+    requires line { pricer.old ≡ four_nodes }
+    requires over_line { IsOverLine batch.now }
+    requires some_request { 1 ≤ length batch.now.requests }
+    requires some_vehicle { 1 ≤ length batch.now.vehicles }
+    requires fits { FitsBatch batch.now table.now }
+    ensures { pricer.new ≡ pricer.old }
+{
+    let Some(offer) = table.cell(0, 0).copied() else {
+        return false;
+    };
+    let seat = SeatPlaces {
+        request: 0,
+        vehicle: 0,
+        i: offer.i,
+        j: offer.j,
+    };
+    let offered = offer_of_seat(batch, pricer, seat).expect(rt, "there is memory");
+    offered == Some(offer)
+}
+
+// A pricer that has priced other batches gives these costs, and so does a new one.
 fn expect(
     rt: &(impl Threads + Sync + Abort),
-    alloc: Global,
-    pricer: &mut Pricer,
+    kept: &mut Pricer,
     time: u64,
     plan: (Car, &[Ride], &[Stop]),
     more: bool,
     wanted: [Option<u64>; 4],
 )
-    requires line { pricer.old ≡ four_nodes }
-    requires soon { time ≤ 1000000000 }
+    requires line { kept.old ≡ four_nodes }
+    requires soon { time ≤ latest_time }
     requires few_rides { length plan.1.now ≤ 16 }
     requires few_stops { length plan.2.now ≤ 16 }
-    requires drives { IsTrue (may_drive (vehicle_with plan.0.at plan.0.ready plan.0.seats plan.0.chairs plan.1.now plan.2.now)) }
-    ensures { pricer.new ≡ pricer.old }
+    requires drives { IsTrue (may_drive (vehicle_with plan.0.at plan.0.ready plan.0.seats
+        plan.0.chairs plan.1.now plan.2.now)) }
+    ensures { kept.new ≡ kept.old }
 {
-    let roads = pricer.roads();
-    let scratches = scratches_of(alloc, roads, 2);
-    let mut scratches = scratches.expect(rt, "there is memory");
-    let scratches = scratches.as_mut_slice();
+    let mut new = pricer(rt, kept.alloc(), kept.roads(), 1);
     let first = vehicle(plan.0, plan.1, plan.2);
-    let batch = turn(rt, alloc, time, first, more);
-    let kept = price_batch_adapting(
-        rt,
-        alloc,
-        Search::BySlack,
-        &batch,
-        pricer,
-        scratches,
-        &OpenGate,
+    let batch = turn(rt, kept.alloc(), time, first, more);
+    let by_kept = priced(rt, &batch, kept, &OpenGate);
+    let by_new = priced(rt, &batch, &mut new, &OpenGate);
+    assert!(rt; costs_in(&by_kept, more) == wanted, "at {time}");
+    assert!(rt; costs_in(&by_new, more) == wanted, "at {time}, anew");
+    assert!(rt;
+        is_offered(rt, &batch, kept, &by_kept),
+        "at {time}, at its places"
     );
-    let kept = kept.expect(rt, "there is memory");
-    let fresh = price_batch(rt, alloc, &batch, roads, scratches, &OpenGate);
-    let fresh = fresh.expect(rt, "there is memory");
-    let kept = costs_in(&kept, more);
-    let fresh = costs_in(&fresh, more);
-    assert!(rt; kept == wanted && fresh == wanted, "at {time}");
 }
 
 // On its way to ride 7, with room for both others; at its pickup; with the rider at the drop-off.
@@ -149,13 +164,12 @@ const AT_THE_DROPOFF: [Option<u64>; 4] = [Some(260), Some(240), Some(80), Some(6
 
 #[test]
 fn a_pricer_keeps_nothing_that_has_changed(rt: HostRuntime) {
-    let alloc = rt.alloc();
-    let roads = line(&rt, alloc);
-    let mut pricer = Pricer::new(&roads);
+    let roads = line(&rt, rt.alloc());
+    let mut pricer = pricer(&rt, rt.alloc(), &roads, 2);
     let stops = [stop!(Pickup, 2, 60), stop!(Dropoff, 4, 120)];
     let plan = (CAR, [SEVEN].as_slice(), stops.as_slice());
-    expect(&rt, alloc, &mut pricer, 0, plan, true, ON_THE_WAY);
-    expect(&rt, alloc, &mut pricer, 0, plan, true, ON_THE_WAY);
+    expect(&rt, &mut pricer, 0, plan, true, ON_THE_WAY);
+    expect(&rt, &mut pricer, 0, plan, true, ON_THE_WAY);
 
     let car = Car {
         at: 2,
@@ -164,7 +178,7 @@ fn a_pricer_keeps_nothing_that_has_changed(rt: HostRuntime) {
     };
     let stops = [stop!(Pickup, 2, 0), stop!(Dropoff, 4, 120)];
     let plan = (car, [SEVEN].as_slice(), stops.as_slice());
-    expect(&rt, alloc, &mut pricer, 30, plan, false, AT_THE_PICKUP);
+    expect(&rt, &mut pricer, 30, plan, false, AT_THE_PICKUP);
 
     let car = Car {
         at: 4,
@@ -173,5 +187,18 @@ fn a_pricer_keeps_nothing_that_has_changed(rt: HostRuntime) {
     };
     let stops = [stop!(Dropoff, 4, 0)];
     let plan = (car, [ride!(7, 2, 4, Some(60))].as_slice(), stops.as_slice());
-    expect(&rt, alloc, &mut pricer, 200, plan, true, AT_THE_DROPOFF);
+    expect(&rt, &mut pricer, 200, plan, true, AT_THE_DROPOFF);
+}
+
+#[test]
+fn batches_are_priced_by_a_hierarchy_once_it_pays(rt: HostRuntime) {
+    let roads = line(&rt, rt.alloc());
+    let mut pricer = pricer(&rt, rt.alloc(), &roads, 2);
+    let stops = [stop!(Pickup, 2, 60), stop!(Dropoff, 4, 120)];
+    let plan = (CAR, [SEVEN].as_slice(), stops.as_slice());
+    for _ in 0..32 {
+        expect(&rt, &mut pricer, 0, plan, true, ON_THE_WAY);
+    }
+    // What they searched was noted, so that nothing is left to prepare.
+    assert!(rt; !pricer.prepare());
 }

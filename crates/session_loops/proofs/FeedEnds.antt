@@ -1,5 +1,5 @@
 -- What a feed's loop has answered, and how it ends.
-use Rattle.std.proofs.Common.{◌≡◌, ℕ, ◌+◌, ◌-◌, ◌<◌, ◌≤◌, true, false, List, [], ◌∷◌, ◌++◌, Option, Some, None, length, refl, ap, sym, subst, ◌∙◌, arith, length-append, true≢false}
+use Rattle.std.proofs.Common.{◌≡◌, ℕ, ◌+◌, ◌-◌, ◌<◌, ◌≤◌, true, false, List, [], ◌∷◌, ◌++◌, Option, Some, None, Err, length, refl, ap, sym, subst, ◌∙◌, arith, length-append, true≢false}
 use Rattle.std.specs.Prelude.{IfSome, MatchOption, IsTrue}
 use Rattle.std.proofs.lemmas.List.Elements.{All-nil, All-push, filter_map-append}
 use Rattle.ride_model.specs.declared.command.Command.{Command}
@@ -10,21 +10,25 @@ use Rattle.ride_model.specs.declared.entry.Event.TheVariants.{Fed}
 use Rattle.ride_model.specs.History.{command_of}
 use Rattle.ride_ports.specs.declared.outcome.Ran.{Ran}
 use Rattle.ride_ports.specs.Bytes.{Reads}
+use Rattle.ride_ports.specs.Count.{KeepsCount}
 use Rattle.ride_ports.proofs.ByteLemmas.{Reads-none, Reads-then}
-use Rattle.command_lines.specs.declared.pieces.FeedStop.TheVariants.{SourceFailed, TooLong}
+use Rattle.line_reader.specs.declared.answers.ReadStop.{ReadStop}
+use Rattle.line_reader.specs.declared.answers.ReadStop.TheVariants.{SourceFailed, TooLong}
+use Rattle.line_reader.specs.Reader.{is_fault}
 use Rattle.command_lines.specs.Commands.{commands_of}
 use Rattle.command_lines.specs.Feeds.{FeedState, HasGiven, IsWhole}
-use Rattle.command_lines.specs.Limits.{AreFirst, IsTooLong, IsWithinLimits, ended_commands}
+use Rattle.line_reader.specs.Limits.{IsTooLong, IsWithinLimits}
+use Rattle.command_lines.specs.Limits.{AreFirst, ended_commands, feed_limits}
 use Rattle.command_lines.proofs.ReaderLemmas.{given-few}
 use Rattle.history_laws.specs.Start.{is_fed}
 use Rattle.board_core.specs.Recorded.{end_entry}
 use Rattle.fleet_board.specs.Passes.{Known, AddsEntry, AddsNone, actor_of, commands_in}
-use Rattle.session_loops.specs.declared.stops.Stop.{Stop}
-use Rattle.session_loops.specs.declared.stops.Stop.TheVariants.{NoMemory, OfFeed}
+use Rattle.line_reader.specs.declared.stops.Stop.{Stop}
+use Rattle.line_reader.specs.declared.stops.Stop.TheVariants.{NoMemory, OfFeed}
 use Rattle.session_loops.specs.Loops.{AreFed, HasFed, RunsFeed}
 use Rattle.session_loops.specs.Making.{AddsAnswer, HasMade, HasSubmitted, IsStoppedBy}
-use Rattle.session_loops.specs.Stops.{AreFirstOf, ending_of, is_no_memory, is_source_failed, is_too_long}
-use Rattle.session_loops.specs.Stops.{IsReadWhole}
+use Rattle.line_reader.specs.FeedRuns.{IsReadWhole, is_no_memory, is_source_failed, is_too_long, ran_of}
+use Rattle.session_loops.specs.Stops.{AreFirstOf, ending_of}
 use Rattle.session_loops.proofs.MadeEntries.{made-none, made-then, made-same, made-end}
 
 -- the entries of a feed's pass that answer these commands
@@ -150,18 +154,15 @@ nothing-submitted log feed k = record {
     each None = tt
     each (Some bytes) = (commands_of log bytes, refl)
 
--- how a feed's loop ran that was stopped, or was not
-abbrev pub ran_of : Option Stop → Ran
-ran_of stop = record {
-  sink_failed = false;
-  no_memory = is_no_memory stop;
-  source_failed = is_source_failed stop;
-  too_long = is_too_long stop;
-}
+-- a stop of the source is a fault of it
+pub fault-stops : (stop : ReadStop) (before after : ℕ) → KeepsCount (is_fault {T = Option Command} (Err stop)) before after
+    → KeepsCount (is_source_failed (Some (OfFeed stop))) before after
+fault-stops SourceFailed before after kept = kept
+fault-stops TooLong before after kept = kept
 
 -- what it has fed
 has-fed : (log : ℕ) (feed left : Option (List ℕ)) (stop : Option Stop) (a b : Known) (has : HasSubmitted log feed left stop a b)
-    → HasFed log feed left (ran_of stop) has.taken has.answers (ending_of stop)
+    → HasFed log feed left (ran_of stop false) has.taken has.answers (ending_of stop)
 has-fed log feed left stop a b has = record {
   reads = has.reads;
   fed = has.fed;
@@ -179,13 +180,13 @@ has-fed log feed left stop a b has = record {
     Ended : Option Stop → Type 0
     Ended o = MatchOption o (IsWhole log left (commands_in has.answers) has.taken) (λ why. IsStoppedBy log why (commands_in has.answers) has.taken)
 
-    whole : (o : Option Stop) → Ended o → is_no_memory o ≡ false → IsReadWhole (ran_of o) → (ending_of o ≡ Whole) × IsWhole log left commands has.taken
+    whole : (o : Option Stop) → Ended o → is_no_memory o ≡ false → IsReadWhole (ran_of o false) → (ending_of o ≡ Whole) × IsWhole log left commands has.taken
     whole None ended memory read = (refl, ended)
     whole (Some NoMemory) ended memory read = absurd (true≢false memory)
     whole (Some (OfFeed SourceFailed)) ended memory read = absurd (true≢false read.0)
     whole (Some (OfFeed TooLong)) ended memory read = absurd (true≢false read.1)
 
-    cut : (o : Option Stop) → Ended o → is_no_memory o ≡ false → (IsReadWhole (ran_of o) → ⊥)
+    cut : (o : Option Stop) → Ended o → is_no_memory o ≡ false → (IsReadWhole (ran_of o false) → ⊥)
         → (ending_of o ≡ Cut) × (commands ≡ ended_commands log has.taken)
     cut None ended memory not_read = absurd (not_read (refl, refl))
     cut (Some NoMemory) ended memory not_read = absurd (true≢false memory)
@@ -196,13 +197,13 @@ has-fed log feed left stop a b has = record {
     wanting None memory = absurd (true≢false (sym memory))
     wanting (Some why) memory = refl
 
-    within : (o : Option Stop) → Ended o → is_no_memory o ≡ false → is_too_long o ≡ false → IsWithinLimits has.taken
+    within : (o : Option Stop) → Ended o → is_no_memory o ≡ false → is_too_long o ≡ false → IsWithinLimits feed_limits has.taken
     within None ended memory short = ended.within
     within (Some NoMemory) ended memory short = absurd (true≢false memory)
     within (Some (OfFeed SourceFailed)) ended memory short = ended.0
     within (Some (OfFeed TooLong)) ended memory short = absurd (true≢false short)
 
-    too_long : (o : Option Stop) → Ended o → is_too_long o ≡ true → IsTooLong has.taken
+    too_long : (o : Option Stop) → Ended o → is_too_long o ≡ true → IsTooLong feed_limits has.taken
     too_long None ended long = absurd (true≢false (sym long))
     too_long (Some NoMemory) ended long = absurd (true≢false (sym long))
     too_long (Some (OfFeed SourceFailed)) ended long = absurd (true≢false (sym long))
@@ -210,12 +211,12 @@ has-fed log feed left stop a b has = record {
 
 -- what it leaves of its pass
 pub runs-feed : (log : ℕ) (feed left : Option (List ℕ)) (stop : Option Stop) (ending : Ending) (ran : Ran) (a b c : Known) → HasSubmitted log feed left stop a b
-    → ending ≡ ending_of stop → ran ≡ ran_of stop → AddsEntry b c (end_entry (actor_of b.number) ending) → RunsFeed log feed left ran a c
+    → ending ≡ ending_of stop → ran ≡ ran_of stop false → AddsEntry b c (end_entry (actor_of b.number) ending) → RunsFeed log feed left ran a c
 runs-feed log feed left stop ending ran a b c has ending_is ran_is ends = record {
   taken = has.taken;
   answers = has.answers;
   ending = ending;
   ends = made-end a b c has.answers ending has.made ends;
   fed = subst (λ (r : Ran). HasFed log feed left r has.taken has.answers ending) (sym ran_is)
-      (subst (λ (e : Ending). HasFed log feed left (ran_of stop) has.taken has.answers e) (sym ending_is) (has-fed log feed left stop a b has));
+      (subst (λ (e : Ending). HasFed log feed left (ran_of stop false) has.taken has.answers e) (sym ending_is) (has-fed log feed left stop a b has));
 }

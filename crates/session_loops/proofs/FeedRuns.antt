@@ -4,8 +4,8 @@ use Rattle.std.specs.Prelude.{IfSome}
 use Rattle.ride_model.specs.declared.command.Command.{Command}
 use Rattle.ride_ports.specs.Bytes.{Reads}
 use Rattle.ride_ports.proofs.ByteLemmas.{Reads-told}
-use Rattle.command_lines.specs.declared.pieces.FeedStop.{FeedStop}
-use Rattle.command_lines.specs.declared.pieces.FeedStop.TheVariants.{SourceFailed, TooLong}
+use Rattle.line_reader.specs.declared.answers.ReadStop.{ReadStop}
+use Rattle.line_reader.specs.declared.answers.ReadStop.TheVariants.{SourceFailed, TooLong}
 use Rattle.command_lines.specs.Commands.{commands_of}
 use Rattle.command_lines.specs.Feeds.{FeedState, HasGiven, IsStopped, IsWhole}
 use Rattle.command_lines.specs.Limits.{AreFirst, ended_commands}
@@ -41,15 +41,11 @@ given-first-of reader log feed left commands taken version reads given = subst (
         (given-first-of-all reader rest commands taken (subst (λ (o : Option (List ℕ)). HasGiven reader o commands taken) is given))
 
 -- those of a feed that was stopped
-pub stopped-first-of : (log : ℕ) (feed left : Option (List ℕ)) (stop : FeedStop) (commands : List Command) (taken : List ℕ)
+pub stopped-first-of : (log : ℕ) (feed left : Option (List ℕ)) (stop : ReadStop) (commands : List Command) (taken : List ℕ)
     → Reads feed left taken → IsStopped log stop commands taken → AreFirstOf log feed taken commands
 stopped-first-of log feed left stop commands taken reads stopped =
-    by_commands (are stop stopped)
+    by_commands stopped.1
   where
-    are : (why : FeedStop) → IsStopped log why commands taken → commands ≡ ended_commands log taken
-    are SourceFailed h = h.1
-    are TooLong h = h.1
-
     each : (o : Option (List ℕ)) → Reads o left taken → IfSome o (λ bytes. AreFirst (ended_commands log taken) (commands_of log bytes))
     each None r = tt
     each (Some bytes) r =

@@ -1,18 +1,18 @@
 -- What a scribe has written of what its pass has seen.
-use Rattle.std.proofs.Common.{◌≡◌, ℕ, ◌+◌, ◌-◌, ◌≤◌, true, false, List, [], Result, Ok, Err, ◌++◌, length, take, drop, Option, refl, sym, ap, subst, ◌∙◌, append_assoc, append-nil, length-append, length-drop, arith}
-use Rattle.std.specs.Prelude.{All, IfOk, OnErr, OnOk, min}
+use Rattle.std.proofs.Common.{◌≡◌, ℕ, Bool, ◌+◌, ◌-◌, ◌≤◌, true, false, List, [], Result, Ok, Err, ◌++◌, length, take, drop, Option, refl, sym, ap, subst, ◌∙◌, append_assoc, append-nil, length-append, length-drop, arith}
+use Rattle.std.specs.Prelude.{All, IfOk, OnErr, OnOk, is_err, min}
 use Rattle.std.proofs.Math.Seq.{take-add}
 use Rattle.std.proofs.lemmas.List.{length-take, take-append-le, take_min}
 use Rattle.std.proofs.lemmas.List.Elements.{All-drop, All-take}
 use Rattle.ride_model.specs.declared.entry.Entry.{Entry}
 use Rattle.ride_model.specs.Text.{HasLine, entry_lines}
-use Rattle.ride_ports.specs.Count.{Rose}
+use Rattle.ride_ports.specs.Count.{KeepsCount}
 use Rattle.board_core.specs.Recorded.{Recorded}
 use Rattle.fleet_board.specs.Passes.{AddsNone, IsPoint, Known, root_of}
 use Rattle.fleet_board.proofs.Looking.{adds_none-then, root-stays, first-stay, seen-grows}
 use Rattle.ride_ports.specs.declared.sources.Failed.{Failed}
 use Rattle.text_page.specs.Output.{HasPut, IsFresh, OutputState}
-use Rattle.text_page.proofs.OutputLemmas.{rose-where-failed, same-where-sound, written-prefix, written-whole}
+use Rattle.text_page.proofs.OutputLemmas.{written-prefix, written-whole}
 use Rattle.session_loops.specs.declared.scribes.Scribed.{Scribed}
 use Rattle.session_loops.specs.Loops.{HasScribed, HasScribedSome}
 use Rattle.session_loops.proofs.LogLemmas.{entry_lines-append}
@@ -125,8 +125,7 @@ pub record CutShort (log : ℕ) (before now : Option (List ℕ)) (faults m : ℕ
   pub written : IfOk scribed (λ (s : Scribed). HasScribed log before now s.entries seen)
   pub not_whole : IfOk scribed (λ (s : Scribed). s.whole ≡ false)
   pub prefix : OnErr scribed (HasScribedSome log before now seen)
-  pub fault : OnErr scribed (Rose faults m)
-  pub counts_none : OnOk scribed (m ≡ faults)
+  pub faults_kept : KeepsCount (is_err scribed) faults m
 
 pub cut-short : (log : ℕ) (before now : Option (List ℕ)) (faults m : ℕ) (output : OutputState) (count : ℕ) (seen : List Entry) (scribed : Result Scribed Failed)
     → count ≤ length seen → HasPut before now faults m output (entry_lines log (take count seen))
@@ -137,15 +136,13 @@ cut-short log before now faults m output count seen (Ok s) within has fresh fail
       (has-scribed log before now faults m output count seen within fresh.stands fresh.bare has);
   not_whole = ap (λ (t : Scribed). t.whole) is;
   prefix = tt;
-  fault = tt;
-  counts_none = same-where-sound before now faults m output (entry_lines log (take count seen)) has fresh.stands;
+  faults_kept = subst (λ (failed : Bool). KeepsCount failed faults m) fresh.stands has.faults;
 }
 cut-short log before now faults m output count seen (Err f) within has fresh failed is = record {
   written = tt;
   not_whole = tt;
   prefix = has-scribed-some log before now faults m output count seen failed has;
-  fault = rose-where-failed before now faults m output (entry_lines log (take count seen)) has failed;
-  counts_none = tt;
+  faults_kept = subst (λ (failed : Bool). KeepsCount failed faults m) failed has.faults;
 }
 
 pub never_whole : (scribed : Result Scribed Failed) (P : Scribed → Type 0) → IfOk scribed (λ (s : Scribed). s.whole ≡ false)

@@ -10,13 +10,14 @@ use Rattle.ride_model.specs.Text.{entry_lines}
 use Rattle.ride_ports.specs.declared.outcome.Ran.{Ran}
 use Rattle.ride_ports.specs.Bytes.{Reads, Writes, WritesPrefix}
 use Rattle.command_lines.specs.Feeds.{IsWhole}
-use Rattle.command_lines.specs.Limits.{IsWithinLimits, IsTooLong, ended_commands}
+use Rattle.line_reader.specs.Limits.{IsWithinLimits, IsTooLong}
+use Rattle.command_lines.specs.Limits.{ended_commands, feed_limits}
 use Rattle.history_laws.specs.Start.{is_fed}
 use Rattle.history_laws.specs.Finishing.{gives_up}
 use Rattle.board_core.specs.Recorded.{end_entry}
 use Rattle.fleet_board.specs.Passes.{Known, actor_of, all_ended, commands_in, root_of, seen_state}
 use Rattle.session_loops.specs.Stops.{AreFirstOf}
-use Rattle.session_loops.specs.Stops.{IsReadWhole}
+use Rattle.line_reader.specs.FeedRuns.{IsReadWhole}
 
 -- a pass has seen more, made these entries and ended its actor so; nothing else of it changed
 pub record EndsWith (old new : Known) (made : List Entry) (ending : Ending) : Type 0 where
@@ -37,8 +38,8 @@ pub record HasFed (log : ℕ) (feed left : Option (List ℕ)) (ran : Ran) (taken
   pub whole : ran.no_memory ≡ false → IsReadWhole ran → (ending ≡ Whole) × IsWhole log left (commands_in answers) taken
   pub cut : ran.no_memory ≡ false → (IsReadWhole ran → ⊥) → (ending ≡ Cut) × (commands_in answers ≡ ended_commands log taken)
   pub wanting : ran.no_memory ≡ true → ending ≡ Cut
-  pub within : ran.no_memory ≡ false → ran.too_long ≡ false → IsWithinLimits taken
-  pub too_long : ran.too_long ≡ true → IsTooLong taken
+  pub within : ran.no_memory ≡ false → ran.too_long ≡ false → IsWithinLimits feed_limits taken
+  pub too_long : ran.too_long ≡ true → IsTooLong feed_limits taken
 
 -- what a feed's loop leaves of its pass
 pub record RunsFeed (log : ℕ) (feed left : Option (List ℕ)) (ran : Ran) (old new : Known) : Type 0 where

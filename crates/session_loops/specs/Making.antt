@@ -13,8 +13,8 @@ use Rattle.command_lines.specs.Feeds.{IsStopped, IsWhole}
 use Rattle.history_laws.specs.Finishing.{gives_up}
 use Rattle.board_core.specs.Recorded.{opened_entry}
 use Rattle.fleet_board.specs.Passes.{Known, AddsEntry, commands_in}
-use Rattle.session_loops.specs.declared.stops.Stop.{Stop}
-use Rattle.session_loops.specs.declared.stops.Stop.TheVariants.{NoMemory, OfFeed}
+use Rattle.line_reader.specs.declared.stops.Stop.{Stop}
+use Rattle.line_reader.specs.declared.stops.Stop.TheVariants.{NoMemory, OfFeed}
 use Rattle.session_loops.specs.Loops.{AreBatches, AreFed, Closes}
 use Rattle.session_loops.specs.Stops.{AreFirstOf}
 

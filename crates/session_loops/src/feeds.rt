@@ -1,8 +1,8 @@
 //! The loop of a feed.
-ghost use Rattle.std.specs.Prelude.{◌≡◌, ◌<◌, ◌≤◌, [], length, false, IsTrue, OnErr, OnOk};
+ghost use Rattle.std.specs.Prelude.{◌≡◌, ◌<◌, ◌≤◌, [], length, false, OnErr, OnOk};
 ghost use Rattle.ride_model.specs.Text.{IsSpelledCommand};
 ghost use Rattle.ride_model.specs.Limits.{most_commands, most_earlier_commands};
-ghost use Rattle.ride_ports.specs.Count.{Rose};
+ghost use Rattle.ride_ports.specs.Count.{KeepsCount};
 ghost use Rattle.command_lines.specs.Feeds.{HasGiven};
 ghost use Rattle.turn_lock.specs.Passes.{knowledge};
 ghost use Rattle.fleet_board.specs.Passes.{AddsNone, IsPoint, commands_in, root_of};
@@ -10,11 +10,12 @@ ghost use Rattle.fleet_board.specs.Roles.{MayFeed};
 ghost use Rattle.fleet_board.specs.Sharing.{MayUse};
 ghost use Rattle.session_loops.specs.Loops.{RunsFeed};
 ghost use Rattle.session_loops.specs.Making.{AddsAnswer, HasSubmitted};
-ghost use Rattle.session_loops.specs.Stops.{is_source_failed};
+ghost use Rattle.line_reader.specs.FeedRuns.{is_source_failed};
 
-use crate::stops::{Stop, ending_of, is_no_memory, is_source_failed, is_too_long};
+use crate::stops::ending_of;
 use command_lines::FeedReader;
 use fleet_board::{ActorPass, SharedBoard};
+use line_reader::{Stop, ran_of};
 use ride_model::{Command, NoMemory};
 use ride_ports::{Gate, Ran, Source};
 use std::alloc::Global;
@@ -37,20 +38,14 @@ pub fn feed_loop<'r, R: Wait, S: Source, G: Gate>(
     requires few { length (commands_in (knowledge pass.old).own) ≤ most_earlier_commands }
     ensures pass { MayUse board.now pass.new }
     ensures point { IsPoint (knowledge pass.new) }
-    ensures ran { RunsFeed log (S.left source.old) (S.left source.new) result (knowledge pass.old) (knowledge pass.new) }
+    ensures ran { RunsFeed log (S.left source.old) (S.left source.new) result
+        (knowledge pass.old) (knowledge pass.new) }
     ensures sink { result.sink_failed ≡ false }
-    ensures source_fault { IsTrue result.source_failed → Rose (S.faults source.old) (S.faults source.new) }
-    ensures source_counts_none { result.source_failed ≡ false → S.faults source.new ≡ S.faults source.old }
-    ensures source_never_falls { S.faults source.old ≤ S.faults source.new }
+    ensures faults { KeepsCount result.source_failed (S.faults source.old) (S.faults source.new) }
 {
     let stop = run_feed(rt, alloc, board, pass, source, gate, log);
     board.end(rt, pass, ending_of(stop));
-    Ran {
-        sink_failed: false,
-        no_memory: is_no_memory(stop),
-        source_failed: is_source_failed(stop),
-        too_long: is_too_long(stop),
-    }
+    ran_of(stop, false)
 }
 
 // Submits the commands of a source to its end, or until something stops them.
@@ -67,10 +62,10 @@ fn run_feed<'r, R: Wait, S: Source, G: Gate>(
     requires log { log ≡ (root_of (knowledge pass.old)).start.settings.log }
     requires few { length (commands_in (knowledge pass.old).own) ≤ most_earlier_commands }
     ensures feed { MayFeed board.now pass.new }
-    ensures submitted { HasSubmitted log (S.left source.old) (S.left source.new) result (knowledge pass.old) (knowledge pass.new) }
-    ensures fault { IsTrue (is_source_failed result) → Rose (S.faults source.old) (S.faults source.new) }
-    ensures other_counts_none { is_source_failed result ≡ false → S.faults source.new ≡ S.faults source.old }
-    ensures count_never_falls { S.faults source.old ≤ S.faults source.new }
+    ensures submitted { HasSubmitted log (S.left source.old) (S.left source.new) result
+        (knowledge pass.old) (knowledge pass.new) }
+    ensures faults { KeepsCount (is_source_failed result)
+        (S.faults source.old) (S.faults source.new) }
 {
     match FeedReader::new(alloc, log) {
         Ok(mut reader) => submit_commands(rt, board, pass, &mut reader, source, gate),
@@ -92,11 +87,11 @@ fn submit_commands<'r, R: Wait, S: Source, G: Gate>(
     requires few { length (commands_in (knowledge pass.old).own) ≤ most_earlier_commands }
     requires nothing_given { HasGiven reader.old (S.left source.old) [] [] }
     ensures feed { MayFeed board.now pass.new }
-    ensures submitted { HasSubmitted reader.old.log (S.left source.old) (S.left source.new) result (knowledge pass.old)
+    ensures submitted { HasSubmitted reader.old.log (S.left source.old)
+        (S.left source.new) result (knowledge pass.old)
         (knowledge pass.new) }
-    ensures fault { IsTrue (is_source_failed result) → Rose (S.faults source.old) (S.faults source.new) }
-    ensures other_counts_none { is_source_failed result ≡ false → S.faults source.new ≡ S.faults source.old }
-    ensures count_never_falls { S.faults source.old ≤ S.faults source.new }
+    ensures faults { KeepsCount (is_source_failed result)
+        (S.faults source.old) (S.faults source.new) }
 {
     'commands: loop {
         match reader.next_command(source) {
@@ -120,9 +115,11 @@ fn submit<'r, R: Wait, G: Gate>(
 ) -> Result<(), NoMemory>
     requires feed { MayFeed board.now pass.old }
     requires few { length (commands_in (knowledge pass.old).own) < most_commands }
-    requires spelled { IsSpelledCommand (root_of (knowledge pass.old)).start.settings.log command.now }
+    requires spelled { IsSpelledCommand
+        (root_of (knowledge pass.old)).start.settings.log command.now }
     ensures feed { MayFeed board.now pass.new }
-    ensures answered { OnOk result (AddsAnswer command.now (knowledge pass.old) (knowledge pass.new)) }
+    ensures answered { OnOk result
+        (AddsAnswer command.now (knowledge pass.old) (knowledge pass.new)) }
     ensures no_memory { OnErr result (AddsNone (knowledge pass.old) (knowledge pass.new)) }
 {
     let (before, after) = places_of(pass.number());

@@ -16,7 +16,8 @@ pub fn put_head<K: Sink>(output: &mut Output, out: &mut K, log: u8, feeds: u8, d
     requires feeds { IsOneOrTwo feeds }
     requires desks { IsOneOrTwo desks }
     requires fresh { IsFresh output.old }
-    ensures logged { HasPut (K.written out.old) (K.written out.new) (K.faults out.old) (K.faults out.new) output.new (head_line log feeds desks) }
+    ensures logged { HasPut (K.written out.old) (K.written out.new) (K.faults out.old)
+        (K.faults out.new) output.new (head_line log feeds desks) }
     ensures bare { output.new.page ≡ [] }
 {
     let printed = print_head(log, feeds, desks, out);
@@ -27,7 +28,8 @@ pub fn put_head<K: Sink>(output: &mut Output, out: &mut K, log: u8, feeds: u8, d
 pub fn put_all<K: Sink>(output: &mut Output, out: &mut K, entries: &[Entry], log: u8)
     requires log { IsOneOrTwo log }
     requires have_lines { All (HasLine log) entries.now }
-    ensures { Puts (K.written out.old) (K.faults out.old) output.old (K.written out.new) (K.faults out.new) output.new
+    ensures { Puts (K.written out.old) (K.faults out.old) output.old
+        (K.written out.new) (K.faults out.new) output.new
         (entry_lines log entries.now) }
 {
     for entry in entries {
@@ -39,7 +41,8 @@ pub fn put_all<K: Sink>(output: &mut Output, out: &mut K, entries: &[Entry], log
 fn put<K: Sink>(output: &mut Output, out: &mut K, entry: &Entry, log: u8)
     requires log { IsOneOrTwo log }
     requires has_line { HasLine log entry.now }
-    ensures { Puts (K.written out.old) (K.faults out.old) output.old (K.written out.new) (K.faults out.new) output.new
+    ensures { Puts (K.written out.old) (K.faults out.old) output.old
+        (K.written out.new) (K.faults out.new) output.new
         (entry_line log entry.now) }
 {
     if output.failed() {
@@ -60,7 +63,8 @@ fn put<K: Sink>(output: &mut Output, out: &mut K, entry: &Entry, log: u8)
 /// Writes the first line of the sheets within a reach.
 pub fn put_reach<K: Sink>(output: &mut Output, out: &mut K, reach: u64)
     requires { IsFresh output.old }
-    ensures { HasPut (K.written out.old) (K.written out.new) (K.faults out.old) (K.faults out.new) output.new (head_of_sheets reach) }
+    ensures { HasPut (K.written out.old) (K.written out.new) (K.faults out.old) (K.faults out.new)
+        output.new (head_of_sheets reach) }
 {
     let printed = print_reach(reach, out);
     output.note(printed);
@@ -68,7 +72,8 @@ pub fn put_reach<K: Sink>(output: &mut Output, out: &mut K, reach: u64)
 
 /// Writes the line of a sheet.
 pub fn put_sheet<K: Sink>(output: &mut Output, out: &mut K, sheet: &MoveSheet)
-    ensures { Puts (K.written out.old) (K.faults out.old) output.old (K.written out.new) (K.faults out.new) output.new (sheet_line sheet.now) }
+    ensures { Puts (K.written out.old) (K.faults out.old) output.old (K.written out.new)
+        (K.faults out.new) output.new (sheet_line sheet.now) }
 {
     output.end(out);
     if output.failed() {
@@ -80,7 +85,8 @@ pub fn put_sheet<K: Sink>(output: &mut Output, out: &mut K, sheet: &MoveSheet)
 
 /// Writes the last line of the sheets.
 pub fn put_end<K: Sink>(output: &mut Output, out: &mut K, ending: Ending)
-    ensures { Puts (K.written out.old) (K.faults out.old) output.old (K.written out.new) (K.faults out.new) output.new (last_line ending) }
+    ensures { Puts (K.written out.old) (K.faults out.old) output.old (K.written out.new)
+        (K.faults out.new) output.new (last_line ending) }
 {
     output.end(out);
     if output.failed() {

@@ -1,7 +1,7 @@
 //! The loop of the scribe.
-ghost use Rattle.std.specs.Prelude.{◌≡◌, ◌≤◌, ℕ, ◌+◌, ◌<◌, ◌++◌, [], false, true, drop, length, take, All, IfOk, List, OnOk, OnErr, Option};
+ghost use Rattle.std.specs.Prelude.{◌≡◌, ℕ, ◌+◌, ◌<◌, [], false, true, drop, length, take, is_err, All, IfOk, List, OnOk, OnErr, Option};
 ghost use Rattle.ride_model.specs.Text.{HasLine, IsOneOrTwo, entry_lines};
-ghost use Rattle.ride_ports.specs.Count.{Rose};
+ghost use Rattle.ride_ports.specs.Count.{KeepsCount};
 ghost use Rattle.turn_lock.specs.Passes.{knowledge};
 ghost use Rattle.fleet_board.specs.Passes.{AddsNone, IsPoint, all_ended, root_of, seen_state};
 ghost use Rattle.fleet_board.specs.Sharing.{MayUse};
@@ -44,12 +44,14 @@ pub fn scribe_loop<'r, R: Wait, K: Sink>(
     ensures pass { MayUse board.now pass.new }
     ensures point { IsPoint (knowledge pass.new) }
     ensures none { AddsNone (knowledge pass.old) (knowledge pass.new) }
-    ensures written { IfOk result (λ scribed. HasScribed log (K.written out.old) (K.written out.new) scribed.entries (knowledge pass.new).seen) }
-    ensures whole { IfOk result (λ scribed. scribed.whole ≡ true → HasSeenAll scribed.entries (knowledge pass.new)) }
-    ensures prefix { OnErr result (HasScribedSome log (K.written out.old) (K.written out.new) (knowledge pass.new).seen) }
-    ensures sink_fault { OnErr result (Rose (K.faults out.old) (K.faults out.new)) }
-    ensures sink_counts_none { OnOk result (K.faults out.new ≡ K.faults out.old) }
-    ensures sink_never_falls { K.faults out.old ≤ K.faults out.new }
+    ensures written { IfOk result
+        (λ scribed. HasScribed log (K.written out.old) (K.written out.new)
+        scribed.entries (knowledge pass.new).seen) }
+    ensures whole { IfOk result (λ scribed. scribed.whole ≡ true
+        → HasSeenAll scribed.entries (knowledge pass.new)) }
+    ensures prefix { OnErr result
+        (HasScribedSome log (K.written out.old) (K.written out.new) (knowledge pass.new).seen) }
+    ensures sink_faults { KeepsCount (is_err result) (K.faults out.old) (K.faults out.new) }
 {
     let Ok(mut output) = Output::new(alloc) else {
         return Ok(Scribed {
@@ -93,9 +95,11 @@ fn next_tail<'r, R: Wait>(
     ensures pass { MayUse board.now pass.new }
     ensures point { IsPoint (knowledge pass.new) }
     ensures none { AddsNone (knowledge pass.old) (knowledge pass.new) }
-    ensures entries { IfOk result (λ found. found.0.entries.items ≡ take 1024 (drop from (knowledge pass.new).seen)) }
+    ensures entries { IfOk result
+        (λ found. found.0.entries.items ≡ take 1024 (drop from (knowledge pass.new).seen)) }
     ensures settled { IfOk result (λ found. found.0.settled
-        ≡ all_ended (root_of (knowledge pass.new)).feeds (root_of (knowledge pass.new)).desks (seen_state (knowledge pass.new))) }
+        ≡ all_ended (root_of (knowledge pass.new)).feeds (root_of (knowledge pass.new)).desks
+        (seen_state (knowledge pass.new))) }
     ensures count { IfOk result (λ found. found.1 ≡ from + length found.0.entries.items) }
 {
     let tail = board.tail(rt, alloc, pass, from, MOST)?;
@@ -110,9 +114,11 @@ fn next_tail<'r, R: Wait>(
 fn put_tail<K: Sink>(output: &mut Output, out: &mut K, entries: &[Entry], log: u8)
     requires log { IsOneOrTwo log }
     requires have_lines { All (HasLine log) entries.now }
-    ensures logged { Puts (K.written out.old) (K.faults out.old) output.old (K.written out.new) (K.faults out.new) output.new
+    ensures logged { Puts (K.written out.old) (K.faults out.old) output.old
+        (K.written out.new) (K.faults out.new) output.new
         (entry_lines log entries.now) }
-    ensures caught_up { length entries.now < 1024 → output.new.failed ≡ false → output.new.page ≡ [] }
+    ensures caught_up { length entries.now < 1024 → output.new.failed ≡ false
+        → output.new.page ≡ [] }
 {
     put_all(output, out, entries, log);
     if entries.len() == MOST as usize {
@@ -128,7 +134,8 @@ fn written_out<K: Sink>(output: &mut Output, out: &mut K, entries: u64) -> Resul
         → HasPut before (K.written out.new) faults (K.faults out.new) output.new text }
     ensures nothing_left { OnOk result (IsFresh output.new) }
     ensures failed { OnErr result (output.new.failed ≡ true) }
-    ensures scribed { IfOk result (λ scribed. scribed ≡ record { entries = entries; whole = false }) }
+    ensures scribed { IfOk result
+        (λ scribed. scribed ≡ record { entries = entries; whole = false }) }
 {
     output.end(out);
     if output.failed() {

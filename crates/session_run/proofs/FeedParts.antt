@@ -14,15 +14,17 @@ use Rattle.ride_model.specs.declared.entry.Entry.{Entry}
 use Rattle.ride_model.specs.History.{command_of, entries_of, fed_commands}
 use Rattle.ride_model.specs.Text.{IsOneOrTwo}
 use Rattle.ride_ports.specs.declared.outcome.Ran.{Ran}
-use Rattle.ride_ports.specs.Count.{Rose}
+use Rattle.ride_ports.specs.Count.{KeepsCount, Rose}
 use Rattle.command_lines.specs.Feeds.{IsWhole}
-use Rattle.command_lines.specs.Limits.{IsTooLong, ended_commands}
+use Rattle.line_reader.specs.Limits.{IsTooLong}
+use Rattle.command_lines.specs.Limits.{ended_commands, feed_limits}
 use Rattle.history_laws.specs.Finishing.{has_whole_end, is_whole_end}
 use Rattle.board_core.specs.Recorded.{Recorded, end_entry}
 use Rattle.fleet_board.specs.Passes.{Known, actor_of, commands_in}
 use Rattle.fleet_board.specs.Sets.{IsPartOf, newcomer}
 use Rattle.session_loops.specs.Loops.{HasFed, RunsFeed}
-use Rattle.session_loops.specs.Stops.{AreFirstOf, IsReadWhole}
+use Rattle.line_reader.specs.FeedRuns.{IsReadWhole}
+use Rattle.session_loops.specs.Stops.{AreFirstOf}
 use Rattle.session_run.specs.Serving.{FeedRun, IsFeedOf}
 
 -- a feed was read whole, or something of it kept it from that
@@ -62,7 +64,7 @@ feed-actor n (low, high) = ap (λ b. cond b (Feed n) (Desk (n - 2))) (small n hi
 pub record FeedOf (log feed : ℕ) (run : FeedRun) (own session : Ran) (history : List Entry) : Type 0 where
   pub taken : List ℕ
   pub is : IsFeedOf log feed run session taken history
-  pub too_long : own.too_long ≡ true → IsTooLong taken
+  pub too_long : own.too_long ≡ true → IsTooLong feed_limits taken
   pub ends_whole : own.no_memory ≡ false → IsReadWhole own → has_whole_end (entries_of (Feed feed) history) ≡ true
 
 module _ (log : ℕ) (run : FeedRun) (own : Ran) (taken : List ℕ) (answers : List Entry) (ending : Ending)
@@ -87,10 +89,9 @@ module _ (log : ℕ) (run : FeedRun) (own : Ran) (taken : List ℕ) (answers : L
 
 pub feed-of : (log feed : ℕ) (run : FeedRun) (own session : Ran) (root : Recorded) (old new : Known) (history : List Entry)
     → IsOneOrTwo feed → old ≡ newcomer root feed → RunsFeed log run.bytes run.left own old new → IsPartOf history (Feed feed) new
-    → (IsTrue own.source_failed → Rose run.faults_before run.faults_after)
-    → (own.source_failed ≡ false → run.faults_after ≡ run.faults_before)
+    → KeepsCount own.source_failed run.faults_before run.faults_after
     → (session.no_memory ≡ false → own.no_memory ≡ false) → FeedOf log feed run own session history
-feed-of log feed run own session root old new history fits fresh runs its fault sound memory =
+feed-of log feed run own session root old new history fits fresh runs its kept memory =
     record {
       taken = runs.taken;
       is = record {
@@ -103,11 +104,11 @@ feed-of log feed run own session root old new history fits fresh runs its fault 
         whole = λ whole.
             let (wants_none, read) = whole-read log run own runs.taken runs.answers runs.ending runs.fed whole in (
               subst (λ (cs : List Command). IsWhole log run.left cs runs.taken) (sym commands) (runs.fed.whole wants_none read).1,
-              sound read.0,
+              kept.stays read.0,
             );
         cut = λ wants_none cut.
-            let (are, kept) = cut-kept log run own runs.taken runs.answers runs.ending runs.fed (memory wants_none) cut in
-            (commands ∙ are, by_cause kept);
+            let (are, cause) = cut-kept log run own runs.taken runs.answers runs.ending runs.fed (memory wants_none) cut in
+            (commands ∙ are, by_cause cause);
       };
       too_long = runs.fed.too_long;
       ends_whole = λ wants_none read. ap has_whole_end part
@@ -123,6 +124,6 @@ feed-of log feed run own session root old new history fits fresh runs its fault 
     commands : fed_commands feed history ≡ commands_in runs.answers
     commands = ap commands_in part ∙ commands-ended runs.answers (Feed feed) runs.ending
 
-    by_cause : (own.source_failed ≡ true) ⊎ (own.too_long ≡ true) → Rose run.faults_before run.faults_after ⊎ IsTooLong runs.taken
-    by_cause (inl failed) = inl (fault failed)
+    by_cause : (own.source_failed ≡ true) ⊎ (own.too_long ≡ true) → Rose run.faults_before run.faults_after ⊎ IsTooLong feed_limits runs.taken
+    by_cause (inl failed) = inl (kept.rose failed)
     by_cause (inr long) = inr (runs.fed.too_long long)

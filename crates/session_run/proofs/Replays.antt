@@ -10,7 +10,7 @@ use Rattle.ride_model.specs.declared.entry.Ending.TheVariants.{Whole, Cut}
 use Rattle.ride_model.specs.declared.entry.Entry.{Entry}
 use Rattle.ride_model.specs.declared.settings.Settings.{Settings}
 use Rattle.ride_model.specs.declared.vehicle.Vehicle.{Vehicle}
-use Rattle.ride_model.specs.Fleet.{IsFleet}
+use Rattle.ride_model.specs.Fleet.{IsFleet, MayStart}
 use Rattle.ride_model.specs.History.{ended_whole, fed_commands, is_whole, entries_of, command_of}
 use Rattle.ride_model.specs.Legal.{IsLegal, replay}
 use Rattle.ride_model.specs.Road.{RoadMap, IsRoadMap}
@@ -21,9 +21,10 @@ use Rattle.ride_ports.proofs.ByteLemmas.{Reads-to_end}
 use Rattle.ride_ports.specs.Bytes.{Reads}
 use Rattle.ride_ports.specs.declared.outcome.Ran.{Ran}
 use Rattle.ride_model.specs.Text.{HasText}
-use Rattle.command_lines.specs.declared.pieces.FeedStop.TheVariants.{SourceFailed, TooLong}
+use Rattle.line_reader.specs.declared.answers.ReadStop.TheVariants.{SourceFailed, TooLong}
 use Rattle.command_lines.specs.Commands.{commands_of}
-use Rattle.command_lines.specs.Limits.{AreFirst, IsTooLong, IsWithinLimits, ended_commands}
+use Rattle.line_reader.specs.Limits.{IsTooLong, IsWithinLimits}
+use Rattle.command_lines.specs.Limits.{AreFirst, ended_commands, feed_limits}
 use Rattle.history_laws.specs.Start.{IsStart}
 use Rattle.history_laws.proofs.KeptHistory.{keeps_promises}
 use Rattle.board_core.specs.Recorded.{Recorded, state_of, end_entry}
@@ -31,10 +32,11 @@ use Rattle.board_core.proofs.OpenBatches.{state-push}
 use Rattle.board_core.proofs.FedEntries.{fed_commands-append}
 use Rattle.text_page.specs.Output.{HasPut, OutputState}
 use Rattle.text_page.proofs.OutputLemmas.{written-prefix, written-whole}
-use Rattle.session_loops.specs.declared.stops.Stop.{Stop}
-use Rattle.session_loops.specs.declared.stops.Stop.TheVariants.{NoMemory, OfFeed}
+use Rattle.line_reader.specs.declared.stops.Stop.{Stop}
+use Rattle.line_reader.specs.declared.stops.Stop.TheVariants.{NoMemory, OfFeed}
 use Rattle.session_run.specs.Logged.{IsLogged}
-use Rattle.session_loops.specs.Stops.{AreFirstOf, IsReadWhole, ending_of, is_source_failed, is_too_long}
+use Rattle.line_reader.specs.FeedRuns.{IsReadWhole, is_source_failed, is_too_long}
+use Rattle.session_loops.specs.Stops.{AreFirstOf, ending_of}
 use Rattle.session_run.specs.Reading.{HasEnded}
 use Rattle.session_run.specs.Replay.{IsReplay}
 use Rattle.session_run.specs.Running.{IsPrompt, IsSession, IsRunning}
@@ -43,16 +45,12 @@ use Rattle.session_run.proofs.Ends.{ends-prompt}
 use Rattle.session_run.proofs.OneMoreEntry.{settled-push}
 
 -- where a session starts
-pub is-start : (roads : RoadMap) (settings : Settings) (fleet : List Vehicle) → IsRoadMap roads → IsSettings settings → IsFleet fleet
-    → All (IsLawful roads) fleet → All (λ (v : Vehicle). v.stops.items ≡ []) fleet → All (λ (v : Vehicle). v.version ≡ 0) fleet
-    → IsStart (start_state roads settings fleet)
-is-start roads settings fleet map ranges fits lawful idle first = record {
+pub is-start : (roads : RoadMap) (settings : Settings) (fleet : List Vehicle) → IsRoadMap roads → IsFleet fleet
+    → MayStart roads settings fleet → IsStart (start_state roads settings fleet)
+is-start roads settings fleet map fits start = record {
   map_fits = map;
-  settings_fit = ranges;
   fleet_fits = fits;
-  lawful = lawful;
-  idle = idle;
-  first_versions = first;
+  may_start = start;
   nothing_yet = refl;
 }
 
@@ -139,7 +137,7 @@ module _ (start : State) (begins : IsStart start) (ran : Ran) (feed : Option (Li
   -- a replay that was cut
   cut-replay : (ending : Ending) → ending ≡ Cut → IsRunning old no_memory
       → new.history ≡ old.history ++ end_entry (Feed 1) ending ∷ end_entry (Desk 1) (cond (eqb (state_of old).opened (state_of old).asked) Whole Cut) ∷ []
-      → (IsReadWhole ran → ⊥) → (ran.too_long ≡ false → IsWithinLimits taken) → (ran.too_long ≡ true → IsTooLong taken)
+      → (IsReadWhole ran → ⊥) → (ran.too_long ≡ false → IsWithinLimits feed_limits taken) → (ran.too_long ≡ true → IsTooLong feed_limits taken)
       → fed_commands 1 old.history ≡ ended_commands old.start.settings.log taken → IsReplay start ran feed taken new.history
   cut-replay ending is_cut running history not_whole within too_long fed =
       let ends = ends-so old new ending (cond (eqb (state_of old).opened (state_of old).asked) Whole Cut) running.session new_start history in
@@ -170,7 +168,7 @@ module _ (start : State) (begins : IsStart start) (ran : Ran) (feed : Option (Li
   -- a replay to the end of the feed
   whole-replay : (ending : Ending) → ending ≡ Whole → IsRunning old no_memory
       → new.history ≡ old.history ++ end_entry (Feed 1) ending ∷ end_entry (Desk 1) (cond (eqb (state_of old).opened (state_of old).asked) Whole Cut) ∷ []
-      → IsReadWhole ran → IsWithinLimits taken → IfSome feed (λ bytes. taken ≡ bytes)
+      → IsReadWhole ran → IsWithinLimits feed_limits taken → IfSome feed (λ bytes. taken ≡ bytes)
       → fed_commands 1 old.history ≡ commands_of old.start.settings.log taken → IsReplay start ran feed taken new.history
   whole-replay ending is_whole_end running history read within all_taken fed =
       let ends = ends-so old new ending (cond (eqb (state_of old).opened (state_of old).asked) Whole Cut) running.session new_start history in
@@ -210,7 +208,7 @@ module _ (start : State) (begins : IsStart start) (ran : Ran) (feed : Option (Li
   -- a replay that was stopped by want of memory
   stopped-replay : (ending : Ending) → ending ≡ Cut → no_memory ≡ true → IsSession old → old.feeds ≡ 1
       → new.history ≡ old.history ++ end_entry (Feed 1) ending ∷ end_entry (Desk 1) (cond (eqb (state_of old).opened (state_of old).asked) Whole Cut) ∷ []
-      → (ran.too_long ≡ true → IsTooLong taken) → IsReplay start ran feed taken new.history
+      → (ran.too_long ≡ true → IsTooLong feed_limits taken) → IsReplay start ran feed taken new.history
   stopped-replay ending is_cut none session one_feed history too_long =
       let ends = ends-so old new ending (cond (eqb (state_of old).opened (state_of old).asked) Whole Cut) session new_start history in
       let lawful = legal_one session one_feed in

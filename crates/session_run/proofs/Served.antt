@@ -6,12 +6,12 @@ use Rattle.ride_model.specs.declared.entry.Entry.{Entry}
 use Rattle.ride_model.specs.declared.command.Actor.TheVariants.{Feed}
 use Rattle.ride_model.specs.History.{entries_of}
 use Rattle.ride_model.specs.Legal.{IsLegal}
-use Rattle.ride_model.specs.Road.{RoadMap}
 use Rattle.ride_model.specs.State.{State}
 use Rattle.ride_model.specs.Text.{HasText, IsOneOrTwo, entry_lines, head_line, text_of}
 use Rattle.ride_ports.specs.declared.outcome.Ran.{Ran}
 use Rattle.ride_ports.specs.declared.sources.Failed.{Failed}
-use Rattle.command_lines.specs.Limits.{IsTooLong}
+use Rattle.line_reader.specs.Limits.{IsTooLong}
+use Rattle.command_lines.specs.Limits.{feed_limits}
 use Rattle.history_laws.specs.Finishing.{has_whole_end}
 use Rattle.history_laws.specs.Start.{IsStart}
 use Rattle.board_core.specs.Recorded.{Recorded}
@@ -23,7 +23,7 @@ use Rattle.session_run.specs.declared.live.actors.Answers.{Answers}
 use Rattle.session_loops.specs.declared.scribes.Scribed.{Scribed}
 use Rattle.session_run.specs.declared.live.stages.Stage.{Stage}
 use Rattle.session_run.specs.Actors.{bare}
-use Rattle.session_loops.specs.Stops.{IsReadWhole}
+use Rattle.line_reader.specs.FeedRuns.{IsReadWhole}
 use Rattle.session_run.specs.Serving.{FeedRun, HasServed, IsFeedOf, IsServed, IsWrittenOut}
 use Rattle.session_run.specs.Stages.{IsClosed, IsReady, LeavesActors, is_cut_short, ran_of, root_at}
 use Rattle.session_run.proofs.FeedParts.{FeedOf}
@@ -81,8 +81,8 @@ module _ (answers : Answers) (sink_failed : Bool) where
       → session.sink_failed ≡ sink_failed
   sink-is riders drivers desks = λ i. (riders i || drivers i) || (desks i || sink_failed)
 
-module _ (roads : RoadMap) (log desks : ℕ) (stage : Stage) (riders drivers : FeedRun) (head_failed : Bool) (first before now last : Option (List ℕ))
-    (faults m n k : ℕ) (answers : Answers) (new : Actors) (ready : IsReady roads stage)
+module _ (log desks : ℕ) (stage : Stage) (riders drivers : FeedRun) (head_failed : Bool) (first before now last : Option (List ℕ))
+    (faults m n k : ℕ) (answers : Answers) (new : Actors) (ready : IsReady stage)
     (left : LeavesActors stage.board log riders drivers head_failed before now m n answers stage.actors new) (board : Recorded)
     (closed : IsClosed new board) (output : OutputState) where
   abbrev ran : Ran
@@ -115,13 +115,13 @@ module _ (roads : RoadMap) (log desks : ℕ) (stage : Stage) (riders drivers : F
       × HasServed start desks ran entries
       × IsFeedOf v 1 riders ran riders_taken entries
       × IsFeedOf v 2 drivers ran drivers_taken entries
-      × (ran.too_long ≡ true → IsTooLong riders_taken ⊎ IsTooLong drivers_taken)
+      × (ran.too_long ≡ true → IsTooLong feed_limits riders_taken ⊎ IsTooLong feed_limits drivers_taken)
       × IsWrittenOut ran first last (text_of v 2 desks entries)) (sym log_is) (
         of_riders.taken,
         of_drivers.taken,
         board.history,
         served start desks ran board.history begins legal text
-            (λ memory. desks-whole roads log stage riders drivers head_failed before now m n answers new ready left board closed
+            (λ memory. desks-whole log stage riders drivers head_failed before now m n answers new ready left board closed
             (none-wanted answers output.failed memory).desks desks desks_are (one_or_two text))
             (λ memory read feed fits. first-or-second (λ f. has_whole_end (entries_of (Feed f) board.history) ≡ true) feed
             (of_riders.ends_whole (none-wanted answers output.failed memory).riders (read_both read).0)
@@ -137,15 +137,15 @@ module _ (roads : RoadMap) (log desks : ℕ) (stage : Stage) (riders drivers : F
       start = (root_at stage).start
 
       of_riders : FeedOf log 1 riders answers.riders ran board.history
-      of_riders = riders-of roads log stage riders drivers head_failed before now m n answers new ready left board closed ran
+      of_riders = riders-of log stage riders drivers head_failed before now m n answers new ready left board closed ran
           (λ memory. (none-wanted answers output.failed memory).riders)
 
       of_drivers : FeedOf log 2 drivers answers.drivers ran board.history
-      of_drivers = drivers-of roads log stage riders drivers head_failed before now m n answers new ready left board closed ran
+      of_drivers = drivers-of log stage riders drivers head_failed before now m n answers new ready left board closed ran
           (λ memory. (none-wanted answers output.failed memory).drivers)
 
       began_so : as_began board ≡ root_at stage
-      began_so = began roads log stage riders drivers head_failed before now m n answers new ready left board closed
+      began_so = began log stage riders drivers head_failed before now m n answers new ready left board closed
 
       begins : IsStart start
       begins = subst (λ (r : Recorded). IsStart r.start) began_so closed.start
@@ -168,6 +168,6 @@ module _ (roads : RoadMap) (log desks : ℕ) (stage : Stage) (riders drivers : F
           let f = lengths-fit answers output.failed fits in
           ((s.0, f.0), (s.1, f.1))
 
-      by_feed : (answers.riders.too_long ≡ true) ⊎ (answers.drivers.too_long ≡ true) → IsTooLong of_riders.taken ⊎ IsTooLong of_drivers.taken
+      by_feed : (answers.riders.too_long ≡ true) ⊎ (answers.drivers.too_long ≡ true) → IsTooLong feed_limits of_riders.taken ⊎ IsTooLong feed_limits of_drivers.taken
       by_feed (inl long) = inl (of_riders.too_long long)
       by_feed (inr long) = inr (of_drivers.too_long long)

@@ -17,7 +17,7 @@ use Rattle.history_laws.proofs.Finished.{whole-finished}
 use Rattle.history_laws.proofs.KeptHistory.{keeps_promises}
 use Rattle.text_page.specs.Output.{HasPut, OutputState}
 use Rattle.text_page.proofs.OutputLemmas.{written-prefix, written-whole}
-use Rattle.session_loops.specs.Stops.{IsReadWhole}
+use Rattle.line_reader.specs.FeedRuns.{IsReadWhole}
 use Rattle.session_run.specs.Serving.{HasServed, IsWrittenOut}
 use Rattle.session_run.proofs.DeskParts.{DeskWhole, none-given_up, part-whole}
 use Rattle.session_loops.proofs.LogLemmas.{text_of-append}

@@ -3,7 +3,6 @@ use Rattle.std.proofs.Common.{◌≡◌, ◌≢◌, ℕ, ◌+◌, ◌≤◌, Boo
 use Rattle.std.specs.Prelude.{IfSome, IsNone, IsSomeAnd, MatchOption}
 use Rattle.ride_model.specs.declared.command.Actor.TheVariants.{Desk as DeskNumbered}
 use Rattle.ride_model.specs.Legal.{IsNumbered}
-use Rattle.ride_model.specs.Road.{RoadMap}
 use Rattle.ride_model.specs.Text.{IsOneOrTwo}
 use Rattle.ride_ports.specs.declared.outcome.Ran.{Ran}
 use Rattle.board_core.specs.Recorded.{Recorded}
@@ -18,7 +17,7 @@ use Rattle.session_run.specs.declared.live.desk_pairs.Desk.{Desk}
 use Rattle.session_run.specs.declared.live.stages.Stage.{Stage}
 use Rattle.session_run.specs.Actors.{LeavesDesk}
 use Rattle.session_run.specs.Serving.{FeedRun}
-use Rattle.session_run.specs.Stages.{HasScratches, IsClosed, IsReady, LeavesActors, root_at}
+use Rattle.session_run.specs.Stages.{IsClosed, IsReady, LeavesActors, root_at}
 use Rattle.session_run.proofs.DeskParts.{DeskWhole, desk-of}
 use Rattle.session_run.proofs.FeedParts.{FeedOf, feed-of}
 use Rattle.session_run.proofs.Sessions.{first-or-second}
@@ -47,8 +46,8 @@ second-count f o (Some x) Q (is, q) = ap one_if_some is
 pub four : (a b c d e : ℕ) → a ≡ 1 → b ≡ 1 → c ≡ 1 → d ≡ e → a + b + c + d ≡ 3 + e
 four a b c d e first second third last = omega arith
 
-module _ (roads : RoadMap) (log : ℕ) (stage : Stage) (riders drivers : FeedRun) (head_failed : Bool) (before now : Option (List ℕ))
-    (faults m : ℕ) (answers : Answers) (new : Actors) (ready : IsReady roads stage)
+module _ (log : ℕ) (stage : Stage) (riders drivers : FeedRun) (head_failed : Bool) (before now : Option (List ℕ))
+    (faults m : ℕ) (answers : Answers) (new : Actors) (ready : IsReady stage)
     (left : LeavesActors stage.board log riders drivers head_failed before now faults m answers stage.actors new) where
   -- the second desk before and after it ran
   Second : Option Desk → Option Desk → Type 0
@@ -56,7 +55,7 @@ module _ (roads : RoadMap) (log : ℕ) (stage : Stage) (riders drivers : FeedRun
 
   New : Option Desk → Type 0
   New o = MatchOption o ((root_at stage).desks ≢ 2) (λ (desk : Desk). ((root_at stage).desks ≡ 2)
-      × IsNewDesk stage.board (root_at stage) 4 desk.pass × HasScratches roads desk.scratches.items)
+      × IsNewDesk stage.board (root_at stage) 4 desk.pass × (desk.pricer ≡ (root_at stage).start.roads))
 
   module _ (board : Recorded) (closed : IsClosed new board) where
     -- the board began as the session did
@@ -70,13 +69,13 @@ module _ (roads : RoadMap) (log : ℕ) (stage : Stage) (riders drivers : FeedRun
         → FeedOf log 1 riders answers.riders session board.history
     riders-of session memory =
         feed-of log 1 riders answers.riders session (root_at stage) (knowledge stage.actors.feed_1) (knowledge new.feed_1) board.history
-        (omega arith, omega arith) ready.feed_1.0.1 left.feed_1.runs closed.feed_1 left.feed_1.source_fault left.feed_1.source_counts_none memory
+        (omega arith, omega arith) ready.feed_1.0.1 left.feed_1.runs closed.feed_1 left.feed_1.faults memory
 
     pub drivers-of : (session : Ran) → (session.no_memory ≡ false → answers.drivers.no_memory ≡ false)
         → FeedOf log 2 drivers answers.drivers session board.history
     drivers-of session memory =
         feed-of log 2 drivers answers.drivers session (root_at stage) (knowledge stage.actors.feed_2) (knowledge new.feed_2) board.history
-        (omega arith, omega arith) ready.feed_2.0.1 left.feed_2.runs closed.feed_2 left.feed_2.source_fault left.feed_2.source_counts_none memory
+        (omega arith, omega arith) ready.feed_2.0.1 left.feed_2.runs closed.feed_2 left.feed_2.faults memory
 
     -- the desks' parts, where memory was not wanting
     pub desks-whole : answers.desks.no_memory ≡ false → (desks : ℕ) → (root_at stage).desks ≡ desks → IsOneOrTwo desks

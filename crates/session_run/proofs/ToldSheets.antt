@@ -1,12 +1,13 @@
 -- What was told of a session that goes on.
-use Rattle.std.proofs.Common.{◌≡◌, ℕ, Bool, true, false, cond, List, [], ◌∷◌, ◌++◌, Option, Some, None, refl, sym, ap, subst, ◌∙◌, append_assoc, append-nil}
+use Rattle.std.proofs.Common.{◌≡◌, ℕ, Bool, true, false, cond, List, [], ◌∷◌, ◌++◌, Option, Some, None, length, take, refl, sym, ap, subst, ◌∙◌, append_assoc, append-nil}
+use Rattle.std.proofs.Math.Seq.{take-append_seam}
 use Rattle.std.specs.Prelude.{◌||◌, not}
 use Rattle.std.proofs.lemmas.List.Concat.{flat_map-append}
 use Rattle.ride_model.specs.declared.entry.Ending.{Ending}
 use Rattle.ride_model.specs.declared.entry.Entry.{Entry}
 use Rattle.ride_model.specs.Text.{text_of}
 use Rattle.ride_model.specs.declared.command.Actor.TheVariants.{Feed, Desk}
-use Rattle.board_core.specs.Recorded.{end_entry}
+use Rattle.board_core.specs.Recorded.{Recorded, end_entry}
 use Rattle.idle_moves.specs.declared.moves.MoveSheet.{MoveSheet}
 use Rattle.idle_moves.specs.AheadText.{ahead_text, head_line, last_line, sheet_line, sheet_lines}
 use Rattle.idle_moves.specs.HistorySheets.{AreSheetsOf}
@@ -15,11 +16,22 @@ use Rattle.session_run.specs.declared.batches.Answered.{Answered}
 use Rattle.session_run.specs.Ahead.{sheets_text}
 use Rattle.session_run.specs.SessionState.{SessionState}
 use Rattle.session_run.specs.Planning.{is_whole, sheets_in}
-use Rattle.session_run.specs.Reading.{HasToldAllBy, HasToldBy, TellsSheets}
+use Rattle.session_run.specs.Reading.{HasToldAllBy, HasToldBy, IsTold, TellsSheets}
 use Rattle.session_run.specs.Running.{GoesOn, IsPrompt}
 use Rattle.session_run.specs.Telling.{GoesOnTo, GoesOnWith}
 use Rattle.session_run.proofs.CommitSheets.{adds-ends}
 use Rattle.session_run.proofs.Ends.{ends-prompt}
+
+-- what was told of a log is the text of the first entries of what it went on to
+pub told-first : (told : ℕ) (earlier now : Option (List ℕ)) (faults n : ℕ) (output : OutputState) (old new : Recorded) (more : List Entry)
+    → new.start ≡ old.start → new.history ≡ old.history ++ more → told ≡ length old.history
+    → IsTold earlier now faults n output old
+    → HasPut earlier now faults n output (text_of new.start.settings.log 1 1 (take told new.history))
+told-first told earlier now faults n output old new more start grows all has =
+    subst (λ (t : List ℕ). HasPut earlier now faults n output t) (sym (λ i. text_of (start i).settings.log 1 1 (first i))) has
+  where
+    first : take told new.history ≡ old.history
+    first = ap (λ k. take k new.history) all ∙ ap (take (length old.history)) grows ∙ take-append_seam old.history more
 
 -- the head and the lines of sheets, and of more
 lines-more : (reach : ℕ) (sheets more : List MoveSheet)

@@ -4,10 +4,9 @@ use Rattle.ride_model.specs.declared.entry.Entry.{Entry}
 use Rattle.ride_model.specs.Road.{RoadMap}
 use Rattle.ride_model.specs.Text.{entry_lines}
 use Rattle.ride_model.specs.Limits.{most_earlier_commands}
-use Rattle.ride_ports.specs.Count.{Rose}
+use Rattle.ride_ports.specs.Count.{KeepsCount}
 use Rattle.ride_ports.specs.declared.outcome.Ran.{Ran}
 use Rattle.ride_ports.specs.declared.sources.Failed.{Failed}
-use Rattle.road_times.specs.Room.{Room}
 use Rattle.board_core.specs.Recorded.{Recorded}
 use Rattle.turn_lock.specs.declared.chronicle.Chronicle.{Ghosts}
 use Rattle.turn_lock.specs.declared.lock.Pass.{Pass}
@@ -60,16 +59,12 @@ module _ {g : Ghosts Kept Recorded Entry} where
     pub may_use : MayUse board new
     pub runs : RunsFeed log run.bytes run.left ran (knowledge old) (knowledge new)
     pub sink : ran.sink_failed ≡ false
-    pub source_fault : IsTrue ran.source_failed → Rose run.faults_before run.faults_after
-    pub source_counts_none : ran.source_failed ≡ false → run.faults_after ≡ run.faults_before
-    pub source_never_falls : run.faults_before ≤ run.faults_after
+    pub faults : KeepsCount ran.source_failed run.faults_before run.faults_after
 
-  -- a desk may run: it has scratches for the board's map
-  pub record MayRunDesk (board : SharedBoard) (roads : RoadMap) (pass : Pass Kept Recorded Entry g) (scratches : List Room) : Type 0 where
+  -- a desk may run: it prices over the board's map
+  pub record MayRunDesk (board : SharedBoard) (pass : Pass Kept Recorded Entry g) (pricer : RoadMap) : Type 0 where
     pub desk : MayOpen board pass
-    pub roads_are : (root_of (knowledge pass)).start.roads ≡ roads
-    pub some_scratch : 1 ≤ length scratches
-    pub scratches_fit : All (λ (scratch : Room). scratch.nodes ≡ roads.nodes) scratches
+    pub roads_are : (root_of (knowledge pass)).start.roads ≡ pricer
 
   -- a desk ran
   pub record LeavesDesk (board : SharedBoard) (ran : Ran) (old new : Pass Kept Recorded Entry g) : Type 0 where

@@ -12,14 +12,16 @@ use Rattle.ride_model.specs.State.{State}
 use Rattle.ride_model.specs.Text.{HasText}
 use Rattle.ride_ports.specs.declared.outcome.Ran.{Ran}
 use Rattle.command_lines.specs.Commands.{commands_of}
-use Rattle.command_lines.specs.Limits.{IsWithinLimits, IsTooLong, ended_commands}
+use Rattle.line_reader.specs.Limits.{IsWithinLimits, IsTooLong}
+use Rattle.command_lines.specs.Limits.{ended_commands, feed_limits}
 use Rattle.history_laws.specs.Start.{IsStart}
-use Rattle.session_loops.specs.Stops.{AreFirstOf, IsReadWhole}
+use Rattle.line_reader.specs.FeedRuns.{IsReadWhole}
+use Rattle.session_loops.specs.Stops.{AreFirstOf}
 use Rattle.session_run.specs.Settled.{IsSettled}
 
 -- a feed within the limits was answered to its end, each accepted ask at once by a commit
 pub record IsWhole (start : State) (taken : List ℕ) (entries : List Entry) : Type 0 where
-  pub within : IsWithinLimits taken
+  pub within : IsWithinLimits feed_limits taken
   pub commands : fed_commands 1 entries ≡ commands_of start.settings.log taken
   pub finished : IsFinished 1 1 start entries
   pub direct : IsDirect entries
@@ -33,7 +35,7 @@ pub record IsCut (start : State) (taken : List ℕ) (entries : List Entry) : Typ
 
 -- a feed within the limits was taken to its end, and all its commands were answered
 pub record IsAnsweredWhole (log : ℕ) (feed : Option (List ℕ)) (taken : List ℕ) (answered : List Command) : Type 0 where
-  pub within : IsWithinLimits taken
+  pub within : IsWithinLimits feed_limits taken
   pub all_taken : IfSome feed (λ bytes. taken ≡ bytes)
   pub all_answered : answered ≡ commands_of log taken
 
@@ -49,6 +51,6 @@ pub record IsReplay (start : State) (ran : Ran) (feed : Option (List ℕ)) (take
   pub first : AreFirstOf start.settings.log feed taken (fed_commands 1 entries)
   pub whole : ran.no_memory ≡ false → IsReadWhole ran → IsWhole start taken entries
   pub cut : ran.no_memory ≡ false → (IsReadWhole ran → ⊥) → IsCut start taken entries
-  pub within : ran.no_memory ≡ false → ran.too_long ≡ false → IsWithinLimits taken
-  pub too_long : ran.too_long ≡ true → IsTooLong taken
+  pub within : ran.no_memory ≡ false → ran.too_long ≡ false → IsWithinLimits feed_limits taken
+  pub too_long : ran.too_long ≡ true → IsTooLong feed_limits taken
   pub ended_whole : IsTrue (ended_whole (replay start entries) (Feed 1)) → IsAnsweredWhole start.settings.log feed taken (fed_commands 1 entries)

@@ -14,11 +14,13 @@ use Rattle.ride_ports.specs.declared.outcome.Ran.{Ran}
 use Rattle.ride_ports.specs.Bytes.{Reads, Writes, WritesPrefix}
 use Rattle.ride_ports.specs.Count.{Rose}
 use Rattle.command_lines.specs.Feeds.{IsWhole}
-use Rattle.command_lines.specs.Limits.{IsTooLong, ended_commands}
+use Rattle.line_reader.specs.Limits.{IsTooLong}
+use Rattle.command_lines.specs.Limits.{ended_commands, feed_limits}
 use Rattle.history_laws.specs.Start.{IsStart}
 use Rattle.board_core.specs.Recorded.{end_entry}
 use Rattle.session_loops.specs.Loops.{AreFed}
-use Rattle.session_loops.specs.Stops.{AreFirstOf, IsReadWhole}
+use Rattle.line_reader.specs.FeedRuns.{IsReadWhole}
+use Rattle.session_loops.specs.Stops.{AreFirstOf}
 
 -- a feed of a session, before and after it: the bytes that its source has left, and the faults that it counts
 pub record FeedRun : Type 0 where
@@ -42,7 +44,7 @@ pub record IsFeedOf (log feed : ℕ) (run : FeedRun) (ran : Ran) (taken : List �
   pub first : AreFirstOf log run.bytes taken (fed_commands feed entries)
   pub whole : ending ≡ Whole → IsWhole log run.left (fed_commands feed entries) taken × (run.faults_after ≡ run.faults_before)
   pub cut : ran.no_memory ≡ false → ending ≡ Cut → (fed_commands feed entries ≡ ended_commands log taken)
-      × (Rose run.faults_before run.faults_after ⊎ IsTooLong taken)
+      × (Rose run.faults_before run.faults_after ⊎ IsTooLong feed_limits taken)
 
 -- a legal history of two feeds, which keeps its promises. Where memory was not wanting each desk ended whole and no batch was
 -- given up, and where both feeds were read whole too it is finished
@@ -78,5 +80,5 @@ IsServed start desks riders drivers ran before after =
     × HasServed start desks ran entries
     × IsFeedOf start.settings.log 1 riders ran riders_taken entries
     × IsFeedOf start.settings.log 2 drivers ran drivers_taken entries
-    × (ran.too_long ≡ true → IsTooLong riders_taken ⊎ IsTooLong drivers_taken)
+    × (ran.too_long ≡ true → IsTooLong feed_limits riders_taken ⊎ IsTooLong feed_limits drivers_taken)
     × IsWrittenOut ran before after (text_of start.settings.log 2 desks entries)

@@ -8,7 +8,6 @@ use Rattle.ride_model.specs.State.{State}
 use Rattle.ride_model.specs.Text.{HasText}
 use Rattle.ride_ports.specs.declared.outcome.Ran.{Ran}
 use Rattle.ride_ports.specs.declared.sources.Failed.{Failed}
-use Rattle.road_times.specs.Room.{Room}
 use Rattle.history_laws.specs.Start.{IsStart}
 use Rattle.board_core.specs.Recorded.{Recorded}
 use Rattle.turn_lock.specs.Passes.{knowledge}
@@ -33,19 +32,14 @@ session_root start desks = record { start = start; feeds = 2; desks = desks; his
 abbrev pub root_at : Stage → Recorded
 root_at stage = root_of (knowledge stage.actors.scribe)
 
--- there is a scratch for the map, and each is for it
-pub record HasScratches (roads : RoadMap) (scratches : List Room) : Type 0 where
-  pub some : 1 ≤ length scratches
-  pub fit : All (λ (scratch : Room). scratch.nodes ≡ roads.nodes) scratches
-
 -- nothing has happened yet
-pub record IsReady (roads : RoadMap) (stage : Stage) : Type 0 where
+pub record IsReady (stage : Stage) : Type 0 where
   pub feed_1 : IsNewFeed stage.board (root_at stage) 1 stage.actors.feed_1
   pub feed_2 : IsNewFeed stage.board (root_at stage) 2 stage.actors.feed_2
   pub desk_1 : IsNewDesk stage.board (root_at stage) 3 stage.actors.desk_1.pass
-  pub scratches_1 : HasScratches roads stage.actors.desk_1.scratches.items
+  pub pricer_1 : stage.actors.desk_1.pricer ≡ (root_at stage).start.roads
   pub desk_2 : MatchOption stage.actors.desk_2 ((root_at stage).desks ≢ 2) (λ (desk : Desk). ((root_at stage).desks ≡ 2)
-      × IsNewDesk stage.board (root_at stage) 4 desk.pass × HasScratches roads desk.scratches.items)
+      × IsNewDesk stage.board (root_at stage) 4 desk.pass × (desk.pricer ≡ (root_at stage).start.roads))
   pub scribe : IsBack stage.board 0 stage.actors.scribe
   pub scribe_point : IsPoint (knowledge stage.actors.scribe)
   pub scribe_seen : (knowledge stage.actors.scribe).seen ≡ []
@@ -74,11 +68,11 @@ pub record IsClosed (actors : Actors) (board : Recorded) : Type 0 where
   pub desk_2 : IfSome actors.desk_2 (λ (desk : Desk). IsPartOf board.history (DeskNumbered 2) (knowledge desk.pass))
 
 -- all actors may run
-pub record MayRunActors (board : SharedBoard) (roads : RoadMap) (log : ℕ) (actors : Actors) : Type 0 where
+pub record MayRunActors (board : SharedBoard) (log : ℕ) (actors : Actors) : Type 0 where
   pub feed_1 : MayRunFeed board log actors.feed_1
   pub feed_2 : MayRunFeed board log actors.feed_2
-  pub desk_1 : MayRunDesk board roads actors.desk_1.pass actors.desk_1.scratches.items
-  pub desk_2 : IfSome actors.desk_2 (λ (desk : Desk). MayRunDesk board roads desk.pass desk.scratches.items)
+  pub desk_1 : MayRunDesk board actors.desk_1.pass actors.desk_1.pricer
+  pub desk_2 : IfSome actors.desk_2 (λ (desk : Desk). MayRunDesk board desk.pass desk.pricer)
   pub scribe : MayScribe board log actors.scribe
 
 -- all actors ran

@@ -9,15 +9,15 @@ ghost use Rattle.session_run.specs.Planning.{AddsSheets, is_whole, sheets_in};
 ghost use Rattle.session_run.specs.Running.{Answers, IsSession, Stops};
 
 use crate::batches::{Answered, run_batch};
+use crate::tools::Tools;
 use board_core::Board;
 use ride_model::{Command, NoMemory, Reply};
-use session_loops::DeskTools;
 use std::thread::Threads;
 
 /// Answers a command, and runs a batch after an accepted ask, for which moves of idle vehicles are planned where a reach is given.
-pub(crate) fn answer<'r, 'q, R: Threads + Sync>(
+pub(crate) fn answer<'r, R: Threads + Sync>(
     board: &mut Board<'r>,
-    tools: &mut DeskTools<'r, 'q>,
+    tools: &mut Tools<'r>,
     rt: &R,
     command: &Command,
     reach: Option<u64>,
@@ -28,7 +28,8 @@ pub(crate) fn answer<'r, 'q, R: Threads + Sync>(
     requires few { length (fed_commands 1 board.old.history) < most_commands }
     requires spelled { IsSpelledCommand board.old.start.settings.log command.now }
     requires reach_limit { ForSome reach (λ r. r ≤ longest_reach) }
-    ensures answered { IfOk result (λ answered. Answers (is_whole answered) command.now board.old board.new) }
+    ensures answered { IfOk result
+        (λ answered. Answers (is_whole answered) command.now board.old board.new) }
     ensures sheets { IfOk result (λ answered. is_whole answered ≡ true
         → (r : ℕ) → reach ≡ Some r → AddsSheets r (sheets_in answered) board.old board.new) }
     ensures stopped { OnErr result (Stops command.now board.old board.new) }
@@ -38,7 +39,6 @@ pub(crate) fn answer<'r, 'q, R: Threads + Sync>(
     let _entries = board.entries();
     let reply = board.apply(1, command)?;
     if matches!(reply, Reply::Asked { .. }) {
-        tools.meet(board);
         return run_batch(board, tools, rt, reach);
     }
     Ok(Answered::Whole(None))

@@ -9,11 +9,11 @@ ghost use Rattle.board_core.specs.Recorded.{committed_entry, state_of};
 ghost use Rattle.session_run.specs.Planning.{AddsSheets, CommitsPlanned, IsPlanned, is_whole, sheets_in};
 ghost use Rattle.session_run.specs.Running.{Closes, IsAsked, IsOpened, RunsBatch};
 
+use crate::tools::Tools;
 use batch_commit::{Batch, Solved};
 use board_core::{Board, Opening};
 use idle_moves::MoveSheet;
 use ride_model::NoMemory;
-use session_loops::DeskTools;
 use std::thread::Threads;
 
 /// What became of a command, and of the batch after an accepted ask.
@@ -38,7 +38,8 @@ impl Answered {
 
     /// The sheet that was planned.
     pub(crate) fn sheet(&self) -> Option<&MoveSheet>
-        ensures { MatchOption result (sheets_in self.now ≡ []) (λ sheet. sheets_in self.now ≡ sheet.now ∷ []) }
+        ensures { MatchOption result (sheets_in self.now ≡ [])
+            (λ sheet. sheets_in self.now ≡ sheet.now ∷ []) }
     {
         match self {
             Answered::Whole(sheet) => sheet.as_ref(),
@@ -49,9 +50,9 @@ impl Answered {
 
 /// Opens the next batch and commits it at once, or gives it up where memory is wanting. Where a reach is given, moves of idle
 /// vehicles are planned before the commit.
-pub(crate) fn run_batch<'r, 'q, R: Threads + Sync>(
+pub(crate) fn run_batch<'r, R: Threads + Sync>(
     board: &mut Board<'r>,
-    tools: &mut DeskTools<'r, 'q>,
+    tools: &mut Tools<'r>,
     rt: &R,
     reach: Option<u64>,
 ) -> Result<Answered, NoMemory>
@@ -73,7 +74,7 @@ pub(crate) fn run_batch<'r, 'q, R: Threads + Sync>(
 /// Commits an open batch, or gives it up where memory is wanting.
 fn close_batch<R: Threads + Sync>(
     board: &mut Board<'_>,
-    tools: &mut DeskTools<'_, '_>,
+    tools: &mut Tools<'_>,
     rt: &R,
     batch: Batch,
     reach: Option<u64>,
@@ -82,7 +83,8 @@ fn close_batch<R: Threads + Sync>(
     requires roads { tools.old ≡ board.old.start.roads }
     requires reach_limit { ForSome reach (λ r. r ≤ longest_reach) }
     ensures closed { Closes (is_whole result) board.old board.new }
-    ensures planned { is_whole result ≡ true → CommitsPlanned reach batch result board.old board.new }
+    ensures planned { is_whole result ≡ true
+        → CommitsPlanned reach batch result board.old board.new }
     ensures tools { tools.new ≡ tools.old }
 {
     // This call tells that the history is legal.
@@ -101,7 +103,7 @@ fn close_batch<R: Threads + Sync>(
 }
 
 /// Plans the moves of a solved batch, where a reach is given.
-fn plan(tools: &mut DeskTools<'_, '_>, solved: &Solved, reach: Option<u64>) -> Answered
+fn plan(tools: &mut Tools<'_>, solved: &Solved, reach: Option<u64>) -> Answered
     requires reach_limit { ForSome reach (λ r. r ≤ longest_reach) }
     requires over_map { IsBatchOver tools.old solved.now.batch }
     requires lawful { All (IsLawful tools.old) solved.now.batch.vehicles }
@@ -122,7 +124,8 @@ fn commit(board: &mut Board<'_>, solved: Solved)
     requires opened { IsOpened solved.batch board.old }
     requires table { IsTableOf board.old.start.roads solved.batch solved.table }
     ensures closed { Closes true board.old board.new }
-    ensures entry { board.new.history ≡ board.old.history ++ committed_entry (state_of board.old) solved ∷ [] }
+    ensures entry { board.new.history
+        ≡ board.old.history ++ committed_entry (state_of board.old) solved ∷ [] }
 {
     board.commit(solved);
     // This call tells that the history is legal.

@@ -1,11 +1,11 @@
 //! Drills: the session of a generated city, of which a line is written.
-ghost use Rattle.std.specs.Prelude.{◌≡◌, ◌≤◌, ◌<◌, ◌++◌, [], List, length, true, false, All, IsTrue, IfOk, OnOk};
+ghost use Rattle.std.specs.Prelude.{◌≡◌, ◌<◌, ◌++◌, [], List, length, true, false, All, IfOk, OnOk};
 ghost use Rattle.std.specs.List.{flat_map};
 ghost use Rattle.ride_model.specs.declared.entry.Entry.{Entry};
 ghost use Rattle.ride_model.specs.Drill.{IsDrilled};
 ghost use Rattle.ride_model.specs.Text.{IsSpelledCommand};
 ghost use Rattle.ride_model.specs.Limits.{most_commands};
-ghost use Rattle.ride_ports.specs.Count.{Rose};
+ghost use Rattle.ride_ports.specs.Count.{KeepsCount};
 ghost use Rattle.city_maker.specs.Plan.{IsPlan};
 ghost use Rattle.city_maker.specs.Steps.{Drilled, last_steps, steps_with};
 ghost use Rattle.session_run.specs.Drills.{summary_line};
@@ -15,14 +15,13 @@ mod reports;
 mod summary;
 mod walk;
 
-use adaptive_roads::SharedHierarchy;
+use crate::tools::Tools;
+use adaptive_roads::Roads;
 use board_core::Board;
 use city_maker::{City, CityPlan, make_city};
 use pricing_workers::workers_at_hand;
 use ride_model::{Command, NoMemory};
 use ride_ports::{Ran, Sink, write_all};
-use road_times::Roads;
-use session_loops::{DeskTools, SessionRoads};
 use std::alloc::Global;
 use std::thread::Threads;
 use summary::summary_of;
@@ -35,11 +34,10 @@ pub fn drill<R: Threads + Sync, K: Sink>(rt: &R, alloc: Global, plan: &CityPlan,
 
     // The line is that of a history of the plan's drill.
     ensures drilled { result.no_memory ≡ false → (entries : List Entry) × Drilled plan.now entries
-        × IsLogged result [] (K.written out.old) (K.written out.new) (summary_line plan.now entries) }
+        × IsLogged result [] (K.written out.old) (K.written out.new)
+        (summary_line plan.now entries) }
     ensures nothing_written { result.no_memory ≡ true → K.written out.new ≡ K.written out.old }
-    ensures sink_fault { IsTrue result.sink_failed → Rose (K.faults out.old) (K.faults out.new) }
-    ensures sink_counts_none { result.sink_failed ≡ false → K.faults out.new ≡ K.faults out.old }
-    ensures sink_never_falls { K.faults out.old ≤ K.faults out.new }
+    ensures sink_faults { KeepsCount result.sink_failed (K.faults out.old) (K.faults out.new) }
     ensures no_source { result.source_failed ≡ false }
     ensures no_limit { result.too_long ≡ false }
 {
@@ -62,7 +60,8 @@ pub fn drill<R: Threads + Sync, K: Sink>(rt: &R, alloc: Global, plan: &CityPlan,
 // The line of a drill.
 fn line_of<R: Threads + Sync>(rt: &R, alloc: Global, plan: &CityPlan) -> Result<Vec<u8>, NoMemory>
     requires { IsPlan plan.now }
-    ensures { IfOk result (λ line. (entries : List Entry) × Drilled plan.now entries × (line.items ≡ summary_line plan.now entries)) }
+    ensures { IfOk result (λ line. (entries : List Entry) × Drilled plan.now entries
+        × (line.items ≡ summary_line plan.now entries)) }
 {
     let City {
         network,
@@ -71,9 +70,7 @@ fn line_of<R: Threads + Sync>(rt: &R, alloc: Global, plan: &CityPlan) -> Result<
         commands,
     } = make_city(alloc, plan)?;
     let roads = Roads::new(alloc, &network)?;
-    let shared = SharedHierarchy::new(&roads);
-    let roads = SessionRoads::new(&roads, &shared);
-    let mut board = Board::new(alloc, roads.roads(), settings, fleet, 2, 1)?;
+    let mut board = Board::new(alloc, &roads, settings, fleet, 2, 1)?;
     run(
         rt,
         alloc,
@@ -86,10 +83,10 @@ fn line_of<R: Threads + Sync>(rt: &R, alloc: Global, plan: &CityPlan) -> Result<
 }
 
 // Goes through all steps of a drill.
-fn run<'r, 'q, R: Threads + Sync>(
+fn run<'r, R: Threads + Sync>(
     rt: &R,
     alloc: Global,
-    roads: &SessionRoads<'r, 'q>,
+    roads: &'r Roads,
     board: &mut Board<'r>,
     commands: &[Command],
     vehicles: u32,
@@ -101,12 +98,14 @@ fn run<'r, 'q, R: Threads + Sync>(
     requires vehicles { length board.old.start.vehicles ≡ vehicles }
     requires few { length commands.now < most_commands }
     requires spelled { All (IsSpelledCommand board.old.start.settings.log) commands.now }
-    ensures drilled { OnOk result (IsDrilled board.new.start (flat_map (steps_with vehicles) commands.now ++ last_steps) board.new.history) }
+    ensures drilled { OnOk result
+        (IsDrilled board.new.start (flat_map (steps_with vehicles) commands.now
+        ++ last_steps) board.new.history) }
     ensures start { OnOk result (board.new.start ≡ board.old.start) }
 {
     // This call tells how boards start.
     let _history = board.entries();
-    let mut tools = DeskTools::sharing(alloc, roads, workers_at_hand(rt))?;
+    let mut tools = Tools::new(alloc, roads, workers_at_hand(rt))?;
     run_commands(board, &mut tools, rt, commands, vehicles)?;
     end_all(board);
     Ok(())

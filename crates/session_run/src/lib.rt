@@ -11,9 +11,10 @@ mod one_feed;
 mod replaying;
 mod sending;
 mod session;
+mod tools;
 
 pub use drills::drill;
 pub use live::serve;
 pub use replaying::replay;
 pub use sending::ahead;
-pub use session_loops::{DeskTools, Scribed, desk_loop, feed_loop, scribe_loop};
+pub use session_loops::{Scribed, desk_loop, feed_loop, scribe_loop, solved};

@@ -1,32 +1,30 @@
 //! Sessions of one feed.
-ghost use Rattle.std.specs.Prelude.{◌≡◌, ◌≢◌, ℕ, ◌≤◌, [], false, All, List, Option, Some, IfOk, IfSome, IsNone, IsTrue, MatchOption};
+ghost use Rattle.std.specs.Prelude.{◌≡◌, ℕ, ◌≤◌, [], false, List, Option, Some, IfOk, IfSome};
+ghost use Rattle.ride_model.specs.Fleet.{MayStart};
 ghost use Rattle.std.specs.Option.{ForSome};
 ghost use Rattle.ride_model.specs.declared.entry.Entry.{Entry};
-ghost use Rattle.ride_model.specs.declared.vehicle.Vehicle.{Vehicle};
 ghost use Rattle.ride_model.specs.History.{fed_commands};
-ghost use Rattle.ride_model.specs.Settings.{IsSettings};
 ghost use Rattle.ride_model.specs.State.{start_state};
-ghost use Rattle.ride_model.specs.Vehicle.{IsLawful};
 ghost use Rattle.ride_model.specs.Limits.{longest_reach};
 ghost use Rattle.ride_ports.specs.Bytes.{Reads};
-ghost use Rattle.ride_ports.specs.Count.{Rose};
+ghost use Rattle.ride_ports.specs.Count.{KeepsCount};
 ghost use Rattle.command_lines.specs.Feeds.{HasGiven};
 ghost use Rattle.text_page.specs.Output.{IsFresh};
 ghost use Rattle.session_run.specs.Ahead.{IsWrittenBy};
-ghost use Rattle.session_loops.specs.Stops.{is_source_failed};
+ghost use Rattle.line_reader.specs.FeedRuns.{is_source_failed};
 ghost use Rattle.session_run.specs.Reading.{HasRun, HasTold};
-ghost use Rattle.session_loops.specs.Stops.{IsReadWhole};
+ghost use Rattle.line_reader.specs.FeedRuns.{IsReadWhole};
 ghost use Rattle.session_run.specs.Replay.{IsReplay};
 ghost use Rattle.session_run.specs.Running.{IsRunning};
 
 use crate::session::Session;
-use adaptive_roads::SharedHierarchy;
+use adaptive_roads::Roads;
 use command_lines::FeedReader;
+use line_reader::{Stop, is_source_failed, is_too_long};
 use pricing_workers::workers_at_hand;
 use ride_model::{Fleet, NoMemory, Settings};
 use ride_ports::{Ran, Sink, Source};
-use road_times::Roads;
-use session_loops::{SessionRoads, Stop, ending_of, is_source_failed, is_too_long};
+use session_loops::ending_of;
 use std::alloc::Global;
 use std::thread::Threads;
 
@@ -42,28 +40,23 @@ pub(crate) fn run_one_feed<R: Threads + Sync, S: Source, K: Sink>(
     reach: Option<u64>,
     out: &mut K,
 ) -> Ran
-    requires settings { IsSettings settings }
-    requires lawful { All (IsLawful roads.now) fleet }
-    requires idle { All (λ (v : Vehicle). v.stops.items ≡ []) fleet }
-    requires first_versions { All (λ (v : Vehicle). v.version ≡ 0) fleet }
+    requires start { MayStart roads.now settings fleet }
     requires reach_limit { ForSome reach (λ r. r ≤ longest_reach) }
-    ensures session { (taken : List ℕ) × (entries : List Entry) × Reads (S.left feed.old) (S.left feed.new) taken
+    ensures session { (taken : List ℕ) × (entries : List Entry)
+        × Reads (S.left feed.old) (S.left feed.new) taken
         × IsReplay (start_state roads.now settings fleet) result (S.left feed.old) taken entries
-        × IsWrittenBy reach (start_state roads.now settings fleet) result taken entries (K.written out.old) (K.written out.new) }
-    ensures to_end { result.no_memory ≡ false → IsReadWhole result → IfSome (S.left feed.new) (λ bytes. bytes ≡ []) }
-    ensures source_fault { IsTrue result.source_failed → Rose (S.faults feed.old) (S.faults feed.new) }
-    ensures source_counts_none { result.source_failed ≡ false → S.faults feed.new ≡ S.faults feed.old }
-    ensures source_never_falls { S.faults feed.old ≤ S.faults feed.new }
-    ensures sink_fault { IsTrue result.sink_failed → Rose (K.faults out.old) (K.faults out.new) }
-    ensures sink_counts_none { result.sink_failed ≡ false → K.faults out.new ≡ K.faults out.old }
-    ensures sink_never_falls { K.faults out.old ≤ K.faults out.new }
+        × IsWrittenBy reach (start_state roads.now settings fleet) result taken entries
+        (K.written out.old) (K.written out.new) }
+    ensures to_end { result.no_memory ≡ false → IsReadWhole result
+        → IfSome (S.left feed.new) (λ bytes. bytes ≡ []) }
+    ensures source_faults { KeepsCount result.source_failed
+        (S.faults feed.old) (S.faults feed.new) }
+    ensures sink_faults { KeepsCount result.sink_failed (K.faults out.old) (K.faults out.new) }
 {
     // These calls tell that the map and the fleet are within their limits.
     let _nodes = roads.nodes();
     let _vehicles = fleet.vehicles();
-    let shared = SharedHierarchy::new(roads);
-    let roads = SessionRoads::new(roads, &shared);
-    let Ok((mut session, mut reader)) = begun(rt, alloc, &roads, settings, fleet, reach) else {
+    let Ok((mut session, mut reader)) = begun(rt, alloc, roads, settings, fleet, reach) else {
         return Ran {
             sink_failed: false,
             no_memory: true,
@@ -85,26 +78,25 @@ pub(crate) fn run_one_feed<R: Threads + Sync, S: Source, K: Sink>(
 }
 
 // A session at its start, and the reader of its feed.
-fn begun<'r, 'q>(
+fn begun<'r>(
     rt: &impl Threads,
     alloc: Global,
-    roads: &SessionRoads<'r, 'q>,
+    roads: &'r Roads,
     settings: Settings,
     fleet: Fleet,
     reach: Option<u64>,
-) -> Result<(Session<'r, 'q>, FeedReader), NoMemory>
-    requires settings { IsSettings settings }
-    requires lawful { All (IsLawful roads.now) fleet }
-    requires idle { All (λ (v : Vehicle). v.stops.items ≡ []) fleet }
-    requires first_versions { All (λ (v : Vehicle). v.version ≡ 0) fleet }
+) -> Result<(Session<'r>, FeedReader), NoMemory>
+    requires start { MayStart roads.now settings fleet }
     requires reach_limit { ForSome reach (λ r. r ≤ longest_reach) }
-    ensures start { IfOk result (λ made. made.0.board.start ≡ start_state roads.now settings fleet) }
+    ensures start { IfOk result (λ made. made.0.board.start
+        ≡ start_state roads.now settings fleet) }
     ensures history { IfOk result (λ made. made.0.board.history ≡ []) }
     ensures running { IfOk result (λ made. IsRunning made.0.board made.0.no_memory) }
     ensures log { IfOk result (λ made. IsFresh made.0.log) }
     ensures reach { IfOk result (λ made. made.0.reach ≡ reach) }
     ensures version { IfOk result (λ made. made.1.log ≡ settings.log) }
-    ensures nothing_given { IfOk result (λ made. (left : Option (List ℕ)) → HasGiven made.1 left [] []) }
+    ensures nothing_given { IfOk result
+        (λ made. (left : Option (List ℕ)) → HasGiven made.1 left [] []) }
 {
     let reader = FeedReader::new(alloc, settings.log)?;
     let workers = workers_at_hand(rt);
@@ -114,7 +106,7 @@ fn begun<'r, 'q>(
 
 // Answers a feed to its end, or until something stops it.
 fn run_feed<R: Threads + Sync, S: Source, K: Sink>(
-    session: &mut Session<'_, '_>,
+    session: &mut Session<'_>,
     reader: &mut FeedReader,
     rt: &R,
     feed: &mut S,
@@ -122,12 +114,12 @@ fn run_feed<R: Threads + Sync, S: Source, K: Sink>(
 ) -> Option<Stop>
     requires running { IsRunning session.old.board session.old.no_memory }
     requires version { reader.old.log ≡ session.old.board.start.settings.log }
-    requires nothing_given { HasGiven reader.old (S.left feed.old) (fed_commands 1 session.old.board.history) [] }
-    ensures ran { HasRun session.old.board.start.settings.log (S.left feed.old) (S.left feed.new) result session.new.board
+    requires nothing_given { HasGiven reader.old (S.left feed.old)
+        (fed_commands 1 session.old.board.history) [] }
+    ensures ran { HasRun session.old.board.start.settings.log (S.left feed.old)
+        (S.left feed.new) result session.new.board
         session.new.no_memory }
-    ensures fault { IsTrue (is_source_failed result) → Rose (S.faults feed.old) (S.faults feed.new) }
-    ensures other_counts_none { is_source_failed result ≡ false → S.faults feed.new ≡ S.faults feed.old }
-    ensures count_never_falls { S.faults feed.old ≤ S.faults feed.new }
+    ensures faults { KeepsCount (is_source_failed result) (S.faults feed.old) (S.faults feed.new) }
     ensures start { session.new.board.start ≡ session.old.board.start }
     ensures reach { session.new.reach ≡ session.old.reach }
     ensures told { (earlier : Option (List ℕ)) (faults : ℕ)

@@ -1,21 +1,19 @@
 //! Replays.
-ghost use Rattle.std.specs.Prelude.{◌≡◌, ℕ, ◌≤◌, [], false, All, List, IfSome, IsTrue};
+ghost use Rattle.std.specs.Prelude.{◌≡◌, ℕ, [], false, List, IfSome};
+ghost use Rattle.ride_model.specs.Fleet.{MayStart};
 ghost use Rattle.ride_model.specs.declared.entry.Entry.{Entry};
-ghost use Rattle.ride_model.specs.declared.vehicle.Vehicle.{Vehicle};
-ghost use Rattle.ride_model.specs.Settings.{IsSettings};
 ghost use Rattle.ride_model.specs.State.{start_state};
 ghost use Rattle.ride_model.specs.Text.{text_of};
-ghost use Rattle.ride_model.specs.Vehicle.{IsLawful};
 ghost use Rattle.ride_ports.specs.Bytes.{Reads};
-ghost use Rattle.ride_ports.specs.Count.{Rose};
+ghost use Rattle.ride_ports.specs.Count.{KeepsCount};
 ghost use Rattle.session_run.specs.Logged.{IsLogged};
-ghost use Rattle.session_loops.specs.Stops.{IsReadWhole};
+ghost use Rattle.line_reader.specs.FeedRuns.{IsReadWhole};
 ghost use Rattle.session_run.specs.Replay.{IsReplay};
 
 use crate::one_feed::run_one_feed;
+use adaptive_roads::Roads;
 use ride_model::{Fleet, Settings};
 use ride_ports::{Ran, Sink, Source};
-use road_times::Roads;
 use std::alloc::Global;
 use std::thread::Threads;
 
@@ -30,22 +28,19 @@ pub fn replay<R: Threads + Sync, S: Source, K: Sink>(
     feed: &mut S,
     out: &mut K,
 ) -> Ran
-    requires settings { IsSettings settings }
-    requires lawful { All (IsLawful roads.now) fleet }
-    requires idle { All (λ (v : Vehicle). v.stops.items ≡ []) fleet }
-    requires first_versions { All (λ (v : Vehicle). v.version ≡ 0) fleet }
+    requires start { MayStart roads.now settings fleet }
 
     // The log is the text of a history that answers the feed.
-    ensures log { (taken : List ℕ) × (entries : List Entry) × Reads (S.left feed.old) (S.left feed.new) taken
+    ensures log { (taken : List ℕ) × (entries : List Entry)
+        × Reads (S.left feed.old) (S.left feed.new) taken
         × IsReplay (start_state roads.now settings fleet) result (S.left feed.old) taken entries
-        × IsLogged result taken (K.written out.old) (K.written out.new) (text_of settings.log 1 1 entries) }
-    ensures to_end { result.no_memory ≡ false → IsReadWhole result → IfSome (S.left feed.new) (λ bytes. bytes ≡ []) }
-    ensures source_fault { IsTrue result.source_failed → Rose (S.faults feed.old) (S.faults feed.new) }
-    ensures source_counts_none { result.source_failed ≡ false → S.faults feed.new ≡ S.faults feed.old }
-    ensures source_never_falls { S.faults feed.old ≤ S.faults feed.new }
-    ensures sink_fault { IsTrue result.sink_failed → Rose (K.faults out.old) (K.faults out.new) }
-    ensures sink_counts_none { result.sink_failed ≡ false → K.faults out.new ≡ K.faults out.old }
-    ensures sink_never_falls { K.faults out.old ≤ K.faults out.new }
+        × IsLogged result taken (K.written out.old) (K.written out.new)
+        (text_of settings.log 1 1 entries) }
+    ensures to_end { result.no_memory ≡ false → IsReadWhole result
+        → IfSome (S.left feed.new) (λ bytes. bytes ≡ []) }
+    ensures source_faults { KeepsCount result.source_failed
+        (S.faults feed.old) (S.faults feed.new) }
+    ensures sink_faults { KeepsCount result.sink_failed (K.faults out.old) (K.faults out.new) }
 {
     run_one_feed(rt, alloc, roads, settings, fleet, feed, None, out)
 }

@@ -1,15 +1,13 @@
 //! A board, and what is written of it.
-ghost use Rattle.std.specs.Prelude.{◌≡◌, ℕ, ◌<◌, ◌≤◌, ◌++◌, ◌∷◌, ◌||◌, [], length, take, not, false, true, if◌then◌else◌, nat_eq, All, IfOk, OnErr, OnOk, List, None, Option, Some};
+ghost use Rattle.std.specs.Prelude.{◌≡◌, ℕ, ◌<◌, ◌≤◌, ◌++◌, ◌∷◌, ◌||◌, [], length, take, not, false, true, if◌then◌else◌, nat_eq, IfOk, OnErr, OnOk, List, None, Option, Some};
+ghost use Rattle.ride_model.specs.Fleet.{MayStart};
 ghost use Rattle.std.specs.Option.{ForSome};
 ghost use Rattle.ride_model.specs.declared.command.Actor.TheVariants.{Desk, Feed};
 ghost use Rattle.ride_model.specs.declared.entry.Ending.TheVariants.{Cut, Whole};
-ghost use Rattle.ride_model.specs.declared.vehicle.Vehicle.{Vehicle};
 ghost use Rattle.ride_model.specs.History.{fed_commands};
 ghost use Rattle.ride_model.specs.Legal.{IsLegal};
-ghost use Rattle.ride_model.specs.Settings.{IsSettings};
 ghost use Rattle.ride_model.specs.State.{start_state};
-ghost use Rattle.ride_model.specs.Text.{HasText, IsOneOrTwo, IsSpelledCommand, head_line, text_of};
-ghost use Rattle.ride_model.specs.Vehicle.{IsLawful};
+ghost use Rattle.ride_model.specs.Text.{HasText, IsSpelledCommand, text_of};
 ghost use Rattle.ride_model.specs.Limits.{longest_reach, most_commands};
 ghost use Rattle.board_core.specs.Recorded.{Recorded, end_entry, state_of};
 ghost use Rattle.idle_moves.specs.AheadText.{last_line, sheet_lines};
@@ -21,19 +19,21 @@ ghost use Rattle.session_run.specs.Running.{IsRunning, IsSession, Stops};
 
 use crate::answers::answer;
 use crate::batches::Answered;
+use crate::tools::Tools;
+use adaptive_roads::Roads;
 use board_core::Board;
 use ride_model::{Actor, Command, Ending, Entry, Fleet, NoMemory, Settings};
 use ride_ports::Sink;
-use session_loops::{DeskTools, SessionRoads, put_all, put_end, put_head, put_reach, put_sheet};
+use session_loops::{put_all, put_end, put_head, put_reach, put_sheet};
 use std::alloc::Global;
 use std::marker::Model;
 use std::thread::Threads;
 use text_page::Output;
 
 /// A board of one feed and one desk, what its desk works with, and what is written of it: its log, or the sheets of its batches.
-pub(crate) struct Session<'r, 'q> {
+pub(crate) struct Session<'r> {
     board: Board<'r>,
-    tools: DeskTools<'r, 'q>,
+    tools: Tools<'r>,
     log: Output,
     /// The version of the log.
     version: u8,
@@ -42,7 +42,7 @@ pub(crate) struct Session<'r, 'q> {
     no_memory: bool,
 }
 
-impl<'r, 'q> Model for Session<'r, 'q> {
+impl<'r> Model for Session<'r> {
     ghost use Rattle.std.specs.Prelude.{◌≡◌, ◌≤◌};
     ghost use Rattle.std.specs.Option.{ForSome};
     ghost use Rattle.session_run.specs.SessionState.{SessionState};
@@ -56,7 +56,7 @@ impl<'r, 'q> Model for Session<'r, 'q> {
     ghost invariant = { λ s. (s.tools ≡ s.board.start.roads) × (s.version ≡ s.board.start.settings.log) × ForSome s.reach (λ r. r ≤ longest_reach) };
 }
 
-impl Drop for Session<'_, '_> {
+impl Drop for Session<'_> {
     fn drop(self) {
         let Session {
             board,
@@ -72,33 +72,31 @@ impl Drop for Session<'_, '_> {
     }
 }
 
-impl<'r, 'q> Session<'r, 'q> {
+impl<'r> Session<'r> {
     /// A session at its start, of which nothing is written.
     pub(crate) fn new(
         alloc: Global,
-        roads: &SessionRoads<'r, 'q>,
+        roads: &'r Roads,
         settings: Settings,
         fleet: Fleet,
         workers: usize,
         reach: Option<u64>,
-    ) -> Result<Session<'r, 'q>, NoMemory>
+    ) -> Result<Session<'r>, NoMemory>
         requires workers { 1 ≤ workers }
         requires reach_limit { ForSome reach (λ r. r ≤ longest_reach) }
-        requires settings { IsSettings settings }
-        requires lawful { All (IsLawful roads.now) fleet }
-        requires idle { All (λ (v : Vehicle). v.stops.items ≡ []) fleet }
-        requires first_versions { All (λ (v : Vehicle). v.version ≡ 0) fleet }
-        ensures start { IfOk result (λ session. session.board.start ≡ start_state roads.now settings fleet) }
+        requires start { MayStart roads.now settings fleet }
+        ensures start { IfOk result (λ session. session.board.start
+            ≡ start_state roads.now settings fleet) }
         ensures history { IfOk result (λ session. session.board.history ≡ []) }
         ensures running { IfOk result (λ session. IsRunning session.board session.no_memory) }
         ensures log { IfOk result (λ session. IsFresh session.log) }
         ensures reach { IfOk result (λ session. session.reach ≡ reach) }
         ensures memory { IfOk result (λ session. session.no_memory ≡ false) }
     {
-        let tools = DeskTools::sharing(alloc, roads, workers)?;
+        let tools = Tools::new(alloc, roads, workers)?;
         let log = Output::new(alloc)?;
         let version = settings.log;
-        let board = Board::new(alloc, roads.roads(), settings, fleet, 1, 1)?;
+        let board = Board::new(alloc, roads, settings, fleet, 1, 1)?;
         Ok(Session {
             board,
             tools,
@@ -119,8 +117,10 @@ impl<'r, 'q> Session<'r, 'q> {
     /// The history: legal, and with a text.
     pub(crate) fn entries(&self) -> &[Entry]
         ensures items { result.now ≡ self.now.board.history }
-        ensures legal { IsLegal self.now.board.feeds self.now.board.desks self.now.board.start self.now.board.history }
-        ensures text { HasText self.now.board.start.settings.log self.now.board.feeds self.now.board.desks self.now.board.history }
+        ensures legal { IsLegal self.now.board.feeds self.now.board.desks
+            self.now.board.start self.now.board.history }
+        ensures text { HasText self.now.board.start.settings.log self.now.board.feeds
+            self.now.board.desks self.now.board.history }
     {
         self.board.entries()
     }
@@ -136,14 +136,15 @@ impl<'r, 'q> Session<'r, 'q> {
     pub(crate) fn begin<K: Sink>(&mut self, out: &mut K)
         requires fresh { IsFresh self.old.log }
         requires bare { self.old.board.history ≡ [] }
-        ensures told { HasTold (K.written out.old) (K.written out.new) (K.faults out.old) (K.faults out.new) self.new }
+        ensures told { HasTold (K.written out.old) (K.written out.new)
+            (K.faults out.old) (K.faults out.new) self.new }
         ensures others { self.new ≡ record self.old { log = self.new.log } }
     {
         self.tell_first(out);
         self.write_told(out, false);
     }
 
-    // Writes what was told and is not written yet, unless more of the feed is at hand.
+    // Writes what was told and is not written yet, unless more of the feed is at hand, and does something for the batches to come.
     fn write_told<K: Sink>(&mut self, out: &mut K, more: bool)
         ensures told { (earlier : Option (List ℕ)) (faults : ℕ)
             → HasTold earlier (K.written out.old) faults (K.faults out.old) self.old
@@ -155,13 +156,15 @@ impl<'r, 'q> Session<'r, 'q> {
             return;
         }
         self.log.end(out);
+        self.tools.prepare();
     }
 
     // Tells the first line.
     fn tell_first<K: Sink>(&mut self, out: &mut K)
         requires fresh { IsFresh self.old.log }
         requires bare { self.old.board.history ≡ [] }
-        ensures told { HasTold (K.written out.old) (K.written out.new) (K.faults out.old) (K.faults out.new) self.new }
+        ensures told { HasTold (K.written out.old) (K.written out.new)
+            (K.faults out.old) (K.faults out.new) self.new }
         ensures others { self.new ≡ record self.old { log = self.new.log } }
     {
         // This call tells that the version is 1 or 2.
@@ -238,8 +241,10 @@ impl<'r, 'q> Session<'r, 'q> {
     pub(crate) fn end<K: Sink>(&mut self, out: &mut K, ending: Ending)
         requires session { IsSession self.old.board }
         requires one_feed { self.old.board.feeds ≡ 1 }
-        ensures history { self.new.board.history ≡ self.old.board.history ++ end_entry (Feed 1) ending
-            ∷ end_entry (Desk 1) (if nat_eq (state_of self.old.board).opened (state_of self.old.board).asked then Whole else Cut) ∷ [] }
+        ensures history { self.new.board.history
+            ≡ self.old.board.history ++ end_entry (Feed 1) ending
+            ∷ end_entry (Desk 1) (if nat_eq (state_of self.old.board).opened
+            (state_of self.old.board).asked then Whole else Cut) ∷ [] }
         ensures start { self.new.board.start ≡ self.old.board.start }
         ensures feeds { self.new.board.feeds ≡ self.old.board.feeds }
         ensures desks { self.new.board.desks ≡ self.old.board.desks }
@@ -260,8 +265,10 @@ impl<'r, 'q> Session<'r, 'q> {
     fn end_actors(&mut self, ending: Ending)
         requires session { IsSession self.old.board }
         requires one_feed { self.old.board.feeds ≡ 1 }
-        ensures history { self.new.board.history ≡ self.old.board.history ++ end_entry (Feed 1) ending
-            ∷ end_entry (Desk 1) (if nat_eq (state_of self.old.board).opened (state_of self.old.board).asked then Whole else Cut) ∷ [] }
+        ensures history { self.new.board.history
+            ≡ self.old.board.history ++ end_entry (Feed 1) ending
+            ∷ end_entry (Desk 1) (if nat_eq (state_of self.old.board).opened
+            (state_of self.old.board).asked then Whole else Cut) ∷ [] }
         ensures start { self.new.board.start ≡ self.old.board.start }
         ensures feeds { self.new.board.feeds ≡ self.old.board.feeds }
         ensures desks { self.new.board.desks ≡ self.old.board.desks }
@@ -276,10 +283,15 @@ impl<'r, 'q> Session<'r, 'q> {
     // Writes what became of a command: the entries from a place on, or the sheet of the batch after it.
     fn tell<K: Sink>(&mut self, out: &mut K, told: usize, answered: &Answered)
         requires { told ≤ length self.old.board.history }
-        ensures told { (earlier : Option (List ℕ)) (faults : ℕ) (board : Recorded) → GoesOnWith self.old.reach told answered.now board self.old.board
-            → HasTold earlier (K.written out.old) faults (K.faults out.old) (record self.old { board = board })
+        ensures told { (earlier : Option (List ℕ)) (faults : ℕ) (board : Recorded)
+            → GoesOnWith self.old.reach told answered.now board self.old.board
+            → HasTold earlier (K.written out.old) faults (K.faults out.old)
+            (record self.old { board = board })
             → HasTold earlier (K.written out.new) faults (K.faults out.new) self.new }
-        ensures others { self.new ≡ record self.old { log = self.new.log; no_memory = self.old.no_memory || not (is_whole answered.now) } }
+        ensures others { self.new ≡ record self.old {
+          log = self.new.log;
+          no_memory = self.old.no_memory || not (is_whole answered.now);
+        } }
     {
         self.no_memory |= !answered.is_whole();
         match self.reach {
@@ -307,8 +319,10 @@ impl<'r, 'q> Session<'r, 'q> {
     // Writes how the session ended: the entries from a place on, or the last line of the sheets.
     fn tell_end<K: Sink>(&mut self, out: &mut K, told: usize, ending: Ending)
         requires { told ≤ length self.old.board.history }
-        ensures told { (earlier : Option (List ℕ)) (faults : ℕ) (board : Recorded) → GoesOnTo ending told board self.old.board
-            → HasTold earlier (K.written out.old) faults (K.faults out.old) (record self.old { board = board })
+        ensures told { (earlier : Option (List ℕ)) (faults : ℕ) (board : Recorded)
+            → GoesOnTo ending told board self.old.board
+            → HasTold earlier (K.written out.old) faults (K.faults out.old)
+            (record self.old { board = board })
             → HasToldAll ending earlier (K.written out.new) faults (K.faults out.new) self.new }
         ensures others { self.new ≡ record self.old { log = self.new.log } }
     {
@@ -337,7 +351,8 @@ impl<'r, 'q> Session<'r, 'q> {
         ensures told { (earlier : Option (List ℕ)) (faults : ℕ)
             → HasPut earlier (K.written out.old) faults (K.faults out.old) self.old.log
             (text_of self.old.board.start.settings.log 1 1 (take told self.old.board.history))
-            → IsTold earlier (K.written out.new) faults (K.faults out.new) self.new.log self.new.board }
+            → IsTold earlier (K.written out.new) faults
+            (K.faults out.new) self.new.log self.new.board }
         ensures others { self.new ≡ record self.old { log = self.new.log } }
     {
         let entries = self.board.entries();

@@ -29,12 +29,16 @@ pub fn best_place_fast(
     settings: &Settings,
     near: &Near,
 ) -> Option<Offer>
-    requires asked { (roads : RoadMap) × IsAsked roads vehicle.now ride.now now settings.now near.now }
-    requires slack { slack.now ≡ slack_of vehicle.now (start_of vehicle.now settings.now.lead now) settings.now.dwell }
+    requires asked { (roads : RoadMap)
+        × IsAsked roads vehicle.now ride.now now settings.now near.now }
+    requires slack { slack.now ≡ slack_of vehicle.now
+        (start_of vehicle.now settings.now.lead now) settings.now.dwell }
     ensures price { (roads : RoadMap) → IsAsked roads vehicle.now ride.now now settings.now near.now
         → cost_if_any result ≡ price roads settings.now vehicle.now ride.now now }
-    ensures an_offer { (roads : RoadMap) → IsAsked roads vehicle.now ride.now now settings.now near.now
-        → IfSome result (λ (offer : Offer). offer_of roads settings.now vehicle.now ride.now now offer.i offer.j ≡ Some offer) }
+    ensures an_offer { (roads : RoadMap)
+        → IsAsked roads vehicle.now ride.now now settings.now near.now
+        → IfSome result (λ (offer : Offer). offer_of roads settings.now vehicle.now ride.now now
+        offer.i offer.j ≡ Some offer) }
 {
     if !may_offer(vehicle, slack, now) {
         return None;
@@ -48,7 +52,8 @@ pub fn best_place_fast(
 // Whether a vehicle may have an offer: it is open, and its plan has room for two stops more and is not late already.
 #[inline]
 fn may_offer(vehicle: &Vehicle, slack: &Slack, time: u64) -> bool
-    ensures { result ≡ (is_open vehicle.now time && nat_le (length slack.now.times) 14 && slack.now.on_time) }
+    ensures { result ≡ (is_open vehicle.now time && nat_le (length slack.now.times) 14
+        && slack.now.on_time) }
 {
     is_open(vehicle, time) && slack.stops() <= 14 && slack.on_time()
 }
@@ -104,7 +109,8 @@ fn cheapest_behind(terms: &Terms, slack: &Slack, near: &Near, pickup: Pickup) ->
     requires room { has_room terms.now (load_at slack.now pickup.place) ≡ true }
     requires picks_up { pickup_at terms.now slack.now near.now pickup.place ≡ Some pickup.time }
     requires soon { pickup.time ≤ latest_time }
-    ensures cost { cost_found result ≡ least_at terms.now slack.now near.now pickup.place (pickup.place + 1) }
+    ensures cost { cost_found result
+        ≡ least_at terms.now slack.now near.now pickup.place (pickup.place + 1) }
     ensures places { IfSome result (IsFound terms.now slack.now near.now) }
 {
     let place = pickup.place as usize;
@@ -122,10 +128,12 @@ fn cheapest_apart(terms: &Terms, slack: &Slack, near: &Near, pickup: Pickup) -> 
     requires within { pickup.place < length slack.now.times }
     requires room { has_room terms.now (load_at slack.now pickup.place) ≡ true }
     requires picks_up { pickup_at terms.now slack.now near.now pickup.place ≡ Some pickup.time }
-    requires is_late { lateness terms.now slack.now near.now pickup.place pickup.time ≡ Some pickup.late }
+    requires is_late { lateness terms.now slack.now near.now pickup.place pickup.time
+        ≡ Some pickup.late }
     requires soon { pickup.time ≤ latest_time }
     requires not_late { pickup.late ≤ 600000000000000 }
-    ensures cost { cost_found result ≡ least_at terms.now slack.now near.now pickup.place (pickup.place + 1) }
+    ensures cost { cost_found result
+        ≡ least_at terms.now slack.now near.now pickup.place (pickup.place + 1) }
     ensures places { IfSome result (IsFound terms.now slack.now near.now) }
 {
     let mut best = None;

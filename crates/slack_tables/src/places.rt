@@ -90,7 +90,8 @@ pub fn cost_apart(
     requires within { place ≤ length slack.now.times }
     requires soon { pickup.time ≤ latest_time }
     requires not_late { pickup.late ≤ 600000000000000 }
-    ensures { result ≡ cost_apart terms.now slack.now near.now pickup.place place pickup.late pickup.time }
+    ensures { result ≡ cost_apart terms.now slack.now near.now pickup.place
+        place pickup.late pickup.time }
 {
     let leg = leg_to_dropoff(near.at_to, near.stops.as_slice(), place as usize);
     let leave = leave_at(terms, slack, place as usize) + pickup.late;
@@ -114,7 +115,8 @@ fn cost_of_dropoff(
     requires soon { pickup.time ≤ latest_time }
     requires leaves { leave ≤ 20000000000000000 }
     requires short { IsShort leg }
-    ensures { result ≡ cost_of_dropoff terms.now slack.now near.now pickup.place place pickup.late pickup.time leave leg }
+    ensures { result ≡ cost_of_dropoff terms.now slack.now near.now pickup.place place
+        pickup.late pickup.time leave leg }
 {
     let dropoff = at_most(pickup.time + terms.longest, leave + leg?)?;
     let seconds = added(terms, slack, near, pickup, place, dropoff)?;
@@ -135,7 +137,8 @@ fn added(
     requires in_order { pickup.place ≤ place }
     requires within { place ≤ length slack.now.times }
     requires soon { dropoff ≤ 1001000000 }
-    ensures value { result ≡ added terms.now slack.now near.now pickup.place place pickup.late dropoff }
+    ensures value { result ≡ added terms.now slack.now near.now
+        pickup.place place pickup.late dropoff }
     ensures bounded { IfSome result (λ seconds. seconds ≤ 600000000000000) }
 {
     let at = place as usize;

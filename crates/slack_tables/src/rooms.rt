@@ -31,7 +31,8 @@ pub fn rows(trips: &[Trip], stops: usize) -> ArrayVec<Row, 17>
 fn row(trips: &[Trip], change: usize, stops: usize) -> Row
     requires few { stops ≤ most_stops }
     requires within { change ≤ stops }
-    ensures { result.items ≡ map (room_of trips.now change) (range_with_len change (stops + 1 - change)) }
+    ensures { result.items ≡ map (room_of trips.now change)
+        (range_with_len change (stops + 1 - change)) }
 {
     let mut row = ArrayVec::new();
     for place in change..stops + 1 {

@@ -37,7 +37,8 @@ pub fn trips_of(rides: &[Ride], stops: &[Stop], times: &[u64]) -> ArrayVec<Trip,
     requires one_each { length times.now ≡ length stops.now }
     requires limited { All IsLimited rides.now }
     requires soon { All (λ time. time ≤ 10000000000000000) times.now }
-    ensures { result.items ≡ filter_map (λ (ride : Ride). trip_of ride stops.now times.now) rides.now }
+    ensures { result.items ≡ filter_map
+        (λ (ride : Ride). trip_of ride stops.now times.now) rides.now }
 {
     let mut trips = ArrayVec::new();
     for ride in rides {

@@ -12,8 +12,10 @@ use ride_model::{Kind, Offer, Ride, Stop, Vehicle};
 /// Puts a ride into a vehicle's plan at the places of an offer, with the offer's legs. Neither the vehicle's ready time
 /// nor its version changes.
 pub fn insert_ride(vehicle: &mut Vehicle, ride: Ride, offer: &Offer)
-    requires { (roads : RoadMap) × (new : Vehicle) × InsertsInto roads vehicle.old ride offer.now new }
-    ensures { (roads : RoadMap) (new : Vehicle) → InsertsInto roads vehicle.old ride offer.now new → vehicle.new ≡ new }
+    requires { (roads : RoadMap) × (new : Vehicle)
+        × InsertsInto roads vehicle.old ride offer.now new }
+    ensures { (roads : RoadMap) (new : Vehicle) → InsertsInto roads vehicle.old ride offer.now new
+        → vehicle.new ≡ new }
 {
     let pickup = Stop {
         ride: ride.id,

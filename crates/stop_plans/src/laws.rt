@@ -16,12 +16,14 @@ pub fn removal_law(vehicle: &mut Vehicle, id: u64, first: u64, second: u64)
     requires { (roads : RoadMap) × RemovesFrom roads vehicle.old id first second }
     ensures vehicle { (roads : RoadMap) → RemovesFrom roads vehicle.old id first second
         → vehicle.new ≡ without_ride roads vehicle.old id }
-    ensures lawful { (roads : RoadMap) → RemovesFrom roads vehicle.old id first second → IsLawful roads vehicle.new }
+    ensures lawful { (roads : RoadMap) → RemovesFrom roads vehicle.old id first second
+        → IsLawful roads vehicle.new }
 
     // The visits of each other ride come sooner by some seconds, a later one by no less than the one before it.
     ensures sooner { (roads : RoadMap) → RemovesFrom roads vehicle.old id first second
         → (other start dwell : ℕ) → IsFalse (nat_eq other id)
-        → AllSooner 0 (visits_of vehicle.new start dwell other) (visits_of vehicle.old start dwell other) }
+        → AllSooner 0 (visits_of vehicle.new start dwell other)
+        (visits_of vehicle.old start dwell other) }
 {
     remove_ride(vehicle, id, first, second);
 }

@@ -15,7 +15,8 @@ use ride_model::{Kind, Ride, Stop, Vehicle};
 /// the stops behind the pickup and the drop-off in the plan that is left.
 pub fn remove_ride(vehicle: &mut Vehicle, id: u64, first: u64, second: u64)
     requires { (roads : RoadMap) × RemovesFrom roads vehicle.old id first second }
-    ensures { (roads : RoadMap) → RemovesFrom roads vehicle.old id first second → vehicle.new ≡ without_ride roads vehicle.old id }
+    ensures { (roads : RoadMap) → RemovesFrom roads vehicle.old id first second
+        → vehicle.new ≡ without_ride roads vehicle.old id }
 {
     let pickup = place_of(vehicle.stops.as_slice(), id, Kind::Pickup);
     let dropoff = place_of(vehicle.stops.as_slice(), id, Kind::Dropoff);

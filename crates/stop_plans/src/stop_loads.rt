@@ -31,7 +31,8 @@ fn loads_along(rides: &[Ride], stops: &[Stop]) -> ArrayVec<Load, 16>
     requires few_rides { length rides.now ≤ most_rides }
     requires few_stops { length stops.now ≤ most_stops }
     requires small { All IsSmall rides.now }
-    ensures { result.items ≡ loads_behind rides.now (map (λ (ride : Ride). is_some ride.picked) rides.now) stops.now }
+    ensures { result.items ≡ loads_behind rides.now
+        (map (λ (ride : Ride). is_some ride.picked) rides.now) stops.now }
 {
     let mut aboard = aboard_at_start(rides);
     let mut loads = ArrayVec::new();

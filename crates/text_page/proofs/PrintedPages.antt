@@ -1,11 +1,11 @@
 -- Texts that print themselves onto an output's page.
 use Rattle.std.proofs.Common.{◌≡◌, ℕ, Bool, true, false, cond, List, [], ◌∷◌, ◌++◌, length, take, Option, Some, None, Result, Ok, Err, refl, ap, sym, subst, ◌∙◌}
-use Rattle.std.specs.Prelude.{◌≤◌, OnErr, OnOk, is_err, is_ok}
+use Rattle.std.specs.Prelude.{OnErr, OnOk, is_err, is_ok}
 use Rattle.ride_ports.specs.Bytes.{Writes, WritesPrefix}
-use Rattle.ride_ports.specs.Count.{Rose}
+use Rattle.ride_ports.specs.Count.{KeepsCount}
 use Rattle.ride_ports.proofs.ByteLemmas.{Writes-told}
 use Rattle.text_page.specs.Output.{HasPut, OutputState, told_page}
-use Rattle.text_page.proofs.OutputLemmas.{put-added, put-printed}
+use Rattle.text_page.proofs.OutputLemmas.{put-printed}
 
 -- an output whose sink has not failed tells its page, and one that tells a page has not failed
 tells-page : (output : OutputState) → output.failed ≡ false → told_page output ≡ Some output.page
@@ -33,7 +33,6 @@ printed-part before now faults n old new earlier text stands part has =
     record {
       bytes = rw (still, back) (rw stands at has.bytes);
       faults = rw still (rw stands at has.faults);
-      never_falls = has.never_falls;
     }
 
 -- so that all that was put before stands after a page that had no room for a text
@@ -51,8 +50,8 @@ printed-back (Err e) before now later faults n m old printed new mark earlier te
 -- a text that was printed to the sink itself, where nothing is left on the page
 pub printed-out : {T E : Type 0} (r : Result T E) (before now later : Option (List ℕ)) (faults n m : ℕ) (old new : OutputState) (earlier text : List ℕ)
     → old.failed ≡ false → old.page ≡ [] → new ≡ record old { failed = is_err r } → OnOk r (Writes now later text)
-    → OnErr r (WritesPrefix now later text) → OnErr r (Rose n m) → OnOk r (m ≡ n) → n ≤ m
+    → OnErr r (WritesPrefix now later text) → KeepsCount (is_err r) n m
     → HasPut before now faults n old earlier → HasPut before later faults m new (earlier ++ text)
-printed-out r before now later faults n m old new earlier text stands bare noted whole part rose counts falls has =
+printed-out r before now later faults n m old new earlier text stands bare noted whole part counted has =
     put-printed r before now later faults n m old new earlier text stands bare (ap (λ (o : OutputState). o.failed) noted)
-    (ap (λ (o : OutputState). o.page) noted ∙ bare) whole part rose counts falls has
+    (ap (λ (o : OutputState). o.page) noted ∙ bare) whole part counted has

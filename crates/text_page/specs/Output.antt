@@ -1,7 +1,7 @@
 -- What is on its way to a sink.
-use Rattle.std.specs.Prelude.{◌≡◌, ℕ, ◌≤◌, ◌++◌, Bool, false, if◌then◌else◌, MatchBool, List, [], Option, Some, None}
+use Rattle.std.specs.Prelude.{◌≡◌, ℕ, ◌++◌, Bool, false, if◌then◌else◌, MatchBool, List, [], Option, Some, None}
 use Rattle.ride_ports.specs.Bytes.{Writes, WritesPrefix}
-use Rattle.ride_ports.specs.Count.{Rose}
+use Rattle.ride_ports.specs.Count.{KeepsCount}
 
 -- the text of a page, and how often it was full
 pub record PageState : Type 0 where
@@ -28,8 +28,7 @@ pub record HasPut (before now : Option (List ℕ)) (faults_before faults_now : �
   pub bytes : MatchBool output.failed
       (WritesPrefix before now text)
       ((done : List ℕ) × Writes before now done × (text ≡ done ++ output.page))
-  pub faults : MatchBool output.failed (Rose faults_before faults_now) (faults_now ≡ faults_before)
-  pub never_falls : faults_before ≤ faults_now
+  pub faults : KeepsCount output.failed faults_before faults_now
 
 -- an output has put a text after whatever was put before
 abbrev pub Puts : Option (List ℕ) → ℕ → OutputState → Option (List ℕ) → ℕ → OutputState → List ℕ → Type 0

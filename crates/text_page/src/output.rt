@@ -46,7 +46,8 @@ impl Output {
 
     /// Puts bytes.
     pub fn put<K: Sink>(&mut self, out: &mut K, bytes: &[u8])
-        ensures put { Puts (K.written out.old) (K.faults out.old) self.old (K.written out.new) (K.faults out.new) self.new bytes.now }
+        ensures put { Puts (K.written out.old) (K.faults out.old) self.old (K.written out.new)
+            (K.faults out.new) self.new bytes.now }
         ensures still_failed { self.old.failed ≡ true → self.new.failed ≡ true }
     {
         if self.failed {
@@ -72,7 +73,8 @@ impl Output {
     /// Writes the first bytes of the page, up to a mark, and takes the others off it.
     pub fn back_to<K: Sink>(&mut self, out: &mut K, mark: usize)
         ensures put { (before : Option (List ℕ)) (faults : ℕ) (text : List ℕ)
-            → HasPut before (K.written out.old) faults (K.faults out.old) (record self.old { page = take mark self.old.page }) text
+            → HasPut before (K.written out.old) faults (K.faults out.old)
+            (record self.old { page = take mark self.old.page }) text
             → HasPut before (K.written out.new) faults (K.faults out.new) self.new text }
         ensures nothing_left { self.new.failed ≡ false → self.new.page ≡ [] }
         ensures still_failed { self.old.failed ≡ true → self.new.failed ≡ true }

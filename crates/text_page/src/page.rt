@@ -1,7 +1,7 @@
 //! The page on which text is put before it is written.
-ghost use Rattle.std.specs.Prelude.{◌≡◌, ◌≤◌, ◌++◌, [], length, take, MatchBool, OnOk, OnErr, IfOk};
+ghost use Rattle.std.specs.Prelude.{◌≡◌, ◌≤◌, ◌++◌, [], length, take, MatchBool, OnOk, OnErr, IfOk, is_err};
 ghost use Rattle.ride_ports.specs.Bytes.{Writes, WritesPrefix};
-ghost use Rattle.ride_ports.specs.Count.{most_count, raised, Rose};
+ghost use Rattle.ride_ports.specs.Count.{KeepsCount, most_count, raised};
 
 use crate::NoMemory;
 use ride_ports::{Failed, Sink, write_all};
@@ -42,7 +42,8 @@ impl Page {
 
     /// Puts bytes on the page, where there is room for them.
     pub(crate) fn add(&mut self, bytes: &[u8]) -> bool
-        ensures { MatchBool result (self.new ≡ record self.old { text = self.old.text ++ bytes.now }) (self.new ≡ self.old) }
+        ensures { MatchBool result (self.new
+            ≡ record self.old { text = self.old.text ++ bytes.now }) (self.new ≡ self.old) }
     {
         if bytes.len() > PAGE - self.text.len() {
             return false;
@@ -69,10 +70,9 @@ impl Page {
     pub(crate) fn write_to<K: Sink>(&mut self, out: &mut K) -> Result<(), Failed>
         ensures whole { OnOk result (Writes (K.written out.old) (K.written out.new) self.old.text) }
         ensures emptied { OnOk result (self.new.text ≡ []) }
-        ensures prefix { OnErr result (WritesPrefix (K.written out.old) (K.written out.new) self.old.text) }
-        ensures failed_only_at_fault { OnErr result (Rose (K.faults out.old) (K.faults out.new)) }
-        ensures ok_counts_none { OnOk result (K.faults out.new ≡ K.faults out.old) }
-        ensures count_never_falls { K.faults out.old ≤ K.faults out.new }
+        ensures prefix { OnErr result
+            (WritesPrefix (K.written out.old) (K.written out.new) self.old.text) }
+        ensures faults { KeepsCount (is_err result) (K.faults out.old) (K.faults out.new) }
     {
         write_all(out, self.text.as_slice())?;
         self.text.clear();

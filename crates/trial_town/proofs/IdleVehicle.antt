@@ -4,10 +4,12 @@ use Rattle.std.specs.Prelude.{All, IfSome}
 use Rattle.std.specs.List.{IsDistinct}
 use Rattle.std.proofs.lemmas.Bool.{le-leb}
 use Rattle.std.proofs.lemmas.List.Elements.{All-nil, All-from_recursion}
+use Rattle.ride_model.specs.declared.settings.Settings.{Settings}
 use Rattle.ride_model.specs.declared.vehicle.Ride.{Ride}
 use Rattle.ride_model.specs.declared.vehicle.Vehicle.{Vehicle}
-use Rattle.ride_model.specs.Fleet.{IsFleet}
+use Rattle.ride_model.specs.Fleet.{IsFleet, MayStart}
 use Rattle.ride_model.specs.Road.{RoadMap}
+use Rattle.ride_model.specs.Settings.{IsSettings}
 use Rattle.ride_model.specs.Vehicle.{IsRide, IsLawful, HasLegs}
 
 alone : (id : ℕ) → IsDistinct eqb (id ∷ [])
@@ -49,6 +51,12 @@ lawful-idle roads v no_rides no_stops some seats chairs first last ready = recor
   loads = rw (no_rides, no_stops) (no-load v.seats v.chairs);
 }
 
--- and so is the fleet of it
-pub lawful-fleet : (roads : RoadMap) (v : Vehicle) → IsLawful roads v → All (IsLawful roads) (v ∷ [])
-lawful-fleet roads v lawful = All-from_recursion (IsLawful roads) (v ∷ []) (lawful, tt)
+-- a session may start with it alone
+pub may-start : (roads : RoadMap) (v : Vehicle) → IsLawful roads v → v.stops.items ≡ [] → v.version ≡ 0
+    → (settings : Settings) → IsSettings settings → MayStart roads settings (v ∷ [])
+may-start roads v lawful idle first settings fit = record {
+  settings_fit = fit;
+  lawful = All-from_recursion (IsLawful roads) (v ∷ []) (lawful, tt);
+  idle = All-from_recursion (λ (w : Vehicle). w.stops.items ≡ []) (v ∷ []) (idle, tt);
+  first_versions = All-from_recursion (λ (w : Vehicle). w.version ≡ 0) (v ∷ []) (first, tt);
+}

@@ -1,16 +1,16 @@
 //! A town for trials: four nodes in a line, a minute between neighbors, and one idle vehicle. Only trials and the bench use it.
 #![tactic(auto)]
 
-ghost use Rattle.std.specs.Prelude.{◌≡◌, ◌≤◌, ◌+◌, [], ◌∷◌, length, All, IfOk, OnOk};
-ghost use Rattle.ride_model.specs.declared.vehicle.Vehicle.{Vehicle};
+ghost use Rattle.std.specs.Prelude.{◌≡◌, ◌≤◌, ◌+◌, [], ◌∷◌, length, IfOk, OnOk};
+ghost use Rattle.ride_model.specs.declared.settings.Settings.{Settings};
+ghost use Rattle.ride_model.specs.Fleet.{MayStart};
 ghost use Rattle.ride_model.specs.Seating.{vehicle_ids};
 ghost use Rattle.ride_model.specs.Settings.{IsSettings};
-ghost use Rattle.ride_model.specs.Vehicle.{IsLawful};
 ghost use Rattle.trial_town.specs.Streets.{AreStreets};
 
+use adaptive_roads::Roads;
 use arrayvec::ArrayVec;
 use ride_model::{Fleet, Network, NoMemory, RoadArc, Settings, Vehicle};
-use road_times::Roads;
 use std::alloc::Global;
 
 /// The roads of four nodes in a line.
@@ -66,9 +66,8 @@ pub fn settings(batch: u32) -> Settings
 /// Vehicle 1 of two seats, idle at node 1.
 pub fn fleet(alloc: Global, roads: &Roads) -> Result<Fleet, NoMemory>
     requires { roads.now.nodes ≡ 4 }
-    ensures lawful { IfOk result (All (IsLawful roads.now)) }
-    ensures idle { IfOk result (λ fleet. All (λ (v : Vehicle). v.stops.items ≡ []) fleet) }
-    ensures first_versions { IfOk result (λ fleet. All (λ (v : Vehicle). v.version ≡ 0) fleet) }
+    ensures start { IfOk result (λ fleet. (settings : Settings) → IsSettings settings
+        → MayStart roads.now settings fleet) }
     ensures one { IfOk result (λ fleet. vehicle_ids fleet ≡ 1 ∷ []) }
 {
     let mut vehicles = Vec::with_capacity(alloc, 1)?;

@@ -1,15 +1,14 @@
 -- What a comparison of bytes says.
-use Rattle.std.proofs.Common.{◌≡◌, ◌≢◌, ℕ, ◌+◌, ◌-◌, ◌<◌, ◌≤◌, ◌==◌, not, Bool, true, false, List, [], ◌∷◌, ◌++◌, length, get_or, take}
-use Rattle.std.proofs.Common.{drop, Option, Some, None, Result, Ok, Err, refl, ap, sym, subst, ◌∙◌, append_assoc, append-nil, arith}
-use Rattle.std.specs.Prelude.{is_some, is_ok, IsTrue, OnOk, OnErr}
+use Rattle.std.proofs.Common.{◌≡◌, ◌≢◌, ℕ, ◌+◌, ◌<◌, ◌≤◌, Bool, true, false, List, [], ◌∷◌, ◌++◌, length, take}
+use Rattle.std.proofs.Common.{drop, Option, Some, None, Result, Ok, Err, refl, ap, sym, subst, ◌∙◌, append_assoc, append-nil}
+use Rattle.std.specs.Prelude.{is_some, is_err, is_ok, IsTrue, OnOk, OnErr}
 use Rattle.std.proofs.Math.Seq.{take-add, take-append_seam}
-use Rattle.std.proofs.lemmas.Bool.{eq-eqb, ne_eqb, true≢false}
-use Rattle.std.proofs.lemmas.List.{append_cancel_left, take-take, take-append-drop}
-use Rattle.line_text.specs.Fields.{begins_with}
+use Rattle.std.proofs.lemmas.Bool.{true≢false}
+use Rattle.std.proofs.lemmas.List.{append_cancel_left, take-take}
 use Rattle.ride_ports.specs.Bytes.{Writes, WritesPrefix}
 use Rattle.ride_ports.specs.Count.{Rose}
 use Rattle.ride_ports.proofs.CountLemmas.{Rose-from_zero}
-use Rattle.trip_log.specs.Compares.{Compared, as_bytes, differs, seen_bytes, taken_bytes, whole_line}
+use Rattle.trip_log.specs.Compares.{Compared, as_bytes, seen_bytes, taken_bytes, whole_line}
 
 -- so many more bytes were as awaited
 pub taken-same : (line : List ℕ) (place : ℕ) (other : Option ℕ) (same : ℕ) (piece awaited : List ℕ) → is_some other ≡ false
@@ -64,6 +63,10 @@ on_ok (Err e) is p = absurd (true≢false (sym is))
 pub on_err : {T E P : Type 0} (r : Result T E) → is_ok r ≡ false → OnErr r P → P
 on_err (Ok x) is p = absurd (true≢false is)
 on_err (Err e) is p = p
+
+pub is_err-not_ok : {T E : Type 0} (r : Result T E) → is_ok r ≡ false → is_err r ≡ true
+is_err-not_ok (Ok x) is = sym is
+is_err-not_ok (Err e) is = refl
 
 -- what was printed whole is the line and an LF just where all of it was taken
 pub printed-is : (line text : List ℕ) (before after : Compared) (whole : Bool) → Begins line before

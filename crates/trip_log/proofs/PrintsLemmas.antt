@@ -5,7 +5,7 @@ use Rattle.std.specs.List.{join_with_byte}
 use Rattle.std.proofs.lemmas.List.Concat.{flat_map-append}
 use Rattle.std.proofs.lemmas.List.{take-append-drop, take_more}
 use Rattle.ride_ports.proofs.ByteLemmas.{Writes-then, WritesPrefix-of_first, WritesPrefix-of_second}
-use Rattle.ride_ports.proofs.CountLemmas.{Rose-after_kept}
+use Rattle.ride_ports.proofs.Counts.{KeepsCount-then}
 use Rattle.std.specs.Prelude.{◌≢◌, codes, decimal}
 use Rattle.ride_model.specs.declared.command.Command.{Command}
 use Rattle.ride_model.specs.declared.command.Command.TheVariants.{Request, Cancel, At, Done, On, Off, Clock, Ask, Bad}
@@ -24,16 +24,12 @@ pub prints_then : {T U E : Type 0} {x : T} {outcome : Result U E} {a b c : Optio
 prints_then {outcome = Ok y} first second = record {
   whole = Writes-then first.whole second.whole;
   prefix = tt;
-  failed_only_at_fault = tt;
-  ok_counts_none = second.ok_counts_none ∙ first.ok_counts_none;
-  count_never_falls = omega (arith, first.count_never_falls, second.count_never_falls);
+  faults = KeepsCount-then first.faults second.faults;
 }
-prints_then {outcome = Err y} {n = n} {m = m} {k = k} first second = record {
+prints_then {outcome = Err y} first second = record {
   whole = tt;
   prefix = WritesPrefix-of_second first.whole second.prefix;
-  failed_only_at_fault = Rose-after_kept n m k first.count_never_falls second.failed_only_at_fault second.count_never_falls;
-  ok_counts_none = tt;
-  count_never_falls = omega (arith, first.count_never_falls, second.count_never_falls);
+  faults = KeepsCount-then first.faults second.faults;
 }
 
 -- a prefix of the first text is one of both
@@ -42,9 +38,7 @@ pub prints_more : {T U E F : Type 0} {e : E} {f : F} {a b : Option (List ℕ)} {
 prints_more ys first = record {
   whole = tt;
   prefix = WritesPrefix-of_first ys first.prefix;
-  failed_only_at_fault = first.failed_only_at_fault;
-  ok_counts_none = tt;
-  count_never_falls = first.count_never_falls;
+  faults = first.faults;
 }
 
 -- the same text in other words

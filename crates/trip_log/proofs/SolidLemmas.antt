@@ -1,15 +1,14 @@
 -- The fields of a line have only bytes above the blank.
-use Rattle.std.proofs.Common.{◌≡◌, ◌≢◌, ℕ, ◌+◌, ◌^◌, ◌<◌, ◌≤◌, ◌==◌, not, nat_le, ◌⊎◌, Bool, true, false, cond, List, [], ◌∷◌, ◌++◌}
+use Rattle.std.proofs.Common.{◌≡◌, ◌≢◌, ℕ, ◌^◌, ◌<◌, ◌≤◌, ◌==◌, not, nat_le, ◌⊎◌, Bool, true, false, cond, List, [], ◌∷◌, ◌++◌}
 use Rattle.std.proofs.Common.{length, map, All, refl, ◌∙◌, arith, length-append}
 use Rattle.std.specs.Prelude.{codes, decimal}
 use Rattle.std.specs.List.{list_all, join_with_byte, AllByRecursion}
 use Rattle.std.specs.Str.{all_ascii_digits}
-use Rattle.std.specs.Str.Parse.{digits_value}
 use Rattle.std.proofs.lemmas.Bool.{and_parts, and_from, leb-true, le-leb, ne_eqb, not_from_false}
 use Rattle.std.proofs.lemmas.Fmt.{decimal_nonempty, digits_decimal}
 use Rattle.std.proofs.lemmas.List.Elements.{All-head, All-tail}
 use Rattle.std.proofs.lemmas.List.Folds.{list_all-append}
-use Rattle.std.proofs.lemmas.Str.Parse.{IsNumeralModel, tells_all_ascii_digits, numerals_by_value}
+use Rattle.std.proofs.lemmas.Str.Parse.{tells_all_ascii_digits}
 use Rattle.line_text.specs.Fields.{is_dropped}
 use Rattle.line_text.proofs.PrintedLemmas.{IsPlain, digit_texts}
 use Rattle.ride_model.specs.declared.command.Actor.{Actor}

@@ -1,8 +1,8 @@
 -- What a printer does to its sink.
-use Rattle.std.specs.Prelude.{◌≡◌, ℕ, ◌≤◌, List, [], ◌∷◌, ◌++◌, Option, Result, OnOk, OnErr, codes}
+use Rattle.std.specs.Prelude.{ℕ, List, [], ◌∷◌, ◌++◌, Option, Result, OnOk, OnErr, is_err, codes}
 use Rattle.std.specs.List.{flat_map}
 use Rattle.ride_ports.specs.Bytes.{Writes, WritesPrefix}
-use Rattle.ride_ports.specs.Count.{Rose}
+use Rattle.ride_ports.specs.Count.{KeepsCount}
 use Rattle.ride_model.specs.declared.entry.Ending.{Ending}
 use Rattle.ride_model.specs.declared.entry.Ending.TheVariants.{Whole, Cut}
 
@@ -10,9 +10,7 @@ use Rattle.ride_model.specs.declared.entry.Ending.TheVariants.{Whole, Cut}
 pub record Prints {T E : Type 0} (outcome : Result T E) (before after : Option (List ℕ)) (faults_before faults_after : ℕ) (text : List ℕ) : Type 0 where
   pub whole : OnOk outcome (Writes before after text)
   pub prefix : OnErr outcome (WritesPrefix before after text)
-  pub failed_only_at_fault : OnErr outcome (Rose faults_before faults_after)
-  pub ok_counts_none : OnOk outcome (faults_after ≡ faults_before)
-  pub count_never_falls : faults_before ≤ faults_after
+  pub faults : KeepsCount (is_err outcome) faults_before faults_after
 
 -- items, each after a blank
 abbrev pub listed : {X : Type 0} → (X → List ℕ) → List X → List ℕ

@@ -40,7 +40,8 @@ impl<'a> LineSink<'a> {
     pub(crate) fn is_whole(&self) -> bool
         ensures whole { IsTrue result → taken_bytes self.now ≡ whole_line self.now.line }
         ensures other { taken_bytes self.now ≡ whole_line self.now.line → IsTrue result }
-        ensures faulty { 0 < self.now.faults → (rest : List ℕ) → whole_line self.now.line ≢ taken_bytes self.now ++ rest }
+        ensures faulty { 0 < self.now.faults → (rest : List ℕ)
+            → whole_line self.now.line ≢ taken_bytes self.now ++ rest }
     {
         self.other.is_none() && self.place == self.line.len() + 1
     }
@@ -90,7 +91,8 @@ fn same_length(piece: &[u8], line: &[u8]) -> usize
     ensures in_piece { result ≤ length piece.now }
     ensures in_line { result ≤ length line.now }
     ensures same { take result piece.now ≡ take result line.now }
-    ensures another { result < length piece.now → result < length line.now → slice_index piece.now result ≢ slice_index line.now result }
+    ensures another { result < length piece.now → result < length line.now
+        → slice_index piece.now result ≢ slice_index line.now result }
 {
     let mut same = 0;
     while same < piece.len() && same < line.len() && piece[same] == line[same] {

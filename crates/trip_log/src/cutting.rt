@@ -4,7 +4,8 @@ ghost use Rattle.trip_log.specs.Cuts.{cut_at, front_of};
 
 /// The bytes before the first one that is this byte, and those after it.
 pub(crate) fn cut(bytes: &[u8], byte: u8) -> Option<(&[u8], &[u8])>
-    ensures { MatchOption result (cut_at byte bytes.now ≡ None) (λ cut. cut_at byte bytes.now ≡ Some (cut.0.now, cut.1.now)) }
+    ensures { MatchOption result (cut_at byte bytes.now ≡ None)
+        (λ cut. cut_at byte bytes.now ≡ Some (cut.0.now, cut.1.now)) }
 {
     for (place, b) in bytes.iter().enumerate() {
         if *b == byte {

@@ -119,7 +119,8 @@ fn read_fed(text: &[u8], log: u8) -> Option<Event>
 // Takes two numbers with a word after each.
 fn take_heading(fields: &mut Fields<'_>, middle: &[u8], last: &[u8]) -> Option<(u64, u64)>
     ensures { MatchOption result (heading_then middle.now last.now fields.old ≡ None)
-        (λ numbers. heading_then middle.now last.now fields.old ≡ Some (numbers.0, numbers.1, fields.new)) }
+        (λ numbers. heading_then middle.now last.now fields.old
+        ≡ Some (numbers.0, numbers.1, fields.new)) }
 {
     let first = take_number(fields)?;
     if !take_word(fields, middle) {

@@ -26,7 +26,8 @@ pub(crate) fn print_event<K: Sink>(
 ) -> Result<(), Failed>
     requires log { IsOneOrTwo log }
     requires spelled { IsSpelledEvent log actor event.now }
-    ensures { Prints result (K.written sink.old) (K.written sink.new) (K.faults sink.old) (K.faults sink.new)
+    ensures { Prints result (K.written sink.old) (K.written sink.new)
+        (K.faults sink.old) (K.faults sink.new)
         (line_of (actor_field actor ∷ event_fields log event.now)) }
 {
     match event {
@@ -66,7 +67,8 @@ fn print_fed<K: Sink>(
 ) -> Result<(), Failed>
     requires log { IsOneOrTwo log }
     requires spelled { IsSpelledCommand log command.now }
-    ensures { Prints result (K.written sink.old) (K.written sink.new) (K.faults sink.old) (K.faults sink.new)
+    ensures { Prints result (K.written sink.old) (K.written sink.new)
+        (K.faults sink.old) (K.faults sink.new)
         (line_of (actor_field actor ∷ fed_fields log command.now reply.now)) }
 {
     match command {
@@ -84,7 +86,8 @@ pub fn print_answer<K: Sink>(
 ) -> Result<(), Failed>
     requires log { IsOneOrTwo log }
     requires spelled { IsSpelledCommand log command.now }
-    ensures { Prints result (K.written sink.old) (K.written sink.new) (K.faults sink.old) (K.faults sink.new)
+    ensures { Prints result (K.written sink.old) (K.written sink.new)
+        (K.faults sink.old) (K.faults sink.new)
         (line_of (fed_fields log command.now reply.now)) }
 {
     match command {
@@ -103,7 +106,8 @@ fn print_with_reply<K: Sink>(
     requires log { IsOneOrTwo log }
     requires not_bad { (number : ℕ) → command.now ≢ Bad number }
     requires spelled { IsSpelledCommand log command.now }
-    ensures { Prints result (K.written sink.old) (K.written sink.new) (K.faults sink.old) (K.faults sink.new)
+    ensures { Prints result (K.written sink.old) (K.written sink.new)
+        (K.faults sink.old) (K.faults sink.new)
         (line_of (fed_fields log command.now reply.now)) }
 {
     print_spelling(command, log, sink)?;
@@ -112,7 +116,8 @@ fn print_with_reply<K: Sink>(
 
 // Prints the line of a bad line.
 fn print_bad<K: Sink>(actor: Actor, line: u64, sink: &mut K) -> Result<(), Failed>
-    ensures { Prints result (K.written sink.old) (K.written sink.new) (K.faults sink.old) (K.faults sink.new)
+    ensures { Prints result (K.written sink.old) (K.written sink.new)
+        (K.faults sink.old) (K.faults sink.new)
         (actor_field actor ++ fields_end (codes "bad" ∷ decimal line ∷ [])) }
 {
     let number = Piece::Number(line);
@@ -138,7 +143,8 @@ fn print_answered<K: Sink>(
     requires log { IsOneOrTwo log }
     requires not_bad { (number : ℕ) → command.now ≢ Bad number }
     requires spelled { IsSpelledCommand log command.now }
-    ensures { Prints result (K.written sink.old) (K.written sink.new) (K.faults sink.old) (K.faults sink.new)
+    ensures { Prints result (K.written sink.old) (K.written sink.new)
+        (K.faults sink.old) (K.faults sink.new)
         (line_of (actor_field actor ∷ fed_fields log command.now reply.now)) }
 {
     print(&[Piece::By(actor), Piece::Bytes(b" ")], sink)?;
@@ -151,7 +157,8 @@ fn print_spelling<K: Sink>(command: &Command, log: u8, sink: &mut K) -> Result<(
     requires log { IsOneOrTwo log }
     requires not_bad { (number : ℕ) → command.now ≢ Bad number }
     requires spelled { IsSpelledCommand log command.now }
-    ensures { Prints result (K.written sink.old) (K.written sink.new) (K.faults sink.old) (K.faults sink.new)
+    ensures { Prints result (K.written sink.old) (K.written sink.new)
+        (K.faults sink.old) (K.faults sink.new)
         (spelling_of log command.now) }
 {
     print_command(command, log, sink)
@@ -159,7 +166,8 @@ fn print_spelling<K: Sink>(command: &Command, log: u8, sink: &mut K) -> Result<(
 
 // Prints `=`, a reply and the line's end.
 fn print_reply<K: Sink>(reply: &Reply, sink: &mut K) -> Result<(), Failed>
-    ensures { Prints result (K.written sink.old) (K.written sink.new) (K.faults sink.old) (K.faults sink.new)
+    ensures { Prints result (K.written sink.old) (K.written sink.new)
+        (K.faults sink.old) (K.faults sink.new)
         (fields_end (codes "=" ∷ reply_fields reply.now)) }
 {
     match reply {
@@ -181,7 +189,8 @@ fn print_reply<K: Sink>(reply: &Reply, sink: &mut K) -> Result<(), Failed>
 // Prints a text, a number and the line's end.
 fn print_number<K: Sink>(text: &[u8], number: u64, sink: &mut K) -> Result<(), Failed>
     requires { length text.now ≤ 100 }
-    ensures { Prints result (K.written sink.old) (K.written sink.new) (K.faults sink.old) (K.faults sink.new)
+    ensures { Prints result (K.written sink.old) (K.written sink.new)
+        (K.faults sink.old) (K.faults sink.new)
         (text.now ++ (decimal number ++ 10 ∷ [])) }
 {
     print(
@@ -196,7 +205,8 @@ fn print_number<K: Sink>(text: &[u8], number: u64, sink: &mut K) -> Result<(), F
 
 // Prints `=`, how late a report is, the rides that it breaks and the line's end.
 fn print_late<K: Sink>(seconds: u64, broken: &Ids, sink: &mut K) -> Result<(), Failed>
-    ensures { Prints result (K.written sink.old) (K.written sink.new) (K.faults sink.old) (K.faults sink.new)
+    ensures { Prints result (K.written sink.old) (K.written sink.new)
+        (K.faults sink.old) (K.faults sink.new)
         (fields_end (codes "=" ∷ reply_fields (Late seconds broken.now))) }
 {
     print(&[Piece::Bytes(b" = late "), Piece::Number(seconds)], sink)?;
@@ -206,7 +216,8 @@ fn print_late<K: Sink>(seconds: u64, broken: &Ids, sink: &mut K) -> Result<(), F
 
 // Prints the rides that a late report breaks, and nothing where there are none.
 fn print_broken<K: Sink>(broken: &Ids, sink: &mut K) -> Result<(), Failed>
-    ensures { Prints result (K.written sink.old) (K.written sink.new) (K.faults sink.old) (K.faults sink.new)
+    ensures { Prints result (K.written sink.old) (K.written sink.new)
+        (K.faults sink.old) (K.faults sink.new)
         (fields_then (broken_fields broken.now) []) }
 {
     let ids = broken.items();
@@ -218,7 +229,8 @@ fn print_broken<K: Sink>(broken: &Ids, sink: &mut K) -> Result<(), Failed>
 
 // Prints the line of an end.
 fn print_finish<K: Sink>(actor: Actor, ending: Ending, sink: &mut K) -> Result<(), Failed>
-    ensures { Prints result (K.written sink.old) (K.written sink.new) (K.faults sink.old) (K.faults sink.new)
+    ensures { Prints result (K.written sink.old) (K.written sink.new)
+        (K.faults sink.old) (K.faults sink.new)
         (actor_field actor ++ fields_end (ending_word ending ∷ [])) }
 {
     match ending {
@@ -229,7 +241,8 @@ fn print_finish<K: Sink>(actor: Actor, ending: Ending, sink: &mut K) -> Result<(
 
 // Prints the line of an abandoned batch.
 fn print_abandoned<K: Sink>(actor: Actor, batch: u64, sink: &mut K) -> Result<(), Failed>
-    ensures { Prints result (K.written sink.old) (K.written sink.new) (K.faults sink.old) (K.faults sink.new)
+    ensures { Prints result (K.written sink.old) (K.written sink.new)
+        (K.faults sink.old) (K.faults sink.new)
         (actor_field actor ++ fields_end (codes "abandon" ∷ decimal batch ∷ [])) }
 {
     let number = Piece::Number(batch);
@@ -246,8 +259,10 @@ fn print_abandoned<K: Sink>(actor: Actor, batch: u64, sink: &mut K) -> Result<()
 
 // Prints the line of an opened batch up to its lists.
 fn print_open<K: Sink>(actor: Actor, batch: u64, time: u64, sink: &mut K) -> Result<(), Failed>
-    ensures { Prints result (K.written sink.old) (K.written sink.new) (K.faults sink.old) (K.faults sink.new)
-        (actor_field actor ++ fields_then (codes "open" ∷ decimal batch ∷ codes "at" ∷ decimal time ∷ []) []) }
+    ensures { Prints result (K.written sink.old) (K.written sink.new)
+        (K.faults sink.old) (K.faults sink.new)
+        (actor_field actor ++ fields_then
+        (codes "open" ∷ decimal batch ∷ codes "at" ∷ decimal time ∷ []) []) }
 {
     print(
         &[
@@ -267,8 +282,10 @@ fn print_open_lists<K: Sink>(
     plans: &VersionList,
     sink: &mut K,
 ) -> Result<(), Failed>
-    ensures { Prints result (K.written sink.old) (K.written sink.new) (K.faults sink.old) (K.faults sink.new)
-        (codes " requests" ++ (listed decimal requests.now ++ (codes " plans" ++ (listed plan_field plans.now ++ 10 ∷ [])))) }
+    ensures { Prints result (K.written sink.old) (K.written sink.new)
+        (K.faults sink.old) (K.faults sink.new)
+        (codes " requests" ++ (listed decimal requests.now
+        ++ (codes " plans" ++ (listed plan_field plans.now ++ 10 ∷ [])))) }
 {
     print_list::<IdText, u64, K>(b" requests", requests.items(), sink)?;
     print_list::<PlanText, (u64, u64), K>(b" plans", plans.items(), sink)?;
@@ -277,8 +294,10 @@ fn print_open_lists<K: Sink>(
 
 // Prints the line of a commit up to its lists.
 fn print_commit<K: Sink>(actor: Actor, batch: u64, cost: u64, sink: &mut K) -> Result<(), Failed>
-    ensures { Prints result (K.written sink.old) (K.written sink.new) (K.faults sink.old) (K.faults sink.new)
-        (actor_field actor ++ fields_then (codes "commit" ∷ decimal batch ∷ codes "cost" ∷ decimal cost ∷ []) []) }
+    ensures { Prints result (K.written sink.old) (K.written sink.new)
+        (K.faults sink.old) (K.faults sink.new)
+        (actor_field actor ++ fields_then
+        (codes "commit" ∷ decimal batch ∷ codes "cost" ∷ decimal cost ∷ []) []) }
 {
     print(
         &[
@@ -300,9 +319,12 @@ fn print_commit_lists<K: Sink>(
     outcomes: &OutcomeList,
     sink: &mut K,
 ) -> Result<(), Failed>
-    ensures { Prints result (K.written sink.old) (K.written sink.new) (K.faults sink.old) (K.faults sink.new)
-        (codes " seats" ++ (listed seat_field seats.now ++ (codes " prices" ++ (listed amount_field prices.now
-        ++ (codes " pays" ++ (listed amount_field pays.now ++ (codes " outcomes" ++ (listed outcome_field outcomes.now ++ 10 ∷ [])))))))) }
+    ensures { Prints result (K.written sink.old) (K.written sink.new)
+        (K.faults sink.old) (K.faults sink.new)
+        (codes " seats" ++ (listed seat_field seats.now
+        ++ (codes " prices" ++ (listed amount_field prices.now
+        ++ (codes " pays" ++ (listed amount_field pays.now
+        ++ (codes " outcomes" ++ (listed outcome_field outcomes.now ++ 10 ∷ [])))))))) }
 {
     print_list::<SeatText, Seat, K>(b" seats", seats.items(), sink)?;
     print_list::<AmountText, (u64, u64), K>(b" prices", prices.items(), sink)?;

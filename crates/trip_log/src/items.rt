@@ -161,7 +161,8 @@ fn numbered_outcome(word: &[u8], first: u64, second: u64) -> Option<Outcome>
 
 /// Takes a word, and says whether it is this one.
 pub(crate) fn take_word(fields: &mut Fields<'_>, word: &[u8]) -> bool
-    ensures { MatchBool result (after_word word.now fields.old ≡ Some fields.new) (after_word word.now fields.old ≡ None) }
+    ensures { MatchBool result (after_word word.now fields.old ≡ Some fields.new)
+        (after_word word.now fields.old ≡ None) }
 {
     match fields.next_field() {
         Some(field) => field == word,
@@ -171,7 +172,8 @@ pub(crate) fn take_word(fields: &mut Fields<'_>, word: &[u8]) -> bool
 
 /// Takes a number.
 pub(crate) fn take_number(fields: &mut Fields<'_>) -> Option<u64>
-    ensures { MatchOption result (number_then fields.old ≡ None) (λ n. number_then fields.old ≡ Some (n, fields.new)) }
+    ensures { MatchOption result (number_then fields.old ≡ None)
+        (λ n. number_then fields.old ≡ Some (n, fields.new)) }
 {
     let field = fields.next_field()?;
     read_number(field)
@@ -194,7 +196,8 @@ pub(crate) fn take_list<R: Reading<T>, T: Drop>(
     fields: &mut Fields<'_>,
     word: &[u8],
 ) -> Result<Option<ItemList<T>>, NoMemory>
-    ensures { IfOk result (λ list. MatchOption list (list_then R.item_from word.now fields.old ≡ None)
+    ensures { IfOk result (λ list.
+        MatchOption list (list_then R.item_from word.now fields.old ≡ None)
         (λ items. list_then R.item_from word.now fields.old ≡ Some (items, fields.new))) }
 {
     let (items, end) = take_items::<R, T>(alloc, fields)?;
@@ -223,7 +226,8 @@ fn take_items<'a, R: Reading<T>, T: Drop>(
     alloc: Global,
     fields: &mut Fields<'a>,
 ) -> Result<(ItemList<T>, Option<&'a [u8]>), NoMemory>
-    ensures { IfOk result (λ taken. MatchOption taken.1 (items_of R.item_from fields.old ≡ (taken.0, []))
+    ensures { IfOk result (λ taken.
+        MatchOption taken.1 (items_of R.item_from fields.old ≡ (taken.0, []))
         (λ field. items_of R.item_from fields.old ≡ (taken.0, field.now ∷ fields.new))) }
 {
     let mut items = Vec::new(alloc);

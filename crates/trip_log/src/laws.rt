@@ -16,7 +16,8 @@ pub fn heads_differ()
 
 /// Entries with equal lines are equal.
 pub fn lines_differ()
-    ensures { (log : ℕ) (entry other : Entry) → IsOneOrTwo log → HasLine log entry → HasLine log other
+    ensures { (log : ℕ) (entry other : Entry) → IsOneOrTwo log → HasLine log entry
+        → HasLine log other
         → entry_line log entry ≡ entry_line log other → entry ≡ other }
 {}
 
@@ -31,7 +32,8 @@ pub fn texts_differ()
 /// A text tells its lines one by one: where another text goes on after it, the heads are equal, the other's entries go on
 /// after its entries, and what follows is their lines.
 pub fn texts_go_on_by_lines()
-    ensures { (log feeds desks other_log other_feeds other_desks : ℕ) (entries others : List Entry) (rest : List ℕ)
+    ensures { (log feeds desks other_log other_feeds other_desks : ℕ)
+        (entries others : List Entry) (rest : List ℕ)
         → HasText log feeds desks entries → HasText other_log other_feeds other_desks others
         → text_of other_log other_feeds other_desks others ≡ text_of log feeds desks entries ++ rest
         → (log ≡ other_log) × (feeds ≡ other_feeds) × (desks ≡ other_desks)
@@ -42,7 +44,8 @@ pub fn texts_go_on_by_lines()
 pub fn texts_are_cut_into_lines()
     ensures lines { (log feeds desks : ℕ) (entries : List Entry) → HasText log feeds desks entries
         → ended_lines (text_of log feeds desks entries)
-        ≡ front_of (head_line log feeds desks) ∷ map (λ entry. front_of (entry_line log entry)) entries }
+        ≡ front_of (head_line log feeds desks)
+        ∷ map (λ entry. front_of (entry_line log entry)) entries }
     ensures rest { (log feeds desks : ℕ) (entries : List Entry) → HasText log feeds desks entries
         → rest_of (text_of log feeds desks entries) ≡ [] }
 {}

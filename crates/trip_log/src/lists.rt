@@ -120,7 +120,8 @@ pub fn print_list<S: Spelling<T>, T, K: Sink>(
     items: &[T],
     sink: &mut K,
 ) -> Result<(), Failed>
-    ensures { Prints result (K.written sink.old) (K.written sink.new) (K.faults sink.old) (K.faults sink.new)
+    ensures { Prints result (K.written sink.old) (K.written sink.new)
+        (K.faults sink.old) (K.faults sink.new)
         (word.now ++ listed S.field items.now) }
 {
     put(word, sink)?;
@@ -129,7 +130,8 @@ pub fn print_list<S: Spelling<T>, T, K: Sink>(
 
 // Prints items, each after a blank.
 fn print_items<S: Spelling<T>, T, K: Sink>(items: &[T], sink: &mut K) -> Result<(), Failed>
-    ensures { Prints result (K.written sink.old) (K.written sink.new) (K.faults sink.old) (K.faults sink.new)
+    ensures { Prints result (K.written sink.old) (K.written sink.new)
+        (K.faults sink.old) (K.faults sink.new)
         (listed S.field items.now) }
 {
     for item in items {
@@ -140,7 +142,8 @@ fn print_items<S: Spelling<T>, T, K: Sink>(items: &[T], sink: &mut K) -> Result<
 
 // Prints a blank and an item.
 fn print_item<S: Spelling<T>, T, K: Sink>(item: &T, sink: &mut K) -> Result<(), Failed>
-    ensures { Prints result (K.written sink.old) (K.written sink.new) (K.faults sink.old) (K.faults sink.new)
+    ensures { Prints result (K.written sink.old) (K.written sink.new)
+        (K.faults sink.old) (K.faults sink.new)
         (32 ∷ S.field item.now) }
 {
     put(S::text(item).as_slice(), sink)

@@ -23,14 +23,16 @@ pub enum Piece<'a> {
 /// Prints pieces one after another, put together first: at most 128 bytes, of which a number may take 20.
 pub fn print<K: Sink>(pieces: &[Piece<'_>], sink: &mut K) -> Result<(), Failed>
     requires { room_of pieces.now ≤ 128 }
-    ensures { Prints result (K.written sink.old) (K.written sink.new) (K.faults sink.old) (K.faults sink.new) (bytes_of pieces.now) }
+    ensures { Prints result (K.written sink.old) (K.written sink.new) (K.faults sink.old)
+        (K.faults sink.new) (bytes_of pieces.now) }
 {
     put(text_of(pieces).as_slice(), sink)
 }
 
 /// Prints bytes.
 pub fn put<K: Sink>(bytes: &[u8], sink: &mut K) -> Result<(), Failed>
-    ensures { Prints result (K.written sink.old) (K.written sink.new) (K.faults sink.old) (K.faults sink.new) bytes.now }
+    ensures { Prints result (K.written sink.old) (K.written sink.new) (K.faults sink.old)
+        (K.faults sink.new) bytes.now }
 {
     write_all(sink, bytes)
 }

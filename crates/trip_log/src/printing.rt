@@ -1,7 +1,7 @@
 //! Prints the lines of the log.
-ghost use Rattle.std.specs.Prelude.{◌≡◌, ◌≤◌, OnOk, OnErr};
+ghost use Rattle.std.specs.Prelude.{OnOk, OnErr, is_err};
 ghost use Rattle.ride_ports.specs.Bytes.{Writes, WritesPrefix};
-ghost use Rattle.ride_ports.specs.Count.{Rose};
+ghost use Rattle.ride_ports.specs.Count.{KeepsCount};
 ghost use Rattle.ride_model.specs.Text.{HasLine, IsOneOrTwo, entry_line, head_line};
 ghost use Rattle.trip_log.specs.Prints.{Prints};
 
@@ -15,11 +15,11 @@ pub fn print_head<K: Sink>(log: u8, feeds: u8, desks: u8, sink: &mut K) -> Resul
     requires log { IsOneOrTwo log }
     requires feeds { IsOneOrTwo feeds }
     requires desks { IsOneOrTwo desks }
-    ensures whole { OnOk result (Writes (K.written sink.old) (K.written sink.new) (head_line log feeds desks)) }
-    ensures prefix { OnErr result (WritesPrefix (K.written sink.old) (K.written sink.new) (head_line log feeds desks)) }
-    ensures failed_only_at_fault { OnErr result (Rose (K.faults sink.old) (K.faults sink.new)) }
-    ensures ok_counts_none { OnOk result (K.faults sink.new ≡ K.faults sink.old) }
-    ensures count_never_falls { K.faults sink.old ≤ K.faults sink.new }
+    ensures whole { OnOk result (Writes (K.written sink.old) (K.written sink.new)
+        (head_line log feeds desks)) }
+    ensures prefix { OnErr result
+        (WritesPrefix (K.written sink.old) (K.written sink.new) (head_line log feeds desks)) }
+    ensures faults { KeepsCount (is_err result) (K.faults sink.old) (K.faults sink.new) }
 {
     print_numbers(log, feeds, desks, sink)
 }
@@ -28,18 +28,19 @@ pub fn print_head<K: Sink>(log: u8, feeds: u8, desks: u8, sink: &mut K) -> Resul
 pub fn print_entry<K: Sink>(entry: &Entry, log: u8, sink: &mut K) -> Result<(), Failed>
     requires log { IsOneOrTwo log }
     requires has_line { HasLine log entry.now }
-    ensures whole { OnOk result (Writes (K.written sink.old) (K.written sink.new) (entry_line log entry.now)) }
-    ensures prefix { OnErr result (WritesPrefix (K.written sink.old) (K.written sink.new) (entry_line log entry.now)) }
-    ensures failed_only_at_fault { OnErr result (Rose (K.faults sink.old) (K.faults sink.new)) }
-    ensures ok_counts_none { OnOk result (K.faults sink.new ≡ K.faults sink.old) }
-    ensures count_never_falls { K.faults sink.old ≤ K.faults sink.new }
+    ensures whole { OnOk result (Writes (K.written sink.old)
+        (K.written sink.new) (entry_line log entry.now)) }
+    ensures prefix { OnErr result
+        (WritesPrefix (K.written sink.old) (K.written sink.new) (entry_line log entry.now)) }
+    ensures faults { KeepsCount (is_err result) (K.faults sink.old) (K.faults sink.new) }
 {
     print_event(entry.actor, &entry.event, log, sink)
 }
 
 // Prints the head line of these numbers.
 fn print_numbers<K: Sink>(log: u8, feeds: u8, desks: u8, sink: &mut K) -> Result<(), Failed>
-    ensures { Prints result (K.written sink.old) (K.written sink.new) (K.faults sink.old) (K.faults sink.new)
+    ensures { Prints result (K.written sink.old) (K.written sink.new)
+        (K.faults sink.old) (K.faults sink.new)
         (head_line log feeds desks) }
 {
     print(

@@ -23,8 +23,10 @@ pub fn read_head(line: &[u8]) -> Option<Head>
     ensures log { IfSome result (λ head. IsOneOrTwo head.log) }
     ensures feeds { IfSome result (λ head. IsOneOrTwo head.feeds) }
     ensures desks { IfSome result (λ head. IsOneOrTwo head.desks) }
-    ensures head { IfSome result (λ head. head_line head.log head.feeds head.desks ≡ line.now ++ 10 ∷ []) }
-    ensures none { IfNone result ((log feeds desks : ℕ) → IsOneOrTwo log → IsOneOrTwo feeds → IsOneOrTwo desks
+    ensures head { IfSome result (λ head. head_line head.log head.feeds head.desks
+        ≡ line.now ++ 10 ∷ []) }
+    ensures none { IfNone result ((log feeds desks : ℕ) → IsOneOrTwo log → IsOneOrTwo feeds
+        → IsOneOrTwo desks
         → head_line log feeds desks ≢ line.now ++ 10 ∷ []) }
 {
     let log = digit_at(line, 4)?;
@@ -40,8 +42,11 @@ pub fn read_head(line: &[u8]) -> Option<Head>
 pub fn read_entry(alloc: Global, line: &[u8], log: u8) -> Result<Option<Entry>, NoMemory>
     requires { IsOneOrTwo log }
     ensures has_line { IfOk result (λ read. IfSome read (HasLine log)) }
-    ensures an_entry { IfOk result (λ read. IfSome read (λ entry. entry_line log entry ≡ line.now ++ 10 ∷ [])) }
-    ensures none { IfOk result (λ read. IfNone read ((entry : Entry) → HasLine log entry → entry_line log entry ≢ line.now ++ 10 ∷ [])) }
+    ensures an_entry { IfOk result
+        (λ read. IfSome read (λ entry. entry_line log entry ≡ line.now ++ 10 ∷ [])) }
+    ensures none { IfOk result (λ read.
+        IfNone read ((entry : Entry) → HasLine log entry
+        → entry_line log entry ≢ line.now ++ 10 ∷ [])) }
 {
     let Some(entry) = entry_of(alloc, line, log)? else {
         return Ok(None);

@@ -115,10 +115,12 @@ impl<T: Chronicle + Send, A: Allocator> TurnLock<T, A> {
     fn try_enter(&self, pass: &mut Pass<T>) -> Option<T>
         requires { MayEnter self.now pass.old }
         ensures lock { IsPassOf self.now pass.new }
-        ensures entered { IfSome result (λ x. knowledge pass.new ≡ after_enter (knowledge pass.old) (T.history x)) }
+        ensures entered { IfSome result
+            (λ x. knowledge pass.new ≡ after_enter (knowledge pass.old) (T.history x)) }
         ensures value { IfSome result (Continues T.root T.history T.maker (knowledge pass.old)) }
         ensures taken { IfNone result (knowledge pass.new ≡ knowledge pass.old) }
-        ensures others { IfNone result ((knowledge pass.old).number ≡ 0 → 0 < (knowledge pass.old).out) }
+        ensures others { IfNone result
+            ((knowledge pass.old).number ≡ 0 → 0 < (knowledge pass.old).out) }
     {
         let shared = &self.table.shared;
         let found = shared.compare_exchange::<Grab>(&mut pass.seat, TURN, FREE, TAKEN);
@@ -137,8 +139,10 @@ impl<T: Chronicle + Send, A: Allocator> TurnLock<T, A> {
         ensures pass { knowledge pass.new ≡ after_enter (knowledge pass.old) (T.history result) }
         ensures root { HasRoot pass.old (T.root result) }
         ensures seen { IsPrefix (knowledge pass.old).seen (T.history result) }
-        ensures own { items_of T.maker (knowledge pass.old).number (T.history result) ≡ (knowledge pass.old).own }
-        ensures ended { (knowledge pass.old).number ≡ 0 → EndedStand T.maker (knowledge pass.old).ended (T.history result) }
+        ensures own { items_of T.maker (knowledge pass.old).number (T.history result)
+            ≡ (knowledge pass.old).own }
+        ensures ended { (knowledge pass.old).number ≡ 0
+            → EndedStand T.maker (knowledge pass.old).ended (T.history result) }
     {
         for _ in rt.forever() {
             if let Some(value) = self.try_enter(pass) {
@@ -168,11 +172,14 @@ impl<T: Chronicle + Send, A: Allocator> TurnLock<T, A> {
     pub fn leave_with(&self, pass: &mut Pass<T>, value: T)
         requires pass { MayLeave self.now pass.old }
         requires root { HasRoot pass.old (T.root value) }
-        requires grown { GrowsByOne T.maker (knowledge pass.old).number (knowledge pass.old).seen (T.history value) }
+        requires grown { GrowsByOne T.maker (knowledge pass.old).number
+            (knowledge pass.old).seen (T.history value) }
         requires length { length (T.history value) < 2 ^ 64 }
         ensures lock { IsPassOf self.now pass.new }
-        ensures pass { knowledge pass.new ≡ after_leave (after_note (knowledge pass.old) (T.history value)) }
-        ensures own { (item : T.Item) → T.history value ≡ (knowledge pass.old).seen ++ item ∷ [] → (knowledge pass.new).own ≡ (knowledge pass.old).own ++ item ∷ [] }
+        ensures pass { knowledge pass.new
+            ≡ after_leave (after_note (knowledge pass.old) (T.history value)) }
+        ensures own { (item : T.Item) → T.history value ≡ (knowledge pass.old).seen ++ item ∷ []
+            → (knowledge pass.new).own ≡ (knowledge pass.old).own ++ item ∷ [] }
     {
         let shared = &self.table.shared;
         let _none = shared.exchange(&mut pass.seat, VALUE, Some(value));

@@ -61,7 +61,8 @@ impl WaitList {
     pub fn put_back(&mut self, place: u32)
         requires in_range { place < self.old.capacity }
         requires absent { ¬ (Contains self.old.places place) }
-        ensures put { self.new.places ≡ places_below place self.old.places ++ place ∷ places_above place self.old.places }
+        ensures put { self.new.places
+            ≡ places_below place self.old.places ++ place ∷ places_above place self.old.places }
         ensures capacity { self.new.capacity ≡ self.old.capacity }
         ensures rising { IsRising self.new }
     {

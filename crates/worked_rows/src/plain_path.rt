@@ -46,6 +46,8 @@ pub fn late_reports_excuse_no_seats()
 
 /// Version 2 of the log spells a request's chairs, version 1 does not.
 pub fn chairs_in_both_versions()
-    ensures two { line_of (command_fields 2 (Request 7 2 4 0 600 300 1)) ≡ text_line (codes "request 7 2 4 0 600 300 1") }
-    ensures one { line_of (command_fields 1 (Request 7 2 4 1 600 300 0)) ≡ text_line (codes "request 7 2 4 1 600 300") }
+    ensures two { line_of (command_fields 2 (Request 7 2 4 0 600 300 1))
+        ≡ text_line (codes "request 7 2 4 0 600 300 1") }
+    ensures one { line_of (command_fields 1 (Request 7 2 4 1 600 300 0))
+        ≡ text_line (codes "request 7 2 4 1 600 300") }
 {}

@@ -45,42 +45,53 @@ pub fn pooled_plan_loads()
 /// Ride 9 costs nothing more where ride 7 passes, and the plan with it is the pooled one.
 pub fn pooled_at_no_added_cost()
     ensures price { price four_nodes default_settings (with_ride_7 2) ride_9 0 ≡ Some 0 }
-    ensures plan { inserted four_nodes (record (with_ride_7 2) { version = 2 }) ride_9 1 1 ≡ Some pooled }
+    ensures plan { inserted four_nodes (record (with_ride_7 2) { version = 2 }) ride_9 1 1
+        ≡ Some pooled }
 {}
 
 /// A ride of two minutes keeps a limit of 120 seconds, and not one of 119.
 pub fn ride_limit_is_exact()
     ensures kept { IsTrue (keeps (with_rides (idle_vehicle 1 2 1) 0 (ride_of_one 7 2 4 600 120 ∷ [])
         (pickup 7 2 60 ∷ dropoff 7 4 120 ∷ [])) 0 0) }
-    ensures not_kept { IsFalse (keeps (with_rides (idle_vehicle 1 2 1) 0 (ride_of_one 7 2 4 600 119 ∷ [])
+    ensures not_kept { IsFalse (keeps
+        (with_rides (idle_vehicle 1 2 1) 0 (ride_of_one 7 2 4 600 119 ∷ [])
         (pickup 7 2 60 ∷ dropoff 7 4 120 ∷ [])) 0 0) }
-    ensures away { price four_nodes default_settings (idle_vehicle 1 2 1) (ride_of_one 7 2 4 600 119) 0 ≡ None }
+    ensures away { price four_nodes default_settings (idle_vehicle 1 2 1)
+        (ride_of_one 7 2 4 600 119) 0 ≡ None }
 {}
 
 /// A pickup after a minute keeps a latest time of 60, and not one of 59.
 pub fn latest_pickup_is_exact()
-    ensures kept { price four_nodes default_settings (idle_vehicle 1 2 1) (ride_of_one 7 2 4 60 300) 0 ≡ Some 180 }
-    ensures not_kept { price four_nodes default_settings (idle_vehicle 1 2 1) (ride_of_one 7 2 4 59 300) 0 ≡ None }
+    ensures kept { price four_nodes default_settings (idle_vehicle 1 2 1)
+        (ride_of_one 7 2 4 60 300) 0 ≡ Some 180 }
+    ensures not_kept { price four_nodes default_settings (idle_vehicle 1 2 1)
+        (ride_of_one 7 2 4 59 300) 0 ≡ None }
 {}
 
 /// Two riders do not share one seat: the place pair that would add nothing is no offer.
 pub fn one_seat_is_not_shared()
-    ensures no_offer { offer_of four_nodes default_settings (with_ride_7 1) (ride_of_one 10 1 3 600 300) 0 0 1 ≡ None }
-    ensures price { price four_nodes default_settings (with_ride_7 1) (ride_of_one 10 1 3 600 300) 0 ≡ Some 120 }
+    ensures no_offer { offer_of four_nodes default_settings (with_ride_7 1)
+        (ride_of_one 10 1 3 600 300) 0 0 1 ≡ None }
+    ensures price { price four_nodes default_settings (with_ride_7 1) (ride_of_one 10 1 3 600 300) 0
+        ≡ Some 120 }
     ensures costs { map (λ (offer : Offer). offer.cost)
-        (offers four_nodes default_settings (with_ride_7 1) (ride_of_one 10 1 3 600 300) 0) ≡ 120 ∷ 300 ∷ [] }
+        (offers four_nodes default_settings (with_ride_7 1) (ride_of_one 10 1 3 600 300) 0)
+        ≡ 120 ∷ 300 ∷ [] }
 {}
 
 /// Two riders do not share one chair, though seats are free; a rider on a seat goes along.
 pub fn one_chair_is_not_shared()
-    ensures chairs { price four_nodes default_settings with_a_chair (ride_of_a_chair 9 3 4) 0 ≡ Some 120 }
-    ensures seats { price four_nodes default_settings with_a_chair (ride_of_one 10 3 4 600 300) 0 ≡ Some 0 }
+    ensures chairs { price four_nodes default_settings with_a_chair (ride_of_a_chair 9 3 4) 0
+        ≡ Some 120 }
+    ensures seats { price four_nodes default_settings with_a_chair (ride_of_one 10 3 4 600 300) 0
+        ≡ Some 0 }
 {}
 
 /// The vehicle starts ten seconds after the batch's time, though it was ready after five, and the rider waits from the batch's
 /// time on.
 pub fn lead_and_waiting()
-    ensures { price four_nodes (record default_settings { wait = 2; lead = 10 }) (record (idle_vehicle 1 2 1) { ready = 5 })
+    ensures { price four_nodes (record default_settings { wait = 2; lead = 10 })
+        (record (idle_vehicle 1 2 1) { ready = 5 })
         ride_7 0 ≡ Some 320 }
 {}
 
@@ -92,17 +103,21 @@ pub fn stops_that_a_ride_needs()
 
 /// Broken rides are named in order of confirmation, and a rider aboard for the length of the ride alone.
 pub fn broken_rides_in_order()
-    ensures order { broken_of (with_rides (idle_vehicle 1 2 1) 2 (ride_of_one 7 2 4 59 300 ∷ ride_of_one 8 2 4 59 300 ∷ [])
+    ensures order { broken_of (with_rides (idle_vehicle 1 2 1) 2
+        (ride_of_one 7 2 4 59 300 ∷ ride_of_one 8 2 4 59 300 ∷ [])
         (pickup 8 2 60 ∷ pickup 7 2 0 ∷ dropoff 8 4 120 ∷ dropoff 7 4 0 ∷ [])) 0 ≡ 7 ∷ 8 ∷ [] }
     ensures aboard { broken_of (with_rides (record (idle_vehicle 1 2 2) { ready = 60 }) 2
-        (record (ride_of_one 7 2 4 59 119) { picked = Some 60 } ∷ []) (dropoff 7 4 120 ∷ [])) 0 ≡ 7 ∷ [] }
+        (record (ride_of_one 7 2 4 59 119) { picked = Some 60 } ∷ []) (dropoff 7 4 120 ∷ [])) 0
+        ≡ 7 ∷ [] }
     ensures not_by_the_pickup { broken_of (with_rides (record (idle_vehicle 1 2 2) { ready = 60 }) 2
-        (record (ride_of_one 7 2 4 59 120) { picked = Some 60 } ∷ []) (dropoff 7 4 120 ∷ [])) 0 ≡ [] }
+        (record (ride_of_one 7 2 4 59 120) { picked = Some 60 } ∷ []) (dropoff 7 4 120 ∷ [])) 0
+        ≡ [] }
 {}
 
 /// Of four places for ride 9 three would add two minutes, but each breaks a limit of ride 7.
 pub fn limits_of_riders_in_the_plan_hold()
-    ensures { price four_nodes default_settings (with_rides (idle_vehicle 1 2 1) 1 (ride_of_one 7 2 4 60 120 ∷ [])
+    ensures { price four_nodes default_settings
+        (with_rides (idle_vehicle 1 2 1) 1 (ride_of_one 7 2 4 60 120 ∷ [])
         (pickup 7 2 60 ∷ dropoff 7 4 120 ∷ [])) (ride_of_one 9 2 1 600 200) 0 ≡ Some 180 }
 {}
 

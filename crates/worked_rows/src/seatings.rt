@@ -13,7 +13,8 @@ pub fn greedy_is_dearer()
     ensures greedy { IsSeating four_nodes two_requests greedy_seats }
     ensures greedy_cost { seating_cost four_nodes two_requests greedy_seats ≡ 360 }
     ensures cost { seating_cost four_nodes two_requests least_seats ≡ 240 }
-    ensures certified { Certifies four_nodes two_requests least_seats ((5, 180) ∷ (6, 120) ∷ []) ((1, 60) ∷ []) }
+    ensures certified { Certifies four_nodes two_requests least_seats
+        ((5, 180) ∷ (6, 120) ∷ []) ((1, 60) ∷ []) }
     ensures least { IsLeastSeating four_nodes two_requests least_seats }
 {}
 

@@ -25,14 +25,22 @@ impl<'r> Board<'r> {
         requires desk { IsNumbered self.old.desks desk }
         requires not_ended { IsFalse (has_ended (state_of self.old) (Desk desk)) }
         requires none_open { IsNone (open_batch_of (state_of self.old) desk) }
-        ensures opening { IfOk result (λ opening. opening ≡ opening_at self.old.feeds (state_of self.old) desk) }
-        ensures entry { (batch : BatchCopy) → result ≡ Ok (Opening.Batch batch) → self.new.history ≡ self.old.history ++ opened_entry batch ∷ [] }
-        ensures no_entry { ((batch : BatchCopy) → result ≢ Ok (Opening.Batch batch)) → self.new.history ≡ self.old.history }
-        ensures open_now { (batch : BatchCopy) → result ≡ Ok (Opening.Batch batch) → IsOpenBatch self.old.desks (state_of self.new) batch }
+        ensures opening { IfOk result
+            (λ opening. opening ≡ opening_at self.old.feeds (state_of self.old) desk) }
+        ensures entry { (batch : BatchCopy) → result ≡ Ok (Opening.Batch batch)
+            → self.new.history ≡ self.old.history ++ opened_entry batch ∷ [] }
+        ensures no_entry { ((batch : BatchCopy) → result ≢ Ok (Opening.Batch batch))
+            → self.new.history ≡ self.old.history }
+        ensures open_now { (batch : BatchCopy) → result ≡ Ok (Opening.Batch batch)
+            → IsOpenBatch self.old.desks (state_of self.new) batch }
         ensures no_memory { OnErr result (self.new ≡ self.old) }
-        ensures others { self.new ≡ record self.old { history = self.new.history; spare = self.new.spare } }
+        ensures others { self.new ≡ record self.old {
+          history = self.new.history;
+          spare = self.new.spare;
+        } }
         ensures spare { self.old.spare ≤ self.new.spare }
     {
+        self.setup.look();
         if self.kept.opened >= self.service.asked {
             return Ok(if self.kept.have_feeds_ended(self.feeds) {
                 Opening::Ended
@@ -62,10 +70,15 @@ impl<'r> Board<'r> {
 
     /// Commits an open batch by its answer. Takes no memory.
     pub fn commit(&mut self, solved: Solved)
-        requires is_open { open_batch_numbered (state_of self.old) solved.batch.desk solved.batch.number ≡ Some solved.batch }
+        requires is_open { open_batch_numbered (state_of self.old) solved.batch.desk
+            solved.batch.number ≡ Some solved.batch }
         requires table { IsTableOf self.old.start.roads solved.batch solved.table }
-        ensures entry { self.new.history ≡ self.old.history ++ committed_entry (state_of self.old) solved ∷ [] }
-        ensures others { self.new ≡ record self.old { history = self.new.history; spare = self.new.spare } }
+        ensures entry { self.new.history
+            ≡ self.old.history ++ committed_entry (state_of self.old) solved ∷ [] }
+        ensures others { self.new ≡ record self.old {
+          history = self.new.history;
+          spare = self.new.spare;
+        } }
         ensures spare { self.old.spare ≤ self.new.spare }
     {
         let mut solved = solved;
@@ -86,9 +99,13 @@ impl<'r> Board<'r> {
 
     /// Gives an open batch up, for want of memory: its requests that were not cancelled wait again. Takes no memory.
     pub fn abandon(&mut self, batch: Batch)
-        requires is_open { open_batch_numbered (state_of self.old) batch.desk batch.number ≡ Some batch }
+        requires is_open { open_batch_numbered (state_of self.old) batch.desk batch.number
+            ≡ Some batch }
         ensures entry { self.new.history ≡ self.old.history ++ abandoned_entry batch ∷ [] }
-        ensures others { self.new ≡ record self.old { history = self.new.history; spare = self.new.spare } }
+        ensures others { self.new ≡ record self.old {
+          history = self.new.history;
+          spare = self.new.spare;
+        } }
         ensures spare { self.old.spare ≤ self.new.spare }
     {
         let desk = batch.desk();
@@ -103,7 +120,8 @@ impl<'r> Board<'r> {
 
 // The commit of a solved batch. Its cost is what the certificate balances: the prices less the payments.
 fn commit_of(solved: Solved) -> Event
-    ensures { result ≡ Committed solved.batch.number (balance solved) solved.answer.seating solved.answer.prices solved.answer.pays
+    ensures { result ≡ Committed solved.batch.number (balance solved) solved.answer.seating
+        solved.answer.prices solved.answer.pays
         solved.answer.outcomes }
 {
     let number = solved.batch().number();

@@ -21,10 +21,15 @@ impl<'r> Board<'r> {
         requires not_ended { IsFalse (has_ended (state_of self.old) (Feed feed)) }
         requires few { length (fed_commands feed self.old.history) < most_commands }
         requires spelled { IsSpelledCommand self.old.start.settings.log command.now }
-        ensures reply { IfOk result (λ reply. reply ≡ (step (state_of self.old) command.now).reply) }
-        ensures entry { OnOk result (self.new.history ≡ self.old.history ++ fed_entry (state_of self.old) feed command.now ∷ []) }
+        ensures reply { IfOk result (λ reply. reply
+            ≡ (step (state_of self.old) command.now).reply) }
+        ensures entry { OnOk result (self.new.history
+            ≡ self.old.history ++ fed_entry (state_of self.old) feed command.now ∷ []) }
         ensures no_memory { OnErr result (self.new ≡ self.old) }
-        ensures others { self.new ≡ record self.old { history = self.new.history; spare = self.new.spare } }
+        ensures others { self.new ≡ record self.old {
+          history = self.new.history;
+          spare = self.new.spare;
+        } }
         ensures spare { self.old.spare ≤ self.new.spare + 1 }
         ensures reserved { IsErr result → 1 ≤ self.old.spare → IsRequest command.now }
     {
@@ -43,9 +48,13 @@ impl<'r> Board<'r> {
 
     /// Ends an actor. Takes no memory.
     pub fn end(&mut self, actor: Actor, ending: Ending)
-        requires { IsLegalEvent self.old.feeds self.old.desks (state_of self.old) actor (Finish ending) }
+        requires { IsLegalEvent self.old.feeds self.old.desks
+            (state_of self.old) actor (Finish ending) }
         ensures entry { self.new.history ≡ self.old.history ++ end_entry actor ending ∷ [] }
-        ensures others { self.new ≡ record self.old { history = self.new.history; spare = self.new.spare } }
+        ensures others { self.new ≡ record self.old {
+          history = self.new.history;
+          spare = self.new.spare;
+        } }
         ensures spare { self.old.spare ≤ self.new.spare }
     {
         self.kept.end(actor, ending);
@@ -56,7 +65,8 @@ impl<'r> Board<'r> {
 /// Appends an entry for which there is room.
 pub(crate) fn append(history: &mut Vec<Entry>, actor: Actor, event: Event)
     requires { vec_len history.old < vec_capacity history.old }
-    ensures items { history.new.items ≡ history.old.items ++ (record { actor = actor; event = event }) ∷ [] }
+    ensures items { history.new.items
+        ≡ history.old.items ++ (record { actor = actor; event = event }) ∷ [] }
     ensures capacity { vec_capacity history.old ≤ vec_capacity history.new }
 {
     let _pushed = history.push(Entry { actor, event });

@@ -21,7 +21,8 @@ impl<'r> Board<'r> {
     /// The totals of the history, which is gone through once.
     pub fn totals(&self) -> Totals
         requires few { length self.now.history < 2 ^ 56 }
-        ensures totals { AreTotalsOf self.now.feeds self.now.desks self.now.start self.now.history result }
+        ensures totals { AreTotalsOf self.now.feeds self.now.desks
+            self.now.start self.now.history result }
     {
         let entries = self.entries();
         Totals {

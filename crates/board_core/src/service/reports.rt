@@ -26,7 +26,8 @@ impl Service {
     pub(crate) fn report(&mut self, setup: &mut Setup, id: u64, node: u64, time: u64) -> Reply
         requires { IsInOrder setup.old self.old }
         ensures answered { (rest : State)
-            → at_step (state_at setup.old self.old rest) id node time ≡ answered_at setup.old self.new rest result }
+            → at_step (state_at setup.old self.old rest) id node time
+            ≡ answered_at setup.old self.new rest result }
         ensures setup { setup.new ≡ setup.old }
     {
         let Some(place) = self.place_of(setup.places(), id) else {
@@ -54,7 +55,8 @@ impl Service {
     pub(crate) fn serve(&mut self, setup: &Setup, id: u64) -> Reply
         requires { IsInOrder setup.now self.old }
         ensures { (rest : State)
-            → done_step (state_at setup.now self.old rest) id ≡ answered_at setup.now self.new rest result }
+            → done_step (state_at setup.now self.old rest) id
+            ≡ answered_at setup.now self.new rest result }
     {
         let Some(place) = self.place_of(setup.places(), id) else {
             return Reply::Refused {
@@ -81,7 +83,8 @@ impl Service {
     pub(crate) fn set_duty(&mut self, setup: &Setup, id: u64, duty: bool) -> Reply
         requires { IsInOrder setup.now self.old }
         ensures { (rest : State)
-            → duty_step (state_at setup.now self.old rest) id duty ≡ answered_at setup.now self.new rest result }
+            → duty_step (state_at setup.now self.old rest) id duty
+            ≡ answered_at setup.now self.new rest result }
     {
         let Some(place) = self.place_of(setup.places(), id) else {
             return Reply::Refused {

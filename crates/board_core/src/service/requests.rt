@@ -28,7 +28,8 @@ impl Service {
     pub(crate) fn request(&mut self, setup: &Setup, wish: Wish) -> Result<Reply, NoMemory>
         requires { IsRoadMap setup.now.roads }
         ensures answered { (rest : State) → IfOk result (λ reply.
-            wish_step (state_at setup.now self.old rest) wish ≡ answered_at setup.now self.new rest reply) }
+            wish_step (state_at setup.now self.old rest) wish
+            ≡ answered_at setup.now self.new rest reply) }
         ensures no_memory { OnErr result (self.new ≡ self.old) }
     {
         if let Some(code) = self.refusal(setup, &wish) {
@@ -43,7 +44,10 @@ impl Service {
         requires { IsRoadMap setup.now.roads }
         ensures answered { (rest : State) → MatchOption result
             (wish_step (state_at setup.now self.now rest) wish.now
-            ≡ record { state = with_accepted (state_at setup.now self.now rest) (ride_of wish.now); reply = Waiting })
+            ≡ record {
+              state = with_accepted (state_at setup.now self.now rest) (ride_of wish.now);
+              reply = Waiting;
+            })
             (λ code. wish_step (state_at setup.now self.now rest) wish.now
             ≡ refused (state_at setup.now self.now rest) code) }
         ensures accepted { result ≡ None → MayBeAccepted self.now.requests wish.now }
@@ -69,7 +73,8 @@ impl Service {
     pub(crate) fn cancel(&mut self, setup: &mut Setup, id: u64) -> Reply
         requires { IsInOrder setup.old self.old }
         ensures answered { (rest : State)
-            → cancel_step (state_at setup.old self.old rest) id ≡ answered_at setup.old self.new rest result }
+            → cancel_step (state_at setup.old self.old rest) id
+            ≡ answered_at setup.old self.new rest result }
         ensures setup { setup.new ≡ setup.old }
     {
         let Some(state) = self.requests.state(id) else {
@@ -95,9 +100,11 @@ impl Service {
     // Cancels a request that a vehicle has promised, and frees the vehicle of it.
     fn free(&mut self, setup: &mut Setup, id: u64, vehicle: u64) -> Reply
         requires in_order { IsInOrder setup.old self.old }
-        requires confirmed { (rest : State) → request_state (state_at setup.old self.old rest) id ≡ Some (Confirmed vehicle) }
+        requires confirmed { (rest : State)
+            → request_state (state_at setup.old self.old rest) id ≡ Some (Confirmed vehicle) }
         ensures answered { (rest : State)
-            → cancel_step (state_at setup.old self.old rest) id ≡ answered_at setup.old self.new rest result }
+            → cancel_step (state_at setup.old self.old rest) id
+            ≡ answered_at setup.old self.new rest result }
         ensures setup { setup.new ≡ setup.old }
     {
         let Some(place) = self.place_of(setup.places(), vehicle) else {

@@ -23,9 +23,12 @@ impl Service {
     /// Makes of each request of a solved batch what its outcome says.
     pub(crate) fn settle(&mut self, places: &Places, solved: &Solved)
         requires fleet { places.now ≡ vehicle_ids self.old.vehicles.items }
-        requires settled { (setup : Given) × (moment : State) × IsCommitted setup moment solved.now × IsSettledTo moment solved.now 0 self.old }
-        ensures { (setup : Given) (moment rest : State) → IsCommitted setup moment solved.now → IsSettledTo moment solved.now 0 self.old
-            → after_outcomes solved.now.batch solved.now.answer.seating moment solved.now.batch.requests (state_at setup self.old rest)
+        requires settled { (setup : Given) × (moment : State) × IsCommitted setup moment solved.now
+            × IsSettledTo moment solved.now 0 self.old }
+        ensures { (setup : Given) (moment rest : State) → IsCommitted setup moment solved.now
+            → IsSettledTo moment solved.now 0 self.old
+            → after_outcomes solved.now.batch solved.now.answer.seating moment
+            solved.now.batch.requests (state_at setup self.old rest)
             ≡ state_at setup self.new rest }
     {
         for (r, ride) in solved.batch().requests().iter().enumerate() {
@@ -38,12 +41,16 @@ impl Service {
         requires fleet { places.now ≡ vehicle_ids self.old.vehicles.items }
         requires within { r < length solved.now.batch.requests }
         requires ride { ride ≡ slice_index_or solved.now.batch.requests r ride }
-        requires settled { (setup : Given) × (moment : State) × IsCommitted setup moment solved.now × IsSettledTo moment solved.now r self.old }
-        ensures settled { (setup : Given) (moment : State) → IsCommitted setup moment solved.now → IsSettledTo moment solved.now r self.old
+        requires settled { (setup : Given) × (moment : State) × IsCommitted setup moment solved.now
+            × IsSettledTo moment solved.now r self.old }
+        ensures settled { (setup : Given) (moment : State) → IsCommitted setup moment solved.now
+            → IsSettledTo moment solved.now r self.old
             → IsSettledTo moment solved.now (r + 1) self.new }
-        ensures state { (setup : Given) (moment rest : State) → IsCommitted setup moment solved.now → IsSettledTo moment solved.now r self.old
+        ensures state { (setup : Given) (moment rest : State) → IsCommitted setup moment solved.now
+            → IsSettledTo moment solved.now r self.old
             → after_outcome solved.now.batch ride (seat_of solved.now.answer.seating ride.id)
-            (outcome_of solved.now.batch solved.now.answer.seating moment ride.id) (state_at setup self.old rest)
+            (outcome_of solved.now.batch solved.now.answer.seating moment ride.id)
+            (state_at setup self.old rest)
             ≡ state_at setup self.new rest }
     {
         match outcome_at(solved, r) {
@@ -64,11 +71,15 @@ impl Service {
         requires fleet { places.now ≡ vehicle_ids self.old.vehicles.items }
         requires within { r < length solved.now.batch.requests }
         requires ride { ride ≡ slice_index_or solved.now.batch.requests r ride }
-        requires confirms { (setup : Given) × (moment : State) × IsToConfirm setup moment solved.now r ride self.old }
-        ensures settled { (setup : Given) (moment : State) → IsToConfirm setup moment solved.now r ride self.old
+        requires confirms { (setup : Given) × (moment : State)
+            × IsToConfirm setup moment solved.now r ride self.old }
+        ensures settled { (setup : Given) (moment : State)
+            → IsToConfirm setup moment solved.now r ride self.old
             → IsSettledTo moment solved.now (r + 1) self.new }
-        ensures state { (setup : Given) (moment rest : State) → IsToConfirm setup moment solved.now r ride self.old
-            → after_outcome solved.now.batch ride (seat_of solved.now.answer.seating ride.id) Confirmed (state_at setup self.old rest)
+        ensures state { (setup : Given) (moment rest : State)
+            → IsToConfirm setup moment solved.now r ride self.old
+            → after_outcome solved.now.batch ride (seat_of solved.now.answer.seating ride.id)
+            Confirmed (state_at setup self.old rest)
             ≡ state_at setup self.new rest }
     {
         let Some(seat) = find_seat(solved.answer().seating.items(), ride.id) else {
@@ -111,8 +122,10 @@ fn find_seat(seats: &[Seat], id: u64) -> Option<Seat>
 // Puts a ride into a vehicle's plan at the places of an offer. An idle vehicle starts at the offer's start.
 fn seat_ride(vehicle: &mut Vehicle, ride: Ride, offer: &Offer)
     requires version { vehicle.old.version < 2 ^ 63 }
-    requires inserts { (roads : RoadMap) × (new : Vehicle) × InsertsInto roads (started vehicle.old offer.now.start) ride offer.now new }
-    ensures { (roads : RoadMap) (new : Vehicle) → InsertsInto roads (started vehicle.old offer.now.start) ride offer.now new
+    requires inserts { (roads : RoadMap) × (new : Vehicle)
+        × InsertsInto roads (started vehicle.old offer.now.start) ride offer.now new }
+    ensures { (roads : RoadMap) (new : Vehicle)
+        → InsertsInto roads (started vehicle.old offer.now.start) ride offer.now new
         → vehicle.new ≡ raised new }
 {
     if vehicle.stops.is_empty() {

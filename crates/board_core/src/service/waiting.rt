@@ -50,7 +50,8 @@ impl Service {
 
     /// Puts requests into a batch.
     pub(crate) fn put_in(&mut self, ids: &[u64], number: u64)
-        ensures requests { self.new.requests ≡ marked_in (InBatch number) ids.now self.old.requests }
+        ensures requests { self.new.requests
+            ≡ marked_in (InBatch number) ids.now self.old.requests }
         ensures others { self.new ≡ record self.old { requests = self.new.requests } }
     {
         mark(&mut self.requests, ids, RequestState::InBatch(number));
@@ -59,7 +60,8 @@ impl Service {
     /// Lets those requests of a batch wait again that are still in it.
     pub(crate) fn release(&mut self, batch: &Batch)
         ensures { (setup : Given) (rest : State)
-            → with_request_states Waiting (standing_rides batch.now (state_at setup self.old rest)) (state_at setup self.old rest)
+            → with_request_states Waiting (standing_rides batch.now (state_at setup self.old rest))
+            (state_at setup self.old rest)
             ≡ state_at setup self.new rest }
     {
         let ids = standing(&self.requests, batch.requests(), batch.number());
@@ -70,7 +72,8 @@ impl Service {
     pub(crate) fn cancelled(&self, rides: &[Ride]) -> ArrayVec<bool, 128>
         requires { length rides.now ≤ largest_batch }
         ensures { (setup : Given) (rest : State)
-            → result.items ≡ map (was_cancelled (state_at setup self.now rest)) (ride_ids rides.now) }
+            → result.items ≡ map (was_cancelled
+            (state_at setup self.now rest)) (ride_ids rides.now) }
     {
         let mut flags = ArrayVec::new();
         for ride in rides {

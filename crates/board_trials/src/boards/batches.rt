@@ -4,8 +4,8 @@ ghost use Rattle.std.specs.Prelude.{◌≡◌};
 
 use super::days::{Day, Look, Step};
 use super::{CANCEL, EIGHT, SEVEN, roads};
+use adaptive_roads::Roads;
 use ride_model::{Actor, Command, Ending, RequestState};
-use road_times::Roads;
 use std::process::Abort;
 use std::thread::Threads;
 

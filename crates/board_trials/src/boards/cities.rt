@@ -1,17 +1,15 @@
 //! A generated city: two desks at once and the audit of their log, its first batch by both searches, and a drill of a smaller one.
-ghost use Rattle.std.specs.Prelude.{◌≡◌, [], All};
-ghost use Rattle.ride_model.specs.declared.vehicle.Vehicle.{Vehicle};
-ghost use Rattle.ride_model.specs.Settings.{IsSettings};
-ghost use Rattle.ride_model.specs.Vehicle.{IsLawful};
+ghost use Rattle.std.specs.Prelude.{[]};
+ghost use Rattle.ride_model.specs.Fleet.{MayStart};
 
 use super::days::is_spelled;
 use super::searches::expect_first_batch;
+use adaptive_roads::Roads;
 use city_maker::{City, CityPlan, make_city};
 use command_lines::print_command;
 use log_audit::{Verdict, audit};
 use ride_model::{Command, Fleet, Settings};
 use ride_ports::{MemSink, MemSource, OpenGate, write_all};
-use road_times::Roads;
 use session_run::{drill, serve};
 use std::alloc::Global;
 use std::process::Abort;
@@ -71,10 +69,7 @@ fn serve_riders<R: Threads + Wait + Sync + Abort>(
     riders: &[u8],
     log: &mut MemSink<'_>,
 )
-    requires settings { IsSettings settings }
-    requires lawful { All (IsLawful roads.now) fleet }
-    requires idle { All (λ (v : Vehicle). v.stops.items ≡ []) fleet }
-    requires first_versions { All (λ (v : Vehicle). v.version ≡ 0) fleet }
+    requires start { MayStart roads.now settings fleet }
 {
     let mut riders = MemSource::new(riders, &[], &[]);
     let mut drivers = MemSource::new(b"", &[], &[]);
@@ -103,10 +98,7 @@ fn expect_audit<R: Threads + Sync + Abort>(
     fleet: Fleet,
     log: &[u8],
 )
-    requires settings { IsSettings settings }
-    requires lawful { All (IsLawful roads.now) fleet }
-    requires idle { All (λ (v : Vehicle). v.stops.items ≡ []) fleet }
-    requires first_versions { All (λ (v : Vehicle). v.version ≡ 0) fleet }
+    requires start { MayStart roads.now settings fleet }
 {
     let mut source = MemSource::new(log, &[], &[]);
     match audit(rt, alloc, roads, settings, fleet, &mut source) {

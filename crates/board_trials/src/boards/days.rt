@@ -1,5 +1,5 @@
 //! Days of a board of one vehicle: commands, and batches that desks open and commit.
-ghost use Rattle.std.specs.Prelude.{◌≡◌, ◌≢◌, ◌<◌, ◌≤◌, ◌^◌, ℕ, length, true, Some, Ok, All, IfSome, IsNone};
+ghost use Rattle.std.specs.Prelude.{◌≡◌, ◌≢◌, ◌<◌, ◌≤◌, ℕ, length, true, Some, Ok, All, IfSome, IsNone};
 ghost use Rattle.ride_model.specs.History.{fed_commands};
 ghost use Rattle.ride_model.specs.declared.entry.Event.TheVariants.{Finish};
 ghost use Rattle.ride_model.specs.Legal.{IsLegalEvent, IsNumbered, MayEnd, all_feeds_ended};
@@ -9,12 +9,13 @@ ghost use Rattle.ride_model.specs.Text.{HasLine, IsOneOrTwo, IsSpelledCommand};
 ghost use Rattle.board_core.specs.declared.opening.Opening.{Opening};
 ghost use Rattle.board_core.specs.Recorded.{state_of};
 
+use adaptive_roads::Roads;
 use batch_commit::Batch;
 use board_core::{Board, Opening};
+use pricing_workers::Pricer;
 use ride_model::{Actor, Command, Ending, Entry, NoMemory, Reply, RequestState};
-use ride_ports::MemSink;
-use road_times::Roads;
-use session_run::DeskTools;
+use ride_ports::{MemSink, OpenGate};
+use session_run::solved;
 use std::alloc::Global;
 use std::marker::Model;
 use std::process::Abort;
@@ -77,7 +78,7 @@ pub(super) struct Look {
 /// A board, what its batches are priced by, and each desk's open batch.
 pub(super) struct Day<'r> {
     board: Board<'r>,
-    tools: DeskTools<'r, 'r>,
+    pricer: Pricer<'r>,
     /// The version of the log.
     log: u8,
     first: Option<Batch>,
@@ -94,7 +95,7 @@ impl<'r> Model for Day<'r> {
 
     ghost view = { λ d. d.board };
 
-    ghost invariant = { λ d. (d.tools ≡ d.board.start.roads) × (d.log ≡ d.board.start.settings.log)
+    ghost invariant = { λ d. (d.pricer ≡ d.board.start.roads) × (d.log ≡ d.board.start.settings.log)
         × IfSome d.first (λ (b : BatchCopy). (b.desk ≡ 1) × (open_batch_numbered (state_of d.board) b.desk b.number ≡ Some b))
         × IfSome d.second (λ (b : BatchCopy). (b.desk ≡ 2) × (open_batch_numbered (state_of d.board) b.desk b.number ≡ Some b)) };
 }
@@ -103,13 +104,13 @@ impl Drop for Day<'_> {
     fn drop(self) {
         let Day {
             board,
-            tools,
+            pricer,
             log: _,
             first,
             second,
         } = self;
         drop(board);
-        drop(tools);
+        drop(pricer);
         drop(first);
         drop(second);
     }
@@ -136,12 +137,12 @@ impl<'r> Day<'r> {
         let Ok(board) = Board::new(alloc, roads, settings, fleet, feeds, desks) else {
             panic!(rt; "there is memory");
         };
-        let Ok(tools) = DeskTools::new(alloc, roads, 2) else {
+        let Ok(pricer) = Pricer::new(alloc, roads, 2) else {
             panic!(rt; "there is memory");
         };
         Day {
             board,
-            tools,
+            pricer,
             log,
             first: None,
             second: None,
@@ -198,9 +199,9 @@ impl<'r> Day<'r> {
     // Lets a desk commit its open batch.
     fn commit<R: Threads + Sync + Abort>(&mut self, rt: &R, desk: u8) {
         if desk == 1 {
-            commit(rt, &mut self.board, &mut self.tools, &mut self.first);
+            commit(rt, &mut self.board, &mut self.pricer, &mut self.first);
         } else {
-            commit(rt, &mut self.board, &mut self.tools, &mut self.second);
+            commit(rt, &mut self.board, &mut self.pricer, &mut self.second);
         }
     }
 
@@ -296,7 +297,8 @@ pub(super) fn tell(
     command: Command,
 ) -> Result<Reply, NoMemory>
     ensures start { board.new.start ≡ board.old.start }
-    ensures held { (b : BatchCopy) → open_batch_numbered (state_of board.old) b.desk b.number ≡ Some b
+    ensures held { (b : BatchCopy)
+        → open_batch_numbered (state_of board.old) b.desk b.number ≡ Some b
         → open_batch_numbered (state_of board.new) b.desk b.number ≡ Some b }
 {
     assert!(rt; 1 <= feed && feed <= board.feeds());
@@ -309,7 +311,8 @@ pub(super) fn tell(
 /// What a desk gets that asks for a batch.
 pub(super) fn open(rt: &impl Abort, board: &mut Board<'_>, desk: u8) -> Result<Opening, NoMemory>
     ensures start { board.new.start ≡ board.old.start }
-    ensures held { (b : BatchCopy) → open_batch_numbered (state_of board.old) b.desk b.number ≡ Some b
+    ensures held { (b : BatchCopy)
+        → open_batch_numbered (state_of board.old) b.desk b.number ≡ Some b
         → open_batch_numbered (state_of board.new) b.desk b.number ≡ Some b }
     ensures opened { (b : BatchCopy) → result ≡ Ok (Opening.Batch b)
         → (b.desk ≡ desk) × (open_batch_numbered (state_of board.new) b.desk b.number ≡ Some b) }
@@ -325,22 +328,24 @@ pub(super) fn open(rt: &impl Abort, board: &mut Board<'_>, desk: u8) -> Result<O
 fn commit<R: Threads + Sync + Abort>(
     rt: &R,
     board: &mut Board<'_>,
-    tools: &mut DeskTools<'_, '_>,
+    pricer: &mut Pricer<'_>,
     kept: &mut Option<Batch>,
 )
-    requires held { IfSome kept.old (λ (b : BatchCopy). open_batch_numbered (state_of board.old) b.desk b.number ≡ Some b) }
-    requires roads { tools.old ≡ board.old.start.roads }
-    ensures tools { tools.new ≡ tools.old }
+    requires held { IfSome kept.old
+        (λ (b : BatchCopy). open_batch_numbered (state_of board.old) b.desk b.number ≡ Some b) }
+    requires roads { pricer.old ≡ board.old.start.roads }
+    ensures pricer { pricer.new ≡ pricer.old }
     ensures start { board.new.start ≡ board.old.start }
     ensures kept { IsNone kept.new }
-    ensures others { (b : BatchCopy) → open_batch_numbered (state_of board.old) b.desk b.number ≡ Some b
+    ensures others { (b : BatchCopy)
+        → open_batch_numbered (state_of board.old) b.desk b.number ≡ Some b
         → IfSome kept.old (λ (closed : BatchCopy). b.desk ≢ closed.desk)
         → open_batch_numbered (state_of board.new) b.desk b.number ≡ Some b }
 {
     let batch = kept.take();
     assert!(rt; batch.is_some());
     if let Some(batch) = batch {
-        assert!(rt; close(rt, board, tools, batch));
+        assert!(rt; close(rt, board, pricer, batch));
     }
 }
 
@@ -348,19 +353,20 @@ fn commit<R: Threads + Sync + Abort>(
 fn close<R: Threads + Sync>(
     rt: &R,
     board: &mut Board<'_>,
-    tools: &mut DeskTools<'_, '_>,
+    pricer: &mut Pricer<'_>,
     batch: Batch,
 ) -> bool
     requires held { open_batch_numbered (state_of board.old) batch.desk batch.number ≡ Some batch }
-    requires roads { tools.old ≡ board.old.start.roads }
-    ensures tools { tools.new ≡ tools.old }
+    requires roads { pricer.old ≡ board.old.start.roads }
+    ensures pricer { pricer.new ≡ pricer.old }
     ensures start { board.new.start ≡ board.old.start }
-    ensures others { (b : BatchCopy) → open_batch_numbered (state_of board.old) b.desk b.number ≡ Some b
+    ensures others { (b : BatchCopy)
+        → open_batch_numbered (state_of board.old) b.desk b.number ≡ Some b
         → b.desk ≢ batch.desk → open_batch_numbered (state_of board.new) b.desk b.number ≡ Some b }
 {
     // This call tells that the history is legal.
     let _history = board.entries();
-    match tools.solved(rt, batch) {
+    match solved(rt, batch, pricer, &OpenGate) {
         Ok(solved) => {
             board.commit(solved);
             true
@@ -374,10 +380,12 @@ fn close<R: Threads + Sync>(
 
 // Gives the batch up that is kept.
 fn abandon(rt: &impl Abort, board: &mut Board<'_>, kept: &mut Option<Batch>)
-    requires held { IfSome kept.old (λ (b : BatchCopy). open_batch_numbered (state_of board.old) b.desk b.number ≡ Some b) }
+    requires held { IfSome kept.old
+        (λ (b : BatchCopy). open_batch_numbered (state_of board.old) b.desk b.number ≡ Some b) }
     ensures start { board.new.start ≡ board.old.start }
     ensures kept { IsNone kept.new }
-    ensures others { (b : BatchCopy) → open_batch_numbered (state_of board.old) b.desk b.number ≡ Some b
+    ensures others { (b : BatchCopy)
+        → open_batch_numbered (state_of board.old) b.desk b.number ≡ Some b
         → IfSome kept.old (λ (closed : BatchCopy). b.desk ≢ closed.desk)
         → open_batch_numbered (state_of board.new) b.desk b.number ≡ Some b }
 {
@@ -391,7 +399,8 @@ fn abandon(rt: &impl Abort, board: &mut Board<'_>, kept: &mut Option<Batch>)
 // Ends an actor that may end so.
 fn end(rt: &impl Abort, board: &mut Board<'_>, actor: Actor, ending: Ending)
     ensures start { board.new.start ≡ board.old.start }
-    ensures held { (b : BatchCopy) → open_batch_numbered (state_of board.old) b.desk b.number ≡ Some b
+    ensures held { (b : BatchCopy)
+        → open_batch_numbered (state_of board.old) b.desk b.number ≡ Some b
         → open_batch_numbered (state_of board.new) b.desk b.number ≡ Some b }
 {
     assert!(rt; may_end(board, actor, ending));
@@ -400,7 +409,8 @@ fn end(rt: &impl Abort, board: &mut Board<'_>, actor: Actor, ending: Ending)
 
 // Whether an actor may end so.
 fn may_end(board: &Board<'_>, actor: Actor, ending: Ending) -> bool
-    ensures { result ≡ true → IsLegalEvent board.now.feeds board.now.desks (state_of board.now) actor (Finish ending) }
+    ensures { result ≡ true → IsLegalEvent board.now.feeds board.now.desks
+        (state_of board.now) actor (Finish ending) }
 {
     if board.has_ended(actor) {
         return false;

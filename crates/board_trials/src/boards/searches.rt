@@ -1,19 +1,17 @@
 //! Both ways to search a pair's places, over the first batch of a generated city.
-ghost use Rattle.std.specs.Prelude.{◌≡◌, ◌≤◌, ◌<◌, [], Some, All, IfOk, length};
-ghost use Rattle.ride_model.specs.declared.vehicle.Vehicle.{Vehicle};
+ghost use Rattle.std.specs.Prelude.{◌≡◌, ◌≤◌, ◌<◌, Some, IfOk, length};
+ghost use Rattle.ride_model.specs.Fleet.{MayStart};
 ghost use Rattle.ride_model.specs.Seating.{BatchCopy};
-ghost use Rattle.ride_model.specs.Settings.{IsSettings};
 ghost use Rattle.ride_model.specs.State.{open_batch_numbered};
-ghost use Rattle.ride_model.specs.Vehicle.{IsLawful};
 ghost use Rattle.board_core.specs.Recorded.{state_of};
 
 use super::days::{open, tell};
+use adaptive_roads::Roads;
 use batch_commit::{Batch, PriceTable};
 use board_core::{Board, Opening};
-use pricing_workers::{Search, price_batch_by, scratches_of};
+use pricing_workers::{Pricer, Search, price_batch_by};
 use ride_model::{Command, Fleet, NoMemory, Settings};
 use ride_ports::OpenGate;
-use road_times::Roads;
 use std::alloc::Global;
 use std::process::Abort;
 use std::thread::Threads;
@@ -76,16 +74,16 @@ fn table_of<R: Threads + Sync>(
     batch: &Batch,
     roads: &Roads,
 ) -> Result<PriceTable, NoMemory>
-    requires held { open_batch_numbered (state_of board.now) batch.now.desk batch.now.number ≡ Some batch.now }
+    requires held { open_batch_numbered (state_of board.now) batch.now.desk batch.now.number
+        ≡ Some batch.now }
     requires roads { roads.now ≡ board.now.start.roads }
     ensures rows { IfOk result (λ table. table.rows ≡ length batch.now.requests) }
     ensures columns { IfOk result (λ table. table.columns ≡ length batch.now.vehicles) }
 {
     // This call tells that the history is legal.
     let _history = board.entries();
-    let mut scratches = scratches_of(alloc, roads, 2)?;
-    let places = scratches.as_mut_slice();
-    price_batch_by(rt, alloc, search, batch, roads, places, &OpenGate)
+    let mut pricer = Pricer::new(alloc, roads, 2)?;
+    price_batch_by(rt, search, batch, &mut pricer, &OpenGate)
 }
 
 // An open batch is of eight requests over twenty vehicles, and each pair costs the same by both searches.
@@ -96,7 +94,8 @@ fn expect_batch<R: Threads + Sync + Abort>(
     batch: &Batch,
     roads: &Roads,
 )
-    requires held { open_batch_numbered (state_of board.now) batch.now.desk batch.now.number ≡ Some batch.now }
+    requires held { open_batch_numbered (state_of board.now) batch.now.desk batch.now.number
+        ≡ Some batch.now }
     requires roads { roads.now ≡ board.now.start.roads }
 {
     assert!(rt; batch.requests().len() == 8);
@@ -117,7 +116,8 @@ fn first_batch(
     commands: &[Command],
 ) -> Result<Batch, NoMemory>
     ensures start { board.new.start ≡ board.old.start }
-    ensures held { IfOk result (λ (b : BatchCopy). open_batch_numbered (state_of board.new) b.desk b.number ≡ Some b) }
+    ensures held { IfOk result (λ (b : BatchCopy). open_batch_numbered
+        (state_of board.new) b.desk b.number ≡ Some b) }
 {
     for command in commands {
         tell(rt, board, 1, *command)?;
@@ -138,10 +138,7 @@ pub(super) fn expect_first_batch<R: Threads + Sync + Abort>(
     fleet: Fleet,
     commands: &[Command],
 )
-    requires settings { IsSettings settings }
-    requires lawful { All (IsLawful roads.now) fleet }
-    requires idle { All (λ (v : Vehicle). v.stops.items ≡ []) fleet }
-    requires first_versions { All (λ (v : Vehicle). v.version ≡ 0) fleet }
+    requires start { MayStart roads.now settings fleet }
 {
     // A clock, the eight requests of a group, and what asks for their batch.
     assert!(rt; commands.len() >= 10);

@@ -13,14 +13,16 @@ ghost use Rattle.idle_moves.specs.Watch.{Watches, watched_ids};
 
 use super::days::is_spelled;
 use super::{CANCEL, EIGHT, NINE, SEVEN, roads};
+use adaptive_roads::Roads;
 use batch_commit::Batch;
 use board_core::{Board, Opening};
 use booking_desk::BookingDesk;
 use fleet_board::{ActorPass, PassSet, SharedBoard};
 use idle_moves::{Move, VersionWatch};
+use pricing_workers::Pricer;
 use ride_model::{Command, Entry, Event, NoMemory, Outcome};
-use road_times::Roads;
-use session_run::DeskTools;
+use ride_ports::OpenGate;
+use session_run::solved;
 use std::alloc::Global;
 use std::process::Abort;
 use std::sync::Wait;
@@ -200,7 +202,8 @@ fn tell_all<'r, R: Wait + Abort>(
 
 // A desk whose one booking is due.
 fn desk_with_one(rt: &impl Abort, alloc: Global) -> Result<BookingDesk, NoMemory>
-    ensures { IfOk result (λ desk. (log : ℕ) → All (λ (booking : Booking). IsSpelledCommand log booking.request) desk.held) }
+    ensures { IfOk result (λ desk. (log : ℕ)
+        → All (λ (booking : Booking). IsSpelledCommand log booking.request) desk.held) }
 {
     let request = NINE;
     assert!(rt; is_spelled(&request));
@@ -265,15 +268,15 @@ fn commit<'r, R: Threads + Wait + Sync + Abort>(
     rt: &R,
     board: &SharedBoard<'r>,
     desk: &mut ActorPass<'r>,
-    tools: &mut DeskTools<'_, '_>,
+    pricer: &mut Pricer<'_>,
     batch: Batch,
 )
     requires desk { MayCommit board.now desk.old batch }
-    requires priceable { IsPriceable tools.old batch }
-    requires roads { tools.old ≡ (root_of (knowledge desk.old)).start.roads }
-    ensures { tools.new ≡ tools.old }
+    requires priceable { IsPriceable pricer.old batch }
+    requires roads { pricer.old ≡ (root_of (knowledge desk.old)).start.roads }
+    ensures { pricer.new ≡ pricer.old }
 {
-    match tools.solved(rt, batch) {
+    match solved(rt, batch, pricer, &OpenGate) {
         Ok(solved) => board.commit(rt, desk, solved),
         Err(_) => panic!(rt; "there is memory"),
     }
@@ -285,19 +288,19 @@ fn seat_by_one<'r, R: Threads + Wait + Sync + Abort>(
     board: &SharedBoard<'r>,
     feed: &mut ActorPass<'r>,
     desk: &mut ActorPass<'r>,
-    tools: &mut DeskTools<'_, '_>,
+    pricer: &mut Pricer<'_>,
     play: &Play,
 )
     requires feed { MayFeed board.now feed.old }
     requires desk { MayOpen board.now desk.old }
-    requires roads { tools.old ≡ (root_of (knowledge desk.old)).start.roads }
+    requires roads { pricer.old ≡ (root_of (knowledge desk.old)).start.roads }
 {
     if play.batches == 0 {
         return;
     }
     let batch = open(rt, board, desk);
     tell_all(rt, board, feed, play.told_then);
-    commit(rt, board, desk, tools, batch);
+    commit(rt, board, desk, pricer, batch);
 }
 
 // Two desks open batches, and commit them in the same order.
@@ -306,17 +309,17 @@ fn seat_by_two<'r, R: Threads + Wait + Sync + Abort>(
     board: &SharedBoard<'r>,
     first: &mut ActorPass<'r>,
     second: &mut ActorPass<'r>,
-    tools: &mut DeskTools<'_, '_>,
+    pricer: &mut Pricer<'_>,
 )
     requires first { MayOpen board.now first.old }
     requires second { MayOpen board.now second.old }
-    requires roads_of_first { tools.old ≡ (root_of (knowledge first.old)).start.roads }
-    requires roads_of_second { tools.old ≡ (root_of (knowledge second.old)).start.roads }
+    requires roads_of_first { pricer.old ≡ (root_of (knowledge first.old)).start.roads }
+    requires roads_of_second { pricer.old ≡ (root_of (knowledge second.old)).start.roads }
 {
     let seven = open(rt, board, first);
     let eight = open(rt, board, second);
-    commit(rt, board, first, tools, seven);
-    commit(rt, board, second, tools, eight);
+    commit(rt, board, first, pricer, seven);
+    commit(rt, board, second, pricer, eight);
 }
 
 /// An order to vehicle 1 that names a version.
@@ -460,10 +463,10 @@ fn share<'r, R: Threads + Wait + Sync + Abort + AllocGlobal>(
     rt: &R,
     board: Board<'r>,
     watch: &mut VersionWatch,
-    tools: &mut DeskTools<'_, '_>,
+    pricer: &mut Pricer<'_>,
     play: &Play,
 )
-    requires roads { tools.old ≡ board.start.roads }
+    requires roads { pricer.old ≡ board.start.roads }
     requires history { board.history ≡ [] }
     requires place { watch.old.place ≡ 0 }
     requires versions { watch.old.versions ≡ versions_of board.start.vehicles }
@@ -488,12 +491,12 @@ fn share<'r, R: Threads + Wait + Sync + Abort + AllocGlobal>(
     };
     begin(rt, &board, &mut feed, play);
     if play.batches < 2 {
-        seat_by_one(rt, &board, &mut feed, &mut first, tools, play);
+        seat_by_one(rt, &board, &mut feed, &mut first, pricer, play);
     } else {
         let Some(mut second) = desk_2 else {
             panic!(rt; "this board has two desks");
         };
-        seat_by_two(rt, &board, &mut first, &mut second, tools);
+        seat_by_two(rt, &board, &mut first, &mut second, pricer);
     }
     expect_read(rt, &board, &mut scribe, watch, play);
 }
@@ -513,10 +516,10 @@ fn run<R: Threads + Wait + Sync + Abort + AllocGlobal>(rt: &R, roads: &Roads, pl
     let Ok(board) = Board::new(alloc, roads, settings(1), fleet, 1, play.desks) else {
         panic!(rt; "there is memory");
     };
-    let Ok(mut tools) = DeskTools::new(alloc, roads, play.desks as usize) else {
+    let Ok(mut pricer) = Pricer::new(alloc, roads, play.desks as usize) else {
         panic!(rt; "there is memory");
     };
-    share(rt, board, &mut watch, &mut tools, play);
+    share(rt, board, &mut watch, &mut pricer, play);
 }
 
 #[test]

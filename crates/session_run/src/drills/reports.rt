@@ -24,7 +24,8 @@ pub(super) fn drive_all(
     requires drilling { IsDrilling board.old }
     requires vehicles { length board.old.start.vehicles ≡ vehicles }
     requires few { length (fed_commands 2 board.old.history) + left.old < most_commands }
-    ensures { OnOk result (GoesBy (map drive (range_with_len 0 vehicles)) 0 left.old left.new board.old board.new) }
+    ensures { OnOk result (GoesBy (map drive (range_with_len 0 vehicles)) 0 left.old
+        left.new board.old board.new) }
 {
     for place in 0..vehicles {
         drive(board, place as usize, left)?;

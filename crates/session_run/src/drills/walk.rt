@@ -10,9 +10,9 @@ ghost use Rattle.session_run.specs.Drills.{GoesBy, IsDrilling};
 
 use super::reports::drive_all;
 use crate::answers::answer;
+use crate::tools::Tools;
 use board_core::Board;
 use ride_model::{Actor, Command, Ending, NoMemory};
-use session_loops::DeskTools;
 use std::alloc::AllocError;
 use std::thread::Threads;
 
@@ -20,9 +20,9 @@ use std::thread::Threads;
 const MOST_REPORTS: u32 = 999_999_999;
 
 /// Gives all commands of the first feed, and lets all drivers report after each clock.
-pub(super) fn run_commands<'r, 'q, R: Threads + Sync>(
+pub(super) fn run_commands<'r, R: Threads + Sync>(
     board: &mut Board<'r>,
-    tools: &mut DeskTools<'r, 'q>,
+    tools: &mut Tools<'r>,
     rt: &R,
     commands: &[Command],
     vehicles: u32,
@@ -34,7 +34,8 @@ pub(super) fn run_commands<'r, 'q, R: Threads + Sync>(
     requires few { length commands.now < most_commands }
     requires spelled { All (IsSpelledCommand board.old.start.settings.log) commands.now }
     ensures drilling { OnOk result (IsDrilling board.new) }
-    ensures follows { OnOk result (Follows board.new.start (flat_map (steps_with vehicles) commands.now) board.new.history) }
+    ensures follows { OnOk result
+        (Follows board.new.start (flat_map (steps_with vehicles) commands.now) board.new.history) }
     ensures start { OnOk result (board.new.start ≡ board.old.start) }
 {
     let mut left = MOST_REPORTS;
@@ -45,9 +46,9 @@ pub(super) fn run_commands<'r, 'q, R: Threads + Sync>(
 }
 
 // Gives a command, after which all drivers report where it is a clock.
-fn take_steps<'r, 'q, R: Threads + Sync>(
+fn take_steps<'r, R: Threads + Sync>(
     board: &mut Board<'r>,
-    tools: &mut DeskTools<'r, 'q>,
+    tools: &mut Tools<'r>,
     rt: &R,
     command: &Command,
     vehicles: u32,
@@ -59,7 +60,8 @@ fn take_steps<'r, 'q, R: Threads + Sync>(
     requires given { length (fed_commands 1 board.old.history) < most_commands }
     requires reported { length (fed_commands 2 board.old.history) + left.old < most_commands }
     requires spelled { IsSpelledCommand board.old.start.settings.log command.now }
-    ensures goes { OnOk result (GoesBy (steps_with vehicles command.now) 1 left.old left.new board.old board.new) }
+    ensures goes { OnOk result (GoesBy (steps_with vehicles command.now) 1 left.old
+        left.new board.old board.new) }
     ensures tools { tools.new ≡ tools.old }
 {
     give(board, tools, rt, command)?;
@@ -70,9 +72,9 @@ fn take_steps<'r, 'q, R: Threads + Sync>(
 }
 
 // Gives a command, and runs a batch after an accepted ask.
-fn give<'r, 'q, R: Threads + Sync>(
+fn give<'r, R: Threads + Sync>(
     board: &mut Board<'r>,
-    tools: &mut DeskTools<'r, 'q>,
+    tools: &mut Tools<'r>,
     rt: &R,
     command: &Command,
 ) -> Result<(), NoMemory>
@@ -80,7 +82,8 @@ fn give<'r, 'q, R: Threads + Sync>(
     requires roads { tools.old ≡ board.old.start.roads }
     requires given { length (fed_commands 1 board.old.history) < most_commands }
     requires spelled { IsSpelledCommand board.old.start.settings.log command.now }
-    ensures goes { OnOk result ((left : ℕ) → GoesBy (give command.now ∷ []) 1 left left board.old board.new) }
+    ensures goes { OnOk result ((left : ℕ)
+        → GoesBy (give command.now ∷ []) 1 left left board.old board.new) }
     ensures tools { tools.new ≡ tools.old }
 {
     if answer(board, tools, rt, command, None)?.is_whole() {
@@ -93,7 +96,8 @@ fn give<'r, 'q, R: Threads + Sync>(
 /// Both feeds end, and then the desk, all of them whole.
 pub(super) fn end_all(board: &mut Board<'_>)
     requires drilling { IsDrilling board.old }
-    ensures drilled { (steps : List DrillStep) → Follows board.old.start steps board.old.history → IsDrilled board.new.start (steps ++ last_steps) board.new.history }
+    ensures drilled { (steps : List DrillStep) → Follows board.old.start steps board.old.history
+        → IsDrilled board.new.start (steps ++ last_steps) board.new.history }
     ensures start { board.new.start ≡ board.old.start }
 {
     board.end(Actor::Feed(1), Ending::Whole);

@@ -5,92 +5,76 @@ ghost use Rattle.session_run.specs.Actors.{LeavesDesk, MayRunDesk};
 
 use super::outcomes::either;
 use fleet_board::{ActorPass, SharedBoard};
+use pricing_workers::Pricer;
 use ride_ports::{Gate, Ran};
-use road_times::Scratch;
-use session_loops::{DeskPricer, SessionRoads, desk_loop_by};
-use std::alloc::Global;
+use session_loops::desk_loop;
 use std::sync::Wait;
 use std::thread::{Threads, join_mut};
 
-/// A desk: its pass, and a scratch for each of its workers.
+/// A desk: its pass, and what prices its batches.
 #[derive(Drop)]
 pub(super) struct Desk<'r> {
     pub(super) pass: ActorPass<'r>,
-    pub(super) scratches: Vec<Scratch>,
+    pub(super) pricer: Pricer<'r>,
 }
 
 // Runs a desk.
-fn run_desk<'r, 'q, R: Threads + Wait + Sync, G: Gate>(
+fn run_desk<'r, R: Threads + Wait + Sync, G: Gate>(
     rt: &R,
-    alloc: Global,
     board: &SharedBoard<'r>,
     desk: &mut Desk<'r>,
-    roads: &SessionRoads<'r, 'q>,
     gate: &G,
 ) -> Ran
-    requires { MayRunDesk board.now roads.now desk.old.pass desk.old.scratches.items }
+    requires { MayRunDesk board.now desk.old.pass desk.old.pricer }
     ensures { LeavesDesk board.now result desk.old.pass desk.new.pass }
 {
-    let mut pricer = DeskPricer::sharing(roads);
-    desk_loop_by(
-        rt,
-        alloc,
-        board,
-        &mut desk.pass,
-        &mut pricer,
-        desk.scratches.as_mut_slice(),
-        gate,
-    )
+    desk_loop(rt, board, &mut desk.pass, &mut desk.pricer, gate)
 }
 
 // Runs two desks.
-fn run_both_desks<'a, 'r, 'q, R: Threads + Wait + Sync, G: Gate>(
+fn run_both_desks<'a, 'r, R: Threads + Wait + Sync, G: Gate>(
     rt: &'a R,
-    alloc: Global,
     board: &'a SharedBoard<'r>,
     one: &mut Desk<'r>,
     two: &mut Desk<'r>,
-    roads: &'a SessionRoads<'r, 'q>,
     gate: &'a G,
 ) -> (Ran, Ran)
-    requires one { MayRunDesk board.now roads.now one.old.pass one.old.scratches.items }
-    requires two { MayRunDesk board.now roads.now two.old.pass two.old.scratches.items }
+    requires one { MayRunDesk board.now one.old.pass one.old.pricer }
+    requires two { MayRunDesk board.now two.old.pass two.old.pricer }
     ensures one { LeavesDesk board.now result.0 one.old.pass one.new.pass }
     ensures two { LeavesDesk board.now result.1 two.old.pass two.new.pass }
 {
     join_mut(
         rt,
         &mut || -> Ran
-            requires { IsSync R.row × MayRunDesk board.now roads.now one.now.pass one.now.scratches.items }
+            requires { IsSync R.row × MayRunDesk board.now one.now.pass one.now.pricer }
             ensures { LeavesDesk board.entry.now result one.entry.now.pass one.exit.now.pass }
-        { run_desk(rt, alloc, board, one, roads, gate) },
+        { run_desk(rt, board, one, gate) },
         &mut || -> Ran
-            requires { IsSync R.row × MayRunDesk board.now roads.now two.now.pass two.now.scratches.items }
+            requires { IsSync R.row × MayRunDesk board.now two.now.pass two.now.pricer }
             ensures { LeavesDesk board.entry.now result two.entry.now.pass two.exit.now.pass }
-        { run_desk(rt, alloc, board, two, roads, gate) },
+        { run_desk(rt, board, two, gate) },
     )
 }
 
 /// Runs one desk, or two.
-pub(super) fn run_desks<'r, 'q, R: Threads + Wait + Sync, G: Gate>(
+pub(super) fn run_desks<'r, R: Threads + Wait + Sync, G: Gate>(
     rt: &R,
-    alloc: Global,
     board: &SharedBoard<'r>,
     first: &mut Desk<'r>,
     second: &mut Option<Desk<'r>>,
-    roads: &SessionRoads<'r, 'q>,
     gate: &G,
 ) -> Ran
-    requires first { MayRunDesk board.now roads.now first.old.pass first.old.scratches.items }
-    requires second { IfSome second.old (λ desk. MayRunDesk board.now roads.now desk.pass desk.scratches.items) }
+    requires first { MayRunDesk board.now first.old.pass first.old.pricer }
+    requires second { IfSome second.old (λ desk. MayRunDesk board.now desk.pass desk.pricer) }
     ensures first { LeavesDesk board.now result first.old.pass first.new.pass }
     ensures second { MatchOption second.old (IsNone second.new)
         (λ old. IsSomeAnd second.new (λ new. LeavesDesk board.now result old.pass new.pass)) }
 {
     let Some(mut desk) = second.take() else {
-        return run_desk(rt, alloc, board, first, roads, gate);
+        return run_desk(rt, board, first, gate);
     };
-    let (one, two) = run_both_desks(rt, alloc, board, first, &mut desk, roads, gate);
+    let (one, two) = run_both_desks(rt, board, first, &mut desk, gate);
     *second = Some(desk);
     either(one, two)
 }

@@ -20,7 +20,9 @@ fn run_feed<'r, R: Wait, S: Source, G: Gate>(
     log: u8,
 ) -> Ran
     requires { MayRunFeed board.now log pass.old }
-    ensures { LeavesFeed board.now log (feed_run (S.left source.old) (S.left source.new) (S.faults source.old) (S.faults source.new))
+    ensures { LeavesFeed board.now log
+        (feed_run (S.left source.old) (S.left source.new)
+        (S.faults source.old) (S.faults source.new))
         result pass.old pass.new }
 {
     feed_loop(rt, alloc, board, pass, source, gate, log)
@@ -40,22 +42,30 @@ pub(super) fn run_feeds<'a, 'r, R: Threads + Wait + Sync, S: Source, G: Gate>(
 ) -> (Ran, Ran)
     requires one { MayRunFeed board.now log one.old }
     requires two { MayRunFeed board.now log two.old }
-    ensures one { LeavesFeed board.now log (feed_run (S.left riders.old) (S.left riders.new) (S.faults riders.old) (S.faults riders.new))
+    ensures one { LeavesFeed board.now log
+        (feed_run (S.left riders.old) (S.left riders.new)
+        (S.faults riders.old) (S.faults riders.new))
         result.0 one.old one.new }
-    ensures two { LeavesFeed board.now log (feed_run (S.left drivers.old) (S.left drivers.new) (S.faults drivers.old) (S.faults drivers.new))
+    ensures two { LeavesFeed board.now log
+        (feed_run (S.left drivers.old) (S.left drivers.new)
+        (S.faults drivers.old) (S.faults drivers.new))
         result.1 two.old two.new }
 {
     join_mut(
         rt,
         &mut || -> Ran
             requires { MayRunFeed board.now log one.now }
-            ensures { LeavesFeed board.entry.now log (feed_run (S.left riders.entry.now) (S.left riders.exit.now)
-                (S.faults riders.entry.now) (S.faults riders.exit.now)) result one.entry.now one.exit.now }
+            ensures { LeavesFeed board.entry.now log
+                (feed_run (S.left riders.entry.now) (S.left riders.exit.now)
+                (S.faults riders.entry.now) (S.faults riders.exit.now))
+                result one.entry.now one.exit.now }
         { run_feed(rt, alloc, board, one, riders, gate, log) },
         &mut || -> Ran
             requires { MayRunFeed board.now log two.now }
-            ensures { LeavesFeed board.entry.now log (feed_run (S.left drivers.entry.now) (S.left drivers.exit.now)
-                (S.faults drivers.entry.now) (S.faults drivers.exit.now)) result two.entry.now two.exit.now }
+            ensures { LeavesFeed board.entry.now log
+                (feed_run (S.left drivers.entry.now) (S.left drivers.exit.now)
+                (S.faults drivers.entry.now) (S.faults drivers.exit.now))
+                result two.entry.now two.exit.now }
         { run_feed(rt, alloc, board, two, drivers, gate, log) },
     )
 }

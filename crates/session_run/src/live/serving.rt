@@ -1,14 +1,13 @@
 //! Sessions of two feeds.
 ghost use Rattle.std.specs.Prelude.{◌≡◌, ◌≢◌, ℕ, ◌≤◌, ◌⊎◌, ◌++◌, [], false, true, drop, is_err, length, All, IfOk, List, Option, IsTrue};
+ghost use Rattle.ride_model.specs.Fleet.{MayStart};
 ghost use Rattle.ride_model.specs.declared.entry.Entry.{Entry};
-ghost use Rattle.ride_model.specs.declared.vehicle.Vehicle.{Vehicle};
-ghost use Rattle.ride_model.specs.Settings.{IsSettings};
 ghost use Rattle.ride_model.specs.State.{start_state};
 ghost use Rattle.ride_model.specs.Text.{HasLine, IsOneOrTwo, entry_lines, text_of};
-ghost use Rattle.ride_model.specs.Vehicle.{IsLawful};
 ghost use Rattle.ride_model.specs.Limits.{most_workers};
-ghost use Rattle.ride_ports.specs.Count.{Rose, most_count};
-ghost use Rattle.command_lines.specs.Limits.{IsTooLong};
+ghost use Rattle.ride_ports.specs.Count.{KeepsCount, Rose, most_count};
+ghost use Rattle.line_reader.specs.Limits.{IsTooLong};
+ghost use Rattle.command_lines.specs.Limits.{feed_limits};
 ghost use Rattle.text_page.specs.Output.{HasPut, IsFresh};
 ghost use Rattle.session_loops.specs.declared.scribes.Scribed.{Scribed};
 ghost use Rattle.session_run.specs.Actors.{bare};
@@ -18,11 +17,10 @@ ghost use Rattle.session_run.specs.Stages.{IsReady, root_at};
 use super::actors::run_actors;
 use super::outcomes::ran_of;
 use super::stages::{Stage, begun, closed};
-use adaptive_roads::SharedHierarchy;
+use adaptive_roads::Roads;
 use ride_model::{Entry, Fleet, Settings};
 use ride_ports::{Failed, Gate, Ran, Sink, Source};
-use road_times::Roads;
-use session_loops::{Scribed, SessionRoads, put_all, put_head};
+use session_loops::{Scribed, put_all, put_head};
 use std::alloc::Global;
 use std::sync::Wait;
 use std::thread::Threads;
@@ -43,44 +41,44 @@ pub fn serve<R: Threads + Wait + Sync, S: Source, K: Sink, G: Gate>(
     out: &mut K,
     gate: &G,
 ) -> Ran
-    requires settings { IsSettings settings }
-    requires lawful { All (IsLawful roads.now) fleet }
-    requires idle { All (λ (v : Vehicle). v.stops.items ≡ []) fleet }
-    requires first_versions { All (λ (v : Vehicle). v.version ≡ 0) fleet }
+    requires start { MayStart roads.now settings fleet }
     requires workers { (1 ≤ workers) × (workers ≤ most_workers) }
     requires desks { IsOneOrTwo desks }
     requires riders_count { S.faults riders.old ≢ most_count }
     requires drivers_count { S.faults drivers.old ≢ most_count }
 
     // The log is the text of a history that answers both feeds, however their commands met.
-    ensures log { HasNotServed (feed_run (S.left riders.old) (S.left riders.new) (S.faults riders.old) (S.faults riders.new))
-        (feed_run (S.left drivers.old) (S.left drivers.new) (S.faults drivers.old) (S.faults drivers.new)) result
+    ensures log { HasNotServed (feed_run (S.left riders.old) (S.left riders.new)
+        (S.faults riders.old) (S.faults riders.new))
+        (feed_run (S.left drivers.old) (S.left drivers.new) (S.faults drivers.old)
+        (S.faults drivers.new)) result
         (K.written out.old) (K.written out.new)
         ⊎ ((riders_taken drivers_taken : List ℕ) × (entries : List Entry)
         × HasServed (start_state roads.now settings fleet) desks result entries
-        × IsFeedOf settings.log 1 (feed_run (S.left riders.old) (S.left riders.new) (S.faults riders.old) (S.faults riders.new)) result
+        × IsFeedOf settings.log 1 (feed_run (S.left riders.old) (S.left riders.new)
+        (S.faults riders.old) (S.faults riders.new)) result
         riders_taken entries
-        × IsFeedOf settings.log 2 (feed_run (S.left drivers.old) (S.left drivers.new) (S.faults drivers.old) (S.faults drivers.new)) result
+        × IsFeedOf settings.log 2 (feed_run (S.left drivers.old) (S.left drivers.new)
+        (S.faults drivers.old) (S.faults drivers.new)) result
         drivers_taken entries
-        × (result.too_long ≡ true → IsTooLong riders_taken ⊎ IsTooLong drivers_taken)
-        × IsWrittenOut result (K.written out.old) (K.written out.new) (text_of settings.log 2 desks entries)) }
+        × (result.too_long ≡ true → IsTooLong feed_limits riders_taken
+        ⊎ IsTooLong feed_limits drivers_taken)
+        × IsWrittenOut result (K.written out.old) (K.written out.new)
+        (text_of settings.log 2 desks entries)) }
     ensures source_fault { IsTrue result.source_failed
-        → Rose (S.faults riders.old) (S.faults riders.new) ⊎ Rose (S.faults drivers.old) (S.faults drivers.new) }
-    ensures riders_count_none { result.source_failed ≡ false → S.faults riders.new ≡ S.faults riders.old }
-    ensures drivers_count_none { result.source_failed ≡ false → S.faults drivers.new ≡ S.faults drivers.old }
+        → Rose (S.faults riders.old) (S.faults riders.new)
+        ⊎ Rose (S.faults drivers.old) (S.faults drivers.new) }
+    ensures riders_count_none { result.source_failed ≡ false
+        → S.faults riders.new ≡ S.faults riders.old }
+    ensures drivers_count_none { result.source_failed ≡ false
+        → S.faults drivers.new ≡ S.faults drivers.old }
     ensures riders_never_fall { S.faults riders.old ≤ S.faults riders.new }
     ensures drivers_never_fall { S.faults drivers.old ≤ S.faults drivers.new }
-    ensures sink_fault { IsTrue result.sink_failed → Rose (K.faults out.old) (K.faults out.new) }
-    ensures sink_counts_none { result.sink_failed ≡ false → K.faults out.new ≡ K.faults out.old }
-    ensures sink_never_falls { K.faults out.old ≤ K.faults out.new }
+    ensures sink_faults { KeepsCount result.sink_failed (K.faults out.old) (K.faults out.new) }
 {
     let log = settings.log;
-    let shared = SharedHierarchy::new(roads);
-    let sharing = SessionRoads::new(roads, &shared);
     match begun(alloc, roads, settings, fleet, workers as usize, desks) {
-        Ok(stage) => run(
-            rt, alloc, stage, &sharing, riders, drivers, out, gate, log, desks,
-        ),
+        Ok(stage) => run(rt, alloc, stage, riders, drivers, out, gate, log, desks),
         Err(_) => Ran {
             sink_failed: false,
             no_memory: true,
@@ -91,11 +89,10 @@ pub fn serve<R: Threads + Wait + Sync, S: Source, K: Sink, G: Gate>(
 }
 
 // Runs a session of so many desks to its end, and writes the whole of its log.
-fn run<'r, 'q, R: Threads + Wait + Sync, S: Source, K: Sink, G: Gate>(
+fn run<'r, R: Threads + Wait + Sync, S: Source, K: Sink, G: Gate>(
     rt: &R,
     alloc: Global,
     stage: Stage<'r>,
-    roads: &SessionRoads<'r, 'q>,
     riders: &mut S,
     drivers: &mut S,
     out: &mut K,
@@ -103,24 +100,26 @@ fn run<'r, 'q, R: Threads + Wait + Sync, S: Source, K: Sink, G: Gate>(
     log: u8,
     desks: u8,
 ) -> Ran
-    requires ready { IsReady roads.now stage }
-    requires roads { (root_at stage).start.roads ≡ roads.now }
+    requires ready { IsReady stage }
     requires log { (root_at stage).start.settings.log ≡ log }
     requires feeds { (root_at stage).feeds ≡ 2 }
     requires desks { (root_at stage).desks ≡ desks }
     ensures served { IsServed (root_at stage.entry).start desks
-        (feed_run (S.left riders.old) (S.left riders.new) (S.faults riders.old) (S.faults riders.new))
-        (feed_run (S.left drivers.old) (S.left drivers.new) (S.faults drivers.old) (S.faults drivers.new))
+        (feed_run (S.left riders.old) (S.left riders.new)
+        (S.faults riders.old) (S.faults riders.new))
+        (feed_run (S.left drivers.old) (S.left drivers.new)
+        (S.faults drivers.old) (S.faults drivers.new))
         result (K.written out.old) (K.written out.new) }
     ensures source_fault { IsTrue result.source_failed
-        → Rose (S.faults riders.old) (S.faults riders.new) ⊎ Rose (S.faults drivers.old) (S.faults drivers.new) }
-    ensures riders_count_none { result.source_failed ≡ false → S.faults riders.new ≡ S.faults riders.old }
-    ensures drivers_count_none { result.source_failed ≡ false → S.faults drivers.new ≡ S.faults drivers.old }
+        → Rose (S.faults riders.old) (S.faults riders.new)
+        ⊎ Rose (S.faults drivers.old) (S.faults drivers.new) }
+    ensures riders_count_none { result.source_failed ≡ false
+        → S.faults riders.new ≡ S.faults riders.old }
+    ensures drivers_count_none { result.source_failed ≡ false
+        → S.faults drivers.new ≡ S.faults drivers.old }
     ensures riders_never_fall { S.faults riders.old ≤ S.faults riders.new }
     ensures drivers_never_fall { S.faults drivers.old ≤ S.faults drivers.new }
-    ensures sink_fault { IsTrue result.sink_failed → Rose (K.faults out.old) (K.faults out.new) }
-    ensures sink_counts_none { result.sink_failed ≡ false → K.faults out.new ≡ K.faults out.old }
-    ensures sink_never_falls { K.faults out.old ≤ K.faults out.new }
+    ensures sink_faults { KeepsCount result.sink_failed (K.faults out.old) (K.faults out.new) }
 {
     let Stage {
         board,
@@ -134,7 +133,6 @@ fn run<'r, 'q, R: Threads + Wait + Sync, S: Source, K: Sink, G: Gate>(
         alloc,
         &board,
         &mut actors,
-        roads,
         riders,
         drivers,
         out,
@@ -161,8 +159,10 @@ fn put_rest<K: Sink>(
     requires sound { IfOk scribed.now (λ (s : Scribed). IsFresh output.old) }
     ensures logged { (before : Option (List ℕ)) (faults count : ℕ) (text : List ℕ)
         → IfOk scribed.now (λ (s : Scribed). s.entries ≡ count)
-        → HasPut before (K.written out.old) faults (K.faults out.old) (bare (is_err scribed.now)) text
-        → HasPut before (K.written out.new) faults (K.faults out.new) output.new (text ++ entry_lines log (drop count entries.now)) }
+        → HasPut before (K.written out.old) faults (K.faults out.old)
+        (bare (is_err scribed.now)) text
+        → HasPut before (K.written out.new) faults (K.faults out.new) output.new
+        (text ++ entry_lines log (drop count entries.now)) }
     ensures nothing_left { output.new.failed ≡ false → output.new.page ≡ [] }
 {
     match scribed {

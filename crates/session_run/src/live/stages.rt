@@ -1,19 +1,17 @@
 //! A session from before its actors run to after they did.
-ghost use Rattle.std.specs.Prelude.{◌≡◌, ◌≤◌, [], All, IfOk, IsSome, MatchOption, None, Some};
-ghost use Rattle.ride_model.specs.declared.vehicle.Vehicle.{Vehicle};
-ghost use Rattle.ride_model.specs.Settings.{IsSettings};
+ghost use Rattle.std.specs.Prelude.{◌≡◌, ◌≤◌, IfOk, IsSome, MatchOption, None, Some};
+ghost use Rattle.ride_model.specs.Fleet.{MayStart};
 ghost use Rattle.ride_model.specs.State.{start_state};
 ghost use Rattle.ride_model.specs.Text.{IsOneOrTwo};
-ghost use Rattle.ride_model.specs.Vehicle.{IsLawful};
-ghost use Rattle.session_run.specs.Stages.{HasScratches, IsClosed, IsReady, MayClose, root_at, session_root};
+ghost use Rattle.session_run.specs.Stages.{IsClosed, IsReady, MayClose, root_at, session_root};
 
 use super::actors::Actors;
 use super::desk_pairs::Desk;
+use adaptive_roads::Roads;
 use board_core::Board;
 use fleet_board::{ActorPass, PassSet, SharedBoard};
-use pricing_workers::scratches_of;
+use pricing_workers::Pricer;
 use ride_model::{Fleet, NoMemory, Settings};
-use road_times::Roads;
 use std::alloc::Global;
 use text_page::Output;
 
@@ -34,14 +32,12 @@ pub(super) fn begun<'r>(
     workers: usize,
     desks: u8,
 ) -> Result<Stage<'r>, NoMemory>
-    requires settings { IsSettings settings }
-    requires lawful { All (IsLawful roads.now) fleet }
-    requires idle { All (λ (v : Vehicle). v.stops.items ≡ []) fleet }
-    requires first_versions { All (λ (v : Vehicle). v.version ≡ 0) fleet }
+    requires start { MayStart roads.now settings fleet }
     requires workers { 1 ≤ workers }
     requires desks { IsOneOrTwo desks }
-    ensures ready { IfOk result (IsReady roads.now) }
-    ensures root { IfOk result (λ stage. root_at stage ≡ session_root (start_state roads.now settings fleet) desks) }
+    ensures ready { IfOk result IsReady }
+    ensures root { IfOk result (λ stage. root_at stage
+        ≡ session_root (start_state roads.now settings fleet) desks) }
 {
     let output = Output::new(alloc)?;
     let board = Board::new(alloc, roads, settings, fleet, 2, desks)?;
@@ -54,10 +50,10 @@ pub(super) fn begun<'r>(
     })
 }
 
-// The actors of a set of passes, with scratches for their desks.
+// The actors of a set of passes, with pricers for their desks.
 fn actors_of<'r>(
     alloc: Global,
-    roads: &Roads,
+    roads: &'r Roads,
     passes: PassSet<'r>,
     workers: usize,
 ) -> Result<Actors<'r>, NoMemory>
@@ -68,9 +64,9 @@ fn actors_of<'r>(
     ensures feed_1 { IfOk result (λ actors. passes.entry.feed_1 ≡ Some actors.feed_1) }
     ensures feed_2 { IfOk result (λ actors. passes.entry.feed_2 ≡ Some actors.feed_2) }
     ensures desk_1 { IfOk result (λ actors. (passes.entry.desk_1 ≡ Some actors.desk_1.pass)
-        × HasScratches roads.now actors.desk_1.scratches.items) }
+        × (actors.desk_1.pricer ≡ roads.now)) }
     ensures desk_2 { IfOk result (λ actors. MatchOption actors.desk_2 (passes.entry.desk_2 ≡ None)
-        (λ desk. (passes.entry.desk_2 ≡ Some desk.pass) × HasScratches roads.now desk.scratches.items)) }
+        (λ desk. (passes.entry.desk_2 ≡ Some desk.pass) × (desk.pricer ≡ roads.now))) }
     ensures scribe { IfOk result (λ actors. actors.scribe ≡ passes.entry.scribe) }
 {
     let PassSet {
@@ -99,22 +95,22 @@ fn actors_of<'r>(
     })
 }
 
-// The desk of a pass, with a scratch for each of so many workers.
+// The desk of a pass, with a pricer of so many workers.
 fn desk_of<'r>(
     alloc: Global,
-    roads: &Roads,
+    roads: &'r Roads,
     pass: Option<ActorPass<'r>>,
     workers: usize,
 ) -> Result<Option<Desk<'r>>, NoMemory>
     requires { 1 ≤ workers }
     ensures { IfOk result (λ made. MatchOption made (pass.entry ≡ None)
-        (λ desk. (pass.entry ≡ Some desk.pass) × HasScratches roads.now desk.scratches.items)) }
+        (λ desk. (pass.entry ≡ Some desk.pass) × (desk.pricer ≡ roads.now))) }
 {
     let Some(pass) = pass else {
         return Ok(None);
     };
-    let scratches = scratches_of(alloc, roads, workers)?;
-    Ok(Some(Desk { pass, scratches }))
+    let pricer = Pricer::new(alloc, roads, workers)?;
+    Ok(Some(Desk { pass, pricer }))
 }
 
 /// Takes the board back from its actors.

@@ -1,4 +1,6 @@
-use Rattle.std.proofs.Common.{◌++◌, length, subst}
+use Rattle.std.proofs.Common.{◌++◌, length, None, subst}
+use Rattle.line_reader.proofs.FeedLines.{run-still}
+use Rattle.command_lines.specs.Limits.{feed_limits}
 use Rattle.text_page.specs.Output.{HasPut}
 use Rattle.booking_desk.specs.BookText.{held_line, text_of_lines}
 use Rattle.booking_desk.specs.Desk.{DeskState}
@@ -9,7 +11,7 @@ returns-in-None-clause-ran g c =
     let (taken, lines, run, put, desk_is) = c.in-None.ensures.ran in (
       taken,
       lines,
-      record { reads = run.reads; first = run.first; ended = run.ended },
+      run-still feed_limits _ _ None _ c.put_held.new.self.output.failed taken lines c.put_held.ensures.still_failed run,
       subst (λ (d : DeskState). HasPut (g.K.Sink.written c.args.out.now) (g.K.Sink.written c.put_held.new.out) (g.K.Sink.faults c.args.out.now)
           (g.K.Sink.faults c.put_held.new.out) c.put_held.new.self.output (text_of_lines lines ++ held_line (length d.held))) desk_is
           (c.put_held.ensures.put (g.K.Sink.written c.args.out.now) (g.K.Sink.faults c.args.out.now) (text_of_lines lines) put),

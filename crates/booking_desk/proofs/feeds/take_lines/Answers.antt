@@ -1,4 +1,4 @@
-use Rattle.std.proofs.Common.{◌++◌, ◌∷◌, [], Ok, Err, refl, sym, ap, subst, ◌∙◌}
+use Rattle.std.proofs.Common.{◌++◌, ◌∷◌, [], false, Ok, Err, refl, sym, ap, subst, ◌∙◌}
 use Rattle.line_text.specs.Lines.{ended_lines}
 use Rattle.line_reader.specs.declared.answers.NextLine.TheVariants.{Line, Unfinished, End}
 use Rattle.line_reader.proofs.FeedLines.{between-none, follows, run-sink_failed}
@@ -114,7 +114,7 @@ returns-then-failed-clause-ran g c =
       ended_lines (bytes ++ line ++ 10 ∷ []),
       run-sink_failed feed_limits _ _ c.next.new.self c.write_before_wait.new.desk.output.failed (bytes ++ line ++ 10 ∷ []) on (sym c.if-failed.ensures),
       written.put,
-      tt,
+      written.desk_is,
     )
 
 pub lines-preserved : goal.lines-preserved
@@ -129,7 +129,7 @@ lines-preserved g c =
     record {
       limits = c.next.ensures.limits ∙ c.lines.invariant.limits;
       spelled = subst (λ (d : DeskState). AreSpelled d.held) (sym c.write_before_wait.ensures.desk) c.in-Ok.ensures.spelled;
-      count = c.in-Ok-Line.ensures.other_counts_none (λ is. (cc is)) ∙ c.lines.invariant.count;
+      count = c.in-Ok-Line.ensures.faults.stays (refl {a = false}) ∙ c.lines.invariant.count;
       so_far = (
         bytes ++ line ++ 10 ∷ [],
         on,

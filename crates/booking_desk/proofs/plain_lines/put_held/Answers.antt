@@ -4,8 +4,8 @@ use Rattle.text_page.specs.Output.{HasPut}
 use Rattle.text_page.proofs.OutputLemmas.{put-three}
 use Rattle.booking_desk.proofs.plain_lines.put_held.Goals as goal
 
-pub returns : goal.returns
-returns g c before faults text has =
+pub returns-clause-put : goal.returns-clause-put
+returns-clause-put g c before faults text has =
     let number : c.as_slice.result.now ≡ decimal c.args.count = c.as_slice.ensures.value ∙ c.put_number.ensures ∙ ap decimal c.from.ensures in
     subst (λ (d : List ℕ). HasPut before (g.K.Sink.written c.put-3.new.out) faults (g.K.Sink.faults c.put-3.new.out) c.put-3.new.self
     (text ++ (codes "# held " ++ d ++ 10 ∷ []))) number

@@ -21,6 +21,6 @@ returns g c before faults earlier has =
     let printed = c.print_request-printed.ensures in
     put-printed c.print_request-printed.result before _ _ faults _ _ c.back_to.new.self c.note.new.self earlier text stands bare
     (ap (λ (o : OutputState). o.failed) c.note.ensures) (ap (λ (o : OutputState). o.page) c.note.ensures ∙ bare)
-    printed.whole printed.prefix printed.failed_only_at_fault printed.ok_counts_none printed.count_never_falls
+    printed.whole printed.prefix printed.faults
     (printed-back c.print_request.result before _ _ faults _ _ c.args.output.now c.print_request.new.sink c.back_to.new.self c.mark-mark.result
     earlier text (sym c.if-failed.ensures) (sym c.if-is_ok.ensures.value) c.print_request.ensures.prefix c.mark-mark.ensures c.back_to.ensures.put has)

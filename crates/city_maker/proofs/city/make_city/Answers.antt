@@ -1,4 +1,4 @@
-use Rattle.std.proofs.Common.{◌≡◌, [], refl, sym, subst, ◌∙◌, ap, ◌+◌, arith}
+use Rattle.std.proofs.Common.{◌≡◌, [], refl, sym, subst, ◌∙◌, ap, ◌+◌, arith, rules}
 use Rattle.std.proofs.lemmas.List.Elements.{All-same}
 use Rattle.std.specs.Prelude.{All}
 use Rattle.ride_model.specs.Fleet.{IsFleet}
@@ -36,18 +36,18 @@ new-requires c =
 pub new-requires-2 : goal.new-requires-2
 new-requires-2 c = subst IsFleet (sym c.in_ok-vehicles.ensures.vehicles) (fleet-fits c.args.plan.now c.requires)
 
-pub returns-clause-lawful : goal.returns-clause-lawful
-returns-clause-lawful c =
+pub returns-clause-start : goal.returns-clause-start
+returns-clause-start c =
     let plan = c.args.plan.now in
     let network : c.new.result ≡ network_of plan = network-is plan c.new.result c.new.ensures.nodes (c.new.ensures.arcs ∙ c.in_ok-roads.ensures.arcs) in
     let fleet : c.new-2.result ≡ fleet_of plan = c.new-2.ensures ∙ c.in_ok-vehicles.ensures.vehicles in
-    subst (λ (roads : RoadMap). All (IsLawful roads) c.new-2.result) (sym network) (All-same (IsLawful (network_of plan)) c.new-2.result _ fleet (fleet-lawful plan c.requires))
-
-pub returns-clause-idle : goal.returns-clause-idle
-returns-clause-idle c = All-same (λ (v : Vehicle). v.stops.items ≡ []) c.new-2.result _ (c.new-2.ensures ∙ c.in_ok-vehicles.ensures.vehicles) (fleet-idle c.args.plan.now)
-
-pub returns-clause-first_versions : goal.returns-clause-first_versions
-returns-clause-first_versions c = All-same (λ (v : Vehicle). v.version ≡ 0) c.new-2.result _ (c.new-2.ensures ∙ c.in_ok-vehicles.ensures.vehicles) (fleet-first_versions c.args.plan.now)
+    record {
+      settings_fit = search rules;
+      lawful = subst (λ (roads : RoadMap). All (IsLawful roads) c.new-2.result) (sym network)
+          (All-same (IsLawful (network_of plan)) c.new-2.result _ fleet (fleet-lawful plan c.requires));
+      idle = All-same (λ (v : Vehicle). v.stops.items ≡ []) c.new-2.result _ fleet (fleet-idle plan);
+      first_versions = All-same (λ (v : Vehicle). v.version ≡ 0) c.new-2.result _ fleet (fleet-first_versions plan);
+    }
 
 pub returns-clause-spelled : goal.returns-clause-spelled
 returns-clause-spelled c = All-same (IsSpelledCommand 1) c.of.result _ (c.of.ensures ∙ c.in_ok-commands.ensures) (commands-spelled c.args.plan.now c.requires)

@@ -1,7 +1,11 @@
-use Rattle.std.proofs.Common.{sym, subst}
-use Rattle.ride_model.specs.Fleet.{IsFleet}
-use Rattle.league_session.proofs.Desks.{no-fleet}
+use Rattle.std.proofs.Common.{sym, subst, ◌∙◌}
+use Rattle.ride_model.specs.Fleet.{IsFleet, MayStart}
+use Rattle.league_session.proofs.Desks.{no-fleet, none-start}
 use Rattle.dispatcher.proofs.files.bring_second.Goals as goal
 
 pub new-requires-in_default : goal.new-requires-in_default
 new-requires-in_default g c = subst IsFleet (sym c.new.ensures.items) no-fleet
+
+pub returns-in_default-clause-start : goal.returns-in_default-clause-start
+returns-in_default-clause-start g c = λ settings fit.
+    subst (MayStart c.args.map.now settings) (sym (c.new-in_default.ensures ∙ c.new.ensures.items)) (none-start c.args.map.now settings fit)

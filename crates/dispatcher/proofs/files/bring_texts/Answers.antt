@@ -1,4 +1,7 @@
+use Rattle.std.proofs.Common.{sym, subst}
 use Rattle.std.specs.Prelude.{option_map, string_bytes}
+use Rattle.ride_model.specs.Fleet.{MayStart}
+use Rattle.ride_model.specs.Road.{RoadMap}
 use Rattle.std.proofs.lemmas.Result.{err_from_is_err_and}
 use Rattle.dispatcher.proofs.Texts.{at-fleet, at-map, at-second, no-roads, texts-read}
 use Rattle.dispatcher.proofs.files.bring_texts.Goals as goal
@@ -40,3 +43,13 @@ returns-clause-texts g c =
     texts-read _ _ (string_bytes c.args.names.map) (string_bytes c.args.names.fleet) c.in_ok-map.map c.requires.fresh c.in_ok-map.ensures.asks
     c.in_ok-map.ensures.map _ c.in_ok-settings.settings c.in_ok-settings.fleet c.in_ok-settings.ensures.asks c.in_ok-settings.ensures.fleet _
     (option_map string_bytes c.args.second) c.in_ok-second.second c.in_ok-roads.roads c.in_ok-roads.ensures.roads c.in_ok-second.ensures.brings
+
+pub returns-clause-start : goal.returns-clause-start
+returns-clause-start g c =
+    let roads = sym c.in_ok-roads.ensures.roads in
+    let start = c.in_ok-settings.ensures.start in
+    record {
+      first = subst (λ (r : RoadMap). MayStart r c.in_ok-settings.settings c.in_ok-settings.fleet) roads start;
+      second = subst (λ (r : RoadMap). MayStart r c.in_ok-settings.settings c.in_ok-second.second) roads
+          (c.in_ok-second.ensures.start c.in_ok-settings.settings start.settings_fit);
+    }

@@ -11,4 +11,4 @@ returns g c =
       no_limit = ran.no_limit;
       drilled = ran.drilled;
       nothing_written = ran.nothing_written;
-    }) ran.sink_fault ran.sink_counts_none
+    }) ran.sink_faults

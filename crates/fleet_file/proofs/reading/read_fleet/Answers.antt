@@ -1,39 +1,32 @@
-use Rattle.std.proofs.Common.{◌≡◌, Err, refl, ap, ◌∙◌}
-use Rattle.fleet_file.proofs.ReadLemmas.{taken-nothing, taken-text, told-line, told-too_long, line-no_fault}
-use Rattle.fleet_file.proofs.LawfulFleets.{fleet-lawful, fleet-idle, fleet-first_versions}
+use Rattle.std.proofs.Common.{◌≡◌, Bool, Ok, Err, refl, ap, sym, subst, ◌∙◌}
+use Rattle.ride_model.specs.declared.settings.Settings.{Settings}
+use Rattle.ride_ports.specs.Count.{KeepsCount}
+use Rattle.fleet_file.proofs.ReadLemmas.{taken-nothing, taken-text, told-line, told-too_long, line-no_fault, not-fault}
+use Rattle.fleet_file.proofs.LawfulFleets.{fleet-may_start}
 use Rattle.fleet_file.proofs.reading.read_fleet.Goals as goal
 
 pub read_lines-requires-after_bounds : goal.read_lines-requires-after_bounds
 read_lines-requires-after_bounds g c κs within = taken-nothing c.new-lines.result c.new-lines.ensures.nothing c.new-lines.ensures.within
 
-pub returns-in-Ok-clause-lawful : goal.returns-in-Ok-clause-lawful
-returns-in-Ok-clause-lawful g c =
+pub returns-in-Ok-clause-start : goal.returns-in-Ok-clause-start
+returns-in-Ok-clause-start g c =
     let (bytes, reads, short, taken) = c.in-Ok.ensures.read in
-    fleet-lawful c.args.map.now c.args.map.now.nodes bytes _ _ c.new.result refl c.new.ensures
-    (taken-text c.args.map.now.nodes c.new-lines.result c.read_lines.new.reader bytes (c.new-lines.ensures.map ∙ c.nodes.ensures.nodes) short taken)
-
-pub returns-in-Ok-clause-idle : goal.returns-in-Ok-clause-idle
-returns-in-Ok-clause-idle g c =
-    let (bytes, reads, short, taken) = c.in-Ok.ensures.read in
-    fleet-idle c.args.map.now c.args.map.now.nodes bytes _ _ c.new.result refl c.new.ensures
-    (taken-text c.args.map.now.nodes c.new-lines.result c.read_lines.new.reader bytes (c.new-lines.ensures.map ∙ c.nodes.ensures.nodes) short taken)
-
-pub returns-in-Ok-clause-first_versions : goal.returns-in-Ok-clause-first_versions
-returns-in-Ok-clause-first_versions g c =
-    let (bytes, reads, short, taken) = c.in-Ok.ensures.read in
-    fleet-first_versions c.args.map.now c.args.map.now.nodes bytes _ _ c.new.result refl c.new.ensures
-    (taken-text c.args.map.now.nodes c.new-lines.result c.read_lines.new.reader bytes (c.new-lines.ensures.map ∙ c.nodes.ensures.nodes) short taken)
+    fleet-may_start c.args.map.now c.args.map.now.nodes bytes c.settings_of.result _ c.new.result refl c.new.ensures
+    (taken-text c.args.map.now.nodes c.new-lines.result c.read_lines.new.reader bytes (c.new-lines.ensures.map ∙ c.nodes.ensures.nodes) short taken
+    ∙ ap (λ (s : Settings). Ok (s, c.read_lines.new.reader.vehicles.items)) (sym c.settings_of.ensures.value))
+    c.settings_of.ensures.fit
 
 pub returns-in-Err-Refused-clause-refused : goal.returns-in-Err-Refused-clause-refused
 returns-in-Err-Refused-clause-refused g c memory fault =
     let (lines, refuses, first) = c.in-Err-Refused.ensures.refused c.in-Err-Refused.error (ap (λ e. Err e) c.in-Err-Refused.field-0-is) in
     told-line c.args.map.now.nodes c.new-lines.result _ lines c.in-Err-Refused.error (c.new-lines.ensures.map ∙ c.nodes.ensures.nodes) refuses first memory
 
-pub returns-in-Err-Refused-clause-read_fault : goal.returns-in-Err-Refused-clause-read_fault
-returns-in-Err-Refused-clause-read_fault g c is =
+pub returns-in-Err-Refused-clause-faults : goal.returns-in-Err-Refused-clause-faults
+returns-in-Err-Refused-clause-faults g c =
     let (lines, refuses, first) = c.in-Err-Refused.ensures.refused c.in-Err-Refused.error (ap (λ e. Err e) c.in-Err-Refused.field-0-is) in
-    let same : c.in-Err-Refused.error ≡ _ = cc in
-    absurd (line-no_fault c.new-lines.result lines c.in-Err-Refused.error refuses same)
+    subst (λ (failed : Bool). KeepsCount failed (g.S.Source.faults c.args.src.now) (g.S.Source.faults c.read_lines.new.src))
+    (sym (not-fault c.in-Err-Refused.error (line-no_fault c.new-lines.result lines c.in-Err-Refused.error refuses)))
+    (rw c.in-Err-Refused.field-0-is at c.in-Err-Refused.ensures.faults)
 
 pub returns-in-Err-Refused-clause-before_fault : goal.returns-in-Err-Refused-clause-before_fault
 returns-in-Err-Refused-clause-before_fault g c is =

@@ -1,5 +1,6 @@
-use Rattle.std.proofs.Common.{◌≡◌, Err, ap}
-use Rattle.gr_reader.proofs.ReadLemmas.{taken-nothing, told-line, told-too_long, line-no_fault}
+use Rattle.std.proofs.Common.{◌≡◌, Bool, Err, ap, sym, subst}
+use Rattle.ride_ports.specs.Count.{KeepsCount}
+use Rattle.gr_reader.proofs.ReadLemmas.{taken-nothing, told-line, told-too_long, line-no_fault, not-fault}
 use Rattle.gr_reader.proofs.reading.read_map.Goals as goal
 
 pub read_lines-requires-after_bounds : goal.read_lines-requires-after_bounds
@@ -10,11 +11,12 @@ returns-in-Err-Refused-clause-refused g c memory fault =
     let (lines, refuses, first) = c.in-Err-Refused.ensures.refused c.in-Err-Refused.error (ap (λ e. Err e) c.in-Err-Refused.field-0-is) in
     told-line _ lines c.in-Err-Refused.error refuses first memory
 
-pub returns-in-Err-Refused-clause-read_fault : goal.returns-in-Err-Refused-clause-read_fault
-returns-in-Err-Refused-clause-read_fault g c is =
+pub returns-in-Err-Refused-clause-faults : goal.returns-in-Err-Refused-clause-faults
+returns-in-Err-Refused-clause-faults g c =
     let (lines, refuses, first) = c.in-Err-Refused.ensures.refused c.in-Err-Refused.error (ap (λ e. Err e) c.in-Err-Refused.field-0-is) in
-    let same : c.in-Err-Refused.error ≡ _ = cc in
-    absurd (line-no_fault lines c.in-Err-Refused.error refuses same)
+    subst (λ (failed : Bool). KeepsCount failed (g.S.Source.faults c.args.src.now) (g.S.Source.faults c.read_lines.new.src))
+    (sym (not-fault c.in-Err-Refused.error (line-no_fault lines c.in-Err-Refused.error refuses)))
+    (rw c.in-Err-Refused.field-0-is at c.in-Err-Refused.ensures.faults)
 
 pub returns-in-Err-Refused-clause-before_fault : goal.returns-in-Err-Refused-clause-before_fault
 returns-in-Err-Refused-clause-before_fault g c is =

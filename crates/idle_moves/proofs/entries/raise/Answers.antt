@@ -1,4 +1,4 @@
-use Rattle.std.proofs.Common.{◌≡◌, Option, Some, None, eqb, is_some, false, refl, sym, ap, ◌∙◌, arith}
+use Rattle.std.proofs.Common.{eqb, is_some, sym, ap, ◌∙◌, arith}
 use Rattle.std.specs.Map.{keys_of, lookup}
 use Rattle.std.proofs.lemmas.List.Quantifiers.{position-Some}
 use Rattle.plain_lemmas.proofs.Options.{none_from_is_some}

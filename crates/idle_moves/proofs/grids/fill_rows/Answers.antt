@@ -2,6 +2,7 @@ use Rattle.std.proofs.Common.{◌≡◌, ◌+◌, ◌*◌, ◌++◌, ℕ, List, 
 use Rattle.std.specs.Prelude.{Option, None}
 use Rattle.std.proofs.lemmas.List.{length-map, take_all}
 use Rattle.ride_model.specs.declared.vehicle.Ride.{Ride}
+use Rattle.ride_model.specs.Road.{RoadMap}
 use Rattle.road_times.specs.declared.side.Side.TheVariants.{Back}
 use Rattle.road_times.specs.Turned.{travel_by}
 use Rattle.idle_moves.specs.Filling.{BeginsWith}
@@ -16,27 +17,30 @@ no_ride = record { id = 0; from = 0; to = 0; seats = 0; chairs = 0; latest = 0; 
 pub loop-row-preserved : goal.loop-row-preserved
 loop-row-preserved c =
     let reach = c.args.reach in
-    let nodes = c.args.nodes.now in
+    let nodes = c.args.towards.now.wanted in
+    let roads : RoadMap = c.args.times.now in
     let requests = c.args.requests.now in
     let row = c.loop-row.row in
     let inv = c.loop-row.invariant in
-    let times : Ride → List (Option ℕ) = λ (ride : Ride). map (travel_by Back c.args.roads.now ride.from) nodes in
+    let times : Ride → List (Option ℕ) = λ (ride : Ride). map (travel_by Back roads ride.from) nodes in
     let cells : Ride → List (Option ℕ) = λ (ride : Ride). map (within reach) (times ride) in
     let ride : Ride = get_or requests row no_ride in
     let one : length (cells ride) ≡ c.loop-row.grid.columns
-    = length-map (times ride) (within reach) ∙ length-map nodes (travel_by Back c.args.roads.now ride.from)
+    = length-map (times ride) (within reach) ∙ length-map nodes (travel_by Back roads ride.from)
     ∙ c.requires.columns ∙ sym inv.columns in
+    let found : c.row.new.into ≡ times ride
+    = c.row.ensures.row ∙ ap (λ (m : RoadMap). map (travel_by Back m ride.from) nodes) inv.times in
     let more = rows-more cells requests row c.loop-row.grid.columns no_ride c.loop-row-test.true one inv.sized in
-    let filled : BeginsWith (cells_of c.args.roads.now reach (take row requests) nodes ++ map (within reach) c.rows.new.into) c.fill_row.new.grid
-    = c.fill_row.ensures.filled (cells_of c.args.roads.now reach (take row requests) nodes) inv.sized inv.filled in
+    let filled : BeginsWith (cells_of roads reach (take row requests) nodes ++ map (within reach) c.row.new.into) c.fill_row.new.grid
+    = c.fill_row.ensures.filled (cells_of roads reach (take row requests) nodes) inv.sized inv.filled in
     record {
       rows = c.fill_row.ensures.rows_stay ∙ inv.rows;
       columns = c.fill_row.ensures.columns_stay ∙ inv.columns;
-      places = ap length c.rows.ensures.row ∙ length-map nodes (travel_by Back c.args.roads.now ride.from);
+      places = ap length found ∙ length-map nodes (travel_by Back roads ride.from);
       sized = more.1 ∙ ap (λ n. (row + 1) * n) (sym c.fill_row.ensures.columns_stay);
       filled = subst (λ written. BeginsWith written c.fill_row.new.grid)
-          (ap (λ ts. cells_of c.args.roads.now reach (take row requests) nodes ++ map (within reach) ts) c.rows.ensures.row ∙ sym more.0) filled;
-      scratch = c.rows.ensures.scratch ∙ inv.scratch;
+          (ap (λ ts. cells_of roads reach (take row requests) nodes ++ map (within reach) ts) found ∙ sym more.0) filled;
+      times = c.row.ensures.kept ∙ inv.times;
     }
 
 pub returns-clause-filled : goal.returns-clause-filled
@@ -47,6 +51,6 @@ returns-clause-filled c =
     let ended : c.loop-row.row ≡ length requests = omega (arith, c.loop-row-test.false, c.loop-row.auto) in
     let count : c.loop-row.row * c.loop-row.grid.columns ≡ c.loop-row.grid.rows * c.loop-row.grid.columns
     = ap (λ n. n * c.loop-row.grid.columns) (ended ∙ c.requires.rows ∙ sym inv.rows) in
-    begins-all (cells_of c.args.roads.now c.args.reach (take c.loop-row.row requests) c.args.nodes.now) c.loop-row.grid inv.filled
+    begins-all (cells_of c.args.times.now c.args.reach (take c.loop-row.row requests) c.args.towards.now.wanted) c.loop-row.grid inv.filled
     (inv.sized ∙ count)
-    ∙ ap (λ rides. cells_of c.args.roads.now c.args.reach rides c.args.nodes.now) all
+    ∙ ap (λ rides. cells_of c.args.times.now c.args.reach rides c.args.towards.now.wanted) all

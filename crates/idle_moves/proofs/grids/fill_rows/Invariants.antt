@@ -8,8 +8,8 @@ abbrev pub invariant-loop-row : goal.invariant-loop-row
 invariant-loop-row l = record {
   rows : l.grid.rows ≡ l.initial.grid.rows;
   columns : l.grid.columns ≡ l.initial.grid.columns;
-  places : length l.times ≡ length l.nodes;
-  sized : length (cells_of l.roads l.reach (take l.row l.requests) l.nodes) ≡ l.row * l.grid.columns;
-  filled : BeginsWith (cells_of l.roads l.reach (take l.row l.requests) l.nodes) l.grid;
-  scratch : l.scratch ≡ l.initial.scratch;
+  places : length l.row_times ≡ length l.towards.wanted;
+  sized : length (cells_of l.initial.times l.reach (take l.row l.requests) l.towards.wanted) ≡ l.row * l.grid.columns;
+  filled : BeginsWith (cells_of l.initial.times l.reach (take l.row l.requests) l.towards.wanted) l.grid;
+  times : l.times ≡ l.initial.times;
 }

@@ -1,6 +1,7 @@
 use Rattle.std.proofs.Common.{[], length, sym, ap, subst, ◌∙◌}
 use Rattle.dual_check.specs.Cells.{GridCells}
 use Rattle.idle_moves.specs.Filling.{BeginsWith}
+use Rattle.idle_moves.specs.Standby.{cells_of}
 use Rattle.idle_moves.proofs.Filled.{begins-empty}
 use Rattle.idle_moves.proofs.grids.times_grid.Goals as goal
 
@@ -12,4 +13,6 @@ pub returns-clause-grid : goal.returns-clause-grid
 returns-clause-grid c =
     let rows = c.fill_rows.ensures.rows_stay ∙ ap (λ (g : GridCells). g.rows) c.in_ok-grid.ensures in
     let columns = c.fill_rows.ensures.columns_stay ∙ ap (λ (g : GridCells). g.columns) c.in_ok-grid.ensures in
-    λ i. record { rows = rows i; columns = columns i; cells = c.fill_rows.ensures.filled i }
+    let cells = c.fill_rows.ensures.filled
+    ∙ (λ i. cells_of (c.look.ensures i) c.args.reach c.args.requests.now (c.towards-towards.ensures.wanted i)) in
+    λ i. record { rows = rows i; columns = columns i; cells = cells i }

@@ -43,13 +43,13 @@ plan_over-requires-clause-few_vehicles c =
 
 pub plan_over-requires-clause-pickups : goal.plan_over-requires-clause-pickups
 plan_over-requires-clause-pickups c =
-    subst (All (λ (ride : Ride). IsNode c.args.roads.now ride.from)) (sym (rides-found c))
+    subst (All (λ (ride : Ride). IsNode c.args.times.now ride.from)) (sym (rides-found c))
     (All-filter (λ (ride : Ride). not (has_seat c.args.answer.now.seating ride.id))
-    (λ (ride : Ride). IsNode c.args.roads.now ride.from) c.args.batch.now.requests c.requires.pickups)
+    (λ (ride : Ride). IsNode c.args.times.now ride.from) c.args.batch.now.requests c.requires.pickups)
 
 pub plan_over-requires-clause-stands : goal.plan_over-requires-clause-stands
 plan_over-requires-clause-stands c =
-    stand-at c.args.roads.now c.args.batch.now.vehicles c.as_slice-2.result.now (stands_by c.args.answer.now.seating) (vehicles-found c)
+    stand-at c.args.times.now c.args.batch.now.vehicles c.as_slice-2.result.now (stands_by c.args.answer.now.seating) (vehicles-found c)
     c.requires.stands
 
 pub returns-clause-sheet : goal.returns-clause-sheet
@@ -61,7 +61,7 @@ returns-clause-sheet c =
     let vehicles = standing-found batch seats c.items-seats.result.now c.vehicles-copies.result.now c.as_slice-2.result.now
     c.in_ok-vehicles.vehicles.items c.as_slice-2.ensures.value c.in_ok-vehicles.ensures c.items-seats.ensures
     (c.vehicles-copies.ensures.items ∙ c.vehicles.ensures) in
-    of-batch c.args.roads.now batch seats c.args.reach c.plan_over.result
+    of-batch c.args.times.now batch seats c.args.reach c.plan_over.result
     (subst (λ n. IfOk c.plan_over.result (λ sheet. sheet.batch ≡ n)) c.number.ensures c.plan_over.ensures.number)
-    (subst (λ rs. IfOk c.plan_over.result (IsSheetOver c.args.roads.now c.args.reach rs (standing_by batch seats))) rides
+    (subst (λ rs. IfOk c.plan_over.result (IsSheetOver c.args.times.now c.args.reach rs (standing_by batch seats))) rides
     (c.plan_over.ensures.sheet (standing_by batch seats) vehicles))

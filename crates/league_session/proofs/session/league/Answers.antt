@@ -1,10 +1,11 @@
 use Rattle.std.proofs.Common.{[], sym, ap, subst, ◌∙◌}
 use Rattle.ride_ports.specs.declared.outcome.Ran.{Ran}
+use Rattle.ride_ports.specs.Count.{KeepsCount}
 use Rattle.ride_ports.proofs.ByteLemmas.{Reads-none}
+use Rattle.ride_ports.proofs.Counts.{KeepsCount-none}
 use Rattle.line_reader.specs.FeedRuns.{IsReadWhole, IsUnhindered, ran_of}
 use Rattle.line_reader.proofs.FeedLines.{are-taken, run-still, short-enough}
 use Rattle.command_lines.specs.Limits.{feed_limits}
-use Rattle.text_page.proofs.OutputLemmas.{rose-where-failed, same-where-sound}
 use Rattle.league_session.specs.League.{LeagueState}
 use Rattle.league_session.specs.Leagued.{IsLeagueText, IsLeagued}
 use Rattle.league_session.specs.LeagueRuns.{ended_text}
@@ -49,28 +50,24 @@ returns-clause-short_enough g c =
     let (taken, reads, leagued) = returns-clause-session g c in
     short-enough feed_limits (g.S.Source.left c.args.feed.now) _ taken _ reads leagued.too_long
 
-pub returns-clause-source_fault : goal.returns-clause-source_fault
-returns-clause-source_fault g c fell = c.run_feed-stop.ensures.fault (sym (ap (λ (r : Ran). r.source_failed) c.ran_of-2.ensures) ∙ fell)
+pub returns-clause-source_faults : goal.returns-clause-source_faults
+returns-clause-source_faults g c =
+    subst (λ (r : Ran). KeepsCount r.source_failed (g.S.Source.faults c.args.feed.now) (g.S.Source.faults c.run_feed-stop.new.feed)) (sym c.ran_of-2.ensures)
+    c.run_feed-stop.ensures.faults
 
-pub returns-clause-source_counts_none : goal.returns-clause-source_counts_none
-returns-clause-source_counts_none g c stood =
-    c.run_feed-stop.ensures.other_counts_none (sym (ap (λ (r : Ran). r.source_failed) c.ran_of-2.ensures) ∙ stood)
-
-pub returns-clause-sink_fault : goal.returns-clause-sink_fault
-returns-clause-sink_fault g c fell =
+pub returns-clause-sink_faults : goal.returns-clause-sink_faults
+returns-clause-sink_faults g c =
     let (taken, lines, text, run, is_text, put) = c.run_feed-stop.ensures.ran in
-    rose-where-failed _ _ _ _ c.end.new.self.output _
-    (c.end.ensures.put (g.K.Sink.written c.args.out.now) (g.K.Sink.faults c.args.out.now) (ended_text c.run_feed-stop.result text) put)
-    (sym (ap (λ (r : Ran). r.sink_failed) c.ran_of-2.ensures ∙ c.failed.ensures) ∙ fell)
+    subst (λ (r : Ran). KeepsCount r.sink_failed (g.K.Sink.faults c.args.out.now) (g.K.Sink.faults c.end.new.out))
+    (sym (c.ran_of-2.ensures ∙ ap (ran_of c.run_feed-stop.result) c.failed.ensures))
+    (c.end.ensures.put (g.K.Sink.written c.args.out.now) (g.K.Sink.faults c.args.out.now) (ended_text c.run_feed-stop.result text) put).faults
 
-pub returns-clause-sink_counts_none : goal.returns-clause-sink_counts_none
-returns-clause-sink_counts_none g c stood =
-    let (taken, lines, text, run, is_text, put) = c.run_feed-stop.ensures.ran in
-    same-where-sound _ _ _ _ c.end.new.self.output _
-    (c.end.ensures.put (g.K.Sink.written c.args.out.now) (g.K.Sink.faults c.args.out.now) (ended_text c.run_feed-stop.result text) put)
-    (sym (ap (λ (r : Ran). r.sink_failed) c.ran_of-2.ensures ∙ c.failed.ensures) ∙ stood)
+pub returns-in_default-clause-source_faults : goal.returns-in_default-clause-source_faults
+returns-in_default-clause-source_faults g c =
+    subst (λ (r : Ran). KeepsCount r.source_failed (g.S.Source.faults c.args.feed.now) (g.S.Source.faults c.args.feed.now)) (sym c.ran_of.ensures)
+    (KeepsCount-none (g.S.Source.faults c.args.feed.now))
 
-pub returns-clause-sink_never_falls : goal.returns-clause-sink_never_falls
-returns-clause-sink_never_falls g c =
-    let (taken, lines, text, run, is_text, put) = c.run_feed-stop.ensures.ran in
-    (c.end.ensures.put (g.K.Sink.written c.args.out.now) (g.K.Sink.faults c.args.out.now) (ended_text c.run_feed-stop.result text) put).never_falls
+pub returns-in_default-clause-sink_faults : goal.returns-in_default-clause-sink_faults
+returns-in_default-clause-sink_faults g c =
+    subst (λ (r : Ran). KeepsCount r.sink_failed (g.K.Sink.faults c.args.out.now) (g.K.Sink.faults c.args.out.now)) (sym c.ran_of.ensures)
+    (KeepsCount-none (g.K.Sink.faults c.args.out.now))

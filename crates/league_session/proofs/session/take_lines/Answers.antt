@@ -1,6 +1,9 @@
 use Rattle.std.proofs.Common.{◌++◌, ◌∷◌, [], List, ℕ, Ok, Err, refl, sym, ap, subst, ◌∙◌}
+use Rattle.ride_ports.specs.Count.{KeepsCount}
+use Rattle.ride_ports.proofs.Counts.{KeepsCount-none, KeepsCount-then}
 use Rattle.line_text.specs.Lines.{ended_lines}
 use Rattle.line_reader.specs.declared.answers.NextLine.TheVariants.{Line, Unfinished, End}
+use Rattle.league_session.proofs.LeagueEnds.{fault-stops}
 use Rattle.line_reader.proofs.FeedLines.{between-none, follows, run-sink_failed}
 use Rattle.command_lines.specs.Limits.{feed_limits}
 use Rattle.league_session.specs.LeagueBoards.{league_of}
@@ -12,7 +15,7 @@ pub lines-init : goal.lines-init
 lines-init g c = record {
   limits = c.requires.limits;
   fits = c.requires.fits;
-  count = refl;
+  faults = KeepsCount-none (g.S.Source.faults c.args.feed.now);
   so_far = (
     [],
     between-none (g.S.Source.left c.args.feed.now) c.args.reader.now c.requires.nothing_given c.requires.nothing_pending,
@@ -150,7 +153,7 @@ lines-preserved g c =
     record {
       limits = c.next.ensures.limits ∙ c.lines.invariant.limits;
       fits = c.in-Ok.ensures.fits;
-      count = c.in-Ok-Line.ensures.other_counts_none (λ is. (cc is)) ∙ c.lines.invariant.count;
+      faults = KeepsCount-then c.lines.invariant.faults c.in-Ok-Line.ensures.faults;
       so_far = (
         bytes ++ line ++ 10 ∷ [],
         on,
@@ -159,3 +162,21 @@ lines-preserved g c =
             (sym lines_are) more,
       );
     }
+
+-- the source failed only where it gave the stop
+pub returns-in-Err-take_line-clause-faults : goal.returns-in-Err-take_line-clause-faults
+returns-in-Err-take_line-clause-faults g c = KeepsCount-then c.lines.invariant.faults c.in-Ok-Line.ensures.faults
+
+pub returns-in-Ok-take_line-clause-faults : goal.returns-in-Ok-take_line-clause-faults
+returns-in-Ok-take_line-clause-faults g c = KeepsCount-then c.lines.invariant.faults c.in-Ok-Unfinished.ensures.faults
+
+pub returns-in-Err-take_line-2-clause-faults : goal.returns-in-Err-take_line-2-clause-faults
+returns-in-Err-take_line-2-clause-faults g c = KeepsCount-then c.lines.invariant.faults c.in-Ok-Unfinished.ensures.faults
+
+pub returns-in-Ok-End-clause-faults : goal.returns-in-Ok-End-clause-faults
+returns-in-Ok-End-clause-faults g c = KeepsCount-then c.lines.invariant.faults c.in-Ok-End.ensures.faults
+
+pub returns-in-Err-clause-faults : goal.returns-in-Err-clause-faults
+returns-in-Err-clause-faults g c =
+    KeepsCount-then c.lines.invariant.faults
+    (fault-stops c.in-Err.stop (g.S.Source.faults c.lines.feed) (g.S.Source.faults c.next.new.source) c.in-Err.ensures.faults)

@@ -1,4 +1,4 @@
 use Rattle.league_trials.proofs.city_days.totals_of.Goals as goal
 
-pub audited-requires-clause-fleet : goal.audited-requires-clause-fleet
-audited-requires-clause-fleet g c κs within = c.half-half.ensures c.args.roads.now c.requires.fleet
+pub audited-requires-after_bounds : goal.audited-requires-after_bounds
+audited-requires-after_bounds g c κs within = c.half-half.ensures c.args.roads.now c.args.settings c.requires

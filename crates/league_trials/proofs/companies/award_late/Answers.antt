@@ -12,7 +12,7 @@ use Rattle.league_trials.proofs.companies.award_late.Goals as goal
 pub report-requires-clause-few : goal.report-requires-clause-few
 report-requires-clause-few g c = no-reports c.args.company.now.board.history c.requires.company.nothing_yet
 
-late : (g : given.Over) (c : goal.After-from_mut g) → MayAward c.report.new.self.board c.args.quote.now c.args.brief.now
+late : (g : given.Over) (c : goal.After-award-arg-2-1 g) → MayAward c.report.new.self.board c.args.quote.now c.args.brief.now
 late g c =
     let old : CompanyState = c.args.company.now in
     let board : Recorded = c.report.new.self.board in

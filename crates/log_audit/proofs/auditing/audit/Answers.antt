@@ -27,11 +27,8 @@ returns-in_err-head-clause-no_other g c = λ no_memory no_fault.
     let start : State = start_state c.args.roads.now c.args.settings c.args.fleet in
     let begins : IsStart start = record {
       map_fits = c.nodes-nodes.ensures.fits;
-      settings_fit = c.requires.settings;
+      may_start = c.requires.start;
       fleet_fits = c.vehicles-vehicles.ensures.is_fleet;
-      lawful = c.requires.lawful;
-      idle = c.requires.idle;
-      first_versions = c.requires.first_versions;
       nothing_yet = refl;
     } in
     only-answer before start c.from_residual-in_err-head.result begins
@@ -65,11 +62,8 @@ returns-in_default-clause-no_other g c = λ no_memory no_fault.
     let start : State = start_state c.args.roads.now c.args.settings c.args.fleet in
     let begins : IsStart start = record {
       map_fits = c.nodes-nodes.ensures.fits;
-      settings_fit = c.requires.settings;
+      may_start = c.requires.start;
       fleet_fits = c.vehicles-vehicles.ensures.is_fleet;
-      lawful = c.requires.lawful;
-      idle = c.requires.idle;
-      first_versions = c.requires.first_versions;
       nothing_yet = refl;
     } in
     only-answer before start _ begins
@@ -118,11 +112,8 @@ returns-clause-no_other g c = λ no_memory no_fault.
     let start : State = start_state c.args.roads.now c.args.settings c.args.fleet in
     let begins : IsStart start = record {
       map_fits = c.nodes-nodes.ensures.fits;
-      settings_fit = c.requires.settings;
+      may_start = c.requires.start;
       fleet_fits = c.vehicles-vehicles.ensures.is_fleet;
-      lawful = c.requires.lawful;
-      idle = c.requires.idle;
-      first_versions = c.requires.first_versions;
       nothing_yet = refl;
     } in
     let found = a-head before c.args.settings.log _ c.in_ok-head.field-0 c.in-Some.head c.in-Some.is

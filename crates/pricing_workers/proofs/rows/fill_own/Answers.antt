@@ -15,5 +15,4 @@ loop-place-preserved g c =
           c.fill.ensures.rows,
       rest-room (length roads.wanted) times place new c.loop-place.invariant.2,
       c.fill.ensures.scratch ∙ c.loop-place.invariant.3,
-      c.fill.ensures.room ∙ c.loop-place.invariant.4,
     )

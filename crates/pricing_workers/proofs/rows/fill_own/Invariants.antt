@@ -12,4 +12,3 @@ invariant-loop-place g l =
     → HoldsRows l.roads.roads (get_or l.requests r ride) l.roads.wanted (get_or l.times r own))
     × ((r : ℕ) (own : Times) → l.place ≤ r → r < length l.times → HasRows (length l.roads.wanted) (get_or l.times r own))
     × (l.scratch ≡ l.initial.scratch)
-    × (l.room ≡ l.initial.room)

@@ -2,7 +2,4 @@ use Rattle.std.proofs.Common.{◌≡◌}
 use Rattle.road_trials.proofs.adaptations.expect_nodes.Given as goal
 
 abbrev pub invariant-loop-node : goal.invariant-loop-node
-invariant-loop-node g l = record {
-  scratch : l.scratch ≡ l.fn.scratch;
-  room : l.room ≡ l.fn.room;
-}
+invariant-loop-node g l = l.scratch ≡ l.fn.scratch

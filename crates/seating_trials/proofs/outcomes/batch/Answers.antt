@@ -1,4 +1,4 @@
-use Rattle.std.proofs.Common.{sym, ap, ◌∙◌, subst, eqb, arith}
+use Rattle.std.proofs.Common.{sym, subst, eqb, arith}
 use Rattle.std.specs.List.{IsDistinct}
 use Rattle.ride_model.specs.Fleet.{IsFleet}
 use Rattle.ride_model.specs.Vehicle.{ride_ids}

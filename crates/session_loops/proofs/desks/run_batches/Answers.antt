@@ -1,7 +1,4 @@
-use Rattle.std.proofs.Common.{◌≡◌, ◌≤◌, List, length, ap, refl, sym, subst, ◌∙◌}
-use Rattle.std.specs.Prelude.{All}
-use Rattle.ride_model.specs.Road.{RoadMap}
-use Rattle.road_times.specs.Room.{Room}
+use Rattle.std.proofs.Common.{◌≡◌, ap, sym, ◌∙◌}
 use Rattle.board_core.specs.Recorded.{Recorded}
 use Rattle.turn_lock.specs.Passes.{knowledge}
 use Rattle.board_core.specs.declared.opening.Opening.TheVariants.{Idle}
@@ -20,9 +17,6 @@ batches-init g c = record {
   finite = tt;
   desk = c.requires.desk;
   roads = c.requires.roads;
-  kept = refl;
-  some_scratch = c.requires.some_scratch;
-  scratches = c.requires.scratches;
   ran = batches-none (knowledge c.args.pass.now);
 }
 
@@ -30,35 +24,26 @@ batches-init g c = record {
 pub batches-preserved-in-Ok-Batch : goal.batches-preserved-in-Ok-Batch
 batches-preserved-in-Ok-Batch g c =
     let before : Known = knowledge c.batches.pass in
-    let met : Known = knowledge c.meet.new.pass in
     let opened : Known = knowledge c.open_batch.new.pass in
     let after : Known = knowledge c.close_batch.new.pass in
-    let opens : OpensBatch met opened c.in-Ok-Batch.batch = rw c.in-Ok-Batch.field-0-is at c.in-Ok-Batch.ensures.opening in
+    let opens : OpensBatch before opened c.in-Ok-Batch.batch = rw c.in-Ok-Batch.field-0-is at c.in-Ok-Batch.ensures.opening in
     let closes = c.close_batch.ensures.closed in
     record {
       goes = tt;
       finite = tt;
       desk = c.close_batch.ensures.desk;
-      roads = ap (λ (r : Recorded). r.start.roads) (root-added opened after closes.entry closes.adds ∙ root-added met opened _ opens.entry
-          ∙ root-stays before met c.meet.ensures.none)
-          ∙ c.batches.invariant.roads ∙ sym (c.close_batch.ensures.pricer ∙ c.meet.ensures.pricer);
-      kept = c.close_batch.ensures.scratches ∙ c.batches.invariant.kept;
-      some_scratch = subst (λ (s : List Room). 1 ≤ length s) (sym c.close_batch.ensures.scratches) c.batches.invariant.some_scratch;
-      scratches = subst (λ (roads : RoadMap). All (λ (scratch : Room). scratch.nodes ≡ roads.nodes) c.close_batch.new.scratches)
-          (sym (c.close_batch.ensures.pricer ∙ c.meet.ensures.pricer))
-          (subst (λ (s : List Room). All (λ (scratch : Room). scratch.nodes ≡ c.batches.pricer.nodes) s)
-          (sym c.close_batch.ensures.scratches) c.batches.invariant.scratches);
-      ran = batch-then c.batches.no_memory c.close_batch.result (knowledge c.args.pass.now) met opened after c.in-Ok-Batch.batch
-          (batches-same c.batches.no_memory (knowledge c.args.pass.now) before met c.batches.invariant.ran c.meet.ensures.none) opens closes;
+      roads = ap (λ (r : Recorded). r.start.roads) (root-added opened after closes.entry closes.adds ∙ root-added before opened _ opens.entry)
+          ∙ c.batches.invariant.roads ∙ sym c.close_batch.ensures.pricer;
+      ran = batch-then c.batches.no_memory c.close_batch.result (knowledge c.args.pass.now) before opened after c.in-Ok-Batch.batch
+          c.batches.invariant.ran opens closes;
     }
 
 -- none was opened
 pub batches-preserved : goal.batches-preserved
 batches-preserved g c =
     let before : Known = knowledge c.batches.pass in
-    let met : Known = knowledge c.meet.new.pass in
     let looked : Known = knowledge c.open_batch.new.pass in
-    let none : OpensNone met looked Idle = rw c.in-Ok-Idle.field-0-is at c.in-Ok-Idle.ensures.opening in
+    let none : OpensNone before looked Idle = rw c.in-Ok-Idle.field-0-is at c.in-Ok-Idle.ensures.opening in
     record {
       goes = tt;
       finite = tt;
@@ -68,24 +53,17 @@ batches-preserved g c =
         desk = c.open_batch.ensures.desk;
         none_open = none.none_open;
       };
-      roads = ap (λ (r : Recorded). r.start.roads) (root-stays met looked none.none ∙ root-stays before met c.meet.ensures.none)
-          ∙ c.batches.invariant.roads ∙ sym c.meet.ensures.pricer;
-      kept = c.batches.invariant.kept;
-      some_scratch = c.batches.invariant.some_scratch;
-      scratches = subst (λ (roads : RoadMap). All (λ (scratch : Room). scratch.nodes ≡ roads.nodes) c.batches.scratches)
-          (sym c.meet.ensures.pricer) c.batches.invariant.scratches;
-      ran = batches-same c.batches.no_memory (knowledge c.args.pass.now) met looked
-          (batches-same c.batches.no_memory (knowledge c.args.pass.now) before met c.batches.invariant.ran c.meet.ensures.none) none.none;
+      roads = ap (λ (r : Recorded). r.start.roads) (root-stays before looked none.none) ∙ c.batches.invariant.roads;
+      ran = batches-same c.batches.no_memory (knowledge c.args.pass.now) before looked c.batches.invariant.ran none.none;
     }
 
 pub returns-in-Ok-Ended-clause-may_end : goal.returns-in-Ok-Ended-clause-may_end
 returns-in-Ok-Ended-clause-may_end g c =
-    desk-may_end (knowledge c.meet.new.pass) (knowledge c.open_batch.new.pass) c.open_batch.ensures.point c.open_batch.ensures.desk
+    desk-may_end (knowledge c.batches.pass) (knowledge c.open_batch.new.pass) c.open_batch.ensures.point c.open_batch.ensures.desk
     (rw c.in-Ok-Ended.field-0-is at c.in-Ok-Ended.ensures.opening)
 
 pub returns-in-Err-clause-ran : goal.returns-in-Err-clause-ran
 returns-in-Err-clause-ran g c =
     batches-wanting c.batches.no_memory (knowledge c.args.pass.now) (knowledge c.open_batch.new.pass)
-    (batches-same c.batches.no_memory (knowledge c.args.pass.now) (knowledge c.meet.new.pass) (knowledge c.open_batch.new.pass)
-    (batches-same c.batches.no_memory (knowledge c.args.pass.now) (knowledge c.batches.pass) (knowledge c.meet.new.pass) c.batches.invariant.ran
-    c.meet.ensures.none) c.in-Err.ensures.no_memory)
+    (batches-same c.batches.no_memory (knowledge c.args.pass.now) (knowledge c.batches.pass) (knowledge c.open_batch.new.pass)
+    c.batches.invariant.ran c.in-Err.ensures.no_memory)

@@ -1,6 +1,4 @@
-use Rattle.std.proofs.Common.{◌≡◌, ◌≤◌, length}
-use Rattle.std.specs.Prelude.{All}
-use Rattle.road_times.specs.Room.{Room}
+use Rattle.std.proofs.Common.{◌≡◌}
 use Rattle.turn_lock.specs.Passes.{knowledge}
 use Rattle.fleet_board.specs.Passes.{root_of}
 use Rattle.fleet_board.specs.Roles.{MayOpen}
@@ -14,8 +12,5 @@ invariant-batches g l = record {
   finite : (goal.iterator-batches g).is_finite l.iterator';
   desk : MayOpen l.board l.pass;
   roads : (root_of (knowledge l.pass)).start.roads ≡ l.pricer;
-  kept : l.scratches ≡ l.initial.scratches;
-  some_scratch : 1 ≤ length l.scratches;
-  scratches : All (λ (scratch : Room). scratch.nodes ≡ l.pricer.nodes) l.scratches;
   ran : HasRunBatches l.no_memory (knowledge l.initial.pass) (knowledge l.pass);
 }

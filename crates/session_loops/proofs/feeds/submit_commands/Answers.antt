@@ -1,12 +1,13 @@
 use Rattle.std.proofs.Common.{ℕ, ◌++◌, ◌∷◌, [], List, Option, Some, None, refl, ap, sym, subst, ◌∙◌, arith}
 use Rattle.ride_model.specs.declared.command.Command.{Command}
 use Rattle.ride_ports.proofs.ByteLemmas.{Reads-then}
+use Rattle.ride_ports.proofs.Counts.{KeepsCount-none, KeepsCount-then}
 use Rattle.command_lines.specs.Feeds.{IsStopped, IsWhole}
 use Rattle.board_core.specs.Recorded.{Recorded}
 use Rattle.turn_lock.specs.Passes.{knowledge}
 use Rattle.fleet_board.specs.Passes.{Known}
-use Rattle.session_loops.specs.declared.stops.Stop.TheVariants.{NoMemory, OfFeed}
-use Rattle.session_loops.proofs.FeedEnds.{answered-same, fed-more, few-more, fewer-left, nothing-fed, submitted}
+use Rattle.line_reader.specs.declared.stops.Stop.TheVariants.{NoMemory, OfFeed}
+use Rattle.session_loops.proofs.FeedEnds.{answered-same, fault-stops, fed-more, few-more, fewer-left, nothing-fed, submitted}
 use Rattle.session_loops.proofs.FeedRuns.{fewer-first, given-first-of, stopped-first-of, whole-first-of}
 use Rattle.session_loops.proofs.MadeEntries.{root-added}
 use Rattle.session_loops.proofs.feeds.submit_commands.Goals as goal
@@ -16,7 +17,7 @@ commands-init g c = record {
   feed = c.requires.feed;
   log = c.requires.version;
   version = refl;
-  count = refl;
+  faults = KeepsCount-none (g.S.Source.faults c.args.source.now);
   so_far = nothing-fed c.args.reader.now (g.S.Source.left c.args.source.now) (knowledge c.args.pass.now) c.requires.nothing_given;
 }
 
@@ -38,7 +39,7 @@ commands-preserved g c =
       log = c.next_command.ensures.log ∙ c.commands.invariant.log
           ∙ ap (λ (r : Recorded). r.start.settings.log) (sym (root-added before after _ adds.adds));
       version = c.next_command.ensures.log ∙ c.commands.invariant.version;
-      count = c.in-Ok-Some.ensures.other_counts_none (λ is. absurd (cc is)) ∙ c.commands.invariant.count;
+      faults = KeepsCount-then c.commands.invariant.faults c.in-Ok-Some.ensures.faults;
       so_far = fed-more c.commands.reader c.next_command.new.self (g.S.Source.left c.args.source.now) (g.S.Source.left c.commands.source)
           (g.S.Source.left c.next_command.new.source) (knowledge c.args.pass.now) before after c.in-Ok-Some.command more so_far reads_more
           (step so_far.commands so_far.taken so_far.given) adds;
@@ -102,3 +103,15 @@ returns-in-Err-clause-submitted g c =
     submitted log feed left (Some (OfFeed c.in-Err.stop)) (knowledge c.args.pass.now) (knowledge c.commands.pass) (so_far.taken ++ more) so_far.answers
     so_far.commands so_far.answered (Reads-then so_far.reads reads_more)
     (stopped-first-of log feed left c.in-Err.stop so_far.commands (so_far.taken ++ more) (Reads-then so_far.reads reads_more) stopped) stopped
+
+-- the source failed only where it gave the stop
+pub returns-in-Err-submit-clause-faults : goal.returns-in-Err-submit-clause-faults
+returns-in-Err-submit-clause-faults g c = KeepsCount-then c.commands.invariant.faults c.in-Ok-Some.ensures.faults
+
+pub returns-in-Ok-None-clause-faults : goal.returns-in-Ok-None-clause-faults
+returns-in-Ok-None-clause-faults g c = KeepsCount-then c.commands.invariant.faults c.in-Ok-None.ensures.faults
+
+pub returns-in-Err-clause-faults : goal.returns-in-Err-clause-faults
+returns-in-Err-clause-faults g c =
+    KeepsCount-then c.commands.invariant.faults
+    (fault-stops c.in-Err.stop (g.S.Source.faults c.commands.source) (g.S.Source.faults c.next_command.new.source) c.in-Err.ensures.faults)

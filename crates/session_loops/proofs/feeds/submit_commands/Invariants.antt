@@ -1,4 +1,5 @@
-use Rattle.std.proofs.Common.{◌≡◌, ◌+◌, ◌-◌, length}
+use Rattle.std.proofs.Common.{◌≡◌, ◌+◌, ◌-◌, false, length}
+use Rattle.ride_ports.specs.Count.{KeepsCount}
 use Rattle.turn_lock.specs.Passes.{knowledge}
 use Rattle.fleet_board.specs.Passes.{commands_in, root_of}
 use Rattle.fleet_board.specs.Roles.{MayFeed}
@@ -11,7 +12,7 @@ invariant-commands g l = record {
   feed : MayFeed l.board l.pass;
   log : l.reader.log ≡ (root_of (knowledge l.pass)).start.settings.log;
   version : l.reader.log ≡ l.initial.reader.log;
-  count : g.S.Source.faults l.source ≡ g.S.Source.faults l.initial.source;
+  faults : KeepsCount false (g.S.Source.faults l.initial.source) (g.S.Source.faults l.source);
   so_far : HasFedSoFar l.reader (g.S.Source.left l.initial.source) (g.S.Source.left l.source) (knowledge l.initial.pass) (knowledge l.pass);
 }
 

@@ -13,5 +13,4 @@ returns g c before faults earlier has =
     let stands : c.end.new.self.failed ≡ false = sym c.if-failed.ensures in
     let printed = c.print_end-printed.ensures in
     printed-out c.print_end-printed.result before _ _ faults _ _ c.end.new.self c.note.new.self earlier (last_line c.args.ending) stands
-    (c.end.ensures.nothing_left stands) c.note.ensures printed.whole printed.prefix printed.failed_only_at_fault printed.ok_counts_none
-    printed.count_never_falls (c.end.ensures.put before faults earlier has)
+    (c.end.ensures.nothing_left stands) c.note.ensures printed.whole printed.prefix printed.faults (c.end.ensures.put before faults earlier has)

@@ -9,5 +9,5 @@ returns-clause-logged g c =
     let fresh = c.requires.fresh in
     let printed = c.print_head-printed.ensures in
     printed-out c.print_head-printed.result _ _ _ _ _ _ c.args.output.now c.note.new.self [] (head_line c.args.log c.args.feeds c.args.desks)
-    fresh.stands fresh.bare c.note.ensures printed.whole printed.prefix printed.failed_only_at_fault printed.ok_counts_none printed.count_never_falls
+    fresh.stands fresh.bare c.note.ensures printed.whole printed.prefix printed.faults
     (put-nothing (g.K.Sink.written c.args.out.now) (g.K.Sink.faults c.args.out.now) c.args.output.now fresh)

@@ -4,7 +4,6 @@ use Rattle.std.proofs.lemmas.Bool.{eqb-true}
 use Rattle.ride_model.specs.declared.entry.Entry.{Entry}
 use Rattle.ride_model.specs.Text.{entry_lines}
 use Rattle.turn_lock.specs.Passes.{knowledge}
-use Rattle.text_page.proofs.OutputLemmas.{rose-where-failed, same-where-sound}
 use Rattle.session_loops.proofs.Scribing.{cut-short, has-scribed, has-scribed-some, looks-of, never_whole, next-lines, next-within, none-next, scribing-on, scribing-still, scribing-told}
 use Rattle.session_loops.proofs.scribes.scribe_loop.Goals as goal
 use Rattle.fleet_board.proofs.Looking.{adds_none-then}
@@ -48,9 +47,7 @@ returns-then-failed g c =
       written = tt;
       whole = tt;
       prefix = has-scribed-some _ _ _ _ _ _ _ _ fell told;
-      sink_fault = rose-where-failed _ _ _ _ _ _ told fell;
-      sink_counts_none = tt;
-      sink_never_falls = told.never_falls;
+      sink_faults = rw fell at told.faults;
     }
 
 pub returns-then-tail : goal.returns-then-tail
@@ -77,9 +74,7 @@ returns-then-tail g c =
         sym c.in-Ok-next_tail.ensures.settled ∙ c.if-tail.true,
       );
       prefix = tt;
-      sink_fault = tt;
-      sink_counts_none = same-where-sound _ _ _ _ _ _ told stands;
-      sink_never_falls = told.never_falls;
+      sink_faults = rw stands at told.faults;
     }
 
 pub returns-in_default-next_tail : goal.returns-in_default-next_tail
@@ -100,7 +95,5 @@ returns-in_default-next_tail g c =
       written = cut.written;
       whole = never_whole c.written_out.result _ cut.not_whole;
       prefix = cut.prefix;
-      sink_fault = cut.fault;
-      sink_counts_none = cut.counts_none;
-      sink_never_falls = has.never_falls;
+      sink_faults = cut.faults_kept;
     }

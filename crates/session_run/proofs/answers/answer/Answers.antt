@@ -14,11 +14,10 @@ pub run_batch-requires-clause-asked : goal.run_batch-requires-clause-asked
 run_batch-requires-clause-asked g c κs a =
     let accepted : is_asked c.in_ok-reply.reply ≡ true =
     elim c.match-matches.branch [ in-Asked w ↦ ap is_asked w.in-Asked.is | in_default w ↦ absurd (cc (sym w.matches-is ∙ c.if-matches.true)) ] in
-    subst IsAsked (sym c.meet.ensures.board)
-    (asks c.args.board.now c.apply.new.self c.args.command.now c.requires.session
+    asks c.args.board.now c.apply.new.self c.args.command.now c.requires.session
     (ap (λ (b : Recorded). b.start) c.apply.ensures.others) (ap (λ (b : Recorded). b.feeds) c.apply.ensures.others)
     (ap (λ (b : Recorded). b.desks) c.apply.ensures.others) c.in_ok-reply.ensures.entry (ap is_asked (sym c.in_ok-reply.ensures.reply) ∙ accepted)
-    c.requires.all_opened)
+    c.requires.all_opened
 
 pub returns-clause-answered : goal.returns-clause-answered
 returns-clause-answered g c =
@@ -39,14 +38,12 @@ returns-then-matches-clause-answered g c =
     (ap (λ (b : Recorded). b.start) c.apply.ensures.others) (ap (λ (b : Recorded). b.feeds) c.apply.ensures.others)
     (ap (λ (b : Recorded). b.desks) c.apply.ensures.others) c.in_ok-reply.ensures.entry (is_whole answered) c.run_batch.new.board
     (ap is_asked (sym c.in_ok-reply.ensures.reply) ∙ accepted) ran)
-    (subst (λ (b : Recorded). IfOk c.run_batch.result (λ answered. RunsBatch (is_whole answered) b c.run_batch.new.board)) c.meet.ensures.board
-    c.run_batch.ensures.ran)
+    c.run_batch.ensures.ran
 
 pub returns-then-matches-clause-stopped : goal.returns-then-matches-clause-stopped
 returns-then-matches-clause-stopped g c =
     on_err_weaker c.run_batch.result
-    (λ (same : c.run_batch.new.board ≡ c.meet.new.board). subst (λ (b : Recorded). Stops c.args.command.now c.args.board.now b)
-    (sym (same ∙ c.meet.ensures.board))
+    (λ (same : c.run_batch.new.board ≡ c.apply.new.self). subst (λ (b : Recorded). Stops c.args.command.now c.args.board.now b) (sym same)
     (asks-stops c.args.board.now c.apply.new.self c.args.command.now c.requires.session
     (ap (λ (b : Recorded). b.start) c.apply.ensures.others) (ap (λ (b : Recorded). b.feeds) c.apply.ensures.others)
     (ap (λ (b : Recorded). b.desks) c.apply.ensures.others) c.in_ok-reply.ensures.entry))
@@ -72,5 +69,4 @@ returns-then-matches-clause-sheets g c =
     (adds-none r c.args.board.now c.apply.new.self (fed_entry (state_of c.args.board.now) 1 c.args.command.now)
     (ap (λ (b : Recorded). b.start) c.apply.ensures.others) c.in_ok-reply.ensures.entry (λ before. refl))
     (more whole r given))
-    (subst (λ (b : Recorded). IfOk c.run_batch.result (λ answered. is_whole answered ≡ true
-    → (r : ℕ) → c.args.reach ≡ Some r → AddsSheets r (sheets_in answered) b c.run_batch.new.board)) c.meet.ensures.board c.run_batch.ensures.sheets)
+    c.run_batch.ensures.sheets

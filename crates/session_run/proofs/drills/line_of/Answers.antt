@@ -20,7 +20,7 @@ pub returns : goal.returns
 returns g c =
     let plan = c.args.plan.now in
     let start : c.in_ok-board.board.start ≡ start_of plan =
-    c.in_ok-board.ensures.start ∙ ap (λ roads. start_state roads c.in_ok-network.field-0.settings c.in_ok-network.field-0.fleet) (c.roads.ensures ∙ c.new-roads.ensures ∙ c.in_ok-roads.ensures ∙ c.in_ok-network.ensures.network)
+    c.in_ok-board.ensures.start ∙ ap (λ roads. start_state roads c.in_ok-network.field-0.settings c.in_ok-network.field-0.fleet) (c.in_ok-roads.ensures ∙ c.in_ok-network.ensures.network)
     ∙ ap (λ settings. start_state (network_of plan) settings c.in_ok-network.field-0.fleet) c.in_ok-network.ensures.settings
     ∙ ap (start_state (network_of plan) default_settings) c.in_ok-network.ensures.fleet in
     IfOk-weaker c.summary_of.result _ _

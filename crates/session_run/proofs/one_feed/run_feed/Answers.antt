@@ -1,9 +1,11 @@
-use Rattle.std.proofs.Common.{◌≡◌, ℕ, ◌++◌, ◌∷◌, [], List, Option, length, ap, sym, subst, ◌∙◌, arith, length-append}
+use Rattle.std.proofs.Common.{◌≡◌, ℕ, ◌++◌, ◌∷◌, [], List, Option, length, refl, ap, sym, subst, ◌∙◌, arith, length-append}
 use Rattle.ride_model.specs.declared.command.Command.{Command}
 use Rattle.ride_model.specs.History.{fed_commands}
-use Rattle.ride_ports.proofs.ByteLemmas.{Reads-then}
+use Rattle.ride_ports.proofs.ByteLemmas.{Reads-none, Reads-then}
+use Rattle.ride_ports.proofs.Counts.{KeepsCount-none, KeepsCount-then}
 use Rattle.command_lines.specs.Feeds.{HasGiven, IsStopped, IsWhole}
 use Rattle.command_lines.proofs.ReaderLemmas.{given-few}
+use Rattle.session_loops.proofs.FeedEnds.{fault-stops}
 use Rattle.session_loops.proofs.FeedRuns.{fewer-first, given-first-of, stopped-first-of, whole-first-of}
 use Rattle.session_run.proofs.Answering.{stops-first}
 use Rattle.session_run.proofs.one_feed.run_feed.Goals as goal
@@ -24,7 +26,7 @@ commands-preserved g c =
       start = c.take_command.ensures.start ∙ c.commands.invariant.start;
       reach = c.take_command.ensures.reach ∙ c.commands.invariant.reach;
       version = c.next_command.ensures.log ∙ c.commands.invariant.version;
-      count = c.in-Ok-Some.ensures.other_counts_none (λ is. absurd (cc is)) ∙ c.commands.invariant.count;
+      faults = KeepsCount-then c.commands.invariant.faults c.in-Ok-Some.ensures.faults;
       given = (
         taken ++ more,
         Reads-then reads reads_more,
@@ -99,3 +101,26 @@ returns-in-Ok-None-clause-ran g c =
       first = whole-first-of log (g.S.Source.left c.args.feed.now) left fed (taken ++ more) (Reads-then reads reads_more) whole;
       ended = (c.commands.invariant.running, whole);
     }
+
+-- the source failed only where it gave the stop
+pub commands-init : goal.commands-init
+commands-init g c = record {
+  running = c.requires.running;
+  start = refl;
+  reach = refl;
+  version = c.requires.version;
+  faults = KeepsCount-none (g.S.Source.faults c.args.feed.now);
+  given = ([], Reads-none (g.S.Source.left c.args.feed.now), c.requires.nothing_given);
+  told = λ earlier faults has. has;
+}
+
+pub returns-in-Err-take_command-clause-faults : goal.returns-in-Err-take_command-clause-faults
+returns-in-Err-take_command-clause-faults g c = KeepsCount-then c.commands.invariant.faults c.in-Ok-Some.ensures.faults
+
+pub returns-in-Ok-None-clause-faults : goal.returns-in-Ok-None-clause-faults
+returns-in-Ok-None-clause-faults g c = KeepsCount-then c.commands.invariant.faults c.in-Ok-None.ensures.faults
+
+pub returns-in-Err-clause-faults : goal.returns-in-Err-clause-faults
+returns-in-Err-clause-faults g c =
+    KeepsCount-then c.commands.invariant.faults
+    (fault-stops c.in-Err.stop (g.S.Source.faults c.commands.feed) (g.S.Source.faults c.next_command.new.source) c.in-Err.ensures.faults)

@@ -1,6 +1,7 @@
-use Rattle.std.proofs.Common.{◌≡◌, ℕ, ◌-◌, List, Option, length}
+use Rattle.std.proofs.Common.{◌≡◌, ℕ, ◌-◌, false, List, Option, length}
 use Rattle.ride_model.specs.History.{fed_commands}
 use Rattle.ride_ports.specs.Bytes.{Reads}
+use Rattle.ride_ports.specs.Count.{KeepsCount}
 use Rattle.command_lines.specs.Feeds.{HasGiven}
 use Rattle.session_run.specs.Reading.{HasTold}
 use Rattle.session_run.specs.Running.{IsRunning}
@@ -13,7 +14,7 @@ invariant-commands g l = record {
   start : l.session.board.start ≡ l.initial.session.board.start;
   reach : l.session.reach ≡ l.initial.session.reach;
   version : l.reader.log ≡ l.initial.session.board.start.settings.log;
-  count : g.S.Source.faults l.feed ≡ g.S.Source.faults l.initial.feed;
+  faults : KeepsCount false (g.S.Source.faults l.initial.feed) (g.S.Source.faults l.feed);
   given : (taken : List ℕ) × Reads (g.S.Source.left l.initial.feed) (g.S.Source.left l.feed) taken
       × HasGiven l.reader (g.S.Source.left l.feed) (fed_commands 1 l.session.board.history) taken;
   told : (earlier : Option (List ℕ)) (faults : ℕ)

@@ -8,8 +8,9 @@ use Rattle.ride_model.specs.State.{State, start_state}
 use Rattle.ride_ports.specs.declared.outcome.Ran.{Ran}
 use Rattle.history_laws.specs.Start.{IsStart}
 use Rattle.board_core.specs.Recorded.{Recorded, state_of, end_entry}
-use Rattle.text_page.proofs.OutputLemmas.{rose-where-failed, same-where-sound}
-use Rattle.session_loops.specs.declared.stops.Stop.{Stop}
+use Rattle.ride_ports.specs.Count.{KeepsCount}
+use Rattle.ride_ports.proofs.Counts.{KeepsCount-none}
+use Rattle.line_reader.specs.declared.stops.Stop.{Stop}
 use Rattle.command_lines.specs.Feeds.{HasGiven}
 use Rattle.session_run.specs.SessionState.{SessionState}
 use Rattle.session_loops.specs.Stops.{AreFirstOf, ending_of}
@@ -25,9 +26,9 @@ returns-in_default-clause-session g c = (
   [],
   [],
   Reads-none (g.S.Source.left c.args.feed.now),
-  no-replay _ _ _ (is-start c.args.roads.now c.args.settings c.args.fleet c.nodes-nodes.ensures.fits c.requires.settings
-      c.vehicles-vehicles.ensures.is_fleet c.requires.lawful c.requires.idle c.requires.first_versions)
-      (record { log_version = (c.requires.settings.log_first, c.requires.settings.log_limit); feeds_number = (omega arith, omega arith); desks_number = (omega arith, omega arith); lines = λ k d below. absurd (omega arith) }) refl refl,
+  no-replay _ _ _ (is-start c.args.roads.now c.args.settings c.args.fleet c.nodes-nodes.ensures.fits
+      c.vehicles-vehicles.ensures.is_fleet c.requires.start)
+      (record { log_version = (c.requires.start.settings_fit.log_first, c.requires.start.settings_fit.log_limit); feeds_number = (omega arith, omega arith); desks_number = (omega arith, omega arith); lines = λ k d below. absurd (omega arith) }) refl refl,
   none-written c.args.reach (start_state c.args.roads.now c.args.settings c.args.fleet) _ (g.K.Sink.written c.args.out.now) refl refl,
 )
 
@@ -36,8 +37,8 @@ returns-clause-session g c =
     let runs = c.run_feed-stop.ensures.ran in
     let taken : List ℕ = runs.taken in
     let start : State = start_state c.args.roads.now c.args.settings c.args.fleet in
-    let begins : IsStart start = is-start c.args.roads.now c.args.settings c.args.fleet c.nodes-nodes.ensures.fits c.requires.settings
-    c.vehicles-vehicles.ensures.is_fleet c.requires.lawful c.requires.idle c.requires.first_versions in
+    let begins : IsStart start = is-start c.args.roads.now c.args.settings c.args.fleet c.nodes-nodes.ensures.fits
+    c.vehicles-vehicles.ensures.is_fleet c.requires.start in
     let ran : Ran = record {
       sink_failed = c.sink_failed.result;
       no_memory = c.no_memory.result;
@@ -49,8 +50,7 @@ returns-clause-session g c =
     let no_memory : Bool = c.run_feed-stop.new.session.no_memory in
     let new : Recorded = c.end.new.self.board in
     let before : c.begin.new.self.board.start ≡ start =
-    ap (λ (s : SessionState). s.board.start) c.begin.ensures.others ∙ c.in-Ok.ensures.start
-    ∙ ap (λ roads. start_state roads c.args.settings c.args.fleet) c.new-roads.ensures in
+    ap (λ (s : SessionState). s.board.start) c.begin.ensures.others ∙ c.in-Ok.ensures.start in
     let old_start : old.start ≡ start = c.run_feed-stop.ensures.start ∙ before in
     let log : c.begin.new.self.board.start.settings.log ≡ old.start.settings.log =
     ap (λ (s : State). s.settings.log) (sym c.run_feed-stop.ensures.start) in
@@ -89,26 +89,12 @@ run_feed-stop-requires-clause-nothing_given g c lifetimes outlive =
     let bare : c.begin.new.self.board.history ≡ [] = ap (λ (s : SessionState). s.board.history) c.begin.ensures.others ∙ c.in-Ok.ensures.history in
     subst (λ (h : List Entry). HasGiven c.in-Ok.reader left (fed_commands 1 h) []) (sym bare) (c.in-Ok.ensures.nothing_given left)
 
-pub returns-clause-sink_fault : goal.returns-clause-sink_fault
-returns-clause-sink_fault g c fell =
+pub returns-clause-sink_faults : goal.returns-clause-sink_faults
+returns-clause-sink_faults g c =
     let some = logged-some c.end.new.self.reach c.ending_of.result _ _ _ _ c.end.new.self
     (c.end.ensures.told (g.K.Sink.written c.args.out.now) (g.K.Sink.faults c.args.out.now)
     (c.run_feed-stop.ensures.told (g.K.Sink.written c.args.out.now) (g.K.Sink.faults c.args.out.now) c.begin.ensures.told)) in
-    rose-where-failed _ _ _ _ c.end.new.self.log some.text some.has (sym c.sink_failed.ensures ∙ fell)
-
-pub returns-clause-sink_counts_none : goal.returns-clause-sink_counts_none
-returns-clause-sink_counts_none g c stood =
-    let some = logged-some c.end.new.self.reach c.ending_of.result _ _ _ _ c.end.new.self
-    (c.end.ensures.told (g.K.Sink.written c.args.out.now) (g.K.Sink.faults c.args.out.now)
-    (c.run_feed-stop.ensures.told (g.K.Sink.written c.args.out.now) (g.K.Sink.faults c.args.out.now) c.begin.ensures.told)) in
-    same-where-sound _ _ _ _ c.end.new.self.log some.text some.has (sym c.sink_failed.ensures ∙ stood)
-
-pub returns-clause-sink_never_falls : goal.returns-clause-sink_never_falls
-returns-clause-sink_never_falls g c =
-    let some = logged-some c.end.new.self.reach c.ending_of.result _ _ _ _ c.end.new.self
-    (c.end.ensures.told (g.K.Sink.written c.args.out.now) (g.K.Sink.faults c.args.out.now)
-    (c.run_feed-stop.ensures.told (g.K.Sink.written c.args.out.now) (g.K.Sink.faults c.args.out.now) c.begin.ensures.told)) in
-    some.has.never_falls
+    subst (λ (failed : Bool). KeepsCount failed (g.K.Sink.faults c.args.out.now) (g.K.Sink.faults c.end.new.out)) (sym c.sink_failed.ensures) some.has.faults
 
 pub returns-clause-to_end : goal.returns-clause-to_end
 returns-clause-to_end g c memory whole =
@@ -117,8 +103,13 @@ returns-clause-to_end g c memory whole =
     runs.taken (sym (c.no_memory.ensures ∙ c.end.ensures.no_memory) ∙ memory) (sym c.is_source_failed.ensures ∙ whole.0)
     (sym c.is_too_long.ensures ∙ whole.1) runs.ended
 
-pub returns-clause-source_fault : goal.returns-clause-source_fault
-returns-clause-source_fault g c failed = c.run_feed-stop.ensures.fault (sym c.is_source_failed.ensures ∙ failed)
+pub returns-clause-source_faults : goal.returns-clause-source_faults
+returns-clause-source_faults g c =
+    subst (λ (failed : Bool). KeepsCount failed (g.S.Source.faults c.args.feed.now) (g.S.Source.faults c.run_feed-stop.new.feed))
+    (sym c.is_source_failed.ensures) c.run_feed-stop.ensures.faults
 
-pub returns-clause-source_counts_none : goal.returns-clause-source_counts_none
-returns-clause-source_counts_none g c sound = c.run_feed-stop.ensures.other_counts_none (sym c.is_source_failed.ensures ∙ sound)
+pub returns-in_default-clause-source_faults : goal.returns-in_default-clause-source_faults
+returns-in_default-clause-source_faults g c = KeepsCount-none (g.S.Source.faults c.args.feed.now)
+
+pub returns-in_default-clause-sink_faults : goal.returns-in_default-clause-sink_faults
+returns-in_default-clause-sink_faults g c = KeepsCount-none (g.K.Sink.faults c.args.out.now)

@@ -1,6 +1,6 @@
 use Rattle.std.proofs.Common.{sym, ◌∙◌}
 use Rattle.ride_model.specs.Text.{entry_line}
-use Rattle.trip_log.proofs.CompareLemmas.{on_err, on_ok, printed-is, printed-other, stopped-other}
+use Rattle.trip_log.proofs.CompareLemmas.{is_err-not_ok, on_err, on_ok, printed-is, printed-other, stopped-other}
 use Rattle.trip_log.proofs.reading.spells.Goals as goal
 
 pub returns-then-is_ok-clause-is : goal.returns-then-is_ok-clause-is
@@ -20,5 +20,5 @@ returns-else-is_ok-clause-other c is =
     let stopped = sym c.is_ok.ensures.value ∙ c.if-is_ok.false in
     absurd (stopped-other c.args.line.now (entry_line c.args.log c.args.entry.now) c.new-sink.result c.print_entry-printed.new.sink c.new-sink.ensures
     (on_err c.print_entry-printed.result stopped c.print_entry-printed.ensures.prefix)
-    (on_err c.print_entry-printed.result stopped c.print_entry-printed.ensures.failed_only_at_fault)
+    (c.print_entry-printed.ensures.faults.rose (is_err-not_ok c.print_entry-printed.result stopped))
     c.is_whole-whole.ensures.faulty is)

@@ -1,6 +1,6 @@
 use Rattle.std.proofs.Common.{sym, ◌∙◌}
 use Rattle.ride_model.specs.Text.{head_line}
-use Rattle.trip_log.proofs.CompareLemmas.{on_err, on_ok, printed-is, printed-other, stopped-other}
+use Rattle.trip_log.proofs.CompareLemmas.{is_err-not_ok, on_err, on_ok, printed-is, printed-other, stopped-other}
 use Rattle.trip_log.proofs.reading.spells_head.Goals as goal
 
 pub returns-then-is_ok-clause-is : goal.returns-then-is_ok-clause-is
@@ -20,5 +20,5 @@ returns-else-is_ok-clause-other c is =
     let stopped = sym c.is_ok.ensures.value ∙ c.if-is_ok.false in
     absurd (stopped-other c.args.line.now (head_line c.args.log c.args.feeds c.args.desks) c.new-sink.result c.print_head-printed.new.sink c.new-sink.ensures
     (on_err c.print_head-printed.result stopped c.print_head-printed.ensures.prefix)
-    (on_err c.print_head-printed.result stopped c.print_head-printed.ensures.failed_only_at_fault)
+    (c.print_head-printed.ensures.faults.rose (is_err-not_ok c.print_head-printed.result stopped))
     c.is_whole-whole.ensures.faulty is)

@@ -13,8 +13,7 @@ pub invariant_of-result : goal.invariant_of-result
 invariant_of-result c =
     let service = c.in_ok-service.service in
     let made = board-new c.args.roads.now c.args.settings c.args.fleet c.args.feeds c.args.desks service (vec_capacity c.in_ok-history.history)
-    c.new.ensures.fits c.requires.settings c.vehicles-vehicles.ensures.is_fleet c.requires.lawful c.requires.idle c.requires.first_versions
-    c.requires.feeds c.requires.desks c.in_ok-service.ensures.clock
+    c.new.ensures.fits c.vehicles-vehicles.ensures.is_fleet c.requires.start c.requires.feeds c.requires.desks c.in_ok-service.ensures.clock
     (c.in_ok-service.ensures.vehicles ∙ c.vehicles-vehicles.ensures.items) c.in_ok-service.ensures.requests c.in_ok-service.ensures.asked
     (omega (arith, c.in_ok-history.ensures.capacity, c.places_kept.ensures.places, ap places_kept c.new-kept.ensures)) in
     let given : Given = record { roads = c.args.roads.now; settings = c.args.settings; ids = vehicle_ids c.args.fleet } in

@@ -1,5 +1,5 @@
-use Rattle.std.proofs.Common.{◌≡◌, List, [], ◌∷◌, ◌++◌, length, refl, sym, ◌∙◌, ap, subst, arith}
-use Rattle.std.specs.Prelude.{vec_capacity, Ok, IsNone, IsFalse}
+use Rattle.std.proofs.Common.{◌≡◌, ◌+◌, List, [], ◌∷◌, ◌++◌, length, refl, sym, ◌∙◌, ap, subst, arith}
+use Rattle.std.specs.Prelude.{vec_capacity, IsNone, IsFalse}
 use Rattle.ride_model.specs.declared.command.Actor.TheVariants.{Desk}
 use Rattle.ride_model.specs.declared.entry.Entry.{Entry}
 use Rattle.ride_model.specs.declared.entry.Event.TheVariants.{Opened}
@@ -9,13 +9,11 @@ use Rattle.ride_model.specs.Seating.{BatchCopy}
 use Rattle.ride_model.specs.State.{start_state, has_ended, open_batch_of}
 use Rattle.ride_model.specs.Vehicle.{ride_ids}
 use Rattle.history_laws.specs.Consistent.{IsOpenBatch}
-use Rattle.std.specs.Prelude.{Result}
-use Rattle.std.specs.declared.alloc.AllocError.{AllocError}
-use Rattle.board_core.specs.declared.opening.Opening.{Opening}
-use Rattle.board_core.specs.declared.opening.Opening.TheVariants.{Batch}
+use Rattle.board_core.specs.Given.{Given}
 use Rattle.board_core.specs.Kept.{IsBoard, with_opened}
 use Rattle.board_core.specs.Marking.{marked_in}
 use Rattle.board_core.specs.Recorded.{Recorded, state_of, opened_entry}
+use Rattle.board_core.specs.Service.{batch_at}
 use Rattle.board_core.proofs.Boards.{board-in_order, few-opened}
 use Rattle.board_core.proofs.Opened.{Opens, board-opened}
 use Rattle.board_core.proofs.board.Board.open_batch.Goals as goal
@@ -28,15 +26,18 @@ batch-requires-clause-fleet c = (board-in_order _ _ _ _ _ c.self.invariant).flee
 pub open-requires : goal.open-requires
 open-requires c = few-opened _ _ _ _ _ c.self.invariant c.if-self.false
 
--- the board before the call, with other entries
-abbrev with_items : After-append → List Entry → Recorded
-with_items c items = record {
-  start = start_state c.self.inside.setup.roads c.self.inside.setup.settings c.self.inside.start;
+-- the board before the call, with a setup and other entries
+abbrev with_given : After-append → Given → List Entry → Recorded
+with_given c setup items = record {
+  start = start_state setup.roads setup.settings c.self.inside.start;
   feeds = c.self.inside.feeds;
   desks = c.self.inside.desks;
   history = items;
   spare = c.self.inside.spare;
 }
+
+abbrev with_items : After-append → List Entry → Recorded
+with_items c items = with_given c c.self.inside.setup items
 
 -- the board opens its next batch
 opens : (c : After-append) → Opens c.self.inside.setup c.put_in.new.self c.self.inside.kept (vec_capacity c.append.new.history)
@@ -58,7 +59,9 @@ opens c =
     (subst (λ (b : Recorded). IsNumbered b.desks c.args.desk) back c.requires.desk)
     (subst (λ (b : Recorded). IsFalse (has_ended (state_of b) (Desk c.args.desk))) back c.requires.not_ended)
     (subst (λ (b : Recorded). IsNone (open_batch_of (state_of b) c.args.desk)) back c.requires.none_open)
-    c.if-self.false c.in_ok-batch.ensures after_is
+    c.if-self.false
+    (c.in_ok-batch.ensures ∙ ap (λ (setup : Given). batch_at setup inside.service (inside.kept.opened + 1) c.args.desk) c.look.ensures)
+    after_is
     (omega (
       arith,
       c.in_ok-reserve.ensures.ok,
@@ -84,16 +87,21 @@ items-are c =
 pub invariant_of-self-2 : goal.invariant_of-self-2
 invariant_of-self-2 c =
     let inside = c.self.inside in
-    subst (λ kept. IsBoard inside.setup c.put_in.new.self kept (vec_capacity c.append.new.history) (with_items c c.append.new.history.items))
-    (sym c.open.ensures)
-    (subst (λ items. IsBoard inside.setup c.put_in.new.self (with_opened c.args.desk inside.kept) (vec_capacity c.append.new.history) (with_items c items))
-    (items-are c) (opens c).in_order)
+    let after = c.put_in.new.self in
+    let room = vec_capacity c.append.new.history in
+    let items = c.append.new.history.items in
+    subst (λ (setup : Given). IsBoard setup after c.open.new.self room (with_given c setup items)) (sym c.look.ensures)
+    (subst (λ kept. IsBoard inside.setup after kept room (with_items c items)) (sym c.open.ensures)
+    (subst (λ entries. IsBoard inside.setup after (with_opened c.args.desk inside.kept) room (with_items c entries)) (items-are c)
+    (opens c).in_order))
 
 pub returns-clause-no_entry : goal.returns-clause-no_entry
 returns-clause-no_entry c = λ none. absurd (none c.in_ok-batch.batch refl)
 
 pub returns-clause-open_now : goal.returns-clause-open_now
 returns-clause-open_now c = λ batch is.
-    subst (λ b. IsOpenBatch c.args.self.now.desks (state_of (with_items c c.append.new.history.items)) b) (same_got c.in_ok-batch.batch batch is)
-    (subst (λ (b : Recorded). IsOpenBatch b.desks (state_of (with_items c c.append.new.history.items)) c.in_ok-batch.batch) c.self.view_is
-    (subst (λ items. IsOpenBatch c.self.inside.desks (state_of (with_items c items)) c.in_ok-batch.batch) (items-are c) (opens c).open_now))
+    let items = c.append.new.history.items in
+    subst (λ (setup : Given). IsOpenBatch c.args.self.now.desks (state_of (with_given c setup items)) batch) (sym c.look.ensures)
+    (subst (λ b. IsOpenBatch c.args.self.now.desks (state_of (with_items c items)) b) (same_got c.in_ok-batch.batch batch is)
+    (subst (λ (b : Recorded). IsOpenBatch b.desks (state_of (with_items c items)) c.in_ok-batch.batch) c.self.view_is
+    (subst (λ entries. IsOpenBatch c.self.inside.desks (state_of (with_items c entries)) c.in_ok-batch.batch) (items-are c) (opens c).open_now)))

@@ -1,4 +1,4 @@
-use Rattle.std.proofs.Common.{◌≡◌, ℕ, ◌++◌, ◌∷◌, [], List, Option, false, true, ap, subst, ◌∙◌, append_assoc, append-nil}
+use Rattle.std.proofs.Common.{◌≡◌, ℕ, ◌++◌, ◌∷◌, [], List, Option, false, refl, ap, subst, ◌∙◌, append_assoc, append-nil}
 use Rattle.std.proofs.lemmas.Result.{err_from_is_err_and}
 use Rattle.ride_model.specs.declared.command.Command.{Command}
 use Rattle.ride_ports.proofs.ByteLemmas.{Reads-then}
@@ -45,7 +45,7 @@ loop-self-preserved g c =
     let left : Option (List ℕ) = g.S.Source.left c.next_line.new.source in
     record {
       log = c.next_line.ensures.log ∙ c.loop-self.invariant.log;
-      count = c.in_ok-command.ensures.other_counts_none (λ is. (cc is)) ∙ c.loop-self.invariant.count;
+      count = c.in_ok-command.ensures.faults.stays (refl {a = false}) ∙ c.loop-self.invariant.count;
       given = (
         more ++ piece,
         Reads-then reads reads_piece,

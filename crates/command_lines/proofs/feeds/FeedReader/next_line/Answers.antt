@@ -5,12 +5,10 @@ use Rattle.ride_model.specs.Text.{IsOneOrTwo, IsSpelledCommand}
 use Rattle.line_text.specs.Lines.{ended_lines}
 use Rattle.line_reader.specs.declared.answers.NextLine.{NextLine}
 use Rattle.line_reader.specs.declared.limits.Limits.{Limits}
-use Rattle.line_reader.specs.declared.answers.ReadStop.{ReadStop}
-use Rattle.line_reader.specs.Reader.{IsAtEnd, IsNext, IsStopped as IsStoppedText}
-use Rattle.command_lines.specs.declared.pieces.FeedStop.TheVariants.{SourceFailed, TooLong}
+use Rattle.line_reader.specs.Reader.{IsAtEnd, IsNext}
 use Rattle.command_lines.specs.Commands.{before}
 use Rattle.command_lines.specs.Feeds.{FeedState, HasCut, HasGiven, IsStopped}
-use Rattle.command_lines.proofs.ReaderLemmas.{given-end, given-last, given-line, number-last, number-next, stopped-failed, stopped-long}
+use Rattle.command_lines.proofs.ReaderLemmas.{given-end, given-last, given-line, number-last, number-next, stopped}
 use Rattle.command_lines.proofs.feeds.FeedReader.next_line.Goals as goal
 
 pub returns-in-Ok-Line-clause-given : goal.returns-in-Ok-Line-clause-given
@@ -73,32 +71,15 @@ returns-in-Ok-End-clause-given g c =
           (subst (λ (l : Limits). IsAtEnd left l has.cut (old.lines.pending ++ more)) c.next.ensures.limits at_end) none,
     )
 
-pub returns-in-Err-SourceFailed-clause-given : goal.returns-in-Err-SourceFailed-clause-given
-returns-in-Err-SourceFailed-clause-given g c =
+pub returns-in-Err-clause-given : goal.returns-in-Err-clause-given
+returns-in-Err-clause-given g c =
     let old : FeedState = record { log = c.self.inside.log; lines = c.self.inside.lines; ended = c.self.inside.ended } in
-    let (more, reads, step) = c.in-Err-SourceFailed.ensures.next in (
+    let (more, reads, step) = c.in-Err.ensures.next in (
       more,
       reads,
       λ commands bytes given.
           let has : HasCut old commands bytes = subst (λ (r : FeedState). HasCut r commands bytes) (sym c.self.view_is) given in
-          subst (λ (r : FeedState). IsStopped r.log SourceFailed commands (bytes ++ more)) c.self.view_is
-          (stopped-failed old old (g.S.Source.left c.next.new.source) commands bytes more has
-          (subst (λ (r : FeedState). IsOneOrTwo r.log) (sym c.self.view_is) c.requires.log) refl
-          (subst (λ (e : ReadStop). IsStoppedText old.lines.limits has.cut (old.lines.pending ++ more) e) c.in-Err-SourceFailed.field-0-is
-          (step has.cut has.given))),
-    )
-
-pub returns-in-Err-TooLong-clause-given : goal.returns-in-Err-TooLong-clause-given
-returns-in-Err-TooLong-clause-given g c =
-    let old : FeedState = record { log = c.self.inside.log; lines = c.self.inside.lines; ended = c.self.inside.ended } in
-    let (more, reads, step) = c.in-Err-TooLong.ensures.next in (
-      more,
-      reads,
-      λ commands bytes given.
-          let has : HasCut old commands bytes = subst (λ (r : FeedState). HasCut r commands bytes) (sym c.self.view_is) given in
-          subst (λ (r : FeedState). IsStopped r.log TooLong commands (bytes ++ more)) c.self.view_is
-          (stopped-long old old (g.S.Source.left c.next.new.source) commands bytes more has
-          (subst (λ (r : FeedState). IsOneOrTwo r.log) (sym c.self.view_is) c.requires.log) refl
-          (subst (λ (e : ReadStop). IsStoppedText old.lines.limits has.cut (old.lines.pending ++ more) e) c.in-Err-TooLong.field-0-is
-          (step has.cut has.given))),
+          subst (λ (r : FeedState). IsStopped r.log c.in-Err.stop commands (bytes ++ more)) c.self.view_is
+          (stopped old old (g.S.Source.left c.next.new.source) commands bytes more has
+          (subst (λ (r : FeedState). IsOneOrTwo r.log) (sym c.self.view_is) c.requires.log) refl c.in-Err.stop (step has.cut has.given)),
     )

@@ -10,7 +10,7 @@ returns-clause-within c =
     let vehicles : List Vehicle = c.args.self.now.vehicles.items in
     let new = c.in-Some.new in
     record {
-      settings = c.requires.settings;
+      values = c.requires.values;
       vehicles = subst IsFleet (sym c.in-Ok.ensures.items)
           (IsFleet-push vehicles c.idle_vehicle.result c.args.fields.now new c.requires.vehicles (sym c.in-Some.is ∙ c.read_vehicle.ensures)
           (ap (λ (v : Vehicle). v.id) c.idle_vehicle.ensures)

@@ -25,7 +25,7 @@ pub price_won-requires-clause-few : goal.price_won-requires-clause-few
 price_won-requires-clause-few g c κs within =
     let board : Recorded = c.self.inside.board in
     let begins = c.entries-history.ensures.start in
-    let batch : board.start.settings.batch ≤ 128 = begins.settings_fit.batch_limit in
+    let batch : board.start.settings.batch ≤ 128 = begins.may_start.settings_fit.batch_limit in
     let few = subst (λ (s : CompanyState). length c.args.brief.now.wins ≤ s.board.start.settings.batch) (sym c.self.view_is) c.requires.few in
     omega (arith, few, batch, ap (λ ws. length ws) c.items-2.ensures)
 

@@ -7,7 +7,6 @@ pub invariant_of-result : goal.invariant_of-result
 invariant_of-result c =
     let start = c.in_ok-board.ensures.start in
     record {
-      roads_are = ap (λ (t : State). t.roads) start;
       settings_are = ap (λ (t : State). t.settings) start;
       one_feed = c.in_ok-board.ensures.feeds;
       one_desk = c.in_ok-board.ensures.desks;

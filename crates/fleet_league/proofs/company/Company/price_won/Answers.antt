@@ -7,19 +7,16 @@ use Rattle.ride_model.specs.Vehicle.{IsLawful}
 use Rattle.batch_commit.specs.Table.{IsTableOf}
 use Rattle.board_core.specs.Recorded.{state_of}
 use Rattle.fleet_league.specs.Awards.{won_rides}
-use Rattle.fleet_league.specs.Companies.{CompanyState}
 use Rattle.fleet_league.specs.Quoting.{quoting_batch}
 use Rattle.fleet_league.proofs.company.Company.price_won.Goals as goal
 
 pub price_batch-requires-clause-over_map : goal.price_batch-requires-clause-over_map
 price_batch-requires-clause-over_map g c κs within =
-    subst (λ (m : RoadMap). IsBatchOver m c.in_ok-batch.batch)
-    (ap (λ (s : CompanyState). s.board.start.roads) (sym c.self.view_is) ∙ c.self.invariant.roads_are) c.in_ok-batch.ensures.over_map
+    subst (λ (m : RoadMap). IsBatchOver m c.in_ok-batch.batch) (sym c.requires.roads) c.in_ok-batch.ensures.over_map
 
 pub price_batch-requires-clause-lawful : goal.price_batch-requires-clause-lawful
 price_batch-requires-clause-lawful g c κs within =
-    subst (λ (m : RoadMap). All (IsLawful m) c.in_ok-batch.batch.vehicles)
-    (ap (λ (s : CompanyState). s.board.start.roads) (sym c.self.view_is) ∙ c.self.invariant.roads_are) c.in_ok-batch.ensures.lawful
+    subst (λ (m : RoadMap). All (IsLawful m) c.in_ok-batch.batch.vehicles) (sym c.requires.roads) c.in_ok-batch.ensures.lawful
 
 pub returns-clause-table : goal.returns-clause-table
 returns-clause-table g c =
@@ -28,6 +25,5 @@ returns-clause-table g c =
     let batch : c.in_ok-batch.batch ≡ quoting_batch (state_of board) rides
     = c.in_ok-batch.ensures.batch ∙ ap (quoting_batch (state_of board)) (c.deref.ensures.value ∙ c.in_ok-rides.ensures) in
     IfOk-weaker c.price_batch.result _ _ (λ table of.
-    subst (λ (m : RoadMap). IsTableOf m (quoting_batch (state_of board) rides) table)
-    (sym (ap (λ (s : CompanyState). s.board.start.roads) (sym c.self.view_is) ∙ c.self.invariant.roads_are))
-    (subst (λ (b : BatchCopy). IsTableOf c.self.inside.roads.now b table) batch of)) c.price_batch.ensures.table
+    subst (λ (m : RoadMap). IsTableOf m (quoting_batch (state_of board) rides) table) c.requires.roads
+    (subst (λ (b : BatchCopy). IsTableOf c.args.pricer.now b table) batch of)) c.price_batch.ensures.table

@@ -1,11 +1,16 @@
 use Rattle.std.proofs.Common.{ap, subst, sym, ◌∙◌}
-use Rattle.ride_model.specs.Fleet.{IsFleet}
+use Rattle.ride_model.specs.Fleet.{IsFleet, MayStart}
 use Rattle.ride_model.specs.State.{start_state}
-use Rattle.league_session.proofs.Desks.{desk-new, no-fleet}
+use Rattle.league_session.proofs.Desks.{desk-new, no-fleet, none-start}
 use Rattle.league_session.proofs.desk.RequestDesk.new.Goals as goal
 
 pub new-nobody-requires : goal.new-nobody-requires
 new-nobody-requires c = subst IsFleet (sym c.new.ensures.items) no-fleet
+
+pub new-requires-2-clause-start : goal.new-requires-2-clause-start
+new-requires-2-clause-start c =
+    subst (MayStart c.args.roads.now c.args.settings) (sym (c.new-nobody.ensures ∙ c.new.ensures.items))
+    (none-start c.args.roads.now c.args.settings c.requires.settings)
 
 pub returns-clause-fits : goal.returns-clause-fits
 returns-clause-fits c =

@@ -42,7 +42,7 @@ table_of_won-requires-clause-few_rides c =
     let board : Recorded = c.self.inside.company.board in
     let legal : IsLegalBoard board = subst IsLegalBoard c.board.ensures.board
     (record { begins = c.entries-history.ensures.start; legal = c.entries-history.ensures.legal }) in
-    let most : board.start.settings.batch ≤ 128 = legal.begins.settings_fit.batch_limit in
+    let most : board.start.settings.batch ≤ 128 = legal.begins.may_start.settings_fit.batch_limit in
     omega (arith, c.requires.may.may.few, most, ap (λ (s : CompanyState). s.board.start.settings.batch) c.self.view_is)
 
 pub table_of_won-requires-clause-few_wins : goal.table_of_won-requires-clause-few_wins
@@ -50,7 +50,7 @@ table_of_won-requires-clause-few_wins c =
     let board : Recorded = c.self.inside.company.board in
     let legal : IsLegalBoard board = subst IsLegalBoard c.board.ensures.board
     (record { begins = c.entries-history.ensures.start; legal = c.entries-history.ensures.legal }) in
-    let most : board.start.settings.batch ≤ 128 = legal.begins.settings_fit.batch_limit in
+    let most : board.start.settings.batch ≤ 128 = legal.begins.may_start.settings_fit.batch_limit in
     omega (
       arith,
       c.requires.may.few,

@@ -9,7 +9,7 @@ returns-clause-nothing_done c = record {
   output = c.in_ok-output.ensures;
   log_is = sym (ap (λ (s : LeagueState). s.desk.settings.log) c.in_ok-league.ensures.start);
   fits = record {
-    log_fits = (c.requires.settings.log_first, c.requires.settings.log_limit);
+    log_fits = (c.requires.first.settings_fit.log_first, c.requires.first.settings_fit.log_limit);
     log_is = sym (ap (λ (t : State). t.settings.log) c.in_ok-league.ensures.desk);
     fits = c.in_ok-league.ensures.fits;
   };

@@ -20,6 +20,6 @@ returns-clause-put g c before faults earlier has =
     let printed = c.print_told-printed.ensures in
     put-printed c.print_told-printed.result before _ _ faults _ _ c.back_to.new.self c.note.new.self earlier text stands bare
     (ap (λ (o : OutputState). o.failed) c.note.ensures) (ap (λ (o : OutputState). o.page) c.note.ensures ∙ bare)
-    printed.whole printed.prefix printed.failed_only_at_fault printed.ok_counts_none printed.count_never_falls
+    printed.whole printed.prefix printed.faults
     (printed-back c.print_told.result before _ _ faults _ _ c.args.self.now.output c.print_told.new.sink c.back_to.new.self c.mark-mark.result
     earlier text (sym c.if-failed.ensures) (sym c.if-is_ok.ensures.value) c.print_told.ensures.prefix c.mark-mark.ensures c.back_to.ensures.put has)

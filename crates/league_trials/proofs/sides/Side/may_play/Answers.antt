@@ -15,7 +15,7 @@ returns c fresh_now =
     let board : c.board-board.result.now ≡ company.board = c.board-board.ensures.board in
     let legal : IsLegalBoard company.board = subst IsLegalBoard board
     (record { begins = c.entries-entries.ensures.start; legal = c.entries-entries.ensures.legal }) in
-    let (roads, scratch, settings) = c.self.invariant in
+    let (roads, pricer, settings) = c.self.invariant in
     subst (λ (s : CompanyState). MayPlay s c.args.rides.now) c.self.view_is
     (may-play company c.nodes.result c.args.rides.now legal settings (ap (λ (m : RoadMap). m.nodes) roads ∙ sym c.nodes.ensures.nodes)
     (sym c.is_open.ensures ∙ c.if-not-is_open.false) (omega (arith, c.if-rides-gt32.false))

@@ -1,4 +1,4 @@
-use Rattle.std.proofs.Common.{◌≡◌, ◌≢◌, ◌++◌, [], Bool, List, ℕ, MatchBool, refl, ap, ◌∙◌, subst, sym, append_assoc, append-nil}
+use Rattle.std.proofs.Common.{◌≡◌, ◌≢◌, ◌++◌, [], Bool, false, List, ℕ, MatchBool, refl, ap, ◌∙◌, subst, sym, append_assoc, append-nil}
 use Rattle.std.specs.Prelude.{IfSome}
 use Rattle.std.proofs.lemmas.Result.{err_from_is_err_and}
 use Rattle.ride_ports.proofs.ByteLemmas.{Reads-none, Reads-then}
@@ -126,7 +126,7 @@ parts-preserved g c =
               begins-more bytes part cut begins lines,
             ),
       );
-      count = c.in_ok-has_pending.ensures.other_counts_none (λ is. (cc is)) ∙ c.parts.invariant.count;
+      count = c.in_ok-has_pending.ensures.faults.stays (refl {a = false}) ∙ c.parts.invariant.count;
       limits = c.take_part.ensures.limits ∙ c.in_ok-has_pending.ensures.limits ∙ c.parts.invariant.limits;
       lines_left = c.if-take_part.ensures.lines_left ∙ fills.lines_left ∙ c.parts.invariant.lines_left;
     }

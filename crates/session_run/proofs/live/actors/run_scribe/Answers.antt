@@ -25,7 +25,7 @@ returns g c =
     (sym c.if-head_failed.false)
     (told c.args.log (g.K.Sink.written c.args.out.now) (g.K.Sink.written c.scribe_loop.new.out) (g.K.Sink.faults c.args.out.now)
     (g.K.Sink.faults c.scribe_loop.new.out) c.scribe_loop.result (knowledge c.scribe_loop.new.pass).seen c.scribe_loop.ensures.written
-    c.scribe_loop.ensures.prefix c.scribe_loop.ensures.sink_fault c.scribe_loop.ensures.sink_counts_none c.scribe_loop.ensures.sink_never_falls) in
+    c.scribe_loop.ensures.prefix c.scribe_loop.ensures.sink_faults) in
     record {
       may_use = c.scribe_loop.ensures.pass;
       none = c.scribe_loop.ensures.none;

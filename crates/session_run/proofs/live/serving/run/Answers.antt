@@ -1,10 +1,11 @@
-use Rattle.std.proofs.Common.{◌≡◌, ℕ, inl, inr, List, Option, ◌++◌, drop, sym, ap, subst, ◌∙◌}
+use Rattle.std.proofs.Common.{◌≡◌, ℕ, Bool, inl, inr, List, Option, ◌++◌, drop, sym, ap, subst, ◌∙◌}
 use Rattle.std.specs.Prelude.{IfOk, is_err}
 use Rattle.ride_model.specs.declared.entry.Entry.{Entry}
 use Rattle.ride_model.specs.Text.{entry_lines, head_line, text_of}
 use Rattle.ride_ports.specs.declared.outcome.Ran.{Ran}
+use Rattle.ride_ports.specs.Count.{KeepsCount}
 use Rattle.text_page.specs.Output.{HasPut}
-use Rattle.text_page.proofs.OutputLemmas.{put-same, rose-where-failed, same-where-sound}
+use Rattle.text_page.proofs.OutputLemmas.{put-same}
 use Rattle.session_loops.specs.declared.scribes.Scribed.{Scribed}
 use Rattle.session_run.specs.Actors.{bare}
 use Rattle.session_run.specs.Serving.{IsServed, feed_run}
@@ -29,7 +30,7 @@ logged g c =
     (bare (is_err c.run_actors-answers.result.scribed)) text
     → HasPut earlier (g.K.Sink.written c.put_rest.new.out) at (g.K.Sink.faults c.put_rest.new.out) c.put_rest.new.output
     (text ++ entry_lines c.args.log (drop count es))) entries c.put_rest.ensures.logged in
-    logged-all c.args.roads.now c.args.log c.args.desks c.args.stage
+    logged-all c.args.log c.args.desks c.args.stage
     (feed_run (g.S.Source.left c.args.riders.now) (g.S.Source.left c.run_actors-answers.new.riders) (g.S.Source.faults c.args.riders.now)
     (g.S.Source.faults c.run_actors-answers.new.riders))
     (feed_run (g.S.Source.left c.args.drivers.now) (g.S.Source.left c.run_actors-answers.new.drivers) (g.S.Source.faults c.args.drivers.now)
@@ -59,7 +60,7 @@ returns-clause-served g c =
     (g.S.Source.faults c.args.drivers.now) (g.S.Source.faults c.run_actors-answers.new.drivers) in
     subst (λ (ran : Ran). IsServed (root_at c.args.stage).start c.args.desks riders drivers ran (g.K.Sink.written c.args.out.now)
     (g.K.Sink.written c.put_rest.new.out)) (sym (answer g c))
-    (is-served c.args.roads.now c.args.log c.args.desks c.args.stage riders drivers c.failed-head_failed.result (g.K.Sink.written c.args.out.now)
+    (is-served c.args.log c.args.desks c.args.stage riders drivers c.failed-head_failed.result (g.K.Sink.written c.args.out.now)
     (g.K.Sink.written c.put_head.new.out) (g.K.Sink.written c.run_actors-answers.new.out) (g.K.Sink.written c.put_rest.new.out)
     (g.K.Sink.faults c.args.out.now) (g.K.Sink.faults c.put_head.new.out) (g.K.Sink.faults c.run_actors-answers.new.out)
     (g.K.Sink.faults c.put_rest.new.out) c.run_actors-answers.result c.run_actors-answers.new.actors c.requires.ready
@@ -71,25 +72,20 @@ returns-clause-source_fault g c failed =
     let left = c.run_actors-answers.ensures in
     elim (source-failed c.run_actors-answers.result c.failed.result left.desk_1.only.source
     (sym (ap (λ (r : Ran). r.source_failed) c.ran_of.ensures) ∙ failed)) [
-      | inl riders ↦ inl (left.feed_1.source_fault riders)
-      | inr drivers ↦ inr (left.feed_2.source_fault drivers)
+      | inl riders ↦ inl (left.feed_1.faults.rose riders)
+      | inr drivers ↦ inr (left.feed_2.faults.rose drivers)
     ]
 
 pub returns-clause-riders_count_none : goal.returns-clause-riders_count_none
 returns-clause-riders_count_none g c sound =
-    c.run_actors-answers.ensures.feed_1.source_counts_none
+    c.run_actors-answers.ensures.feed_1.faults.stays
     (sources-sound c.run_actors-answers.result c.failed.result (sym (ap (λ (r : Ran). r.source_failed) c.ran_of.ensures) ∙ sound)).0
 
 pub returns-clause-drivers_count_none : goal.returns-clause-drivers_count_none
 returns-clause-drivers_count_none g c sound =
-    c.run_actors-answers.ensures.feed_2.source_counts_none
+    c.run_actors-answers.ensures.feed_2.faults.stays
     (sources-sound c.run_actors-answers.result c.failed.result (sym (ap (λ (r : Ran). r.source_failed) c.ran_of.ensures) ∙ sound)).1
 
-pub returns-clause-sink_fault : goal.returns-clause-sink_fault
-returns-clause-sink_fault g c failed = rose-where-failed _ _ _ _ c.put_rest.new.output _ (logged g c) (sym (sink g c) ∙ failed)
-
-pub returns-clause-sink_counts_none : goal.returns-clause-sink_counts_none
-returns-clause-sink_counts_none g c sound = same-where-sound _ _ _ _ c.put_rest.new.output _ (logged g c) (sym (sink g c) ∙ sound)
-
-pub returns-clause-sink_never_falls : goal.returns-clause-sink_never_falls
-returns-clause-sink_never_falls g c = (logged g c).never_falls
+pub returns-clause-sink_faults : goal.returns-clause-sink_faults
+returns-clause-sink_faults g c =
+    subst (λ (failed : Bool). KeepsCount failed (g.K.Sink.faults c.args.out.now) (g.K.Sink.faults c.put_rest.new.out)) (sym (sink g c)) (logged g c).faults

@@ -1,5 +1,6 @@
-use Rattle.std.proofs.Common.{◌≡◌, ℕ, Option, Some, cond, [], ◌++◌, sym, ap, subst, ◌∙◌}
+use Rattle.std.proofs.Common.{◌≡◌, ℕ, Option, Some, None, cond, [], ◌++◌, take, sym, ap, subst, ◌∙◌}
 use Rattle.std.specs.Prelude.{◌||◌, not}
+use Rattle.ride_model.specs.Text.{text_of}
 use Rattle.board_core.specs.Recorded.{Recorded}
 use Rattle.idle_moves.specs.AheadText.{sheet_lines}
 use Rattle.text_page.specs.Output.{HasPut}
@@ -7,7 +8,7 @@ use Rattle.session_run.specs.SessionState.{SessionState}
 use Rattle.session_run.specs.Planning.{is_whole, sheets_in}
 use Rattle.session_run.specs.Reading.{HasToldBy}
 use Rattle.session_run.specs.Telling.{GoesOnWith}
-use Rattle.session_run.proofs.ToldSheets.{told-more}
+use Rattle.session_run.proofs.ToldSheets.{told-first, told-more}
 use Rattle.session_run.proofs.session.Session.tell.Goals as goal
 
 pub returns-in-Some-clause-told : goal.returns-in-Some-clause-told
@@ -35,3 +36,19 @@ returns-in-Some-clause-told g c earlier faults board goes has =
     (subst (λ (b : Recorded). GoesOnWith (Some reach) c.args.told c.args.answered.now board b) (sym stands)
     (subst (λ (o : Option ℕ). GoesOnWith o c.args.told c.args.answered.now board now.board) given goes))
     (subst (λ (o : Option ℕ). HasToldBy o earlier (g.K.Sink.written c.args.out.now) faults (g.K.Sink.faults c.args.out.now) old) given has))
+
+pub returns-in-None-clause-told : goal.returns-in-None-clause-told
+returns-in-None-clause-told g c earlier faults board goes has =
+    let now : SessionState = c.args.self.now in
+    let old : SessionState = record now { board = board } in
+    let new : SessionState = c.log_rest.new.self in
+    let view = c.self.view_is in
+    let given : now.reach ≡ None = ap (λ (s : SessionState). s.reach) (sym view) ∙ c.in-None.is in
+    let still : new.reach ≡ None = ap (λ (s : SessionState). s.reach) c.log_rest.ensures.others ∙ c.in-None.is in
+    subst (λ (o : Option ℕ). HasToldBy o earlier (g.K.Sink.written c.log_rest.new.out) faults (g.K.Sink.faults c.log_rest.new.out) new) (sym still)
+    (c.log_rest.ensures.told earlier faults
+    (subst (λ (s : SessionState). HasPut earlier (g.K.Sink.written c.args.out.now) faults (g.K.Sink.faults c.args.out.now) s.log
+    (text_of s.board.start.settings.log 1 1 (take c.args.told s.board.history))) (sym view)
+    (told-first c.args.told earlier (g.K.Sink.written c.args.out.now) faults (g.K.Sink.faults c.args.out.now) now.log board now.board goes.goes_on.more
+    goes.goes_on.start goes.goes_on.grows goes.all
+    (subst (λ (o : Option ℕ). HasToldBy o earlier (g.K.Sink.written c.args.out.now) faults (g.K.Sink.faults c.args.out.now) old) given has))))

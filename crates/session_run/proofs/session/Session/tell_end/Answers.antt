@@ -1,9 +1,10 @@
-use Rattle.std.proofs.Common.{◌≡◌, ℕ, Option, Some, sym, ap, subst, ◌∙◌}
-use Rattle.board_core.specs.Recorded.{Recorded}
+use Rattle.std.proofs.Common.{◌≡◌, ℕ, [], ◌∷◌, Option, Some, None, sym, ap, subst, ◌∙◌}
+use Rattle.ride_model.specs.declared.command.Actor.TheVariants.{Desk, Feed}
+use Rattle.board_core.specs.Recorded.{Recorded, end_entry}
 use Rattle.session_run.specs.SessionState.{SessionState}
 use Rattle.session_run.specs.Reading.{HasToldBy, HasToldAllBy}
 use Rattle.session_run.specs.Telling.{GoesOnTo}
-use Rattle.session_run.proofs.ToldSheets.{told-last}
+use Rattle.session_run.proofs.ToldSheets.{told-first, told-last}
 use Rattle.session_run.proofs.session.Session.tell_end.Goals as goal
 
 pub returns-in-Some-clause-told : goal.returns-in-Some-clause-told
@@ -22,3 +23,17 @@ returns-in-Some-clause-told g c earlier faults board goes has =
     (subst (λ (b : Recorded). GoesOnTo c.args.ending c.args.told board b) (sym (ap (λ (s : SessionState). s.board) same)) goes)
     (c.tell_last.ensures.told earlier faults)
     (subst (λ (o : Option ℕ). HasToldBy o earlier (g.K.Sink.written c.args.out.now) faults (g.K.Sink.faults c.args.out.now) old) given has))
+
+pub returns-in-None-clause-told : goal.returns-in-None-clause-told
+returns-in-None-clause-told g c earlier faults board goes has =
+    let now : SessionState = c.args.self.now in
+    let old : SessionState = record now { board = board } in
+    let new : SessionState = c.log_rest.new.self in
+    let given : now.reach ≡ None = ap (λ (s : SessionState). s.reach) (sym c.self.view_is) ∙ c.in-None.is in
+    let still : new.reach ≡ None = ap (λ (s : SessionState). s.reach) c.log_rest.ensures.others ∙ given in
+    subst (λ (o : Option ℕ). HasToldAllBy o c.args.ending earlier (g.K.Sink.written c.log_rest.new.out) faults (g.K.Sink.faults c.log_rest.new.out) new)
+    (sym still)
+    (c.log_rest.ensures.told earlier faults
+    (told-first c.args.told earlier (g.K.Sink.written c.args.out.now) faults (g.K.Sink.faults c.args.out.now) now.log board now.board
+    (end_entry (Feed 1) c.args.ending ∷ end_entry (Desk 1) goes.desk_ending ∷ []) goes.start goes.grows goes.all
+    (subst (λ (o : Option ℕ). HasToldBy o earlier (g.K.Sink.written c.args.out.now) faults (g.K.Sink.faults c.args.out.now) old) given has)))

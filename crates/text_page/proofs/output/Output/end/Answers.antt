@@ -11,5 +11,4 @@ returns-then-not-self-clause-put g c before faults text has =
     (g.K.Sink.faults c.args.out.now) (g.K.Sink.faults c.write_to.new.out) c.args.self.now
     (record { page = c.write_to.new.self.text; full = c.write_to.new.self.faults; failed = c.is_err-self-inside.result }) text
     (ap (λ (o : OutputState). o.failed) (sym c.self.view_is) ∙ stands) c.is_err-self-inside.ensures.value c.write_to.ensures.emptied
-    (rw same at c.write_to.ensures.whole) (rw same at c.write_to.ensures.prefix) c.write_to.ensures.failed_only_at_fault
-    c.write_to.ensures.ok_counts_none c.write_to.ensures.count_never_falls has
+    (rw same at c.write_to.ensures.whole) (rw same at c.write_to.ensures.prefix) c.write_to.ensures.faults has

@@ -24,4 +24,4 @@ returns-clause-put g c before faults text has =
     (g.K.Sink.faults c.end.new.out) (g.K.Sink.faults c.write_all.new.sink) c.end.new.self
     (record { page = c.self-2.inside.page.text; full = c.self-2.inside.page.faults; failed = c.is_err-self-inside.result }) text c.args.bytes.now
     stands bare c.is_err-self-inside.ensures.value (ap (λ (o : OutputState). o.page) c.self-2.view_is ∙ bare)
-    c.write_all.ensures.whole c.write_all.ensures.prefix c.write_all.ensures.failed_only_at_fault c.write_all.ensures.ok_counts_none c.write_all.ensures.count_never_falls ended
+    c.write_all.ensures.whole c.write_all.ensures.prefix c.write_all.ensures.faults ended

@@ -1,7 +1,0 @@
-use Rattle.std.proofs.Common.{◌≡◌, length}
-use Rattle.std.specs.Prelude.{All}
-use Rattle.pricing_workers.proofs.workers.scratches_of.Given as goal
-
--- as many as were counted, each for the map
-abbrev pub invariant-loop : goal.invariant-loop
-invariant-loop l = All (λ scratch. scratch.nodes ≡ l.roads.nodes) l.scratches.items × (length l.scratches.items ≡ l.counter)
