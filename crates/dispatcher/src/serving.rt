@@ -9,6 +9,7 @@ ghost use Rattle.dispatcher.specs.Shelves.{shelved, sunk};
 use crate::files::Texts;
 use crate::status::Status;
 use ride_ports::{Gate, Shelf, Sink};
+use session_run::Outset;
 use std::alloc::Global;
 use std::sync::Wait;
 use std::thread::Threads;
@@ -63,16 +64,19 @@ pub fn serve_feeds<R: Threads + Wait + Sync, H: Shelf, K: Sink, G: Gate>(
         shelf.give_back(riders);
         return Status::SourceFailed.code();
     };
+    let outset = Outset {
+        settings,
+        fleet,
+        workers: crew.workers,
+        desks: crew.desks,
+    };
     let ran = session_run::serve(
         rt,
         alloc,
         &roads,
-        settings,
-        fleet,
+        outset,
         &mut riders,
         &mut drivers,
-        crew.workers,
-        crew.desks,
         out,
         gate,
     );

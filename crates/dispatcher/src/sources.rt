@@ -61,8 +61,7 @@ fn do_work<R: Threads + Sync, S: Source, K: Sink>(
 ) -> u8
     requires start { OfTexts MayBegin work }
     requires reach { OfReach (λ reach. (1 ≤ reach) × (reach ≤ longest_reach)) work }
-    ensures { WorksOver work (feed_run (S.left source.old) (S.left source.new)
-        (S.faults source.old) (S.faults source.new))
+    ensures { WorksOver work (feed_run S.left S.faults source.old source.new)
         (sunk K.written K.faults out.old out.new) result }
 {
     match work {

@@ -96,16 +96,8 @@ fn run_ask<R: Threads + Wait + Sync, H: Shelf, K: Sink, G: Gate>(
         } => {
             let names = TextNames { map, fleet };
             let feeds = Feeds { riders, drivers };
-            serve(
-                rt,
-                alloc,
-                names,
-                feeds,
-                Crew { workers, desks },
-                shelf,
-                out,
-                gate,
-            )
+            let crew = Crew { workers, desks };
+            serve(rt, alloc, names, feeds, crew, shelf, out, gate)
         }
         Ask::Drill(plan) => drill(rt, alloc, &plan, shelf, out),
         Ask::Book { feed } => book(rt, alloc, feed, shelf, out),
@@ -114,14 +106,9 @@ fn run_ask<R: Threads + Wait + Sync, H: Shelf, K: Sink, G: Gate>(
             fleet,
             second,
             feed,
-        } => league(
-            rt,
-            alloc,
-            TextNames { map, fleet },
-            second,
-            feed,
-            shelf,
-            out,
-        ),
+        } => {
+            let names = TextNames { map, fleet };
+            league(rt, alloc, names, second, feed, shelf, out)
+        }
     }
 }

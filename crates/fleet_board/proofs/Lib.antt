@@ -7,3 +7,4 @@ pub mod MayEnd
 pub mod Closing
 pub mod Tails
 pub mod Starting
+pub mod Standing

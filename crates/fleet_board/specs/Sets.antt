@@ -8,16 +8,28 @@ use Rattle.board_core.specs.Recorded.{Recorded}
 use Rattle.turn_lock.specs.declared.chronicle.Chronicle.{Ghosts}
 use Rattle.turn_lock.specs.declared.lock.Pass.{Pass}
 use Rattle.turn_lock.specs.declared.lock.TurnLock.{TurnLock}
+use Rattle.turn_lock.specs.History.{items_of}
 use Rattle.turn_lock.specs.Passes.{MayEnter, knowledge}
 use Rattle.fleet_board.specs.declared.shared.Kept.{Kept}
 use Rattle.fleet_board.specs.declared.shared.SharedBoard.{SharedBoard}
 use Rattle.fleet_board.specs.Openings.{HasNoneOpen}
-use Rattle.fleet_board.specs.Passes.{Known, IsPoint, IsFeed, IsDesk}
+use Rattle.fleet_board.specs.Passes.{Known, IsPoint, IsFeed, IsDesk, maker_of}
 use Rattle.fleet_board.specs.Sharing.{MayUse}
+use Rattle.fleet_board.specs.Turns.{as_began}
 
--- a pass of this number that has seen nothing
+-- a pass of this number that has seen the history of a board as it stands
 abbrev pub newcomer : Recorded → ℕ → Known
-newcomer root number = record { number = number; room = 1; out = 0; has_turn = false; root = root ∷ []; seen = []; own = []; ended = [] }
+newcomer board number = record {
+  number = number;
+  room = 1;
+  out = 0;
+  has_turn = false;
+  root = as_began board ∷ [];
+  earlier = board.history;
+  seen = board.history;
+  own = items_of maker_of number board.history;
+  ended = [];
+}
 
 -- what a pass has seen begins the history, and its own entries are all that the history has of its actor
 pub record IsPartOf (history : List Entry) (actor : Actor) (k : Known) : Type 0 where
@@ -38,14 +50,18 @@ module _ {g : Ghosts Kept Recorded Entry} where
   abbrev pub IsBack : SharedBoard → ℕ → Pass Kept Recorded Entry g → Type 0
   IsBack board number pass = MayUse board pass × ((knowledge pass).number ≡ number)
 
-  -- a new pass of this number, which may be used
+  -- a new pass of this number, which may be used, of a board as it stood when it was shared
   abbrev pub IsNew : SharedBoard → Recorded → ℕ → Pass Kept Recorded Entry g → Type 0
-  IsNew board root number pass = MayUse board pass × (knowledge pass ≡ newcomer root number)
+  IsNew board before number pass = MayUse board pass × (knowledge pass ≡ newcomer before number)
+
+  -- and it stands at the end of that board's history
+  abbrev pub IsNewPass : SharedBoard → Recorded → ℕ → Pass Kept Recorded Entry g → Type 0
+  IsNewPass board before number pass = IsNew board before number pass × IsPoint (knowledge pass)
 
   -- a new pass of a feed, or of a desk, which has not ended
   abbrev pub IsNewFeed : SharedBoard → Recorded → ℕ → Pass Kept Recorded Entry g → Type 0
-  IsNewFeed board root number pass = IsNew board root number pass × IsPoint (knowledge pass) × IsFeed (knowledge pass)
+  IsNewFeed board before number pass = IsNew board before number pass × IsPoint (knowledge pass) × IsFeed (knowledge pass)
 
   abbrev pub IsNewDesk : SharedBoard → Recorded → ℕ → Pass Kept Recorded Entry g → Type 0
-  IsNewDesk board root number pass =
-      IsNew board root number pass × IsPoint (knowledge pass) × IsDesk (knowledge pass) × HasNoneOpen (knowledge pass)
+  IsNewDesk board before number pass =
+      IsNew board before number pass × IsPoint (knowledge pass) × IsDesk (knowledge pass) × HasNoneOpen (knowledge pass)

@@ -9,7 +9,7 @@ ghost use Rattle.turn_lock.specs.Knowledge.{after_join};
 ghost use Rattle.turn_lock.specs.Passes.{MayEnter, knowledge};
 ghost use Rattle.fleet_board.specs.Passes.{IsPoint};
 ghost use Rattle.fleet_board.specs.Turns.{as_began};
-ghost use Rattle.fleet_board.specs.Sets.{IsNewFeed, IsNewDesk, IsBack, IsBackTo, IsPartOf, one_if_some};
+ghost use Rattle.fleet_board.specs.Sets.{IsNewPass, IsNewFeed, IsNewDesk, IsBack, IsBackTo, IsPartOf, one_if_some};
 
 use crate::{ActorPass, Kept, SharedBoard};
 use board_core::Board;
@@ -31,6 +31,49 @@ pub struct PassSet<'r> {
 }
 
 impl<'r> SharedBoard<'r> {
+    /// Shares a board as it stands, with a pass for each of its actors, also for one that has ended. Where memory is wanting the
+    /// board is dropped.
+    pub fn share(
+        alloc: Global,
+        board: Board<'r>,
+    ) -> Result<(SharedBoard<'r>, PassSet<'r>), NoMemory>
+        ensures feed_1 { IfOk result (λ r. IsSomeAnd r.1.feed_1 (IsNewPass r.0 board.entry 1)) }
+        ensures feed_2 { IfOk result (λ r. MatchOption r.1.feed_2 (board.entry.feeds ≢ 2)
+            (λ pass. (board.entry.feeds ≡ 2) × IsNewPass r.0 board.entry 2 pass)) }
+        ensures desk_1 { IfOk result (λ r. IsSomeAnd r.1.desk_1 (IsNewPass r.0 board.entry 3)) }
+        ensures desk_2 { IfOk result (λ r. MatchOption r.1.desk_2 (board.entry.desks ≢ 2)
+            (λ pass. (board.entry.desks ≡ 2) × IsNewPass r.0 board.entry 4 pass)) }
+        ensures scribe { IfOk result (λ r. IsBack r.0 0 r.1.scribe) }
+        ensures scribe_point { IfOk result (λ r. IsPoint (knowledge r.1.scribe)) }
+        ensures scribe_seen { IfOk result (λ r.
+            (knowledge r.1.scribe).seen ≡ board.entry.history) }
+        ensures root { IfOk result (λ r.
+            (knowledge r.1.scribe).root ≡ as_began board.entry ∷ []) }
+        ensures out { IfOk result (λ r. (knowledge r.1.scribe).out
+            ≡ one_if_some r.1.feed_1 + one_if_some r.1.feed_2
+            + one_if_some r.1.desk_1 + one_if_some r.1.desk_2) }
+    {
+        let two_feeds = board.feeds() == 2;
+        let two_desks = board.desks() == 2;
+        // This call also tells what is so of every board.
+        let count = board.entries().len() as u64;
+        let (lock, mut scribe) = TurnLock::new(alloc, Kept { board }, count, PASSES)?;
+        let desk_2 = lock.split(&mut scribe);
+        let desk_1 = lock.split(&mut scribe);
+        let feed_2 = lock.split(&mut scribe);
+        let feed_1 = lock.split(&mut scribe);
+        let feed_2 = kept_if(&lock, &mut scribe, feed_2, two_feeds);
+        let desk_2 = kept_if(&lock, &mut scribe, desk_2, two_desks);
+        let passes = PassSet {
+            feed_1: Some(feed_1),
+            feed_2,
+            desk_1: Some(desk_1),
+            desk_2,
+            scribe,
+        };
+        Ok((SharedBoard { lock }, passes))
+    }
+
     /// Shares a board on which nothing happened yet. Where memory is wanting the board is dropped.
     pub fn start(
         alloc: Global,
@@ -53,25 +96,10 @@ impl<'r> SharedBoard<'r> {
             ≡ one_if_some r.1.feed_1 + one_if_some r.1.feed_2
             + one_if_some r.1.desk_1 + one_if_some r.1.desk_2) }
     {
-        let two_feeds = board.feeds() == 2;
-        let two_desks = board.desks() == 2;
         // This call tells what is so of every board.
         let _entries = board.entries();
-        let (lock, mut scribe) = TurnLock::new(alloc, Kept { board }, PASSES)?;
-        let desk_2 = lock.split(&mut scribe);
-        let desk_1 = lock.split(&mut scribe);
-        let feed_2 = lock.split(&mut scribe);
-        let feed_1 = lock.split(&mut scribe);
-        let feed_2 = kept_if(&lock, &mut scribe, feed_2, two_feeds);
-        let desk_2 = kept_if(&lock, &mut scribe, desk_2, two_desks);
-        let passes = PassSet {
-            feed_1: Some(feed_1),
-            feed_2,
-            desk_1: Some(desk_1),
-            desk_2,
-            scribe,
-        };
-        Ok((SharedBoard { lock }, passes))
+        let (shared, passes) = SharedBoard::share(alloc, board)?;
+        Ok((shared, passes))
     }
 
     /// Takes the board back, once all passes are. An actor's pass that does not stand in the set was joined into the

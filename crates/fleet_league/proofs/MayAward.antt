@@ -1,5 +1,5 @@
 -- What an award asks of a company is what its batch needs.
-use Rattle.std.proofs.Common.{◌≡◌, ℕ, ◌+◌, ◌<◌, ◌≤◌, List, length, sym, subst, arith}
+use Rattle.std.proofs.Common.{◌≡◌, ℕ, ◌≤◌, List, length, sym, subst, arith}
 use Rattle.std.specs.Prelude.{All, Contains, IsTrue, nat_eq}
 use Rattle.std.specs.List.{IsDistinct}
 use Rattle.std.proofs.lemmas.List.{length-map}
@@ -16,7 +16,7 @@ use Rattle.fleet_league.specs.declared.briefs.Win.{Win}
 use Rattle.fleet_league.specs.declared.quotes.Quote.{Quote}
 use Rattle.fleet_league.specs.Prices.{IsNewRide}
 use Rattle.fleet_league.specs.Companies.{CompanyState, IsCompany, IsIdle}
-use Rattle.fleet_league.specs.Awards.{won_rides, request_of, AreOfOneState}
+use Rattle.fleet_league.specs.Awards.{won_rides, request_of, AreOfOneState, HasRoomFor}
 use Rattle.fleet_league.specs.Awarding.{MayConfirm}
 use Rattle.fleet_league.specs.Winning.{MayWin}
 use Rattle.fleet_league.proofs.Legality.{IsLegalBoard, board-roads, board-settings}
@@ -49,9 +49,7 @@ pub record MayAward (board : Recorded) (quote : Quote) (brief : Brief) : Type 0 
   pub ids_differ : IsDistinct nat_eq (ride_ids (won_rides brief.wins))
   pub ids_spelled : All (λ (ride : Ride). IsSpelled ride.id) (won_rides brief.wins)
   pub chairs : board.start.settings.log ≡ 1 → All (λ (ride : Ride). ride.chairs ≡ 0) (won_rides brief.wins)
-  pub few : length brief.wins ≤ board.start.settings.batch
-  pub room : length (state_of board).requests + length brief.wins ≤ 100000
-  pub few_asked : (state_of board).asked < 2000
+  pub room : HasRoomFor board (length brief.wins)
 
 -- where all stands, its wins may be won
 pub may-win : (company : CompanyState) (quote : Quote) (brief : Brief) → IsTrue company.is_open → MayAward company.board quote brief
@@ -71,9 +69,7 @@ may-win company quote brief is_open may stands =
             (of_all (IsNewRide (state_of board)) rides ride may.rides there).fits
             (of_all (λ (r : Ride). IsSpelled r.id) rides ride may.ids_spelled there)
             (λ first. of_all (λ (r : Ride). r.chairs ≡ 0) rides ride (may.chairs first) there));
-        few = omega (arith, may.few, many);
-        room = omega (arith, may.room, many);
-        few_asked = may.few_asked;
+        room = subst (HasRoomFor board) (sym many) may.room;
       };
       of_them = all_of (Contains rides) rides (contains_from_among rides);
       differ = may.ids_differ;
@@ -86,7 +82,7 @@ pub few-wins : (company : CompanyState) (rides : List Ride) (brief : Brief) → 
     → length brief.wins ≤ 128
 few-wins company rides brief legal may =
     let batch : company.board.start.settings.batch ≤ 128 = legal.begins.may_start.settings_fit.batch_limit in
-    omega (arith, may.few, may.may.few, batch)
+    omega (arith, may.few, may.may.room.in_batch, batch)
 
 -- what may be won may be confirmed
 pub may-confirm : (settings : Settings) (company : CompanyState) (rides : List Ride) (brief : Brief)
@@ -105,12 +101,12 @@ may-confirm settings company rides brief is legal may =
         new = record {
           each = won-each (IsNewRide (state_of board)) rides (won_rides brief.wins) may.may.each may.of_them;
           differ = may.differ;
-          room = omega (arith, may.may.room, may.few, many);
+          room = omega (arith, may.may.room.requests, may.few, many);
         };
         spelled = won-each (λ (ride : Ride). IsSpelledCommand board.start.settings.log (request_of ride)) rides (won_rides brief.wins)
             may.may.spelled may.of_them;
       };
-      few_asked = omega (arith, may.may.few_asked);
-      few_wins = subst (λ (s : Settings). length brief.wins ≤ s.batch) (sym (board-settings board legal)) (omega (arith, may.few, may.may.few));
+      few_asked = omega (arith, may.may.room.batches);
+      few_wins = subst (λ (s : Settings). length brief.wins ≤ s.batch) (sym (board-settings board legal)) (omega (arith, may.few, may.may.room.in_batch));
       certified = may.certified;
     }

@@ -1,5 +1,5 @@
 -- Awards, and what they leave.
-use Rattle.std.specs.Prelude.{◌≡◌, ℕ, ◌+◌, ◌≤◌, ◌⊎◌, ◌==◌, not, if◌then◌else◌, List, [], ◌∷◌, ◌++◌, map, filter, find, take, position, All, Contains, Option, Some, None, option_map}
+use Rattle.std.specs.Prelude.{◌≡◌, ℕ, ◌+◌, ◌<◌, ◌≤◌, ◌⊎◌, ◌==◌, not, if◌then◌else◌, List, [], ◌∷◌, ◌++◌, length, map, filter, find, take, position, All, Contains, Option, Some, None, option_map}
 use Rattle.std.specs.List.{zip}
 use Rattle.ride_model.specs.declared.command.Actor.TheVariants.{Feed, Desk}
 use Rattle.ride_model.specs.declared.command.Command.{Command}
@@ -12,13 +12,14 @@ use Rattle.ride_model.specs.declared.reply.Reply.TheVariants.{Waiting, Asked}
 use Rattle.ride_model.specs.declared.vehicle.Ride.{Ride}
 use Rattle.ride_model.specs.declared.vehicle.Vehicle.{Vehicle}
 use Rattle.ride_model.specs.Legal.{replay, versions_of}
+use Rattle.ride_model.specs.Limits.{most_batches, most_requests}
 use Rattle.ride_model.specs.Seating.{vehicle_ids, amount_ids, has_amount}
 use Rattle.ride_model.specs.State.{State}
 use Rattle.ride_model.specs.Vehicle.{ride_ids}
 use Rattle.dual_check.specs.Cells.{GridCells}
 use Rattle.dual_check.specs.Costs.{amounts_over}
 use Rattle.dual_check.specs.Grid.{CertifiesPairing, pairing_cost}
-use Rattle.board_core.specs.Recorded.{Recorded}
+use Rattle.board_core.specs.Recorded.{Recorded, state_of}
 use Rattle.fleet_league.specs.declared.briefs.Brief.{Brief}
 use Rattle.fleet_league.specs.declared.briefs.Settled.{Settled}
 use Rattle.fleet_league.specs.declared.briefs.Settled.TheVariants.{Confirmed, Moved, Timed}
@@ -62,6 +63,12 @@ pub record AreOfOneState (board : Recorded) (quote : Quote) (brief : Brief) : Ty
   pub time_is : quote.time ≡ (replay board.start before).clock
   pub plans_are : quote.plans ≡ versions_of (replay board.start before).vehicles
   pub certified : IsCertifiedOver (replay board.start before) brief
+
+-- a board has room for so many wins: a batch of its settings takes them, and it takes so many requests and one batch more
+pub record HasRoomFor (board : Recorded) (many : ℕ) : Type 0 where
+  pub in_batch : many ≤ board.start.settings.batch
+  pub requests : length (state_of board).requests + many ≤ most_requests
+  pub batches : (state_of board).asked < most_batches
 
 -- the first of the vehicles, in fleet order, whose version is not the quoted one, with the quoted one
 abbrev pub first_moved : List (ℕ × ℕ) → List Vehicle → Option ((ℕ × ℕ) × Vehicle)

@@ -1,13 +1,12 @@
 -- What a company may be awarded of a round.
-use Rattle.std.specs.Prelude.{◌+◌, ◌<◌, ◌≤◌, List, length, All, Contains, IsTrue, nat_eq}
+use Rattle.std.specs.Prelude.{◌≤◌, List, length, All, Contains, IsTrue, nat_eq}
 use Rattle.std.specs.List.{IsDistinct}
 use Rattle.ride_model.specs.declared.vehicle.Ride.{Ride}
 use Rattle.ride_model.specs.Text.{IsSpelledCommand}
 use Rattle.ride_model.specs.Vehicle.{ride_ids}
-use Rattle.ride_model.specs.Limits.{most_batches, most_requests}
 use Rattle.board_core.specs.Recorded.{state_of}
 use Rattle.fleet_league.specs.declared.briefs.Brief.{Brief}
-use Rattle.fleet_league.specs.Awards.{IsCertifiedOver, request_of, won_rides}
+use Rattle.fleet_league.specs.Awards.{HasRoomFor, IsCertifiedOver, request_of, won_rides}
 use Rattle.fleet_league.specs.Companies.{CompanyState}
 use Rattle.fleet_league.specs.Prices.{IsNewRide}
 
@@ -17,9 +16,7 @@ pub record MayPlay (company : CompanyState) (rides : List Ride) : Type 0 where
   pub each : All (IsNewRide (state_of company.board)) rides
   pub differ : IsDistinct nat_eq (ride_ids rides)
   pub spelled : All (λ (ride : Ride). IsSpelledCommand company.board.start.settings.log (request_of ride)) rides
-  pub few : length rides ≤ company.board.start.settings.batch
-  pub room : length (state_of company.board).requests + length rides ≤ most_requests
-  pub few_asked : (state_of company.board).asked < most_batches
+  pub room : HasRoomFor company.board (length rides)
 
 -- a part of a round over a company's board as it stands: its wins are some of the rides, and are certified over the board's prices
 pub record MayWin (company : CompanyState) (rides : List Ride) (brief : Brief) : Type 0 where

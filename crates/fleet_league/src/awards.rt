@@ -1,17 +1,16 @@
 //! Awards: a company confirms its part of a round, or says what has changed since its quote.
-ghost use Rattle.std.specs.Prelude.{◌≡◌, ◌≢◌, ℕ, ◌+◌, ◌<◌, ◌≤◌, List, [], length, nat_eq, option_map, Ok, Contains, All, IfOk, OnOk, OnErr, IsErr, IsTrue, IsFalse};
+ghost use Rattle.std.specs.Prelude.{◌≡◌, ◌≢◌, ℕ, List, [], length, nat_eq, option_map, Ok, Contains, All, IfOk, OnOk, OnErr, IsErr, IsTrue, IsFalse};
 ghost use Rattle.std.specs.List.{IsDistinct};
 ghost use Rattle.ride_model.specs.declared.vehicle.Ride.{Ride};
 ghost use Rattle.ride_model.specs.Text.{IsSpelled};
 ghost use Rattle.ride_model.specs.Vehicle.{ride_ids};
-ghost use Rattle.ride_model.specs.Limits.{most_batches, most_requests};
 ghost use Rattle.batch_commit.specs.Table.{IsTableOf};
 ghost use Rattle.board_core.specs.Recorded.{state_of};
 ghost use Rattle.fleet_league.specs.declared.briefs.Settled.TheVariants.{Confirmed};
 ghost use Rattle.fleet_league.specs.Winning.{MayWin};
 ghost use Rattle.fleet_league.specs.Prices.{IsNewRide};
 ghost use Rattle.fleet_league.specs.Quoting.{quoting_batch};
-ghost use Rattle.fleet_league.specs.Awards.{won_rides, AreOfOneState, first_moved, moved_answer, settled_at, AddsAward, AddsPart};
+ghost use Rattle.fleet_league.specs.Awards.{won_rides, AreOfOneState, HasRoomFor, first_moved, moved_answer, settled_at, AddsAward, AddsPart};
 
 use crate::confirming::confirm;
 use crate::{Brief, Company, Quote, Settled};
@@ -40,10 +39,7 @@ impl<'r> Company<'r> {
         requires ids_spelled { All (λ (ride : Ride). IsSpelled ride.id) (won_rides brief.now.wins) }
         requires chairs { self.old.board.start.settings.log ≡ 1
             → All (λ (ride : Ride). ride.chairs ≡ 0) (won_rides brief.now.wins) }
-        requires few { length brief.now.wins ≤ self.old.board.start.settings.batch }
-        requires room { length (state_of self.old.board).requests + length brief.now.wins
-            ≤ most_requests }
-        requires few_asked { (state_of self.old.board).asked < most_batches }
+        requires room { HasRoomFor self.old.board (length brief.now.wins) }
         ensures settled { IfOk result (λ settled. settled
             ≡ settled_at (state_of self.old.board).clock
             (state_of self.old.board).vehicles quote.now) }

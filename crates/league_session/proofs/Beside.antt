@@ -256,12 +256,14 @@ module _ (desk : Recorded) (company : CompanyState) (lines : ℕ) (fits : IsDesk
         subst (λ (settings : Settings). IsSpelledCommand settings.log (request_of ride)) (sym member.same_settings)
         (subst (λ (r : Ride). IsSpelledCommand desk.start.settings.log (request_of r)) w.ride_is
         (of_all (λ (r : AcceptedRequest). IsSpelledCommand desk.start.settings.log (request_of r.ride)) s.requests w.request fits.spelled w.there)));
-    few = omega (
-      arith,
-      length-take s.settings.batch (waiting_rides s),
-      ap (λ (settings : Settings). settings.batch) (sure desk desk_legal).settings_stay,
-      ap (λ (settings : Settings). settings.batch) member.same_settings,
-    );
-    room = has-room differ;
-    few_asked = omega (arith, member.beside.few_asked, few);
+    room = record {
+      in_batch = omega (
+        arith,
+        length-take s.settings.batch (waiting_rides s),
+        ap (λ (settings : Settings). settings.batch) (sure desk desk_legal).settings_stay,
+        ap (λ (settings : Settings). settings.batch) member.same_settings,
+      );
+      requests = has-room differ;
+      batches = omega (arith, member.beside.few_asked, few);
+    };
   }

@@ -110,9 +110,11 @@ may-play company nodes rides legal settings map_is is_open few short asked diffe
           ride-spelled s.roads board.start.settings.log ride (subst IsRoadMap (sym roads) legal.begins.map_fits)
           ((each ride there).of_map.fits s.roads (ap (λ m. m.nodes) roads ∙ map_is)) (each ride there).of_map.spelled
           (λ _. (each ride there).of_map.no_chairs));
-      few = omega (arith, few, ap (λ (x : Settings). x.batch) settings);
-      room = omega (arith, few-requests board.start board.history, none, short, few);
-      few_asked = asked;
+      room = record {
+        in_batch = omega (arith, few, ap (λ (x : Settings). x.batch) settings);
+        requests = omega (arith, few-requests board.start board.history, none, short, few);
+        batches = asked;
+      };
     }
 
 -- a ride whose request has a text of the first version asks for no chairs

@@ -16,7 +16,7 @@ use Rattle.ride_model.specs.Vehicle.{IsLawful, ride_ids}
 use Rattle.dual_check.specs.Cells.{GridCells, cell_at}
 use Rattle.dual_check.specs.Grid.{CertifiesPairing, IsPairing, column_of, price_at}
 use Rattle.board_core.specs.Recorded.{Recorded, state_of}
-use Rattle.fleet_league.specs.Awards.{AreOfOneState, IsCertifiedBy, IsCertifiedOver, won_rides}
+use Rattle.fleet_league.specs.Awards.{AreOfOneState, HasRoomFor, IsCertifiedBy, IsCertifiedOver, won_rides}
 use Rattle.fleet_league.specs.Companies.{CompanyState, most_reports, report_count}
 use Rattle.fleet_league.specs.declared.briefs.Brief.{Brief}
 use Rattle.fleet_league.specs.declared.briefs.Win.{Win}
@@ -180,9 +180,7 @@ pub record MayAward (board : Recorded) (quote : Quote) (brief : Brief) : Type 0 
   pub ids_differ : IsDistinct nat_eq (ride_ids (won_rides brief.wins))
   pub ids_spelled : All (λ (ride : Ride). IsSpelled ride.id) (won_rides brief.wins)
   pub chairs : All (λ (ride : Ride). ride.chairs ≡ 0) (won_rides brief.wins)
-  pub few : length brief.wins ≤ board.start.settings.batch
-  pub room : length (state_of board).requests + length brief.wins ≤ 100000
-  pub few_asked : (state_of board).asked < 2000
+  pub room : HasRoomFor board (length brief.wins)
 
 -- the ride may be awarded by a quote of the start, whatever happened since
 by-start : (board : Recorded) (quote : Quote) (ride : Ride) (price : ℕ) → IsOneVehicle board.start → price ≤ 3600
@@ -202,9 +200,11 @@ by-start board quote ride price start capped town of clear = record {
   ids_differ = one-ride ride;
   ids_spelled = All-from_recursion (λ (r : Ride). IsSpelled r.id) (ride ∷ []) (town.spelled, tt);
   chairs = All-from_recursion (λ (r : Ride). r.chairs ≡ 0) (ride ∷ []) (town.no_chairs, tt);
-  few = omega (arith, start.batch);
-  room = omega (arith, clear.few_requests);
-  few_asked = omega (arith, clear.few_asked);
+  room = record {
+    in_batch = omega (arith, start.batch);
+    requests = omega (arith, clear.few_requests);
+    batches = omega (arith, clear.few_asked);
+  };
 }
 
 pub may-award : (start : State) (board : Recorded) (quote : Quote) (brief : Brief) (ride : Ride) (price : ℕ) → board.start ≡ start

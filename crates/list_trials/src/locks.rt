@@ -170,7 +170,7 @@ fn has_thousands(value: Numbers, limits: &[u32]) -> bool {
 #[test]
 fn two_passes_write_a_thousand_numbers_each(rt: HostRuntime) {
     let limits = [3, 5];
-    let made = TurnLock::new(rt.alloc(), Numbers::new(rt.alloc(), &limits), 3);
+    let made = TurnLock::new(rt.alloc(), Numbers::new(rt.alloc(), &limits), 0, 3);
     let (lock, first) = made.expect(&rt, "there is memory");
     let value = share_by_two(&rt, lock, first, 1000);
     assert!(rt; has_thousands(value, &limits));
@@ -216,11 +216,31 @@ fn has_entries(value: Numbers, made: &[(u32, u32)]) -> bool {
 
 #[test]
 fn items_stay_after_their_passes_are_joined(rt: HostRuntime) {
-    let made = TurnLock::new(rt.alloc(), Numbers::new(rt.alloc(), &[]), 4);
+    let made = TurnLock::new(rt.alloc(), Numbers::new(rt.alloc(), &[]), 0, 4);
     let (lock, first) = made.expect(&rt, "there is memory");
     let (numbers, value) = join_in_turn(&rt, lock, first);
     let has_entries = has_entries(value, &[(3, 0), (3, 1), (2, 0), (0, 0), (1, 0)]);
     assert!(rt; numbers == [0, 3, 2] && has_entries);
+}
+
+// Numbers of which pass 2 has written one.
+fn one_written(rt: &impl Abort, alloc: Global) -> Numbers<'static>
+    ensures { length result.entries.items ≡ 1 }
+{
+    let mut value = Numbers::new(alloc, &[]);
+    let written = value.entries.push(Entry { by: 2, number: 7 });
+    written.expect(rt, "there is memory");
+    value
+}
+
+#[test]
+fn a_lock_goes_on_from_the_items_that_stand(rt: HostRuntime) {
+    let made = TurnLock::new(rt.alloc(), one_written(&rt, rt.alloc()), 1, 4);
+    let (lock, first) = made.expect(&rt, "there is memory");
+    let seen = first.seen();
+    let (numbers, value) = join_in_turn(&rt, lock, first);
+    let has_entries = has_entries(value, &[(2, 7), (3, 0), (3, 1), (2, 0), (0, 0), (1, 0)]);
+    assert!(rt; seen == 1 && numbers == [0, 3, 2] && has_entries);
 }
 
 // Waits for news, and then counts the items.
@@ -276,7 +296,7 @@ fn count_items<T: Write + Send, R: Threads + Wait + Abort + Sync>(
 
 #[test]
 fn a_pass_that_waits_is_woken_by_an_item(rt: HostRuntime) {
-    let made = TurnLock::new(rt.alloc(), Numbers::new(rt.alloc(), &[]), 3);
+    let made = TurnLock::new(rt.alloc(), Numbers::new(rt.alloc(), &[]), 0, 3);
     let (lock, first) = made.expect(&rt, "there is memory");
     assert!(rt; count_items(&rt, lock, first) == (0, 1, 2));
 }

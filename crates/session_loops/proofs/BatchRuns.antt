@@ -1,6 +1,7 @@
 -- Batches that a desk has opened and closed.
 use Rattle.std.proofs.Common.{◌≡◌, Bool, true, false, not, List, [], ◌∷◌, ◌++◌, refl, sym, subst, ◌∙◌, append_assoc, true≢false}
-use Rattle.std.specs.Prelude.{◌||◌}
+use Rattle.std.specs.Prelude.{◌||◌, Option, Some, None}
+use Rattle.std.proofs.lemmas.Bool.{or_parts, or_from}
 use Rattle.std.proofs.lemmas.List.Folds.{list_any-append}
 use Rattle.ride_model.specs.declared.entry.Ending.{Ending}
 use Rattle.ride_model.specs.declared.entry.Ending.TheVariants.{Whole}
@@ -12,9 +13,9 @@ use Rattle.history_laws.specs.Finishing.{gives_up}
 use Rattle.board_core.specs.Recorded.{opened_entry, end_entry}
 use Rattle.fleet_board.specs.Openings.{OpensBatch}
 use Rattle.fleet_board.specs.Passes.{Known, AddsEntry, AddsNone, actor_of}
-use Rattle.session_loops.specs.Loops.{AreBatches, Closes, RunsDesk}
-use Rattle.session_loops.specs.Making.{ClosesBatch, HasMade, HasRunBatches}
-use Rattle.session_loops.proofs.MadeEntries.{made-none, made-then, made-same, made-end}
+use Rattle.session_loops.specs.Loops.{AreBatches, AreClosing, Closes, RunsDesk}
+use Rattle.session_loops.specs.Making.{ClosesBatch, ClosesFirst, HasMade, HasRunBatches}
+use Rattle.session_loops.proofs.MadeEntries.{made-none, made-first, made-then, made-same, made-end}
 
 -- one batch more
 batches-then : (entries : List Entry) (opened closed : Entry) → AreBatches entries → Closes opened.event closed.event
@@ -78,13 +79,44 @@ batch-then no_memory committed a b c d batch has opens closes = record {
     by_memory false true none kept is = none-then has.batches (opened_entry batch) closes.entry (none refl) refl (kept refl)
     by_memory false false none kept is = absurd (true≢false is)
 
--- and then the desk's end
-pub runs-desk : (no_memory : Bool) (ending : Ending) (ran : Ran) (a b c : Known) → HasRunBatches no_memory a b → (no_memory ≡ false → ending ≡ Whole)
-    → ran.no_memory ≡ no_memory → AddsEntry b c (end_entry (actor_of b.number) ending) → RunsDesk ran a c
-runs-desk no_memory ending ran a b c has whole memory ends = record {
-  batches = has.batches;
-  ending = ending;
-  ends = made-end a b c has.batches ending has.made ends;
+-- what a desk's batches come to, with the one that was open at first
+record HasRunAll (open_batch : Option BatchCopy) (no_memory : Bool) (old new : Known) : Type 0 where
+  all : List Entry
+  made : HasMade old new all
+  closed : AreClosing open_batch all
+  none_given_up : no_memory ≡ false → gives_up all ≡ false
+
+runs-all : (open_batch : Option BatchCopy) (committed no_memory : Bool) (a b c : Known) → ClosesFirst committed open_batch a b
+    → HasRunBatches no_memory b c → HasRunAll open_batch (no_memory || not committed) a c
+runs-all None committed no_memory a b c (kept, same) has = subst (λ k. HasRunAll None (no_memory || not committed) k c) same (record {
+  all = has.batches;
+  made = has.made;
   closed = has.closed;
-  whole = λ is. (whole (sym memory ∙ is), has.none_given_up (sym memory ∙ is));
+  none_given_up = λ is. has.none_given_up (or_parts no_memory (not committed) is).0;
+})
+runs-all (Some batch) committed no_memory a b c closes has = record {
+  all = closes.entry ∷ has.batches;
+  made = made-first a b c closes.entry has.batches closes.adds has.made;
+  closed = (closes.closes, has.closed);
+  none_given_up = λ is.
+      let (memory, kept) = or_parts no_memory (not committed) is in
+      or_from (is_abandoned closes.entry.event) (gives_up has.batches) (closes.kept (was_kept committed kept)) (has.none_given_up memory);
 }
+  where
+    was_kept : (b : Bool) → not b ≡ false → b ≡ true
+    was_kept true is = refl
+    was_kept false is = absurd (true≢false is)
+
+-- and then the desk's end
+pub runs-desk : (open_batch : Option BatchCopy) (committed no_memory : Bool) (ending : Ending) (ran : Ran) (a b c d : Known)
+    → ClosesFirst committed open_batch a b → HasRunBatches no_memory b c → (no_memory ≡ false → ending ≡ Whole)
+    → ran.no_memory ≡ (no_memory || not committed) → AddsEntry c d (end_entry (actor_of c.number) ending) → RunsDesk open_batch ran a d
+runs-desk open_batch committed no_memory ending ran a b c d first has whole memory ends =
+    let run = runs-all open_batch committed no_memory a b c first has in
+    record {
+      batches = run.all;
+      ending = ending;
+      ends = made-end a c d run.all ending run.made ends;
+      closed = run.closed;
+      whole = λ is. (whole (or_parts no_memory (not committed) (sym memory ∙ is)).0, run.none_given_up (sym memory ∙ is));
+    }

@@ -27,6 +27,14 @@ made-then a b c made entry has adds = record {
   rest = adds.rest ∙ ap (λ (x : Known). record x { seen = c.seen; own = c.own }) has.rest;
 }
 
+-- one entry before
+pub made-first : (a b c : Known) (entry : Entry) (made : List Entry) → AddsEntry a b entry → HasMade b c made → HasMade a c (entry ∷ made)
+made-first a b c entry made adds has = record {
+  own_is = has.own_is ∙ ap (λ (own : List Entry). own ++ made) adds.appends.own_grows ∙ append_assoc a.own (entry ∷ []) made;
+  goes_on = prefix_trans a.seen b.seen c.seen (added-prefix a b entry adds) has.goes_on;
+  rest = has.rest ∙ ap (λ (x : Known). record x { seen = c.seen; own = c.own }) adds.rest;
+}
+
 -- no entry more
 pub made-same : (a b c : Known) (made : List Entry) → HasMade a b made → AddsNone b c → HasMade a c made
 made-same a b c made has adds =

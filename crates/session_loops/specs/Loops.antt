@@ -1,11 +1,12 @@
 -- What the loops of feeds, desks and the scribe leave of a shared board's passes.
-use Rattle.std.specs.Prelude.{◌≡◌, ℕ, ◌≤◌, ◌++◌, ⊤, true, false, List, [], ◌∷◌, length, take, All, Option, IsTrue, IsFalse}
+use Rattle.std.specs.Prelude.{◌≡◌, ℕ, ◌≤◌, ◌++◌, ⊤, true, false, List, [], ◌∷◌, length, take, All, Option, Some, None, IsTrue, IsFalse}
 use mathlib.Core.List.{IsPrefix}
 use Rattle.ride_model.specs.declared.entry.Ending.{Ending}
 use Rattle.ride_model.specs.declared.entry.Ending.TheVariants.{Whole, Cut}
 use Rattle.ride_model.specs.declared.entry.Entry.{Entry}
 use Rattle.ride_model.specs.declared.entry.Event.{Event}
 use Rattle.ride_model.specs.declared.entry.Event.TheVariants.{Opened, Committed, Abandoned}
+use Rattle.ride_model.specs.Seating.{BatchCopy}
 use Rattle.ride_model.specs.Text.{entry_lines}
 use Rattle.ride_ports.specs.declared.outcome.Ran.{Ran}
 use Rattle.ride_ports.specs.Bytes.{Reads, Writes, WritesPrefix}
@@ -14,7 +15,7 @@ use Rattle.line_reader.specs.Limits.{IsWithinLimits, IsTooLong}
 use Rattle.command_lines.specs.Limits.{ended_commands, feed_limits}
 use Rattle.history_laws.specs.Start.{is_fed}
 use Rattle.history_laws.specs.Finishing.{gives_up}
-use Rattle.board_core.specs.Recorded.{end_entry}
+use Rattle.board_core.specs.Recorded.{end_entry, opened_entry}
 use Rattle.fleet_board.specs.Passes.{Known, actor_of, all_ended, commands_in, root_of, seen_state}
 use Rattle.session_loops.specs.Stops.{AreFirstOf}
 use Rattle.line_reader.specs.FeedRuns.{IsReadWhole}
@@ -61,12 +62,19 @@ AreBatches [] = ⊤
 AreBatches (opened ∷ []) = ⊥
 AreBatches (opened ∷ closed ∷ more) = Closes opened.event closed.event × AreBatches more
 
--- what a desk's loop leaves of its pass: where memory was not wanting it gave no batch up, and none is to come
-pub record RunsDesk (ran : Ran) (old new : Known) : Type 0 where
+-- the first entry closes the batch that was open, where one was, and then each opens a batch which the next one closes
+abbrev pub AreClosing : Option BatchCopy → List Entry → Type 0
+AreClosing None entries = AreBatches entries
+AreClosing (Some batch) [] = ⊥
+AreClosing (Some batch) (closed ∷ more) = Closes (opened_entry batch).event closed.event × AreBatches more
+
+-- what a desk's loop leaves of its pass, which had this batch open or none: where memory was not wanting it gave no batch up, and
+-- none is to come
+pub record RunsDesk (open_batch : Option BatchCopy) (ran : Ran) (old new : Known) : Type 0 where
   pub batches : List Entry
   pub ending : Ending
   pub ends : EndsWith old new batches ending
-  pub closed : AreBatches batches
+  pub closed : AreClosing open_batch batches
   pub whole : ran.no_memory ≡ false → (ending ≡ Whole) × IsFalse (gives_up batches)
 
 -- the lines of the first entries of the one history were written

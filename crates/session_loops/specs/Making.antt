@@ -52,6 +52,11 @@ pub record ClosesBatch (committed : Bool) (batch : BatchCopy) (old new : Known) 
   pub closes : Closes (opened_entry batch).event entry.event
   pub kept : committed ≡ true → IsFalse (is_abandoned entry.event)
 
+-- a desk has closed the batch that it had open, where it had one
+abbrev pub ClosesFirst : Bool → Option BatchCopy → Known → Known → Type 0
+ClosesFirst committed open_batch old new =
+    MatchOption open_batch ((committed ≡ true) × (new ≡ old)) (λ batch. ClosesBatch committed batch old new)
+
 -- a desk has opened and closed batches, of which it gave none up where memory was not wanting
 pub record HasRunBatches (no_memory : Bool) (old new : Known) : Type 0 where
   pub batches : List Entry

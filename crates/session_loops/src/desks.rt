@@ -1,5 +1,5 @@
 //! The loop of a desk.
-ghost use Rattle.std.specs.Prelude.{◌≡◌, false};
+ghost use Rattle.std.specs.Prelude.{◌≡◌, false, IfSome, MatchOption};
 ghost use Rattle.ride_model.specs.declared.entry.Ending.TheVariants.{Whole};
 ghost use Rattle.ride_model.specs.declared.entry.Event.TheVariants.{Finish};
 ghost use Rattle.ride_model.specs.Legal.{IsLegalEvent};
@@ -9,7 +9,7 @@ ghost use Rattle.fleet_board.specs.Passes.{IsPoint, actor_of, root_of, seen_stat
 ghost use Rattle.fleet_board.specs.Roles.{MayCommit, MayOpen};
 ghost use Rattle.fleet_board.specs.Sharing.{MayUse};
 ghost use Rattle.session_loops.specs.Loops.{RunsDesk};
-ghost use Rattle.session_loops.specs.Making.{ClosesBatch, HasRunBatches};
+ghost use Rattle.session_loops.specs.Making.{ClosesBatch, ClosesFirst, HasRunBatches};
 
 use crate::solving::solved;
 use batch_commit::Batch;
@@ -21,33 +21,61 @@ use ride_ports::{Gate, Ran};
 use std::sync::Wait;
 use std::thread::Threads;
 
-/// Opens, prices, seats and commits batches until no batch is to come, and ends the desk whole. A batch for which memory is
-/// wanting is given up; where none can be opened for want of memory the desk is cut. The pass is the desk's. It passes the gate
-/// at place 1 after it opened a batch, and at 2 before it commits it. While no batch is to be opened it goes on with the hierarchy of
-/// its roads, and then sleeps.
+/// Closes the batch that the desk has open, where it has one; then opens, prices, seats and commits batches until no batch is to
+/// come, and ends the desk whole. A batch for which memory is wanting is given up; where none can be opened for want of memory the
+/// desk is cut. The pass is the desk's. It passes the gate at place 1 once a batch is open, and at 2 before it commits it. While no
+/// batch is to be opened it goes on with the hierarchy of its roads, and then sleeps.
 pub fn desk_loop<'r, R: Threads + Wait + Sync, G: Gate>(
     rt: &R,
     board: &SharedBoard<'r>,
     pass: &mut ActorPass<'r>,
+    open_batch: Option<Batch>,
     pricer: &mut Pricer<'_>,
     gate: &G,
 ) -> Ran
-    requires desk { MayOpen board.now pass.old }
+    requires desk { MatchOption open_batch (MayOpen board.now pass.old)
+        (MayCommit board.now pass.old) }
+    requires priceable { IfSome open_batch (IsPriceable pricer.old) }
     requires roads { (root_of (knowledge pass.old)).start.roads ≡ pricer.old }
     ensures pass { MayUse board.now pass.new }
     ensures point { IsPoint (knowledge pass.new) }
-    ensures ran { RunsDesk result (knowledge pass.old) (knowledge pass.new) }
+    ensures ran { RunsDesk open_batch result (knowledge pass.old) (knowledge pass.new) }
     ensures sink { result.sink_failed ≡ false }
     ensures source { result.source_failed ≡ false }
     ensures length { result.too_long ≡ false }
 {
+    let committed = close_first(rt, board, pass, open_batch, pricer, gate);
     let run = run_batches(rt, board, pass, pricer, gate);
     board.end(rt, pass, run.ending);
     Ran {
         sink_failed: false,
-        no_memory: run.no_memory,
+        no_memory: run.no_memory | !committed,
         source_failed: false,
         too_long: false,
+    }
+}
+
+// Closes the batch that a desk has open, where it has one; returns whether none was given up.
+fn close_first<'r, R: Threads + Wait + Sync, G: Gate>(
+    rt: &R,
+    board: &SharedBoard<'r>,
+    pass: &mut ActorPass<'r>,
+    open_batch: Option<Batch>,
+    pricer: &mut Pricer<'_>,
+    gate: &G,
+) -> bool
+    requires desk { MatchOption open_batch (MayOpen board.now pass.old)
+        (MayCommit board.now pass.old) }
+    requires priceable { IfSome open_batch (IsPriceable pricer.old) }
+    requires roads { (root_of (knowledge pass.old)).start.roads ≡ pricer.old }
+    ensures desk { MayOpen board.now pass.new }
+    ensures roads { (root_of (knowledge pass.new)).start.roads ≡ pricer.new }
+    ensures closed { ClosesFirst result open_batch (knowledge pass.old) (knowledge pass.new) }
+    ensures pricer { pricer.new ≡ pricer.old }
+{
+    match open_batch {
+        Some(batch) => close_batch(rt, board, pass, batch, pricer, gate),
+        None => true,
     }
 }
 

@@ -38,7 +38,7 @@ pub record DeskWhole (desk : ℕ) (history : List Entry) : Type 0 where
 
 -- what the history has of a desk
 pub desk-of : (desk : ℕ) (ran : Ran) (root : Recorded) (old new : Known) (history : List Entry) (number : ℕ) → old ≡ newcomer root number
-    → RunsDesk ran old new → IsPartOf history (Desk desk) new → ran.no_memory ≡ false → DeskWhole desk history
+    → RunsDesk None ran old new → IsPartOf history (Desk desk) new → ran.no_memory ≡ false → DeskWhole desk history
 desk-of desk ran root old new history number fresh runs its memory = record {
   whole = ap has_whole_end part ∙ ends-whole runs.batches (actor_of number) runs.ending (runs.whole memory).0;
   none_given_up = ap gives_up part

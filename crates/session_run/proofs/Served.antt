@@ -128,9 +128,9 @@ module _ (log desks : ℕ) (stage : Stage) (riders drivers : FeedRun) (head_fail
             (of_drivers.ends_whole (none-wanted answers output.failed memory).drivers (read_both read).1) fits.0 fits.1),
         of_riders.is,
         of_drivers.is,
-        λ long. by_feed (length-passed answers output.failed left.desk_1.only.length long),
+        λ long. by_feed (length-passed answers output.failed left.desks.first.only.length long),
         written-out ran first last faults k output (text_of log 2 desks board.history)
-            (sink-is answers output.failed left.feed_1.sink left.feed_2.sink left.desk_1.only.sink) nothing_left has,
+            (sink-is answers output.failed left.feeds.of_riders.sink left.feeds.of_drivers.sink left.desks.first.only.sink) nothing_left has,
       )
     where
       start : State

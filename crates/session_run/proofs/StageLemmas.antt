@@ -68,14 +68,14 @@ module _ (log : ℕ) (stage : Stage) (riders drivers : FeedRun) (head_failed : B
     pub riders-of : (session : Ran) → (session.no_memory ≡ false → answers.riders.no_memory ≡ false)
         → FeedOf log 1 riders answers.riders session board.history
     riders-of session memory =
-        feed-of log 1 riders answers.riders session (root_at stage) (knowledge stage.actors.feed_1) (knowledge new.feed_1) board.history
-        (omega arith, omega arith) ready.feed_1.0.1 left.feed_1.runs closed.feed_1 left.feed_1.faults memory
+        feed-of log 1 riders answers.riders session (root_at stage) (knowledge stage.actors.feeds.riders) (knowledge new.feeds.riders) board.history
+        (omega arith, omega arith) ready.feed_1.0.1 left.feeds.of_riders.runs closed.feed_1 left.feeds.of_riders.faults memory
 
     pub drivers-of : (session : Ran) → (session.no_memory ≡ false → answers.drivers.no_memory ≡ false)
         → FeedOf log 2 drivers answers.drivers session board.history
     drivers-of session memory =
-        feed-of log 2 drivers answers.drivers session (root_at stage) (knowledge stage.actors.feed_2) (knowledge new.feed_2) board.history
-        (omega arith, omega arith) ready.feed_2.0.1 left.feed_2.runs closed.feed_2 left.feed_2.faults memory
+        feed-of log 2 drivers answers.drivers session (root_at stage) (knowledge stage.actors.feeds.drivers) (knowledge new.feeds.drivers) board.history
+        (omega arith, omega arith) ready.feed_2.0.1 left.feeds.of_drivers.runs closed.feed_2 left.feeds.of_drivers.faults memory
 
     -- the desks' parts, where memory was not wanting
     pub desks-whole : answers.desks.no_memory ≡ false → (desks : ℕ) → (root_at stage).desks ≡ desks → IsOneOrTwo desks
@@ -86,12 +86,12 @@ module _ (log : ℕ) (stage : Stage) (riders drivers : FeedRun) (head_failed : B
       where
         one : DeskWhole 1 board.history
         one =
-            desk-of 1 answers.desks (root_at stage) (knowledge stage.actors.desk_1.pass) (knowledge new.desk_1.pass) board.history 3
-            ready.desk_1.0.1 left.desk_1.runs closed.desk_1 memory
+            desk-of 1 answers.desks (root_at stage) (knowledge stage.actors.desks.first.pass) (knowledge new.desks.first.pass) board.history 3
+            ready.desk_1.0.1 left.desks.first.runs closed.desk_1 memory
 
         two : 2 ≤ desks → DeskWhole 2 board.history
         two second =
-            by_desk stage.actors.desk_2 new.desk_2 ready.desk_2 left.desk_2 closed.desk_2
+            by_desk stage.actors.desks.second new.desks.second ready.desk_2 left.desks.second closed.desk_2
           where
             there : (root_at stage).desks ≡ 2
             there = omega (arith, desks_are, second, few)

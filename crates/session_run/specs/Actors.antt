@@ -1,5 +1,5 @@
 -- What the actors of a session need, and what they leave.
-use Rattle.std.specs.Prelude.{◌≡◌, ℕ, ◌≤◌, ◌++◌, ◌||◌, Bool, false, List, [], length, take, All, Option, Result, IsTrue, IfOk, is_err}
+use Rattle.std.specs.Prelude.{◌≡◌, ℕ, ◌≤◌, ◌++◌, ◌||◌, Bool, false, List, [], length, take, All, Option, None, Result, IsTrue, IfOk, is_err}
 use Rattle.ride_model.specs.declared.entry.Entry.{Entry}
 use Rattle.ride_model.specs.Road.{RoadMap}
 use Rattle.ride_model.specs.Text.{entry_lines}
@@ -69,7 +69,7 @@ module _ {g : Ghosts Kept Recorded Entry} where
   -- a desk ran
   pub record LeavesDesk (board : SharedBoard) (ran : Ran) (old new : Pass Kept Recorded Entry g) : Type 0 where
     pub may_use : MayUse board new
-    pub runs : RunsDesk ran (knowledge old) (knowledge new)
+    pub runs : RunsDesk None ran (knowledge old) (knowledge new)
     pub only : OnlyWants ran
 
   -- a scribe may run: it writes by the board's version of the log

@@ -29,8 +29,14 @@ pub record FeedRun : Type 0 where
   pub faults_before : ℕ
   pub faults_after : ℕ
 
-abbrev pub feed_run : Option (List ℕ) → Option (List ℕ) → ℕ → ℕ → FeedRun
-feed_run bytes left before after = record { bytes = bytes; left = left; faults_before = before; faults_after = after }
+-- that of a source, by what a source has left and what it counts
+abbrev pub feed_run : {S : Type 0} → (S → Option (List ℕ)) → (S → ℕ) → S → S → FeedRun
+feed_run left faults before after = record {
+  bytes = left before;
+  left = left after;
+  faults_before = faults before;
+  faults_after = faults after;
+}
 
 -- a history has this part of a feed, of whose bytes these were taken: the answers to its commands, once and in order, and its
 -- end. It ended whole exactly where all its commands were answered, and where memory was not wanting it was cut exactly where

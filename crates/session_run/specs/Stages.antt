@@ -19,6 +19,8 @@ use Rattle.text_page.specs.Output.{IsFresh}
 use Rattle.session_run.specs.declared.live.actors.Actors.{Actors}
 use Rattle.session_run.specs.declared.live.actors.Answers.{Answers}
 use Rattle.session_run.specs.declared.live.desk_pairs.Desk.{Desk}
+use Rattle.session_run.specs.declared.live.desk_pairs.Desks.{Desks}
+use Rattle.session_run.specs.declared.live.feed_pairs.FeedPasses.{FeedPasses}
 use Rattle.session_loops.specs.declared.scribes.Scribed.{Scribed}
 use Rattle.session_run.specs.declared.live.stages.Stage.{Stage}
 use Rattle.session_run.specs.Actors.{LeavesDesk, LeavesFeed, LeavesScribe, MayRunDesk, MayRunFeed, MayScribe, either}
@@ -34,26 +36,26 @@ root_at stage = root_of (knowledge stage.actors.scribe)
 
 -- nothing has happened yet
 pub record IsReady (stage : Stage) : Type 0 where
-  pub feed_1 : IsNewFeed stage.board (root_at stage) 1 stage.actors.feed_1
-  pub feed_2 : IsNewFeed stage.board (root_at stage) 2 stage.actors.feed_2
-  pub desk_1 : IsNewDesk stage.board (root_at stage) 3 stage.actors.desk_1.pass
-  pub pricer_1 : stage.actors.desk_1.pricer ≡ (root_at stage).start.roads
-  pub desk_2 : MatchOption stage.actors.desk_2 ((root_at stage).desks ≢ 2) (λ (desk : Desk). ((root_at stage).desks ≡ 2)
+  pub feed_1 : IsNewFeed stage.board (root_at stage) 1 stage.actors.feeds.riders
+  pub feed_2 : IsNewFeed stage.board (root_at stage) 2 stage.actors.feeds.drivers
+  pub desk_1 : IsNewDesk stage.board (root_at stage) 3 stage.actors.desks.first.pass
+  pub pricer_1 : stage.actors.desks.first.pricer ≡ (root_at stage).start.roads
+  pub desk_2 : MatchOption stage.actors.desks.second ((root_at stage).desks ≢ 2) (λ (desk : Desk). ((root_at stage).desks ≡ 2)
       × IsNewDesk stage.board (root_at stage) 4 desk.pass × (desk.pricer ≡ (root_at stage).start.roads))
   pub scribe : IsBack stage.board 0 stage.actors.scribe
   pub scribe_point : IsPoint (knowledge stage.actors.scribe)
   pub scribe_seen : (knowledge stage.actors.scribe).seen ≡ []
-  pub out : (knowledge stage.actors.scribe).out ≡ 3 + one_if_some stage.actors.desk_2
+  pub out : (knowledge stage.actors.scribe).out ≡ 3 + one_if_some stage.actors.desks.second
   pub output : IsFresh stage.output
 
 -- all passes are back
 pub record MayClose (board : SharedBoard) (actors : Actors) : Type 0 where
-  pub feed_1 : IsBack board 1 actors.feed_1
-  pub feed_2 : IsBack board 2 actors.feed_2
-  pub desk_1 : IsBack board 3 actors.desk_1.pass
-  pub desk_2 : IfSome actors.desk_2 (λ (desk : Desk). IsBack board 4 desk.pass)
+  pub feed_1 : IsBack board 1 actors.feeds.riders
+  pub feed_2 : IsBack board 2 actors.feeds.drivers
+  pub desk_1 : IsBack board 3 actors.desks.first.pass
+  pub desk_2 : IfSome actors.desks.second (λ (desk : Desk). IsBack board 4 desk.pass)
   pub scribe : IsBack board 0 actors.scribe
-  pub out : (knowledge actors.scribe).out ≡ 3 + one_if_some actors.desk_2
+  pub out : (knowledge actors.scribe).out ≡ 3 + one_if_some actors.desks.second
 
 -- the history of the board has each actor's part
 pub record IsClosed (actors : Actors) (board : Recorded) : Type 0 where
@@ -62,27 +64,43 @@ pub record IsClosed (actors : Actors) (board : Recorded) : Type 0 where
   pub legal : IsLegal board.feeds board.desks board.start board.history
   pub text : HasText board.start.settings.log board.feeds board.desks board.history
   pub seen : IsPrefix (knowledge actors.scribe).seen board.history
-  pub feed_1 : IsPartOf board.history (Feed 1) (knowledge actors.feed_1)
-  pub feed_2 : IsPartOf board.history (Feed 2) (knowledge actors.feed_2)
-  pub desk_1 : IsPartOf board.history (DeskNumbered 1) (knowledge actors.desk_1.pass)
-  pub desk_2 : IfSome actors.desk_2 (λ (desk : Desk). IsPartOf board.history (DeskNumbered 2) (knowledge desk.pass))
+  pub feed_1 : IsPartOf board.history (Feed 1) (knowledge actors.feeds.riders)
+  pub feed_2 : IsPartOf board.history (Feed 2) (knowledge actors.feeds.drivers)
+  pub desk_1 : IsPartOf board.history (DeskNumbered 1) (knowledge actors.desks.first.pass)
+  pub desk_2 : IfSome actors.desks.second (λ (desk : Desk). IsPartOf board.history (DeskNumbered 2) (knowledge desk.pass))
+
+-- both feeds may run
+pub record MayRunFeeds (board : SharedBoard) (log : ℕ) (passes : FeedPasses) : Type 0 where
+  pub riders : MayRunFeed board log passes.riders
+  pub drivers : MayRunFeed board log passes.drivers
+
+-- each desk may run
+pub record MayRunDesks (board : SharedBoard) (desks : Desks) : Type 0 where
+  pub first : MayRunDesk board desks.first.pass desks.first.pricer
+  pub second : IfSome desks.second (λ (desk : Desk). MayRunDesk board desk.pass desk.pricer)
 
 -- all actors may run
 pub record MayRunActors (board : SharedBoard) (log : ℕ) (actors : Actors) : Type 0 where
-  pub feed_1 : MayRunFeed board log actors.feed_1
-  pub feed_2 : MayRunFeed board log actors.feed_2
-  pub desk_1 : MayRunDesk board actors.desk_1.pass actors.desk_1.pricer
-  pub desk_2 : IfSome actors.desk_2 (λ (desk : Desk). MayRunDesk board desk.pass desk.pricer)
+  pub feeds : MayRunFeeds board log actors.feeds
+  pub desks : MayRunDesks board actors.desks
   pub scribe : MayScribe board log actors.scribe
+
+-- both feeds ran, each with its answer
+pub record LeavesFeeds (board : SharedBoard) (log : ℕ) (riders drivers : FeedRun) (answers : Ran × Ran) (old new : FeedPasses) : Type 0 where
+  pub of_riders : LeavesFeed board log riders answers.0 old.riders new.riders
+  pub of_drivers : LeavesFeed board log drivers answers.1 old.drivers new.drivers
+
+-- each desk ran, with one answer of them all
+pub record LeavesDesks (board : SharedBoard) (ran : Ran) (old new : Desks) : Type 0 where
+  pub first : LeavesDesk board ran old.first.pass new.first.pass
+  pub second : MatchOption old.second (IsNone new.second)
+      (λ (earlier : Desk). IsSomeAnd new.second (λ (later : Desk). LeavesDesk board ran earlier.pass later.pass))
 
 -- all actors ran
 pub record LeavesActors (board : SharedBoard) (log : ℕ) (riders drivers : FeedRun) (head_failed : Bool)
     (before after : Option (List ℕ)) (faults_before faults_after : ℕ) (answers : Answers) (old new : Actors) : Type 0 where
-  pub feed_1 : LeavesFeed board log riders answers.riders old.feed_1 new.feed_1
-  pub feed_2 : LeavesFeed board log drivers answers.drivers old.feed_2 new.feed_2
-  pub desk_1 : LeavesDesk board answers.desks old.desk_1.pass new.desk_1.pass
-  pub desk_2 : MatchOption old.desk_2 (IsNone new.desk_2)
-      (λ (earlier : Desk). IsSomeAnd new.desk_2 (λ (later : Desk). LeavesDesk board answers.desks earlier.pass later.pass))
+  pub feeds : LeavesFeeds board log riders drivers (answers.riders, answers.drivers) old.feeds new.feeds
+  pub desks : LeavesDesks board answers.desks old.desks new.desks
   pub scribe : LeavesScribe board log head_failed before after faults_before faults_after answers.scribed old.scribe new.scribe
 
 -- whether a scribe ended for want of memory

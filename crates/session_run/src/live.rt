@@ -4,6 +4,7 @@ mod desk_pairs;
 mod feed_pairs;
 mod outcomes;
 mod serving;
+mod shared;
 mod stages;
 
-pub use serving::serve;
+pub use serving::{Outset, serve};

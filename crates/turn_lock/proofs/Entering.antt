@@ -34,17 +34,18 @@ module _ {T R I : Type 0} (root : T → R) (history : T → List I) (maker : I �
   abbrev Fit : List I → Spot T → (ℕ → Option ℕ) → ℕ → ℕ → V → Type 0
   Fit = Fits root history maker origin
 
-  start_fits : (x : T) (passes j : ℕ) (u : V) → get_elem? (first_view origin passes ∷ []) j ≡ some u → Fit [] (home x) (owner_with (λ _. None) 0 (Some 0)) (others_in (first_view {I = I} origin passes ∷ [])) j u
-  start_fits x passes zero u e = let v : V = first_view origin passes in
+  start_fits : (x : T) (passes j : ℕ) (u : V) → get_elem? (first_view maker origin (history x) passes ∷ []) j ≡ some u
+      → Fit (history x) (home x) (owner_with (λ _. None) 0 (Some 0)) (others_in (first_view maker origin (history x) passes ∷ [])) j u
+  start_fits x passes zero u e = let v : V = first_view maker origin (history x) passes in
       let none_other : others_in (v ∷ []) ≡ 0 = let a = others-push [] v in let b : weight v ≡ 0 = refl in let c : others_in {R = R} {I = I} [] ≡ 0 = refl in omega (arith, a, b, c) in
-      subst (Fit [] (home x) (owner_with (λ _. None) 0 (Some 0)) (others_in (v ∷ [])) 0) (some-injective v u e) record {
+      subst (Fit (history x) (home x) (owner_with (λ _. None) 0 (Some 0)) (others_in (v ∷ [])) 0) (some-injective v u e) record {
         root_is = refl;
-        seen_is = prefix_nil [];
+        seen_is = prefix_self (history x);
         own_is = refl;
         owned = refl;
         turn_is = λ t. absurd (cc t);
-        first_is = prefix_nil [];
-        second_is = prefix_nil [];
+        first_is = prefix_nil (history x);
+        second_is = prefix_nil (history x);
         leads = λ _. record {
           not_given = λ n pos _. (owner_there (λ _. None) 0 (Some 0) n (λ z. omega arith), refl);
           ended_gone = All-nil _;
@@ -55,14 +56,15 @@ module _ {T R I : Type 0} (root : T → R) (history : T → List I) (maker : I �
       }
   start_fits x passes (suc j) u e = absurd (some-ne-none u (sym e))
 
-  pub starts : (x : T) (slots : List (Option T)) (passes : ℕ) → root x ≡ origin → history x ≡ [] → slots ≡ Some x ∷ [] → Rule (opening (0 ∷ 0 ∷ []) slots (first_view origin passes))
-  starts x slots passes from empty is = record {
-    log = [];
+  pub starts : (x : T) (slots : List (Option T)) (passes : ℕ) → root x ≡ origin → slots ≡ Some x ∷ []
+      → Rule (opening (length (history x) ∷ 0 ∷ []) slots (first_view maker origin (history x) passes))
+  starts x slots passes from is = record {
+    log = history x;
     spot = home x;
     owner = owner_with (λ _. None) 0 (Some 0);
     words = refl;
     homes = ap (map some) is;
-    stands = (empty, from);
+    stands = (refl, from);
     each_live = λ j u at _. start_fits x passes j u at;
   }
 

@@ -48,7 +48,7 @@ module _ {T R I : Type 0} (root : T → R) (history : T → List I) (maker : I �
       counted : m.0.knowledge.has_turn ≡ true → get_or s.words 0 0 ≡ length m.0.knowledge.seen
       counted turn = ap (λ ws. get_or ws 0 0) r.words ∙ ap (λ (l : List I). length l) (sym (f.turn_is turn).1)
 
-  pub splits : (id : ℕ) (v : V) → v.is_live ≡ true → v.knowledge.number ≡ 0 → 2 ≤ v.knowledge.room → v.knowledge.has_turn ≡ false → Splits Rule id v (left_of v) (right_of v)
+  pub splits : (id : ℕ) (v : V) → v.is_live ≡ true → v.knowledge.number ≡ 0 → 2 ≤ v.knowledge.room → v.knowledge.has_turn ≡ false → Splits Rule id v (left_of v) (right_of maker v)
   splits id v live zeroth room free s r at = record {
     log = r.log;
     spot = r.spot;
@@ -66,7 +66,7 @@ module _ {T R I : Type 0} (root : T → R) (history : T → List I) (maker : I �
       left = left_of v
 
       right : V
-      right = right_of v
+      right = right_of maker v
 
       number : ℕ
       number = v.knowledge.room - 1
@@ -83,7 +83,7 @@ module _ {T R I : Type 0} (root : T → R) (history : T → List I) (maker : I �
       lead : Lead r.log r.owner (others_in s.views) v
       lead = f.leads zeroth
 
-      unused : (r.owner number ≡ None) × (items_of maker number r.log ≡ [])
+      unused : (r.owner number ≡ None) × (items_of maker number r.log ≡ items_of maker number v.knowledge.earlier)
       unused = lead.not_given number (omega arith) (omega arith)
 
       has_number : right.knowledge.number ≢ 0

@@ -1,12 +1,22 @@
 -- What a pass knows at the start and after each call.
 use Rattle.std.specs.Prelude.{ℕ, ◌+◌, ◌-◌, true, false, List, [], ◌∷◌, ◌++◌, length, drop}
 use Rattle.turn_lock.specs.declared.rule.Knowledge.{Knowledge}
-use Rattle.turn_lock.specs.History.{longer}
+use Rattle.turn_lock.specs.History.{items_of, longer}
 
 module _ {R I : Type 0} where
-  -- the pass of number 0 has seen nothing
-  abbrev pub at_start : R → ℕ → Knowledge R I
-  at_start root passes = record { number = 0; room = passes; out = 0; has_turn = false; root = root ∷ []; seen = []; own = []; ended = [] }
+  -- the pass of number 0 has seen the history as it stands
+  abbrev pub at_start : (I → ℕ) → R → List I → ℕ → Knowledge R I
+  at_start maker root history passes = record {
+    number = 0;
+    room = passes;
+    out = 0;
+    has_turn = false;
+    root = root ∷ [];
+    earlier = history;
+    seen = history;
+    own = items_of maker 0 history;
+    ended = [];
+  }
 
   -- the pass has the turn, and has seen the whole history
   abbrev pub after_enter : Knowledge R I → List I → Knowledge R I
@@ -24,9 +34,19 @@ module _ {R I : Type 0} where
   abbrev pub after_split : Knowledge R I → Knowledge R I
   after_split k = record k { room = k.room - 1; out = k.out + 1 }
 
-  -- the pass that gets this number has seen as much, and has no items
-  abbrev pub split_off : Knowledge R I → Knowledge R I
-  split_off k = record { number = k.room - 1; room = 1; out = 0; has_turn = false; root = k.root; seen = k.seen; own = []; ended = [] }
+  -- the pass that gets this number has seen as much, and its items are those of before the lock was made
+  abbrev pub split_off : (I → ℕ) → Knowledge R I → Knowledge R I
+  split_off maker k = record {
+    number = k.room - 1;
+    room = 1;
+    out = 0;
+    has_turn = false;
+    root = k.root;
+    earlier = k.earlier;
+    seen = k.seen;
+    own = items_of maker (k.room - 1) k.earlier;
+    ended = [];
+  }
 
   -- the other pass came back, and its items stand with its number
   abbrev pub after_join : Knowledge R I → Knowledge R I → Knowledge R I

@@ -38,10 +38,10 @@ module _ {T R I : Type 0} (root : T → R) (history : T → List I) (maker : I �
   Stands log views (away j) = (v : View R I) × (get_elem? views j ≡ some v) × (v.is_live ≡ true) × (v.knowledge.has_turn ≡ true)
 
   -- What the pass of number 0 knows of the others. `owner` says which live seat has a number.
-  -- The numbers from 1 to `room - 1` were not given yet, and have no items. Those that have ended are no seat's and are not given again, and their items stand.
+  -- The numbers from 1 to `room - 1` were not given yet, and have no items but those of before the lock was made. Those that have ended are no seat's and are not given again, and their items stand.
   -- No more than `out` other views are live. `was_out` is what `out` was before the last pass came back.
   pub record Leads (log : List I) (owner : ℕ → Option ℕ) (others : ℕ) (v : View R I) : Type 0 where
-    pub not_given : (n : ℕ) → 0 < n → n < v.knowledge.room → (owner n ≡ None) × (items_of maker n log ≡ [])
+    pub not_given : (n : ℕ) → 0 < n → n < v.knowledge.room → (owner n ≡ None) × (items_of maker n log ≡ items_of maker n v.knowledge.earlier)
     pub ended_gone : All (λ e. (owner e.number ≡ None) × (v.knowledge.room ≤ e.number)) v.knowledge.ended
     pub ended_stand : EndedStand maker v.knowledge.ended log
     pub counted : others ≤ v.knowledge.out

@@ -13,15 +13,15 @@ module _ {R I : Type 0} where
   with_knowledge v k = record v { knowledge = k }
 
   -- the view of the first seat
-  abbrev pub first_view : R → ℕ → View R I
-  first_view root passes = record { is_live = true; knowledge = at_start root passes; first_seen = []; second_seen = []; was_out = 1 }
+  abbrev pub first_view : (I → ℕ) → R → List I → ℕ → View R I
+  first_view maker root history passes = record { is_live = true; knowledge = at_start maker root history passes; first_seen = []; second_seen = []; was_out = 1 }
 
   -- what is left of the view of number 0 after a split, and what the new seat gets
   abbrev pub left_of : View R I → View R I
   left_of v = record v { knowledge = after_split v.knowledge; was_out = v.was_out + 1 }
 
-  abbrev pub right_of : View R I → View R I
-  right_of v = record { is_live = true; knowledge = split_off v.knowledge; first_seen = []; second_seen = []; was_out = 1 }
+  abbrev pub right_of : (I → ℕ) → View R I → View R I
+  right_of maker v = record { is_live = true; knowledge = split_off maker v.knowledge; first_seen = []; second_seen = []; was_out = 1 }
 
   -- what the view of number 0 becomes as another is joined into it, and what is left of the other
   abbrev pub both_of : View R I → View R I → View R I
@@ -30,7 +30,7 @@ module _ {R I : Type 0} where
   abbrev pub spent_view : View R I
   spent_view = record {
     is_live = false;
-    knowledge = record { number = 0; room = 0; out = 0; has_turn = false; root = []; seen = []; own = []; ended = [] };
+    knowledge = record { number = 0; room = 0; out = 0; has_turn = false; root = []; earlier = []; seen = []; own = []; ended = [] };
     first_seen = [];
     second_seen = [];
     was_out = 0;

@@ -45,15 +45,21 @@ impl<T: Chronicle + Send> Pass<T> {
 }
 
 impl<T: Chronicle + Send, A: Allocator> TurnLock<T, A> {
-    /// A lock for at most so many numbers, and the pass of number 0, from which the others are split.
-    /// Where memory is wanting the value is dropped.
-    pub fn new(alloc: A, value: T, passes: u32) -> Result<(TurnLock<T, A>, Pass<T>), NoMemory>
+    /// A lock for at most so many numbers round a value whose history has so many items, and the pass of number 0, from which the
+    /// others are split. Where memory is wanting the value is dropped.
+    pub fn new(
+        alloc: A,
+        value: T,
+        items: u64,
+        passes: u32,
+    ) -> Result<(TurnLock<T, A>, Pass<T>), NoMemory>
     where
         A: Clone,
-        requires empty { T.history value ≡ [] }
+        requires items { items ≡ length (T.history value) }
         requires passes { 0 < passes }
         ensures lock { IfOk result (λ r. IsPassOf r.0 r.1) }
-        ensures pass { IfOk result (λ r. knowledge r.1 ≡ at_start (T.root value) passes) }
+        ensures pass { IfOk result (λ r. knowledge r.1
+            ≡ at_start T.maker (T.root value) (T.history value) passes) }
     {
         let about = Opening {
             value: Snapshot::of(&value),
@@ -61,28 +67,28 @@ impl<T: Chronicle + Send, A: Allocator> TurnLock<T, A> {
         };
         let mut slots = Vec::with_capacity(alloc.clone()?, 1)?;
         slots.push(Some(value))?;
-        let Ok((table, seat)) = Table::new(alloc, &[0, FREE], slots, &about) else {
+        let Ok((table, seat)) = Table::new(alloc, &[items, FREE], slots, &about) else {
             return Err(AllocError);
         };
         let pass = Pass {
             seat,
             number: 0,
             room: passes,
-            seen: 0,
+            seen: items,
         };
         Ok((TurnLock { table }, pass))
     }
 
-    /// A new pass under a number of its own, for another thread.
+    /// A new pass under a number of its own, for another thread. The items that the number had when the lock was made are its own.
     pub fn split(&self, pass: &mut Pass<T>) -> Pass<T>
         requires pass { MayEnter self.now pass.old }
         requires first { (knowledge pass.old).number ≡ 0 }
         requires room { 2 ≤ (knowledge pass.old).room }
         ensures lock { IsPassOf self.now pass.new × IsPassOf self.now result }
         ensures pass { knowledge pass.new ≡ after_split (knowledge pass.old) }
-        ensures new_pass { knowledge result ≡ split_off (knowledge pass.old) }
+        ensures new_pass { knowledge result ≡ split_off T.maker (knowledge pass.old) }
     {
-        let seat = self.table.shared.split_seat::<Cut>(&mut pass.seat);
+        let seat = self.table.shared.split_seat::<Cut<T>>(&mut pass.seat);
         pass.room -= 1;
         Pass {
             seat,

@@ -4,6 +4,7 @@ ghost use Rattle.turn_lock.specs.Steps.{Grabs, Notes, HandsOn, Looks, left_of, r
 use crate::chronicle::Chronicle;
 use crate::rule::View;
 use atomic_table::{Join, Play, Split};
+use std::marker::PhantomData;
 
 /// Takes the turn, and the slot with it, where the turn is free.
 pub(crate) struct Grab;
@@ -33,12 +34,15 @@ impl<T: Chronicle> Play<Option<T>, View<T::Root, T::Item>> for Look {
     ghost then = { Looks };
 }
 
-pub(crate) struct Cut;
+/// Gives a number away, with the items that it had before the lock was made.
+pub(crate) struct Cut<T> {
+    _of: PhantomData<T>,
+}
 
-impl<R, I> Split<View<R, I>> for Cut {
+impl<T: Chronicle> Split<View<T::Root, T::Item>> for Cut<T> {
     ghost left = { left_of };
 
-    ghost right = { right_of };
+    ghost right = { right_of T.maker };
 }
 
 pub(crate) struct Glue;

@@ -28,6 +28,8 @@ pub struct Knowledge<R, I> {
     pub has_turn: bool,
     /// The root of the lock's value, alone in its list.
     pub root: LinkedList<R>,
+    /// The history when the lock was made.
+    pub earlier: LinkedList<I>,
     /// A beginning of the history.
     pub seen: LinkedList<I>,
     /// The items of its number in the history.
@@ -59,5 +61,5 @@ pub struct Turns;
 impl<T: Chronicle> TableRule<Option<T>, View<T::Root, T::Item>, Opening<T>> for Turns {
     ghost holds = { λ key. IsKept T.root T.history T.maker (T.root key.value.value) };
 
-    ghost first = { λ key. first_view (T.root key.value.value) key.passes };
+    ghost first = { λ key. first_view T.maker (T.root key.value.value) (T.history key.value.value) key.passes };
 }

@@ -10,7 +10,7 @@ use command_lines::print_command;
 use log_audit::{Verdict, audit};
 use ride_model::{Command, Fleet, Settings};
 use ride_ports::{MemSink, MemSource, OpenGate, write_all};
-use session_run::{drill, serve};
+use session_run::{Outset, drill, serve};
 use std::alloc::Global;
 use std::process::Abort;
 use std::sync::Wait;
@@ -73,16 +73,19 @@ fn serve_riders<R: Threads + Wait + Sync + Abort>(
 {
     let mut riders = MemSource::new(riders, &[], &[]);
     let mut drivers = MemSource::new(b"", &[], &[]);
+    let outset = Outset {
+        settings,
+        fleet,
+        workers: 2,
+        desks: 2,
+    };
     let ran = serve(
         rt,
         alloc,
         roads,
-        settings,
-        fleet,
+        outset,
         &mut riders,
         &mut drivers,
-        2,
-        2,
         log,
         &OpenGate,
     );

@@ -2,28 +2,25 @@
 //!
 //! Where a thread cannot be made its loop runs after those beside it. So the feeds come first, then the desks, which end once
 //! the feeds have, and then the scribe.
-ghost use Rattle.std.specs.Prelude.{IfSome, IsNone, IsSomeAnd, MatchOption};
 ghost use Rattle.std.specs.Thread.{IsSync};
-ghost use Rattle.session_run.specs.Actors.{LeavesDesk, LeavesFeed, LeavesScribe, MayRunDesk, MayRunFeed, MayScribe};
+ghost use Rattle.session_run.specs.Actors.{LeavesScribe, MayScribe};
 ghost use Rattle.session_run.specs.Serving.{feed_run};
-ghost use Rattle.session_run.specs.Stages.{LeavesActors, MayRunActors};
+ghost use Rattle.session_run.specs.Stages.{LeavesActors, LeavesDesks, LeavesFeeds, MayRunActors, MayRunDesks, MayRunFeeds};
 
-use super::desk_pairs::{Desk, run_desks};
-use super::feed_pairs::run_feeds;
-use fleet_board::{ActorPass, SharedBoard};
+use super::desk_pairs::{Desks, run_desks};
+use super::feed_pairs::{FeedPasses, run_feeds};
+use super::shared::Shared;
+use fleet_board::ActorPass;
 use ride_ports::{Failed, Gate, Ran, Sink, Source};
 use session_loops::{Scribed, scribe_loop};
-use std::alloc::Global;
 use std::sync::Wait;
 use std::thread::{Threads, join_mut};
 
 /// The actors of a session.
 #[derive(Drop)]
 pub(super) struct Actors<'r> {
-    pub(super) feed_1: ActorPass<'r>,
-    pub(super) feed_2: ActorPass<'r>,
-    pub(super) desk_1: Desk<'r>,
-    pub(super) desk_2: Option<Desk<'r>>,
+    pub(super) feeds: FeedPasses<'r>,
+    pub(super) desks: Desks<'r>,
     pub(super) scribe: ActorPass<'r>,
 }
 
@@ -36,42 +33,30 @@ pub(super) struct Answers {
     pub(super) scribed: Result<Scribed, Failed>,
 }
 
-/// Runs the actors to their ends. Riders are feed 1, drivers feed 2. Where the head of the log was not written, nothing is.
+/// Runs the actors to their ends. Where the head of the log was not written, nothing is.
 pub(super) fn run_actors<'r, R: Threads + Wait + Sync, S: Source, K: Sink, G: Gate>(
-    rt: &R,
-    alloc: Global,
-    board: &SharedBoard<'r>,
+    shared: &Shared<'_, 'r, R, G>,
     actors: &mut Actors<'r>,
     riders: &mut S,
     drivers: &mut S,
     out: &mut K,
-    gate: &G,
-    log: u8,
     head_failed: bool,
 ) -> Answers
-    requires { MayRunActors board.now log actors.old }
-    ensures { LeavesActors board.now log
-        (feed_run (S.left riders.old) (S.left riders.new)
-        (S.faults riders.old) (S.faults riders.new))
-        (feed_run (S.left drivers.old) (S.left drivers.new)
-        (S.faults drivers.old) (S.faults drivers.new))
+    requires { MayRunActors shared.now.board.now shared.now.log actors.old }
+    ensures { LeavesActors shared.now.board.now shared.now.log
+        (feed_run S.left S.faults riders.old riders.new)
+        (feed_run S.left S.faults drivers.old drivers.new)
         head_failed (K.written out.old) (K.written out.new) (K.faults out.old) (K.faults out.new)
         result actors.old actors.new }
 {
     let (scribed, (desks, (riders, drivers))) = run_all(
-        rt,
-        alloc,
-        board,
-        &mut actors.feed_1,
-        &mut actors.feed_2,
-        &mut actors.desk_1,
-        &mut actors.desk_2,
+        shared,
+        &mut actors.feeds,
+        &mut actors.desks,
         &mut actors.scribe,
         riders,
         drivers,
         out,
-        gate,
-        log,
         head_failed,
     );
     Answers {
@@ -83,148 +68,93 @@ pub(super) fn run_actors<'r, R: Threads + Wait + Sync, S: Source, K: Sink, G: Ga
 }
 
 // Runs feeds and desks, and the scribe beside them.
-fn run_all<'a, 'r, R: Threads + Wait + Sync, S: Source, K: Sink, G: Gate>(
-    rt: &'a R,
-    alloc: Global,
-    board: &'a SharedBoard<'r>,
-    feed_1: &mut ActorPass<'r>,
-    feed_2: &mut ActorPass<'r>,
-    desk_1: &mut Desk<'r>,
-    desk_2: &mut Option<Desk<'r>>,
+fn run_all<'r, R: Threads + Wait + Sync, S: Source, K: Sink, G: Gate>(
+    shared: &Shared<'_, 'r, R, G>,
+    feeds: &mut FeedPasses<'r>,
+    desks: &mut Desks<'r>,
     scribe: &mut ActorPass<'r>,
     riders: &mut S,
     drivers: &mut S,
     out: &mut K,
-    gate: &'a G,
-    log: u8,
     head_failed: bool,
 ) -> (Result<Scribed, Failed>, (Ran, (Ran, Ran)))
-    requires feed_1 { MayRunFeed board.now log feed_1.old }
-    requires feed_2 { MayRunFeed board.now log feed_2.old }
-    requires desk_1 { MayRunDesk board.now desk_1.old.pass desk_1.old.pricer }
-    requires desk_2 { IfSome desk_2.old (λ desk. MayRunDesk board.now desk.pass desk.pricer) }
-    requires scribe { MayScribe board.now log scribe.old }
-    ensures feed_1 { LeavesFeed board.now log
-        (feed_run (S.left riders.old) (S.left riders.new)
-        (S.faults riders.old) (S.faults riders.new))
-        result.1.1.0 feed_1.old feed_1.new }
-    ensures feed_2 { LeavesFeed board.now log
-        (feed_run (S.left drivers.old) (S.left drivers.new)
-        (S.faults drivers.old) (S.faults drivers.new))
-        result.1.1.1 feed_2.old feed_2.new }
-    ensures desk_1 { LeavesDesk board.now result.1.0 desk_1.old.pass desk_1.new.pass }
-    ensures desk_2 { MatchOption desk_2.old (IsNone desk_2.new)
-        (λ old. IsSomeAnd desk_2.new (λ new. LeavesDesk board.now result.1.0 old.pass new.pass)) }
-    ensures scribe { LeavesScribe board.now log head_failed (K.written out.old)
-        (K.written out.new) (K.faults out.old)
-        (K.faults out.new) result.0 scribe.old scribe.new }
+    requires feeds { MayRunFeeds shared.now.board.now shared.now.log feeds.old }
+    requires desks { MayRunDesks shared.now.board.now desks.old }
+    requires scribe { MayScribe shared.now.board.now shared.now.log scribe.old }
+    ensures feeds { LeavesFeeds shared.now.board.now shared.now.log
+        (feed_run S.left S.faults riders.old riders.new)
+        (feed_run S.left S.faults drivers.old drivers.new) result.1.1 feeds.old feeds.new }
+    ensures desks { LeavesDesks shared.now.board.now result.1.0 desks.old desks.new }
+    ensures scribe { LeavesScribe shared.now.board.now shared.now.log head_failed
+        (K.written out.old) (K.written out.new) (K.faults out.old) (K.faults out.new)
+        result.0 scribe.old scribe.new }
 {
     join_mut(
-        rt,
+        shared.rt,
         &mut || -> Result<Scribed, Failed>
-            requires { MayScribe board.now log scribe.now }
-            ensures { LeavesScribe board.entry.now log head_failed
+            requires { MayScribe shared.now.board.now shared.now.log scribe.now }
+            ensures { LeavesScribe shared.entry.now.board.now shared.entry.now.log head_failed
                 (K.written out.entry.now) (K.written out.exit.now)
-                (K.faults out.entry.now) (K.faults out.exit.now) result
-                scribe.entry.now scribe.exit.now }
-        { run_scribe(rt, alloc, board, scribe, out, log, head_failed) },
+                (K.faults out.entry.now) (K.faults out.exit.now)
+                result scribe.entry.now scribe.exit.now }
+        { run_scribe(shared, scribe, out, head_failed) },
         &mut || -> (Ran, (Ran, Ran))
-            requires { IsSync R.row × MayRunFeed board.now log feed_1.now
-                × MayRunFeed board.now log feed_2.now
-                × MayRunDesk board.now desk_1.now.pass desk_1.now.pricer
-                × IfSome desk_2.now (λ desk. MayRunDesk board.now desk.pass desk.pricer) }
-            ensures { LeavesFeed board.entry.now log
-                (feed_run (S.left riders.entry.now) (S.left riders.exit.now)
-                (S.faults riders.entry.now) (S.faults riders.exit.now)) result.1.0
-                feed_1.entry.now feed_1.exit.now
-                × LeavesFeed board.entry.now log
-                (feed_run (S.left drivers.entry.now) (S.left drivers.exit.now)
-                (S.faults drivers.entry.now) (S.faults drivers.exit.now)) result.1.1
-                feed_2.entry.now feed_2.exit.now
-                × LeavesDesk board.entry.now result.0 desk_1.entry.now.pass desk_1.exit.now.pass
-                × MatchOption desk_2.entry.now (IsNone desk_2.exit.now)
-                (λ old. IsSomeAnd desk_2.exit.now
-                (λ new. LeavesDesk board.entry.now result.0 old.pass new.pass)) }
-        {
-            run_orders(
-                rt, alloc, board, feed_1, feed_2, desk_1, desk_2, riders, drivers, gate, log,
-            )
-        },
+            requires { IsSync R.row × MayRunFeeds shared.now.board.now shared.now.log feeds.now
+                × MayRunDesks shared.now.board.now desks.now }
+            ensures { LeavesFeeds shared.entry.now.board.now shared.entry.now.log
+                (feed_run S.left S.faults riders.entry.now riders.exit.now)
+                (feed_run S.left S.faults drivers.entry.now drivers.exit.now)
+                result.1 feeds.entry.now feeds.exit.now
+                × LeavesDesks shared.entry.now.board.now result.0 desks.entry.now desks.exit.now }
+        { run_orders(shared, feeds, desks, riders, drivers) },
     )
 }
 
 // Runs the feeds, and the desks beside them.
-fn run_orders<'a, 'r, R: Threads + Wait + Sync, S: Source, G: Gate>(
-    rt: &'a R,
-    alloc: Global,
-    board: &'a SharedBoard<'r>,
-    feed_1: &mut ActorPass<'r>,
-    feed_2: &mut ActorPass<'r>,
-    desk_1: &mut Desk<'r>,
-    desk_2: &mut Option<Desk<'r>>,
+fn run_orders<'r, R: Threads + Wait + Sync, S: Source, G: Gate>(
+    shared: &Shared<'_, 'r, R, G>,
+    feeds: &mut FeedPasses<'r>,
+    desks: &mut Desks<'r>,
     riders: &mut S,
     drivers: &mut S,
-    gate: &'a G,
-    log: u8,
 ) -> (Ran, (Ran, Ran))
-    requires feed_1 { MayRunFeed board.now log feed_1.old }
-    requires feed_2 { MayRunFeed board.now log feed_2.old }
-    requires desk_1 { MayRunDesk board.now desk_1.old.pass desk_1.old.pricer }
-    requires desk_2 { IfSome desk_2.old (λ desk. MayRunDesk board.now desk.pass desk.pricer) }
-    ensures feed_1 { LeavesFeed board.now log
-        (feed_run (S.left riders.old) (S.left riders.new)
-        (S.faults riders.old) (S.faults riders.new))
-        result.1.0 feed_1.old feed_1.new }
-    ensures feed_2 { LeavesFeed board.now log
-        (feed_run (S.left drivers.old) (S.left drivers.new)
-        (S.faults drivers.old) (S.faults drivers.new))
-        result.1.1 feed_2.old feed_2.new }
-    ensures desk_1 { LeavesDesk board.now result.0 desk_1.old.pass desk_1.new.pass }
-    ensures desk_2 { MatchOption desk_2.old (IsNone desk_2.new)
-        (λ old. IsSomeAnd desk_2.new (λ new. LeavesDesk board.now result.0 old.pass new.pass)) }
+    requires feeds { MayRunFeeds shared.now.board.now shared.now.log feeds.old }
+    requires desks { MayRunDesks shared.now.board.now desks.old }
+    ensures feeds { LeavesFeeds shared.now.board.now shared.now.log
+        (feed_run S.left S.faults riders.old riders.new)
+        (feed_run S.left S.faults drivers.old drivers.new) result.1 feeds.old feeds.new }
+    ensures desks { LeavesDesks shared.now.board.now result.0 desks.old desks.new }
 {
     join_mut(
-        rt,
+        shared.rt,
         &mut || -> Ran
-            requires { IsSync R.row × MayRunDesk board.now desk_1.now.pass desk_1.now.pricer
-                × IfSome desk_2.now (λ desk. MayRunDesk board.now desk.pass desk.pricer) }
-            ensures { LeavesDesk board.entry.now result desk_1.entry.now.pass desk_1.exit.now.pass
-                × MatchOption desk_2.entry.now (IsNone desk_2.exit.now)
-                (λ old. IsSomeAnd desk_2.exit.now
-                (λ new. LeavesDesk board.entry.now result old.pass new.pass)) }
-        { run_desks(rt, board, desk_1, desk_2, gate) },
+            requires { IsSync R.row × MayRunDesks shared.now.board.now desks.now }
+            ensures { LeavesDesks shared.entry.now.board.now result desks.entry.now desks.exit.now }
+        { run_desks(shared, desks) },
         &mut || -> (Ran, Ran)
-            requires { IsSync R.row × MayRunFeed board.now log feed_1.now
-                × MayRunFeed board.now log feed_2.now }
-            ensures { LeavesFeed board.entry.now log
-                (feed_run (S.left riders.entry.now) (S.left riders.exit.now)
-                (S.faults riders.entry.now) (S.faults riders.exit.now)) result.0
-                feed_1.entry.now feed_1.exit.now
-                × LeavesFeed board.entry.now log
-                (feed_run (S.left drivers.entry.now) (S.left drivers.exit.now)
-                (S.faults drivers.entry.now) (S.faults drivers.exit.now)) result.1
-                feed_2.entry.now feed_2.exit.now }
-        { run_feeds(rt, alloc, board, feed_1, feed_2, riders, drivers, gate, log) },
+            requires { IsSync R.row × MayRunFeeds shared.now.board.now shared.now.log feeds.now }
+            ensures { LeavesFeeds shared.entry.now.board.now shared.entry.now.log
+                (feed_run S.left S.faults riders.entry.now riders.exit.now)
+                (feed_run S.left S.faults drivers.entry.now drivers.exit.now)
+                result feeds.entry.now feeds.exit.now }
+        { run_feeds(shared, feeds, riders, drivers) },
     )
 }
 
 // Runs the scribe, where the sink took the head.
-fn run_scribe<'r, R: Wait, K: Sink>(
-    rt: &R,
-    alloc: Global,
-    board: &SharedBoard<'r>,
+fn run_scribe<'r, R: Wait, K: Sink, G: Gate>(
+    shared: &Shared<'_, 'r, R, G>,
     pass: &mut ActorPass<'r>,
     out: &mut K,
-    log: u8,
     head_failed: bool,
 ) -> Result<Scribed, Failed>
-    requires { MayScribe board.now log pass.old }
-    ensures { LeavesScribe board.now log head_failed (K.written out.old) (K.written out.new)
-        (K.faults out.old) (K.faults out.new)
+    requires { MayScribe shared.now.board.now shared.now.log pass.old }
+    ensures { LeavesScribe shared.now.board.now shared.now.log head_failed
+        (K.written out.old) (K.written out.new) (K.faults out.old) (K.faults out.new)
         result pass.old pass.new }
 {
     if head_failed {
         return Err(Failed);
     }
-    scribe_loop(rt, alloc, board, pass, out, log)
+    scribe_loop(shared.rt, shared.alloc, shared.board, pass, out, shared.log)
 }

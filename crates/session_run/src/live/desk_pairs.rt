@@ -1,10 +1,11 @@
 //! One desk, or two beside one another.
-ghost use Rattle.std.specs.Prelude.{IsNone, IsSomeAnd, IfSome, MatchOption};
 ghost use Rattle.std.specs.Thread.{IsSync};
 ghost use Rattle.session_run.specs.Actors.{LeavesDesk, MayRunDesk};
+ghost use Rattle.session_run.specs.Stages.{LeavesDesks, MayRunDesks};
 
 use super::outcomes::either;
-use fleet_board::{ActorPass, SharedBoard};
+use super::shared::Shared;
+use fleet_board::ActorPass;
 use pricing_workers::Pricer;
 use ride_ports::{Gate, Ran};
 use session_loops::desk_loop;
@@ -18,63 +19,71 @@ pub(super) struct Desk<'r> {
     pub(super) pricer: Pricer<'r>,
 }
 
+/// One desk, or two.
+#[derive(Drop)]
+pub(super) struct Desks<'r> {
+    pub(super) first: Desk<'r>,
+    pub(super) second: Option<Desk<'r>>,
+}
+
 // Runs a desk.
 fn run_desk<'r, R: Threads + Wait + Sync, G: Gate>(
-    rt: &R,
-    board: &SharedBoard<'r>,
+    shared: &Shared<'_, 'r, R, G>,
     desk: &mut Desk<'r>,
-    gate: &G,
 ) -> Ran
-    requires { MayRunDesk board.now desk.old.pass desk.old.pricer }
-    ensures { LeavesDesk board.now result desk.old.pass desk.new.pass }
+    requires { MayRunDesk shared.now.board.now desk.old.pass desk.old.pricer }
+    ensures { LeavesDesk shared.now.board.now result desk.old.pass desk.new.pass }
 {
-    desk_loop(rt, board, &mut desk.pass, &mut desk.pricer, gate)
+    desk_loop(
+        shared.rt,
+        shared.board,
+        &mut desk.pass,
+        None,
+        &mut desk.pricer,
+        shared.gate,
+    )
 }
 
 // Runs two desks.
-fn run_both_desks<'a, 'r, R: Threads + Wait + Sync, G: Gate>(
-    rt: &'a R,
-    board: &'a SharedBoard<'r>,
+fn run_both_desks<'r, R: Threads + Wait + Sync, G: Gate>(
+    shared: &Shared<'_, 'r, R, G>,
     one: &mut Desk<'r>,
     two: &mut Desk<'r>,
-    gate: &'a G,
 ) -> (Ran, Ran)
-    requires one { MayRunDesk board.now one.old.pass one.old.pricer }
-    requires two { MayRunDesk board.now two.old.pass two.old.pricer }
-    ensures one { LeavesDesk board.now result.0 one.old.pass one.new.pass }
-    ensures two { LeavesDesk board.now result.1 two.old.pass two.new.pass }
+    requires one { MayRunDesk shared.now.board.now one.old.pass one.old.pricer }
+    requires two { MayRunDesk shared.now.board.now two.old.pass two.old.pricer }
+    ensures one { LeavesDesk shared.now.board.now result.0 one.old.pass one.new.pass }
+    ensures two { LeavesDesk shared.now.board.now result.1 two.old.pass two.new.pass }
 {
     join_mut(
-        rt,
+        shared.rt,
         &mut || -> Ran
-            requires { IsSync R.row × MayRunDesk board.now one.now.pass one.now.pricer }
-            ensures { LeavesDesk board.entry.now result one.entry.now.pass one.exit.now.pass }
-        { run_desk(rt, board, one, gate) },
+            requires { IsSync R.row
+                × MayRunDesk shared.now.board.now one.now.pass one.now.pricer }
+            ensures { LeavesDesk shared.entry.now.board.now result
+                one.entry.now.pass one.exit.now.pass }
+        { run_desk(shared, one) },
         &mut || -> Ran
-            requires { IsSync R.row × MayRunDesk board.now two.now.pass two.now.pricer }
-            ensures { LeavesDesk board.entry.now result two.entry.now.pass two.exit.now.pass }
-        { run_desk(rt, board, two, gate) },
+            requires { IsSync R.row
+                × MayRunDesk shared.now.board.now two.now.pass two.now.pricer }
+            ensures { LeavesDesk shared.entry.now.board.now result
+                two.entry.now.pass two.exit.now.pass }
+        { run_desk(shared, two) },
     )
 }
 
 /// Runs one desk, or two.
 pub(super) fn run_desks<'r, R: Threads + Wait + Sync, G: Gate>(
-    rt: &R,
-    board: &SharedBoard<'r>,
-    first: &mut Desk<'r>,
-    second: &mut Option<Desk<'r>>,
-    gate: &G,
+    shared: &Shared<'_, 'r, R, G>,
+    desks: &mut Desks<'r>,
 ) -> Ran
-    requires first { MayRunDesk board.now first.old.pass first.old.pricer }
-    requires second { IfSome second.old (λ desk. MayRunDesk board.now desk.pass desk.pricer) }
-    ensures first { LeavesDesk board.now result first.old.pass first.new.pass }
-    ensures second { MatchOption second.old (IsNone second.new)
-        (λ old. IsSomeAnd second.new (λ new. LeavesDesk board.now result old.pass new.pass)) }
+    requires { MayRunDesks shared.now.board.now desks.old }
+    ensures { LeavesDesks shared.now.board.now result desks.old desks.new }
 {
-    let Some(mut desk) = second.take() else {
-        return run_desk(rt, board, first, gate);
+    let Some(mut second) = desks.second.take() else {
+        return run_desk(shared, &mut desks.first);
     };
-    let (one, two) = run_both_desks(rt, board, first, &mut desk, gate);
-    *second = Some(desk);
+    let (one, two) = run_both_desks(shared, &mut desks.first, &mut second);
+    desks.second = Some(second);
     either(one, two)
 }

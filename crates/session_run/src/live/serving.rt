@@ -3,19 +3,18 @@ ghost use Rattle.std.specs.Prelude.{◌≡◌, ◌≢◌, ℕ, ◌≤◌, ◌⊎
 ghost use Rattle.ride_model.specs.Fleet.{MayStart};
 ghost use Rattle.ride_model.specs.declared.entry.Entry.{Entry};
 ghost use Rattle.ride_model.specs.State.{start_state};
-ghost use Rattle.ride_model.specs.Text.{HasLine, IsOneOrTwo, entry_lines, text_of};
+ghost use Rattle.ride_model.specs.Text.{HasLine, IsOneOrTwo, entry_lines};
 ghost use Rattle.ride_model.specs.Limits.{most_workers};
 ghost use Rattle.ride_ports.specs.Count.{KeepsCount, Rose, most_count};
-ghost use Rattle.line_reader.specs.Limits.{IsTooLong};
-ghost use Rattle.command_lines.specs.Limits.{feed_limits};
 ghost use Rattle.text_page.specs.Output.{HasPut, IsFresh};
 ghost use Rattle.session_loops.specs.declared.scribes.Scribed.{Scribed};
 ghost use Rattle.session_run.specs.Actors.{bare};
-ghost use Rattle.session_run.specs.Serving.{HasNotServed, HasServed, IsFeedOf, IsServed, IsWrittenOut, feed_run};
+ghost use Rattle.session_run.specs.Serving.{HasNotServed, IsServed, feed_run};
 ghost use Rattle.session_run.specs.Stages.{IsReady, root_at};
 
 use super::actors::run_actors;
 use super::outcomes::ran_of;
+use super::shared::Shared;
 use super::stages::{Stage, begun, closed};
 use adaptive_roads::Roads;
 use ride_model::{Entry, Fleet, Settings};
@@ -26,45 +25,41 @@ use std::sync::Wait;
 use std::thread::Threads;
 use text_page::Output;
 
+/// What a session of two feeds starts with: the settings and the fleet, how many desks there are, and how many workers each has.
+#[derive(Drop)]
+pub struct Outset {
+    pub settings: Settings,
+    pub fleet: Fleet,
+    pub workers: u32,
+    pub desks: u8,
+}
+
 /// Serves the feeds of riders and of drivers over a fleet, by one or two desks with so many workers each, and writes the trip
 /// log while the session runs. Riders are feed 1, drivers feed 2.
 pub fn serve<R: Threads + Wait + Sync, S: Source, K: Sink, G: Gate>(
     rt: &R,
     alloc: Global,
     roads: &Roads,
-    settings: Settings,
-    fleet: Fleet,
+    outset: Outset,
     riders: &mut S,
     drivers: &mut S,
-    workers: u32,
-    desks: u8,
     out: &mut K,
     gate: &G,
 ) -> Ran
-    requires start { MayStart roads.now settings fleet }
-    requires workers { (1 ≤ workers) × (workers ≤ most_workers) }
-    requires desks { IsOneOrTwo desks }
+    requires start { MayStart roads.now outset.settings outset.fleet }
+    requires workers { (1 ≤ outset.workers) × (outset.workers ≤ most_workers) }
+    requires desks { IsOneOrTwo outset.desks }
     requires riders_count { S.faults riders.old ≢ most_count }
     requires drivers_count { S.faults drivers.old ≢ most_count }
 
     // The log is the text of a history that answers both feeds, however their commands met.
-    ensures log { HasNotServed (feed_run (S.left riders.old) (S.left riders.new)
-        (S.faults riders.old) (S.faults riders.new))
-        (feed_run (S.left drivers.old) (S.left drivers.new) (S.faults drivers.old)
-        (S.faults drivers.new)) result
+    ensures log { HasNotServed (feed_run S.left S.faults riders.old riders.new)
+        (feed_run S.left S.faults drivers.old drivers.new) result
         (K.written out.old) (K.written out.new)
-        ⊎ ((riders_taken drivers_taken : List ℕ) × (entries : List Entry)
-        × HasServed (start_state roads.now settings fleet) desks result entries
-        × IsFeedOf settings.log 1 (feed_run (S.left riders.old) (S.left riders.new)
-        (S.faults riders.old) (S.faults riders.new)) result
-        riders_taken entries
-        × IsFeedOf settings.log 2 (feed_run (S.left drivers.old) (S.left drivers.new)
-        (S.faults drivers.old) (S.faults drivers.new)) result
-        drivers_taken entries
-        × (result.too_long ≡ true → IsTooLong feed_limits riders_taken
-        ⊎ IsTooLong feed_limits drivers_taken)
-        × IsWrittenOut result (K.written out.old) (K.written out.new)
-        (text_of settings.log 2 desks entries)) }
+        ⊎ IsServed (start_state roads.now outset.settings outset.fleet) outset.desks
+        (feed_run S.left S.faults riders.old riders.new)
+        (feed_run S.left S.faults drivers.old drivers.new) result
+        (K.written out.old) (K.written out.new) }
     ensures source_fault { IsTrue result.source_failed
         → Rose (S.faults riders.old) (S.faults riders.new)
         ⊎ Rose (S.faults drivers.old) (S.faults drivers.new) }
@@ -76,9 +71,14 @@ pub fn serve<R: Threads + Wait + Sync, S: Source, K: Sink, G: Gate>(
     ensures drivers_never_fall { S.faults drivers.old ≤ S.faults drivers.new }
     ensures sink_faults { KeepsCount result.sink_failed (K.faults out.old) (K.faults out.new) }
 {
-    let log = settings.log;
+    let Outset {
+        settings,
+        fleet,
+        workers,
+        desks,
+    } = outset;
     match begun(alloc, roads, settings, fleet, workers as usize, desks) {
-        Ok(stage) => run(rt, alloc, stage, riders, drivers, out, gate, log, desks),
+        Ok(stage) => run(rt, alloc, stage, riders, drivers, out, gate),
         Err(_) => Ran {
             sink_failed: false,
             no_memory: true,
@@ -88,7 +88,7 @@ pub fn serve<R: Threads + Wait + Sync, S: Source, K: Sink, G: Gate>(
     }
 }
 
-// Runs a session of so many desks to its end, and writes the whole of its log.
+// Runs a session to its end, and writes the whole of its log.
 fn run<'r, R: Threads + Wait + Sync, S: Source, K: Sink, G: Gate>(
     rt: &R,
     alloc: Global,
@@ -97,18 +97,14 @@ fn run<'r, R: Threads + Wait + Sync, S: Source, K: Sink, G: Gate>(
     drivers: &mut S,
     out: &mut K,
     gate: &G,
-    log: u8,
-    desks: u8,
 ) -> Ran
     requires ready { IsReady stage }
-    requires log { (root_at stage).start.settings.log ≡ log }
+    requires log { (root_at stage).start.settings.log ≡ stage.log }
     requires feeds { (root_at stage).feeds ≡ 2 }
-    requires desks { (root_at stage).desks ≡ desks }
-    ensures served { IsServed (root_at stage.entry).start desks
-        (feed_run (S.left riders.old) (S.left riders.new)
-        (S.faults riders.old) (S.faults riders.new))
-        (feed_run (S.left drivers.old) (S.left drivers.new)
-        (S.faults drivers.old) (S.faults drivers.new))
+    requires desks { (root_at stage).desks ≡ stage.desks }
+    ensures served { IsServed (root_at stage.entry).start stage.entry.desks
+        (feed_run S.left S.faults riders.old riders.new)
+        (feed_run S.left S.faults drivers.old drivers.new)
         result (K.written out.old) (K.written out.new) }
     ensures source_fault { IsTrue result.source_failed
         → Rose (S.faults riders.old) (S.faults riders.new)
@@ -125,21 +121,19 @@ fn run<'r, R: Threads + Wait + Sync, S: Source, K: Sink, G: Gate>(
         board,
         mut actors,
         mut output,
+        log,
+        desks,
     } = stage;
     put_head(&mut output, out, log, 2, desks);
     let head_failed = output.failed();
-    let answers = run_actors(
+    let shared = Shared {
         rt,
         alloc,
-        &board,
-        &mut actors,
-        riders,
-        drivers,
-        out,
+        board: &board,
         gate,
         log,
-        head_failed,
-    );
+    };
+    let answers = run_actors(&shared, &mut actors, riders, drivers, out, head_failed);
     let board = closed(board, actors);
     put_rest(&mut output, out, board.entries(), &answers.scribed, log);
     ran_of(&answers, output.failed())

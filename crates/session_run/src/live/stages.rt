@@ -6,7 +6,8 @@ ghost use Rattle.ride_model.specs.Text.{IsOneOrTwo};
 ghost use Rattle.session_run.specs.Stages.{IsClosed, IsReady, MayClose, root_at, session_root};
 
 use super::actors::Actors;
-use super::desk_pairs::Desk;
+use super::desk_pairs::{Desk, Desks};
+use super::feed_pairs::FeedPasses;
 use adaptive_roads::Roads;
 use board_core::Board;
 use fleet_board::{ActorPass, PassSet, SharedBoard};
@@ -15,12 +16,14 @@ use ride_model::{Fleet, NoMemory, Settings};
 use std::alloc::Global;
 use text_page::Output;
 
-/// A board, its actors, and its log on the way out.
+/// A board, its actors, and its log on the way out, with what the log's head names.
 #[derive(Drop)]
 pub(super) struct Stage<'r> {
     pub(super) board: SharedBoard<'r>,
     pub(super) actors: Actors<'r>,
     pub(super) output: Output,
+    pub(super) log: u8,
+    pub(super) desks: u8,
 }
 
 /// Takes all memory that a session needs before its actors run.
@@ -38,7 +41,10 @@ pub(super) fn begun<'r>(
     ensures ready { IfOk result IsReady }
     ensures root { IfOk result (λ stage. root_at stage
         ≡ session_root (start_state roads.now settings fleet) desks) }
+    ensures log { IfOk result (λ stage. stage.log ≡ settings.log) }
+    ensures desks { IfOk result (λ stage. stage.desks ≡ desks) }
 {
+    let log = settings.log;
     let output = Output::new(alloc)?;
     let board = Board::new(alloc, roads, settings, fleet, 2, desks)?;
     let (board, passes) = SharedBoard::start(alloc, board)?;
@@ -47,6 +53,8 @@ pub(super) fn begun<'r>(
         board,
         actors,
         output,
+        log,
+        desks,
     })
 }
 
@@ -61,11 +69,12 @@ fn actors_of<'r>(
     requires feed_2 { IsSome passes.feed_2 }
     requires desk_1 { IsSome passes.desk_1 }
     requires workers { 1 ≤ workers }
-    ensures feed_1 { IfOk result (λ actors. passes.entry.feed_1 ≡ Some actors.feed_1) }
-    ensures feed_2 { IfOk result (λ actors. passes.entry.feed_2 ≡ Some actors.feed_2) }
-    ensures desk_1 { IfOk result (λ actors. (passes.entry.desk_1 ≡ Some actors.desk_1.pass)
-        × (actors.desk_1.pricer ≡ roads.now)) }
-    ensures desk_2 { IfOk result (λ actors. MatchOption actors.desk_2 (passes.entry.desk_2 ≡ None)
+    ensures feed_1 { IfOk result (λ actors. passes.entry.feed_1 ≡ Some actors.feeds.riders) }
+    ensures feed_2 { IfOk result (λ actors. passes.entry.feed_2 ≡ Some actors.feeds.drivers) }
+    ensures desk_1 { IfOk result (λ actors. (passes.entry.desk_1 ≡ Some actors.desks.first.pass)
+        × (actors.desks.first.pricer ≡ roads.now)) }
+    ensures desk_2 { IfOk result (λ actors. MatchOption actors.desks.second
+        (passes.entry.desk_2 ≡ None)
         (λ desk. (passes.entry.desk_2 ≡ Some desk.pass) × (desk.pricer ≡ roads.now))) }
     ensures scribe { IfOk result (λ actors. actors.scribe ≡ passes.entry.scribe) }
 {
@@ -76,21 +85,19 @@ fn actors_of<'r>(
         desk_2,
         scribe,
     } = passes;
-    let Some(feed_1) = feed_1 else {
+    let Some(riders) = feed_1 else {
         unreachable!();
     };
-    let Some(feed_2) = feed_2 else {
+    let Some(drivers) = feed_2 else {
         unreachable!();
     };
-    let Some(desk_1) = desk_of(alloc, roads, desk_1, workers)? else {
+    let Some(first) = desk_of(alloc, roads, desk_1, workers)? else {
         unreachable!();
     };
-    let desk_2 = desk_of(alloc, roads, desk_2, workers)?;
+    let second = desk_of(alloc, roads, desk_2, workers)?;
     Ok(Actors {
-        feed_1,
-        feed_2,
-        desk_1,
-        desk_2,
+        feeds: FeedPasses { riders, drivers },
+        desks: Desks { first, second },
         scribe,
     })
 }
@@ -119,17 +126,17 @@ pub(super) fn closed<'r>(board: SharedBoard<'r>, actors: Actors<'r>) -> Board<'r
     ensures { IsClosed actors.entry result }
 {
     let Actors {
-        feed_1,
-        feed_2,
-        desk_1,
-        desk_2,
+        feeds,
+        desks,
         scribe,
     } = actors;
+    let FeedPasses { riders, drivers } = feeds;
+    let Desks { first, second } = desks;
     let passes = PassSet {
-        feed_1: Some(feed_1),
-        feed_2: Some(feed_2),
-        desk_1: Some(desk_1.pass),
-        desk_2: pass_of(desk_2),
+        feed_1: Some(riders),
+        feed_2: Some(drivers),
+        desk_1: Some(first.pass),
+        desk_2: pass_of(second),
         scribe,
     };
     match board.close(passes) {

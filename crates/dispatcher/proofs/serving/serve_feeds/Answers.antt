@@ -50,10 +50,8 @@ returns g c =
     let told : Option Contents = g.H.Shelf.contents c.args.shelf.now in
     let riders = given_back (g.H.Src.Source.faults c.serve-ran.new.riders) (g.H.Src.Source.left c.serve-ran.new.riders) in
     let drivers = given_back (g.H.Src.Source.faults c.serve-ran.new.drivers) (g.H.Src.Source.left c.serve-ran.new.drivers) in
-    let first = feed_run (g.H.Src.Source.left c.in-Ok.riders) (g.H.Src.Source.left c.serve-ran.new.riders) (g.H.Src.Source.faults c.in-Ok.riders)
-    (g.H.Src.Source.faults c.serve-ran.new.riders) in
-    let second = feed_run (g.H.Src.Source.left c.in-Ok-bring.drivers) (g.H.Src.Source.left c.serve-ran.new.drivers)
-    (g.H.Src.Source.faults c.in-Ok-bring.drivers) (g.H.Src.Source.faults c.serve-ran.new.drivers) in
+    let first = feed_run g.H.Src.Source.left g.H.Src.Source.faults c.in-Ok.riders c.serve-ran.new.riders in
+    let second = feed_run g.H.Src.Source.left g.H.Src.Source.faults c.in-Ok-bring.drivers c.serve-ran.new.drivers in
     let served = served-of (meaning_of c.args.texts) c.args.crew.desks first second ran _ c.serve-ran.ensures.log in
     let of_riders = riders-taken (meaning_of c.args.texts) c.args.crew.desks first second ran _ served in
     let of_drivers = drivers-taken (meaning_of c.args.texts) c.args.crew.desks first second ran _ served in

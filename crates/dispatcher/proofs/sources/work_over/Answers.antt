@@ -22,8 +22,7 @@ pub returns : goal.returns
 returns g c =
     let works = c.do_work-status.ensures in
     let came = g.H.Src.Source.left c.in-Ok.source in
-    let feed = feed_run came (g.H.Src.Source.left c.do_work-status.new.source) (g.H.Src.Source.faults c.in-Ok.source)
-    (g.H.Src.Source.faults c.do_work-status.new.source) in
+    let feed = feed_run g.H.Src.Source.left g.H.Src.Source.faults c.in-Ok.source c.do_work-status.new.source in
     let source = given_back (g.H.Src.Source.faults c.do_work-status.new.source) (g.H.Src.Source.left c.do_work-status.new.source) in
     inr (record {
       told = c.give_back.ensures.contents_stay ∙ c.in-Ok.ensures.contents_stay;

@@ -1,5 +1,4 @@
 use Rattle.std.proofs.Common.{◌++◌, ◌∷◌, [], List, ℕ, Ok, Err, refl, sym, ap, subst, ◌∙◌}
-use Rattle.ride_ports.specs.Count.{KeepsCount}
 use Rattle.ride_ports.proofs.Counts.{KeepsCount-none, KeepsCount-then}
 use Rattle.line_text.specs.Lines.{ended_lines}
 use Rattle.line_reader.specs.declared.answers.NextLine.TheVariants.{Line, Unfinished, End}

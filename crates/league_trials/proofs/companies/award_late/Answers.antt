@@ -34,6 +34,3 @@ award-requires-clause-ids_differ g c κs within = (late g c).ids_differ
 
 pub award-requires-clause-room : goal.award-requires-clause-room
 award-requires-clause-room g c κs within = (late g c).room
-
-pub award-requires-clause-few_asked : goal.award-requires-clause-few_asked
-award-requires-clause-few_asked g c κs within = (late g c).few_asked

@@ -19,10 +19,9 @@ pub award-requires-clause-room : goal.award-requires-clause-room
 award-requires-clause-room g c κs within =
     let company = c.args.company.now in
     let (ride, of) = c.requires.quote in
-    rw c.no_wins-brief.ensures (omega (arith, (clear-new company.board ride c.requires.company.start c.requires.company.nothing_yet).few_requests))
-
-pub award-requires-clause-few_asked : goal.award-requires-clause-few_asked
-award-requires-clause-few_asked g c κs within =
-    let company = c.args.company.now in
-    let (ride, of) = c.requires.quote in
-    omega (arith, (clear-new company.board ride c.requires.company.start c.requires.company.nothing_yet).few_asked)
+    let clear = clear-new company.board ride c.requires.company.start c.requires.company.nothing_yet in
+    rw c.no_wins-brief.ensures (record {
+      in_batch = omega arith;
+      requests = omega (arith, clear.few_requests);
+      batches = omega (arith, clear.few_asked);
+    })

@@ -27,6 +27,3 @@ award-requires-clause-ids_differ g c κs within = (may g c).ids_differ
 
 pub award-requires-clause-room : goal.award-requires-clause-room
 award-requires-clause-room g c κs within = (may g c).room
-
-pub award-requires-clause-few_asked : goal.award-requires-clause-few_asked
-award-requires-clause-few_asked g c κs within = (may g c).few_asked

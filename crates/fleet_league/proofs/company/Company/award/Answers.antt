@@ -1,4 +1,4 @@
-use Rattle.std.proofs.Common.{◌≡◌, ◌+◌, ◌<◌, ◌≤◌, length, sym, ap, subst, ◌∙◌, arith}
+use Rattle.std.proofs.Common.{◌≡◌, ◌≤◌, length, sym, ap, subst, ◌∙◌, arith}
 use Rattle.std.specs.Prelude.{All, IsTrue}
 use Rattle.ride_model.specs.declared.vehicle.Ride.{Ride}
 use Rattle.board_core.specs.Recorded.{Recorded, state_of}
@@ -6,7 +6,7 @@ use Rattle.fleet_league.specs.declared.briefs.Settled.TheVariants.{Confirmed}
 use Rattle.fleet_league.specs.Companies.{CompanyState}
 use Rattle.fleet_league.specs.Winning.{MayWin}
 use Rattle.fleet_league.specs.Prices.{IsNewRide}
-use Rattle.fleet_league.specs.Awards.{won_rides, AreOfOneState, settled_at}
+use Rattle.fleet_league.specs.Awards.{won_rides, AreOfOneState, HasRoomFor, settled_at}
 use Rattle.fleet_league.proofs.Legality.{IsLegalBoard}
 use Rattle.fleet_league.proofs.MayAward.{MayAward, may-win}
 use Rattle.fleet_league.proofs.QuotedState.{as-many-plans, stands-confirmed}
@@ -26,8 +26,8 @@ price_won-requires-clause-few g c κs within =
     let board : Recorded = c.self.inside.board in
     let begins = c.entries-history.ensures.start in
     let batch : board.start.settings.batch ≤ 128 = begins.may_start.settings_fit.batch_limit in
-    let few = subst (λ (s : CompanyState). length c.args.brief.now.wins ≤ s.board.start.settings.batch) (sym c.self.view_is) c.requires.few in
-    omega (arith, few, batch, ap (λ ws. length ws) c.items-2.ensures)
+    let room = subst (λ (s : CompanyState). HasRoomFor s.board (length c.args.brief.now.wins)) (sym c.self.view_is) c.requires.room in
+    omega (arith, room.in_batch, batch, ap (λ ws. length ws) c.items-2.ensures)
 
 pub award_priced-requires-clause-may : goal.award_priced-requires-clause-may
 award_priced-requires-clause-may g c =
@@ -42,9 +42,7 @@ award_priced-requires-clause-may g c =
       ids_spelled = c.requires.ids_spelled;
       chairs = subst (λ (s : CompanyState). s.board.start.settings.log ≡ 1 → All (λ (ride : Ride). ride.chairs ≡ 0) (won_rides brief.wins)) back
           c.requires.chairs;
-      few = subst (λ (s : CompanyState). length brief.wins ≤ s.board.start.settings.batch) back c.requires.few;
-      room = subst (λ (s : CompanyState). length (state_of s.board).requests + length brief.wins ≤ 100000) back c.requires.room;
-      few_asked = subst (λ (s : CompanyState). (state_of s.board).asked < 2000) back c.requires.few_asked;
+      room = subst (λ (s : CompanyState). HasRoomFor s.board (length brief.wins)) back c.requires.room;
     } in
     let settled : c.settled_at-settled.result ≡ Confirmed = elim c.match-matches.branch [
       | in-Confirmed w ↦ w.in-Confirmed.is

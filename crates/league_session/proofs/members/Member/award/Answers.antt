@@ -43,7 +43,7 @@ table_of_won-requires-clause-few_rides c =
     let legal : IsLegalBoard board = subst IsLegalBoard c.board.ensures.board
     (record { begins = c.entries-history.ensures.start; legal = c.entries-history.ensures.legal }) in
     let most : board.start.settings.batch ≤ 128 = legal.begins.may_start.settings_fit.batch_limit in
-    omega (arith, c.requires.may.may.few, most, ap (λ (s : CompanyState). s.board.start.settings.batch) c.self.view_is)
+    omega (arith, c.requires.may.may.room.in_batch, most, ap (λ (s : CompanyState). s.board.start.settings.batch) c.self.view_is)
 
 pub table_of_won-requires-clause-few_wins : goal.table_of_won-requires-clause-few_wins
 table_of_won-requires-clause-few_wins c =
@@ -54,7 +54,7 @@ table_of_won-requires-clause-few_wins c =
     omega (
       arith,
       c.requires.may.few,
-      c.requires.may.may.few,
+      c.requires.may.may.room.in_batch,
       most,
       ap (λ (s : CompanyState). s.board.start.settings.batch) c.self.view_is,
       ap (λ (ws : List Win). length ws) c.items.ensures,

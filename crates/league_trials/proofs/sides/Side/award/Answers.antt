@@ -1,4 +1,4 @@
-use Rattle.std.proofs.Common.{◌≡◌, sym, subst}
+use Rattle.std.proofs.Common.{◌≡◌, sym, subst, arith}
 use Rattle.plain_lemmas.proofs.Each.{of_all, all_of}
 use Rattle.ride_model.specs.declared.vehicle.Ride.{Ride}
 use Rattle.ride_model.specs.Text.{IsSpelled, IsSpelledCommand}
@@ -16,6 +16,16 @@ pub award-settled-requires-clause-rides : goal.award-settled-requires-clause-rid
 award-settled-requires-clause-rides g c κs within =
     let may = subst (λ (s : CompanyState). MayWin s c.args.rides.now c.args.brief.now) (sym c.self.view_is) c.requires.may in
     won-each (IsNewRide (state_of c.self.inside.company.board)) c.args.rides.now (won_rides c.args.brief.now.wins) may.may.each may.of_them
+
+pub award-settled-requires-clause-room : goal.award-settled-requires-clause-room
+award-settled-requires-clause-room g c κs within =
+    let may = subst (λ (s : CompanyState). MayWin s c.args.rides.now c.args.brief.now) (sym c.self.view_is) c.requires.may in
+    let room = may.may.room in
+    record {
+      in_batch = omega (arith, may.few, room.in_batch);
+      requests = omega (arith, may.few, room.requests);
+      batches = room.batches;
+    }
 
 pub award-settled-requires-clause-ids_spelled : goal.award-settled-requires-clause-ids_spelled
 award-settled-requires-clause-ids_spelled g c κs within =

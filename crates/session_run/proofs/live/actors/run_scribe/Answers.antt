@@ -6,9 +6,9 @@ use Rattle.fleet_board.proofs.Looking.{adds_none-same}
 
 pub returns-then-head_failed : goal.returns-then-head_failed
 returns-then-head_failed g c =
-    let t = subst (λ (b : Bool). Told c.args.log b (g.K.Sink.written c.args.out.now) (g.K.Sink.written c.args.out.now) (g.K.Sink.faults c.args.out.now)
+    let t = subst (λ (b : Bool). Told c.args.shared.now.log b (g.K.Sink.written c.args.out.now) (g.K.Sink.written c.args.out.now) (g.K.Sink.faults c.args.out.now)
     (g.K.Sink.faults c.args.out.now) (Err record {}) (knowledge c.args.pass.now).seen) (sym c.if-head_failed.true)
-    (untold c.args.log (g.K.Sink.written c.args.out.now) (g.K.Sink.faults c.args.out.now) (knowledge c.args.pass.now).seen) in
+    (untold c.args.shared.now.log (g.K.Sink.written c.args.out.now) (g.K.Sink.faults c.args.out.now) (knowledge c.args.pass.now).seen) in
     record {
       may_use = c.requires.may_use;
       none = adds_none-same (knowledge c.args.pass.now);
@@ -20,10 +20,10 @@ returns-then-head_failed g c =
 
 pub returns : goal.returns
 returns g c =
-    let t = subst (λ (b : Bool). Told c.args.log b (g.K.Sink.written c.args.out.now) (g.K.Sink.written c.scribe_loop.new.out)
+    let t = subst (λ (b : Bool). Told c.args.shared.now.log b (g.K.Sink.written c.args.out.now) (g.K.Sink.written c.scribe_loop.new.out)
     (g.K.Sink.faults c.args.out.now) (g.K.Sink.faults c.scribe_loop.new.out) c.scribe_loop.result (knowledge c.scribe_loop.new.pass).seen)
     (sym c.if-head_failed.false)
-    (told c.args.log (g.K.Sink.written c.args.out.now) (g.K.Sink.written c.scribe_loop.new.out) (g.K.Sink.faults c.args.out.now)
+    (told c.args.shared.now.log (g.K.Sink.written c.args.out.now) (g.K.Sink.written c.scribe_loop.new.out) (g.K.Sink.faults c.args.out.now)
     (g.K.Sink.faults c.scribe_loop.new.out) c.scribe_loop.result (knowledge c.scribe_loop.new.pass).seen c.scribe_loop.ensures.written
     c.scribe_loop.ensures.prefix c.scribe_loop.ensures.sink_faults) in
     record {

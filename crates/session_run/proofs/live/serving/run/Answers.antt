@@ -17,24 +17,22 @@ use Rattle.session_run.proofs.live.serving.run.Goals as goal
 -- the whole text was logged
 logged : (g : given.Over) (c : goal.After-drop-output-inside g)
     → HasPut (g.K.Sink.written c.args.out.now) (g.K.Sink.written c.put_rest.new.out) (g.K.Sink.faults c.args.out.now)
-    (g.K.Sink.faults c.put_rest.new.out) c.put_rest.new.output (text_of c.args.log 2 c.args.desks c.closed-board.result.history)
+    (g.K.Sink.faults c.put_rest.new.out) c.put_rest.new.output (text_of c.args.stage.log 2 c.args.stage.desks c.closed-board.result.history)
 logged g c =
     let history : List Entry = c.closed-board.result.history in
     let entries : c.entries.result.now ≡ history = c.entries.ensures.items in
     let head = put-same (g.K.Sink.written c.args.out.now) (g.K.Sink.written c.put_head.new.out) (g.K.Sink.faults c.args.out.now)
-    (g.K.Sink.faults c.put_head.new.out) c.put_head.new.output (bare c.failed-head_failed.result) (head_line c.args.log 2 c.args.desks)
+    (g.K.Sink.faults c.put_head.new.out) c.put_head.new.output (bare c.failed-head_failed.result) (head_line c.args.stage.log 2 c.args.stage.desks)
     (sym c.put_head.ensures.bare) c.failed-head_failed.ensures c.put_head.ensures.logged in
     let rest = subst (λ (es : List Entry). (earlier : Option (List ℕ)) (at count : ℕ) (text : List ℕ)
     → IfOk c.run_actors-answers.result.scribed (λ (s : Scribed). s.entries ≡ count)
     → HasPut earlier (g.K.Sink.written c.run_actors-answers.new.out) at (g.K.Sink.faults c.run_actors-answers.new.out)
     (bare (is_err c.run_actors-answers.result.scribed)) text
     → HasPut earlier (g.K.Sink.written c.put_rest.new.out) at (g.K.Sink.faults c.put_rest.new.out) c.put_rest.new.output
-    (text ++ entry_lines c.args.log (drop count es))) entries c.put_rest.ensures.logged in
-    logged-all c.args.log c.args.desks c.args.stage
-    (feed_run (g.S.Source.left c.args.riders.now) (g.S.Source.left c.run_actors-answers.new.riders) (g.S.Source.faults c.args.riders.now)
-    (g.S.Source.faults c.run_actors-answers.new.riders))
-    (feed_run (g.S.Source.left c.args.drivers.now) (g.S.Source.left c.run_actors-answers.new.drivers) (g.S.Source.faults c.args.drivers.now)
-    (g.S.Source.faults c.run_actors-answers.new.drivers))
+    (text ++ entry_lines c.args.stage.log (drop count es))) entries c.put_rest.ensures.logged in
+    logged-all c.args.stage.log c.args.stage.desks c.args.stage
+    (feed_run g.S.Source.left g.S.Source.faults c.args.riders.now c.run_actors-answers.new.riders)
+    (feed_run g.S.Source.left g.S.Source.faults c.args.drivers.now c.run_actors-answers.new.drivers)
     c.failed-head_failed.result (g.K.Sink.written c.args.out.now) (g.K.Sink.written c.put_head.new.out)
     (g.K.Sink.written c.run_actors-answers.new.out) (g.K.Sink.written c.put_rest.new.out) (g.K.Sink.faults c.args.out.now)
     (g.K.Sink.faults c.put_head.new.out) (g.K.Sink.faults c.run_actors-answers.new.out) (g.K.Sink.faults c.put_rest.new.out)
@@ -50,17 +48,15 @@ sink : (g : given.Over) (c : goal.After-drop-output-inside g) → c.ran_of.resul
 sink g c =
     let left = c.run_actors-answers.ensures in
     ap (λ (r : Ran). r.sink_failed) (answer g c)
-    ∙ sink-is c.run_actors-answers.result c.put_rest.new.output.failed left.feed_1.sink left.feed_2.sink left.desk_1.only.sink
+    ∙ sink-is c.run_actors-answers.result c.put_rest.new.output.failed left.feeds.of_riders.sink left.feeds.of_drivers.sink left.desks.first.only.sink
 
 pub returns-clause-served : goal.returns-clause-served
 returns-clause-served g c =
-    let riders = feed_run (g.S.Source.left c.args.riders.now) (g.S.Source.left c.run_actors-answers.new.riders) (g.S.Source.faults c.args.riders.now)
-    (g.S.Source.faults c.run_actors-answers.new.riders) in
-    let drivers = feed_run (g.S.Source.left c.args.drivers.now) (g.S.Source.left c.run_actors-answers.new.drivers)
-    (g.S.Source.faults c.args.drivers.now) (g.S.Source.faults c.run_actors-answers.new.drivers) in
-    subst (λ (ran : Ran). IsServed (root_at c.args.stage).start c.args.desks riders drivers ran (g.K.Sink.written c.args.out.now)
+    let riders = feed_run g.S.Source.left g.S.Source.faults c.args.riders.now c.run_actors-answers.new.riders in
+    let drivers = feed_run g.S.Source.left g.S.Source.faults c.args.drivers.now c.run_actors-answers.new.drivers in
+    subst (λ (ran : Ran). IsServed (root_at c.args.stage).start c.args.stage.desks riders drivers ran (g.K.Sink.written c.args.out.now)
     (g.K.Sink.written c.put_rest.new.out)) (sym (answer g c))
-    (is-served c.args.log c.args.desks c.args.stage riders drivers c.failed-head_failed.result (g.K.Sink.written c.args.out.now)
+    (is-served c.args.stage.log c.args.stage.desks c.args.stage riders drivers c.failed-head_failed.result (g.K.Sink.written c.args.out.now)
     (g.K.Sink.written c.put_head.new.out) (g.K.Sink.written c.run_actors-answers.new.out) (g.K.Sink.written c.put_rest.new.out)
     (g.K.Sink.faults c.args.out.now) (g.K.Sink.faults c.put_head.new.out) (g.K.Sink.faults c.run_actors-answers.new.out)
     (g.K.Sink.faults c.put_rest.new.out) c.run_actors-answers.result c.run_actors-answers.new.actors c.requires.ready
@@ -70,20 +66,20 @@ returns-clause-served g c =
 pub returns-clause-source_fault : goal.returns-clause-source_fault
 returns-clause-source_fault g c failed =
     let left = c.run_actors-answers.ensures in
-    elim (source-failed c.run_actors-answers.result c.failed.result left.desk_1.only.source
+    elim (source-failed c.run_actors-answers.result c.failed.result left.desks.first.only.source
     (sym (ap (λ (r : Ran). r.source_failed) c.ran_of.ensures) ∙ failed)) [
-      | inl riders ↦ inl (left.feed_1.faults.rose riders)
-      | inr drivers ↦ inr (left.feed_2.faults.rose drivers)
+      | inl riders ↦ inl (left.feeds.of_riders.faults.rose riders)
+      | inr drivers ↦ inr (left.feeds.of_drivers.faults.rose drivers)
     ]
 
 pub returns-clause-riders_count_none : goal.returns-clause-riders_count_none
 returns-clause-riders_count_none g c sound =
-    c.run_actors-answers.ensures.feed_1.faults.stays
+    c.run_actors-answers.ensures.feeds.of_riders.faults.stays
     (sources-sound c.run_actors-answers.result c.failed.result (sym (ap (λ (r : Ran). r.source_failed) c.ran_of.ensures) ∙ sound)).0
 
 pub returns-clause-drivers_count_none : goal.returns-clause-drivers_count_none
 returns-clause-drivers_count_none g c sound =
-    c.run_actors-answers.ensures.feed_2.faults.stays
+    c.run_actors-answers.ensures.feeds.of_drivers.faults.stays
     (sources-sound c.run_actors-answers.result c.failed.result (sym (ap (λ (r : Ran). r.source_failed) c.ran_of.ensures) ∙ sound)).1
 
 pub returns-clause-sink_faults : goal.returns-clause-sink_faults

@@ -25,24 +25,24 @@ returns-clause-ready c =
     ∙ ap (λ pass. root_of (knowledge pass)) (sym are.scribe) in
     let roads_are : c.args.roads.now ≡ root.start.roads =
     sym (ap (λ (s : State). s.roads) c.in_ok-board.ensures.start) ∙ ap (λ (r : Recorded). r.start.roads) began in
-    let desk_2 : MatchOption actors.desk_2 (passes.desk_2 ≡ None)
+    let desk_2 : MatchOption actors.desks.second (passes.desk_2 ≡ None)
     (λ (desk : Desk). (passes.desk_2 ≡ Some desk.pass) × (desk.pricer ≡ root.start.roads))
-    = subst (λ (m : RoadMap). MatchOption actors.desk_2 (passes.desk_2 ≡ None) (λ (desk : Desk). (passes.desk_2 ≡ Some desk.pass) × (desk.pricer ≡ m)))
+    = subst (λ (m : RoadMap). MatchOption actors.desks.second (passes.desk_2 ≡ None) (λ (desk : Desk). (passes.desk_2 ≡ Some desk.pass) × (desk.pricer ≡ m)))
     roads_are are.desk_2 in
     record {
-      feed_1 = subst (λ (r : Recorded). IsNewFeed board r 1 actors.feed_1) began (at-some _ passes.feed_1 actors.feed_1 are.feed_1 said.feed_1);
-      feed_2 = subst (λ (r : Recorded). IsNewFeed board r 2 actors.feed_2) began (at-match _ _ passes.feed_2 actors.feed_2 are.feed_2 said.feed_2).1;
-      desk_1 = subst (λ (r : Recorded). IsNewDesk board r 3 actors.desk_1.pass) began
-          (at-some _ passes.desk_1 actors.desk_1.pass are.desk_1.0 said.desk_1);
+      feed_1 = subst (λ (r : Recorded). IsNewFeed board r 1 actors.feeds.riders) began (at-some _ passes.feed_1 actors.feeds.riders are.feed_1 said.feed_1);
+      feed_2 = subst (λ (r : Recorded). IsNewFeed board r 2 actors.feeds.drivers) began (at-match _ _ passes.feed_2 actors.feeds.drivers are.feed_2 said.feed_2).1;
+      desk_1 = subst (λ (r : Recorded). IsNewDesk board r 3 actors.desks.first.pass) began
+          (at-some _ passes.desk_1 actors.desks.first.pass are.desk_1.0 said.desk_1);
       pricer_1 = are.desk_1.1 ∙ roads_are;
-      desk_2 = second-ready (λ (desk : Desk). desk.pass) passes.desk_2 actors.desk_2 (root.desks ≢ 2) (root.desks ≡ 2)
+      desk_2 = second-ready (λ (desk : Desk). desk.pass) passes.desk_2 actors.desks.second (root.desks ≢ 2) (root.desks ≡ 2)
           (IsNewDesk board root 4) (λ (desk : Desk). desk.pricer ≡ root.start.roads) desk_2 (rw (← began) said.desk_2);
       scribe = subst (λ pass. IsBack board 0 pass) (sym are.scribe) said.scribe;
       scribe_point = rw are.scribe said.scribe_point;
       scribe_seen = rw are.scribe said.scribe_seen;
       out = rw are.scribe (said.out ∙ four (one_if_some passes.feed_1) (one_if_some passes.feed_2) (one_if_some passes.desk_1)
-          (one_if_some passes.desk_2) (one_if_some actors.desk_2) (ap one_if_some are.feed_1) (ap one_if_some are.feed_2)
-          (ap one_if_some are.desk_1.0) (second-count (λ (desk : Desk). desk.pass) passes.desk_2 actors.desk_2
+          (one_if_some passes.desk_2) (one_if_some actors.desks.second) (ap one_if_some are.feed_1) (ap one_if_some are.feed_2)
+          (ap one_if_some are.desk_1.0) (second-count (λ (desk : Desk). desk.pass) passes.desk_2 actors.desks.second
           (λ (desk : Desk). desk.pricer ≡ root.start.roads) desk_2));
       output = c.in_ok-output.ensures;
     }
