@@ -83,20 +83,42 @@ says 5 "ride_dispatch: $scratch/missing could not be read: No such file or direc
 says 5 "ride_dispatch: $scratch could not be read: Is a directory (os error 21)" replay --map "$map" --fleet "$fleet" --feed "$scratch"
 says 5 "ride_dispatch: $scratch could not be read: Is a directory (os error 21)" book --feed "$scratch"
 
-# A wrong log: its first wrong line as it stands, and what of it is not as it was due.
+# A wrong log: its first wrong line as it stands, what of it is not as it was due, and the line that was, cut at 400 bytes.
 morning="$here/examples"
 wrong_log() {
     sed "$3" "$morning/morning.log" > "$scratch/wrong"
     line="$(sed -n "${1}p" "$scratch/wrong")"
-    says 7 "$scratch/wrong:$1: $2: $line" audit --map "$morning/map.gr" --fleet "$morning/fleet.txt" --log "$scratch/wrong"
+    says 7 "$scratch/wrong:$1: $2: $line$4" audit --map "$morning/map.gr" --fleet "$morning/fleet.txt" --log "$scratch/wrong"
+}
+# The line that was due is the example's own.
+other_due() {
+    wrong_log "$1" "$2" "$3" "; due: $(sed -n "${1}p" "$morning/morning.log")"
+}
+# Of commits any is due whose seats cost least: what is determined of it is compared.
+commit_due() {
+    sed "$3" "$morning/morning.log" > "$scratch/wrong"
+    line="$(sed -n "${1}p" "$scratch/wrong")"
+    said="$("$program" audit --map "$morning/map.gr" --fleet "$morning/fleet.txt" --log "$scratch/wrong" 2>&1 >/dev/null)"
+    case "$said" in
+    "$scratch/wrong:$1: $2: $line; due: $4 seats "*" prices "*" pays"*" outcomes "*) ;;
+    *)
+        printf 'line %s of a wrong log: %s\n' "$1" "$said"
+        failed=1
+        ;;
+    esac
 }
 says 7 "$feed:1: this is no line of a log, to the byte: $(head -n 1 "$feed")" audit --map "$map" --fleet "$fleet" --log "$feed"
-wrong_log 2 'who speaks here may not do so now' '2s/^f1/f2/'
-wrong_log 3 'another reply is due' '3s/waiting$/refused 2/'
-wrong_log 7 'another number, time, request or version is due' '7s/1@0/1@1/'
-wrong_log 8 "these seats are no seating of the batch's copies, or cost something else" '8s/cost 925/cost 924/'
-wrong_log 8 'the prices and pays do not prove that no seating costs less' '8s/101:380/101:379/'
-wrong_log 8 'another outcome is due' '8s/103:confirmed$/103:away/'
+wrong_log 2 'who speaks here may not do so now' '2s/^f1/f2/' ''
+other_due 3 'another reply is due' '3s/waiting$/refused 2/'
+other_due 7 'another number, time, request or version is due' '7s/1@0/1@1/'
+commit_due 8 "these seats are no seating of the batch's copies, or cost something else" '8s/cost 925/cost 924/' 'd1 commit 1 cost 925'
+commit_due 8 'the prices and pays do not prove that no seating costs less' '8s/101:380/101:379/' 'd1 commit 1 cost 925'
+commit_due 27 'the prices and pays do not prove that no seating costs less' '27s/108:145/108:144/' 'd1 commit 3 cost 1005'
+other_due 8 'another outcome is due' '8s/103:confirmed$/103:away/'
+# A log that cannot be read twice is told without it.
+mkfifo "$scratch/pipe"
+sed '3s/waiting$/refused 2/' "$morning/morning.log" > "$scratch/pipe" &
+says 7 "$scratch/pipe:3: another reply is due" audit --map "$morning/map.gr" --fleet "$morning/fleet.txt" --log "$scratch/pipe"
 says 7 "$scratch/none:1: this is no line of a log, to the byte: " audit --map "$map" --fleet "$fleet" --log "$scratch/none"
 head -c 1048577 /dev/zero | tr '\0' '#' > "$scratch/long"
 says 8 "ride_dispatch: $scratch/long has more than 1,048,576 bytes" replay --map "$map" --fleet "$scratch/long" --feed "$feed"

@@ -4,6 +4,8 @@ ghost use Rattle.std.specs.Prelude.{◌≡◌};
 mod batches;
 mod cities;
 mod days;
+mod going_on;
+mod restoring;
 mod searches;
 mod shared;
 

@@ -1,5 +1,5 @@
 -- What is done over one source.
-use Rattle.std.proofs.Common.{◌≡◌, ◌≢◌, inl, inr, ℕ, ◌<◌, false, List, [], Result, Ok, Err, IfSome, refl, sym, ◌∙◌, arith}
+use Rattle.std.proofs.Common.{◌≡◌, inl, inr, ℕ, ◌<◌, false, List, [], Result, Ok, Err, IfSome, refl, sym, ◌∙◌, ap, arith}
 use Rattle.std.specs.Prelude.{IsTrue}
 use Rattle.ride_ports.specs.Bytes.{Reads}
 use Rattle.ride_ports.specs.Count.{KeepsCount, Rose}
@@ -10,6 +10,7 @@ use Rattle.log_audit.specs.declared.verdict.AuditFault.TheVariants.{ReadFault, T
 use Rattle.log_audit.specs.declared.verdict.Verdict.{Verdict}
 use Rattle.log_audit.specs.declared.verdict.Verdict.TheVariants.{Yes, No}
 use Rattle.board_core.specs.declared.board.totals.Totals.{Totals}
+use Rattle.log_audit.specs.Audit.{is_read_fault}
 use Rattle.session_run.specs.Serving.{FeedRun}
 use Rattle.dispatcher.specs.Shelves.{Sunk}
 use Rattle.dispatcher.specs.Sources.{Did, WorksOver}
@@ -65,8 +66,7 @@ pub record FoundOver (feed : FeedRun) (out : Sunk) (found : Result Verdict Audit
   pub taken : List ℕ
   pub reads : Reads feed.bytes feed.left taken
   pub to_end : (totals : Totals) → found ≡ Ok (Yes totals) → IfSome feed.left (λ rest. rest ≡ [])
-  pub source_fault : found ≡ Err ReadFault → Rose feed.faults_before feed.faults_after
-  pub source_sound : found ≢ Err ReadFault → feed.faults_after ≡ feed.faults_before
+  pub source_faults : KeepsCount (is_read_fault found) feed.faults_before feed.faults_after
   pub sink_fault : status ≡ 6 → Rose out.faults_before out.faults_after
   pub sink_sound : status ≡ 0 → out.faults_after ≡ out.faults_before
 
@@ -77,9 +77,9 @@ found-works work feed out found status over did = record {
   taken = over.taken;
   reads = over.reads;
   to_end = λ zero. let (totals, right) = said-zero out found status over.said zero in over.to_end totals right;
-  source_sound = λ zero. let (totals, right) = said-zero out found status over.said zero in over.source_sound (λ fault. absurd (cc (fault, right)));
+  source_sound = λ zero. let (totals, right) = said-zero out found status over.said zero in over.source_faults.stays (ap (λ (r : Result Verdict AuditFault). is_read_fault r) right);
   sink_sound = over.sink_sound;
-  source_fault = λ five. over.source_fault (said-five out found status over.said five);
+  source_fault = λ five. over.source_faults.rose (ap (λ (r : Result Verdict AuditFault). is_read_fault r) (said-five out found status over.said five));
   sink_fault = over.sink_fault;
 }
 

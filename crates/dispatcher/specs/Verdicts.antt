@@ -1,7 +1,8 @@
 -- What an audit of a log finds, and how it is said.
 use Rattle.std.specs.Prelude.{◌≡◌, ◌≢◌, ◌⊎◌, ℕ, Bool, if◌then◌else◌, List, [], ◌++◌, IfSome, Result, Ok, Err, codes, decimal}
 use Rattle.ride_ports.specs.Bytes.{Writes, WritesPrefix}
-use Rattle.log_audit.specs.Audit.{IsAnswer}
+use Rattle.ride_ports.specs.Count.{KeepsCount}
+use Rattle.log_audit.specs.Audit.{IsAnswer, is_read_fault}
 use Rattle.log_audit.specs.Audited.{FailsAfter}
 use Rattle.log_audit.specs.declared.verdict.AuditFault.{AuditFault}
 use Rattle.log_audit.specs.declared.verdict.AuditFault.TheVariants.{ReadFault, TooLong, NoMemory}
@@ -57,5 +58,5 @@ pub record Audits (m : Meaning) (log : FeedRun) (out : Sunk) (status : ℕ) : Ty
       → IfSome log.bytes (λ bytes. (other : Result Verdict AuditFault) → IsAnswer (start_of m) bytes other → other ≡ found)
   pub to_end : (totals : Totals) → found ≡ Ok (Yes totals) → IfSome log.left (λ rest. rest ≡ [])
   pub before_fault : found ≡ Err ReadFault → FailsAfter (start_of m) log.bytes log.left
-  pub sound : found ≢ Err ReadFault → log.faults_after ≡ log.faults_before
+  pub source_faults : KeepsCount (is_read_fault found) log.faults_before log.faults_after
   pub said : EndsBy found status out

@@ -12,6 +12,7 @@ use Rattle.ride_model.specs.Text.{HasLine, HasText, IsOneOrTwo, entry_line, head
 use Rattle.history_laws.specs.Start.{IsStart}
 use Rattle.board_core.specs.Recorded.{Recorded, state_of}
 use Rattle.log_audit.specs.declared.auditor.Auditor.{Auditor}
+use Rattle.log_audit.specs.declared.fault.Fault.{Fault}
 use Rattle.trip_log.specs.declared.reading.Head.{Head}
 use Rattle.trip_log.proofs.ReadLemmas.{for_one_or_two}
 use Rattle.trip_log.proofs.TextLemmas.{texts-same}
@@ -26,9 +27,10 @@ use Rattle.log_audit.specs.declared.verdict.Why.{Why}
 use Rattle.log_audit.specs.declared.verdict.Why.TheVariants.{Spelling}
 use Rattle.log_audit.specs.Audit.{HasNoHead, IsAnswer, IsLogOf, IsWrongLine}
 use Rattle.log_audit.specs.Audited.{FailsAfter, HasReadHead, HasReadNoHead, IsWrongLineAfter, text_so_far}
-use Rattle.log_audit.specs.Auditing.{IsAuditing, IsJudged, IsLineOf}
+use Rattle.log_audit.specs.Auditing.{IsAuditing, IsJudged, IsLineOf, LeavesDue}
 use Rattle.log_audit.specs.Limits.{Counts, IsTooLong, lines_within, most_line, most_lines}
 use Rattle.log_audit.specs.LogLines.{HasRead, IsAtEnd, IsNext, IsNextLine, IsStop}
+use Rattle.log_audit.specs.Reading.{StopsReading}
 use Rattle.log_audit.specs.Words.{IsFault}
 use Rattle.log_audit.proofs.Ends.{all-read, count-text, counts-front, ends-fault, ends-too_long, one-line-more, wrong-next}
 use Rattle.log_audit.proofs.LogParts.{few-bytes, lines-counted, told-by}
@@ -71,13 +73,13 @@ fault-wrong board entry line why few is fault = λ more.
     }) fault
 
 -- what follows a line that was judged
-abbrev pub LineJudged : Auditor → Auditor → List ℕ → Option Why → Type 0
-LineJudged old new line why = MatchOption why
+abbrev pub LineJudged : Auditor → Auditor → List ℕ → Option Fault → Type 0
+LineJudged old new line fault = MatchOption fault
     (IsAuditing new × (new.board.start ≡ old.board.start) × (text_so_far new.board ≡ text_so_far old.board ++ line ++ 10 ∷ []))
-    (λ word. IsWrongLineAfter old.board line word)
+    (λ (f : Fault). IsWrongLineAfter old.board line f.why × LeavesDue old new f.why f.batch)
 
-line-judged : (old new : Auditor) (entry : Entry) (line : List ℕ) (why : Option Why) → length line ≤ most_line
-    → IsLineOf old.board.start.settings.log entry line → IsJudged old new entry why → LineJudged old new line why
+line-judged : (old new : Auditor) (entry : Entry) (line : List ℕ) (fault : Option Fault) → length line ≤ most_line
+    → IsLineOf old.board.start.settings.log entry line → IsJudged old new entry fault → LineJudged old new line fault
 line-judged old new entry line None few is goes =
     let log = old.board.start.settings.log in (
       goes.auditing,
@@ -87,7 +89,13 @@ line-judged old new entry line None few is goes =
           ∙ ap (λ l. text_so_far old.board ++ l) is.line_is
           ∙ sym (append_assoc (text_so_far old.board) line (10 ∷ [])),
     )
-line-judged old new entry line (Some w) few is fault = fault-wrong old.board entry line w few is fault
+line-judged old new entry line (Some f) few is (fault, left) = (fault-wrong old.board entry line f.why few is fault, left)
+
+-- a line that spells no entry leaves nothing
+pub spelling-left : (old new : Auditor) (line : List ℕ) (f : Fault) → f ≡ record { why = Spelling; batch = None }
+    → IsWrongLineAfter old.board line Spelling → IsWrongLineAfter old.board line f.why × LeavesDue old new f.why f.batch
+spelling-left old new line f is wrong =
+    subst (λ (x : Fault). IsWrongLineAfter old.board line x.why × LeavesDue old new x.why x.batch) (sym is) (wrong, tt)
 
 -- what is shown of a line that is not too long is the line
 pub shown-all : (line shown : List ℕ) → shown ≡ take most_line line → nat_lt most_line (length line) ≢ true
@@ -101,7 +109,7 @@ shown-all line shown is fits =
       | inr few ↦ omega (arith, few)
     ]
 
-pub judged-line : (old new : Auditor) (entry : Entry) (line shown : List ℕ) (why : Option Why) → shown ≡ take most_line line
+pub judged-line : (old new : Auditor) (entry : Entry) (line shown : List ℕ) (why : Option Fault) → shown ≡ take most_line line
     → nat_lt most_line (length line) ≢ true → IsLineOf old.board.start.settings.log entry shown → IsJudged old new entry why
     → LineJudged old new line why
 judged-line old new entry line shown why is fits of_line judged =
@@ -114,21 +122,14 @@ number-some start bytes line why (inl w) = omega (arith, w.line_is)
 number-some start bytes line why (inr w) = omega (arith, w.line_is)
 
 -- reading stops after some lines
-pub stops-answer : (before left : Option (List ℕ)) (start : State) (feeds desks : ℕ) (entries : List Entry) (text : List ℕ) (e : AuditFault)
-    → IsStart start → IsLogOf start feeds desks entries text → IsStop before left text e
-    → ◌≢◌ {A = Result Verdict AuditFault} (Err e) (Err ReadFault) → IfSome before (λ all. IsAnswer start all (Err e))
-stops-answer before left start feeds desks entries text TooLong begins good stop other =
-    ends-too_long before left start feeds desks entries text begins good stop
-stops-answer before left start feeds desks entries text ReadFault begins good stop other = absurd (other refl)
-stops-answer before left start feeds desks entries text NoMemory begins good stop other = absurd stop
-
-pub stops-fault : (before left : Option (List ℕ)) (start : State) (feeds desks : ℕ) (entries : List Entry) (text : List ℕ) (e : AuditFault)
-    → IsStart start → IsLogOf start feeds desks entries text → IsStop before left text e
-    → ◌≡◌ {A = Result Verdict AuditFault} (Err e) (Err ReadFault) → FailsAfter start before left
-stops-fault before left start feeds desks entries text TooLong begins good stop is = absurd (cc is)
-stops-fault before left start feeds desks entries text ReadFault begins good stop is =
-    ends-fault before left start feeds desks entries text begins good stop
-stops-fault before left start feeds desks entries text NoMemory begins good stop is = absurd (cc is)
+pub stops-reading : (before left : Option (List ℕ)) (start old_start : State) (feeds desks : ℕ) (entries : List Entry) (text : List ℕ) (stop : AuditFault)
+    → IsStart start → IsLogOf start feeds desks entries text → start ≡ old_start → IsStop before left text stop
+    → StopsReading before left old_start stop
+stops-reading before left start old_start feeds desks entries text TooLong begins good starts stopped =
+    subst (λ s. IfSome before (λ all. IsAnswer s all (Err TooLong))) starts (ends-too_long before left start feeds desks entries text begins good stopped)
+stops-reading before left start old_start feeds desks entries text ReadFault begins good starts stopped =
+    subst (λ s. FailsAfter s before left) starts (ends-fault before left start feeds desks entries text begins good stopped)
+stops-reading before left start old_start feeds desks entries text NoMemory begins good starts stopped = tt
 
 -- how many entries there are
 pub few-entries : (before left : Option (List ℕ)) (lines : ReaderState) (start : State) (feeds desks : ℕ) (entries : List Entry) (text : List ℕ)
@@ -150,7 +151,7 @@ unread-wrong old line shown read o auditing none is fits read_is nothing never =
     (ap (λ n. entry_line n entry) auditing.log_is ∙ told ∙ ap (λ l. l ++ 10 ∷ []) (sym (read_is ∙ same))))
 
 -- a line whose entry was judged
-pub read-judged : {E : Type 0} (old new : Auditor) (line shown read : List ℕ) (o : Option Entry) (entry : Entry) (r : Result (Option Why) E)
+pub read-judged : {E : Type 0} (old new : Auditor) (line shown read : List ℕ) (o : Option Entry) (entry : Entry) (r : Result (Option Fault) E)
     → IsAuditing old → shown ≡ take most_line line → nat_lt most_line (length line) ≢ true → read ≡ shown → o ≡ Some entry
     → IfSome o (HasLine old.log) → IfSome o (λ e. entry_line old.log e ≡ read ++ 10 ∷ []) → IfOk r (IsJudged old new entry)
     → IfOk r (LineJudged old new line)
@@ -164,7 +165,7 @@ read-judged {E} old new line shown read o entry r auditing is fits read_is some 
           ∙ ap (λ l. l ++ 10 ∷ []) read_is;
     }
 
-    by_result : (x : Result (Option Why) E) → IfOk x (IsJudged old new entry) → IfOk x (LineJudged old new line)
+    by_result : (x : Result (Option Fault) E) → IfOk x (IsJudged old new entry) → IfOk x (LineJudged old new line)
     by_result (Ok why) h = judged-line old new entry line shown why is fits of_line h
     by_result (Err e) h = tt
 
@@ -279,36 +280,23 @@ other-version version feeds desks log feeds' desks' line v f d l f' d' one other
     (record { log_version = v; feeds_number = f; desks_number = d; lines = λ k e low. absurd (omega (arith, low)) })
     (text-nothing log feeds' desks' ∙ one ∙ sym other ∙ sym (text-nothing version feeds desks))).0
 
--- the answer where reading stops
-pub stop-answer : (before left : Option (List ℕ)) (start old_start : State) (feeds desks : ℕ) (entries : List Entry) (text : List ℕ) (e stop : AuditFault)
-    (r : Result Verdict AuditFault) → r ≡ Err e → e ≡ stop → IsStart start → IsLogOf start feeds desks entries text → start ≡ old_start
-    → IsStop before left text stop → r ≢ Err ReadFault → IfSome before (λ all. IsAnswer old_start all r)
-stop-answer before left start old_start feeds desks entries text e stop r is same begins good starts stopped other =
-    let whole : r ≡ Err stop = is ∙ (λ i. Err (same i)) in
-    subst (λ x. IfSome before (λ all. IsAnswer old_start all x)) (sym whole)
-    (subst (λ s. IfSome before (λ all. IsAnswer s all (Err stop))) starts
-    (stops-answer before left start feeds desks entries text stop begins good stopped (λ fault. other (whole ∙ fault))))
-
-pub stop-fault : (before left : Option (List ℕ)) (start old_start : State) (feeds desks : ℕ) (entries : List Entry) (text : List ℕ) (e stop : AuditFault)
-    (r : Result Verdict AuditFault) → r ≡ Err e → e ≡ stop → IsStart start → IsLogOf start feeds desks entries text → start ≡ old_start
-    → IsStop before left text stop → r ≡ Err ReadFault → FailsAfter old_start before left
-stop-fault before left start old_start feeds desks entries text e stop r is same begins good starts stopped fault =
-    let whole : r ≡ Err stop = is ∙ (λ i. Err (same i)) in
-    subst (λ s. FailsAfter s before left) starts
-    (stops-fault before left start feeds desks entries text stop begins good stopped (sym whole ∙ fault))
-
 -- the log of a board
 pub log-of : (board : Recorded) → IsLegal board.feeds board.desks board.start board.history
     → HasText board.start.settings.log board.feeds board.desks board.history
     → IsLogOf board.start board.feeds board.desks board.history (text_so_far board)
 log-of board legal text = record { has_text = text; legal = legal; text_is = refl }
 
--- the answer where reading stops before the head
-stops-head : (before left : Option (List ℕ)) (start : State) (e : AuditFault) → IsStop before left [] e
-    → ◌≢◌ {A = Result Verdict AuditFault} (Err e) (Err ReadFault) → IfSome before (λ all. IsAnswer start all (Err e))
-stops-head before left start ReadFault stop other = absurd (other refl)
-stops-head before left start NoMemory stop other = absurd stop
-stops-head before left start TooLong stop other = by_case before stop
+-- reading stops before the head
+pub stops-head : (before left : Option (List ℕ)) (start : State) (stop : AuditFault) → IsStop before left [] stop → StopsReading before left start stop
+stops-head before left start NoMemory stopped = tt
+stops-head before left start ReadFault (rest, none, reads, within) = record {
+  bytes = rest;
+  reads = reads;
+  within = within;
+  none_wrong = λ line why wrong low.
+      omega (arith, number-some start rest line why wrong, low, ended-nothing, ap length none);
+}
+stops-head before left start TooLong stopped = by_case before stopped
   where
     by_case : (o : Option (List ℕ)) → IfSome o (λ all. (more : List ℕ) × (all ≡ [] ++ more) × IsTooLong all × (lines_within all ≤ length (ended_lines [])))
         → IfSome o (λ all. IsAnswer start all (Err TooLong))
@@ -318,28 +306,18 @@ stops-head before left start TooLong stop other = by_case before stop
       λ line why wrong counts. omega (arith, number-some start all line why wrong, counts long, within, ended-nothing),
     )
 
-pub stop-head : (before left : Option (List ℕ)) (start : State) (e stop : AuditFault) (r : Result Verdict AuditFault) → r ≡ Err e → e ≡ stop
-    → IsStop before left [] stop → r ≢ Err ReadFault → IfSome before (λ all. IsAnswer start all r)
-stop-head before left start e stop r is same stopped other =
-    let whole : r ≡ Err stop = is ∙ (λ i. Err (same i)) in
-    subst (λ x. IfSome before (λ all. IsAnswer start all x)) (sym whole)
-    (stops-head before left start stop stopped (λ fault. other (whole ∙ fault)))
+-- reading stopped at a fault of the source, or a log is too long
+pub stopped-fault : (before left : Option (List ℕ)) (start : State) (stop : AuditFault) → stop ≡ ReadFault → StopsReading before left start stop
+    → FailsAfter start before left
+stopped-fault before left start TooLong is stops = absurd (cc is)
+stopped-fault before left start ReadFault is stops = stops
+stopped-fault before left start NoMemory is stops = absurd (cc is)
 
-pub fault-head : (before left : Option (List ℕ)) (start : State) (e stop : AuditFault) (r : Result Verdict AuditFault) → r ≡ Err e → e ≡ stop
-    → IsStop before left [] stop → r ≡ Err ReadFault → FailsAfter start before left
-fault-head before left start e stop r is same stopped fault = by_stop stop stopped (sym (is ∙ (λ i. Err (same i))) ∙ fault)
-  where
-    by_stop : (x : AuditFault) → IsStop before left [] x → ◌≡◌ {A = Result Verdict AuditFault} (Err x) (Err ReadFault)
-        → FailsAfter start before left
-    by_stop TooLong h f = absurd (cc f)
-    by_stop NoMemory h f = absurd (cc f)
-    by_stop ReadFault (rest, none, reads, within) f = record {
-      bytes = rest;
-      reads = reads;
-      within = within;
-      none_wrong = λ line why wrong low.
-          omega (arith, number-some start rest line why wrong, low, ended-nothing, ap length none);
-    }
+pub stopped-long : (before left : Option (List ℕ)) (start : State) (stop : AuditFault) → stop ≢ NoMemory → stop ≢ ReadFault
+    → StopsReading before left start stop → IfSome before (λ all. IsAnswer start all (Err stop))
+stopped-long before left start TooLong memory fault stops = stops
+stopped-long before left start ReadFault memory fault stops = absurd (fault refl)
+stopped-long before left start NoMemory memory fault stops = absurd (memory refl)
 
 -- the answer where there is no head
 pub no-head-answer : (before : Option (List ℕ)) (start : State) → HasReadNoHead before start.settings.log

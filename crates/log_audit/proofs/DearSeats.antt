@@ -1,21 +1,19 @@
 -- Where prices certify a seating, each seat costs what its pair is priced at.
 use Rattle.std.proofs.Common.{◌≡◌, ℕ, ◌+◌, ◌-◌, ◌*◌, ◌≤◌, List, [], ◌∷◌, length, refl, sym, ap, subst, arith}
-use Rattle.std.specs.Prelude.{◌==◌, map, sum_by, All, Some, None, IfSome, IsSome, unwrap_or, option_and_then, nat_eq}
+use Rattle.std.specs.Prelude.{map, sum_by, All, Some, IfSome, IsSome, unwrap_or, option_and_then, nat_eq}
 use Rattle.std.specs.List.{AllByRecursion, IsDistinct}
-use Rattle.std.proofs.lemmas.Bool.{eqb-true}
 use Rattle.std.proofs.lemmas.List.{length-map}
 use Rattle.std.proofs.lemmas.List.Elements.{recursion_from_All, All-contains}
 use Rattle.std.proofs.lemmas.List.Sums.{sum_by-cons}
-use Rattle.ride_model.specs.declared.offer.Offer.{Offer}
 use Rattle.ride_model.specs.declared.offer.Seat.{Seat}
 use Rattle.ride_model.specs.declared.vehicle.Ride.{Ride}
 use Rattle.ride_model.specs.declared.vehicle.Vehicle.{Vehicle}
 use Rattle.ride_model.specs.Road.{RoadMap}
-use Rattle.ride_model.specs.Offers.{offer_of, price}
+use Rattle.ride_model.specs.Offers.{price}
 use Rattle.ride_model.specs.Vehicle.{ride_ids}
 use Rattle.ride_model.specs.Seating.{BatchCopy, find_ride, find_vehicle, has_seat, seat_offer, seat_cost, amount_of, IsCovered, Certifies}
-use Rattle.plain_lemmas.proofs.Among.{contains_from_among, found_among}
-use Rattle.model_laws.proofs.Certificates.{amount-le, sum-amounts, sum-amounts-le, each_capped, seat_facts}
+use Rattle.plain_lemmas.proofs.Among.{contains_from_among}
+use Rattle.model_laws.proofs.Certificates.{sum-amounts, sum-amounts-le, each_capped, seat_facts}
 use Rattle.model_laws.proofs.CoveredPairs.{prices-le-cost}
 use Rattle.model_laws.proofs.OfferPrices.{price-le-cost}
 use Rattle.plain_lemmas.proofs.Sums.{sum_by-map}

@@ -21,7 +21,7 @@ use Rattle.board_core.specs.declared.board.totals.Totals.{Totals}
 use Rattle.log_audit.specs.declared.verdict.Verdict.TheVariants.{Yes, No}
 use Rattle.log_audit.specs.declared.verdict.Why.{Why}
 use Rattle.log_audit.specs.declared.verdict.Why.TheVariants.{Spelling, Actor as ToActor, Reply as ToReply, Batch as ToBatch, Seating as ToSeating, Prices as ToPrices, Outcomes as ToOutcomes}
-use Rattle.log_audit.specs.Audit.{Tells, IsLogOf, IsWrongNext, IsAnswer}
+use Rattle.log_audit.specs.Audit.{Tells, IsLogOf, IsWrongEntry, IsWrongNext, IsAnswer}
 use Rattle.log_audit.specs.Audited.{FailsAfter}
 use Rattle.log_audit.specs.Limits.{most_bytes, most_lines, IsTooLong, lines_within, Counts}
 use Rattle.log_audit.specs.LogLines.{IsAtEnd, IsNextLine, IsStop}
@@ -131,32 +131,72 @@ one-line-more text line whole none =
     = ended_lines-append (text ++ line) (10 ∷ []) ∙ (λ i. ended i ++ ended_after (rest i) (10 ∷ [])) in
     omega (arith, ap length lines, length-append (ended_lines text) (line ∷ []))
 
--- a line is wrong
+-- a line is wrong after the text of a history
+abbrev pub IsWrongAfter : State → ℕ → ℕ → List Entry → List ℕ → ℕ → Why → Type 0
+IsWrongAfter start feeds desks entries all number why =
+    ((w : IsWrongEntry start all number why) × (w.feeds ≡ feeds) × (w.desks ≡ desks) × (w.entries ≡ entries)) × Counts all number
+
+pub ends-wrong-entry : (before left : Option (List ℕ)) (start : State) (feeds desks : ℕ) (entries : List Entry) (text line : List ℕ) (lines : ReaderState) (number : ℕ) (why : Why)
+    → IsLogOf start feeds desks entries text → IsNextLine before left lines text line
+    → ((more : List ℕ) → IsWrongNext start feeds desks entries ((line ++ 10 ∷ []) ++ more) why) → number ≡ length entries + 2
+    → IfSome before (λ all. IsWrongAfter start feeds desks entries all number why)
+ends-wrong-entry before left start feeds desks entries text line lines number why good next wrong number_is =
+    let front : List ℕ = text ++ line ++ 10 ∷ [] in
+    let ended : length (ended_lines front) ≡ length (ended_lines text) + 1
+    = one-line-more text line (whole-text start feeds desks entries text good) next.no_lf in
+    told-by before left (front ++ lines.pending) (λ all. IsWrongAfter start feeds desks entries all number why) next.read.reads
+    (λ later. (
+      (
+        record {
+          feeds = feeds;
+          desks = desks;
+          entries = entries;
+          front = text;
+          rest = (line ++ 10 ∷ []) ++ (lines.pending ++ later);
+          bytes_are = append_assoc front (lines.pending) later ∙ ap (λ l. l ++ (lines.pending ++ later)) (append_assoc text line (10 ∷ []))
+              ∙ append_assoc text (line ++ 10 ∷ []) (lines.pending ++ later);
+          log = good;
+          wrong = wrong (lines.pending ++ later);
+          line_is = number_is;
+        },
+        refl,
+        refl,
+        refl,
+      ),
+      subst (λ all. Counts all number) (sym (append_assoc front (lines.pending) later))
+          (counts-front front (lines.pending ++ later) number (few-bytes next.read) (omega (arith, lines-counted next.read))
+          (omega (arith, number_is, ended, count-text start feeds desks entries text good))),
+    ))
+
 pub ends-wrong : (before left : Option (List ℕ)) (start : State) (feeds desks : ℕ) (entries : List Entry) (text line : List ℕ) (lines : ReaderState) (number : ℕ) (why : Why)
     → IsLogOf start feeds desks entries text → IsNextLine before left lines text line
     → ((more : List ℕ) → IsWrongNext start feeds desks entries ((line ++ 10 ∷ []) ++ more) why) → number ≡ length entries + 2
     → IfSome before (λ all. IsAnswer start all (Ok (No number why)))
 ends-wrong before left start feeds desks entries text line lines number why good next wrong number_is =
+    by_case before (ends-wrong-entry before left start feeds desks entries text line lines number why good next wrong number_is)
+  where
+    by_case : (o : Option (List ℕ)) → IfSome o (λ all. IsWrongAfter start feeds desks entries all number why)
+        → IfSome o (λ all. IsAnswer start all (Ok (No number why)))
+    by_case None h = tt
+    by_case (Some all) ((w, _, _, _), counts) = (inr w, counts)
+
+-- and it has its LF
+pub wrong-ended : (before left : Option (List ℕ)) (start : State) (feeds desks : ℕ) (entries : List Entry) (text line : List ℕ) (lines : ReaderState)
+    (number : ℕ) → IsLogOf start feeds desks entries text → IsNextLine before left lines text line → number ≡ length entries + 2
+    → IfSome before (λ all. number ≤ length (ended_lines all))
+wrong-ended before left start feeds desks entries text line lines number good next number_is =
     let front : List ℕ = text ++ line ++ 10 ∷ [] in
     let ended : length (ended_lines front) ≡ length (ended_lines text) + 1
     = one-line-more text line (whole-text start feeds desks entries text good) next.no_lf in
-    told-by before left (front ++ lines.pending) (λ all. IsAnswer start all (Ok (No number why))) next.read.reads
-    (λ later. (
-      inr (record {
-        feeds = feeds;
-        desks = desks;
-        entries = entries;
-        front = text;
-        rest = (line ++ 10 ∷ []) ++ (lines.pending ++ later);
-        bytes_are = append_assoc front (lines.pending) later ∙ ap (λ l. l ++ (lines.pending ++ later)) (append_assoc text line (10 ∷ []))
-            ∙ append_assoc text (line ++ 10 ∷ []) (lines.pending ++ later);
-        log = good;
-        wrong = wrong (lines.pending ++ later);
-        line_is = number_is;
-      }),
-      subst (λ all. Counts all number) (sym (append_assoc front (lines.pending) later))
-          (counts-front front (lines.pending ++ later) number (few-bytes next.read) (omega (arith, lines-counted next.read))
-          (omega (arith, number_is, ended, count-text start feeds desks entries text good))),
+    told-by before left (front ++ lines.pending) (λ all. number ≤ length (ended_lines all)) next.read.reads
+    (λ later. omega (
+      arith,
+      number_is,
+      ended,
+      count-text start feeds desks entries text good,
+      ap (λ l. length (ended_lines l)) (append_assoc front lines.pending later),
+      ap length (ended_lines-append front (lines.pending ++ later)),
+      length-append (ended_lines front) (ended_after (rest_of front) (lines.pending ++ later)),
     ))
 
 -- the log is too long

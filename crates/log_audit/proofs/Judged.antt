@@ -2,14 +2,17 @@
 use Rattle.std.proofs.Common.{◌≡◌, ◌≢◌, ℕ, List, [], ◌∷◌, ◌++◌, Option, None, Some, refl, sym, ◌∙◌, ap, subst}
 use Rattle.std.specs.Prelude.{All}
 use Rattle.std.proofs.lemmas.List.Elements.{All-contains, Contains-push}
+use Rattle.std.proofs.lemmas.Option.{same_Some}
 use Rattle.ride_model.specs.declared.entry.Entry.{Entry}
+use Rattle.ride_model.specs.Seating.{BatchCopy}
 use Rattle.ride_model.specs.State.{State}
 use Rattle.ride_model.specs.Text.{HasLine, HasText, IsOneOrTwo, entry_line}
 use Rattle.trip_log.proofs.ReadLemmas.{lines-same}
 use Rattle.board_core.specs.Recorded.{Recorded, state_of}
 use Rattle.log_audit.specs.declared.auditor.Auditor.{Auditor}
+use Rattle.log_audit.specs.declared.fault.Fault.{Fault}
 use Rattle.log_audit.specs.declared.verdict.Why.{Why}
-use Rattle.log_audit.specs.Auditing.{IsAuditing, IsJudged, IsLineOf}
+use Rattle.log_audit.specs.Auditing.{GoesOn, IsAuditing, IsJudged, IsLineOf, LeavesDue}
 use Rattle.log_audit.specs.OpenBatches.{AreOpen}
 use Rattle.log_audit.specs.Words.{IsFault}
 
@@ -22,14 +25,6 @@ auditing-on old new auditing start pricing log held = record {
   open_are = held;
 }
 
--- what an audit keeps after one more entry
-pub record Went (old new : Auditor) (last : Entry) : Type 0 where
-  pub grows : new.board.history ≡ old.board.history ++ last ∷ []
-  pub start_stays : new.board.start ≡ old.board.start
-  pub feeds_stay : new.board.feeds ≡ old.board.feeds
-  pub desks_stay : new.board.desks ≡ old.board.desks
-  pub auditing : IsAuditing new
-
 -- the last entry of a history with a text has a line
 pub last-line : (old new : Recorded) (last : Entry) → new.start ≡ old.start → new.history ≡ old.history ++ last ∷ []
     → HasText new.start.settings.log new.feeds new.desks new.history → HasLine old.start.settings.log last
@@ -39,14 +34,14 @@ last-line old new last start history has =
     (subst (All (HasLine new.start.settings.log)) history has.lines) (Contains-push old.history last))
 
 -- the board's entry is the line's, or the line is wrong
-pub judged : (old new : Auditor) (entry last : Entry) (line : List ℕ) (word : Why) (why : Option Why) → IsAuditing old
+pub judged : (old new : Auditor) (entry last : Entry) (line : List ℕ) (word : Why) (why : Option Fault) → IsAuditing old
     → HasText new.board.start.settings.log new.board.feeds new.board.desks new.board.history
-    → Went old new last → IsLineOf old.log entry line
+    → GoesOn old new last → (GoesOn old new last → LeavesDue old new word None) → IsLineOf old.log entry line
     → (why ≡ None → entry_line new.log last ≡ line ++ 10 ∷ [])
-    → (why ≢ None → (why ≡ Some word) × (entry_line new.log last ≢ line ++ 10 ∷ []))
+    → (why ≢ None → (why ≡ Some (record { why = word; batch = None })) × (entry_line new.log last ≢ line ++ 10 ∷ []))
     → ((entry ≡ last → ⊥) → IsFault word old.board.feeds old.board.desks (state_of old.board) entry.actor entry.event)
     → IsJudged old new entry why
-judged old new entry last line word why auditing has went is told not_told fault = by_why why told not_told
+judged old new entry last line word why auditing has went left is told not_told fault = by_why why told not_told
   where
     log : ℕ
     log = old.board.start.settings.log
@@ -66,21 +61,25 @@ judged old new entry last line word why auditing has went is told not_told fault
     fits : IsOneOrTwo log
     fits = subst (λ (s : State). IsOneOrTwo s.settings.log) went.start_stays has.log_version
 
-    by_why : (w : Option Why) → (w ≡ None → entry_line new.log last ≡ line ++ 10 ∷ [])
-        → (w ≢ None → (w ≡ Some word) × (entry_line new.log last ≢ line ++ 10 ∷ [])) → IsJudged old new entry w
+    by_why : (w : Option Fault) → (w ≡ None → entry_line new.log last ≡ line ++ 10 ∷ [])
+        → (w ≢ None → (w ≡ Some (record { why = word; batch = None })) × (entry_line new.log last ≢ line ++ 10 ∷ [])) → IsJudged old new entry w
     by_why None same _ =
         let lines : entry_line log entry ≡ entry_line log last = entry_is ∙ sym (ap (λ n. entry_line n last) (sym log_now) ∙ same refl) in
         let one : entry ≡ last = lines-same log entry last fits entry_has last_has lines in
-        record {
-          grows = went.grows ∙ ap (λ (e : Entry). old.board.history ++ e ∷ []) (sym one);
-          start_stays = went.start_stays;
-          feeds_stay = went.feeds_stay;
-          desks_stay = went.desks_stay;
-          auditing = went.auditing;
-        }
-    by_why (Some w) _ other =
-        let some : ◌≢◌ {A = Option Why} (Some w) None = λ e. cc e in
-        let (word_is, differs) = other some in
-        let same : word ≡ w = cc in
-        subst (λ x. IsFault x old.board.feeds old.board.desks (state_of old.board) entry.actor entry.event) same
-        (fault (λ one. differs (ap (λ n. entry_line n last) log_now ∙ ap (entry_line log) (sym one) ∙ entry_is)))
+        subst (GoesOn old new) (sym one) went
+    by_why (Some f) _ other =
+        let some : ◌≢◌ {A = Option Fault} (Some f) None = λ e. cc e in
+        let (fault_is, differs) = other some in
+        subst (λ (x : Fault). IsFault x.why old.board.feeds old.board.desks (state_of old.board) entry.actor entry.event × LeavesDue old new x.why x.batch)
+        (sym (same_Some f (record { why = word; batch = None }) fault_is)) (
+          fault (λ one. differs (ap (λ n. entry_line n last) log_now ∙ ap (entry_line log) (sym one) ∙ entry_is)),
+          left went,
+        )
+
+-- a commit whose seats or prices are wrong leaves its batch
+pub uncommitted : (old new : Auditor) (entry : Entry) (why : Why) (batch : BatchCopy) (f : Fault) → f ≡ record { why = why; batch = Some batch }
+    → LeavesDue old new why (Some batch) → IsFault why old.board.feeds old.board.desks (state_of old.board) entry.actor entry.event
+    → IsFault f.why old.board.feeds old.board.desks (state_of old.board) entry.actor entry.event × LeavesDue old new f.why f.batch
+uncommitted old new entry why batch f is left fault =
+    subst (λ (x : Fault). IsFault x.why old.board.feeds old.board.desks (state_of old.board) entry.actor entry.event × LeavesDue old new x.why x.batch)
+    (sym is) (fault, left)

@@ -5,12 +5,15 @@ pub mod DearSeats
 pub mod OwnCells
 pub mod ShortLines
 pub mod OneAnswer
+pub mod AuditLimits
 pub mod WholeLines
 pub mod Ends
 pub mod Judged
-pub mod FedCounts
 pub mod Vehicles
 pub mod Placing
 pub mod SeatCosts
 pub mod SaidCommits
 pub mod AuditSteps
+pub mod Readings
+pub mod Restorations
+pub mod DueLines

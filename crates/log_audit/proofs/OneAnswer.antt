@@ -188,7 +188,7 @@ not-both start feeds desks entries bytes line why begins good (inr w) =
     some-line log e = omega (arith, length-append (join_with_byte 32 (actor_field e.actor ∷ event_fields log e.event)) (10 ∷ []))
 
 -- two wrong lines are one
-wrong-same : (start : State) (bytes : List ℕ) (line others_line : ℕ) (why others_why : Why) → IsStart start
+pub wrong-same : (start : State) (bytes : List ℕ) (line others_line : ℕ) (why others_why : Why) → IsStart start
     → IsWrongLine start bytes line why → IsWrongLine start bytes others_line others_why → (line ≡ others_line) × (why ≡ others_why)
 wrong-same start bytes line line' why why' begins (inl w) (inl v) = (w.line_is ∙ sym v.line_is, w.why_is ∙ sym v.why_is)
 wrong-same start bytes line line' why why' begins (inl w) (inr v) =

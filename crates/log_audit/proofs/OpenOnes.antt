@@ -9,9 +9,8 @@ use Rattle.ride_model.specs.declared.command.Actor.{Actor}
 use Rattle.ride_model.specs.declared.command.Actor.TheVariants.{Desk}
 use Rattle.ride_model.specs.declared.command.Command.{Command}
 use Rattle.ride_model.specs.declared.entry.Ending.{Ending}
-use Rattle.ride_model.specs.declared.entry.Entry.{Entry}
 use Rattle.ride_model.specs.Batch.{may_open, next_batch, after_opening, after_commit, after_abandon}
-use Rattle.ride_model.specs.Legal.{after_entry, all_feeds_ended, replay, IsLegal}
+use Rattle.ride_model.specs.Legal.{after_entry, replay, IsLegal}
 use Rattle.ride_model.specs.Road.{RoadMap}
 use Rattle.ride_model.specs.Seating.{BatchCopy, IsBatchOver}
 use Rattle.ride_model.specs.State.{State, has_ended, is_batch, open_batch_of, open_batch_numbered}
@@ -20,7 +19,6 @@ use Rattle.ride_model.specs.Vehicle.{IsLawful}
 use Rattle.batch_commit.specs.Solved.{SolvedBatch}
 use Rattle.plain_lemmas.proofs.Among.{Among, found_among}
 use Rattle.plain_lemmas.proofs.Each.{of_all}
-use Rattle.model_laws.proofs.Histories.{replay-push}
 use Rattle.model_laws.proofs.RequestStates.{others-opening, abandon-is}
 use Rattle.history_laws.proofs.Untouched.{leaves-step, stays-outcomes}
 use Rattle.history_laws.specs.Consistent.{IsOpenBatch}
@@ -28,13 +26,10 @@ use Rattle.history_laws.specs.Start.{IsStart}
 use Rattle.history_laws.proofs.EveryState.{consistent}
 use Rattle.history_laws.proofs.Lookups.{found_by}
 use Rattle.trip_log.proofs.ReadLemmas.{for_one_or_two}
-use Rattle.board_core.specs.declared.opening.Opening.{Opening}
-use Rattle.board_core.specs.declared.opening.Opening.TheVariants.{Batch, Idle, Ended}
-use Rattle.board_core.specs.Opening.{opening_at}
 use Rattle.board_core.specs.Recorded.{Recorded, state_of, fed_entry, end_entry, opened_entry, committed_entry, abandoned_entry}
 use Rattle.board_core.proofs.Closed.{find-without}
 use Rattle.board_core.proofs.Opened.{open-with}
-use Rattle.board_core.proofs.OpenBatches.{state-push, none-numbered, got-next}
+use Rattle.board_core.proofs.OpenBatches.{state-push, none-numbered}
 use Rattle.log_audit.specs.declared.open_batches.OpenBatches.{OpenBatches}
 use Rattle.log_audit.specs.OpenBatches.{batch_of, with_batch, AreOpen}
 

@@ -10,8 +10,10 @@ use Rattle.ride_model.specs.Batch.{outcomes_of}
 use Rattle.ride_model.specs.Road.{RoadMap}
 use Rattle.ride_model.specs.Seating.{BatchCopy, Certifies, seating_cost}
 use Rattle.ride_model.specs.State.{State, open_batch_numbered}
+use Rattle.batch_commit.specs.declared.answers.Answer.{Answer}
+use Rattle.batch_commit.specs.Answer.{CertifiesOverCells, undecided}
 use Rattle.batch_commit.specs.Solved.{SolvedBatch}
-use Rattle.batch_commit.specs.Table.{IsTableOf}
+use Rattle.batch_commit.specs.Table.{IsTableOf, Table}
 use Rattle.board_core.specs.Recorded.{Recorded, state_of, committed_entry}
 use Rattle.log_audit.specs.declared.seating.Placed.{Placed}
 use Rattle.log_audit.specs.declared.verdict.Why.TheVariants.{Seating, Prices, Outcomes}
@@ -56,24 +58,41 @@ seats-right s said batch roads seats o placed roads_are seats_are some answer =
     (subst (λ x. IsSeatedAt roads batch x said.cost) seats_are (subst (SeatedAnswer roads batch seats said.cost) some answer).0)
 
 -- what the answer to prices says
+abbrev pub CertifiedFacts : RoadMap → BatchCopy → Said → Table × Answer → Type 0
+CertifiedFacts roads batch said pair = IsTableOf roads batch pair.0
+    × (pair.1 ≡ record { seating = said.seats; prices = said.prices; pays = said.pays; outcomes = undecided said.prices })
+    × CertifiesOverCells batch pair.0 said.seats said.prices said.pays × Certifies roads batch said.seats said.prices said.pays
+
+abbrev pub CertifiedAnswer : RoadMap → BatchCopy → Said → Option (Table × Answer) → Type 0
+CertifiedAnswer roads batch said o = MatchOption o (Certifies roads batch said.seats said.prices said.pays → ⊥) (CertifiedFacts roads batch said)
+
+pub prices-wrong : (board : Recorded) (desk : ℕ) (said : Said) (outcomes : List (ℕ × Outcome)) (batch : BatchCopy) (roads : RoadMap)
+    (o : Option (Table × Answer)) → open_batch_numbered (state_of board) desk said.number ≡ Some batch → (state_of board).roads ≡ roads
+    → IsSeatedAt (state_of board).roads batch said.seats said.cost → o ≡ None → CertifiedAnswer roads batch said o
+    → IsFault Prices board.feeds board.desks (state_of board) (Desk desk) (said_entry desk said outcomes).event
+prices-wrong board desk said outcomes batch roads o found roads_are seated none answer =
+    fault-prices board.feeds board.desks (state_of board) desk said.number said.cost said.seats said.prices said.pays outcomes batch found seated
+    (λ h. subst (CertifiedAnswer roads batch said) none answer (subst (λ r. Certifies r batch said.seats said.prices said.pays) roads_are h))
+
+pub prices-right : (batch : BatchCopy) (said : Said) (roads : RoadMap) (o : Option (Table × Answer)) (pair : Table × Answer) → o ≡ Some pair
+    → CertifiedAnswer roads batch said o → CertifiedFacts roads batch said pair
+prices-right batch said roads o pair some answer = subst (CertifiedAnswer roads batch said) some answer
+
+-- the solved batch of a commit
 abbrev pub SolvedFacts : RoadMap → BatchCopy → Said → SolvedBatch → Type 0
 SolvedFacts roads batch said solved = (solved.batch ≡ batch) × (solved.answer.seating ≡ said.seats) × (solved.answer.prices ≡ said.prices)
     × (solved.answer.pays ≡ said.pays) × Certifies roads batch said.seats said.prices said.pays × IsTableOf roads batch solved.table
 
-abbrev pub SolvedAnswer : RoadMap → BatchCopy → Said → Option SolvedBatch → Type 0
-SolvedAnswer roads batch said o = MatchOption o (Certifies roads batch said.seats said.prices said.pays → ⊥) (SolvedFacts roads batch said)
-
-pub prices-wrong : (board : Recorded) (desk : ℕ) (said : Said) (outcomes : List (ℕ × Outcome)) (batch : BatchCopy) (roads : RoadMap)
-    (o : Option SolvedBatch) → open_batch_numbered (state_of board) desk said.number ≡ Some batch → (state_of board).roads ≡ roads
-    → IsSeatedAt (state_of board).roads batch said.seats said.cost → o ≡ None → SolvedAnswer roads batch said o
-    → IsFault Prices board.feeds board.desks (state_of board) (Desk desk) (said_entry desk said outcomes).event
-prices-wrong board desk said outcomes batch roads o found roads_are seated none answer =
-    fault-prices board.feeds board.desks (state_of board) desk said.number said.cost said.seats said.prices said.pays outcomes batch found seated
-    (λ h. subst (SolvedAnswer roads batch said) none answer (subst (λ r. Certifies r batch said.seats said.prices said.pays) roads_are h))
-
-pub prices-right : (batch : BatchCopy) (said : Said) (roads : RoadMap) (o : Option SolvedBatch) (solved : SolvedBatch) → o ≡ Some solved
-    → SolvedAnswer roads batch said o → SolvedFacts roads batch said solved
-prices-right batch said roads o solved some answer = subst (SolvedAnswer roads batch said) some answer
+pub solved-facts : (batch : BatchCopy) (said : Said) (roads : RoadMap) (pair : Table × Answer) (solved : SolvedBatch) → CertifiedFacts roads batch said pair
+    → solved ≡ record { batch = batch; table = pair.0; answer = pair.1 } → SolvedFacts roads batch said solved
+solved-facts batch said roads pair solved (of_map, answer_is, over_cells, certified) is = (
+  ap (λ (s : SolvedBatch). s.batch) is,
+  ap (λ (s : SolvedBatch). s.answer.seating) is ∙ ap (λ (a : Answer). a.seating) answer_is,
+  ap (λ (s : SolvedBatch). s.answer.prices) is ∙ ap (λ (a : Answer). a.prices) answer_is,
+  ap (λ (s : SolvedBatch). s.answer.pays) is ∙ ap (λ (a : Answer). a.pays) answer_is,
+  certified,
+  subst (IsTableOf roads batch) (sym (ap (λ (s : SolvedBatch). s.table) is)) of_map,
+)
 
 -- where the commit is another than the board's, its outcomes are others
 pub outcomes-wrong : (board : Recorded) (desk : ℕ) (said : Said) (outcomes : List (ℕ × Outcome)) (batch : BatchCopy) (roads : RoadMap)

@@ -1,5 +1,5 @@
 -- What the bytes of a log are: the text of a legal history, or wrong at one line; and what an audit answers.
-use Rattle.std.specs.Prelude.{◌≡◌, ◌≢◌, ℕ, ◌+◌, ◌≤◌, ◌⊎◌, List, [], ◌++◌, length, Result, Ok, Err}
+use Rattle.std.specs.Prelude.{◌≡◌, ◌≢◌, ℕ, ◌+◌, ◌≤◌, ◌⊎◌, Bool, true, false, List, [], ◌++◌, length, Result, Ok, Err}
 use Rattle.ride_model.specs.declared.entry.Entry.{Entry}
 use Rattle.ride_model.specs.Legal.{IsLegal, replay}
 use Rattle.ride_model.specs.State.{State}
@@ -78,3 +78,8 @@ IsAnswer start bytes (Err TooLong) =
     IsTooLong bytes × ((line : ℕ) (why : Why) → IsWrongLine start bytes line why → Counts bytes line → ⊥)
 IsAnswer start bytes (Err ReadFault) = ⊥
 IsAnswer start bytes (Err NoMemory) = ⊥
+
+-- whether the source failed
+abbrev pub is_read_fault : {T : Type 0} → Result T AuditFault → Bool
+is_read_fault (Err ReadFault) = true
+is_read_fault _ = false

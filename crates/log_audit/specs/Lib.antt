@@ -6,3 +6,6 @@ pub mod Seated
 pub mod Audit
 pub mod Auditing
 pub mod Audited
+pub mod Reading
+pub mod Due
+pub mod Restored

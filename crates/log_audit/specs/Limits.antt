@@ -1,7 +1,8 @@
 -- The limits of a log.
-use Rattle.std.specs.Prelude.{ℕ, ◌<◌, ◌≤◌, ◌⊎◌, min, List, length, take}
+use Rattle.std.specs.Prelude.{ℕ, ◌≤◌, min, List, length, take}
 use Rattle.line_reader.specs.declared.limits.Limits.{Limits}
-use Rattle.line_text.specs.Lines.{ended_lines, lines_of}
+use Rattle.line_reader.specs.Limits.{IsTooLong as IsTooLongFor}
+use Rattle.line_text.specs.Lines.{ended_lines}
 
 -- the most bytes of a line without its LF, the most bytes of a log, and its most lines
 abbrev pub most_line : ℕ
@@ -18,7 +19,7 @@ log_limits = record { line = most_line; bytes = most_bytes; lines = most_lines }
 
 -- more bytes or more lines than a log may have
 abbrev pub IsTooLong : List ℕ → Type 0
-IsTooLong bytes = (most_bytes < length bytes) ⊎ (most_lines < length (lines_of bytes))
+IsTooLong bytes = IsTooLongFor log_limits bytes
 
 -- how many lines an LF ends within the limits
 abbrev pub lines_within : List ℕ → ℕ

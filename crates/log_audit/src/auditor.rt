@@ -9,6 +9,7 @@ ghost use Rattle.log_audit.specs.Limits.{most_lines};
 
 use crate::Why;
 use crate::commits::Commit;
+use crate::fault::Fault;
 use crate::open_batches::OpenBatches;
 use adaptive_roads::Roads;
 use board_core::Board;
@@ -72,13 +73,28 @@ impl<'r> Auditor<'r> {
         })
     }
 
-    /// Judges an entry and its line: appends it where it is right, or answers the first word that it does not meet.
+    /// The board and the open batches.
+    pub(crate) fn into_parts(self) -> (Board<'r>, OpenBatches)
+        ensures board { result.0 ≡ self.entry.board }
+        ensures batches { result.1 ≡ self.entry.batches }
+    {
+        let Auditor {
+            board,
+            batches,
+            pricing,
+            log: _,
+        } = self;
+        drop(pricing);
+        (board, batches)
+    }
+
+    /// Judges an entry and its line: appends it where it is right, or answers the first word that it does not meet, and what was due.
     pub(crate) fn judge<R: Threads + Sync>(
         &mut self,
         rt: &R,
         entry: Entry,
         line: &[u8],
-    ) -> Result<Option<Why>, NoMemory>
+    ) -> Result<Option<Fault>, NoMemory>
         requires auditing { IsAuditing self.old }
         requires few { length self.old.board.history < most_lines }
         requires line { IsLineOf self.old.board.start.settings.log entry line.now }
@@ -88,12 +104,12 @@ impl<'r> Auditor<'r> {
         match event {
             Event::Fed { command, reply: _ } => match actor {
                 Actor::Feed(feed) => self.judge_fed(feed, &command, line),
-                Actor::Desk(_) => Ok(Some(Why::Actor)),
+                Actor::Desk(_) => Ok(Some(Fault::of(Why::Actor))),
             },
             Event::Finish { ending } => Ok(self.judge_end(actor, ending)),
             Event::Opened { .. } => match actor {
                 Actor::Desk(desk) => self.judge_opened(desk, line),
-                Actor::Feed(_) => Ok(Some(Why::Actor)),
+                Actor::Feed(_) => Ok(Some(Fault::of(Why::Actor))),
             },
             Event::Committed {
                 batch,
@@ -112,30 +128,30 @@ impl<'r> Auditor<'r> {
                 };
                 match actor {
                     Actor::Desk(desk) => self.judge_committed(rt, desk, commit, line),
-                    Actor::Feed(_) => Ok(Some(Why::Actor)),
+                    Actor::Feed(_) => Ok(Some(Fault::of(Why::Actor))),
                 }
             }
             Event::Abandoned { batch } => match actor {
                 Actor::Desk(desk) => Ok(self.judge_abandoned(desk, batch)),
-                Actor::Feed(_) => Ok(Some(Why::Actor)),
+                Actor::Feed(_) => Ok(Some(Fault::of(Why::Actor))),
             },
         }
     }
 
-    /// None where the line is that of the history's last entry, and else the word that says why not.
-    pub(crate) fn unless_told(&self, line: &[u8], why: Why) -> Option<Why>
+    /// None where the line is that of the history's last entry, and else the fault that says why not.
+    pub(crate) fn unless_told(&self, line: &[u8], why: Why) -> Option<Fault>
         requires { self.now.log ≡ self.now.board.start.settings.log }
         ensures told { (entries : List Entry) (last : Entry)
             → self.now.board.history ≡ entries ++ last ∷ []
             → result ≡ None → entry_line self.now.log last ≡ line.now ++ 10 ∷ [] }
         ensures not_told { (entries : List Entry) (last : Entry)
             → self.now.board.history ≡ entries ++ last ∷ []
-            → result ≢ None → (result ≡ Some why)
+            → result ≢ None → (result ≡ Some (record { why = why; batch = None }))
             × (entry_line self.now.log last ≢ line.now ++ 10 ∷ []) }
     {
         match self.board.entries().last() {
             Some(entry) if spells(entry, self.log, line) => None,
-            _ => Some(why),
+            _ => Some(Fault::of(why)),
         }
     }
 }

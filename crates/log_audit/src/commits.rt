@@ -1,23 +1,28 @@
 //! Commits: the seats are a seating, its cost is the cost that is said, the prices certify it, and the outcomes are those of the moment.
-ghost use Rattle.std.specs.Prelude.{◌≡◌, ℕ, ◌≤◌, List, All, IfOk, MatchOption};
+ghost use Rattle.std.specs.Prelude.{◌≡◌, ℕ, ◌≤◌, ◌++◌, ◌∷◌, [], List, All, Some, IfOk, OnOk, MatchOption};
 ghost use Rattle.ride_model.specs.declared.command.Actor.TheVariants.{Desk};
+ghost use Rattle.ride_model.specs.declared.entry.Entry.{Entry};
 ghost use Rattle.ride_model.specs.declared.entry.Event.TheVariants.{Committed};
 ghost use Rattle.ride_model.specs.declared.entry.Outcome.{Outcome};
 ghost use Rattle.ride_model.specs.Road.{IsRoadMap, RoadMap};
 ghost use Rattle.ride_model.specs.Seating.{Certifies, IsBatchOver, IsSeating};
+ghost use Rattle.ride_model.specs.State.{open_batch_numbered};
 ghost use Rattle.ride_model.specs.Text.{IsOneOrTwo};
 ghost use Rattle.ride_model.specs.Vehicle.{IsLawful};
 ghost use Rattle.ride_model.specs.Limits.{latest_time};
-ghost use Rattle.batch_commit.specs.Answer.{IsSeatAt};
+ghost use Rattle.batch_commit.specs.Answer.{CertifiesOverCells, IsSeatAt, undecided};
 ghost use Rattle.batch_commit.specs.Table.{IsTableOf};
+ghost use Rattle.board_core.specs.Recorded.{state_of};
 ghost use Rattle.log_audit.specs.Auditing.{IsAuditing, IsJudged, IsLineOf};
 ghost use Rattle.log_audit.specs.Seated.{ArePlaced};
 
 use crate::Why;
 use crate::auditor::Auditor;
+use crate::fault::Fault;
 use crate::seating::{Placed, seated};
 use batch_commit::{Answer, Batch, PriceTable, Solved};
 use dual_check::certifies;
+use hungarian::solve;
 use pricing_workers::{Pricer, Search, price_batch_by};
 use ride_model::{AmountList, NoMemory, Seat, SeatList};
 use ride_ports::OpenGate;
@@ -41,7 +46,7 @@ impl<'r> Auditor<'r> {
         desk: u8,
         commit: Commit,
         line: &[u8],
-    ) -> Result<Option<Why>, NoMemory>
+    ) -> Result<Option<Fault>, NoMemory>
         requires auditing { IsAuditing self.old }
         requires desk { IsOneOrTwo desk }
         ensures { (outcomes : List (ℕ × Outcome))
@@ -59,53 +64,82 @@ impl<'r> Auditor<'r> {
         // This call tells that the history is legal.
         let _history = self.board.entries();
         let Some(batch) = self.take_numbered(desk, commit.number) else {
-            return Ok(Some(Why::Actor));
+            return Ok(Some(Fault::of(Why::Actor)));
         };
         let seats = commit.seats.items();
         let Some(placed) = seated(&mut self.pricing, &batch, seats, commit.cost)? else {
-            return Ok(Some(Why::Seating));
+            return Ok(Some(Fault::with_batch(Why::Seating, batch)));
         };
-        let Some(solved) = self.solved(rt, batch, commit, placed.as_slice())? else {
-            return Ok(Some(Why::Prices));
+        let Some((table, answer)) = self.certified(rt, &batch, commit, placed.as_slice())? else {
+            return Ok(Some(Fault::with_batch(Why::Prices, batch)));
         };
-        self.board.commit(solved);
+        self.board.commit(Solved::tie(batch, table, answer));
         // This call tells that the history is legal and has a text.
         let _history = self.board.entries();
         Ok(self.unless_told(line, Why::Outcomes))
     }
 
-    // The batch with its own table and the commit's answer, where its prices certify its seating.
-    fn solved<R: Threads + Sync>(
+    // The batch's table and the commit's answer, where its prices certify its seating.
+    fn certified<R: Threads + Sync>(
         &mut self,
         rt: &R,
-        batch: Batch,
+        batch: &Batch,
         commit: Commit,
         placed: &[Placed],
-    ) -> Result<Option<Solved>, NoMemory>
-        requires time { batch.time ≤ latest_time }
-        requires over_map { IsBatchOver self.old.pricing batch }
-        requires lawful { All (IsLawful self.old.pricing) batch.vehicles }
-        requires seating { IsSeating self.old.pricing batch commit.seats }
-        requires placed { ArePlaced self.old.pricing batch commit.seats placed.now }
-        ensures solved { IfOk result (λ solved. MatchOption solved
-            (Certifies self.old.pricing batch commit.seats commit.prices commit.pays → ⊥)
-            (λ solved. (solved.batch ≡ batch) × (solved.answer.seating ≡ commit.seats)
-            × (solved.answer.prices ≡ commit.prices)
-            × (solved.answer.pays ≡ commit.pays)
-            × Certifies self.old.pricing batch commit.seats commit.prices commit.pays
-            × IsTableOf self.old.pricing batch solved.table)) }
+    ) -> Result<Option<(PriceTable, Answer)>, NoMemory>
+        requires time { batch.now.time ≤ latest_time }
+        requires over_map { IsBatchOver self.old.pricing batch.now }
+        requires lawful { All (IsLawful self.old.pricing) batch.now.vehicles }
+        requires seating { IsSeating self.old.pricing batch.now commit.seats }
+        requires placed { ArePlaced self.old.pricing batch.now commit.seats placed.now }
+        ensures certified { IfOk result (λ certified. MatchOption certified
+            (Certifies self.old.pricing batch.now commit.seats commit.prices commit.pays → ⊥)
+            (λ pair. IsTableOf self.old.pricing batch.now pair.0
+            × (pair.1 ≡ record {
+              seating = commit.seats;
+              prices = commit.prices;
+              pays = commit.pays;
+              outcomes = undecided commit.prices;
+            })
+            × CertifiesOverCells batch.now pair.0 commit.seats commit.prices commit.pays
+            × Certifies self.old.pricing batch.now commit.seats commit.prices commit.pays)) }
         ensures kept { self.new ≡ self.old }
     {
-        let table = table(rt, &mut self.pricing, &batch)?;
-        let Some(table) = with_own_offers(table, &batch, commit.seats.items(), placed) else {
+        let table = table(rt, &mut self.pricing, batch)?;
+        let Some(table) = with_own_offers(table, batch, commit.seats.items(), placed) else {
             return Ok(None);
         };
-        if !certifies(&batch, &table, &commit.seats, &commit.prices, &commit.pays) {
+        if !certifies(batch, &table, &commit.seats, &commit.prices, &commit.pays) {
             return Ok(None);
         }
         let alloc = self.pricing.alloc();
         let answer = Answer::of(alloc, commit.seats, commit.prices, commit.pays)?;
-        Ok(Some(Solved::tie(batch, table, answer)))
+        Ok(Some((table, answer)))
+    }
+
+    /// Commits a batch by a least seating and the prices that certify it.
+    pub(crate) fn commit_least<R: Threads + Sync>(
+        &mut self,
+        rt: &R,
+        batch: Batch,
+    ) -> Result<(), NoMemory>
+        requires roads { self.old.pricing ≡ self.old.board.start.roads }
+        requires is_open { open_batch_numbered (state_of self.old.board)
+            batch.desk batch.number ≡ Some batch }
+        ensures grows { OnOk result ((due : Entry)
+            × (self.new.board.history ≡ self.old.board.history ++ due ∷ [])) }
+        ensures others { self.new.board ≡ record self.old.board {
+          history = self.new.board.history;
+          spare = self.new.board.spare;
+        } }
+        ensures log { self.new.log ≡ self.old.log }
+    {
+        // This call tells that the history is legal.
+        let _history = self.board.entries();
+        let table = table(rt, &mut self.pricing, &batch)?;
+        let answer = solve(self.pricing.alloc(), &batch, &table)?;
+        self.board.commit(Solved::tie(batch, table, answer));
+        Ok(())
     }
 }
 

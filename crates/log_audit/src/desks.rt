@@ -12,13 +12,14 @@ ghost use Rattle.log_audit.specs.OpenBatches.{with_batch};
 
 use crate::Why;
 use crate::auditor::Auditor;
+use crate::fault::Fault;
 use batch_commit::Batch;
 use board_core::Opening;
 use ride_model::{Actor, Ending, NoMemory};
 
 impl<'r> Auditor<'r> {
     /// Judges the line of an opening.
-    pub(crate) fn judge_opened(&mut self, desk: u8, line: &[u8]) -> Result<Option<Why>, NoMemory>
+    pub(crate) fn judge_opened(&mut self, desk: u8, line: &[u8]) -> Result<Option<Fault>, NoMemory>
         requires auditing { IsAuditing self.old }
         requires desk { IsOneOrTwo desk }
         ensures { (batch time : ℕ) (requests : List ℕ) (plans : List (ℕ × ℕ))
@@ -30,7 +31,7 @@ impl<'r> Auditor<'r> {
             (record { actor = Desk desk; event = Opened batch time requests plans })) }
     {
         if !self.may_open(desk) {
-            return Ok(Some(Why::Actor));
+            return Ok(Some(Fault::of(Why::Actor)));
         }
         let Opening::Batch(batch) = self.board.open_batch(desk)? else {
             unreachable!();
@@ -42,7 +43,7 @@ impl<'r> Auditor<'r> {
     }
 
     /// Judges that a batch is given up.
-    pub(crate) fn judge_abandoned(&mut self, desk: u8, number: u64) -> Option<Why>
+    pub(crate) fn judge_abandoned(&mut self, desk: u8, number: u64) -> Option<Fault>
         requires auditing { IsAuditing self.old }
         requires desk { IsOneOrTwo desk }
         ensures { IsJudged self.old self.new
@@ -51,7 +52,7 @@ impl<'r> Auditor<'r> {
         // This call tells that the history is legal.
         let _history = self.board.entries();
         let Some(batch) = self.take_numbered(desk, number) else {
-            return Some(Why::Actor);
+            return Some(Fault::of(Why::Actor));
         };
         self.board.abandon(batch);
         None

@@ -11,6 +11,7 @@ ghost use Rattle.log_audit.specs.Limits.{most_lines};
 
 use crate::Why;
 use crate::auditor::Auditor;
+use crate::fault::Fault;
 use ride_model::{Actor, Command, Ending, NoMemory};
 
 impl<'r> Auditor<'r> {
@@ -20,7 +21,7 @@ impl<'r> Auditor<'r> {
         feed: u8,
         command: &Command,
         line: &[u8],
-    ) -> Result<Option<Why>, NoMemory>
+    ) -> Result<Option<Fault>, NoMemory>
         requires auditing { IsAuditing self.old }
         requires few { length self.old.board.history < most_lines }
         requires line { (reply : Reply)
@@ -34,7 +35,7 @@ impl<'r> Auditor<'r> {
             (record { actor = Feed feed; event = Fed command.now reply })) }
     {
         if !self.may_feed(feed) {
-            return Ok(Some(Why::Actor));
+            return Ok(Some(Fault::of(Why::Actor)));
         }
         let _reply = self.board.apply(feed, command)?;
         // This call tells that the history is legal and has a text.
@@ -43,12 +44,12 @@ impl<'r> Auditor<'r> {
     }
 
     /// Judges the end of an actor.
-    pub(crate) fn judge_end(&mut self, actor: Actor, ending: Ending) -> Option<Why>
+    pub(crate) fn judge_end(&mut self, actor: Actor, ending: Ending) -> Option<Fault>
         requires { IsAuditing self.old }
         ensures { IsJudged self.old self.new (end_entry actor ending) result }
     {
         if !self.may_finish(actor, ending) {
-            return Some(Why::Actor);
+            return Some(Fault::of(Why::Actor));
         }
         self.board.end(actor, ending);
         None

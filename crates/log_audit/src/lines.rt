@@ -1,7 +1,7 @@
 //! The lines of a log, one after the other.
-ghost use Rattle.std.specs.Prelude.{◌≡◌, ◌≢◌, ℕ, ◌≤◌, [], List, Option, Err, IfOk, MatchResult};
-ghost use Rattle.ride_ports.specs.Count.{Rose};
-ghost use Rattle.log_audit.specs.declared.verdict.AuditFault.TheVariants.{ReadFault};
+ghost use Rattle.std.specs.Prelude.{ℕ, [], List, Option, IfOk, MatchResult};
+ghost use Rattle.ride_ports.specs.Count.{KeepsCount};
+ghost use Rattle.log_audit.specs.Audit.{is_read_fault};
 ghost use Rattle.log_audit.specs.LogLines.{HasRead, IsNext, IsStop, TakesSome};
 
 use crate::AuditFault;
@@ -11,7 +11,7 @@ use ride_ports::Source;
 use std::alloc::Global;
 
 /// The most bytes of a line without its LF.
-const MOST_LINE: usize = 131_072;
+pub(crate) const MOST_LINE: usize = 131_072;
 /// The most bytes of a log.
 const MOST_BYTES: usize = 1 << 30;
 /// The most lines of a log.
@@ -41,9 +41,7 @@ pub(crate) fn next_line<S: Source>(
         (IsNext before (S.left log.new) lines.new bytes)
         (IsStop before (S.left log.new) bytes) }
     ensures taken { TakesSome (S.left log.old) (S.left log.new) }
-    ensures fault { result ≡ Err ReadFault → Rose (S.faults log.old) (S.faults log.new) }
-    ensures other_counts_none { result ≢ Err ReadFault → S.faults log.new ≡ S.faults log.old }
-    ensures count_never_falls { S.faults log.old ≤ S.faults log.new }
+    ensures faults { KeepsCount (is_read_fault result) (S.faults log.old) (S.faults log.new) }
 {
     match lines.next(log) {
         Ok(next) => Ok(next),

@@ -2,7 +2,7 @@
 //! it.
 use crate::options::tell_words;
 use crate::texts::{tell_fleet, tell_map};
-use crate::verdicts::tell_wrong;
+use crate::verdicts::{LogNames, tell_wrong};
 use ride_ports::FileFault;
 use std::io;
 use std::rt::Files;
@@ -35,13 +35,13 @@ struct Said<'a> {
 
 impl<'a> Report<'a> {
     /// Says why the run was not whole.
-    pub fn tell<R: Files + Eprint + AllocGlobal>(&self, rt: &R) {
+    pub fn tell<R: Files + Eprint + Threads + Sync + AllocGlobal>(&self, rt: &R) {
         let _ = match self.status {
             0 => Ok(()),
             2 => tell_words(rt, self.words),
             3 => tell_map(rt, self.name(1)),
             4 => tell_fleet(rt, self.name(1), self.name(self.asked.len())),
-            7 => tell_wrong(rt, self.name(3), self.said),
+            7 => tell_wrong(rt, self.log_names(), self.said),
             _ => self.tell_fault(rt),
         };
     }
@@ -118,6 +118,15 @@ impl<'a> Report<'a> {
             };
         }
         said_of(self.name(last), limit)
+    }
+
+    // The files of an audit.
+    fn log_names(&self) -> LogNames<'_> {
+        LogNames {
+            map: self.name(1),
+            fleet: self.name(2),
+            log: self.name(3),
+        }
     }
 
     // A name by its number from 1.

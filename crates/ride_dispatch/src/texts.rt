@@ -42,7 +42,8 @@ pub fn text_of<R: Files + AllocGlobal>(rt: &R, name: &str) -> Option<String> {
     fs::read_to_string(rt, name).ok()
 }
 
-fn network_of<R: Files + AllocGlobal>(rt: &R, map: &str) -> Option<Network> {
+/// Returns the map of a file, where it is no pipe.
+pub fn network_of<R: Files + AllocGlobal>(rt: &R, map: &str) -> Option<Network> {
     let text = text_of(rt, map)?;
     read_map(rt.alloc(), &mut SureSource::new(text.as_bytes())).ok()
 }

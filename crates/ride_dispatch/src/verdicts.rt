@@ -1,28 +1,81 @@
-//! What is said on standard error of a log that an audit finds wrong: its first wrong line as it stands, and which part of it is not
-//! what was due. No clause speaks of it.
-use crate::texts::{line_of, text_of};
+//! What is said on standard error of a log that an audit finds wrong: its first wrong line as it stands, which part of it is not what was
+//! due, and the line that was. No clause speaks of it. The log, its map and its fleet file are read once more, where they can be.
+use crate::texts::{line_of, network_of, text_of};
+use adaptive_roads::Roads;
+use fleet_file::read_fleet;
+use log_audit::due_line;
+use ride_ports::SureSource;
 use std::io;
 use std::rt::Files;
 use std::str::from_utf8;
+use std::thread::Threads;
+
+/// The most bytes that are shown of a line that was due.
+const MOST_SHOWN: usize = 400;
+
+/// The names of a log, and of the map and the fleet file that it is over.
+#[derive(Clone, Copy)]
+pub struct LogNames<'a> {
+    pub map: &'a str,
+    pub fleet: &'a str,
+    pub log: &'a str,
+}
 
 /// Says which line of a log is wrong, by what standard output said of it.
-pub fn tell_wrong<R: Files + Eprint + AllocGlobal>(
+pub fn tell_wrong<R: Files + Eprint + Threads + Sync + AllocGlobal>(
     rt: &R,
-    name: &str,
+    names: LogNames<'_>,
     said: &[u8],
 ) -> io::Result<()> {
     let (number, why) = match from_utf8(said) {
         Ok(line) => verdict_in(line),
         Err(_) => ("?", ""),
     };
-    let due = due_of(why);
+    let (name, due) = (names.log, due_of(why));
     match (text_of(rt, name), number.parse::<u64>()) {
         (Some(text), Ok(place)) => {
             let line = line_of(text.as_str(), place);
-            eprintln!(rt; "{name}:{number}: {due}: {line}")
+            match line_due(rt, names, text.as_bytes()) {
+                Some(other) => {
+                    let other = other.as_str();
+                    eprintln!(rt; "{name}:{number}: {due}: {line}; due: {other}")
+                }
+                None => eprintln!(rt; "{name}:{number}: {due}: {line}"),
+            }
         }
         _ => eprintln!(rt; "{name}:{number}: {due}"),
     }
+}
+
+// The line that was due in a log of this text, without its LF and as far as it is shown.
+fn line_due<R: Files + Threads + Sync + AllocGlobal>(
+    rt: &R,
+    names: LogNames<'_>,
+    log: &[u8],
+) -> Option<String> {
+    let map = network_of(rt, names.map)?;
+    let fleet = text_of(rt, names.fleet)?;
+    let Ok((settings, fleet)) = read_fleet(rt.alloc(), &mut SureSource::new(fleet.as_bytes()), &map)
+    else {
+        return None;
+    };
+    let Ok(roads) = Roads::new(rt.alloc(), &map) else {
+        return None;
+    };
+    let mut source = SureSource::new(log);
+    let line = due_line(rt, rt.alloc(), &roads, settings, fleet, &mut source).ok()?;
+    shown(line?)
+}
+
+// A line without its LF, cut where it is long.
+fn shown(line: Vec<u8>) -> Option<String> {
+    let mut line = line;
+    let _lf = line.pop();
+    if line.len() > MOST_SHOWN {
+        line.truncate(MOST_SHOWN);
+        line.extend_from_slice(b"..").ok()?;
+    }
+    String::from_utf8(line).ok()
 }
 
 // The number of the line and the word, of `no LINE WORD`.

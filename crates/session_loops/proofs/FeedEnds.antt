@@ -146,7 +146,7 @@ nothing-submitted log feed k = record {
   made = made-none k;
   fed = All-nil (λ (e : Entry). IsTrue (is_fed e.event));
   reads = Reads-none feed;
-  first = record { of_taken = (commands_of log [], refl); of_feed = each feed };
+  first = record { of_taken = (commands_of log [], refl); of_feed = each feed; few = omega arith };
   ended = tt;
 }
   where

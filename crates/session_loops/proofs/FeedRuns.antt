@@ -1,5 +1,5 @@
 -- The first commands of a feed.
-use Rattle.std.proofs.Common.{◌≡◌, ℕ, List, [], ◌++◌, Option, Some, None, refl, ap, sym, subst, ◌∙◌, append-nil}
+use Rattle.std.proofs.Common.{◌≡◌, ℕ, ◌≤◌, List, [], ◌++◌, length, Option, Some, None, refl, ap, sym, subst, ◌∙◌, append-nil, arith, length-append}
 use Rattle.std.specs.Prelude.{IfSome}
 use Rattle.ride_model.specs.declared.command.Command.{Command}
 use Rattle.ride_ports.specs.Bytes.{Reads}
@@ -10,7 +10,8 @@ use Rattle.command_lines.specs.Commands.{commands_of}
 use Rattle.command_lines.specs.Feeds.{FeedState, HasGiven, IsStopped, IsWhole}
 use Rattle.command_lines.specs.Limits.{AreFirst, ended_commands}
 use Rattle.command_lines.proofs.LineCommands.{ended_commands-first, first-then}
-use Rattle.command_lines.proofs.ReaderLemmas.{given-first, given-first-of-all}
+use Rattle.command_lines.proofs.ReaderLemmas.{given-few, given-first, given-first-of-all}
+use Rattle.limit_laws.proofs.FeedCommands.{ended-le, whole-le}
 use Rattle.session_loops.specs.Stops.{AreFirstOf}
 
 -- fewer commands
@@ -19,6 +20,7 @@ pub fewer-first : (log : ℕ) (feed : Option (List ℕ)) (taken : List ℕ) (few
 fewer-first log feed taken few more first all = record {
   of_taken = first-then few more (commands_of log taken) first all.of_taken;
   of_feed = each feed all.of_feed;
+  few = omega (arith, all.few, ap length first.1, length-append few first.0);
 }
   where
     each : (o : Option (List ℕ)) → IfSome o (λ bytes. AreFirst more (commands_of log bytes)) → IfSome o (λ bytes. AreFirst few (commands_of log bytes))
@@ -31,6 +33,7 @@ pub given-first-of : (reader : FeedState) (log : ℕ) (feed left : Option (List 
 given-first-of reader log feed left commands taken version reads given = subst (λ n. AreFirstOf n feed taken commands) version (record {
   of_taken = given-first reader left commands taken given;
   of_feed = each feed reads;
+  few = given-few reader left commands taken given;
 })
   where
     each : (o : Option (List ℕ)) → Reads o left taken → IfSome o (λ bytes. AreFirst commands (commands_of reader.log bytes))
@@ -56,6 +59,7 @@ stopped-first-of log feed left stop commands taken reads stopped =
     by_commands is = subst (λ (cs : List Command). AreFirstOf log feed taken cs) (sym is) (record {
       of_taken = subst (λ (l : List ℕ). AreFirst (ended_commands log taken) (commands_of log l)) (append-nil taken) (ended_commands-first log taken []);
       of_feed = each feed reads;
+      few = ended-le log taken (ended_commands log taken) ([], sym (append-nil (ended_commands log taken)));
     })
 
 -- those of a feed that was read to its end
@@ -66,6 +70,7 @@ whole-first-of log feed left commands taken reads whole =
     record {
       of_taken = of_taken;
       of_feed = each feed reads of_taken;
+      few = whole-le log taken commands whole.within of_taken;
     }
   where
     each : (o : Option (List ℕ)) → Reads o left taken → AreFirst commands (commands_of log taken) → IfSome o (λ bytes. AreFirst commands (commands_of log bytes))

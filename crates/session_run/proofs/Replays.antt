@@ -1,5 +1,5 @@
 -- What a session's history gives at its end.
-use Rattle.std.proofs.Common.{◌≡◌, ℕ, Bool, true, false, cond, List, [], ◌∷◌, ◌++◌, Option, Some, None, eqb, eq-eqb, refl, sym, ap, subst, ◌∙◌, append_assoc, append-nil, inl, true≢false}
+use Rattle.std.proofs.Common.{◌≡◌, ℕ, ◌≤◌, Bool, true, false, cond, List, [], ◌∷◌, ◌++◌, Option, Some, None, eqb, eq-eqb, refl, sym, ap, subst, ◌∙◌, append_assoc, append-nil, inl, true≢false, arith, length}
 use Rattle.std.specs.Prelude.{IfSome, IsTrue, filter_map, All, ◌&&◌}
 use Rattle.std.specs.List.{list_any, list_all, range_with_len}
 use Rattle.ride_model.specs.declared.command.Actor.{Actor}
@@ -249,7 +249,7 @@ no-replay start ran feed begins text none long =
       text = text;
       promises = keeps_promises 1 1 start [] begins tt;
       settled = refl;
-      first = record { of_taken = (commands_of start.settings.log [], refl); of_feed = each feed };
+      first = record { of_taken = (commands_of start.settings.log [], refl); of_feed = each feed; few = omega arith };
       whole = λ memory _. absurd (cc (memory, none));
       cut = λ memory _. absurd (cc (memory, none));
       within = λ memory _. absurd (cc (memory, none));

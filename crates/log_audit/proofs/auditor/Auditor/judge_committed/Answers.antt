@@ -1,4 +1,4 @@
-use Rattle.std.proofs.Common.{◌≡◌, [], ◌∷◌, ◌++◌, Some, sym, ◌∙◌, ap, subst}
+use Rattle.std.proofs.Common.{◌≡◌, [], ◌∷◌, ◌++◌, Some, refl, sym, ◌∙◌, ap, subst}
 use Rattle.std.specs.Prelude.{All}
 use Rattle.ride_model.specs.declared.entry.Entry.{Entry}
 use Rattle.ride_model.specs.Road.{RoadMap}
@@ -7,10 +7,10 @@ use Rattle.ride_model.specs.State.{open_batch_numbered}
 use Rattle.ride_model.specs.Vehicle.{IsLawful}
 use Rattle.board_core.specs.Recorded.{Recorded, state_of, committed_entry}
 use Rattle.log_audit.specs.declared.auditor.Auditor.{Auditor}
-use Rattle.log_audit.specs.declared.verdict.Why.TheVariants.{Outcomes}
+use Rattle.log_audit.specs.declared.verdict.Why.TheVariants.{Outcomes, Prices, Seating}
 use Rattle.log_audit.specs.OpenBatches.{AreOpen}
-use Rattle.log_audit.proofs.SaidCommits.{Said, SolvedFacts, seats-wrong, seats-right, prices-wrong, prices-right, outcomes-wrong}
-use Rattle.log_audit.proofs.Judged.{auditing-on, judged}
+use Rattle.log_audit.proofs.SaidCommits.{Said, SolvedFacts, said_entry, seats-wrong, seats-right, prices-wrong, prices-right, solved-facts, outcomes-wrong}
+use Rattle.log_audit.proofs.Judged.{auditing-on, judged, uncommitted}
 use Rattle.log_audit.proofs.OpenOnes.{OpenOne, open-one, open-committed}
 use Rattle.log_audit.proofs.auditor.Auditor.judge_committed.Goals as goal
 
@@ -40,24 +40,33 @@ returns-in_default-2 g c = λ outcomes is.
     let said : Said = record { number = commit.number; cost = commit.cost; seats = commit.seats; prices = commit.prices; pays = commit.pays } in
     let found = sym (sym c.in-Some.is ∙ c.take_numbered.ensures.batch) in
     let one = open-one board c.args.desk commit.number c.in-Some.batch c.entries-history.ensures.start c.entries-history.ensures.legal found in
-    seats-wrong board c.args.desk said outcomes c.in-Some.batch c.take_numbered.new.self.pricing c.items-seats.result.now c.in_ok-placed.field-0 found
+    let taken = c.take_numbered.ensures.left in
+    uncommitted c.args.self.now (record c.take_numbered.new.self { pricing = c.seated.new.pricing }) (said_entry c.args.desk said outcomes) Seating
+    c.in-Some.batch c.with_batch.result c.with_batch.ensures
+    (record {
+      board_stays = ap (λ (a : Auditor). a.board) taken;
+      pricing_stays = c.in_ok-placed.ensures.kept ∙ ap (λ (a : Auditor). a.pricing) taken;
+      log_stays = ap (λ (a : Auditor). a.log) taken;
+      is_open = one.numbered;
+    })
+    (seats-wrong board c.args.desk said outcomes c.in-Some.batch c.take_numbered.new.self.pricing c.items-seats.result.now c.in_ok-placed.field-0 found
     (one.roads_stay ∙ sym (ap (λ (a : Auditor). a.pricing) c.take_numbered.ensures.left ∙ c.requires.auditing.roads_are))
-    c.items-seats.ensures c.in_default-2.is c.in_ok-placed.ensures.seated
+    c.items-seats.ensures c.in_default-2.is c.in_ok-placed.ensures.seated)
 
-pub solved-requires-clause-time : goal.solved-requires-clause-time
-solved-requires-clause-time g c = λ κs within.
+pub certified-requires-clause-time : goal.certified-requires-clause-time
+certified-requires-clause-time g c = λ κs within.
     (open-one c.args.self.now.board c.args.desk c.args.commit.number c.in-Some.batch c.entries-history.ensures.start c.entries-history.ensures.legal
     (sym (sym c.in-Some.is ∙ c.take_numbered.ensures.batch))).in_time
 
-pub solved-requires-clause-over_map : goal.solved-requires-clause-over_map
-solved-requires-clause-over_map g c = λ κs within.
+pub certified-requires-clause-over_map : goal.certified-requires-clause-over_map
+certified-requires-clause-over_map g c = λ κs within.
     let one = open-one c.args.self.now.board c.args.desk c.args.commit.number c.in-Some.batch c.entries-history.ensures.start
     c.entries-history.ensures.legal (sym (sym c.in-Some.is ∙ c.take_numbered.ensures.batch)) in
     subst (λ (r : RoadMap). IsBatchOver r c.in-Some.batch)
     (sym (c.in_ok-placed.ensures.kept ∙ ap (λ (a : Auditor). a.pricing) c.take_numbered.ensures.left ∙ c.requires.auditing.roads_are)) one.over_map
 
-pub solved-requires-clause-lawful : goal.solved-requires-clause-lawful
-solved-requires-clause-lawful g c = λ κs within.
+pub certified-requires-clause-lawful : goal.certified-requires-clause-lawful
+certified-requires-clause-lawful g c = λ κs within.
     let one = open-one c.args.self.now.board c.args.desk c.args.commit.number c.in-Some.batch c.entries-history.ensures.start
     c.entries-history.ensures.legal (sym (sym c.in-Some.is ∙ c.take_numbered.ensures.batch)) in
     subst (λ (r : RoadMap). All (IsLawful r) c.in-Some.batch.vehicles)
@@ -72,11 +81,20 @@ returns-in_default-3 g c = λ outcomes is.
     let one = open-one board c.args.desk commit.number c.in-Some.batch c.entries-history.ensures.start c.entries-history.ensures.legal found in
     let roads_are : (state_of board).roads ≡ c.take_numbered.new.self.pricing
     = one.roads_stay ∙ sym (ap (λ (a : Auditor). a.pricing) c.take_numbered.ensures.left ∙ c.requires.auditing.roads_are) in
-    prices-wrong board c.args.desk said outcomes c.in-Some.batch c.seated.new.pricing c.in_ok-solved.field-0 found
+    let taken = c.take_numbered.ensures.left in
+    uncommitted c.args.self.now c.certified.new.self (said_entry c.args.desk said outcomes) Prices c.in-Some.batch c.with_batch-in_default-3.result
+    c.with_batch-in_default-3.ensures
+    (record {
+      board_stays = ap (λ (a : Auditor). a.board) c.in_ok-table.ensures.kept ∙ ap (λ (a : Auditor). a.board) taken;
+      pricing_stays = ap (λ (a : Auditor). a.pricing) c.in_ok-table.ensures.kept ∙ c.in_ok-placed.ensures.kept ∙ ap (λ (a : Auditor). a.pricing) taken;
+      log_stays = ap (λ (a : Auditor). a.log) c.in_ok-table.ensures.kept ∙ ap (λ (a : Auditor). a.log) taken;
+      is_open = one.numbered;
+    })
+    (prices-wrong board c.args.desk said outcomes c.in-Some.batch c.seated.new.pricing c.in_ok-table.field-0 found
     (roads_are ∙ sym c.in_ok-placed.ensures.kept)
     (seats-right (state_of board) said c.in-Some.batch c.take_numbered.new.self.pricing c.items-seats.result.now c.in_ok-placed.field-0 c.in-Some-2.placed
     roads_are c.items-seats.ensures c.in-Some-2.is c.in_ok-placed.ensures.seated)
-    c.in_default-3.is c.in_ok-solved.ensures.solved
+    c.in_default-3.is c.in_ok-table.ensures.certified)
 
 pub commit-requires-clause-is_open : goal.commit-requires-clause-is_open
 commit-requires-clause-is_open g c =
@@ -85,11 +103,13 @@ commit-requires-clause-is_open g c =
     let said : Said = record { number = commit.number; cost = commit.cost; seats = commit.seats; prices = commit.prices; pays = commit.pays } in
     let one = open-one board c.args.desk commit.number c.in-Some.batch c.entries-history.ensures.start c.entries-history.ensures.legal
     (sym (sym c.in-Some.is ∙ c.take_numbered.ensures.batch)) in
-    let facts : SolvedFacts c.seated.new.pricing c.in-Some.batch said c.in-Some-3.solved
-    = prices-right c.in-Some.batch said c.seated.new.pricing c.in_ok-solved.field-0 c.in-Some-3.solved c.in-Some-3.is c.in_ok-solved.ensures.solved in
-    let batch_is : c.in-Some-3.solved.batch ≡ c.in-Some.batch = facts.0 in
-    let board_is : c.solved.new.self.board ≡ board
-    = ap (λ (a : Auditor). a.board) c.in_ok-solved.ensures.kept ∙ ap (λ (a : Auditor). a.board) c.take_numbered.ensures.left in
+    let facts : SolvedFacts c.seated.new.pricing c.in-Some.batch said c.tie.result
+    = solved-facts c.in-Some.batch said c.seated.new.pricing (c.in-Some-3.table, c.in-Some-3.answer) c.tie.result
+    (prices-right c.in-Some.batch said c.seated.new.pricing c.in_ok-table.field-0 (c.in-Some-3.table, c.in-Some-3.answer) c.in-Some-3.is
+    c.in_ok-table.ensures.certified) c.tie.ensures in
+    let batch_is : c.tie.result.batch ≡ c.in-Some.batch = facts.0 in
+    let board_is : c.certified.new.self.board ≡ board
+    = ap (λ (a : Auditor). a.board) c.in_ok-table.ensures.kept ∙ ap (λ (a : Auditor). a.board) c.take_numbered.ensures.left in
     (λ i. open_batch_numbered (state_of (board_is i)) (batch_is i).desk (batch_is i).number) ∙ one.numbered ∙ sym (ap Some batch_is)
 
 pub returns : goal.returns
@@ -99,20 +119,22 @@ returns g c = λ outcomes is.
     let commit = c.args.commit in
     let said : Said = record { number = commit.number; cost = commit.cost; seats = commit.seats; prices = commit.prices; pays = commit.pays } in
     let batch = c.in-Some.batch in
-    let solved = c.in-Some-3.solved in
+    let solved = c.tie.result in
     let found = sym (sym c.in-Some.is ∙ c.take_numbered.ensures.batch) in
     let one : OpenOne board c.args.desk commit.number batch
     = open-one board c.args.desk commit.number batch c.entries-history.ensures.start c.entries-history.ensures.legal found in
     let roads_are : (state_of board).roads ≡ c.take_numbered.new.self.pricing
     = one.roads_stay ∙ sym (ap (λ (a : Auditor). a.pricing) c.take_numbered.ensures.left ∙ c.requires.auditing.roads_are) in
     let facts : SolvedFacts c.seated.new.pricing batch said solved
-    = prices-right batch said c.seated.new.pricing c.in_ok-solved.field-0 solved c.in-Some-3.is c.in_ok-solved.ensures.solved in
-    let board_is : c.solved.new.self.board ≡ board
-    = ap (λ (a : Auditor). a.board) c.in_ok-solved.ensures.kept ∙ ap (λ (a : Auditor). a.board) c.take_numbered.ensures.left in
+    = solved-facts batch said c.seated.new.pricing (c.in-Some-3.table, c.in-Some-3.answer) solved
+    (prices-right batch said c.seated.new.pricing c.in_ok-table.field-0 (c.in-Some-3.table, c.in-Some-3.answer) c.in-Some-3.is
+    c.in_ok-table.ensures.certified) c.tie.ensures in
+    let board_is : c.certified.new.self.board ≡ board
+    = ap (λ (a : Auditor). a.board) c.in_ok-table.ensures.kept ∙ ap (λ (a : Auditor). a.board) c.take_numbered.ensures.left in
     let start = ap (λ (b : Recorded). b.start) c.commit.ensures.others ∙ ap (λ (b : Recorded). b.start) board_is in
     let last : Entry = committed_entry (state_of board) solved in
     let grows = c.commit.ensures.entry ∙ ap (λ (b : Recorded). b.history ++ committed_entry (state_of b) solved ∷ []) board_is in
-    let batches = ap (λ (a : Auditor). a.batches) c.in_ok-solved.ensures.kept ∙ ap (λ (a : Auditor). a.batches) c.take_numbered.ensures.left in
+    let batches = ap (λ (a : Auditor). a.batches) c.in_ok-table.ensures.kept ∙ ap (λ (a : Auditor). a.batches) c.take_numbered.ensures.left in
     let seated = seats-right (state_of board) said batch c.take_numbered.new.self.pricing c.items-seats.result.now c.in_ok-placed.field-0
     c.in-Some-2.placed roads_are c.items-seats.ensures c.in-Some-2.is c.in_ok-placed.ensures.seated in
     judged old _ _ last c.args.line.now Outcomes c.unless_told.result c.requires.auditing c.entries-history-2.ensures.text
@@ -122,13 +144,13 @@ returns g c = λ outcomes is.
       feeds_stay = ap (λ (b : Recorded). b.feeds) c.commit.ensures.others ∙ ap (λ (b : Recorded). b.feeds) board_is;
       desks_stay = ap (λ (b : Recorded). b.desks) c.commit.ensures.others ∙ ap (λ (b : Recorded). b.desks) board_is;
       auditing = auditing-on old _ c.requires.auditing start
-          (ap (λ (a : Auditor). a.pricing) c.in_ok-solved.ensures.kept ∙ c.in_ok-placed.ensures.kept
+          (ap (λ (a : Auditor). a.pricing) c.in_ok-table.ensures.kept ∙ c.in_ok-placed.ensures.kept
           ∙ ap (λ (a : Auditor). a.pricing) c.take_numbered.ensures.left)
-          (ap (λ (a : Auditor). a.log) c.in_ok-solved.ensures.kept ∙ ap (λ (a : Auditor). a.log) c.take_numbered.ensures.left)
+          (ap (λ (a : Auditor). a.log) c.in_ok-table.ensures.kept ∙ ap (λ (a : Auditor). a.log) c.take_numbered.ensures.left)
           (subst (AreOpen (state_of c.commit.new.self)) (sym batches)
           (open-committed board c.commit.new.self c.args.desk commit.number solved old.batches start c.requires.desk
           (subst (OpenOne board c.args.desk commit.number) (sym facts.0) one) grows c.requires.auditing.open_are));
-    }) is
+    }) (λ went. (refl, (last, went))) is
     (c.unless_told.ensures.told board.history last grows) (c.unless_told.ensures.not_told board.history last grows)
     (outcomes-wrong board c.args.desk said outcomes batch c.seated.new.pricing solved found (roads_are ∙ sym c.in_ok-placed.ensures.kept) one.desk_is
     one.number_is seated facts)

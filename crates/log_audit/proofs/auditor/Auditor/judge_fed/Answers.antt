@@ -29,7 +29,7 @@ returns c = λ reply is.
       desks_stay = ap (λ (b : Recorded). b.desks) c.in_ok-_reply.ensures.others;
       auditing = auditing-on old _ c.requires.auditing start refl refl
           (open-fed board c.apply.new.self c.args.feed c.args.command.now old.batches start grows c.requires.auditing.open_are);
-    }) is
+    }) (λ went. (refl, (last, went))) is
     (c.unless_told.ensures.told board.history last grows) (c.unless_told.ensures.not_told board.history last grows)
     (λ differs. fault-reply board.feeds board.desks (state_of board) (Feed c.args.feed) (Fed c.args.command.now reply)
     (c.if-not-may_feed.ensures.0 refl)

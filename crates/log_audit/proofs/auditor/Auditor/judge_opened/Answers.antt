@@ -39,7 +39,7 @@ returns c = λ batch time requests plans is.
           (subst (AreOpen (state_of c.open_batch.new.self)) (sym c.put.ensures)
           (open-opened board c.open_batch.new.self c.args.desk new old.batches start c.requires.desk (none-open s c.args.desk may.1) next grows
           c.requires.auditing.open_are));
-    }) is
+    }) (λ went. (refl, (last, went))) is
     (c.unless_told.ensures.told board.history last grows) (c.unless_told.ensures.not_told board.history last grows)
     (λ differs. fault-batch board.feeds board.desks s (Desk c.args.desk) (Opened batch time requests plans) may tt
     (λ names. differs (same names (sym next) (sym desk_is))))

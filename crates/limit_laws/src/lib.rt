@@ -1,0 +1,5 @@
+//! How many commands a feed gives at most, and how long the text of a legal history can be.
+#![tactic(auto)]
+
+pub mod feeds;
+pub mod lengths;

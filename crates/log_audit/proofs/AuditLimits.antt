@@ -1,0 +1,69 @@
+-- The text of a legal history is within the limits of an audit.
+use Rattle.std.proofs.Common.{◌≡◌, ℕ, ◌≤◌, inl, inr, List, Result, Ok, length, refl, arith}
+use Rattle.std.specs.Prelude.{All}
+use Rattle.std.proofs.lemmas.List.Elements.{All-weaker}
+use Rattle.line_text.specs.Lines.{lines_of}
+use Rattle.ride_model.specs.declared.entry.Entry.{Entry}
+use Rattle.ride_model.specs.History.{fed_commands}
+use Rattle.ride_model.specs.Legal.{IsLegal, IsNumbered}
+use Rattle.ride_model.specs.State.{State}
+use Rattle.ride_model.specs.Text.{HasText, text_of}
+use Rattle.command_lines.specs.Limits.{feed_limits}
+use Rattle.history_laws.specs.Start.{IsStart}
+use Rattle.limit_laws.proofs.FedCommands.{few-fed}
+use Rattle.limit_laws.proofs.Tallies.{few-entries}
+use Rattle.limit_laws.proofs.TextLines.{count-lines, each-line}
+use Rattle.limit_laws.proofs.Texts.{text-le}
+use Rattle.board_core.specs.declared.board.totals.Totals.{Totals}
+use Rattle.board_core.specs.Totals.{AreTotalsOf}
+use Rattle.log_audit.specs.declared.verdict.AuditFault.{AuditFault}
+use Rattle.log_audit.specs.declared.verdict.Verdict.{Verdict}
+use Rattle.log_audit.specs.declared.verdict.Verdict.TheVariants.{Yes}
+use Rattle.log_audit.specs.Audit.{IsAnswer}
+use Rattle.log_audit.specs.Limits.{most_line, IsTooLong}
+use Rattle.log_audit.proofs.OneAnswer.{one-answer}
+
+-- a text that has no more commands of a feed than a feed may have lines
+pub text-within : (feeds desks : ℕ) (start : State) (entries : List Entry) → IsStart start → IsLegal feeds desks start entries
+    → HasText start.settings.log feeds desks entries
+    → ((feed : ℕ) → IsNumbered feeds feed → length (fed_commands feed entries) ≤ feed_limits.lines)
+    → IsTooLong (text_of start.settings.log feeds desks entries) → ⊥
+text-within feeds desks start entries begins legal has few (inl far) =
+    omega (
+      arith,
+      far,
+      text-le feeds desks start entries begins legal has,
+      few-fed feeds desks 1000000 start entries has.feeds_number legal few,
+    )
+text-within feeds desks start entries begins legal has few (inr many) =
+    omega (
+      arith,
+      many,
+      count-lines start.settings.log feeds desks entries has,
+      few-entries feeds desks start entries begins has.feeds_number has.desks_number legal,
+      few-fed feeds desks 1000000 start entries has.feeds_number legal few,
+    )
+
+-- each of its lines
+pub lines-within : (feeds desks : ℕ) (start : State) (entries : List Entry) → IsStart start → IsLegal feeds desks start entries
+    → HasText start.settings.log feeds desks entries
+    → All (λ line. length line ≤ most_line) (lines_of (text_of start.settings.log feeds desks entries))
+lines-within feeds desks start entries begins legal has =
+    All-weaker (λ (line : List ℕ). length line ≤ 58815) (λ (line : List ℕ). length line ≤ most_line) (λ line short. omega (arith, short))
+    (lines_of (text_of start.settings.log feeds desks entries)) (each-line feeds desks start entries begins legal has)
+
+-- an audit of it answers yes
+pub answered-yes : (feeds desks : ℕ) (start : State) (entries : List Entry) (totals : Totals) (answer : Result Verdict AuditFault) → IsStart start
+    → IsLegal feeds desks start entries → HasText start.settings.log feeds desks entries
+    → ((feed : ℕ) → IsNumbered feeds feed → length (fed_commands feed entries) ≤ feed_limits.lines)
+    → AreTotalsOf feeds desks start entries totals → IsAnswer start (text_of start.settings.log feeds desks entries) answer
+    → answer ≡ Ok (Yes totals)
+answered-yes feeds desks start entries totals answer begins legal has few are is =
+    one-answer start (text_of start.settings.log feeds desks entries) (Ok (Yes totals)) answer begins (
+      feeds,
+      desks,
+      entries,
+      record { has_text = has; legal = legal; text_is = refl },
+      are,
+      text-within feeds desks start entries begins legal has few,
+    ) is

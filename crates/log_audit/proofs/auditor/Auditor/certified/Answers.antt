@@ -1,0 +1,45 @@
+use Rattle.std.proofs.Common.{ℕ, sym, subst}
+use Rattle.std.specs.Prelude.{All}
+use Rattle.ride_model.specs.Seating.{IsSeating}
+use Rattle.batch_commit.specs.Answer.{IsSeatAt}
+use Rattle.pricing_workers.proofs.SmallCosts.{small-costs}
+use Rattle.log_audit.specs.Seated.{ArePlaced}
+use Rattle.log_audit.proofs.auditor.Auditor.certified.Goals as goal
+
+pub certifies-requires-clause-fits : goal.certifies-requires-clause-fits
+certifies-requires-clause-fits g c =
+    (c.in-Some.ensures.table c.args.self.now.pricing c.in_ok-table.ensures.table
+    (subst (IsSeating c.args.self.now.pricing c.args.batch.now) (sym c.items.ensures) c.requires.seating)
+    (subst (λ seats. ArePlaced c.args.self.now.pricing c.args.batch.now seats c.args.placed.now) (sym c.items.ensures) c.requires.placed)).0.fits
+
+pub certifies-requires-clause-small : goal.certifies-requires-clause-small
+certifies-requires-clause-small g c =
+    small-costs c.args.self.now.pricing c.args.batch.now c.in-Some.table c.in_ok-table.ensures.fits c.requires.over_map
+    (c.in-Some.ensures.table c.args.self.now.pricing c.in_ok-table.ensures.table
+    (subst (IsSeating c.args.self.now.pricing c.args.batch.now) (sym c.items.ensures) c.requires.seating)
+    (subst (λ seats. ArePlaced c.args.self.now.pricing c.args.batch.now seats c.args.placed.now) (sym c.items.ensures) c.requires.placed)).0
+
+pub certifies-requires-clause-in_cells : goal.certifies-requires-clause-in_cells
+certifies-requires-clause-in_cells g c =
+    let own = c.in-Some.ensures.table c.args.self.now.pricing c.in_ok-table.ensures.table
+    (subst (IsSeating c.args.self.now.pricing c.args.batch.now) (sym c.items.ensures) c.requires.seating)
+    (subst (λ seats. ArePlaced c.args.self.now.pricing c.args.batch.now seats c.args.placed.now) (sym c.items.ensures) c.requires.placed) in
+    subst (All (λ seat. (r : ℕ) × (k : ℕ) × IsSeatAt c.args.batch.now c.in-Some.table seat r k)) c.items.ensures own.1
+
+pub returns-then-not-certifies-clause-certified : goal.returns-then-not-certifies-clause-certified
+returns-then-not-certifies-clause-certified g c =
+    c.if-not-certifies.ensures.over_maps c.args.self.now.pricing
+    (c.in-Some.ensures.table c.args.self.now.pricing c.in_ok-table.ensures.table
+    (subst (IsSeating c.args.self.now.pricing c.args.batch.now) (sym c.items.ensures) c.requires.seating)
+    (subst (λ seats. ArePlaced c.args.self.now.pricing c.args.batch.now seats c.args.placed.now) (sym c.items.ensures) c.requires.placed)).0
+
+pub returns-clause-certified : goal.returns-clause-certified
+returns-clause-certified g c =
+    let own = c.in-Some.ensures.table c.args.self.now.pricing c.in_ok-table.ensures.table
+    (subst (IsSeating c.args.self.now.pricing c.args.batch.now) (sym c.items.ensures) c.requires.seating)
+    (subst (λ seats. ArePlaced c.args.self.now.pricing c.args.batch.now seats c.args.placed.now) (sym c.items.ensures) c.requires.placed) in (
+      own.0,
+      c.in_ok-answer.ensures,
+      c.if-not-certifies.ensures.exact,
+      c.if-not-certifies.ensures.over_maps c.args.self.now.pricing own.0,
+    )

@@ -1,0 +1,25 @@
+use Rattle.std.proofs.Common.{[], subst}
+use Rattle.log_audit.specs.Reading.{HasEnded, HasReadLog}
+use Rattle.log_audit.proofs.Restorations.{all-restored, no-head-restored, wrong-restored}
+use Rattle.log_audit.proofs.restoring.restoration_of.Goals as goal
+
+pub returns-in-NoHead-clause-answer : goal.returns-in-NoHead-clause-answer
+returns-in-NoHead-clause-answer c = λ before left start begins read.
+    no-head-restored before start (subst (HasReadLog before left start) c.in-NoHead.is read)
+
+pub returns-in-Whole-clause-answer : goal.returns-in-Whole-clause-answer
+returns-in-Whole-clause-answer c = λ before left start begins read.
+    all-restored before left start c.in-Lines.auditor [] c.restored_of.result
+    (subst (HasEnded before left start c.in-Lines.auditor) c.in-Whole.is (subst (HasReadLog before left start) c.in-Lines.is read))
+    c.restored_of.ensures
+
+pub returns-in-Torn-clause-answer : goal.returns-in-Torn-clause-answer
+returns-in-Torn-clause-answer c = λ before left start begins read.
+    let (rest, all, _, _) = subst (HasEnded before left start c.in-Lines.auditor) c.in-Torn.is
+    (subst (HasReadLog before left start) c.in-Lines.is read) in
+    all-restored before left start c.in-Lines.auditor rest c.restored_of-in-Torn.result all c.restored_of-in-Torn.ensures
+
+pub returns-clause-answer : goal.returns-clause-answer
+returns-clause-answer c = λ before left start begins read.
+    wrong-restored before left start c.in-Lines.auditor c.in-Wrong.line c.in-Wrong.fault
+    (subst (HasEnded before left start c.in-Lines.auditor) c.in-Wrong.is (subst (HasReadLog before left start) c.in-Lines.is read))

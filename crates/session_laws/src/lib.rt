@@ -1,0 +1,4 @@
+//! What holds of the log of every session.
+#![tactic(auto)]
+
+pub mod logs;

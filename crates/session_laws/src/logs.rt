@@ -1,0 +1,46 @@
+//! Sessions and audits together: what one writes the other takes.
+ghost use Rattle.std.specs.Prelude.{◌≡◌, ℕ, List, Option, Result, Ok};
+ghost use Rattle.ride_ports.specs.declared.outcome.Ran.{Ran};
+ghost use Rattle.ride_model.specs.declared.entry.Entry.{Entry};
+ghost use Rattle.ride_model.specs.State.{State};
+ghost use Rattle.ride_model.specs.Text.{text_of};
+ghost use Rattle.board_core.specs.declared.board.totals.Totals.{Totals};
+ghost use Rattle.board_core.specs.Totals.{AreTotalsOf};
+ghost use Rattle.session_run.specs.Replay.{IsReplay};
+ghost use Rattle.session_run.specs.Serving.{FeedRun, HasServed, IsFeedOf};
+ghost use Rattle.log_audit.specs.declared.verdict.AuditFault.{AuditFault};
+ghost use Rattle.log_audit.specs.declared.verdict.Verdict.{Verdict};
+ghost use Rattle.log_audit.specs.declared.verdict.Verdict.TheVariants.{Yes};
+ghost use Rattle.log_audit.specs.Audit.{IsAnswer};
+ghost use Rattle.log_audit.specs.Limits.{IsTooLong};
+
+/// The log of a replay, and that of a service, is within the limits of an audit, which answers yes with its totals. So it is
+/// however the session ended.
+pub fn logs_of_sessions_can_be_audited()
+    ensures replayed { (start : State) (ran : Ran) (feed : Option (List ℕ))
+        (taken : List ℕ) (entries : List Entry)
+        → IsReplay start ran feed taken entries
+        → IsTooLong (text_of start.settings.log 1 1 entries) → ⊥ }
+    ensures replay_audited { (start : State) (ran : Ran) (feed : Option (List ℕ))
+        (taken : List ℕ) (entries : List Entry)
+        (totals : Totals) (answer : Result Verdict AuditFault)
+        → IsReplay start ran feed taken entries
+        → AreTotalsOf 1 1 start entries totals
+        → IsAnswer start (text_of start.settings.log 1 1 entries) answer
+        → answer ≡ Ok (Yes totals) }
+    ensures served { (start : State) (desks : ℕ) (riders drivers : FeedRun) (ran : Ran)
+        (riders_taken drivers_taken : List ℕ) (entries : List Entry)
+        → HasServed start desks ran entries
+        → IsFeedOf start.settings.log 1 riders ran riders_taken entries
+        → IsFeedOf start.settings.log 2 drivers ran drivers_taken entries
+        → IsTooLong (text_of start.settings.log 2 desks entries) → ⊥ }
+    ensures service_audited { (start : State) (desks : ℕ) (riders drivers : FeedRun) (ran : Ran)
+        (riders_taken drivers_taken : List ℕ) (entries : List Entry)
+        (totals : Totals) (answer : Result Verdict AuditFault)
+        → HasServed start desks ran entries
+        → IsFeedOf start.settings.log 1 riders ran riders_taken entries
+        → IsFeedOf start.settings.log 2 drivers ran drivers_taken entries
+        → AreTotalsOf 2 desks start entries totals
+        → IsAnswer start (text_of start.settings.log 2 desks entries) answer
+        → answer ≡ Ok (Yes totals) }
+{}
