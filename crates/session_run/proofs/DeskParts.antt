@@ -26,7 +26,8 @@ use Rattle.history_laws.proofs.Effects.{effect, ends_in}
 use Rattle.history_laws.proofs.EveryState.{consistent}
 use Rattle.history_laws.proofs.Leaving.{open_batch}
 use Rattle.board_core.specs.Recorded.{Recorded, end_entry}
-use Rattle.fleet_board.specs.Passes.{Known, actor_of}
+use Rattle.turn_lock.specs.History.{items_of}
+use Rattle.fleet_board.specs.Passes.{Known, actor_of, maker_of}
 use Rattle.fleet_board.specs.Sets.{IsPartOf, newcomer}
 use Rattle.session_loops.specs.Loops.{RunsDesk}
 use Rattle.session_run.proofs.FeedParts.{ends-whole}
@@ -37,9 +38,10 @@ pub record DeskWhole (desk : ℕ) (history : List Entry) : Type 0 where
   pub none_given_up : gives_up (entries_of (Desk desk) history) ≡ false
 
 -- what the history has of a desk
-pub desk-of : (desk : ℕ) (ran : Ran) (root : Recorded) (old new : Known) (history : List Entry) (number : ℕ) → old ≡ newcomer root number
+pub desk-of : (desk : ℕ) (ran : Ran) (root : Recorded) (old new : Known) (history : List Entry) (number : ℕ) → root.history ≡ []
+    → old ≡ newcomer root number
     → RunsDesk None ran old new → IsPartOf history (Desk desk) new → ran.no_memory ≡ false → DeskWhole desk history
-desk-of desk ran root old new history number fresh runs its memory = record {
+desk-of desk ran root old new history number bare fresh runs its memory = record {
   whole = ap has_whole_end part ∙ ends-whole runs.batches (actor_of number) runs.ending (runs.whole memory).0;
   none_given_up = ap gives_up part
       ∙ list_any-append (λ (entry : Entry). is_abandoned entry.event) runs.batches (end_entry (actor_of number) runs.ending ∷ [])
@@ -50,6 +52,7 @@ desk-of desk ran root old new history number fresh runs its memory = record {
     part =
         sym its.own_all ∙ runs.ends.own_is
         ∙ ap (λ (k : Known). (k.own ++ runs.batches) ++ end_entry (actor_of k.number) runs.ending ∷ []) fresh
+        ∙ ap (λ (before : List Entry). (items_of maker_of number before ++ runs.batches) ++ end_entry (actor_of number) runs.ending ∷ []) bare
 
 -- an entry leaves who has ended whole, and adds an actor that it ends whole
 still-whole : (s : State) (entry : Entry) (actor : Actor) → ended_whole (after_entry s entry) actor

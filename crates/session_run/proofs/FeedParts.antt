@@ -20,7 +20,8 @@ use Rattle.line_reader.specs.Limits.{IsTooLong}
 use Rattle.command_lines.specs.Limits.{ended_commands, feed_limits}
 use Rattle.history_laws.specs.Finishing.{has_whole_end, is_whole_end}
 use Rattle.board_core.specs.Recorded.{Recorded, end_entry}
-use Rattle.fleet_board.specs.Passes.{Known, actor_of, commands_in}
+use Rattle.turn_lock.specs.History.{items_of}
+use Rattle.fleet_board.specs.Passes.{Known, actor_of, commands_in, maker_of}
 use Rattle.fleet_board.specs.Sets.{IsPartOf, newcomer}
 use Rattle.session_loops.specs.Loops.{HasFed, RunsFeed}
 use Rattle.line_reader.specs.FeedRuns.{IsReadWhole}
@@ -88,10 +89,10 @@ module _ (log : ℕ) (run : FeedRun) (own : Ran) (taken : List ℕ) (answers : L
   ]
 
 pub feed-of : (log feed : ℕ) (run : FeedRun) (own session : Ran) (root : Recorded) (old new : Known) (history : List Entry)
-    → IsOneOrTwo feed → old ≡ newcomer root feed → RunsFeed log run.bytes run.left own old new → IsPartOf history (Feed feed) new
+    → IsOneOrTwo feed → root.history ≡ [] → old ≡ newcomer root feed → RunsFeed log run.bytes run.left own old new → IsPartOf history (Feed feed) new
     → KeepsCount own.source_failed run.faults_before run.faults_after
     → (session.no_memory ≡ false → own.no_memory ≡ false) → FeedOf log feed run own session history
-feed-of log feed run own session root old new history fits fresh runs its kept memory =
+feed-of log feed run own session root old new history fits bare fresh runs its kept memory =
     record {
       taken = runs.taken;
       is = record {
@@ -119,6 +120,7 @@ feed-of log feed run own session root old new history fits fresh runs its kept m
     part =
         sym its.own_all ∙ runs.ends.own_is
         ∙ ap (λ (k : Known). (k.own ++ runs.answers) ++ end_entry (actor_of k.number) runs.ending ∷ []) fresh
+        ∙ ap (λ (before : List Entry). (items_of maker_of feed before ++ runs.answers) ++ end_entry (actor_of feed) runs.ending ∷ []) bare
         ∙ ap (λ (actor : Actor). runs.answers ++ end_entry actor runs.ending ∷ []) (feed-actor feed fits)
 
     commands : fed_commands feed history ≡ commands_in runs.answers

@@ -69,13 +69,13 @@ module _ (log : ℕ) (stage : Stage) (riders drivers : FeedRun) (head_failed : B
         → FeedOf log 1 riders answers.riders session board.history
     riders-of session memory =
         feed-of log 1 riders answers.riders session (root_at stage) (knowledge stage.actors.feeds.riders) (knowledge new.feeds.riders) board.history
-        (omega arith, omega arith) ready.feed_1.0.1 left.feeds.of_riders.runs closed.feed_1 left.feeds.of_riders.faults memory
+        (omega arith, omega arith) ready.bare ready.feed_1.0.1 left.feeds.of_riders.runs closed.feed_1 left.feeds.of_riders.faults memory
 
     pub drivers-of : (session : Ran) → (session.no_memory ≡ false → answers.drivers.no_memory ≡ false)
         → FeedOf log 2 drivers answers.drivers session board.history
     drivers-of session memory =
         feed-of log 2 drivers answers.drivers session (root_at stage) (knowledge stage.actors.feeds.drivers) (knowledge new.feeds.drivers) board.history
-        (omega arith, omega arith) ready.feed_2.0.1 left.feeds.of_drivers.runs closed.feed_2 left.feeds.of_drivers.faults memory
+        (omega arith, omega arith) ready.bare ready.feed_2.0.1 left.feeds.of_drivers.runs closed.feed_2 left.feeds.of_drivers.faults memory
 
     -- the desks' parts, where memory was not wanting
     pub desks-whole : answers.desks.no_memory ≡ false → (desks : ℕ) → (root_at stage).desks ≡ desks → IsOneOrTwo desks
@@ -87,7 +87,7 @@ module _ (log : ℕ) (stage : Stage) (riders drivers : FeedRun) (head_failed : B
         one : DeskWhole 1 board.history
         one =
             desk-of 1 answers.desks (root_at stage) (knowledge stage.actors.desks.first.pass) (knowledge new.desks.first.pass) board.history 3
-            ready.desk_1.0.1 left.desks.first.runs closed.desk_1 memory
+            ready.bare ready.desk_1.0.1 left.desks.first.runs closed.desk_1 memory
 
         two : 2 ≤ desks → DeskWhole 2 board.history
         two second =
@@ -101,4 +101,4 @@ module _ (log : ℕ) (stage : Stage) (riders drivers : FeedRun) (head_failed : B
             by_desk None p none ran part = absurd (none there)
             by_desk (Some earlier) None new ran part = absurd ran
             by_desk (Some earlier) (Some later) (is, new, has) ran part =
-                desk-of 2 answers.desks (root_at stage) (knowledge earlier.pass) (knowledge later.pass) board.history 4 new.0.1 ran.runs part memory
+                desk-of 2 answers.desks (root_at stage) (knowledge earlier.pass) (knowledge later.pass) board.history 4 ready.bare new.0.1 ran.runs part memory

@@ -36,6 +36,7 @@ root_at stage = root_of (knowledge stage.actors.scribe)
 
 -- nothing has happened yet
 pub record IsReady (stage : Stage) : Type 0 where
+  pub bare : (root_at stage).history ≡ []
   pub feed_1 : IsNewFeed stage.board (root_at stage) 1 stage.actors.feeds.riders
   pub feed_2 : IsNewFeed stage.board (root_at stage) 2 stage.actors.feeds.drivers
   pub desk_1 : IsNewDesk stage.board (root_at stage) 3 stage.actors.desks.first.pass

@@ -30,6 +30,7 @@ returns-clause-ready c =
     = subst (λ (m : RoadMap). MatchOption actors.desks.second (passes.desk_2 ≡ None) (λ (desk : Desk). (passes.desk_2 ≡ Some desk.pass) × (desk.pricer ≡ m)))
     roads_are are.desk_2 in
     record {
+      bare = sym (ap (λ (r : Recorded). r.history) began);
       feed_1 = subst (λ (r : Recorded). IsNewFeed board r 1 actors.feeds.riders) began (at-some _ passes.feed_1 actors.feeds.riders are.feed_1 said.feed_1);
       feed_2 = subst (λ (r : Recorded). IsNewFeed board r 2 actors.feeds.drivers) began (at-match _ _ passes.feed_2 actors.feeds.drivers are.feed_2 said.feed_2).1;
       desk_1 = subst (λ (r : Recorded). IsNewDesk board r 3 actors.desks.first.pass) began
