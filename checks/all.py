@@ -17,6 +17,7 @@ from dataclasses import dataclass
 
 TOP = pathlib.Path(__file__).resolve().parent.parent
 PROGRAM = TOP / "crates" / "ride_dispatch" / "out" / "ride_dispatch"
+RESUME = "crates/ride_resume/out/ride_resume"
 DEBIANS = "/usr/bin/python3"  # the interpreter that finds Debian's libraries
 LIMIT = 300.0  # seconds that a check may take
 
@@ -44,12 +45,15 @@ CHECKS = [
     unit_tests("tools", DEBIANS),
     unit_tests("inspector"),
     unit_tests("control_room", DEBIANS),
+    unit_tests("checks"),
     Check("words that are not in order", ("checks/words.sh",), ("bash",)),
     Check("lines on standard error", ("checks/messages.sh",), ("bash",)),
     Check("statuses of each word", (sys.executable, "-B", "checks/statuses.py")),
     Check("what is written before a pipe is waited for, and who sleeps", (sys.executable, "-B", "checks/waiting.py")),
     Check("the edge of the system", ("checks/edges.sh",), ("bash",)),
     Check("each allocation refused in turn", (sys.executable, "-B", "checks/allocations.py"), ("gcc",)),
+    Check("sessions that are killed and go on from their logs",
+          (sys.executable, "-B", "checks/interruptions.py", "--kills", "20", "--bytes", "100"), (RESUME,)),
     Check("certified sheets", (sys.executable, "-B", "checks/sheets.py"), ("checks/sheets.py",)),
     Check("the page of the headline beside the sources", (sys.executable, "-B", "checks/headline.py", "--check")),
     Check("the width of clauses", (sys.executable, "-B", "checks/figures.py", "--check")),
