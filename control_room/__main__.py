@@ -82,6 +82,9 @@ def _run_words(words: argparse.ArgumentParser) -> None:
                        help="end after so long (default 0: Ctrl-C)")
     words.add_argument("--program", metavar="PATH",
                        help="the built ride_dispatch (default: crates/ride_dispatch/out/ride_dispatch, or the one on the path)")
+    words.add_argument("--resume", metavar="PATH",
+                       help="the built ride_resume (default: crates/ride_resume/out/ride_resume, the one beside the program, or the one on the "
+                            "path; without any a session that breaks off does not go on)")
     words.add_argument("--folder", help="a new folder for all files (default: one in the system's temporary folder)")
     words.add_argument("--host", default="127.0.0.1", help="address to listen on (default 127.0.0.1)")
     words.add_argument("--port", type=number(1, 65_535), default=8080, metavar="N", help="port of the page (default 8080)")

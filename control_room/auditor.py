@@ -7,6 +7,7 @@ from dataclasses import asdict, dataclass
 from typing import TYPE_CHECKING, Optional, Tuple
 
 from control_room.day_clock import unix_now
+from control_room.kept_log import whole_lines
 from control_room.zones import Zone
 
 if TYPE_CHECKING:
@@ -24,13 +25,6 @@ class AuditWord:
 
     def text(self) -> bytes:
         return json.dumps(asdict(self)).encode()
-
-
-def whole_lines(path: str) -> bytes:
-    """Returns the whole lines of a kept log; a line that is being written is left out."""
-    with open(path, "rb") as kept:
-        text = kept.read()
-    return text[:text.rfind(b"\n") + 1]
 
 
 async def audit(zone: Zone) -> AuditWord:

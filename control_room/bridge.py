@@ -4,11 +4,11 @@ A line is published once it is on the disk, and nobody but the bridge reads the 
 Bridges may die at any moment: all that one knows it reads again from the streams and the kept log.
 """
 import asyncio
-import fcntl
 import json
 import os
 import signal
 import sys
+import time
 from dataclasses import dataclass
 from typing import Any, Dict, List, Optional, Tuple
 
@@ -18,7 +18,7 @@ from control_room.access import Access
 from control_room.auditor import audit_from_time_to_time
 from control_room.day_clock import unix_now
 from control_room.feed_player import FeedPlayer, Misplaced
-from control_room.keeper import is_running
+from control_room.kept_log import CannotStart, is_running, lock, read_kept
 from control_room.link import Link
 from control_room.log_tail import LogTail
 from control_room.messages import Gate
@@ -31,6 +31,8 @@ LONGEST_CHUNK = 60_000
 MOST_TOGETHER = 200
 # A bridge that is to end plays on until no message came for so many seconds.
 QUIET = 0.5
+# Seconds in which the broker may take the last lines of a session that broke off.
+LAST_WORDS = 5.0
 # Of a session that is no more all messages count as played.
 ALL = sys.maxsize
 
@@ -97,10 +99,13 @@ class Bridge:
         auditing = asyncio.create_task(audit_from_time_to_time(self.zone, self.link, self.ending))
         ending = asyncio.create_task(self._end_when_told(players))
         await self._first_fault([following, publishing, *players, auditing, ending], publishing)
-        for task in (*players, auditing, ending):
+        for task in (following, *players, auditing, ending):
             task.cancel()
         if not self.log.finished():
-            raise BridgeError(f"the session of {self.zone.name} broke off after line {self.log.lines} of {self.zone.kept_log}")
+            raise self._broke_off()
+
+    def _broke_off(self) -> BridgeError:
+        return BridgeError(f"the session of {self.zone.name} broke off after line {self.log.lines} of {self.zone.kept_log}")
 
     async def _first_fault(self, tasks: List["asyncio.Task[None]"], last: "asyncio.Task[None]") -> None:
         """Waits until the last task has ended; a fault of any is raised."""
@@ -114,7 +119,8 @@ class Bridge:
     # The kept log.
 
     async def _follow_log(self) -> None:
-        """Reads the kept log until the session is no more."""
+        """Reads the kept log until the session is no more. Raises BridgeError some seconds after one that broke off: the next begins once no
+        bridge is there, and what the broker did not take by then the next bridge publishes."""
         while True:
             lines = await self.tail.lines(1.0)
             for text in lines:
@@ -124,6 +130,9 @@ class Bridge:
                     self._see(text)
                 break
         self.unpublished.put_nowait(Line(0, "", None))
+        if not self.log.finished():
+            await asyncio.sleep(LAST_WORDS)
+            raise self._broke_off()
 
     def _see(self, text: str) -> None:
         entry = self.log.read(text + "\n")
@@ -137,11 +146,14 @@ class Bridge:
         self.unpublished.put_nowait(Line(self.log.lines, text, feed))
 
     async def _played(self, following: "asyncio.Task[None]") -> List[int]:
-        """Returns how many messages of each stream are answered or will be: those before this bridge's marks; all without a session."""
+        """Returns how many messages of each stream are answered or will be: those before this bridge's marks; all without a session.
+
+        The clock comes before the marks: a session that goes on commits a batch that it had open as soon as it hears of anything, and by
+        the old clock riders would be promised what is over."""
         if not is_running(self.zone.kept_log):
             return [ALL, ALL]
         for feed in self.feeds:
-            await feed.write([f"cancel {feed.mark}"])
+            await feed.write([f"clock {self.zone.clock().now()}", f"cancel {feed.mark}"])
         waits = [feed.played for feed in self.feeds]
         marks = asyncio.ensure_future(asyncio.gather(*waits))
         await asyncio.wait([marks, following], return_when=asyncio.FIRST_COMPLETED)
@@ -248,20 +260,30 @@ async def serve(zone: Zone, access: Access) -> None:
         await link.close()
 
 
+def wait_for_session(zone: Zone) -> None:
+    """Ends once a session has the zone's kept log, or all that stands there is over."""
+    looked_at: Any = None
+    while not is_running(zone.kept_log):
+        found = os.stat(zone.kept_log)
+        if looked_at != (found.st_ino, found.st_size):
+            looked_at = found.st_ino, found.st_size
+            if read_kept(zone.kept_log).over:
+                return
+        time.sleep(0.1)
+
+
 def main(zone: Zone, access: Access) -> int:
     """Runs a zone's bridge, of which there is one. Returns 0 after a whole session, else 3, 2 where another bridge runs."""
-    signal.signal(signal.SIGINT, signal.SIG_IGN)
-    held: Any = open(zone.path("bridge.lock"), "w")
     try:
-        fcntl.flock(held, fcntl.LOCK_EX | fcntl.LOCK_NB)
+        wait_for_session(zone)
+        signal.signal(signal.SIGINT, signal.SIG_IGN)
+        with open(zone.path("bridge.lock"), "w") as held:
+            lock(held.fileno())
+            asyncio.run(serve(zone, access))
     except BlockingIOError:
         print(f"another bridge of {zone.name} runs", file=sys.stderr)
         return 2
-    try:
-        asyncio.run(serve(zone, access))
-    except (BridgeError, Misplaced, LogError, OSError) as cause:
+    except (BridgeError, CannotStart, Misplaced, LogError, OSError) as cause:
         print(f"bridge of {zone.name}: {cause}", file=sys.stderr)
         return 3
     return 0
-
-

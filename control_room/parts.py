@@ -6,7 +6,7 @@ import sys
 import time
 from dataclasses import dataclass, field
 from pathlib import Path
-from typing import Callable, Dict, List, Optional
+from typing import Callable, Dict, List, Optional, Tuple
 
 from control_room import HERE, remnants
 from control_room.broker import Broker, end_surely, last_line
@@ -20,10 +20,10 @@ AGAIN_AFTER = 1.0
 
 @dataclass
 class Part:
-    """A process of this package: the words behind `python3 -m control_room`, and whether it may be started again where it breaks off."""
+    """A process of this package: the words behind `python3 -m control_room`, and the statuses with which it is not started again."""
     name: str
     words: List[str]
-    may_go_on: Callable[[], bool] = lambda: True
+    final: Tuple[int, ...] = ()
     process: "Optional[subprocess.Popen[bytes]]" = None
     starts: int = 0
     ended_at: float = 0.0
@@ -78,10 +78,11 @@ class Room:
         if status is None or status == 0:
             return None
         if not part.ended_at:
-            if not part.may_go_on():
-                return f"{part.name} {status_words(status)}: {last_line(self.folder / 'said' / f'{part.name}.txt')}"
+            words = status_words(status) + (f": {last_line(self.folder / 'said' / f'{part.name}.txt')}" if status > 0 else "")
+            if status in part.final:
+                return f"{part.name} {words}"
             part.ended_at = time.monotonic()
-            self.say(f"{part.name} {status_words(status)}; it is started again")
+            self.say(f"{part.name} {words}; it is started again")
         elif time.monotonic() >= part.ended_at + AGAIN_AFTER:
             self.start(part)
         return None

@@ -10,14 +10,15 @@ import tempfile
 import time
 import urllib.error
 import urllib.request
-from functools import partial
+from dataclasses import replace
 from pathlib import Path
-from typing import Any, Dict, List, Tuple
+from typing import Any, Dict, List, Optional, Tuple
 
 from control_room import HERE, made_zones
 from control_room.auditor import audit
 from control_room.broker import Broker, BrokerError
-from control_room.keeper import is_running
+from control_room.keeper import CANNOT_START
+from control_room.kept_log import is_running
 from control_room.parts import Part, Room
 from control_room.tokens import Person, secret_of, sign
 from control_room.zones import Zone, ZoneError
@@ -40,21 +41,39 @@ def say(text: str) -> None:
         os.dup2(os.open(os.devnull, os.O_WRONLY), sys.stdout.fileno())
 
 
-def program_of(words: argparse.Namespace) -> str:
-    """Returns the path of the built program; raises ZoneError."""
-    built = HERE.parent / "crates/ride_dispatch/out/ride_dispatch"
-    found = words.program or (str(built) if built.exists() else shutil.which("ride_dispatch"))
+def built(name: str) -> Path:
+    """Returns the path at which a program of this name is built."""
+    return HERE.parent / "crates" / name / "out" / name
+
+
+def program_of(given: Optional[str], name: str, option: str) -> str:
+    """Returns the path of the program of this name; raises ZoneError."""
+    found = given or (str(built(name)) if built(name).exists() else shutil.which(name))
     if not found or not shutil.which(found):
-        raise ZoneError(f"{found or built} is no program that can be run; build it as README.md says, or give --program")
+        raise ZoneError(f"{found or built(name)} is no program that can be run; build it as README.md says, or give {option}")
     return str(Path(shutil.which(found) or found).resolve())
+
+
+def resume_of(words: argparse.Namespace, program: str) -> str:
+    """Returns the path of ride_resume, which may stand beside the other program; empty where none was named and none is there."""
+    beside = Path(program).with_name("ride_resume")
+    if not words.resume and not built("ride_resume").exists() and os.access(beside, os.X_OK):
+        return str(beside)
+    if not words.resume and not built("ride_resume").exists() and not shutil.which("ride_resume"):
+        return ""
+    return program_of(words.resume, "ride_resume", "--resume")
 
 
 def make_room(words: argparse.Namespace) -> Tuple[Path, List[Zone]]:
     """Returns the new folder of a control room with its zones; a temporary one is taken away where they cannot be made."""
-    program = program_of(words)
+    program = program_of(words.program, "ride_dispatch", "--program")
+    resume = resume_of(words, program)
     folder = new_folder(words)
     try:
-        return folder, make_zones(words, folder, program)
+        zones = [replace(zone, resume=resume) for zone in make_zones(words, folder, program)]
+        for zone in zones:
+            zone.save()
+        return folder, zones
     except (OSError, ValueError):
         if not words.folder:
             shutil.rmtree(folder)
@@ -134,11 +153,13 @@ def start(words: argparse.Namespace, room: Room, zones: List[Zone]) -> None:
     """Starts all parts, each once what it needs is there."""
     folder = str(room.folder)
     for zone in zones:  # First, so that a map or a fleet file that is refused is told at once.
-        # A keeper that broke off is started again where its session lives; without a session it could only refuse.
-        room.start(Part(f"keeper.{zone.name}", ["keeper", folder, zone.name], partial(is_running, zone.kept_log)))
+        # A keeper that broke off is started again: its session lives, or goes on from the kept log. One that can begin none says why.
+        room.start(Part(f"keeper.{zone.name}", ["keeper", folder, zone.name], (CANNOT_START,)))
         wait_for_session(room, zone)
         room.hold(zone)
         say(f"{zone.name}: the session runs, its kept log is {zone.kept_log}")
+        if not zone.resume:
+            say(f"{zone.name}: ride_resume is not built: a session that breaks off will not go on")
     say("the broker starts")
     room.broker.start()
     for zone in zones:

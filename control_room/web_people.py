@@ -6,7 +6,7 @@ from typing import Any, Dict, Optional
 from aiohttp import web
 
 from control_room.day_clock import read_moment, unix_now
-from control_room.keeper import OPEN_STATES
+from control_room.kept_log import OPEN_STATES
 from control_room.messages import Message, is_number
 from control_room.tokens import Person
 from control_room.views import (SHOWN_WAITING, batches_view, counters, late_view, office_picture, request_view, vehicle_view)

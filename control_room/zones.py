@@ -22,7 +22,8 @@ class Zone:
     The folder has map.gr, fleet.txt, perhaps nodes.co, and, once the session runs, the two pipes and kept.log. `began` is the
     Unix time in milliseconds of the day's second `begin`, `speed` how many seconds of the day pass in one of life. A batch is
     asked for at most each `every` seconds, and the clock is sent each `tick`. `columns` is the width of a map that is a grid
-    and has no nodes.co. `audit_every` is in seconds of life.
+    and has no nodes.co. `audit_every` is in seconds of life. `program` is the path of ride_dispatch, `resume` that of ride_resume, empty
+    where it is not there.
     """
     name: str
     folder: str
@@ -35,6 +36,7 @@ class Zone:
     columns: int = 0
     audit_every: int = 30
     workers: int = 2
+    resume: str = ""
 
     def path(self, name: str) -> str:
         """Returns the path of a file of this zone."""
@@ -51,6 +53,11 @@ class Zone:
     @property
     def kept_log(self) -> str:
         return self.path("kept.log")
+
+    @property
+    def resumed_log(self) -> str:
+        """The output of a session that goes on, until it has the old lines and becomes the kept log."""
+        return self.path("resumed.log")
 
     def pipe(self, feed: str) -> str:
         """Returns the path of the named pipe of `riders` or `drivers`."""

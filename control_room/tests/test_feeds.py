@@ -1,16 +1,29 @@
 """Messages and the lines that they are played as, pipes, the kept log as it grows, and what a keeper reads of it."""
 import asyncio
+import contextlib
+import fcntl
+import io
 import json
 import os
+import signal
+import subprocess
+import time
 import unittest
+from concurrent.futures import ThreadPoolExecutor
+from dataclasses import replace
+from pathlib import Path
+from typing import List, Tuple
 
 from room_tests import ROOT, ROW_LOG, WithFolder
 
+from control_room import keeper, sessions
 from control_room.day_clock import DayClock
 from control_room.feed_player import FeedPlayer, Misplaced
-from control_room.keeper import CannotStart, is_running, read_kept, start_session
+from control_room.keeper import BROKE_OFF, CANNOT_START, Keeper
+from control_room.kept_log import CannotStart, Kept, is_running, read_kept, what_stands_open
 from control_room.log_tail import LogTail
 from control_room.messages import FIRST_MARK, Gate, Message, is_of_message, read_message
+from control_room.zones import Zone
 
 CLOCK = DayClock(began=0, begin=0, speed=1)
 ASK = {"from": 2, "to": 4, "seats": 1, "longest": 300, "by": 600_000}
@@ -138,34 +151,159 @@ class Tails(WithFolder, unittest.IsolatedAsyncioTestCase):
 
 
 class KeptLogs(WithFolder):
-    def test_an_empty_log_begins_a_day(self) -> None:
-        self.assertEqual(read_kept(str(self.folder / "none")).lines, 0)
+    def test_what_stands(self) -> None:
+        self.assertEqual(read_kept(str(self.folder / "none")), Kept(0, 0, False))
         self.assertFalse(is_running(str(self.folder / "none")))
-
-    def test_a_finished_log_is_a_day_that_is_over(self) -> None:
-        self.assertTrue(read_kept(str(ROOT / "examples/morning.log")).finished)
-        zone = self.row_zone((ROOT / "examples/morning.log").read_text().splitlines())
-        with self.assertRaisesRegex(CannotStart, "the day of row is over"):
-            start_session(zone)
-
-    def test_a_log_that_broke_off_says_what_is_lost(self) -> None:
+        text = "".join(line + "\n" for line in ROW_LOG)
         zone = self.row_zone(ROW_LOG)
-        kept = read_kept(zone.kept_log)
-        self.assertEqual((kept.lines, kept.finished, kept.states, kept.moving), (8, False, {"confirmed": 1}, 1))
-        with self.assertRaisesRegex(CannotStart, "ride_resume does not exist yet.*8 lines, 1 confirmed, 1 vehicles with stops"):
-            start_session(zone)
-
-    def test_a_torn_line_is_left_out(self) -> None:
-        zone = self.row_zone(ROW_LOG[:4])
+        self.assertEqual(read_kept(zone.kept_log), Kept(8, len(text), False))
         with open(zone.kept_log, "a") as kept:
             kept.write("f1 request 2 4")
-        self.assertEqual((read_kept(zone.kept_log).lines, read_kept(zone.kept_log).torn), (4, True))
+        self.assertEqual(read_kept(zone.kept_log), Kept(8, len(text), False))
+        self.assertEqual(what_stands_open(self.row_zone(ROW_LOG).kept_log), "8 lines, 1 confirmed, 1 vehicles with stops to serve")
+
+    def test_a_log_is_over_where_all_have_ended(self) -> None:
+        self.assertTrue(read_kept(str(ROOT / "examples/morning.log")).over)
+        ends = ["f2 end", "f1 cut", "d1 end"]
+        for many in range(4):
+            self.assertEqual(read_kept(self.row_zone(ROW_LOG + ends[:many]).kept_log).over, many == 3)
 
     def test_what_is_no_log(self) -> None:
-        for text in (b"hello\n", b"\xff\xfe\n", b"log 1 feeds 2 desks 1\nd1 commit 5\n"):
+        for text in (b"hello\n", b"\xff\xfe\n", b"fleet refused 1 line 1\n", b"\n", b"log 1 feeds 2 desks 3\n"):
             (self.folder / "kept.log").write_bytes(text)
             with self.assertRaises(CannotStart):
                 read_kept(str(self.folder / "kept.log"))
+        (self.folder / "kept.log").write_bytes(b"log 1 feeds 2")  # A session that was killed as it began.
+        self.assertEqual(read_kept(str(self.folder / "kept.log")), Kept(0, 0, False))
+
+
+class Sessions(WithFolder):
+    """Sessions that go on, by shell scripts in the place of the program; the trials have the program itself."""
+
+    def setUp(self) -> None:
+        super().setUp()
+        self.held: List[int] = []
+        self.text = "".join(line + "\n" for line in ROW_LOG)
+
+    def zone(self, script: str) -> Zone:
+        """Returns a zone whose session broke off in mid-line, and whose program is this script; its log is `$2`."""
+        path = self.folder / "program"
+        path.write_text("#!/bin/sh\n" + script)
+        path.chmod(0o755)
+        zone = replace(self.row_zone(), program=str(path), resume=str(path))
+        Path(zone.kept_log).write_text(self.text + "f1 clock 1")
+        holder = Keeper(zone)
+        holder.hold()
+        self.addCleanup(holder.let_go)
+        self.held = holder.held
+        return zone
+
+    def go_on(self, zone: Zone) -> "subprocess.Popen[bytes]":
+        process = sessions.go_on(zone, read_kept(zone.kept_log), self.held)
+        assert process is not None
+        self.addCleanup(process.wait)
+        self.addCleanup(process.kill)
+        return process
+
+    def test_the_output_becomes_the_kept_log(self) -> None:
+        zone = self.zone('head -n 8 "$2"; echo f1 clock 200 = now 200; exec sleep 60\n')
+        with open(zone.kept_log) as before:
+            process = self.go_on(zone)
+            self.assertEqual(before.read(), self.text + "f1 clock 1")  # Who has the old file open reads what stood there.
+        self.assertTrue(is_running(zone.kept_log))
+        self.assertFalse(Path(zone.resumed_log).exists())
+        self.assertEqual(Path(zone.path("session.pid")).read_text(), f"{process.pid}\n")
+        process.kill()
+        process.wait()
+        self.assertEqual(Path(zone.kept_log).read_text(), self.text + "f1 clock 200 = now 200\n")
+        self.assertFalse(is_running(zone.kept_log))
+
+    def test_pipes_are_emptied_before(self) -> None:
+        zone = self.zone('head -n 8 "$2"; exec sleep 60\n')
+        os.write(self.held[0], b"01 1 6 1 400 300\nclock 7\n")
+        os.write(self.held[1], b"x" * 60_000)
+        sessions.empty(self.held[1])
+        self.go_on(zone)
+        self.assertEqual(Path(zone.kept_log).read_text(), self.text)
+        os.set_blocking(self.held[0], False)
+        with self.assertRaises(BlockingIOError):
+            os.read(self.held[0], 1)
+
+    def test_it_waits_for_the_bridge(self) -> None:
+        zone = self.zone('head -n 8 "$2"; exec sleep 60\n')
+        with open(zone.path("bridge.lock"), "w") as bridge, ThreadPoolExecutor(1) as pool:
+            fcntl.flock(bridge, fcntl.LOCK_EX)
+            going_on = pool.submit(self.go_on, zone)
+            time.sleep(0.2)
+            self.assertFalse(going_on.done() or Path(zone.resumed_log).exists())
+            fcntl.flock(bridge, fcntl.LOCK_UN)
+            going_on.result(20)
+        self.assertTrue(is_running(zone.kept_log))
+
+    def test_a_session_whose_keeper_died_meanwhile_is_taken_over(self) -> None:
+        zone = self.zone("exit 9\n")
+        with open(zone.resumed_log, "w") as output:
+            fcntl.flock(output, fcntl.LOCK_EX)
+            other = subprocess.Popen(["sh", "-c", f"sleep 0.3; head -n 8 {zone.kept_log}; exec sleep 60"], stdout=output)
+        self.addCleanup(other.wait)
+        self.addCleanup(other.kill)
+        self.assertIsNone(sessions.go_on(zone, read_kept(zone.kept_log), self.held))
+        self.assertEqual(Path(zone.kept_log).read_text(), self.text)
+        self.assertTrue(is_running(zone.kept_log))
+
+    def test_what_it_says_in_place_of_the_log_is_told(self) -> None:
+        for status in sessions.REFUSALS:
+            zone = self.zone(f"echo no 5 reply; exit {status}\n")
+            with self.assertRaisesRegex(CannotStart, f"ride_resume says 'no 5 reply' with status {status}"):
+                self.go_on(zone)
+            self.assertEqual(Path(zone.kept_log).read_text(), self.text + "f1 clock 1")
+
+    def test_an_end_before_the_old_lines_may_be_tried_again(self) -> None:
+        for script in ("exit 1", 'head -n 3 "$2"; exit 6', 'head -n 3 "$2"; kill -KILL $$'):
+            zone = self.zone(script + "\n")
+            with self.assertRaises(sessions.BrokeOff):
+                self.go_on(zone)
+            self.assertEqual(Path(zone.kept_log).read_text(), self.text + "f1 clock 1")
+
+    def test_another_text_never_becomes_the_kept_log(self) -> None:
+        zone = self.zone('head -n 8 "$2" | tr 7 8; exec sleep 60\n')
+        with self.assertRaisesRegex(CannotStart, "does not begin with the lines"):
+            self.go_on(zone)
+        self.assertEqual(Path(zone.kept_log).read_text(), self.text + "f1 clock 1")
+        os.kill(int(Path(zone.path("session.pid")).read_text()), signal.SIGKILL)
+
+    def test_without_the_program_it_says_what_stands_open(self) -> None:
+        zone = replace(self.zone(""), resume="")
+        Path(zone.kept_log).write_text(self.text)
+        with self.assertRaisesRegex(CannotStart, "ride_resume is not there.*8 lines, 1 confirmed, 1 vehicles with stops"):
+            self.go_on(zone)
+        with self.assertRaisesRegex(CannotStart, "No such file"):
+            self.go_on(replace(zone, resume=str(self.folder / "none")))
+
+
+class Keepers(WithFolder):
+    def keep(self, program: str, log: str) -> Tuple[int, str]:
+        """Returns the status of a keeper over this kept log, whose programs are this shell script, and what it says."""
+        path = self.folder / "program"
+        path.write_text("#!/bin/sh\n" + program)
+        path.chmod(0o755)
+        (self.folder / "kept.log").write_text(log)
+        for name in (signal.SIGTERM, signal.SIGINT):
+            self.addCleanup(signal.signal, name, signal.getsignal(name))
+        with contextlib.redirect_stderr(io.StringIO()) as said:
+            status = keeper.main(replace(self.row_zone(), program=str(path), resume=str(path)))
+        return status, said.getvalue()
+
+    def test_how_it_ends_says_whether_the_session_may_go_on(self) -> None:
+        text, ends = "".join(line + "\n" for line in ROW_LOG), "f1 end\nf2 end\nd1 end\n"
+        cases = [('echo log 1 feeds 2 desks 1; exit 0', "", 0), ('echo log 1 feeds 2 desks 1; kill -KILL $$', "", BROKE_OFF),
+                 ('echo log 1 feeds 2 desks 1; exit 6', "log 1", BROKE_OFF), ("echo fleet refused 1 line 1; exit 4", "", CANNOT_START),
+                 ("exit 1", "", CANNOT_START), ("exit 0", text + ends, CANNOT_START), ("exit 0", "hello\n", CANNOT_START),
+                 ('cat "$2"; exit 0', text, 0), ('cat "$2"; kill -KILL $$', text, BROKE_OFF), ("exit 1", text, BROKE_OFF),
+                 ("echo no 3 reply; exit 7", text, CANNOT_START)]
+        for program, log, status in cases:
+            ended, said = self.keep(program + "\n", log)
+            self.assertEqual((ended, said.count("\n")), (status, 0 if status == 0 else 1), (program, log[-20:], said))
 
 
 if __name__ == "__main__":

@@ -216,7 +216,7 @@ class Commands(WithFolder):
         cases = [[], ["fly"], ["run", "--city", "1"], ["run", "--city", "a"], ["run", "--speed", "0"], ["run", "--port", "70000"],
                  ["run", "--town", "--city", "5"], ["bridge", str(self.folder), "row"], ["web", str(self.folder)],
                  ["token", str(self.folder), "rider", "ada"], ["token", str(self.folder), "king", "ada"],
-                 ["run", "--program", "/no/such/program"], ["run", "--own", str(self.folder), "--program", "/bin/true"]]
+                 ["run", "--program", "/no/such/program"], ["run", "--program", "/bin/true", "--resume", "/no/such/program"], ["run", "--own", str(self.folder), "--program", "/bin/true"]]
         for words in cases:
             ended = self.run_words(*words)
             self.assertEqual((ended.returncode, ended.stderr.count("\n"), ended.stdout), (2, 1, ""), words)

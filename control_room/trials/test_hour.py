@@ -2,18 +2,19 @@
 import asyncio
 import os
 import random
-import subprocess
+import signal
 import time
 import unittest
 from pathlib import Path
-from typing import Any, Dict, List
+from typing import Any, Callable, Dict, List
 
-from trial_room import PROGRAM, needs_broker, running
+from trial_room import needs_broker, needs_resumption, running
 
 from trip_log import TripLog, read_fleet, read_log
 
+from control_room import remnants
 from control_room.broker import Broker
-from control_room.keeper import is_running
+from control_room.kept_log import is_running
 from control_room.link import Link
 from control_room.messages import Gate, is_of_message, read_message
 from control_room.parts import Room
@@ -23,13 +24,27 @@ from control_room.zones import Zone
 SEED = int(os.environ.get("CONTROL_ROOM_SEED", "1"))
 RIDERS = int(os.environ.get("CONTROL_ROOM_RIDERS", "200"))
 SPEED = 30
+KILLS = int(os.environ.get("CONTROL_ROOM_KILLS", "8"))
+
+
+def session_of(room: Room, zone: Zone) -> int:
+    """Returns the process of a zone's session, 0 where none runs now."""
+    path = Path(zone.path("session.pid"))
+    process = int(path.read_text()) if path.exists() else 0
+    return process if process and remnants.is_of(process, room.folder) else 0
+
+
+def lines_of(path: str) -> int:
+    """Returns how many whole lines stand on a kept log."""
+    return Path(path).read_bytes().count(b"\n")
 
 
 class Trouble:
     """Ends parts at random moments, looks after the room, and keeps what was ended."""
 
-    def __init__(self, room: Room, seed: int):
-        self.room = room
+    def __init__(self, room: Room, zone: Zone, seed: int):
+        self.room, self.zone = room, zone
+        self.others = ["session", "session"] if zone.resume else []
         self.draw = random.Random(seed)
         self.ended: List[str] = []
         self.fault = ""
@@ -43,9 +58,18 @@ class Trouble:
             if time.monotonic() >= due:
                 due = time.monotonic() + self.draw.uniform(2, 7)
                 name = self.draw.choice(self.room.named("bridge") * 2 + self.room.named("web") * 2 + self.room.named("keeper")
-                                        + [node.name for node in self.room.broker.nodes])
+                                        + [node.name for node in self.room.broker.nodes] + self.others)
                 self.ended.append(name)
-                self.room.end_by_force(name)
+                if name == "session":
+                    self.end_session()
+                else:
+                    self.room.end_by_force(name)
+
+    def end_session(self) -> None:
+        """Ends the session by SIGKILL, where one runs."""
+        process = session_of(self.room, self.zone)
+        if process:
+            os.kill(process, signal.SIGKILL)
 
     async def mend(self) -> None:
         """Looks after the room until all runs."""
@@ -95,13 +119,24 @@ def confirmed_now(zone: Zone) -> Dict[int, int]:
     return seats
 
 
+class Streams(unittest.TestCase):
+    """What is looked at of the streams once nobody says anything more."""
+
+    def check_stream(self, room: Room, zone: Zone, name: str, actor: str) -> None:
+        """Each message of the stream has one line of the feed, in order."""
+        lines = lines_of_messages(zone, actor)
+        bodies = asyncio.run(stream_of(room.broker, zone, name, len(lines)))
+        gate = Gate(zone.clock(), read_fleet(zone.fleet).settings["log"])
+        self.assertEqual([gate.line_for(read_message(body)) or "bad" for body in bodies], lines)
+
+
 @needs_broker
-class Hour(unittest.TestCase):
+class Hour(Streams):
     """The hour, with everything that is looked at afterwards."""
 
     def test_each_command_is_played_once_whatever_is_ended(self) -> None:
         with running("--city", "12", "--vehicles", "24", "--speed", str(SPEED), "--nobody", "--seed", str(SEED)) as (room, zones, server):
-            zone, trouble = zones[0], Trouble(room, SEED)
+            zone, trouble = zones[0], Trouble(room, zones[0], SEED)
             crowd, early = asyncio.run(self.play(room, zone, server, trouble))
             self.assertEqual(trouble.fault, "")
             self.assertEqual(early, [], "told as confirmed before the kept log had it")
@@ -135,13 +170,6 @@ class Hour(unittest.TestCase):
             await asyncio.wait_for(driving, 60)
         return crowd, early
 
-    def check_stream(self, room: Room, zone: Zone, name: str, actor: str) -> None:
-        """Each message of the stream has one line of the feed, in order."""
-        lines = lines_of_messages(zone, actor)
-        bodies = asyncio.run(stream_of(room.broker, zone, name, len(lines)))
-        gate = Gate(zone.clock(), 1)
-        self.assertEqual([gate.line_for(read_message(body)) or "bad" for body in bodies], lines)
-
     def check_people(self, zone: Zone, crowd: Any) -> None:
         """What people were told stands on the kept log, once each."""
         log = read_log(zone.kept_log, read_fleet(zone.fleet))
@@ -154,34 +182,35 @@ class Hour(unittest.TestCase):
         self.assertEqual({number: one.state.value.replace("done", "dropped") for number, one in log.requests.items()}, crowd.closed)
 
 
-@needs_broker
-class LostSession(unittest.TestCase):
-    """A session that breaks off: the room says so and what is lost, and begins no other over its log."""
+@needs_resumption
+class KilledSession(Streams):
+    """A session that is killed again and again goes on from its kept log, and nobody's seat is lost."""
 
-    def test_a_session_that_breaks_off_is_not_begun_anew(self) -> None:
-        with running("--town", "--speed", "20", "--riders-an-hour", "900", finished=False) as (room, zones, _server):
-            zone, until = zones[0], time.monotonic() + 60
-            while "confirmed" not in Path(zone.kept_log).read_text() and time.monotonic() < until:
-                time.sleep(0.2)
-            keeper = room.parts[f"keeper.{zone.name}"].process
-            assert keeper is not None
-            children = Path(f"/proc/{keeper.pid}/task/{keeper.pid}/children").read_text().split()
-            os.kill(int(children[0]), 9)
-            fault, until = None, time.monotonic() + 20
-            while not fault and time.monotonic() < until:
-                fault = room.look_after()
-                time.sleep(0.2)
-            self.assertIn(f"keeper.{zone.name} ended with status", fault or "")
-            words = ["/usr/bin/python3", "-m", "control_room", "keeper", str(room.folder), zone.name]
-            again = subprocess.run(words, cwd=room.folder.parent,
-                                   env={**os.environ, "PYTHONPATH": str(Path(__file__).resolve().parents[2])},
-                                   capture_output=True, text=True, timeout=30)
-            self.assertEqual(again.returncode, 2)
-            self.assertIn("ride_resume does not exist yet", again.stderr)
-            self.assertEqual(again.stderr.count("\n"), 1)
-            words = [PROGRAM, "audit", "--map", zone.map, "--fleet", zone.fleet, "--log", zone.kept_log]
-            audit = subprocess.run(words, capture_output=True, text=True)
-            self.assertRegex(audit.stdout, "^yes .* finished no\n")
+    def test_a_session_that_breaks_off_goes_on(self) -> None:
+        draw = random.Random(SEED)
+        with running("--town", "--speed", "20", "--riders-an-hour", "900") as (room, zones, _server):
+            zone = zones[0]
+            self.until(room, lambda: bool(confirmed_now(zone)))
+            for _ in range(KILLS):
+                before, seats, process = Path(zone.kept_log).read_bytes(), confirmed_now(zone), session_of(room, zone)
+                os.kill(process, signal.SIGKILL)
+                self.until(room, lambda: session_of(room, zone) not in (0, process) and lines_of(zone.kept_log) > before.count(b"\n") + 10)
+                whole = before[:before.rfind(b"\n") + 1]
+                self.assertTrue(Path(zone.kept_log).read_bytes().startswith(whole))
+                self.assertEqual({ride: confirmed_now(zone).get(ride) for ride in seats}, seats)
+                self.until(room, lambda: False, draw.uniform(0.0, 3.0))
+            room.end(room.named("simulate") + room.named("web"), 10.0)
+            self.until(room, lambda: False, 5.0)
+            for name, actor in (("riders", "f1"), ("drivers", "f2")):
+                self.check_stream(room, zone, name, actor)
+
+    def until(self, room: Room, holds: Callable[[], bool], seconds: float = 0.0) -> None:
+        """Looks after the room until this holds, which has to come within a minute; or for so many seconds."""
+        until = time.monotonic() + (seconds or 60.0)
+        while not holds() and time.monotonic() < until:
+            self.assertIsNone(room.look_after())
+            time.sleep(0.05)
+        self.assertTrue(seconds or holds())
 
 
 if __name__ == "__main__":

@@ -16,6 +16,7 @@ from control_room.broker import Broker, is_installed  # noqa: E402
 from control_room.parts import Room  # noqa: E402
 from control_room.zones import Zone  # noqa: E402
 
+RESUME = os.environ.get("RIDE_RESUME") or str(HERE.parent / "crates/ride_resume/out/ride_resume")
 PROGRAM = os.environ.get("RIDE_DISPATCH") or str(HERE.parent / "crates/ride_dispatch/out/ride_dispatch")
 PORT = int(os.environ.get("CONTROL_ROOM_PORT", "8190"))
 
@@ -38,14 +39,20 @@ def needs_broker(test: type) -> type:
     return unittest.skipIf(missing, "missing: " + ", ".join(missing))(test)
 
 
+def needs_resumption(test: type) -> type:
+    """Skips a trial by name where ride_resume is missing."""
+    return unittest.skipIf(not shutil.which(RESUME), f"missing: the program {RESUME}")(needs_broker(test))
+
+
 @contextmanager
-def running(*words: str, finished: bool = True) -> Iterator[Tuple[Room, List[Zone], str]]:
+def running(*words: str) -> Iterator[Tuple[Room, List[Zone], str]]:
     """Gives a running control room, its zones and its server; ends all of it, and leaves its folder where something fails.
 
-    The audit of each kept log has to say yes at the end, and finished yes where nothing else is said.
+    The audit of each kept log has to say yes at the end, and finished yes.
     """
     folder = Path(tempfile.mkdtemp(prefix="control_room.trial."))
-    said = parser().parse_args(["run", *words, "--program", PROGRAM, "--folder", str(folder), "--port", str(PORT)])
+    resume = ["--resume", RESUME] if shutil.which(RESUME) else []
+    said = parser().parse_args(["run", *words, "--program", PROGRAM, *resume, "--folder", str(folder), "--port", str(PORT)])
     _folder, zones = supervisor.make_room(said)
     room = Room(folder, Broker(folder / "broker", said.nodes), supervisor.say)
     try:
@@ -53,6 +60,5 @@ def running(*words: str, finished: bool = True) -> Iterator[Tuple[Room, List[Zon
         yield room, zones, f"http://{said.host}:{said.port}"
     finally:
         audits = supervisor.stop(room, zones)
-    assert len(audits) == len(zones) and all(said.startswith("yes ") for said in audits), audits
-    assert not finished or all(said.endswith(" finished yes") for said in audits), audits
+    assert len(audits) == len(zones) and all(said.startswith("yes ") and said.endswith(" finished yes") for said in audits), audits
     shutil.rmtree(folder)
