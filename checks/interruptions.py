@@ -43,8 +43,8 @@ DISPATCH = TOP / "crates" / "ride_dispatch" / "out" / "ride_dispatch"
 RESUME = TOP / "crates" / "ride_resume" / "out" / "ride_resume"
 PARTS = ("kills", "cuts", "hostile")
 KILLS_OF_DAY = (4, 14)
-# A day that ends behind its last request, so that batches stand among the last lines of its log.
-SHORT = Sizes(side=8, vehicles=6, requests=60, minutes=6, last_drive=0)
+# A day that breaks off while riders ask, so that batches stand among the last lines of its log.
+SHORT = Sizes(side=8, vehicles=8, requests=80, minutes=8, last_drive=-200)
 
 
 class Trial:

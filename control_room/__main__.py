@@ -67,6 +67,7 @@ def _run_words(words: argparse.ArgumentParser) -> None:
     which.add_argument("--own", metavar="FOLDER", action="append",
                        help="your own map.gr and fleet.txt, and nodes.co with coordinates where there is one; a zone that is named after "
                             "the folder, and one more for each time that it is given")
+    which.add_argument("--again", metavar="FOLDER", help="goes on with a room of which nothing runs any more, from its kept logs")
     words.add_argument("--vehicles", type=number(1, 1_000), default=30, metavar="N", help="vehicles of a drawn city (default 30)")
     words.add_argument("--zones", type=number(1, 9), default=1, metavar="N",
                        help="so many drawn cities, each a session of its own (default 1)")

@@ -65,8 +65,14 @@ def go_on(zone: Zone, kept: Kept, pipes: List[int]) -> "Optional[subprocess.Pope
         process = None
         if not is_running(zone.resumed_log):
             process = _start(zone, [zone.resume, "--log", zone.kept_log], zone.resumed_log)
-        _wait_for_old_lines(zone, kept, process)
-        _take_place(zone, kept)
+        try:
+            _wait_for_old_lines(zone, kept, process)
+            _take_place(zone, kept)
+        except CannotStart:
+            if process:
+                process.kill()
+                process.wait()
+            raise
     return process
 
 

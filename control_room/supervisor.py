@@ -14,14 +14,14 @@ from dataclasses import replace
 from pathlib import Path
 from typing import Any, Dict, List, Optional, Tuple
 
-from control_room import HERE, made_zones
+from control_room import HERE, made_zones, remnants
 from control_room.auditor import audit
 from control_room.broker import Broker, BrokerError
 from control_room.keeper import CANNOT_START
 from control_room.kept_log import is_running
 from control_room.parts import Part, Room
 from control_room.tokens import Person, secret_of, sign
-from control_room.zones import Zone, ZoneError
+from control_room.zones import Zone, ZoneError, load_zones
 
 # Seconds in which the web server answers, and between two lines of progress.
 PATIENCE = 180.0
@@ -65,19 +65,37 @@ def resume_of(words: argparse.Namespace, program: str) -> str:
 
 
 def make_room(words: argparse.Namespace) -> Tuple[Path, List[Zone]]:
-    """Returns the new folder of a control room with its zones; a temporary one is taken away where they cannot be made."""
+    """Returns the folder of a control room with its zones: a new one, or one that goes on. A temporary one is taken away where its zones
+    cannot be made."""
     program = program_of(words.program, "ride_dispatch", "--program")
     resume = resume_of(words, program)
+    if words.again:
+        folder = Path(words.again).resolve()
+        return folder, saved(left_zones(folder), program, resume)
     folder = new_folder(words)
     try:
-        zones = [replace(zone, resume=resume) for zone in make_zones(words, folder, program)]
-        for zone in zones:
-            zone.save()
-        return folder, zones
+        return folder, saved(make_zones(words, folder, program), program, resume)
     except (OSError, ValueError):
         if not words.folder:
             shutil.rmtree(folder)
         raise
+
+
+def saved(zones: List[Zone], program: str, resume: str) -> List[Zone]:
+    """Returns the zones with these programs, by which their parts know them."""
+    found = [replace(zone, program=program, resume=resume) for zone in zones]
+    for zone in found:
+        zone.save()
+    return found
+
+
+def left_zones(folder: Path) -> List[Zone]:
+    """Returns the zones of a room of which nothing runs any more; raises ZoneError."""
+    zones = list(load_zones(str(folder)).values())
+    left = [*remnants.living(folder), *(f"the session of {zone.name}" for zone in zones if is_running(zone.kept_log))]
+    if left:
+        raise ZoneError(f"of {folder} there runs: {', '.join(left)}; `control_room stop {folder}` ends it")
+    return zones
 
 
 def make_zones(words: argparse.Namespace, folder: Path, program: str) -> List[Zone]:

@@ -32,7 +32,7 @@ HABITS = Habits(hold_ups=0.05, breaks=0.2, break_seconds=300)
 @dataclass(frozen=True)
 class Sizes:
     """How large a day is: a grid of `side` times `side` crossings, vehicles, requests and the minutes in which they are made, and the
-    seconds for which drivers go on at most after the last request."""
+    seconds for which it goes on at most after the last request; below 0 it breaks off before."""
 
     side: int = 12
     vehicles: int = 14
@@ -116,7 +116,7 @@ class Clients:
     def next_turn(self) -> tuple[list[str], list[str]]:
         """Returns what riders and drivers mean to say now, none where the day is over; it is kept."""
         self.now += TICK
-        if self.office.next_moment() is None and (self._at_rest() or self.now > self.last + self.city.sizes.last_drive):
+        if self.now > self.last + self.city.sizes.last_drive or (self.office.next_moment() is None and self._at_rest()):
             self.done = True
             return [], []
         riders = [f"clock {self.now}", *(line for _, line in self.office.due(self.now))]

@@ -78,7 +78,7 @@ class Logs(WithFolder):
 
 
 class Runs(WithFolder):
-    def session(self, moment: Moment | None, begin: int = 0, script: str = "cat $0 $1") -> Session:
+    def session(self, moment: Moment | None, begin: int = 0, script: str = "exec cat $0 $1") -> Session:
         """Returns a session of another program: a shell that writes what its feeds hold."""
         pipes = [self.folder / "riders", self.folder / "drivers"]
         for pipe in pipes:
@@ -120,7 +120,7 @@ class Runs(WithFolder):
                 self.assertGreaterEqual(len(lines), least)
 
     def test_it_is_killed_as_its_feeds_end(self) -> None:
-        session = self.session(Moment("ending", 0.0), script="cat $0 $1; sleep 60")
+        session = self.session(Moment("ending", 0.0), script="exec sleep 60")
         session.close(0)
         session.turn()
         self.assertFalse(session.was_killed)

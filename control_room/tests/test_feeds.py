@@ -270,7 +270,7 @@ class Sessions(WithFolder):
         with self.assertRaisesRegex(CannotStart, "does not begin with the lines"):
             self.go_on(zone)
         self.assertEqual(Path(zone.kept_log).read_text(), self.text + "f1 clock 1")
-        os.kill(int(Path(zone.path("session.pid")).read_text()), signal.SIGKILL)
+        self.assertFalse(is_running(zone.resumed_log))
 
     def test_without_the_program_it_says_what_stands_open(self) -> None:
         zone = replace(self.zone(""), resume="")

@@ -1,5 +1,6 @@
 """Clock, tokens, limits of rate, refusals in words, the schedule and the commands' own words."""
 import asyncio
+import fcntl
 import os
 import re
 import subprocess
@@ -20,7 +21,7 @@ from control_room.auditor import audit
 from control_room.day_clock import DayClock, read_moment, written
 from control_room.limits import RateLimit
 from control_room.schedule import Schedule
-from control_room.supervisor import make_zones
+from control_room.supervisor import left_zones, make_zones, saved
 from control_room.tokens import BadToken, Person, read_token, secret_of, sign
 from control_room.words import REFUSALS, Problem, refused
 from control_room.zones import Zone, ZoneError, load_zone
@@ -208,6 +209,23 @@ class OwnZones(WithFolder):
             self.zones(folder, folder)
 
 
+class RoomsAgain(WithFolder):
+    def test_zones_of_a_room_that_goes_on(self) -> None:
+        zones = self.folder / "zones" / "row"
+        zones.mkdir(parents=True)
+        zone = replace(self.row_zone(), folder=str(zones), speed=7)
+        zone.save()
+        with self.assertRaisesRegex(ValueError, "no control room's folder"):
+            left_zones(self.folder)
+        remnants.note(self.folder, "web.1", 1)
+        self.assertEqual(saved(left_zones(self.folder), "/bin/true", "/bin/false"), [replace(zone, program="/bin/true", resume="/bin/false")])
+        self.assertEqual(load_zone(str(zones)).resume, "/bin/false")
+        with open(zone.kept_log, "w") as kept:
+            fcntl.flock(kept, fcntl.LOCK_EX)
+            with self.assertRaisesRegex(ZoneError, "the session of row"):
+                left_zones(self.folder)
+
+
 class Commands(WithFolder):
     def run_words(self, *words: str) -> "subprocess.CompletedProcess[str]":
         return subprocess.run([sys.executable, "-m", "control_room", *words], cwd=ROOT, capture_output=True, text=True, timeout=30)
@@ -216,7 +234,8 @@ class Commands(WithFolder):
         cases = [[], ["fly"], ["run", "--city", "1"], ["run", "--city", "a"], ["run", "--speed", "0"], ["run", "--port", "70000"],
                  ["run", "--town", "--city", "5"], ["bridge", str(self.folder), "row"], ["web", str(self.folder)],
                  ["token", str(self.folder), "rider", "ada"], ["token", str(self.folder), "king", "ada"],
-                 ["run", "--program", "/no/such/program"], ["run", "--program", "/bin/true", "--resume", "/no/such/program"], ["run", "--own", str(self.folder), "--program", "/bin/true"]]
+                 ["run", "--program", "/no/such/program"], ["run", "--program", "/bin/true", "--resume", "/no/such/program"],
+                 ["run", "--again", str(self.folder), "--program", "/bin/true"], ["run", "--again", "x", "--town"], ["run", "--own", str(self.folder), "--program", "/bin/true"]]
         for words in cases:
             ended = self.run_words(*words)
             self.assertEqual((ended.returncode, ended.stderr.count("\n"), ended.stdout), (2, 1, ""), words)

@@ -8,11 +8,11 @@ import unittest
 from pathlib import Path
 from typing import Any, Callable, Dict, List
 
-from trial_room import needs_broker, needs_resumption, running
+from trial_room import made, needs_broker, needs_resumption, running
 
 from trip_log import TripLog, read_fleet, read_log
 
-from control_room import remnants
+from control_room import remnants, supervisor
 from control_room.broker import Broker
 from control_room.kept_log import is_running
 from control_room.link import Link
@@ -203,6 +203,31 @@ class KilledSession(Streams):
             self.until(room, lambda: False, 5.0)
             for name, actor in (("riders", "f1"), ("drivers", "f2")):
                 self.check_stream(room, zone, name, actor)
+
+    def test_a_room_of_which_nothing_is_left_goes_on(self) -> None:
+        with running("--town", "--speed", "20", "--riders-an-hour", "900") as (room, zones, _server):
+            zone = zones[0]
+            self.until(room, lambda: bool(confirmed_now(zone)))
+            os.kill(session_of(room, zone), signal.SIGKILL)  # First, so that its feeds do not end.
+            before, seats = Path(zone.kept_log).read_bytes(), confirmed_now(zone)
+            for name in [*room.parts, *(node.name for node in room.broker.nodes)]:
+                room.end_by_force(name)
+            assert room.broker.epmd is not None
+            room.broker.epmd.kill()
+            room.broker.epmd.wait()
+            room.let_go()
+            said, again, again_zones = made("run", "--again", str(room.folder))
+            try:
+                supervisor.start(said, again, again_zones)
+                self.until(again, lambda: lines_of(zone.kept_log) > before.count(b"\n") + 10)
+                self.assertTrue(Path(zone.kept_log).read_bytes().startswith(before[:before.rfind(b"\n") + 1]))
+                self.assertEqual({ride: confirmed_now(zone).get(ride) for ride in seats}, seats)
+                again.end(again.named("simulate") + again.named("web"), 10.0)
+                self.until(again, lambda: False, 5.0)
+                for name, actor in (("riders", "f1"), ("drivers", "f2")):
+                    self.check_stream(again, zone, name, actor)
+            finally:
+                supervisor.stop(again, again_zones)
 
     def until(self, room: Room, holds: Callable[[], bool], seconds: float = 0.0) -> None:
         """Looks after the room until this holds, which has to come within a minute; or for so many seconds."""

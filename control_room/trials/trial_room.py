@@ -1,4 +1,5 @@
 """What the trials share: where the program is, and a control room that is started, looked after and ended."""
+import argparse
 import os
 import shutil
 import sys
@@ -51,10 +52,7 @@ def running(*words: str) -> Iterator[Tuple[Room, List[Zone], str]]:
     The audit of each kept log has to say yes at the end, and finished yes.
     """
     folder = Path(tempfile.mkdtemp(prefix="control_room.trial."))
-    resume = ["--resume", RESUME] if shutil.which(RESUME) else []
-    said = parser().parse_args(["run", *words, "--program", PROGRAM, *resume, "--folder", str(folder), "--port", str(PORT)])
-    _folder, zones = supervisor.make_room(said)
-    room = Room(folder, Broker(folder / "broker", said.nodes), supervisor.say)
+    said, room, zones = made("run", *words, "--folder", str(folder))
     try:
         supervisor.start(said, room, zones)
         yield room, zones, f"http://{said.host}:{said.port}"
@@ -62,3 +60,11 @@ def running(*words: str) -> Iterator[Tuple[Room, List[Zone], str]]:
         audits = supervisor.stop(room, zones)
     assert len(audits) == len(zones) and all(said.startswith("yes ") and said.endswith(" finished yes") for said in audits), audits
     shutil.rmtree(folder)
+
+
+def made(*words: str) -> Tuple[argparse.Namespace, Room, List[Zone]]:
+    """Returns the words of a room, the room and its zones, of which nothing runs yet."""
+    resume = ["--resume", RESUME] if shutil.which(RESUME) else []
+    said = parser().parse_args([*words, "--program", PROGRAM, *resume, "--port", str(PORT)])
+    folder, zones = supervisor.make_room(said)
+    return said, Room(folder, Broker(folder / "broker", said.nodes), supervisor.say), zones
