@@ -53,7 +53,7 @@ CHECKS = [
     Check("the edge of the system", ("checks/edges.sh",), ("bash",)),
     Check("each allocation refused in turn", (sys.executable, "-B", "checks/allocations.py"), ("gcc",)),
     Check("sessions that are killed and go on from their logs",
-          (sys.executable, "-B", "checks/interruptions.py", "--kills", "20", "--bytes", "100"), (RESUME,)),
+          (sys.executable, "-B", "checks/interruptions.py", "--kills", "12", "--bytes", "60"), (RESUME,)),
     Check("certified sheets", (sys.executable, "-B", "checks/sheets.py"), ("checks/sheets.py",)),
     Check("the page of the headline beside the sources", (sys.executable, "-B", "checks/headline.py", "--check")),
     Check("the width of clauses", (sys.executable, "-B", "checks/figures.py", "--check")),

@@ -1,12 +1,13 @@
 #!/usr/bin/env python3
 """Refuses each allocation of the built program in turn, and looks at what it answers.
 
-    python3 checks/allocations.py [PROGRAM] [--most N]
+    python3 checks/allocations.py [PROGRAM] [--resume PATH] [--most N]
 
 Each sample is run with its allocation number 1, 2, 3 .. refused, until a run needs no more; --most takes at most so many of
 each sample, spread evenly. A run must end by itself with its own status and text, or with status 1 and what is allowed then:
-of a replay nothing, or the log of a legal history; of a session nothing, or a log that begins a legal history's; of an audit
-and of a drill nothing, of bookings and of a league some first lines. Needs gcc; docs/reliability.md has the numbers.
+of a replay nothing, or the log of a legal history; of a session, one that goes on from a log too, nothing, or a log that begins a legal
+history's; of an audit and of a drill nothing, of bookings and of a league some first lines. ride_resume is left out where it is not built.
+Needs gcc; docs/reliability.md has the numbers.
 """
 
 import argparse
@@ -23,8 +24,9 @@ DATA = TOP / "crates" / "ride_dispatch" / "data"
 class Sample:
     """A run of the program: its words, and how what it wrote with status 1 is judged."""
 
-    def __init__(self, name, words, map_file=None, fleet=None, threads=False):
+    def __init__(self, name, words, map_file=None, fleet=None, threads=False, program=None):
         self.name = name
+        self.program = program  # another than ride_dispatch
         self.words = [str(word) for word in words]
         self.files = (map_file, fleet)
         self.threads = threads
@@ -39,13 +41,13 @@ class Runner:
         subprocess.run(
             ["gcc", "-O2", "-shared", "-fPIC", "-o", self.shim, str(HERE / "allocations.c"), "-ldl"], check=True)
 
-    def run(self, words, refused=None):
+    def run(self, words, refused=None, program=None):
         """The status, the text and the number of allocations of a run."""
         environment = dict(os.environ)
         if refused is not None:
             environment.update(LD_PRELOAD=self.shim, REFUSED=str(refused), REPORT=str(self.report))
             self.report.write_bytes(bytes(8))
-        done = subprocess.run([self.program, *words], stdout=subprocess.PIPE, stderr=subprocess.DEVNULL,
+        done = subprocess.run([program or self.program, *words], stdout=subprocess.PIPE, stderr=subprocess.DEVNULL,
                               stdin=subprocess.DEVNULL, env=environment, timeout=600)
         count = int.from_bytes(self.report.read_bytes(), "little") if refused is not None else 0
         return done.returncode, done.stdout.decode(), count
@@ -84,13 +86,13 @@ def judge(runner, sample, whole, status, text):
 
 def try_sample(runner, sample, most):
     """Refuses each allocation of a sample, and answers how many were tried and what was wrong."""
-    status, whole, count = runner.run(sample.words, 0)
+    status, whole, count = runner.run(sample.words, 0, sample.program)
     assert status == 0 and count > 0, f"{sample.name}: status {status}, {count} allocations"
     step = max(1, count // most) if most else 1
     tried, wrong, ones = 0, [], 0
     number = 1
     while number <= count + 50:
-        status, text, seen = runner.run(sample.words, number)
+        status, text, seen = runner.run(sample.words, number, sample.program)
         fault = judge(runner, sample, whole, status, text)
         tried += 1
         ones += status == 1
@@ -104,7 +106,26 @@ def try_sample(runner, sample, most):
     return wrong
 
 
-def samples(folder):
+OPENED = """log 1 feeds 2 desks 2
+f1 request 7 2 4 1 600 300 = waiting
+f1 batch = asked 1
+d2 open 1 at 0 requests 7 plans 1@0
+"""
+
+
+def resumption(folder, program, plain):
+    """The sample of a session that goes on from a log with an open batch; none where its program is not built."""
+    if not os.path.exists(program):
+        print(f"{program} is not built: no session goes on from a log", flush=True)
+        return []
+    (folder / "opened.log").write_text(OPENED)
+    (folder / "more_riders").write_text("clock 5\nrequest 8 3 1 1 900 600\nbatch\n")
+    words = ["--map", plain["map_file"], "--fleet", plain["fleet"], "--log", folder / "opened.log", "--riders", folder / "more_riders",
+             "--drivers", folder / "drivers", "--workers", 2]
+    return [Sample("a session that goes on", words, threads=True, program=program, **plain)]
+
+
+def samples(folder, resume):
     """The samples, with their inputs made."""
     examples = TOP / "examples"
     plain = dict(map_file=DATA / "map.gr", fleet=DATA / "fleet.txt")
@@ -126,18 +147,20 @@ def samples(folder):
         Sample("bookings of an evening", ["book", "--feed", examples / "evening.txt"]),
         Sample("replay of the morning", ["replay", *town, "--feed", examples / "morning.txt"],
                map_file=examples / "map.gr", fleet=examples / "fleet.txt"),
+        *resumption(folder, resume, plain),
     ]
 
 
 def main():
     parser = argparse.ArgumentParser(description=__doc__, formatter_class=argparse.RawDescriptionHelpFormatter)
     parser.add_argument("program", nargs="?", default=TOP / "crates" / "ride_dispatch" / "out" / "ride_dispatch")
+    parser.add_argument("--resume", default=TOP / "crates" / "ride_resume" / "out" / "ride_resume", help="ride_resume")
     parser.add_argument("--most", type=int, default=0, help="refuse at most about so many allocations of each sample")
     given = parser.parse_args()
     with tempfile.TemporaryDirectory() as name:
         folder = pathlib.Path(name)
         runner = Runner(given.program, folder)
-        log, all_samples = samples(folder)
+        log, all_samples = samples(folder, given.resume)
         log.write_text(runner.run(all_samples[0].words)[1])
         wrong = [fault for sample in all_samples for fault in try_sample(runner, sample, given.most)]
     print("\n".join(wrong))

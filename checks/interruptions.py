@@ -43,6 +43,8 @@ DISPATCH = TOP / "crates" / "ride_dispatch" / "out" / "ride_dispatch"
 RESUME = TOP / "crates" / "ride_resume" / "out" / "ride_resume"
 PARTS = ("kills", "cuts", "hostile")
 KILLS_OF_DAY = (4, 14)
+# Days in turn: in a larger city a batch takes longer, so that it is open more often when a session is killed.
+DAYS = (Sizes(), Sizes(side=40, vehicles=50, requests=150, minutes=10))
 # A day that breaks off while riders ask, so that batches stand among the last lines of its log.
 SHORT = Sizes(side=8, vehicles=8, requests=80, minutes=8, last_drive=-200)
 
@@ -87,7 +89,7 @@ class Trial:
             kills = min(draw.randint(*KILLS_OF_DAY), wanted - count.kills)
 
             def work(folder: Path) -> str:
-                city = draw_city(folder, self.programs, Sizes(), 1_000 * self.seed + day)
+                city = draw_city(folder, self.programs, DAYS[day % len(DAYS)], 1_000 * self.seed + day)
                 Day(city, folder, day, count).play(kills)
                 self._second(city, folder / "finished.log")
                 return ""

@@ -24,7 +24,7 @@ TICK = 10  # seconds of the day between two turns of the clients
 BAD = 0.02  # of the turns in which a client says what is no command
 AHEAD = 0.3  # of the turns in which the riders' client does not wait for its answers
 SETTLED = 0.8  # of the turns in which both clients wait until no batch is open, so that the clock does not run away from the desks
-PAUSE = 0.0005  # seconds between two looks at a log
+PAUSE = 0.0002  # seconds between two looks at a log, so that a batch is often open when its opening is seen
 SILENCE = 60.0  # seconds in which something has to come that is due
 HABITS = Habits(hold_ups=0.05, breaks=0.2, break_seconds=300)
 
@@ -224,7 +224,7 @@ class Day:
         for feed in feeds:
             if not (self.stood and self.stood.ended[feed]):
                 session.close(feed)
-                for _ in range(self.draw.choice([0, 20])):
+                for _ in range(self.draw.choice([0, 100])):
                     self._hear(session)
         while not session.has_ended():
             self._hear(session)

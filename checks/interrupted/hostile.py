@@ -27,7 +27,7 @@ ONE_FEED = ("log 1 feeds 1 desks 1\n" + REQUEST + "f1 batch = asked 1\nd1 open 1
             + COMMIT.replace("d2", "d1") + "confirmed\n")
 MOST_LINES = 2_100_000  # of a log
 MOST_OF_FEED = 1_000_000
-FIRST_LOOK = 1.0  # seconds in which a session that still reads its log writes nothing
+FIRST_LOOK = 0.5  # seconds in which a session that still reads its log writes nothing
 
 
 @dataclass

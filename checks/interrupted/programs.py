@@ -77,20 +77,20 @@ def run(words: list[str], output: str | None = None) -> tuple[int, bytes]:
 
 @dataclass(frozen=True)
 class Moment:
-    """When a session is killed: some seconds after its start (`starting`, `seconds`), so many lines or openings behind the lines that it
-    began with, or some seconds after its feeds were told to end."""
+    """When a session is killed: some seconds after its start (`starting`, `seconds`), or at so many lines, openings of batches, or ends of
+    feeds and desks behind the lines that it began with."""
 
     kind: str
     amount: float
 
-    KINDS = ("starting", "seconds", "lines", "openings", "ending")
+    KINDS = ("starting", "seconds", "lines", "openings", "ends")
 
 
 def draw_moment(draw: random.Random) -> Moment:
     """Returns a drawn moment."""
-    amounts = {"starting": draw.uniform(0.0, 0.02), "seconds": draw.uniform(0.0, 0.6), "lines": draw.randint(1, 120),
-               "openings": draw.randint(1, 6), "ending": draw.uniform(0.0, 0.01)}
-    kind = draw.choice(Moment.KINDS)
+    amounts = {"starting": draw.uniform(0.0, 0.02), "seconds": draw.uniform(0.0, 0.4), "lines": draw.randint(1, 100),
+               "openings": draw.randint(1, 3), "ends": draw.randint(1, 3)}
+    kind, = draw.choices(Moment.KINDS, (4, 4, 4, 6, 1))
     return Moment(kind, amounts[kind])
 
 
@@ -140,7 +140,7 @@ class Session:
     def __init__(self, words: list[str], pipes: list[Path], log: Path, begin: int, moment: Moment | None):
         self.log, self.begin, self.moment = log, begin, moment
         self.pipes = [Pipe(path) for path in pipes]
-        self.place = self.lines = self.openings = 0
+        self.place, self.met = 0, {"lines": 0, "openings": 0, "ends": 0}
         self.was_killed = False
         with open(log, "wb") as sink:
             self.process = subprocess.Popen(words, stdin=subprocess.DEVNULL, stdout=sink, stderr=subprocess.DEVNULL)
@@ -163,10 +163,8 @@ class Session:
             self.pipes[feed].unwritten.append(piece)
 
     def close(self, feed: int) -> None:
-        """Ends a feed, once all is written. A session whose moment is then is killed soon."""
+        """Ends a feed, once all is written."""
         self.pipes[feed].closing = True
-        if self.moment and self.moment.kind == "ending" and all(pipe.closing or pipe.closed for pipe in self.pipes):
-            self._kill_after(self.moment.amount)
 
     def turn(self) -> list[bytes]:
         """Writes what the pipes take, and returns the whole lines that have come, with their LF."""
@@ -182,9 +180,10 @@ class Session:
 
     def _count(self, line: bytes) -> None:
         """Counts a line behind those that it began with; kills it where its moment has come."""
-        self.lines += 1
-        self.openings += b" open " in line
-        if self.moment and self.moment.amount <= {"lines": self.lines, "openings": self.openings}.get(self.moment.kind, -1):
+        self.met["lines"] += 1
+        self.met["openings"] += b" open " in line
+        self.met["ends"] += line.endswith(b" end\n")
+        if self.moment and self.moment.kind in self.met and self.met[self.moment.kind] >= self.moment.amount:
             self.kill()
 
     def _kill_after(self, seconds: float) -> None:

@@ -108,9 +108,9 @@ class Runs(WithFolder):
         self.assertEqual((session.bury(), session.was_killed), (0, False))
 
     def test_it_is_killed_when_its_moment_comes(self) -> None:
-        said = ["a open 1", "b open 2", "c", "d open 3"]
+        said = ["a open 1", "b open 2", "c", "d open 3", "f1 end", "f2 end"]
         begin = len("a open 1\n")
-        for moment, least in ((Moment("lines", 2), 3), (Moment("openings", 2), 4), (Moment("starting", 0.0), 0), (Moment("seconds", 0.2), 0)):
+        for moment, least in ((Moment("lines", 2), 3), (Moment("openings", 2), 4), (Moment("ends", 1), 5), (Moment("starting", 0.0), 0), (Moment("seconds", 0.2), 0)):
             with self.subTest(moment=moment):
                 self.setUp()
                 session = self.session(moment, begin)
@@ -118,15 +118,6 @@ class Runs(WithFolder):
                 lines = self.turns(session, lambda _: session.has_ended())
                 self.assertEqual((session.bury(), session.was_killed), (KILLED, True))
                 self.assertGreaterEqual(len(lines), least)
-
-    def test_it_is_killed_as_its_feeds_end(self) -> None:
-        session = self.session(Moment("ending", 0.0), script="exec sleep 60")
-        session.close(0)
-        session.turn()
-        self.assertFalse(session.was_killed)
-        session.close(1)
-        self.turns(session, lambda _: session.has_ended())
-        self.assertEqual(session.bury(), KILLED)
 
     def test_a_feed_that_has_ended_is_held(self) -> None:
         session = self.session(None, script="cat $1 > /dev/null; exec 3< $0; echo so")

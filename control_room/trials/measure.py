@@ -10,6 +10,7 @@ without riders, callers report one behind the other as fast as they are answered
 import argparse
 import asyncio
 import os
+import signal
 import statistics
 import sys
 import time
@@ -149,19 +150,32 @@ async def measure(words: argparse.Namespace, room: Room, zone: Zone, server: str
 
 
 async def come_back(room: Room, zone: Zone, server: str) -> None:
-    """Ends the bridge, and then the web server, by force, and measures how long it takes until a command is answered again."""
+    """Ends the bridge, the web server, and where ride_resume is there the session, by force, and measures how long it takes until a command
+    is answered again."""
     import aiohttp
 
     async with aiohttp.ClientSession() as http:
         client = Load(zone, server, secret_of(room.folder), http).client("driver", "1")
-        for name in (f"bridge.{zone.name}", "web.1"):
-            room.end_by_force(name)
+        for name in (f"bridge.{zone.name}", "web.1", *(["session"] if zone.resume else [])):
             began = time.monotonic()
-            room.start(room.parts[name])
+            if name == "session":
+                os.kill(int(Path(zone.path("session.pid")).read_text()), signal.SIGKILL)
+            else:
+                room.end_by_force(name)
+                room.start(room.parts[name])
+            looking = asyncio.create_task(look_after(room))
             told = await client.surely("POST", "vehicles/1/reports", {"report": "on"}, name)
-            lines = supervisor.health(server)[zone.name]["lines"]
             took = time.monotonic() - began
+            looking.cancel()
+            lines = supervisor.health(server)[zone.name]["lines"]
             print(f"{name} ended by force over {lines} lines: the next command is answered ({told.status}) after {took:.1f} s")
+
+
+async def look_after(room: Room) -> None:
+    """Starts again what has ended, until cancelled."""
+    while True:
+        room.look_after()
+        await asyncio.sleep(0.1)
 
 
 def main() -> int:
