@@ -59,17 +59,18 @@ class Trouble:
                 due = time.monotonic() + self.draw.uniform(2, 7)
                 name = self.draw.choice(self.room.named("bridge") * 2 + self.room.named("web") * 2 + self.room.named("keeper")
                                         + [node.name for node in self.room.broker.nodes] + self.others)
-                self.ended.append(name)
-                if name == "session":
-                    self.end_session()
-                else:
+                if name != "session":
                     self.room.end_by_force(name)
+                elif not self.end_session():
+                    continue
+                self.ended.append(name)
 
-    def end_session(self) -> None:
-        """Ends the session by SIGKILL, where one runs."""
+    def end_session(self) -> bool:
+        """Ends the session by SIGKILL. Returns whether one ran."""
         process = session_of(self.room, self.zone)
         if process:
             os.kill(process, signal.SIGKILL)
+        return process != 0
 
     async def mend(self) -> None:
         """Looks after the room until all runs."""
