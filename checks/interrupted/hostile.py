@@ -303,7 +303,8 @@ def words_in_any_order_and_all_of_them(place: Place) -> None:
 
 def files_that_are_refused_or_cannot_be_read(place: Place) -> None:
     programs, pipes = place.programs, place.pipes()
-    for other, status in ((programs.over(map_file=place.write("no.gr", "p sp 0 0\n")), 3), (programs.over(fleet=place.write("no.txt", "vehicle\n")), 4)):
+    no_map, no_fleet = place.write("no.gr", "p sp 0 0\n"), place.write("no.txt", "vehicle\n")
+    for other, status in ((programs.over(map_file=no_map), 3), (programs.over(fleet=no_fleet), 4)):
         answer = place.audit(SEATED, other)
         expect("a refusal", (answer[0], place.resume(SEATED, pipes, other)), (status, answer))
     missing, good, log = place.folder / "missing", place.feeds(), place.write("log", SEATED)

@@ -110,7 +110,8 @@ class Runs(WithFolder):
     def test_it_is_killed_when_its_moment_comes(self) -> None:
         said = ["a open 1", "b open 2", "c", "d open 3", "f1 end", "f2 end"]
         begin = len("a open 1\n")
-        for moment, least in ((Moment("lines", 2), 3), (Moment("openings", 2), 4), (Moment("ends", 1), 5), (Moment("starting", 0.0), 0), (Moment("seconds", 0.2), 0)):
+        for moment, least in ((Moment("lines", 2), 3), (Moment("openings", 2), 4), (Moment("ends", 1), 5), (Moment("starting", 0.0), 0),
+                              (Moment("seconds", 0.2), 0)):
             with self.subTest(moment=moment):
                 self.setUp()
                 session = self.session(moment, begin)
@@ -181,7 +182,8 @@ class WithProgram(WithFolder):
 class Words(WithFolder):
     def run_words(self, *words: str) -> "subprocess.CompletedProcess[str]":
         """Returns what comes of the script with these words."""
-        return subprocess.run([sys.executable, "-B", str(CHECKS / "interruptions.py"), *words], capture_output=True, text=True, timeout=60, check=False)
+        return subprocess.run([sys.executable, "-B", str(CHECKS / "interruptions.py"), *words], capture_output=True, text=True, timeout=200,
+                              check=False)
 
     def test_words_that_are_not_in_order(self) -> None:
         good = ["--program", "/bin/true", "--resume", "/bin/true"]
@@ -198,7 +200,8 @@ class Words(WithFolder):
 
     def test_a_program_that_does_something_else_is_told_in_a_line_each(self) -> None:
         for part in ("kills", "cuts", "hostile"):
-            ran = self.run_words("--program", "/bin/true", "--resume", "/bin/true", "--only", part, "--kills", "1", "--keep", str(self.folder / "kept"))
+            ran = self.run_words("--program", "/bin/true", "--resume", "/bin/true", "--only", part, "--kills", "1",
+                                 "--keep", str(self.folder / "kept"))
             self.assertEqual((ran.returncode, ran.stderr), (1, ""), part)
             self.assertIn("WRONG", ran.stdout)
         self.assertTrue((self.folder / "kept" / "cuts" / "map.gr").exists())
