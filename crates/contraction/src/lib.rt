@@ -130,7 +130,8 @@ impl Contraction {
             All (λ level. level ≡ 4294967295) contraction.levels) }
     {
         let arcs = map.arcs().len();
-        let most_links = arcs + arcs / 2 + arcs;
+        // A city of crossing streets comes to 2.6 links an arc.
+        let most_links = (arcs + arcs + arcs).min(MOST_LINKS);
         let graph = graph_of(alloc, map, most_links)?;
         let witness = Witness::new(alloc, map.nodes())?;
         let queue = first_candidates(alloc, map)?;
