@@ -8,7 +8,6 @@ use Rattle.ride_model.specs.State.{State, open_batch_of}
 use Rattle.ride_model.specs.Text.{IsOneOrTwo}
 use Rattle.history_laws.specs.Start.{IsStart}
 use Rattle.trip_log.proofs.TextLemmas.{texts-same}
-use Rattle.board_core.specs.Recorded.{Recorded}
 use Rattle.log_audit.specs.declared.auditor.Auditor.{Auditor}
 use Rattle.log_audit.specs.declared.fault.Fault.{Fault}
 use Rattle.log_audit.specs.declared.restoring.Restored.{Restored}
@@ -22,7 +21,7 @@ use Rattle.log_audit.specs.declared.verdict.Why.TheVariants.{Spelling}
 use Rattle.log_audit.specs.Audit.{IsAnswer, IsLogOf, IsWrongLine}
 use Rattle.log_audit.specs.Audited.{HasReadNoHead, text_so_far}
 use Rattle.log_audit.specs.Reading.{HasReadAll, HasReadWrong}
-use Rattle.log_audit.specs.Restored.{IsHeadOrEnded, IsRestoration, IsSameButRoom, StandsAt}
+use Rattle.log_audit.specs.Restored.{IsBoardOf, IsHeadOrEnded, IsRestoration, IsSameButRoom, StandsAt}
 use Rattle.log_audit.proofs.AuditSteps.{no-head-answer}
 use Rattle.log_audit.proofs.Ends.{all-read, count-text, ended-rest, whole-text, wrong-ended}
 use Rattle.log_audit.proofs.OneAnswer.{split-longer, wrong-later, wrong-same}
@@ -53,33 +52,39 @@ wrong-restored before left start new number fault w =
     ended None h = tt
     ended (Some all) h = inr h
 
--- the board of an audit that has read all of a log
-pub all-restored : (before left : Option (List ℕ)) (start : State) (auditor : Auditor) (rest : List ℕ) (restored : Restored)
-    → HasReadAll before left start auditor rest
-    → restored ≡ record { board = auditor.board; first = auditor.batches.first; second = auditor.batches.second }
-    → IfSome before (λ all. IsRestoration start all (Ok (Standing restored)))
-all-restored before left start auditor rest restored read is =
-    all-read before left (text_so_far board ++ rest) (λ all. StandsAt start all restored) read.end.reads read.end.to_end
-    (subst (StandsAt start (text_so_far board ++ rest)) (sym is) (record {
-      text = text_so_far board;
-      torn = rest;
-      bytes_are = refl;
-      no_lf = read.end.no_lf;
-      within = read.end.within;
-      start_is = read.start_is;
-      log = subst (λ (s : State). IsLogOf s board.feeds board.desks board.history (text_so_far board)) read.start_is read.log;
-      first_is = read.auditing.open_are 1 one;
-      second_is = read.auditing.open_are 2 two;
-    }))
-  where
-    board : Recorded
-    board = auditor.board
+desk-one : IsOneOrTwo 1
+desk-one = (omega arith, omega arith)
 
-    one : IsOneOrTwo 1
-    one = (omega arith, omega arith)
+desk-two : IsOneOrTwo 2
+desk-two = (omega arith, omega arith)
 
-    two : IsOneOrTwo 2
-    two = (omega arith, omega arith)
+-- the board of an audit that has read all of a log, and its batches, whatever the bytes are
+module _ (before left : Option (List ℕ)) (start : State) (auditor : Auditor) (rest : List ℕ) (restored : Restored)
+    (read : HasReadAll before left start auditor rest)
+    (is : restored ≡ record { board = auditor.board; first = auditor.batches.first; second = auditor.batches.second }) where
+  pub board-restored : IsBoardOf start restored
+  board-restored = subst (IsBoardOf start) (sym is) (record {
+    start_is = read.start_is;
+    few = read.few;
+    first_is = read.auditing.open_are 1 desk-one;
+    second_is = read.auditing.open_are 2 desk-two;
+  })
+
+  -- and what the bytes are
+  pub all-restored : IfSome before (λ all. IsRestoration start all (Ok (Standing restored)))
+  all-restored =
+      all-read before left (text_so_far auditor.board ++ rest) (λ all. StandsAt start all restored) read.end.reads read.end.to_end
+      (subst (StandsAt start (text_so_far auditor.board ++ rest)) (sym is) (record {
+        text = text_so_far auditor.board;
+        torn = rest;
+        bytes_are = refl;
+        no_lf = read.end.no_lf;
+        within = read.end.within;
+        start_is = read.start_is;
+        log = subst (λ (s : State). IsLogOf s auditor.board.feeds auditor.board.desks auditor.board.history (text_so_far auditor.board)) read.start_is read.log;
+        first_is = read.auditing.open_are 1 desk-one;
+        second_is = read.auditing.open_are 2 desk-two;
+      }))
 
 -- what stands behind the last LF is what no LF ends
 torn-is : (start : State) (bytes : List ℕ) (restored : Restored) (s : StandsAt start bytes restored)

@@ -1,5 +1,5 @@
 -- What a log gives back that may end anywhere.
-use Rattle.std.specs.Prelude.{◌≡◌, ℕ, ◌≤◌, ◌⊎◌, List, ◌++◌, length, Result, Ok, Err}
+use Rattle.std.specs.Prelude.{◌≡◌, ℕ, ◌<◌, ◌≤◌, ◌⊎◌, List, ◌++◌, length, Result, Ok, Err}
 use Rattle.line_reader.specs.Reader.{HasNoLf}
 use Rattle.line_text.specs.Lines.{ended_lines}
 use Rattle.ride_model.specs.State.{State, open_batch_of}
@@ -9,7 +9,7 @@ use Rattle.log_audit.specs.declared.restoring.Restoration.{Restoration}
 use Rattle.log_audit.specs.declared.restoring.Restoration.TheVariants.{Standing, No}
 use Rattle.log_audit.specs.declared.verdict.AuditFault.{AuditFault}
 use Rattle.log_audit.specs.Audit.{IsAnswer, IsLogOf, IsWrongLine}
-use Rattle.log_audit.specs.Limits.{Counts, IsTooLong}
+use Rattle.log_audit.specs.Limits.{Counts, IsTooLong, most_lines}
 
 -- the bytes are the text of the board's history, and then what no LF ends; the batches are those that are open then
 pub record StandsAt (start : State) (bytes : List ℕ) (restored : Restored) : Type 0 where
@@ -20,6 +20,13 @@ pub record StandsAt (start : State) (bytes : List ℕ) (restored : Restored) : T
   pub within : IsTooLong bytes → ⊥
   pub start_is : restored.board.start ≡ start
   pub log : IsLogOf start restored.board.feeds restored.board.desks restored.board.history text
+  pub first_is : restored.first ≡ open_batch_of (state_of restored.board) 1
+  pub second_is : restored.second ≡ open_batch_of (state_of restored.board) 2
+
+-- a board stands at this start, with fewer entries than a log may have lines, and with the batches that are open on it
+pub record IsBoardOf (start : State) (restored : Restored) : Type 0 where
+  pub start_is : restored.board.start ≡ start
+  pub few : length restored.board.history < most_lines
   pub first_is : restored.first ≡ open_batch_of (state_of restored.board) 1
   pub second_is : restored.second ≡ open_batch_of (state_of restored.board) 2
 

@@ -17,6 +17,7 @@ ghost use Rattle.log_audit.specs.Reading.{HasReadLog};
 use crate::reading::{Ended, Reading, read_log};
 use crate::{AuditFault, Verdict, Why};
 use adaptive_roads::Roads;
+use pricing_workers::Search;
 use ride_model::{Fleet, NoMemory, Settings};
 use ride_ports::Source;
 use std::alloc::Global;
@@ -51,7 +52,7 @@ pub fn audit<R: Threads + Sync, S: Source>(
     ensures taken { TakesSome (S.left log.old) (S.left log.new) }
     ensures faults { KeepsCount (is_read_fault result) (S.faults log.old) (S.faults log.new) }
 {
-    let reading = read_log(rt, alloc, roads, settings, fleet, log)?;
+    let reading = read_log(rt, alloc, roads, settings, fleet, log, Search::ByWholePlans)?;
     Ok(verdict_of(reading))
 }
 

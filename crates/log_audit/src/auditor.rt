@@ -13,7 +13,7 @@ use crate::fault::Fault;
 use crate::open_batches::OpenBatches;
 use adaptive_roads::Roads;
 use board_core::Board;
-use pricing_workers::{Pricer, workers_at_hand};
+use pricing_workers::{Pricer, Search, workers_at_hand};
 use ride_model::{Actor, Entry, Event, Fleet, NoMemory, Settings};
 use std::alloc::Global;
 use std::thread::Threads;
@@ -24,6 +24,8 @@ pub(crate) struct Auditor<'r> {
     pub(crate) board: Board<'r>,
     pub(crate) batches: OpenBatches,
     pub(crate) pricing: Pricer<'r>,
+    /// How the places of pairs are searched.
+    pub(crate) search: Search,
     /// The version of the log.
     pub(crate) log: u8,
 }
@@ -34,6 +36,7 @@ impl Drop for Auditor<'_> {
             board,
             batches,
             pricing,
+            search: _,
             log: _,
         } = self;
         drop(board);
@@ -43,7 +46,7 @@ impl Drop for Auditor<'_> {
 }
 
 impl<'r> Auditor<'r> {
-    /// An audit of which no entry is judged.
+    /// An audit of which no entry is judged, and which searches places so.
     pub(crate) fn new(
         rt: &impl Threads,
         alloc: Global,
@@ -51,6 +54,7 @@ impl<'r> Auditor<'r> {
         settings: Settings,
         fleet: Fleet,
         head: Head,
+        search: Search,
     ) -> Result<Auditor<'r>, NoMemory>
         requires start { MayStart roads.now settings fleet }
         requires feeds { IsOneOrTwo head.feeds }
@@ -69,6 +73,7 @@ impl<'r> Auditor<'r> {
             board,
             batches: OpenBatches::none(),
             pricing,
+            search,
             log,
         })
     }
@@ -82,6 +87,7 @@ impl<'r> Auditor<'r> {
             board,
             batches,
             pricing,
+            search: _,
             log: _,
         } = self;
         drop(pricing);

@@ -105,7 +105,7 @@ impl<'r> Auditor<'r> {
             × Certifies self.old.pricing batch.now commit.seats commit.prices commit.pays)) }
         ensures kept { self.new ≡ self.old }
     {
-        let table = table(rt, &mut self.pricing, batch)?;
+        let table = table(rt, self.search, &mut self.pricing, batch)?;
         let Some(table) = with_own_offers(table, batch, commit.seats.items(), placed) else {
             return Ok(None);
         };
@@ -136,16 +136,17 @@ impl<'r> Auditor<'r> {
     {
         // This call tells that the history is legal.
         let _history = self.board.entries();
-        let table = table(rt, &mut self.pricing, &batch)?;
+        let table = table(rt, self.search, &mut self.pricing, &batch)?;
         let answer = solve(self.pricing.alloc(), &batch, &table)?;
         self.board.commit(Solved::tie(batch, table, answer));
         Ok(())
     }
 }
 
-// The table of a batch, found by whole plans.
+// The table of a batch.
 fn table<R: Threads + Sync>(
     rt: &R,
+    search: Search,
     pricing: &mut Pricer<'_>,
     batch: &Batch,
 ) -> Result<PriceTable, NoMemory>
@@ -158,7 +159,7 @@ fn table<R: Threads + Sync>(
 {
     // This call tells that the map is within its limits.
     let _nodes = pricing.roads().nodes();
-    price_batch_by(rt, Search::ByWholePlans, batch, pricing, &OpenGate)
+    price_batch_by(rt, search, batch, pricing, &OpenGate)
 }
 
 // A batch's table with the seats' own offers in their cells, where each costs no more than its pair's price.

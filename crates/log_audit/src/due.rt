@@ -21,6 +21,7 @@ use crate::lines::MOST_LINE;
 use crate::reading::{Ended, Reading, read_log};
 use crate::{AuditFault, Why};
 use adaptive_roads::Roads;
+use pricing_workers::Search;
 use ride_model::{Fleet, NoMemory, Settings};
 use ride_ports::{MemSink, Source};
 use std::alloc::{AllocError, Global};
@@ -46,7 +47,7 @@ pub fn due_line<R: Threads + Sync, S: Source>(
     ensures taken { TakesSome (S.left log.old) (S.left log.new) }
     ensures faults { KeepsCount (is_read_fault result) (S.faults log.old) (S.faults log.new) }
 {
-    let reading = read_log(rt, alloc, roads, settings, fleet, log)?;
+    let reading = read_log(rt, alloc, roads, settings, fleet, log, Search::ByWholePlans)?;
     let line = line_due(rt, alloc, reading)?;
     Ok(line)
 }

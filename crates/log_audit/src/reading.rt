@@ -19,6 +19,7 @@ use crate::lines::{log_reader, next_line};
 use crate::{AuditFault, Why};
 use adaptive_roads::Roads;
 use line_reader::{LineReader, NextLine};
+use pricing_workers::Search;
 use ride_model::{Fleet, NoMemory, Settings};
 use ride_ports::Source;
 use std::alloc::Global;
@@ -45,7 +46,7 @@ pub(crate) enum Reading<'r> {
     Lines(Auditor<'r>, Ended),
 }
 
-/// Reads a log up to its end or its first wrong line.
+/// Reads a log up to its end or its first wrong line, and searches the places of each commit so.
 pub(crate) fn read_log<'r, R: Threads + Sync, S: Source>(
     rt: &R,
     alloc: Global,
@@ -53,6 +54,7 @@ pub(crate) fn read_log<'r, R: Threads + Sync, S: Source>(
     settings: Settings,
     fleet: Fleet,
     log: &mut S,
+    search: Search,
 ) -> Result<Reading<'r>, AuditFault>
     requires start { MayStart roads.now settings fleet }
     ensures start { IsStart (start_state roads.now settings fleet) }
@@ -69,7 +71,7 @@ pub(crate) fn read_log<'r, R: Threads + Sync, S: Source>(
     let Some(head) = first_line(&mut lines, log, settings.log)? else {
         return Ok(Reading::NoHead);
     };
-    let mut auditor = Auditor::new(rt, alloc, roads, settings, fleet, head)?;
+    let mut auditor = Auditor::new(rt, alloc, roads, settings, fleet, head, search)?;
     let ended = further_lines(&mut auditor, &mut lines, rt, alloc, log)?;
     Ok(Reading::Lines(auditor, ended))
 }

@@ -13,7 +13,7 @@ ghost use Rattle.log_audit.specs.Audit.{is_read_fault};
 ghost use Rattle.log_audit.specs.Audited.{FailsAfter};
 ghost use Rattle.log_audit.specs.LogLines.{TakesSome};
 ghost use Rattle.log_audit.specs.Reading.{HasReadLog};
-ghost use Rattle.log_audit.specs.Restored.{IsRestoration, IsSameButRoom};
+ghost use Rattle.log_audit.specs.Restored.{IsBoardOf, IsRestoration, IsSameButRoom};
 
 use crate::auditor::Auditor;
 use crate::open_batches::OpenBatches;
@@ -22,6 +22,7 @@ use crate::{AuditFault, Why};
 use adaptive_roads::Roads;
 use batch_commit::Batch;
 use board_core::Board;
+use pricing_workers::Search;
 use ride_model::{Fleet, Settings};
 use ride_ports::Source;
 use std::alloc::Global;
@@ -34,6 +35,22 @@ pub struct Restored<'r> {
     pub first: Option<Batch>,
     /// The open batch of desk 2.
     pub second: Option<Batch>,
+}
+
+impl<'r> Restored<'r> {
+    /// The board, the open batch of desk 1, and that of desk 2.
+    pub fn into_parts(self) -> (Board<'r>, Option<Batch>, Option<Batch>)
+        ensures board { result.0 ≡ self.entry.board }
+        ensures first { result.1 ≡ self.entry.first }
+        ensures second { result.2 ≡ self.entry.second }
+    {
+        let Restored {
+            board,
+            first,
+            second,
+        } = self;
+        (board, first, second)
+    }
 }
 
 impl Drop for Restored<'_> {
@@ -59,6 +76,9 @@ pub enum Restoration<'r> {
 
 /// The board of a log that may end anywhere, over a map, settings and a fleet: a last line without its LF is dropped, whatever it is.
 /// Or its first wrong line and why it is wrong, which comes before a later fault of the source or the limits of bytes and lines.
+///
+/// Pairs are priced by the tables of plans, as sessions price them, and not by whole plans as in an audit: a session that goes on trusts
+/// those tables anyway, and it waits for this.
 pub fn restore<'r, R: Threads + Sync, S: Source>(
     rt: &R,
     alloc: Global,
@@ -84,9 +104,13 @@ pub fn restore<'r, R: Threads + Sync, S: Source>(
     ensures before_fault { result ≡ Err ReadFault
         → FailsAfter (start_state roads.now settings fleet) (S.left log.old) (S.left log.new) }
     ensures taken { TakesSome (S.left log.old) (S.left log.new) }
+
+    // Whatever the bytes are, a board stands at the start, and its batches are those that are open on it.
+    ensures stands { (restored : Restored) → result ≡ Ok (Standing restored)
+        → IsBoardOf (start_state roads.now settings fleet) restored }
     ensures faults { KeepsCount (is_read_fault result) (S.faults log.old) (S.faults log.new) }
 {
-    let reading = read_log(rt, alloc, roads, settings, fleet, log)?;
+    let reading = read_log(rt, alloc, roads, settings, fleet, log, Search::BySlack)?;
     Ok(restoration_of(reading))
 }
 
@@ -98,6 +122,9 @@ fn restoration_of(reading: Reading<'_>) -> Restoration<'_>
     ensures to_end { (before left : Option (List ℕ)) (start : State)
         → HasReadLog before left start reading.entry → (restored : Restored)
         → result ≡ Standing restored → IfSome left (λ bytes. bytes ≡ []) }
+    ensures stands { (before left : Option (List ℕ)) (start : State)
+        → HasReadLog before left start reading.entry → (restored : Restored)
+        → result ≡ Standing restored → IsBoardOf start restored }
 {
     match reading {
         Reading::NoHead => Restoration::No {

@@ -1,6 +1,6 @@
-use Rattle.std.proofs.Common.{[], subst}
+use Rattle.std.proofs.Common.{◌≡◌, [], subst, sym, ◌∙◌}
 use Rattle.log_audit.specs.Reading.{HasEnded, HasReadLog}
-use Rattle.log_audit.proofs.Restorations.{all-restored, no-head-restored, wrong-restored}
+use Rattle.log_audit.proofs.Restorations.{all-restored, board-restored, no-head-restored, wrong-restored}
 use Rattle.log_audit.proofs.restoring.restoration_of.Goals as goal
 
 pub returns-in-NoHead-clause-answer : goal.returns-in-NoHead-clause-answer
@@ -13,11 +13,25 @@ returns-in-Whole-clause-answer c = λ before left start begins read.
     (subst (HasEnded before left start c.in-Lines.auditor) c.in-Whole.is (subst (HasReadLog before left start) c.in-Lines.is read))
     c.restored_of.ensures
 
+pub returns-in-Whole-clause-stands : goal.returns-in-Whole-clause-stands
+returns-in-Whole-clause-stands c = λ before left start read restored is.
+    let same : c.restored_of.result ≡ restored = cc is in
+    board-restored before left start c.in-Lines.auditor [] restored
+    (subst (HasEnded before left start c.in-Lines.auditor) c.in-Whole.is (subst (HasReadLog before left start) c.in-Lines.is read))
+    (sym same ∙ c.restored_of.ensures)
+
 pub returns-in-Torn-clause-answer : goal.returns-in-Torn-clause-answer
 returns-in-Torn-clause-answer c = λ before left start begins read.
     let (rest, all, _, _) = subst (HasEnded before left start c.in-Lines.auditor) c.in-Torn.is
     (subst (HasReadLog before left start) c.in-Lines.is read) in
     all-restored before left start c.in-Lines.auditor rest c.restored_of-in-Torn.result all c.restored_of-in-Torn.ensures
+
+pub returns-in-Torn-clause-stands : goal.returns-in-Torn-clause-stands
+returns-in-Torn-clause-stands c = λ before left start read restored is.
+    let (rest, all, _, _) = subst (HasEnded before left start c.in-Lines.auditor) c.in-Torn.is
+    (subst (HasReadLog before left start) c.in-Lines.is read) in
+    let same : c.restored_of-in-Torn.result ≡ restored = cc is in
+    board-restored before left start c.in-Lines.auditor rest restored all (sym same ∙ c.restored_of-in-Torn.ensures)
 
 pub returns-clause-answer : goal.returns-clause-answer
 returns-clause-answer c = λ before left start begins read.

@@ -55,3 +55,8 @@ pub returns-clause-to_end : goal.returns-clause-to_end
 returns-clause-to_end g c = λ restored is.
     c.restoration_of.ensures.to_end (g.S.Source.left c.args.log.now) _ (start_state c.args.roads.now c.args.settings c.args.fleet)
     c.in_ok-reading.ensures.read restored (cc is)
+
+pub returns-clause-stands : goal.returns-clause-stands
+returns-clause-stands g c = λ restored is.
+    c.restoration_of.ensures.stands (g.S.Source.left c.args.log.now) _ (start_state c.args.roads.now c.args.settings c.args.fleet)
+    c.in_ok-reading.ensures.read restored (cc is)
