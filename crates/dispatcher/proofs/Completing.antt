@@ -56,11 +56,15 @@ ends-at : (ask : Asked) (status code : ℕ) → status ≡ code → MayEnd ask c
 ends-at ask status code is ends = subst (MayEnd ask) (sym is) ends
 
 -- texts stand behind a map: the first of the files is a map, or none is a text
-IsHeaded : List File → Type 0
+pub IsHeaded : List File → Type 0
 IsHeaded [] = ⊤
 IsHeaded (map_file name ∷ files) = ⊤
 IsHeaded (feed_file name ∷ []) = ⊤
 IsHeaded _ = ⊥
+
+pub map-first : (name : List ℕ) (files : List File) → IsHeaded (map_file name ∷ files)
+unfolding IsHeaded
+map-first name files = tt
 
 headed : (ask : Asked) → IsHeaded (files_of ask)
 unfolding IsHeaded
@@ -141,24 +145,29 @@ module _ (told : Option Contents) (m n : Meaning) where
   whole-at [] later file whole = All-head (IsWhole told m) file later whole
   whole-at (f ∷ earlier) later file whole = whole-at earlier later file (All-tail (IsWhole told m) f (earlier ++ file ∷ later) whole)
 
--- a run that stopped, though its files were whole
-stopped-ends : (ask : Asked) (old new : Shelved) (out : Sunk) (status : ℕ) → HasStopped (files_of ask) old new out status → AreWhole old.told ask
-    → (Rose old.faults new.faults → ⊥) → MayEnd ask status
-stopped-ends ask old new out status stopped (m, whole) no_fault =
+-- a run that stopped, though its files were whole, wanted memory
+pub whole-stops : (files : List File) (m : Meaning) (old new : Shelved) (out : Sunk) (status : ℕ) → IsHeaded files → HasStopped files old new out status
+    → All (IsWhole old.told m) files → (Rose old.faults new.faults → ⊥) → status ≡ 1
+whole-stops files m old new out status first stopped whole no_fault =
     let at = stopped.reading.stands in
     let all : All (IsWhole old.told m) (at.earlier ++ at.file ∷ at.later) = subst (λ (l : List File). All (IsWhole old.told m) l) at.files_are whole in
-    let head : IsHeaded (at.earlier ++ at.file ∷ at.later) = subst IsHeaded at.files_are (headed ask) in
+    let head : IsHeaded (at.earlier ++ at.file ∷ at.later) = subst IsHeaded at.files_are first in
     elim (no-stop old.told m at.meaning at.file stopped.stop (whole-at old.told m at.meaning at.earlier at.later at.file all)
     (map-before old.told m at.meaning at.earlier at.later at.file head all at.means) stopped.reading.why) [
       | inl memory ↦ elim stopped.status_is [
-        | inl is ↦ ends-at ask status 1 (is ∙ subst (λ (s : Stop). status_of s ≡ 1) (sym memory) refl) (one-ends ask)
-        | inr one ↦ ends-at ask status 1 one (one-ends ask)
+        | inl is ↦ is ∙ subst (λ (s : Stop). status_of s ≡ 1) (sym memory) refl
+        | inr one ↦ one
       ]
       | inr fault ↦ absurd (no_fault (stopped.reading.rose fault))
     ]
 
+stopped-ends : (ask : Asked) (old new : Shelved) (out : Sunk) (status : ℕ) → HasStopped (files_of ask) old new out status → AreWhole old.told ask
+    → (Rose old.faults new.faults → ⊥) → MayEnd ask status
+stopped-ends ask old new out status stopped (m, whole) no_fault =
+    ends-at ask status 1 (whole-stops (files_of ask) m old new out status (headed ask) stopped whole no_fault) (one-ends ask)
+
 -- a feed within its limits is not too long
-feed-not-long : (told : Option Contents) (m : Meaning) (name : List ℕ) (source : GivenBack) (feed : FeedRun) (taken : List ℕ)
+pub feed-not-long : (told : Option Contents) (m : Meaning) (name : List ℕ) (source : GivenBack) (feed : FeedRun) (taken : List ℕ)
     → IsWhole told m (feed_file name) → IsBackOf (told_bytes told name) source feed → Reads feed.bytes feed.left taken → IsTooLong feed_limits taken → ⊥
 feed-not-long told m name source feed taken whole back reads long =
     let bytes : feed.bytes ≡ Some whole.bytes = subst (λ (o : Option (List ℕ)). AreBytesOf o feed.bytes) whole.bytes_are back.bytes_are in

@@ -10,7 +10,7 @@ use Rattle.dispatcher.specs.Works.{Drills}
 use Rattle.dispatcher.proofs.Reading.{none-read}
 use Rattle.dispatcher.proofs.Running.{run-of}
 use Rattle.dispatcher.proofs.Statuses.{sink-status, source-status, whole-status}
-use Rattle.dispatcher.proofs.Texts.{nothing}
+use Rattle.dispatcher.proofs.TextRuns.{nothing}
 
 pub drilled-run : (plan : CityPlan) (shelf : Shelved) (out : Sunk) (status : ℕ) → IsFresh shelf → (drills : Drills plan out status)
     → KeepsCount drills.ran.sink_failed out.faults_before out.faults_after

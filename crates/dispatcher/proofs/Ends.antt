@@ -30,11 +30,11 @@ whole-of : (ending : Ending) → (is_whole ending || false) ≡ true → ending 
 whole-of Whole is = refl
 whole-of Cut is = absurd (cc is)
 
--- a feed that ended whole after a history has a whole end in its part
-pub ending-whole : (feed : ℕ) (start : State) (entries answers : List Entry) (ending : Ending) → IsStart start
-    → ended_whole (replay start entries) (Feed feed) ≡ true
+-- a feed that had not ended whole at a state, and has after entries, has a whole end in its part of them
+pub ending-whole : (feed : ℕ) (s : State) (entries answers : List Entry) (ending : Ending) → ended_whole s (Feed feed) ≡ false
+    → ended_whole (replay s entries) (Feed feed) ≡ true
     → entries_of (Feed feed) entries ≡ answers ++ end_entry (Feed feed) ending ∷ [] → AreFed answers → ending ≡ Whole
-ending-whole feed start entries answers ending begins whole part fed =
+ending-whole feed s entries answers ending nobody whole part fed =
     whole-of ending (
     sym (ap (λ b. b || (is_whole ending || false)) (list_any_none (λ (entry : Entry). is_whole_end entry.event) answers
     (All-weaker (λ (entry : Entry). IsTrue (is_fed entry.event)) (λ (entry : Entry). is_whole_end entry.event ≡ false)
@@ -42,9 +42,10 @@ ending-whole feed start entries answers ending begins whole part fed =
     ∙ sym (list_any-append (λ (entry : Entry). is_whole_end entry.event) answers (end_entry (Feed feed) ending ∷ []))
     ∙ ap has_whole_end (sym part)
     ∙ sym (ap (λ b. b || has_whole_end (entries_of (Feed feed) entries)) nobody)
-    ∙ sym (whole-after (Feed feed) start entries)
+    ∙ sym (whole-after (Feed feed) s entries)
     ∙ whole
     )
-  where
-    nobody : ended_whole start (Feed feed) ≡ false
-    nobody = ap (λ (t : State). ended_whole t (Feed feed)) begins.nothing_yet
+
+-- nobody has ended whole at a start
+pub nobody-whole : (feed : ℕ) (start : State) → IsStart start → ended_whole start (Feed feed) ≡ false
+nobody-whole feed start begins = ap (λ (t : State). ended_whole t (Feed feed)) begins.nothing_yet

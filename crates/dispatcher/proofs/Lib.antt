@@ -3,7 +3,7 @@ pub mod Saying
 pub mod StopFacts
 pub mod Bringing
 pub mod Reading
-pub mod Texts
+pub mod TextRuns
 pub mod Ends
 pub mod Working
 pub mod Completing

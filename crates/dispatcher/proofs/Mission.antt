@@ -26,20 +26,20 @@ use Rattle.dispatcher.specs.declared.stop.Stop.TheVariants.{NoMemory, ShelfFault
 use Rattle.dispatcher.proofs.Statuses.{whole-status}
 
 module _ (feeds desks : ℕ) (start : State) (entries : List Entry) (legal : IsLegal feeds desks start entries) where
-  seats-least : SeatsAtLeastCost start entries
+  pub seats-least : SeatsAtLeastCost start entries
   unfolding IsLegal
   seats-least c =
       let entry : Entry = record { actor = Desk c.desk; event = Committed c.number c.cost c.seats c.prices c.pays c.outcomes } in
       (IsLegal-parts feeds desks start c.before (entry ∷ c.after) (subst (λ (l : List Entry). IsLegal feeds desks start l) c.stands legal)).1.0
 
-  only-standing : IsStart start → CommitsOnlyStanding start entries
+  pub only-standing : IsStart start → CommitsOnlyStanding start entries
   only-standing begins c batch id opened moved =
       let entry : Entry = record { actor = Desk c.desk; event = Committed c.number c.cost c.seats c.prices c.pays c.outcomes } in
       let before = (IsLegal-parts feeds desks start c.before (entry ∷ c.after) (subst (λ (l : List Entry). IsLegal feeds desks start l) c.stands legal)).0 in
       unmoved-by_commit feeds desks start c.before c.desk c.number c.cost c.seats c.prices c.pays c.outcomes batch id begins before opened moved
 
 -- all commands of a file's bytes were answered, where its feed was
-answers-all : (log : ℕ) (file : Option (List ℕ)) (source : GivenBack) (feed : FeedRun) (taken : List ℕ) (commands : List Command) → IsBackOf file source feed
+pub answers-all : (log : ℕ) (file : Option (List ℕ)) (source : GivenBack) (feed : FeedRun) (taken : List ℕ) (commands : List Command) → IsBackOf file source feed
     → Reads feed.bytes feed.left taken → IsWhole log feed.left commands taken → IfSome file (λ bytes. commands ≡ commands_of log bytes)
 answers-all log None source feed taken commands back reads whole = tt
 answers-all log (Some bytes) source feed taken commands back reads whole =
@@ -47,7 +47,7 @@ answers-all log (Some bytes) source feed taken commands back reads whole =
     subst (λ (b : List ℕ). commands ≡ commands_of log b) all whole.commands_are
 
 -- a run that stopped is not whole
-stop-not-whole : (stop : Stop) → 0 ≡ status_of stop → ⊥
+pub stop-not-whole : (stop : Stop) → 0 ≡ status_of stop → ⊥
 stop-not-whole NoMemory is = omega (arith, is)
 stop-not-whole ShelfFault is = omega (arith, is)
 stop-not-whole LimitPassed is = omega (arith, is)

@@ -67,6 +67,17 @@ back-length files m old new read = read.back.all_back ∙ read.brought ∙ sym (
     bytes-length told [] = refl
     bytes-length told (f ∷ fs) = ap (λ n. suc n) (bytes-length told fs)
 
+-- one source more was given back after those of the first files of a run
+pub back-one : (files : List File) (m : Meaning) (old mid : Shelved) → AreRead files m old mid → (file : File) (later : List File) (source : GivenBack)
+    (taken : List ℕ) → IsLeftOf (told_bytes mid.told (name_of file)) source taken
+    → AreGivenBack (bytes_of old.told (files ++ file ∷ later)) (mid.back ++ source ∷ [])
+back-one files m old mid read file later source taken left =
+    subst (λ (l : List (Option (List ℕ))). AreGivenBack l (mid.back ++ source ∷ []))
+    (sym (map-append (λ (f : File). told_bytes old.told (name_of f)) files (file ∷ later)))
+    (back-next (bytes_of old.told files) (told_bytes old.told (name_of file)) (bytes_of old.told later) mid.back source read.back.in_order
+    (back-length files m old mid read)
+    (taken, subst (λ (t : Option Contents). IsLeftOf (told_bytes t (name_of file)) source taken) read.told left))
+
 module _ (files : List File) (m : Meaning) (file : File) {S V E : Type 0} (format : Format S V E) (old mid new : Shelved) where
   asked-next : AreRead files m old mid → new.asked ≡ mid.asked ++ name_of file ∷ [] → new.asked ≡ map name_of (files ++ file ∷ [])
   asked-next read asked = asked ∙ ap (λ l. l ++ name_of file ∷ []) read.asked ∙ sym (map-append name_of files (file ∷ []))

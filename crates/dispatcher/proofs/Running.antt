@@ -50,20 +50,25 @@ stopped-run ask files more old new out status stop are stops status_is said no_m
 })))
 
 -- a name that was not brought after the first files of a run
-pub missed-run : (ask : Asked) (files : List File) (file : File) (later : List File) (m : Meaning) (old mid new : Shelved) (out : Sunk)
-    → files_of ask ≡ files ++ file ∷ later → ((s : GivenBack) → FailsAt old.told m file s) → AreRead files m old mid
-    → new.told ≡ mid.told → new.asked ≡ mid.asked ++ name_of file ∷ [] → new.back ≡ mid.back → new.brought ≡ mid.brought → Rose mid.faults new.faults
-    → IsUntouched out → IsRun ask old new out 5
-missed-run ask files file later m old mid new out are fails read told asked back brought rose untouched =
-    run-of ask old new out 5 (inr (inl (record {
-      stop = ShelfFault;
-      reading = subst (λ (l : List File). StopsReading l ShelfFault old new) (sym are)
-          (one-stops files m file map_format old mid new later ShelfFault read
-          (asks-none map_format (name_of file) mid new told asked back brought rose) tt (λ s failed. fails s));
-      status_is = inl refl;
-      said = λ is. says-nothing out.before out.after out.faults_before out.faults_after untouched;
-      no_memory = λ is. untouched;
-    })))
+module _ (files : List File) (file : File) (later : List File) (m : Meaning) (old mid new : Shelved) (out : Sunk) where
+  pub missed : ((s : GivenBack) → FailsAt old.told m file s) → AreRead files m old mid
+      → new.told ≡ mid.told → new.asked ≡ mid.asked ++ name_of file ∷ [] → new.back ≡ mid.back → new.brought ≡ mid.brought → Rose mid.faults new.faults
+      → IsUntouched out → HasStopped (files ++ file ∷ later) old new out 5
+  missed fails read told asked back brought rose untouched = record {
+    stop = ShelfFault;
+    reading = one-stops files m file map_format old mid new later ShelfFault read
+        (asks-none map_format (name_of file) mid new told asked back brought rose) tt (λ s failed. fails s);
+    status_is = inl refl;
+    said = λ is. says-nothing out.before out.after out.faults_before out.faults_after untouched;
+    no_memory = λ is. untouched;
+  }
+
+  pub missed-run : (ask : Asked) → files_of ask ≡ files ++ file ∷ later → ((s : GivenBack) → FailsAt old.told m file s) → AreRead files m old mid
+      → new.told ≡ mid.told → new.asked ≡ mid.asked ++ name_of file ∷ [] → new.back ≡ mid.back → new.brought ≡ mid.brought → Rose mid.faults new.faults
+      → IsUntouched out → IsRun ask old new out 5
+  missed-run ask are fails read told asked back brought rose untouched =
+      run-of ask old new out 5 (inr (inl (subst (λ (l : List File). HasStopped l old new out 5) (sym are)
+      (missed fails read told asked back brought rose untouched))))
 
 -- a work was done over the last file of a run
 module _ (ask : Asked) (files : List File) (file : File) (work : Work) (m : Meaning) (old mid new : Shelved) (out : Sunk) (status : ℕ)
@@ -112,7 +117,7 @@ module _ (ask : Asked) (files : List File) (file : File) (work : Work) (m : Mean
       → DoesWork work (name_of file) mid new out status → IsRun ask old new out status
   work-run fails means does (inl none) =
       subst (λ (k : ℕ). IsRun ask old new out k) (sym none.status_is)
-      (missed-run ask files file [] m old mid new out are fails read none.told none.asked none.back none.brought none.rose none.untouched)
+      (missed-run files file [] m old mid new out ask are fails read none.told none.asked none.back none.brought none.rose none.untouched)
   work-run fails means does (inr done) = worked-run means does done
 
 -- what a feed or a log means is not asked

@@ -15,7 +15,7 @@ use Rattle.session_run.specs.Serving.{FeedRun, HasNotServed, HasServed, IsServed
 use Rattle.dispatcher.specs.Meanings.{Meaning, start_of}
 use Rattle.dispatcher.specs.Services.{HasAnswered}
 use Rattle.dispatcher.specs.Shelves.{Sunk}
-use Rattle.dispatcher.proofs.Ends.{ending-whole}
+use Rattle.dispatcher.proofs.Ends.{ending-whole, nobody-whole}
 use Rattle.dispatcher.proofs.Statuses.{NoneWanting, none-status, whole-status}
 
 module _ (m : Meaning) (desks : ℕ) (riders drivers : FeedRun) (ran : Ran) (out : Sunk) where
@@ -32,7 +32,7 @@ module _ (m : Meaning) (desks : ℕ) (riders drivers : FeedRun) (ran : Ran) (out
   two : (p : ℕ → Bool) → IsTrue (list_all p (range_with_len 1 2)) → (p 1 ≡ true) × (p 2 ≡ true)
   two p is = two-by (p 1) (p 2) is
 
-  end-whole : (entries : List Entry) → HasServed (start_of m) desks ran entries → NoneWanting ran → EndWhole entries
+  end-whole : (entries : List Entry) → HasServed (start_of m) 2 desks ran entries → NoneWanting ran → EndWhole entries
   end-whole entries has whole =
       let feeds = two (λ feed. ended_whole (replay (start_of m) entries) (Feed feed)) (has.finished whole.memory whole.read).feeds_whole in
       record { of_riders = feeds.0; of_drivers = feeds.1 }
@@ -54,11 +54,11 @@ module _ (m : Meaning) (desks : ℕ) (riders drivers : FeedRun) (ran : Ran) (out
   }
     where
       riders_whole : status_of ran ≡ 0 → of_riders.ending ≡ Whole
-      riders_whole zero = ending-whole 1 (start_of m) entries of_riders.answers of_riders.ending has.begins
+      riders_whole zero = ending-whole 1 (start_of m) entries of_riders.answers of_riders.ending (nobody-whole 1 (start_of m) has.begins)
           (end-whole entries has (whole-status ran zero)).of_riders of_riders.part of_riders.fed
 
       drivers_whole : status_of ran ≡ 0 → of_drivers.ending ≡ Whole
-      drivers_whole zero = ending-whole 2 (start_of m) entries of_drivers.answers of_drivers.ending has.begins
+      drivers_whole zero = ending-whole 2 (start_of m) entries of_drivers.answers of_drivers.ending (nobody-whole 2 (start_of m) has.begins)
           (end-whole entries has (whole-status ran zero)).of_drivers of_drivers.part of_drivers.fed
 
   pub served-of : HasNotServed riders drivers ran out.before out.after ⊎ IsServed (start_of m) desks riders drivers ran out.before out.after

@@ -1,21 +1,56 @@
 -- Runs of a service, whose two feeds are brought one after the other.
 use Rattle.std.proofs.Common.{◌≡◌, inl, inr, ℕ, ◌+◌, List, [], ◌∷◌, ◌++◌, Option, refl, sym, ap, subst, ◌∙◌, arith, length-append}
 use Rattle.std.specs.Prelude.{All, length, map}
-use Rattle.std.proofs.lemmas.List.{append_assoc}
+use Rattle.std.proofs.lemmas.List.{append_assoc, length-map, map-append}
 use Rattle.std.proofs.lemmas.List.Elements.{All-append}
 use Rattle.plain_lemmas.proofs.Each.{all_of_one, all_of_two}
 use Rattle.ride_ports.specs.Contents.{Contents, GivenBack}
 use Rattle.ride_ports.specs.Count.{Rose}
-use Rattle.run_words.specs.Words.{a_service, feed_file, fleet_file, map_file, name_of}
+use Rattle.run_words.specs.Words.{File, a_service, feed_file, fleet_file, map_file, name_of}
 use Rattle.dispatcher.specs.Meanings.{Meaning, Means}
 use Rattle.dispatcher.specs.Pairs.{BringsOne, HandsBoth, ServesFeeds}
 use Rattle.dispatcher.specs.Readings.{AreRead}
-use Rattle.dispatcher.specs.Runs.{IsRun}
+use Rattle.dispatcher.specs.Runs.{HasStopped, IsRun}
 use Rattle.dispatcher.specs.Shelves.{AreGivenBack, IsBackOf, IsLeftOf, IsSpent, Shelved, Sunk, bytes_of, told_bytes}
 use Rattle.dispatcher.specs.declared.stop.Stop.TheVariants.{ShelfFault}
-use Rattle.dispatcher.proofs.Reading.{back-length, back-next}
+use Rattle.dispatcher.proofs.Reading.{back-length, back-next, back-one}
 use Rattle.dispatcher.proofs.Running.{any-text, missed-run, run-of}
 use Rattle.dispatcher.proofs.Saying.{says-nothing}
+
+-- of two feeds after the first files of a run, riders were brought and drivers were not
+pub one-missed : (files : List File) (m : Meaning) (riders drivers : List ℕ) (old mid new : Shelved) (out : Sunk) (status : ℕ) → AreRead files m old mid
+    → BringsOne riders drivers mid new out status → HasStopped (files ++ feed_file riders ∷ feed_file drivers ∷ []) old new out status
+one-missed files m riders drivers old mid new out status read one =
+    let many : length new.back ≡ length mid.back + 1 = ap length one.back ∙ length-append mid.back (one.source ∷ []) in
+    let names : length new.asked ≡ length mid.asked + 2 = ap length one.asked ∙ length-append mid.asked (riders ∷ drivers ∷ []) in
+    let all_files = append_assoc files (feed_file riders ∷ []) (feed_file drivers ∷ []) in
+    record {
+      stop = ShelfFault;
+      reading = record {
+        stands = record {
+          earlier = files ++ feed_file riders ∷ [];
+          file = feed_file drivers;
+          later = [];
+          files_are = sym all_files;
+          asked_are = one.asked ∙ ap (λ l. l ++ riders ∷ drivers ∷ []) read.asked
+              ∙ sym (map-append name_of files (feed_file riders ∷ feed_file drivers ∷ [])) ∙ ap (map name_of) (sym all_files);
+          meaning = m;
+          means = All-append (Means old.told m) files (feed_file riders ∷ []) read.means (all_of_one (Means old.told m) (feed_file riders) (any-text _));
+        };
+        why = tt;
+        back = record {
+          all_back = omega (arith, many, one.brought, read.back.all_back);
+          in_order = subst (λ (l : List GivenBack). AreGivenBack (bytes_of old.told (files ++ feed_file riders ∷ feed_file drivers ∷ [])) l) (sym one.back)
+              (back-one files m old mid read (feed_file riders) (feed_file drivers ∷ []) one.source one.taken one.left);
+        };
+        few = omega (arith, one.brought, read.brought, names, ap length read.asked, length-map files name_of);
+        rose = λ is. subst (λ (k : ℕ). Rose k new.faults) read.faults one.rose;
+        before_fault = λ first source is all last. tt;
+      };
+      status_is = inl one.status_is;
+      said = λ is. says-nothing out.before out.after out.faults_before out.faults_after one.untouched;
+      no_memory = λ is. one.untouched;
+    }
 
 module _ (map_name fleet riders drivers : List ℕ) (workers desks : ℕ) (m : Meaning) (old mid new : Shelved) (out : Sunk) (status : ℕ)
     (read : AreRead (map_file map_name ∷ fleet_file fleet ∷ []) m old mid) where
@@ -30,36 +65,8 @@ module _ (map_name fleet riders drivers : List ℕ) (workers desks : ℕ) (m : M
   -- riders were brought, and drivers were not
   one-run : BringsOne riders drivers mid new out status → IsRun (a_service map_name fleet riders drivers workers desks) old new out status
   one-run one =
-      let asked_is : new.asked ≡ map name_of (map_file map_name ∷ fleet_file fleet ∷ feed_file riders ∷ feed_file drivers ∷ []) =
-      one.asked ∙ ap (λ l. l ++ riders ∷ drivers ∷ []) read.asked in
-      let many : length new.back ≡ length mid.back + 1 = ap length one.back ∙ length-append mid.back (one.source ∷ []) in
-      run-of (a_service map_name fleet riders drivers workers desks) old new out status (inr (inl (record {
-        stop = ShelfFault;
-        reading = record {
-          stands = record {
-            earlier = map_file map_name ∷ fleet_file fleet ∷ feed_file riders ∷ [];
-            file = feed_file drivers;
-            later = [];
-            files_are = refl;
-            asked_are = asked_is;
-            meaning = m;
-            means = All-append (Means old.told m) (map_file map_name ∷ fleet_file fleet ∷ []) (feed_file riders ∷ []) read.means
-                (all_of_one (Means old.told m) (feed_file riders) (any-text _));
-          };
-          why = tt;
-          back = record {
-            all_back = omega (arith, many, one.brought, read.back.all_back);
-            in_order = subst (λ (l : List GivenBack). AreGivenBack (bytes_of old.told (map_file map_name ∷ fleet_file fleet ∷ feed_file riders ∷ feed_file drivers ∷ [])) l)
-                (sym one.back) (in-order-three (told_bytes old.told drivers ∷ []) one.source one.taken one.left);
-          };
-          few = omega (arith, one.brought, read.brought, ap length asked_is);
-          rose = λ is. subst (λ (k : ℕ). Rose k new.faults) read.faults one.rose;
-          before_fault = λ first source is all last. tt;
-        };
-        status_is = inl one.status_is;
-        said = λ is. says-nothing out.before out.after out.faults_before out.faults_after one.untouched;
-        no_memory = λ is. one.untouched;
-      })))
+      run-of (a_service map_name fleet riders drivers workers desks) old new out status (inr (inl
+      (one-missed (map_file map_name ∷ fleet_file fleet ∷ []) m riders drivers old mid new out status read one)))
 
   -- both were brought
   both-run : HandsBoth m desks riders drivers mid new out status → IsRun (a_service map_name fleet riders drivers workers desks) old new out status
@@ -109,7 +116,7 @@ module _ (map_name fleet riders drivers : List ℕ) (workers desks : ℕ) (m : M
   pub serve-run : ServesFeeds m desks riders drivers mid new out status → IsRun (a_service map_name fleet riders drivers workers desks) old new out status
   serve-run (inl none) =
       subst (λ (k : ℕ). IsRun (a_service map_name fleet riders drivers workers desks) old new out k) (sym none.status_is)
-      (missed-run (a_service map_name fleet riders drivers workers desks) (map_file map_name ∷ fleet_file fleet ∷ []) (feed_file riders) (feed_file drivers ∷ []) m
-      old mid new out refl (λ s. tt) read none.told none.asked none.back none.brought none.rose none.untouched)
+      (missed-run (map_file map_name ∷ fleet_file fleet ∷ []) (feed_file riders) (feed_file drivers ∷ []) m old mid new out
+      (a_service map_name fleet riders drivers workers desks) refl (λ s. tt) read none.told none.asked none.back none.brought none.rose none.untouched)
   serve-run (inr (inl one)) = one-run one
   serve-run (inr (inr both)) = both-run both

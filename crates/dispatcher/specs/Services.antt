@@ -19,7 +19,7 @@ pub record HasAnswered (m : Meaning) (desks : ℕ) (riders drivers : FeedRun) (r
   pub drivers_taken : List ℕ
   pub entries : List Entry
   pub written : IsWrittenOut ran out.before out.after (text_of m.settings.log 2 desks entries)
-  pub legal : HasServed (start_of m) desks ran entries
+  pub legal : HasServed (start_of m) 2 desks ran entries
   pub of_riders : IsFeedOf m.settings.log 1 riders ran riders_taken entries
   pub of_drivers : IsFeedOf m.settings.log 2 drivers ran drivers_taken entries
   pub all_of_riders : status_of ran ≡ 0 → of_riders.ending ≡ Whole

@@ -12,8 +12,11 @@ mod stop;
 mod top;
 mod verdicts;
 
-pub use files::TextNames;
+pub use answering::answer;
+pub use files::{TextNames, Texts, bring_texts};
 pub use runs::{ahead, audit, book, drill, league, replay, serve};
 pub use serving::{Crew, Feeds};
 pub use status::Status;
+pub use stop::Stop;
 pub use top::{WORDS_REFUSED, run};
+pub use verdicts::say_found;

@@ -46,14 +46,14 @@ replay-yes start ran feed taken entries totals answer is =
     answered-yes 1 1 start entries totals answer is.begins is.legal is.text (replay-few start ran feed taken entries is)
 
 pub service-within : (start : State) (desks : ℕ) (riders drivers : FeedRun) (ran : Ran) (riders_taken drivers_taken : List ℕ) (entries : List Entry)
-    → HasServed start desks ran entries → IsFeedOf start.settings.log 1 riders ran riders_taken entries
+    → HasServed start 2 desks ran entries → IsFeedOf start.settings.log 1 riders ran riders_taken entries
     → IsFeedOf start.settings.log 2 drivers ran drivers_taken entries → IsTooLong (text_of start.settings.log 2 desks entries) → ⊥
 service-within start desks riders drivers ran riders_taken drivers_taken entries has of_riders of_drivers =
     text-within 2 desks start entries has.begins has.legal has.text
     (service-few start.settings.log riders drivers ran riders_taken drivers_taken entries of_riders of_drivers)
 
 pub service-yes : (start : State) (desks : ℕ) (riders drivers : FeedRun) (ran : Ran) (riders_taken drivers_taken : List ℕ) (entries : List Entry) (totals : Totals) (answer : Result Verdict AuditFault)
-    → HasServed start desks ran entries → IsFeedOf start.settings.log 1 riders ran riders_taken entries
+    → HasServed start 2 desks ran entries → IsFeedOf start.settings.log 1 riders ran riders_taken entries
     → IsFeedOf start.settings.log 2 drivers ran drivers_taken entries → AreTotalsOf 2 desks start entries totals
     → IsAnswer start (text_of start.settings.log 2 desks entries) answer → answer ≡ Ok (Yes totals)
 service-yes start desks riders drivers ran riders_taken drivers_taken entries totals answer has of_riders of_drivers =

@@ -30,14 +30,14 @@ pub fn logs_of_sessions_can_be_audited()
         → answer ≡ Ok (Yes totals) }
     ensures served { (start : State) (desks : ℕ) (riders drivers : FeedRun) (ran : Ran)
         (riders_taken drivers_taken : List ℕ) (entries : List Entry)
-        → HasServed start desks ran entries
+        → HasServed start 2 desks ran entries
         → IsFeedOf start.settings.log 1 riders ran riders_taken entries
         → IsFeedOf start.settings.log 2 drivers ran drivers_taken entries
         → IsTooLong (text_of start.settings.log 2 desks entries) → ⊥ }
     ensures service_audited { (start : State) (desks : ℕ) (riders drivers : FeedRun) (ran : Ran)
         (riders_taken drivers_taken : List ℕ) (entries : List Entry)
         (totals : Totals) (answer : Result Verdict AuditFault)
-        → HasServed start desks ran entries
+        → HasServed start 2 desks ran entries
         → IsFeedOf start.settings.log 1 riders ran riders_taken entries
         → IsFeedOf start.settings.log 2 drivers ran drivers_taken entries
         → AreTotalsOf 2 desks start entries totals

@@ -1,6 +1,6 @@
 -- A board that answers a command.
-use Rattle.std.proofs.Common.{◌≡◌, ℕ, ◌+◌, inl, inr, Bool, true, false, cond, List, [], ◌∷◌, ◌++◌, Some, Result, Ok, Err, length, take, refl, sym, ap, ◌∙◌, append-nil, append_assoc, ◌≢◌}
-use Rattle.std.specs.Prelude.{option_and_then, IsFalse, IfOk, OnErr}
+use Rattle.std.proofs.Common.{◌≡◌, ℕ, ◌+◌, inl, inr, Bool, true, false, cond, [], ◌∷◌, ◌++◌, Some, refl, sym, ap, ◌∙◌, append-nil, append_assoc, ◌≢◌}
+use Rattle.std.specs.Prelude.{option_and_then, IsFalse}
 use Rattle.ride_model.specs.declared.command.Command.{Command}
 use Rattle.ride_model.specs.declared.entry.Entry.{Entry}
 use Rattle.ride_model.specs.declared.entry.Event.TheVariants.{Fed}
@@ -11,7 +11,6 @@ use Rattle.ride_model.specs.History.{fed_commands, awaited_after, awaited_in}
 use Rattle.ride_model.specs.History.Awaited.{any, opening}
 use Rattle.ride_model.specs.State.{State}
 use Rattle.ride_model.specs.Step.{step}
-use Rattle.ride_model.specs.Text.{text_of}
 use Rattle.command_lines.specs.Limits.{AreFirst}
 use Rattle.board_core.specs.Recorded.{Recorded, state_of, fed_entry}
 use Rattle.board_core.proofs.OpenBatches.{state-push}

@@ -25,10 +25,9 @@ use Rattle.history_laws.specs.Start.{IsStart, fed_total}
 use Rattle.history_laws.proofs.Effects.{effect, ends_in}
 use Rattle.history_laws.proofs.EveryState.{consistent}
 use Rattle.history_laws.proofs.Leaving.{open_batch}
-use Rattle.board_core.specs.Recorded.{Recorded, end_entry}
-use Rattle.turn_lock.specs.History.{items_of}
-use Rattle.fleet_board.specs.Passes.{Known, actor_of, maker_of}
-use Rattle.fleet_board.specs.Sets.{IsPartOf, newcomer}
+use Rattle.board_core.specs.Recorded.{end_entry}
+use Rattle.fleet_board.specs.Passes.{Known, actor_of}
+use Rattle.fleet_board.specs.Sets.{IsPartOf}
 use Rattle.session_loops.specs.Loops.{RunsDesk}
 use Rattle.session_run.proofs.FeedParts.{ends-whole}
 
@@ -37,22 +36,32 @@ pub record DeskWhole (desk : ℕ) (history : List Entry) : Type 0 where
   pub whole : has_whole_end (entries_of (Desk desk) history) ≡ true
   pub none_given_up : gives_up (entries_of (Desk desk) history) ≡ false
 
--- what the history has of a desk
-pub desk-of : (desk : ℕ) (ran : Ran) (root : Recorded) (old new : Known) (history : List Entry) (number : ℕ) → root.history ≡ []
-    → old ≡ newcomer root number
-    → RunsDesk None ran old new → IsPartOf history (Desk desk) new → ran.no_memory ≡ false → DeskWhole desk history
-desk-of desk ran root old new history number bare fresh runs its memory = record {
-  whole = ap has_whole_end part ∙ ends-whole runs.batches (actor_of number) runs.ending (runs.whole memory).0;
-  none_given_up = ap gives_up part
-      ∙ list_any-append (λ (entry : Entry). is_abandoned entry.event) runs.batches (end_entry (actor_of number) runs.ending ∷ [])
-      ∙ or-false (gives_up runs.batches) ∙ (runs.whole memory).1;
+-- what the history has of a desk that has run: where memory was not wanting, and it had given no batch up before
+pub desk-of : (desk : ℕ) (open_batch : Option BatchCopy) (ran : Ran) (before history : List Entry) (old new : Known)
+    → old.own ≡ entries_of (Desk desk) before → gives_up (entries_of (Desk desk) before) ≡ false
+    → RunsDesk open_batch ran old new → IsPartOf history (Desk desk) new → ran.no_memory ≡ false → DeskWhole desk history
+desk-of desk open_batch ran before history old new own_is none runs its memory = record {
+  whole = ap has_whole_end part ∙ ends-whole made (actor_of old.number) runs.ending (runs.whole memory).0;
+  none_given_up = ap gives_up part ∙ list_any-append given made (end_entry (actor_of old.number) runs.ending ∷ []) ∙ or-false (gives_up made)
+      ∙ list_any-append given old.own runs.batches
+      ∙ or_from (gives_up old.own) (gives_up runs.batches) (ap gives_up own_is ∙ none) (runs.whole memory).1;
 }
   where
-    part : entries_of (Desk desk) history ≡ runs.batches ++ end_entry (actor_of number) runs.ending ∷ []
-    part =
-        sym its.own_all ∙ runs.ends.own_is
-        ∙ ap (λ (k : Known). (k.own ++ runs.batches) ++ end_entry (actor_of k.number) runs.ending ∷ []) fresh
-        ∙ ap (λ (before : List Entry). (items_of maker_of number before ++ runs.batches) ++ end_entry (actor_of number) runs.ending ∷ []) bare
+    given : Entry → Bool
+    given entry = is_abandoned entry.event
+
+    made : List Entry
+    made = old.own ++ runs.batches
+
+    part : entries_of (Desk desk) history ≡ made ++ end_entry (actor_of old.number) runs.ending ∷ []
+    part = sym its.own_all ∙ runs.ends.own_is
+
+-- of one that had ended before
+pub desk-over : (desk : ℕ) (before history : List Entry) (k : Known) → k.own ≡ entries_of (Desk desk) before → IsPartOf history (Desk desk) k
+    → has_whole_end (entries_of (Desk desk) before) ≡ true → gives_up (entries_of (Desk desk) before) ≡ false → DeskWhole desk history
+desk-over desk before history k own_is its whole none =
+    let same : entries_of (Desk desk) history ≡ entries_of (Desk desk) before = sym its.own_all ∙ own_is in
+    record { whole = ap has_whole_end same ∙ whole; none_given_up = ap gives_up same ∙ none }
 
 -- an entry leaves who has ended whole, and adds an actor that it ends whole
 still-whole : (s : State) (entry : Entry) (actor : Actor) → ended_whole (after_entry s entry) actor

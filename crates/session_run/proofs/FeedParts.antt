@@ -1,7 +1,8 @@
 -- What a feed's loop leaves of the history: its answers and its end.
-use Rattle.std.proofs.Common.{◌≡◌, ℕ, ◌≤◌, ◌-◌, Bool, true, false, cond, ◌||◌, ◌⊎◌, inl, inr, List, [], ◌∷◌, ◌++◌, refl, sym, ap, subst, ◌∙◌, append-nil, arith}
-use Rattle.std.specs.Prelude.{IsTrue, nat_le}
-use Rattle.std.proofs.lemmas.List.Elements.{filter_map-append}
+use Rattle.std.proofs.Common.{◌≡◌, ℕ, ◌≤◌, ◌-◌, true, false, cond, ◌||◌, ◌⊎◌, inl, inr, List, [], ◌∷◌, ◌++◌, sym, ap, subst, ◌∙◌, append_assoc, append-nil, arith}
+use Rattle.std.specs.Prelude.{nat_le}
+use Rattle.std.proofs.lemmas.List.{append_cancel_left}
+use Rattle.std.proofs.lemmas.List.Elements.{filter-append, filter_map-append}
 use Rattle.std.proofs.lemmas.List.Folds.{list_any-append}
 use Rattle.std.proofs.Math.Bool.{or-true}
 use Rattle.std.proofs.lemmas.Bool.{cases_Bool}
@@ -12,6 +13,7 @@ use Rattle.ride_model.specs.declared.entry.Ending.{Ending}
 use Rattle.ride_model.specs.declared.entry.Ending.TheVariants.{Whole, Cut}
 use Rattle.ride_model.specs.declared.entry.Entry.{Entry}
 use Rattle.ride_model.specs.History.{command_of, entries_of, fed_commands}
+use Rattle.ride_model.specs.State.{is_actor}
 use Rattle.ride_model.specs.Text.{IsOneOrTwo}
 use Rattle.ride_ports.specs.declared.outcome.Ran.{Ran}
 use Rattle.ride_ports.specs.Count.{KeepsCount, Rose}
@@ -19,10 +21,9 @@ use Rattle.command_lines.specs.Feeds.{IsWhole}
 use Rattle.line_reader.specs.Limits.{IsTooLong}
 use Rattle.command_lines.specs.Limits.{ended_commands, feed_limits}
 use Rattle.history_laws.specs.Finishing.{has_whole_end, is_whole_end}
-use Rattle.board_core.specs.Recorded.{Recorded, end_entry}
-use Rattle.turn_lock.specs.History.{items_of}
-use Rattle.fleet_board.specs.Passes.{Known, actor_of, commands_in, maker_of}
-use Rattle.fleet_board.specs.Sets.{IsPartOf, newcomer}
+use Rattle.board_core.specs.Recorded.{end_entry}
+use Rattle.fleet_board.specs.Passes.{Known, actor_of, commands_in}
+use Rattle.fleet_board.specs.Sets.{IsPartOf}
 use Rattle.session_loops.specs.Loops.{HasFed, RunsFeed}
 use Rattle.line_reader.specs.FeedRuns.{IsReadWhole}
 use Rattle.session_loops.specs.Stops.{AreFirstOf}
@@ -61,12 +62,23 @@ feed-actor n (low, high) = ap (λ b. cond b (Feed n) (Desk (n - 2))) (small n hi
     small : (m : ℕ) → m ≤ 2 → nat_le m 2 ≡ true
     small m h = grind arith
 
--- what the history has of a feed
-pub record FeedOf (log feed : ℕ) (run : FeedRun) (own session : Ran) (history : List Entry) : Type 0 where
+-- what entries have of an actor, in two parts
+pub entries-append : (actor : Actor) (first second : List Entry) → entries_of actor (first ++ second) ≡ entries_of actor first ++ entries_of actor second
+unfolding entries_of
+entries-append actor first second = filter-append (λ (entry : Entry). is_actor entry.actor actor) first second
+
+-- what entries after others have of an actor, by what they have of it together
+pub part-after : (actor : Actor) (before more made : List Entry) → entries_of actor (before ++ more) ≡ entries_of actor before ++ made
+    → entries_of actor more ≡ made
+part-after actor before more made whole =
+    append_cancel_left (entries_of actor before) (entries_of actor more) made (sym (entries-append actor before more) ∙ whole)
+
+-- what the entries that a session adds have of a feed
+pub record FeedOf (log feed : ℕ) (run : FeedRun) (own session : Ran) (more : List Entry) : Type 0 where
   pub taken : List ℕ
-  pub is : IsFeedOf log feed run session taken history
+  pub is : IsFeedOf log feed run session taken more
   pub too_long : own.too_long ≡ true → IsTooLong feed_limits taken
-  pub ends_whole : own.no_memory ≡ false → IsReadWhole own → has_whole_end (entries_of (Feed feed) history) ≡ true
+  pub ends_whole : own.no_memory ≡ false → IsReadWhole own → has_whole_end (entries_of (Feed feed) more) ≡ true
 
 module _ (log : ℕ) (run : FeedRun) (own : Ran) (taken : List ℕ) (answers : List Entry) (ending : Ending)
     (fed : HasFed log run.bytes run.left own taken answers ending) where
@@ -88,11 +100,12 @@ module _ (log : ℕ) (run : FeedRun) (own : Ran) (taken : List ℕ) (answers : L
     | inr kept ↦ ((fed.cut memory (not_whole own kept)).1, kept)
   ]
 
-pub feed-of : (log feed : ℕ) (run : FeedRun) (own session : Ran) (root : Recorded) (old new : Known) (history : List Entry)
-    → IsOneOrTwo feed → root.history ≡ [] → old ≡ newcomer root feed → RunsFeed log run.bytes run.left own old new → IsPartOf history (Feed feed) new
+pub feed-of : (log feed : ℕ) (run : FeedRun) (own session : Ran) (before more : List Entry) (old new : Known)
+    → IsOneOrTwo feed → old.number ≡ feed → old.own ≡ entries_of (Feed feed) before
+    → RunsFeed log run.bytes run.left own old new → IsPartOf (before ++ more) (Feed feed) new
     → KeepsCount own.source_failed run.faults_before run.faults_after
-    → (session.no_memory ≡ false → own.no_memory ≡ false) → FeedOf log feed run own session history
-feed-of log feed run own session root old new history fits bare fresh runs its kept memory =
+    → (session.no_memory ≡ false → own.no_memory ≡ false) → FeedOf log feed run own session more
+feed-of log feed run own session before more old new fits number own_is runs its kept memory =
     record {
       taken = runs.taken;
       is = record {
@@ -116,14 +129,18 @@ feed-of log feed run own session root old new history fits bare fresh runs its k
           ∙ ends-whole runs.answers (Feed feed) runs.ending (runs.fed.whole wants_none read).0;
     }
   where
-    part : entries_of (Feed feed) history ≡ runs.answers ++ end_entry (Feed feed) runs.ending ∷ []
-    part =
-        sym its.own_all ∙ runs.ends.own_is
-        ∙ ap (λ (k : Known). (k.own ++ runs.answers) ++ end_entry (actor_of k.number) runs.ending ∷ []) fresh
-        ∙ ap (λ (before : List Entry). (items_of maker_of feed before ++ runs.answers) ++ end_entry (actor_of feed) runs.ending ∷ []) bare
-        ∙ ap (λ (actor : Actor). runs.answers ++ end_entry actor runs.ending ∷ []) (feed-actor feed fits)
+    earlier : List Entry
+    earlier = entries_of (Feed feed) before
 
-    commands : fed_commands feed history ≡ commands_in runs.answers
+    part : entries_of (Feed feed) more ≡ runs.answers ++ end_entry (Feed feed) runs.ending ∷ []
+    part = part-after (Feed feed) before more (runs.answers ++ end_entry (Feed feed) runs.ending ∷ [])
+        (sym its.own_all ∙ runs.ends.own_is
+        ∙ ap (λ (o : List Entry). (o ++ runs.answers) ++ end_entry (actor_of old.number) runs.ending ∷ []) own_is
+        ∙ ap (λ (n : ℕ). (earlier ++ runs.answers) ++ end_entry (actor_of n) runs.ending ∷ []) number
+        ∙ ap (λ (actor : Actor). (earlier ++ runs.answers) ++ end_entry actor runs.ending ∷ []) (feed-actor feed fits)
+        ∙ append_assoc earlier runs.answers (end_entry (Feed feed) runs.ending ∷ []))
+
+    commands : fed_commands feed more ≡ commands_in runs.answers
     commands = ap commands_in part ∙ commands-ended runs.answers (Feed feed) runs.ending
 
     by_cause : (own.source_failed ≡ true) ⊎ (own.too_long ≡ true) → Rose run.faults_before run.faults_after ⊎ IsTooLong feed_limits runs.taken

@@ -1,9 +1,8 @@
 -- Histories that go on by an entry.
 use Rattle.std.proofs.Common.{◌≡◌, ℕ, Bool, true, false, cond, List, [], ◌∷◌, ◌++◌, Option, Some, refl, ap, ◌∙◌, append_assoc, append-nil, ◌≢◌}
 use Rattle.std.specs.Prelude.{filter_map, option_and_then, ◌&&◌, ◌||◌}
-use Rattle.std.specs.List.{filter, cons_option, list_all}
+use Rattle.std.specs.List.{cons_option, list_all}
 use Rattle.std.proofs.lemmas.Bool.{eq-eqb, ne_eqb, and_from}
-use Rattle.std.proofs.lemmas.List.Elements.{filter-append, filter_map-append}
 use Rattle.std.proofs.lemmas.List.Folds.{list_any-append, list_all-append}
 use Rattle.std.proofs.lemmas.List.Sums.{fold-append}
 use Rattle.ride_model.specs.declared.command.Actor.TheVariants.{Feed, Desk}
@@ -11,11 +10,8 @@ use Rattle.ride_model.specs.declared.command.Command.{Command}
 use Rattle.ride_model.specs.declared.entry.Entry.{Entry}
 use Rattle.ride_model.specs.History.{Awaited, entries_of, command_of, fed_commands, is_abandoned, awaited_after, awaited_in}
 use Rattle.ride_model.specs.History.Awaited.{any}
-use Rattle.ride_model.specs.Legal.{after_entry, replay}
 use Rattle.ride_model.specs.State.{is_actor}
-use Rattle.model_laws.proofs.Histories.{replay-push}
-use Rattle.board_core.specs.Recorded.{Recorded, state_of}
-use Rattle.board_core.proofs.OpenBatches.{state-push}
+use Rattle.board_core.specs.Recorded.{Recorded}
 use Rattle.board_core.proofs.FedEntries.{fed_commands-append}
 use Rattle.session_run.specs.Running.{GoesOn, gave_up}
 use Rattle.session_run.specs.Settled.{settles, IsSettled}

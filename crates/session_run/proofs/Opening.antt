@@ -1,33 +1,25 @@
 -- A board whose desk opens the next batch, and closes it.
-use Rattle.std.proofs.Common.{◌≡◌, ℕ, ◌+◌, ◌≤◌, Bool, true, false, not, cond, List, [], ◌∷◌, ◌++◌, Option, Some, None, lt-ltb, refl, sym, ap, subst, ◌∙◌, arith, append_assoc}
-use Rattle.std.specs.Prelude.{option_map, option_and_then, find, nat_lt, ◌==◌, IsSome, IsSomeAnd, All}
-use Rattle.std.specs.List.{filter}
+use Rattle.std.proofs.Common.{◌≡◌, ℕ, ◌+◌, ◌≤◌, Bool, true, false, cond, List, [], ◌∷◌, ◌++◌, Option, Some, None, lt-ltb, refl, sym, ap, subst, ◌∙◌, arith, append_assoc}
+use Rattle.std.specs.Prelude.{option_and_then, nat_lt, ◌==◌, IsSome, IsSomeAnd, All}
 use Rattle.ride_model.specs.declared.command.Actor.TheVariants.{Desk}
 use Rattle.ride_model.specs.declared.entry.Entry.{Entry}
-use Rattle.ride_model.specs.declared.entry.Event.TheVariants.{Committed, Abandoned}
-use Rattle.ride_model.specs.declared.entry.Outcome.{Outcome}
 use Rattle.ride_model.specs.declared.offer.Seat.{Seat}
-use Rattle.ride_model.specs.declared.reply.RequestState.{RequestState}
-use Rattle.ride_model.specs.declared.reply.RequestState.TheVariants.{InBatch}
 use Rattle.ride_model.specs.declared.vehicle.Ride.{Ride}
-use Rattle.ride_model.specs.Batch.{is_cancelled, was_cancelled, next_batch, after_opening, after_commit, after_abandon, outcomes_of, after_outcomes}
+use Rattle.ride_model.specs.Batch.{was_cancelled, next_batch, after_opening, after_commit, after_abandon, outcomes_of, after_outcomes}
 use Rattle.ride_model.specs.History.{awaited_after}
 use Rattle.ride_model.specs.History.Awaited.{any}
-use Rattle.ride_model.specs.Legal.{all_feeds_ended, after_event, replay, IsLegal, IsLegalEntry, CommitsBatch}
+use Rattle.ride_model.specs.Legal.{all_feeds_ended, replay, IsLegal, IsLegalEntry, CommitsBatch}
 use Rattle.ride_model.specs.Road.{RoadMap}
 use Rattle.ride_model.specs.Seating.{BatchCopy, IsBatchOver, seat_offer, seating_cost}
 use Rattle.ride_model.specs.Vehicle.{IsLawful}
-use Rattle.ride_model.specs.State.{State, request_state, open_batch_numbered, is_batch}
+use Rattle.ride_model.specs.State.{State, open_batch_numbered}
 use Rattle.batch_commit.specs.Solved.{SolvedBatch}
-use Rattle.plain_lemmas.proofs.Among.{Among}
 use Rattle.plain_lemmas.proofs.Each.{of_all, all_of}
 use Rattle.model_laws.proofs.Histories.{IsLegal-parts}
-use Rattle.model_laws.proofs.RequestStates.{others-opening, request_state-opening, abandon-is}
+use Rattle.model_laws.proofs.RequestStates.{others-opening, abandon-is}
 use Rattle.history_laws.specs.Consistent.{IsOpenBatch}
 use Rattle.history_laws.specs.Start.{IsStart}
 use Rattle.history_laws.proofs.EveryState.{consistent}
-use Rattle.history_laws.proofs.Leaving.{is_batch-own}
-use Rattle.history_laws.proofs.Opening.{is_of-among}
 use Rattle.board_core.specs.declared.opening.Opening.{Opening}
 use Rattle.board_core.specs.declared.opening.Opening.TheVariants.{Batch, Idle, Ended}
 use Rattle.board_core.specs.Opening.{opening_at}

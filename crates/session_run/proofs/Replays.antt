@@ -1,6 +1,6 @@
 -- What a session's history gives at its end.
-use Rattle.std.proofs.Common.{◌≡◌, ℕ, ◌≤◌, Bool, true, false, cond, List, [], ◌∷◌, ◌++◌, Option, Some, None, eqb, eq-eqb, refl, sym, ap, subst, ◌∙◌, append_assoc, append-nil, inl, true≢false, arith, length}
-use Rattle.std.specs.Prelude.{IfSome, IsTrue, filter_map, All, ◌&&◌}
+use Rattle.std.proofs.Common.{◌≡◌, ℕ, Bool, true, false, cond, List, [], ◌∷◌, ◌++◌, Option, Some, None, eqb, eq-eqb, refl, sym, ap, subst, ◌∙◌, append_assoc, append-nil, inl, true≢false, arith}
+use Rattle.std.specs.Prelude.{IfSome, IsTrue, filter_map, ◌&&◌}
 use Rattle.std.specs.List.{list_any, list_all, range_with_len}
 use Rattle.ride_model.specs.declared.command.Actor.{Actor}
 use Rattle.ride_model.specs.declared.command.Actor.TheVariants.{Feed, Desk}
@@ -14,9 +14,7 @@ use Rattle.ride_model.specs.Fleet.{IsFleet, MayStart}
 use Rattle.ride_model.specs.History.{ended_whole, fed_commands, is_whole, entries_of, command_of}
 use Rattle.ride_model.specs.Legal.{IsLegal, replay}
 use Rattle.ride_model.specs.Road.{RoadMap, IsRoadMap}
-use Rattle.ride_model.specs.Settings.{IsSettings}
 use Rattle.ride_model.specs.State.{State, start_state, is_actor}
-use Rattle.ride_model.specs.Vehicle.{IsLawful}
 use Rattle.ride_ports.proofs.ByteLemmas.{Reads-to_end}
 use Rattle.ride_ports.specs.Bytes.{Reads}
 use Rattle.ride_ports.specs.declared.outcome.Ran.{Ran}

@@ -1,52 +1,58 @@
 -- A session that was begun: all that its contract says, by what its actors left and its log says.
-use Rattle.std.proofs.Common.{◌≡◌, ℕ, Bool, true, false, ◌||◌, ◌⊎◌, inl, inr, List, [], ◌++◌, take, drop, Option, Result, Ok, Err, sym, ap, subst}
+use Rattle.std.proofs.Common.{◌≡◌, ℕ, Bool, true, false, ◌||◌, ◌⊎◌, inl, inr, List, [], ◌++◌, take, drop, Option, Result, Ok, Err, sym, ap, subst, ◌∙◌, true≢false}
 use Rattle.std.specs.Prelude.{IfOk, is_err}
-use Rattle.std.proofs.lemmas.Bool.{or_parts, or_cases}
+use Rattle.std.proofs.lemmas.Bool.{cases_Bool, or_parts, or_cases}
 use Rattle.ride_model.specs.declared.entry.Entry.{Entry}
-use Rattle.ride_model.specs.declared.command.Actor.TheVariants.{Feed}
-use Rattle.ride_model.specs.History.{entries_of}
 use Rattle.ride_model.specs.Legal.{IsLegal}
-use Rattle.ride_model.specs.State.{State}
-use Rattle.ride_model.specs.Text.{HasText, IsOneOrTwo, entry_lines, head_line, text_of}
+use Rattle.ride_model.specs.Text.{HasText, entry_lines, head_line, text_of}
 use Rattle.ride_ports.specs.declared.outcome.Ran.{Ran}
 use Rattle.ride_ports.specs.declared.sources.Failed.{Failed}
+use Rattle.line_reader.specs.FeedRuns.{IsReadWhole}
 use Rattle.line_reader.specs.Limits.{IsTooLong}
 use Rattle.command_lines.specs.Limits.{feed_limits}
-use Rattle.history_laws.specs.Finishing.{has_whole_end}
 use Rattle.history_laws.specs.Start.{IsStart}
 use Rattle.board_core.specs.Recorded.{Recorded}
 use Rattle.turn_lock.specs.Passes.{knowledge}
+use Rattle.fleet_board.specs.Passes.{root_of}
 use Rattle.fleet_board.specs.Turns.{as_began}
 use Rattle.text_page.specs.Output.{HasPut, OutputState}
+use Rattle.session_loops.specs.declared.scribes.Scribed.{Scribed}
 use Rattle.session_run.specs.declared.live.actors.Actors.{Actors}
 use Rattle.session_run.specs.declared.live.actors.Answers.{Answers}
-use Rattle.session_loops.specs.declared.scribes.Scribed.{Scribed}
 use Rattle.session_run.specs.declared.live.stages.Stage.{Stage}
 use Rattle.session_run.specs.Actors.{bare}
-use Rattle.line_reader.specs.FeedRuns.{IsReadWhole}
-use Rattle.session_run.specs.Serving.{FeedRun, HasServed, IsFeedOf, IsServed, IsWrittenOut}
-use Rattle.session_run.specs.Stages.{IsClosed, IsReady, LeavesActors, is_cut_short, ran_of, root_at}
-use Rattle.session_run.proofs.FeedParts.{FeedOf}
-use Rattle.session_run.proofs.Sessions.{first-or-second, served, text-joined, written-out}
-use Rattle.session_run.proofs.StageLemmas.{began, desks-whole, drivers-of, riders-of}
+use Rattle.session_run.specs.Resuming.{IsFeedAfter, IsResumed, is_broken_off, still_feeds}
+use Rattle.session_run.specs.Serving.{FeedRun, HasServed, IsWrittenOut}
+use Rattle.session_run.specs.Stages.{IsClosed, IsReady, LeavesActors, board_of, is_cut_short, ran_of}
+use Rattle.session_run.proofs.Sessions.{served, text-joined, written-out}
+use Rattle.session_run.proofs.StageLemmas.{FeederOf, began, desks-whole, drivers-of, drivers-sink, feeder-sink, feeds-whole, goes_on, riders-of}
 
 -- what kept a session from running whole, by its parts
-module _ (answers : Answers) (sink_failed : Bool) where
+module _ (answers : Answers) (sink_failed broken_off : Bool) where
   abbrev session : Ran
-  session = ran_of answers sink_failed
+  session = ran_of answers sink_failed broken_off
 
-  -- memory was not wanting for any of the loops
+  -- memory was not wanting for any of the loops, and nothing was broken off before them
   pub record NoneWanted : Type 0 where
     pub riders : answers.riders.no_memory ≡ false
     pub drivers : answers.drivers.no_memory ≡ false
     pub desks : answers.desks.no_memory ≡ false
+    pub sound : broken_off ≡ false
 
   pub none-wanted : session.no_memory ≡ false → NoneWanted
   none-wanted memory =
       let (feeds, others) = or_parts (answers.riders.no_memory || answers.drivers.no_memory)
-      (answers.desks.no_memory || is_cut_short answers.scribed) memory in
+      (answers.desks.no_memory || (is_cut_short answers.scribed || broken_off)) memory in
       let (riders, drivers) = or_parts answers.riders.no_memory answers.drivers.no_memory feeds in
-      record { riders = riders; drivers = drivers; desks = (or_parts answers.desks.no_memory (is_cut_short answers.scribed) others).0 }
+      let (desks, rest) = or_parts answers.desks.no_memory (is_cut_short answers.scribed || broken_off) others in
+      record { riders = riders; drivers = drivers; desks = desks; sound = (or_parts (is_cut_short answers.scribed) broken_off rest).1 }
+
+  -- where something was, memory is told to have been wanting
+  pub broken-wanted : broken_off ≡ true → session.no_memory ≡ true
+  broken-wanted broken = elim (cases_Bool session.no_memory) [
+    | inl wanting ↦ wanting
+    | inr memory ↦ absurd (true≢false (sym broken ∙ (none-wanted memory).sound))
+  ]
 
   -- no source failed, and one did
   pub sources-sound : session.source_failed ≡ false → (answers.riders.source_failed ≡ false) × (answers.drivers.source_failed ≡ false)
@@ -81,91 +87,107 @@ module _ (answers : Answers) (sink_failed : Bool) where
       → session.sink_failed ≡ sink_failed
   sink-is riders drivers desks = λ i. (riders i || drivers i) || (desks i || sink_failed)
 
-module _ (log desks : ℕ) (stage : Stage) (riders drivers : FeedRun) (head_failed : Bool) (first before now last : Option (List ℕ))
+module _ (log feeds desks : ℕ) (stage : Stage) (riders drivers : FeedRun) (head_failed : Bool) (first written now last : Option (List ℕ))
     (faults m n k : ℕ) (answers : Answers) (new : Actors) (ready : IsReady stage)
-    (left : LeavesActors stage.board log riders drivers head_failed before now m n answers stage.actors new) (board : Recorded)
+    (left : LeavesActors stage.board log riders drivers head_failed written now m n answers stage.actors new) (board : Recorded)
     (closed : IsClosed new board) (output : OutputState) where
+  abbrev broken_off : Bool
+  broken_off = is_broken_off (board_of stage).history
+
   abbrev ran : Ran
-  ran = ran_of answers output.failed
+  ran = ran_of answers output.failed broken_off
 
   -- the whole text was logged
-  pub logged-all : (root_at stage).desks ≡ desks → HasPut first before faults m (bare head_failed) (head_line log 2 desks)
+  pub logged-all : HasPut first written faults m (bare head_failed) (head_line log feeds desks)
       → ((earlier : Option (List ℕ)) (at count : ℕ) (text : List ℕ) → IfOk answers.scribed (λ (s : Scribed). s.entries ≡ count)
       → HasPut earlier now at n (bare (is_err answers.scribed)) text
       → HasPut earlier last at k output (text ++ entry_lines log (drop count board.history)))
-      → HasPut first last faults k output (text_of log 2 desks board.history)
-  logged-all desks_are head rest =
+      → HasPut first last faults k output (text_of log feeds desks board.history)
+  logged-all head rest =
       let s = left.scribe in
       subst (λ (t : List ℕ). HasPut first last faults k output t)
-      (text-joined log desks s.count (knowledge new.scribe).seen board.history closed.seen s.within)
-      (rest first faults s.count (head_line log 2 desks ++ entry_lines log (take s.count (knowledge new.scribe).seen))
-      (entries_are answers.scribed s.answered) (s.some.told first faults (head_line log 2 desks) head))
+      (text-joined log feeds desks s.count (knowledge new.scribe).seen board.history closed.seen s.within)
+      (rest first faults s.count (head_line log feeds desks ++ entry_lines log (take s.count (knowledge new.scribe).seen))
+      (entries_are answers.scribed s.answered) (s.some.told first faults (head_line log feeds desks) head))
     where
       entries_are : (r : Result Scribed Failed) → IfOk r (λ (s : Scribed). (s.entries ≡ left.scribe.count) × (head_failed ≡ false))
           → IfOk r (λ (s : Scribed). s.entries ≡ left.scribe.count)
       entries_are (Ok s) h = h.0
       entries_are (Err f) h = tt
 
-  -- the history answers both feeds, and the log is its text
-  pub is-served : (root_at stage).feeds ≡ 2 → (root_at stage).desks ≡ desks → (root_at stage).start.settings.log ≡ log
-      → (output.failed ≡ false → output.page ≡ []) → HasPut first last faults k output (text_of log 2 desks board.history)
-      → IsServed (root_at stage).start desks riders drivers ran first last
-  is-served feeds_are desks_are log_is nothing_left has =
-      subst (λ v. (riders_taken drivers_taken : List ℕ) × (entries : List Entry)
-      × HasServed start desks ran entries
-      × IsFeedOf v 1 riders ran riders_taken entries
-      × IsFeedOf v 2 drivers ran drivers_taken entries
-      × (ran.too_long ≡ true → IsTooLong feed_limits riders_taken ⊎ IsTooLong feed_limits drivers_taken)
-      × IsWrittenOut ran first last (text_of v 2 desks entries)) (sym log_is) (
-        of_riders.taken,
-        of_drivers.taken,
-        board.history,
-        served start desks ran board.history begins legal text
-            (λ memory. desks-whole log stage riders drivers head_failed before now m n answers new ready left board closed
-            (none-wanted answers output.failed memory).desks desks desks_are (one_or_two text))
-            (λ memory read feed fits. first-or-second (λ f. has_whole_end (entries_of (Feed f) board.history) ≡ true) feed
-            (of_riders.ends_whole (none-wanted answers output.failed memory).riders (read_both read).0)
-            (of_drivers.ends_whole (none-wanted answers output.failed memory).drivers (read_both read).1) fits.0 fits.1),
-        of_riders.is,
-        of_drivers.is,
-        λ long. by_feed (length-passed answers output.failed left.desks.first.only.length long),
-        written-out ran first last faults k output (text_of log 2 desks board.history)
-            (sink-is answers output.failed left.feeds.of_riders.sink left.feeds.of_drivers.sink left.desks.first.only.sink) nothing_left has,
-      )
+  -- the history goes on from that of the board and answers both feeds, and the log is its text
+  pub is-resumed : (board_of stage).feeds ≡ feeds → (board_of stage).desks ≡ desks → (board_of stage).start.settings.log ≡ log
+      → (output.failed ≡ false → output.page ≡ []) → HasPut first last faults k output (text_of log feeds desks board.history)
+      → IsResumed (board_of stage) riders drivers ran first last
+  is-resumed feeds_are desks_are log_is nothing_left has = record {
+    more = more;
+    history = subst (HasServed old.start old.feeds old.desks ran) grown
+        (served old.start old.feeds old.desks ran board.history begins legal text
+        (λ memory. desks-whole log stage riders drivers head_failed written now m n answers new ready left board closed more grown
+        (none memory).desks (none memory).sound)
+        (λ memory read. feeds-whole log stage riders drivers head_failed written now m n answers new ready left board closed more grown
+        ran of_riders of_drivers (none memory).riders (none memory).drivers (read_both read).0 (read_both read).1 (none memory).sound));
+    riders_taken = of_riders.taken;
+    drivers_taken = of_drivers.taken;
+    of_riders = subst (λ v. IsFeedAfter v 1 (still_feeds old.start old.feeds old.history 1) riders ran of_riders.taken more) (sym log_is) of_riders.is;
+    of_drivers = subst (λ v. IsFeedAfter v 2 (still_feeds old.start old.feeds old.history 2) drivers ran of_drivers.taken more) (sym log_is) of_drivers.is;
+    too_long = λ long. by_feed (length-passed answers output.failed broken_off left.desks.first.only.length long);
+    broken_off = broken-wanted answers output.failed broken_off;
+    written = subst (IsWrittenOut ran first last) text_is
+        (written-out ran first last faults k output (text_of log feeds desks board.history)
+        (sink-is answers output.failed broken_off riders_sink drivers_sink left.desks.first.only.sink) nothing_left has);
+  }
     where
-      start : State
-      start = (root_at stage).start
+      old : Recorded
+      old = board_of stage
 
-      of_riders : FeedOf log 1 riders answers.riders ran board.history
-      of_riders = riders-of log stage riders drivers head_failed before now m n answers new ready left board closed ran
-          (λ memory. (none-wanted answers output.failed memory).riders)
+      more : List Entry
+      more = (goes_on log stage riders drivers head_failed written now m n answers new ready left board closed).0
 
-      of_drivers : FeedOf log 2 drivers answers.drivers ran board.history
-      of_drivers = drivers-of log stage riders drivers head_failed before now m n answers new ready left board closed ran
-          (λ memory. (none-wanted answers output.failed memory).drivers)
+      grown : board.history ≡ old.history ++ more
+      grown = (goes_on log stage riders drivers head_failed written now m n answers new ready left board closed).1
 
-      began_so : as_began board ≡ root_at stage
-      began_so = began log stage riders drivers head_failed before now m n answers new ready left board closed
+      none : ran.no_memory ≡ false → NoneWanted answers output.failed broken_off
+      none = none-wanted answers output.failed broken_off
 
-      begins : IsStart start
+      of_riders : FeederOf log stage riders drivers head_failed written now m n answers new ready left board closed more grown
+          1 riders answers.riders ran (still_feeds old.start old.feeds old.history 1)
+      of_riders = riders-of log stage riders drivers head_failed written now m n answers new ready left board closed more grown ran
+          (λ memory. (none memory).riders)
+
+      of_drivers : FeederOf log stage riders drivers head_failed written now m n answers new ready left board closed more grown
+          2 drivers answers.drivers ran (still_feeds old.start old.feeds old.history 2)
+      of_drivers = drivers-of log stage riders drivers head_failed written now m n answers new ready left board closed more grown ran
+          (λ memory. (none memory).drivers)
+
+      riders_sink : answers.riders.sink_failed ≡ false
+      riders_sink = feeder-sink left.feeds.of_riders
+
+      drivers_sink : answers.drivers.sink_failed ≡ false
+      drivers_sink = drivers-sink log drivers answers.drivers stage.board stage.actors.feeds.drivers new.feeds.drivers left.feeds.of_drivers
+
+      began_so : as_began board ≡ root_of (knowledge stage.actors.scribe)
+      began_so = began log stage riders drivers head_failed written now m n answers new ready left board closed
+
+      begins : IsStart old.start
       begins = subst (λ (r : Recorded). IsStart r.start) began_so closed.start
 
-      legal : IsLegal 2 desks start board.history
-      legal = subst (λ f. IsLegal f desks start board.history) feeds_are (subst (λ d. IsLegal (root_at stage).feeds d start board.history) desks_are
-          (subst (λ (r : Recorded). IsLegal r.feeds r.desks r.start board.history) began_so closed.legal))
+      legal : IsLegal old.feeds old.desks old.start board.history
+      legal = subst (λ (r : Recorded). IsLegal r.feeds r.desks r.start board.history) began_so closed.legal
 
-      text : HasText start.settings.log 2 desks board.history
-      text = subst (λ f. HasText start.settings.log f desks board.history) feeds_are
-          (subst (λ d. HasText start.settings.log (root_at stage).feeds d board.history) desks_are
-          (subst (λ (r : Recorded). HasText r.start.settings.log r.feeds r.desks board.history) began_so closed.text))
+      text : HasText old.start.settings.log old.feeds old.desks board.history
+      text = subst (λ (r : Recorded). HasText r.start.settings.log r.feeds r.desks board.history) began_so closed.text
 
-      one_or_two : HasText start.settings.log 2 desks board.history → IsOneOrTwo desks
-      one_or_two t = t.desks_number
+      text_is : text_of log feeds desks board.history ≡ text_of old.start.settings.log old.feeds old.desks (old.history ++ more)
+      text_is =
+          ap (λ v. text_of v feeds desks board.history) (sym log_is) ∙ ap (λ f. text_of old.start.settings.log f desks board.history) (sym feeds_are)
+          ∙ ap (λ d. text_of old.start.settings.log old.feeds d board.history) (sym desks_are)
+          ∙ ap (text_of old.start.settings.log old.feeds old.desks) grown
 
       read_both : IsReadWhole ran → IsReadWhole answers.riders × IsReadWhole answers.drivers
       read_both (sound, fits) =
-          let s = sources-sound answers output.failed sound in
-          let f = lengths-fit answers output.failed fits in
+          let s = sources-sound answers output.failed broken_off sound in
+          let f = lengths-fit answers output.failed broken_off fits in
           ((s.0, f.0), (s.1, f.1))
 
       by_feed : (answers.riders.too_long ≡ true) ⊎ (answers.drivers.too_long ≡ true) → IsTooLong feed_limits of_riders.taken ⊎ IsTooLong feed_limits of_drivers.taken

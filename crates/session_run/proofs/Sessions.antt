@@ -1,7 +1,6 @@
 -- What a session gives, by what its actors' loops and its log say.
-use Rattle.std.proofs.Common.{◌≡◌, ℕ, ◌≤◌, Bool, true, false, ◌||◌, ◌⊎◌, inl, inr, List, [], ◌++◌, length, take, drop, Option, refl, sym, ap, subst, ◌∙◌, take-append-drop, arith}
+use Rattle.std.proofs.Common.{◌≡◌, ℕ, ◌≤◌, true, false, inl, inr, List, [], ◌++◌, length, take, drop, Option, sym, ap, subst, ◌∙◌, take-append-drop}
 use Rattle.std.proofs.lemmas.List.{take-append-le}
-use Rattle.std.proofs.lemmas.Bool.{or_parts, or_cases}
 use Rattle.plain_lemmas.proofs.Numbers.{one_of_two}
 use mathlib.Core.List.{IsPrefix}
 use Rattle.ride_model.specs.declared.command.Actor.TheVariants.{Feed, Desk}
@@ -30,20 +29,20 @@ first-or-second P n first second low high = elim (one_of_two n low high) [
 ]
 
 -- a session's history keeps its promises, and is finished where nothing was wanting
-pub served : (start : State) (desks : ℕ) (ran : Ran) (entries : List Entry) → IsStart start → IsLegal 2 desks start entries
-    → HasText start.settings.log 2 desks entries
+pub served : (start : State) (feeds desks : ℕ) (ran : Ran) (entries : List Entry) → IsStart start → IsLegal feeds desks start entries
+    → HasText start.settings.log feeds desks entries
     → (ran.no_memory ≡ false → (desk : ℕ) → IsNumbered desks desk → DeskWhole desk entries)
-    → (ran.no_memory ≡ false → IsReadWhole ran → (feed : ℕ) → IsNumbered 2 feed → has_whole_end (entries_of (Feed feed) entries) ≡ true)
-    → HasServed start desks ran entries
-served start desks ran entries begins legal text desks_whole feeds_whole = record {
+    → (ran.no_memory ≡ false → IsReadWhole ran → (feed : ℕ) → IsNumbered feeds feed → has_whole_end (entries_of (Feed feed) entries) ≡ true)
+    → HasServed start feeds desks ran entries
+served start feeds desks ran entries begins legal text desks_whole feeds_whole = record {
   begins = begins;
   legal = legal;
   text = text;
-  promises = keeps_promises 2 desks start entries begins legal;
+  promises = keeps_promises feeds desks start entries begins legal;
   desks_whole = λ memory desk fits. part-whole start entries (Desk desk) (desks_whole memory desk fits).whole;
   none_given_up = λ memory.
-      none-given_up 2 desks start [] entries begins legal (λ desk fits. (desks_whole memory desk fits).none_given_up);
-  finished = λ memory read. whole-finished 2 desks start entries begins text.desks_number.0 legal (record {
+      none-given_up feeds desks start [] entries begins legal (λ desk fits. (desks_whole memory desk fits).none_given_up);
+  finished = λ memory read. whole-finished feeds desks start entries begins text.desks_number.0 legal (record {
     feeds_whole = feeds_whole memory read;
     desks_whole = λ desk fits. (desks_whole memory desk fits).whole;
     none_given_up = λ desk fits. (desks_whole memory desk fits).none_given_up;
@@ -51,13 +50,13 @@ served start desks ran entries begins legal text desks_whole feeds_whole = recor
 }
 
 -- the head, what a scribe wrote of what it had seen, and the rest are the text of the history
-pub text-joined : (log desks count : ℕ) (seen history : List Entry) → IsPrefix seen history → count ≤ length seen
-    → (head_line log 2 desks ++ entry_lines log (take count seen)) ++ entry_lines log (drop count history) ≡ text_of log 2 desks history
+pub text-joined : (log feeds desks count : ℕ) (seen history : List Entry) → IsPrefix seen history → count ≤ length seen
+    → (head_line log feeds desks ++ entry_lines log (take count seen)) ++ entry_lines log (drop count history) ≡ text_of log feeds desks history
 unfolding text_of
-text-joined log desks count seen history (more, is) within =
-    (λ i. (head_line log 2 desks ++ entry_lines log (first i)) ++ entry_lines log (drop count history))
-    ∙ sym (text_of-append log 2 desks (take count history) (drop count history))
-    ∙ ap (text_of log 2 desks) (take-append-drop count history)
+text-joined log feeds desks count seen history (more, is) within =
+    (λ i. (head_line log feeds desks ++ entry_lines log (first i)) ++ entry_lines log (drop count history))
+    ∙ sym (text_of-append log feeds desks (take count history) (drop count history))
+    ∙ ap (text_of log feeds desks) (take-append-drop count history)
   where
     first : take count seen ≡ take count history
     first = sym (ap (take count) (sym is) ∙ take-append-le count seen more within)

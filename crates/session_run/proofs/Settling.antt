@@ -1,25 +1,16 @@
 -- The outcomes of a batch that is committed directly after its opening.
-use Rattle.std.proofs.Common.{◌≡◌, ℕ, ◌+◌, ◌≤◌, inl, inr, Bool, true, false, cond, List, [], ◌∷◌, Option, Some, None, eqb, ltb, leb-true, refl, sym, ap, ◌∙◌, arith}
-use Rattle.std.specs.Prelude.{map, max, not, nat_le, nat_eq, ◌||◌, ◌==◌, All, IsSome}
+use Rattle.std.proofs.Common.{◌≡◌, ℕ, inl, inr, true, false, List, [], ◌∷◌, Option, Some, None, refl, ap, ◌∙◌}
+use Rattle.std.specs.Prelude.{map, nat_eq, ◌==◌, All, IsSome}
 use Rattle.std.specs.List.{list_all, IsDistinct}
-use Rattle.std.proofs.lemmas.Bool.{eq-eqb, and_from, and_parts, le-ltb}
+use Rattle.std.proofs.lemmas.Bool.{and_from}
 use Rattle.ride_model.specs.declared.entry.Outcome.{Outcome}
-use Rattle.ride_model.specs.declared.entry.Outcome.TheVariants.{Confirmed}
 use Rattle.ride_model.specs.declared.offer.Seat.{Seat}
 use Rattle.ride_model.specs.declared.vehicle.Ride.{Ride}
-use Rattle.ride_model.specs.declared.vehicle.Vehicle.{Vehicle}
-use Rattle.ride_model.specs.Batch.{version_of, priced_start, was_cancelled, seat_of, seated_outcome, outcome_by, outcome_of}
-use Rattle.ride_model.specs.Offers.{is_idle, is_open, start_of}
-use Rattle.ride_model.specs.Seating.{BatchCopy, find_vehicle, vehicle_ids, seat_offer}
+use Rattle.ride_model.specs.Batch.{was_cancelled, seat_of, seated_outcome, outcome_by, outcome_of}
+use Rattle.ride_model.specs.Seating.{BatchCopy, vehicle_ids, seat_offer}
 use Rattle.ride_model.specs.State.{State}
 use Rattle.ride_model.specs.Vehicle.{ride_ids}
 use Rattle.plain_lemmas.proofs.Among.{Among, found_among}
-use Rattle.plain_lemmas.proofs.Each.{of_all}
-use Rattle.model_laws.proofs.Certificates.{seat_facts}
-use Rattle.model_laws.proofs.Costs.{offer_plan}
-use Rattle.model_laws.proofs.Starts.{start-not_before}
-use Rattle.history_laws.proofs.Confirming.{priced_start-found}
-use Rattle.history_laws.proofs.Lookups.{found_by}
 use Rattle.history_laws.proofs.StandingSeats.{seated-confirmed}
 use Rattle.session_run.specs.Settled.{is_settled}
 

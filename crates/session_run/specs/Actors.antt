@@ -1,7 +1,6 @@
 -- What the actors of a session need, and what they leave.
-use Rattle.std.specs.Prelude.{◌≡◌, ℕ, ◌≤◌, ◌++◌, ◌||◌, Bool, false, List, [], length, take, All, Option, None, Result, IsTrue, IfOk, is_err}
+use Rattle.std.specs.Prelude.{◌≡◌, ℕ, ◌≤◌, ◌++◌, ◌||◌, Bool, true, false, List, [], length, take, Option, Result, IfOk, IfSome, MatchOption, is_err}
 use Rattle.ride_model.specs.declared.entry.Entry.{Entry}
-use Rattle.ride_model.specs.Road.{RoadMap}
 use Rattle.ride_model.specs.Text.{entry_lines}
 use Rattle.ride_model.specs.Limits.{most_earlier_commands}
 use Rattle.ride_ports.specs.Count.{KeepsCount}
@@ -13,12 +12,15 @@ use Rattle.turn_lock.specs.declared.lock.Pass.{Pass}
 use Rattle.turn_lock.specs.Passes.{knowledge}
 use Rattle.fleet_board.specs.declared.shared.Kept.{Kept}
 use Rattle.fleet_board.specs.declared.shared.SharedBoard.{SharedBoard}
+use Rattle.fleet_board.specs.Openings.{IsPriceable}
 use Rattle.fleet_board.specs.Passes.{AddsNone, IsPoint, commands_in, root_of}
-use Rattle.fleet_board.specs.Roles.{MayFeed, MayOpen}
+use Rattle.fleet_board.specs.Roles.{MayCommit, MayFeed, MayOpen}
 use Rattle.fleet_board.specs.Sharing.{MayUse}
 use Rattle.text_page.specs.Output.{HasPut, OutputState}
 use Rattle.session_loops.specs.declared.scribes.Scribed.{Scribed}
 use Rattle.session_loops.specs.Loops.{RunsDesk, RunsFeed}
+use Rattle.session_run.specs.declared.live.desk_pairs.Desk.{Desk}
+use Rattle.session_run.specs.declared.live.feed_pairs.Feeder.{Feeder}
 use Rattle.session_run.specs.Serving.{FeedRun}
 
 -- what kept either of two from running whole
@@ -29,6 +31,16 @@ either one other = record {
   source_failed = one.source_failed || other.source_failed;
   too_long = one.too_long || other.too_long;
 }
+
+-- nothing does
+abbrev pub nothing_wanting : Ran
+nothing_wanting = record { sink_failed = false; no_memory = false; source_failed = false; too_long = false }
+
+-- nothing was read of a feed, and nothing was wanting
+pub record IsIdle (run : FeedRun) (ran : Ran) : Type 0 where
+  pub nothing_read : run.left ≡ run.bytes
+  pub no_fault : run.faults_after ≡ run.faults_before
+  pub ran_is : ran ≡ nothing_wanting
 
 -- only want of memory keeps a desk from running whole
 pub record OnlyWants (ran : Ran) : Type 0 where
@@ -61,17 +73,6 @@ module _ {g : Ghosts Kept Recorded Entry} where
     pub sink : ran.sink_failed ≡ false
     pub faults : KeepsCount ran.source_failed run.faults_before run.faults_after
 
-  -- a desk may run: it prices over the board's map
-  pub record MayRunDesk (board : SharedBoard) (pass : Pass Kept Recorded Entry g) (pricer : RoadMap) : Type 0 where
-    pub desk : MayOpen board pass
-    pub roads_are : (root_of (knowledge pass)).start.roads ≡ pricer
-
-  -- a desk ran
-  pub record LeavesDesk (board : SharedBoard) (ran : Ran) (old new : Pass Kept Recorded Entry g) : Type 0 where
-    pub may_use : MayUse board new
-    pub runs : RunsDesk None ran (knowledge old) (knowledge new)
-    pub only : OnlyWants ran
-
   -- a scribe may run: it writes by the board's version of the log
   pub record MayScribe (board : SharedBoard) (log : ℕ) (pass : Pass Kept Recorded Entry g) : Type 0 where
     pub may_use : MayUse board pass
@@ -87,3 +88,28 @@ module _ {g : Ghosts Kept Recorded Entry} where
     pub within : count ≤ length (knowledge new).seen
     pub answered : IfOk scribed (λ (s : Scribed). (s.entries ≡ count) × (head_failed ≡ false))
     pub some : HasToldSome log head_failed before after faults_before faults_after scribed count (knowledge new).seen
+
+-- a feed may run, unless it has ended
+pub record MayRunFeeder (board : SharedBoard) (log : ℕ) (feeder : Feeder) : Type 0 where
+  pub may_use : MayUse board feeder.pass
+  pub going : feeder.lives ≡ true → MayRunFeed board log feeder.pass
+
+-- a feed ran, or one that had ended did nothing and was not read
+pub record LeavesFeeder (board : SharedBoard) (log : ℕ) (run : FeedRun) (ran : Ran) (old new : Feeder) : Type 0 where
+  pub may_use : MayUse board new.pass
+  pub going : old.lives ≡ true → LeavesFeed board log run ran old.pass new.pass
+  pub over : old.lives ≡ false → (new.pass ≡ old.pass) × IsIdle run ran
+
+-- a desk may run, unless it has ended: it prices over the board's map, also the batch that it has open
+pub record MayRunDesk (board : SharedBoard) (desk : Desk) : Type 0 where
+  pub may_use : MayUse board desk.pass
+  pub going : desk.lives ≡ true → MatchOption desk.open_batch (MayOpen board desk.pass) (MayCommit board desk.pass)
+  pub priceable : IfSome desk.open_batch (IsPriceable desk.pricer)
+  pub roads_are : (root_of (knowledge desk.pass)).start.roads ≡ desk.pricer
+
+-- a desk ran, or one that had ended did nothing
+pub record LeavesDesk (board : SharedBoard) (ran : Ran) (old new : Desk) : Type 0 where
+  pub may_use : MayUse board new.pass
+  pub going : old.lives ≡ true → RunsDesk old.open_batch ran (knowledge old.pass) (knowledge new.pass)
+  pub over : old.lives ≡ false → new.pass ≡ old.pass
+  pub only : OnlyWants ran

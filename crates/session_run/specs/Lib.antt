@@ -9,5 +9,6 @@ pub mod Reading
 pub mod Telling
 pub mod Serving
 pub mod Drills
+pub mod Resuming
 pub mod Actors
 pub mod Stages

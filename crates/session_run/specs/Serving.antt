@@ -52,17 +52,17 @@ pub record IsFeedOf (log feed : ℕ) (run : FeedRun) (ran : Ran) (taken : List �
   pub cut : ran.no_memory ≡ false → ending ≡ Cut → (fed_commands feed entries ≡ ended_commands log taken)
       × (Rose run.faults_before run.faults_after ⊎ IsTooLong feed_limits taken)
 
--- a legal history of two feeds, which keeps its promises. Where memory was not wanting each desk ended whole and no batch was
--- given up, and where both feeds were read whole too it is finished
-pub record HasServed (start : State) (desks : ℕ) (ran : Ran) (entries : List Entry) : Type 0 where
+-- a legal history of so many feeds and desks, which keeps its promises. Where memory was not wanting each desk ended whole and no batch was
+-- given up, and where each feed was read whole too it is finished
+pub record HasServed (start : State) (feeds desks : ℕ) (ran : Ran) (entries : List Entry) : Type 0 where
   pub begins : IsStart start
-  pub legal : IsLegal 2 desks start entries
-  pub text : HasText start.settings.log 2 desks entries
+  pub legal : IsLegal feeds desks start entries
+  pub text : HasText start.settings.log feeds desks entries
   pub promises : KeepsPromises start entries
   pub desks_whole : ran.no_memory ≡ false → (desk : ℕ) → IsNumbered desks desk
       → IsTrue (ended_whole (replay start entries) (Desk desk))
   pub none_given_up : ran.no_memory ≡ false → IsFalse (list_any (λ (entry : Entry). is_abandoned entry.event) entries)
-  pub finished : ran.no_memory ≡ false → IsReadWhole ran → IsFinished 2 desks start entries
+  pub finished : ran.no_memory ≡ false → IsReadWhole ran → IsFinished feeds desks start entries
 
 -- the whole log was written, or a prefix of it where the sink failed
 pub record IsWrittenOut (ran : Ran) (before after : Option (List ℕ)) (text : List ℕ) : Type 0 where
@@ -83,7 +83,7 @@ pub record HasNotServed (riders drivers : FeedRun) (ran : Ran) (before after : O
 abbrev pub IsServed : State → ℕ → FeedRun → FeedRun → Ran → Option (List ℕ) → Option (List ℕ) → Type 0
 IsServed start desks riders drivers ran before after =
     (riders_taken drivers_taken : List ℕ) × (entries : List Entry)
-    × HasServed start desks ran entries
+    × HasServed start 2 desks ran entries
     × IsFeedOf start.settings.log 1 riders ran riders_taken entries
     × IsFeedOf start.settings.log 2 drivers ran drivers_taken entries
     × (ran.too_long ≡ true → IsTooLong feed_limits riders_taken ⊎ IsTooLong feed_limits drivers_taken)

@@ -1,62 +1,84 @@
 -- A session before and after its actors ran.
-use Rattle.std.specs.Prelude.{◌≡◌, ◌≢◌, ℕ, ◌≤◌, ◌+◌, not, Bool, false, List, [], ◌∷◌, length, All, Option, Result, Ok, Err, IfSome, IsNone, IsSomeAnd, MatchOption}
+use Rattle.std.specs.Prelude.{◌≡◌, ◌≢◌, ℕ, ◌≤◌, ◌+◌, ◌||◌, not, Bool, false, List, [], ◌∷◌, length, Option, Result, Ok, Err, IfSome, IsNone, IsSomeAnd, MatchOption}
 use mathlib.Core.List.{IsPrefix}
 use Rattle.ride_model.specs.declared.command.Actor.TheVariants.{Feed, Desk as DeskNumbered}
+use Rattle.ride_model.specs.History.{fed_commands}
 use Rattle.ride_model.specs.Legal.{IsLegal}
+use Rattle.ride_model.specs.Limits.{most_earlier_commands}
 use Rattle.ride_model.specs.Road.{RoadMap}
-use Rattle.ride_model.specs.State.{State}
+use Rattle.ride_model.specs.Seating.{BatchCopy}
+use Rattle.ride_model.specs.State.{has_ended, open_batch_of}
 use Rattle.ride_model.specs.Text.{HasText}
 use Rattle.ride_ports.specs.declared.outcome.Ran.{Ran}
 use Rattle.ride_ports.specs.declared.sources.Failed.{Failed}
 use Rattle.history_laws.specs.Start.{IsStart}
-use Rattle.board_core.specs.Recorded.{Recorded}
+use Rattle.board_core.specs.Recorded.{Recorded, state_of}
 use Rattle.turn_lock.specs.Passes.{knowledge}
 use Rattle.fleet_board.specs.declared.shared.SharedBoard.{SharedBoard}
 use Rattle.fleet_board.specs.Passes.{IsPoint, root_of}
-use Rattle.fleet_board.specs.Sets.{IsBack, IsNewDesk, IsNewFeed, IsPartOf, one_if_some}
+use Rattle.fleet_board.specs.Sets.{IsBack, IsNewPass, IsPartOf, one_if_some}
 use Rattle.fleet_board.specs.Turns.{as_began}
 use Rattle.text_page.specs.Output.{IsFresh}
 use Rattle.session_run.specs.declared.live.actors.Actors.{Actors}
 use Rattle.session_run.specs.declared.live.actors.Answers.{Answers}
 use Rattle.session_run.specs.declared.live.desk_pairs.Desk.{Desk}
 use Rattle.session_run.specs.declared.live.desk_pairs.Desks.{Desks}
-use Rattle.session_run.specs.declared.live.feed_pairs.FeedPasses.{FeedPasses}
-use Rattle.session_loops.specs.declared.scribes.Scribed.{Scribed}
+use Rattle.session_run.specs.declared.live.feed_pairs.Feeder.{Feeder}
+use Rattle.session_run.specs.declared.live.feed_pairs.Feeders.{Feeders}
+use Rattle.session_run.specs.declared.live.stages.Living.{Living}
 use Rattle.session_run.specs.declared.live.stages.Stage.{Stage}
-use Rattle.session_run.specs.Actors.{LeavesDesk, LeavesFeed, LeavesScribe, MayRunDesk, MayRunFeed, MayScribe, either}
+use Rattle.session_loops.specs.declared.scribes.Scribed.{Scribed}
+use Rattle.session_run.specs.Actors.{IsIdle, LeavesDesk, LeavesFeeder, LeavesScribe, MayRunDesk, MayRunFeeder, MayScribe, either}
 use Rattle.session_run.specs.Serving.{FeedRun}
 
--- the board of a session of two feeds as it begins
-abbrev pub session_root : State → ℕ → Recorded
-session_root start desks = record { start = start; feeds = 2; desks = desks; history = []; spare = 0 }
+-- the board that a session goes on from, by the scribe's pass: as it began, and then with what had happened
+abbrev pub board_of : Stage → Recorded
+board_of stage = record (root_of (knowledge stage.actors.scribe)) { history = (knowledge stage.actors.scribe).seen }
 
--- the board as it began, by the scribe's pass
-abbrev pub root_at : Stage → Recorded
-root_at stage = root_of (knowledge stage.actors.scribe)
+-- which actors of a board have not ended: of drivers and of a second desk only where there are such
+pub record AreLiving (board : Recorded) (living : Living) : Type 0 where
+  pub riders : living.riders ≡ not (has_ended (state_of board) (Feed 1))
+  pub drivers : board.feeds ≡ 2 → living.drivers ≡ not (has_ended (state_of board) (Feed 2))
+  pub first : living.first ≡ not (has_ended (state_of board) (DeskNumbered 1))
+  pub second : living.second ≡ not (has_ended (state_of board) (DeskNumbered 2))
 
--- nothing has happened yet
+-- a desk has this pricer's map and this open batch, and has ended or not
+pub record IsEquipped (roads : RoadMap) (batch : Option BatchCopy) (lives : Bool) (desk : Desk) : Type 0 where
+  pub pricer_is : desk.pricer ≡ roads
+  pub batch_is : desk.open_batch ≡ batch
+  pub lives_is : desk.lives ≡ lives
+
+-- a feed of a board that was shared as it stands, and a desk of one
+pub record IsFeederOf (shared : SharedBoard) (board : Recorded) (feed : ℕ) (feeder : Feeder) : Type 0 where
+  pub pass : IsNewPass shared board feed feeder.pass
+  pub lives_is : feeder.lives ≡ not (has_ended (state_of board) (Feed feed))
+
+pub record IsDeskOf (shared : SharedBoard) (board : Recorded) (number : ℕ) (desk : Desk) : Type 0 where
+  pub pass : IsNewPass shared board (number + 2) desk.pass
+  pub equipped : IsEquipped board.start.roads (open_batch_of (state_of board) number) (not (has_ended (state_of board) (DeskNumbered number))) desk
+
+-- a board was shared as it stands, with all that its actors need
 pub record IsReady (stage : Stage) : Type 0 where
-  pub bare : (root_at stage).history ≡ []
-  pub feed_1 : IsNewFeed stage.board (root_at stage) 1 stage.actors.feeds.riders
-  pub feed_2 : IsNewFeed stage.board (root_at stage) 2 stage.actors.feeds.drivers
-  pub desk_1 : IsNewDesk stage.board (root_at stage) 3 stage.actors.desks.first.pass
-  pub pricer_1 : stage.actors.desks.first.pricer ≡ (root_at stage).start.roads
-  pub desk_2 : MatchOption stage.actors.desks.second ((root_at stage).desks ≢ 2) (λ (desk : Desk). ((root_at stage).desks ≡ 2)
-      × IsNewDesk stage.board (root_at stage) 4 desk.pass × (desk.pricer ≡ (root_at stage).start.roads))
+  pub few : (feed : ℕ) → length (fed_commands feed (board_of stage).history) ≤ most_earlier_commands
+  pub feed_1 : IsFeederOf stage.board (board_of stage) 1 stage.actors.feeds.riders
+  pub feed_2 : MatchOption stage.actors.feeds.drivers ((board_of stage).feeds ≢ 2)
+      (λ (feeder : Feeder). ((board_of stage).feeds ≡ 2) × IsFeederOf stage.board (board_of stage) 2 feeder)
+  pub desk_1 : IsDeskOf stage.board (board_of stage) 1 stage.actors.desks.first
+  pub desk_2 : MatchOption stage.actors.desks.second ((board_of stage).desks ≢ 2)
+      (λ (desk : Desk). ((board_of stage).desks ≡ 2) × IsDeskOf stage.board (board_of stage) 2 desk)
   pub scribe : IsBack stage.board 0 stage.actors.scribe
   pub scribe_point : IsPoint (knowledge stage.actors.scribe)
-  pub scribe_seen : (knowledge stage.actors.scribe).seen ≡ []
-  pub out : (knowledge stage.actors.scribe).out ≡ 3 + one_if_some stage.actors.desks.second
+  pub out : (knowledge stage.actors.scribe).out ≡ 2 + one_if_some stage.actors.feeds.drivers + one_if_some stage.actors.desks.second
   pub output : IsFresh stage.output
 
 -- all passes are back
 pub record MayClose (board : SharedBoard) (actors : Actors) : Type 0 where
-  pub feed_1 : IsBack board 1 actors.feeds.riders
-  pub feed_2 : IsBack board 2 actors.feeds.drivers
+  pub feed_1 : IsBack board 1 actors.feeds.riders.pass
+  pub feed_2 : IfSome actors.feeds.drivers (λ (feeder : Feeder). IsBack board 2 feeder.pass)
   pub desk_1 : IsBack board 3 actors.desks.first.pass
   pub desk_2 : IfSome actors.desks.second (λ (desk : Desk). IsBack board 4 desk.pass)
   pub scribe : IsBack board 0 actors.scribe
-  pub out : (knowledge actors.scribe).out ≡ 3 + one_if_some actors.desks.second
+  pub out : (knowledge actors.scribe).out ≡ 2 + one_if_some actors.feeds.drivers + one_if_some actors.desks.second
 
 -- the history of the board has each actor's part
 pub record IsClosed (actors : Actors) (board : Recorded) : Type 0 where
@@ -65,20 +87,20 @@ pub record IsClosed (actors : Actors) (board : Recorded) : Type 0 where
   pub legal : IsLegal board.feeds board.desks board.start board.history
   pub text : HasText board.start.settings.log board.feeds board.desks board.history
   pub seen : IsPrefix (knowledge actors.scribe).seen board.history
-  pub feed_1 : IsPartOf board.history (Feed 1) (knowledge actors.feeds.riders)
-  pub feed_2 : IsPartOf board.history (Feed 2) (knowledge actors.feeds.drivers)
+  pub feed_1 : IsPartOf board.history (Feed 1) (knowledge actors.feeds.riders.pass)
+  pub feed_2 : IfSome actors.feeds.drivers (λ (feeder : Feeder). IsPartOf board.history (Feed 2) (knowledge feeder.pass))
   pub desk_1 : IsPartOf board.history (DeskNumbered 1) (knowledge actors.desks.first.pass)
   pub desk_2 : IfSome actors.desks.second (λ (desk : Desk). IsPartOf board.history (DeskNumbered 2) (knowledge desk.pass))
 
--- both feeds may run
-pub record MayRunFeeds (board : SharedBoard) (log : ℕ) (passes : FeedPasses) : Type 0 where
-  pub riders : MayRunFeed board log passes.riders
-  pub drivers : MayRunFeed board log passes.drivers
+-- each feed may run
+pub record MayRunFeeds (board : SharedBoard) (log : ℕ) (feeders : Feeders) : Type 0 where
+  pub riders : MayRunFeeder board log feeders.riders
+  pub drivers : IfSome feeders.drivers (MayRunFeeder board log)
 
 -- each desk may run
 pub record MayRunDesks (board : SharedBoard) (desks : Desks) : Type 0 where
-  pub first : MayRunDesk board desks.first.pass desks.first.pricer
-  pub second : IfSome desks.second (λ (desk : Desk). MayRunDesk board desk.pass desk.pricer)
+  pub first : MayRunDesk board desks.first
+  pub second : IfSome desks.second (MayRunDesk board)
 
 -- all actors may run
 pub record MayRunActors (board : SharedBoard) (log : ℕ) (actors : Actors) : Type 0 where
@@ -86,16 +108,17 @@ pub record MayRunActors (board : SharedBoard) (log : ℕ) (actors : Actors) : Ty
   pub desks : MayRunDesks board actors.desks
   pub scribe : MayScribe board log actors.scribe
 
--- both feeds ran, each with its answer
-pub record LeavesFeeds (board : SharedBoard) (log : ℕ) (riders drivers : FeedRun) (answers : Ran × Ran) (old new : FeedPasses) : Type 0 where
-  pub of_riders : LeavesFeed board log riders answers.0 old.riders new.riders
-  pub of_drivers : LeavesFeed board log drivers answers.1 old.drivers new.drivers
+-- each feed ran with its answer; of drivers without a feed nothing was read
+pub record LeavesFeeds (board : SharedBoard) (log : ℕ) (riders drivers : FeedRun) (answers : Ran × Ran) (old new : Feeders) : Type 0 where
+  pub of_riders : LeavesFeeder board log riders answers.0 old.riders new.riders
+  pub of_drivers : MatchOption old.drivers (IsNone new.drivers × IsIdle drivers answers.1)
+      (λ (earlier : Feeder). IsSomeAnd new.drivers (LeavesFeeder board log drivers answers.1 earlier))
 
 -- each desk ran, with one answer of them all
 pub record LeavesDesks (board : SharedBoard) (ran : Ran) (old new : Desks) : Type 0 where
-  pub first : LeavesDesk board ran old.first.pass new.first.pass
+  pub first : LeavesDesk board ran old.first new.first
   pub second : MatchOption old.second (IsNone new.second)
-      (λ (earlier : Desk). IsSomeAnd new.second (λ (later : Desk). LeavesDesk board ran earlier.pass later.pass))
+      (λ (earlier : Desk). IsSomeAnd new.second (LeavesDesk board ran earlier))
 
 -- all actors ran
 pub record LeavesActors (board : SharedBoard) (log : ℕ) (riders drivers : FeedRun) (head_failed : Bool)
@@ -109,12 +132,13 @@ abbrev pub is_cut_short : Result Scribed Failed → Bool
 is_cut_short (Ok scribed) = not scribed.whole
 is_cut_short (Err _) = false
 
--- what kept a session from running whole, by what its loops answered and whether its sink failed
-abbrev pub ran_of : Answers → Bool → Ran
-ran_of answers sink_failed =
+-- what kept a session from running whole, by what its loops answered, whether its sink failed, and whether something was broken off
+-- before it
+abbrev pub ran_of : Answers → Bool → Bool → Ran
+ran_of answers sink_failed broken_off =
     either (either answers.riders answers.drivers) (either answers.desks (record {
       sink_failed = sink_failed;
-      no_memory = is_cut_short answers.scribed;
+      no_memory = is_cut_short answers.scribed || broken_off;
       source_failed = false;
       too_long = false;
     }))

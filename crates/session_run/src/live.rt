@@ -1,10 +1,12 @@
-//! Sessions of two feeds, whose riders and drivers are answered while desks price.
+//! Live sessions, whose riders and drivers are answered while desks price: from their beginning, or from a board as it stands.
 mod actors;
 mod desk_pairs;
 mod feed_pairs;
 mod outcomes;
+mod resuming;
 mod serving;
 mod shared;
 mod stages;
 
+pub use resuming::{Interrupted, resume};
 pub use serving::{Outset, serve};

@@ -8,7 +8,7 @@ ghost use Rattle.session_run.specs.Serving.{feed_run};
 ghost use Rattle.session_run.specs.Stages.{LeavesActors, LeavesDesks, LeavesFeeds, MayRunActors, MayRunDesks, MayRunFeeds};
 
 use super::desk_pairs::{Desks, run_desks};
-use super::feed_pairs::{FeedPasses, run_feeds};
+use super::feed_pairs::{Feeders, run_feeds};
 use super::shared::Shared;
 use fleet_board::ActorPass;
 use ride_ports::{Failed, Gate, Ran, Sink, Source};
@@ -19,7 +19,7 @@ use std::thread::{Threads, join_mut};
 /// The actors of a session.
 #[derive(Drop)]
 pub(super) struct Actors<'r> {
-    pub(super) feeds: FeedPasses<'r>,
+    pub(super) feeds: Feeders<'r>,
     pub(super) desks: Desks<'r>,
     pub(super) scribe: ActorPass<'r>,
 }
@@ -70,7 +70,7 @@ pub(super) fn run_actors<'r, R: Threads + Wait + Sync, S: Source, K: Sink, G: Ga
 // Runs feeds and desks, and the scribe beside them.
 fn run_all<'r, R: Threads + Wait + Sync, S: Source, K: Sink, G: Gate>(
     shared: &Shared<'_, 'r, R, G>,
-    feeds: &mut FeedPasses<'r>,
+    feeds: &mut Feeders<'r>,
     desks: &mut Desks<'r>,
     scribe: &mut ActorPass<'r>,
     riders: &mut S,
@@ -113,7 +113,7 @@ fn run_all<'r, R: Threads + Wait + Sync, S: Source, K: Sink, G: Gate>(
 // Runs the feeds, and the desks beside them.
 fn run_orders<'r, R: Threads + Wait + Sync, S: Source, G: Gate>(
     shared: &Shared<'_, 'r, R, G>,
-    feeds: &mut FeedPasses<'r>,
+    feeds: &mut Feeders<'r>,
     desks: &mut Desks<'r>,
     riders: &mut S,
     drivers: &mut S,

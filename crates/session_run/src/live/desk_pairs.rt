@@ -3,8 +3,9 @@ ghost use Rattle.std.specs.Thread.{IsSync};
 ghost use Rattle.session_run.specs.Actors.{LeavesDesk, MayRunDesk};
 ghost use Rattle.session_run.specs.Stages.{LeavesDesks, MayRunDesks};
 
-use super::outcomes::either;
+use super::outcomes::{either, nothing_wanting};
 use super::shared::Shared;
+use batch_commit::Batch;
 use fleet_board::ActorPass;
 use pricing_workers::Pricer;
 use ride_ports::{Gate, Ran};
@@ -12,11 +13,15 @@ use session_loops::desk_loop;
 use std::sync::Wait;
 use std::thread::{Threads, join_mut};
 
-/// A desk: its pass, and what prices its batches.
+/// A desk: its pass, what prices its batches, the batch that it has open when the session begins, and whether it has not ended then.
 #[derive(Drop)]
 pub(super) struct Desk<'r> {
     pub(super) pass: ActorPass<'r>,
     pub(super) pricer: Pricer<'r>,
+    pub(super) open_batch: Option<Batch>,
+    pub(super) lives: bool,
+    /// Whether it waits for news first: the session goes on from what had happened, and a feed lives, which tells the time first.
+    pub(super) waits: bool,
 }
 
 /// One desk, or two.
@@ -26,19 +31,26 @@ pub(super) struct Desks<'r> {
     pub(super) second: Option<Desk<'r>>,
 }
 
-// Runs a desk.
+// Runs a desk, unless it has ended.
 fn run_desk<'r, R: Threads + Wait + Sync, G: Gate>(
     shared: &Shared<'_, 'r, R, G>,
     desk: &mut Desk<'r>,
 ) -> Ran
-    requires { MayRunDesk shared.now.board.now desk.old.pass desk.old.pricer }
-    ensures { LeavesDesk shared.now.board.now result desk.old.pass desk.new.pass }
+    requires { MayRunDesk shared.now.board.now desk.old }
+    ensures { LeavesDesk shared.now.board.now result desk.old desk.new }
 {
+    if !desk.lives {
+        return nothing_wanting();
+    }
+    if desk.waits {
+        shared.board.wait_for_news(shared.rt, &desk.pass);
+    }
+    let open_batch = desk.open_batch.take();
     desk_loop(
         shared.rt,
         shared.board,
         &mut desk.pass,
-        None,
+        open_batch,
         &mut desk.pricer,
         shared.gate,
     )
@@ -50,24 +62,20 @@ fn run_both_desks<'r, R: Threads + Wait + Sync, G: Gate>(
     one: &mut Desk<'r>,
     two: &mut Desk<'r>,
 ) -> (Ran, Ran)
-    requires one { MayRunDesk shared.now.board.now one.old.pass one.old.pricer }
-    requires two { MayRunDesk shared.now.board.now two.old.pass two.old.pricer }
-    ensures one { LeavesDesk shared.now.board.now result.0 one.old.pass one.new.pass }
-    ensures two { LeavesDesk shared.now.board.now result.1 two.old.pass two.new.pass }
+    requires one { MayRunDesk shared.now.board.now one.old }
+    requires two { MayRunDesk shared.now.board.now two.old }
+    ensures one { LeavesDesk shared.now.board.now result.0 one.old one.new }
+    ensures two { LeavesDesk shared.now.board.now result.1 two.old two.new }
 {
     join_mut(
         shared.rt,
         &mut || -> Ran
-            requires { IsSync R.row
-                × MayRunDesk shared.now.board.now one.now.pass one.now.pricer }
-            ensures { LeavesDesk shared.entry.now.board.now result
-                one.entry.now.pass one.exit.now.pass }
+            requires { IsSync R.row × MayRunDesk shared.now.board.now one.now }
+            ensures { LeavesDesk shared.entry.now.board.now result one.entry.now one.exit.now }
         { run_desk(shared, one) },
         &mut || -> Ran
-            requires { IsSync R.row
-                × MayRunDesk shared.now.board.now two.now.pass two.now.pricer }
-            ensures { LeavesDesk shared.entry.now.board.now result
-                two.entry.now.pass two.exit.now.pass }
+            requires { IsSync R.row × MayRunDesk shared.now.board.now two.now }
+            ensures { LeavesDesk shared.entry.now.board.now result two.entry.now two.exit.now }
         { run_desk(shared, two) },
     )
 }

@@ -1,8 +1,9 @@
 //! The feeds of riders and of drivers beside one another.
-ghost use Rattle.session_run.specs.Actors.{LeavesFeed, MayRunFeed};
+ghost use Rattle.session_run.specs.Actors.{LeavesFeeder, MayRunFeeder};
 ghost use Rattle.session_run.specs.Serving.{feed_run};
 ghost use Rattle.session_run.specs.Stages.{LeavesFeeds, MayRunFeeds};
 
+use super::outcomes::nothing_wanting;
 use super::shared::Shared;
 use fleet_board::ActorPass;
 use ride_ports::{Gate, Ran, Source};
@@ -10,28 +11,38 @@ use session_loops::feed_loop;
 use std::sync::Wait;
 use std::thread::{Threads, join_mut};
 
-/// The passes of both feeds. Riders are feed 1, drivers feed 2.
+/// A feed: its pass, and whether it has not ended when the session begins.
 #[derive(Drop)]
-pub(super) struct FeedPasses<'r> {
-    pub(super) riders: ActorPass<'r>,
-    pub(super) drivers: ActorPass<'r>,
+pub(super) struct Feeder<'r> {
+    pub(super) pass: ActorPass<'r>,
+    pub(super) lives: bool,
 }
 
-// Runs a feed.
+/// The feed of riders, which is feed 1, and that of drivers, feed 2, where there is one.
+#[derive(Drop)]
+pub(super) struct Feeders<'r> {
+    pub(super) riders: Feeder<'r>,
+    pub(super) drivers: Option<Feeder<'r>>,
+}
+
+// Runs a feed. Of one that has ended nothing is read.
 fn run_feed<'r, R: Wait, S: Source, G: Gate>(
     shared: &Shared<'_, 'r, R, G>,
-    pass: &mut ActorPass<'r>,
+    feeder: &mut Feeder<'r>,
     source: &mut S,
 ) -> Ran
-    requires { MayRunFeed shared.now.board.now shared.now.log pass.old }
-    ensures { LeavesFeed shared.now.board.now shared.now.log
-        (feed_run S.left S.faults source.old source.new) result pass.old pass.new }
+    requires { MayRunFeeder shared.now.board.now shared.now.log feeder.old }
+    ensures { LeavesFeeder shared.now.board.now shared.now.log
+        (feed_run S.left S.faults source.old source.new) result feeder.old feeder.new }
 {
+    if !feeder.lives {
+        return nothing_wanting();
+    }
     feed_loop(
         shared.rt,
         shared.alloc,
         shared.board,
-        pass,
+        &mut feeder.pass,
         source,
         shared.gate,
         shared.log,
@@ -41,52 +52,52 @@ fn run_feed<'r, R: Wait, S: Source, G: Gate>(
 // Runs two feeds.
 fn run_both_feeds<'r, R: Threads + Wait + Sync, S: Source, G: Gate>(
     shared: &Shared<'_, 'r, R, G>,
-    one: &mut ActorPass<'r>,
-    two: &mut ActorPass<'r>,
+    one: &mut Feeder<'r>,
+    two: &mut Feeder<'r>,
     riders: &mut S,
     drivers: &mut S,
 ) -> (Ran, Ran)
-    requires one { MayRunFeed shared.now.board.now shared.now.log one.old }
-    requires two { MayRunFeed shared.now.board.now shared.now.log two.old }
-    ensures one { LeavesFeed shared.now.board.now shared.now.log
+    requires one { MayRunFeeder shared.now.board.now shared.now.log one.old }
+    requires two { MayRunFeeder shared.now.board.now shared.now.log two.old }
+    ensures one { LeavesFeeder shared.now.board.now shared.now.log
         (feed_run S.left S.faults riders.old riders.new) result.0 one.old one.new }
-    ensures two { LeavesFeed shared.now.board.now shared.now.log
+    ensures two { LeavesFeeder shared.now.board.now shared.now.log
         (feed_run S.left S.faults drivers.old drivers.new) result.1 two.old two.new }
 {
     join_mut(
         shared.rt,
         &mut || -> Ran
-            requires { MayRunFeed shared.now.board.now shared.now.log one.now }
-            ensures { LeavesFeed shared.entry.now.board.now shared.entry.now.log
+            requires { MayRunFeeder shared.now.board.now shared.now.log one.now }
+            ensures { LeavesFeeder shared.entry.now.board.now shared.entry.now.log
                 (feed_run S.left S.faults riders.entry.now riders.exit.now)
                 result one.entry.now one.exit.now }
         { run_feed(shared, one, riders) },
         &mut || -> Ran
-            requires { MayRunFeed shared.now.board.now shared.now.log two.now }
-            ensures { LeavesFeed shared.entry.now.board.now shared.entry.now.log
+            requires { MayRunFeeder shared.now.board.now shared.now.log two.now }
+            ensures { LeavesFeeder shared.entry.now.board.now shared.entry.now.log
                 (feed_run S.left S.faults drivers.entry.now drivers.exit.now)
                 result two.entry.now two.exit.now }
         { run_feed(shared, two, drivers) },
     )
 }
 
-/// Runs the feeds of riders and of drivers.
+/// Runs the feeds of riders and of drivers. Where there is no feed of drivers, nothing of theirs is read.
 pub(super) fn run_feeds<'r, R: Threads + Wait + Sync, S: Source, G: Gate>(
     shared: &Shared<'_, 'r, R, G>,
-    passes: &mut FeedPasses<'r>,
+    feeders: &mut Feeders<'r>,
     riders: &mut S,
     drivers: &mut S,
 ) -> (Ran, Ran)
-    requires { MayRunFeeds shared.now.board.now shared.now.log passes.old }
+    requires { MayRunFeeds shared.now.board.now shared.now.log feeders.old }
     ensures { LeavesFeeds shared.now.board.now shared.now.log
         (feed_run S.left S.faults riders.old riders.new)
-        (feed_run S.left S.faults drivers.old drivers.new) result passes.old passes.new }
+        (feed_run S.left S.faults drivers.old drivers.new) result feeders.old feeders.new }
 {
-    run_both_feeds(
-        shared,
-        &mut passes.riders,
-        &mut passes.drivers,
-        riders,
-        drivers,
-    )
+    let Some(mut second) = feeders.drivers.take() else {
+        let ran = run_feed(shared, &mut feeders.riders, riders);
+        return (ran, nothing_wanting());
+    };
+    let answers = run_both_feeds(shared, &mut feeders.riders, &mut second, riders, drivers);
+    feeders.drivers = Some(second);
+    answers
 }

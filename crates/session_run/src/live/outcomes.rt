@@ -1,19 +1,19 @@
 //! What kept a session's loops from running whole.
 ghost use Rattle.std.specs.Prelude.{◌≡◌};
-ghost use Rattle.session_run.specs.Actors.{either};
+ghost use Rattle.session_run.specs.Actors.{either, nothing_wanting};
 ghost use Rattle.session_run.specs.Stages.{is_cut_short, ran_of};
 
 use super::actors::Answers;
 use ride_ports::{Failed, Ran};
 use session_loops::Scribed;
 
-/// What kept a session from running whole.
-pub(super) fn ran_of(answers: &Answers, sink_failed: bool) -> Ran
-    ensures { result ≡ ran_of answers.now sink_failed }
+/// What kept a session from running whole, which began with entries of which some were broken off or none was.
+pub(super) fn ran_of(answers: &Answers, sink_failed: bool, broken_off: bool) -> Ran
+    ensures { result ≡ ran_of answers.now sink_failed broken_off }
 {
     let log = Ran {
         sink_failed,
-        no_memory: is_cut_short(&answers.scribed),
+        no_memory: is_cut_short(&answers.scribed) | broken_off,
         source_failed: false,
         too_long: false,
     };
@@ -30,6 +30,18 @@ fn is_cut_short(scribed: &Result<Scribed, Failed>) -> bool
     match scribed {
         Ok(scribed) => !scribed.whole,
         Err(_) => false,
+    }
+}
+
+/// How an actor runs that has nothing to do.
+pub(super) fn nothing_wanting() -> Ran
+    ensures { result ≡ nothing_wanting }
+{
+    Ran {
+        sink_failed: false,
+        no_memory: false,
+        source_failed: false,
+        too_long: false,
     }
 }
 

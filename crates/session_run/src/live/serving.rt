@@ -1,29 +1,20 @@
-//! Sessions of two feeds.
-ghost use Rattle.std.specs.Prelude.{◌≡◌, ◌≢◌, ℕ, ◌≤◌, ◌⊎◌, ◌++◌, [], false, true, drop, is_err, length, All, IfOk, List, Option, IsTrue};
+//! Sessions of two feeds from their beginning.
+ghost use Rattle.std.specs.Prelude.{◌≡◌, ◌≢◌, ◌≤◌, ◌⊎◌, false, IsTrue};
 ghost use Rattle.ride_model.specs.Fleet.{MayStart};
-ghost use Rattle.ride_model.specs.declared.entry.Entry.{Entry};
 ghost use Rattle.ride_model.specs.State.{start_state};
-ghost use Rattle.ride_model.specs.Text.{HasLine, IsOneOrTwo, entry_lines};
+ghost use Rattle.ride_model.specs.Text.{IsOneOrTwo};
 ghost use Rattle.ride_model.specs.Limits.{most_workers};
 ghost use Rattle.ride_ports.specs.Count.{KeepsCount, Rose, most_count};
-ghost use Rattle.text_page.specs.Output.{HasPut, IsFresh};
-ghost use Rattle.session_loops.specs.declared.scribes.Scribed.{Scribed};
-ghost use Rattle.session_run.specs.Actors.{bare};
 ghost use Rattle.session_run.specs.Serving.{HasNotServed, IsServed, feed_run};
-ghost use Rattle.session_run.specs.Stages.{IsReady, root_at};
 
-use super::actors::run_actors;
-use super::outcomes::ran_of;
-use super::shared::Shared;
-use super::stages::{Stage, begun, closed};
+use super::resuming::{Interrupted, resume};
 use adaptive_roads::Roads;
-use ride_model::{Entry, Fleet, Settings};
-use ride_ports::{Failed, Gate, Ran, Sink, Source};
-use session_loops::{Scribed, put_all, put_head};
+use board_core::Board;
+use ride_model::{Fleet, Settings};
+use ride_ports::{Gate, Ran, Sink, Source};
 use std::alloc::Global;
 use std::sync::Wait;
 use std::thread::Threads;
-use text_page::Output;
 
 /// What a session of two feeds starts with: the settings and the fleet, how many desks there are, and how many workers each has.
 #[derive(Drop)]
@@ -77,93 +68,21 @@ pub fn serve<R: Threads + Wait + Sync, S: Source, K: Sink, G: Gate>(
         workers,
         desks,
     } = outset;
-    match begun(alloc, roads, settings, fleet, workers as usize, desks) {
-        Ok(stage) => run(rt, alloc, stage, riders, drivers, out, gate),
-        Err(_) => Ran {
+    let log = settings.log;
+    let Ok(board) = Board::new(alloc, roads, settings, fleet, 2, desks) else {
+        return Ran {
             sink_failed: false,
             no_memory: true,
             source_failed: false,
             too_long: false,
-        },
-    }
-}
-
-// Runs a session to its end, and writes the whole of its log.
-fn run<'r, R: Threads + Wait + Sync, S: Source, K: Sink, G: Gate>(
-    rt: &R,
-    alloc: Global,
-    stage: Stage<'r>,
-    riders: &mut S,
-    drivers: &mut S,
-    out: &mut K,
-    gate: &G,
-) -> Ran
-    requires ready { IsReady stage }
-    requires log { (root_at stage).start.settings.log ≡ stage.log }
-    requires feeds { (root_at stage).feeds ≡ 2 }
-    requires desks { (root_at stage).desks ≡ stage.desks }
-    ensures served { IsServed (root_at stage.entry).start stage.entry.desks
-        (feed_run S.left S.faults riders.old riders.new)
-        (feed_run S.left S.faults drivers.old drivers.new)
-        result (K.written out.old) (K.written out.new) }
-    ensures source_fault { IsTrue result.source_failed
-        → Rose (S.faults riders.old) (S.faults riders.new)
-        ⊎ Rose (S.faults drivers.old) (S.faults drivers.new) }
-    ensures riders_count_none { result.source_failed ≡ false
-        → S.faults riders.new ≡ S.faults riders.old }
-    ensures drivers_count_none { result.source_failed ≡ false
-        → S.faults drivers.new ≡ S.faults drivers.old }
-    ensures riders_never_fall { S.faults riders.old ≤ S.faults riders.new }
-    ensures drivers_never_fall { S.faults drivers.old ≤ S.faults drivers.new }
-    ensures sink_faults { KeepsCount result.sink_failed (K.faults out.old) (K.faults out.new) }
-{
-    let Stage {
+        };
+    };
+    let nothing = Interrupted {
         board,
-        mut actors,
-        mut output,
-        log,
-        desks,
-    } = stage;
-    put_head(&mut output, out, log, 2, desks);
-    let head_failed = output.failed();
-    let shared = Shared {
-        rt,
-        alloc,
-        board: &board,
-        gate,
+        first: None,
+        second: None,
+        workers,
         log,
     };
-    let answers = run_actors(&shared, &mut actors, riders, drivers, out, head_failed);
-    let board = closed(board, actors);
-    put_rest(&mut output, out, board.entries(), &answers.scribed, log);
-    ran_of(&answers, output.failed())
-}
-
-// Writes what a scribe has not written, unless the sink failed.
-fn put_rest<K: Sink>(
-    output: &mut Output,
-    out: &mut K,
-    entries: &[Entry],
-    scribed: &Result<Scribed, Failed>,
-    log: u8,
-)
-    requires log { IsOneOrTwo log }
-    requires have_lines { All (HasLine log) entries.now }
-    requires within { IfOk scribed.now (λ (s : Scribed). s.entries ≤ length entries.now) }
-    requires sound { IfOk scribed.now (λ (s : Scribed). IsFresh output.old) }
-    ensures logged { (before : Option (List ℕ)) (faults count : ℕ) (text : List ℕ)
-        → IfOk scribed.now (λ (s : Scribed). s.entries ≡ count)
-        → HasPut before (K.written out.old) faults (K.faults out.old)
-        (bare (is_err scribed.now)) text
-        → HasPut before (K.written out.new) faults (K.faults out.new) output.new
-        (text ++ entry_lines log (drop count entries.now)) }
-    ensures nothing_left { output.new.failed ≡ false → output.new.page ≡ [] }
-{
-    match scribed {
-        Ok(scribed) => {
-            put_all(output, out, &entries[scribed.entries as usize..], log);
-            output.end(out);
-        }
-        Err(_) => output.note(Err(Failed)),
-    }
+    resume(rt, alloc, roads, nothing, riders, drivers, out, gate)
 }

@@ -1,18 +1,18 @@
 //! A session from before its actors run to after they did.
 ghost use Rattle.std.specs.Prelude.{◌≡◌, ◌≤◌, IfOk, IsSome, MatchOption, None, Some};
-ghost use Rattle.ride_model.specs.Fleet.{MayStart};
-ghost use Rattle.ride_model.specs.State.{start_state};
-ghost use Rattle.ride_model.specs.Text.{IsOneOrTwo};
-ghost use Rattle.session_run.specs.Stages.{IsClosed, IsReady, MayClose, root_at, session_root};
+ghost use Rattle.session_run.specs.Resuming.{MayGoOn, breaks_off, is_broken_off};
+ghost use Rattle.session_run.specs.Stages.{AreLiving, IsClosed, IsEquipped, IsReady, MayClose, MayRunActors, board_of};
 
 use super::actors::Actors;
 use super::desk_pairs::{Desk, Desks};
-use super::feed_pairs::FeedPasses;
+use super::feed_pairs::{Feeder, Feeders};
+use super::resuming::Interrupted;
 use adaptive_roads::Roads;
+use batch_commit::Batch;
 use board_core::Board;
 use fleet_board::{ActorPass, PassSet, SharedBoard};
 use pricing_workers::Pricer;
-use ride_model::{Fleet, NoMemory, Settings};
+use ride_model::{Actor, Ending, Entry, Event, NoMemory};
 use std::alloc::Global;
 use text_page::Output;
 
@@ -23,59 +23,130 @@ pub(super) struct Stage<'r> {
     pub(super) actors: Actors<'r>,
     pub(super) output: Output,
     pub(super) log: u8,
+    pub(super) feeds: u8,
     pub(super) desks: u8,
+    /// Whether an actor was cut, or a batch given up, before the session began.
+    pub(super) broken_off: bool,
+}
+
+/// Which actors of a board have not ended, and whether something has happened on it.
+#[derive(Clone, Copy)]
+struct Living {
+    riders: bool,
+    drivers: bool,
+    first: bool,
+    second: bool,
+    has_begun: bool,
 }
 
 /// Takes all memory that a session needs before its actors run.
 pub(super) fn begun<'r>(
     alloc: Global,
     roads: &'r Roads,
-    settings: Settings,
-    fleet: Fleet,
-    workers: usize,
-    desks: u8,
+    interrupted: Interrupted<'r>,
 ) -> Result<Stage<'r>, NoMemory>
-    requires start { MayStart roads.now settings fleet }
-    requires workers { 1 ≤ workers }
-    requires desks { IsOneOrTwo desks }
+    requires may_go_on { MayGoOn roads.now interrupted }
+    requires workers { 1 ≤ interrupted.workers }
     ensures ready { IfOk result IsReady }
-    ensures root { IfOk result (λ stage. root_at stage
-        ≡ session_root (start_state roads.now settings fleet) desks) }
-    ensures log { IfOk result (λ stage. stage.log ≡ settings.log) }
-    ensures desks { IfOk result (λ stage. stage.desks ≡ desks) }
+    ensures board { IfOk result (λ stage. board_of stage
+        ≡ record interrupted.entry.board { spare = 0 }) }
+    ensures may_run { IfOk result
+        (λ stage. MayRunActors stage.board stage.log stage.actors) }
+    ensures log { IfOk result (λ stage. stage.log ≡ interrupted.entry.log) }
+    ensures feeds { IfOk result (λ stage. stage.feeds ≡ interrupted.entry.board.feeds) }
+    ensures desks { IfOk result (λ stage. stage.desks ≡ interrupted.entry.board.desks) }
+    ensures broken_off { IfOk result (λ stage. stage.broken_off
+        ≡ is_broken_off interrupted.entry.board.history) }
 {
-    let log = settings.log;
+    let Interrupted {
+        board,
+        first,
+        second,
+        workers,
+        log,
+    } = interrupted;
     let output = Output::new(alloc)?;
-    let board = Board::new(alloc, roads, settings, fleet, 2, desks)?;
-    let (board, passes) = SharedBoard::start(alloc, board)?;
-    let actors = actors_of(alloc, roads, passes, workers)?;
+    let feeds = board.feeds();
+    let desks = board.desks();
+    let living = living_on(&board);
+    let broken_off = is_broken_off(board.entries());
+    let (board, passes) = SharedBoard::share(alloc, board)?;
+    let actors = actors_of(
+        alloc,
+        roads,
+        passes,
+        living,
+        first,
+        second,
+        workers as usize,
+    )?;
     Ok(Stage {
         board,
         actors,
         output,
         log,
+        feeds,
         desks,
+        broken_off,
     })
 }
 
-// The actors of a set of passes, with pricers for their desks.
+// Which actors of a board have not ended.
+fn living_on(board: &Board<'_>) -> Living
+    ensures { AreLiving board.now result }
+{
+    let two_feeds = board.feeds() == 2;
+    Living {
+        riders: !board.has_ended(Actor::Feed(1)),
+        drivers: two_feeds && !board.has_ended(Actor::Feed(2)),
+        first: !board.has_ended(Actor::Desk(1)),
+        second: !board.has_ended(Actor::Desk(2)),
+        has_begun: !board.entries().is_empty(),
+    }
+}
+
+// Whether one of these entries cuts its actor off, or gives a batch up.
+fn is_broken_off(entries: &[Entry]) -> bool
+    ensures { result ≡ is_broken_off entries.now }
+{
+    entries.iter().any(|entry| breaks_off(entry))
+}
+
+// Whether an entry cuts its actor off, or gives a batch up.
+fn breaks_off(entry: &Entry) -> bool
+    ensures { result ≡ breaks_off entry.now.event }
+{
+    match &entry.event {
+        Event::Finish { ending } => matches!(ending, Ending::Cut),
+        Event::Abandoned { batch: _ } => true,
+        _ => false,
+    }
+}
+
+// The actors of a set of passes, with pricers for their desks, and with the batches that these have open.
 fn actors_of<'r>(
     alloc: Global,
     roads: &'r Roads,
     passes: PassSet<'r>,
+    living: Living,
+    first: Option<Batch>,
+    second: Option<Batch>,
     workers: usize,
 ) -> Result<Actors<'r>, NoMemory>
     requires feed_1 { IsSome passes.feed_1 }
-    requires feed_2 { IsSome passes.feed_2 }
     requires desk_1 { IsSome passes.desk_1 }
     requires workers { 1 ≤ workers }
-    ensures feed_1 { IfOk result (λ actors. passes.entry.feed_1 ≡ Some actors.feeds.riders) }
-    ensures feed_2 { IfOk result (λ actors. passes.entry.feed_2 ≡ Some actors.feeds.drivers) }
+    ensures feed_1 { IfOk result (λ actors. (passes.entry.feed_1 ≡ Some actors.feeds.riders.pass)
+        × (actors.feeds.riders.lives ≡ living.riders)) }
+    ensures feed_2 { IfOk result (λ actors. MatchOption actors.feeds.drivers
+        (passes.entry.feed_2 ≡ None)
+        (λ feeder. (passes.entry.feed_2 ≡ Some feeder.pass) × (feeder.lives ≡ living.drivers))) }
     ensures desk_1 { IfOk result (λ actors. (passes.entry.desk_1 ≡ Some actors.desks.first.pass)
-        × (actors.desks.first.pricer ≡ roads.now)) }
+        × IsEquipped roads.now first living.first actors.desks.first) }
     ensures desk_2 { IfOk result (λ actors. MatchOption actors.desks.second
         (passes.entry.desk_2 ≡ None)
-        (λ desk. (passes.entry.desk_2 ≡ Some desk.pass) × (desk.pricer ≡ roads.now))) }
+        (λ desk. (passes.entry.desk_2 ≡ Some desk.pass)
+        × IsEquipped roads.now second living.second desk)) }
     ensures scribe { IfOk result (λ actors. actors.scribe ≡ passes.entry.scribe) }
 {
     let PassSet {
@@ -85,21 +156,31 @@ fn actors_of<'r>(
         desk_2,
         scribe,
     } = passes;
-    let Some(riders) = feed_1 else {
+    let waits = living.has_begun && (living.riders || living.drivers);
+    let Some(riders) = feeder_of(feed_1, living.riders) else {
         unreachable!();
     };
-    let Some(drivers) = feed_2 else {
+    let drivers = feeder_of(feed_2, living.drivers);
+    let Some(first) = desk_of(alloc, roads, desk_1, first, living.first, waits, workers)? else {
         unreachable!();
     };
-    let Some(first) = desk_of(alloc, roads, desk_1, workers)? else {
-        unreachable!();
-    };
-    let second = desk_of(alloc, roads, desk_2, workers)?;
+    let second = desk_of(alloc, roads, desk_2, second, living.second, waits, workers)?;
     Ok(Actors {
-        feeds: FeedPasses { riders, drivers },
+        feeds: Feeders { riders, drivers },
         desks: Desks { first, second },
         scribe,
     })
+}
+
+// The feed of a pass.
+fn feeder_of<'r>(pass: Option<ActorPass<'r>>, lives: bool) -> Option<Feeder<'r>>
+    ensures { MatchOption result (pass.entry ≡ None)
+        (λ feeder. (pass.entry ≡ Some feeder.pass) × (feeder.lives ≡ lives)) }
+{
+    match pass {
+        Some(pass) => Some(Feeder { pass, lives }),
+        None => None,
+    }
 }
 
 // The desk of a pass, with a pricer of so many workers.
@@ -107,17 +188,27 @@ fn desk_of<'r>(
     alloc: Global,
     roads: &'r Roads,
     pass: Option<ActorPass<'r>>,
+    open_batch: Option<Batch>,
+    lives: bool,
+    waits: bool,
     workers: usize,
 ) -> Result<Option<Desk<'r>>, NoMemory>
     requires { 1 ≤ workers }
     ensures { IfOk result (λ made. MatchOption made (pass.entry ≡ None)
-        (λ desk. (pass.entry ≡ Some desk.pass) × (desk.pricer ≡ roads.now))) }
+        (λ desk. (pass.entry ≡ Some desk.pass)
+        × IsEquipped roads.now open_batch lives desk)) }
 {
     let Some(pass) = pass else {
         return Ok(None);
     };
     let pricer = Pricer::new(alloc, roads, workers)?;
-    Ok(Some(Desk { pass, pricer }))
+    Ok(Some(Desk {
+        pass,
+        pricer,
+        open_batch,
+        lives,
+        waits,
+    }))
 }
 
 /// Takes the board back from its actors.
@@ -130,11 +221,11 @@ pub(super) fn closed<'r>(board: SharedBoard<'r>, actors: Actors<'r>) -> Board<'r
         desks,
         scribe,
     } = actors;
-    let FeedPasses { riders, drivers } = feeds;
+    let Feeders { riders, drivers } = feeds;
     let Desks { first, second } = desks;
     let passes = PassSet {
-        feed_1: Some(riders),
-        feed_2: Some(drivers),
+        feed_1: Some(riders.pass),
+        feed_2: pass_of_feeder(drivers),
         desk_1: Some(first.pass),
         desk_2: pass_of(second),
         scribe,
@@ -142,6 +233,16 @@ pub(super) fn closed<'r>(board: SharedBoard<'r>, actors: Actors<'r>) -> Board<'r
     match board.close(passes) {
         Ok(board) => board,
         Err(_) => unreachable!(),
+    }
+}
+
+// The pass of a feed.
+fn pass_of_feeder<'r>(feeder: Option<Feeder<'r>>) -> Option<ActorPass<'r>>
+    ensures { MatchOption feeder.entry (result ≡ None) (λ f. result ≡ Some f.pass) }
+{
+    match feeder {
+        Some(feeder) => Some(feeder.pass),
+        None => None,
     }
 }
 

@@ -3,7 +3,7 @@ use Rattle.std.specs.Prelude.{option_map, string_bytes}
 use Rattle.ride_model.specs.Fleet.{MayStart}
 use Rattle.ride_model.specs.Road.{RoadMap}
 use Rattle.std.proofs.lemmas.Result.{err_from_is_err_and}
-use Rattle.dispatcher.proofs.Texts.{at-fleet, at-map, at-second, no-roads, texts-read}
+use Rattle.dispatcher.proofs.TextRuns.{at-fleet, at-map, at-second, no-roads, texts-read}
 use Rattle.dispatcher.proofs.files.bring_texts.Goals as goal
 
 pub returns-in_err-map-clause-texts : goal.returns-in_err-map-clause-texts

@@ -3,7 +3,7 @@ use Rattle.std.specs.Prelude.{string_bytes}
 use Rattle.run_words.specs.Words.{a_booking, feed_file}
 use Rattle.dispatcher.proofs.Reading.{none-read}
 use Rattle.dispatcher.proofs.Running.{any-text, work-run}
-use Rattle.dispatcher.proofs.Texts.{nothing}
+use Rattle.dispatcher.proofs.TextRuns.{nothing}
 use Rattle.dispatcher.proofs.runs.book.Goals as goal
 
 pub returns : goal.returns

@@ -1,14 +1,16 @@
-use Rattle.std.proofs.Common.{ℕ, inr, subst}
-use Rattle.board_core.specs.Recorded.{Recorded}
 use Rattle.ride_model.specs.State.{start_state}
-use Rattle.session_run.specs.Serving.{FeedRun, IsServed, feed_run}
+use Rattle.session_run.specs.Serving.{feed_run}
+use Rattle.session_run.proofs.Beginnings.{may-begin, served-first}
 use Rattle.session_run.proofs.live.serving.serve.Goals as goal
 
-pub returns-in-Ok-clause-log : goal.returns-in-Ok-clause-log
-returns-in-Ok-clause-log g c =
-    let riders : FeedRun = feed_run g.S.Source.left g.S.Source.faults c.args.riders.now c.run.new.riders in
-    let drivers : FeedRun = feed_run g.S.Source.left g.S.Source.faults c.args.drivers.now c.run.new.drivers in
-    let root = subst (λ (root : Recorded). IsServed root.start c.in-Ok.stage.desks riders drivers c.run.result (g.K.Sink.written c.args.out.now)
-    (g.K.Sink.written c.run.new.out)) c.in-Ok.ensures.root c.run.ensures.served in
-    inr (subst (λ (desks : ℕ). IsServed (start_state c.args.roads.now c.args.outset.settings c.args.outset.fleet) desks riders drivers c.run.result
-    (g.K.Sink.written c.args.out.now) (g.K.Sink.written c.run.new.out)) c.in-Ok.ensures.desks root)
+pub resume-requires-clause-may_go_on : goal.resume-requires-clause-may_go_on
+resume-requires-clause-may_go_on g c κs bounds =
+    may-begin c.in-Ok.board c.args.roads.now c.args.outset.settings c.args.outset.fleet c.args.outset.workers c.in-Ok.ensures.start c.in-Ok.ensures.history
+
+pub returns-clause-log : goal.returns-clause-log
+returns-clause-log g c =
+    served-first c.args.outset.desks (feed_run g.S.Source.left g.S.Source.faults c.args.riders.now c.resume.new.riders)
+    (feed_run g.S.Source.left g.S.Source.faults c.args.drivers.now c.resume.new.drivers) c.resume.result
+    (g.K.Sink.written c.args.out.now) (g.K.Sink.written c.resume.new.out) c.in-Ok.board
+    (start_state c.args.roads.now c.args.outset.settings c.args.outset.fleet) c.in-Ok.ensures.start c.in-Ok.ensures.feeds c.in-Ok.ensures.desks
+    c.in-Ok.ensures.history c.resume.ensures.log

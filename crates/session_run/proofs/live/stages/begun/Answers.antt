@@ -1,49 +1,80 @@
-use Rattle.std.proofs.Common.{◌≡◌, ◌≢◌, List, None, Some, sym, ap, subst, ◌∙◌}
+use Rattle.std.proofs.Common.{◌≡◌, ◌≢◌, ◌≤◌, length, sym, ap, subst, ◌∙◌}
 use Rattle.std.specs.Prelude.{MatchOption}
-use Rattle.ride_model.specs.Road.{RoadMap}
-use Rattle.ride_model.specs.State.{State}
+use Rattle.ride_model.specs.History.{fed_commands}
+use Rattle.ride_model.specs.Limits.{most_earlier_commands}
 use Rattle.board_core.specs.Recorded.{Recorded}
 use Rattle.turn_lock.specs.Passes.{knowledge}
 use Rattle.fleet_board.specs.Passes.{root_of}
-use Rattle.fleet_board.specs.Sets.{IsBack, IsNewDesk, IsNewFeed, one_if_some}
-use Rattle.fleet_board.specs.Turns.{as_began}
+use Rattle.fleet_board.specs.Sets.{IsBack, IsNewPass, one_if_some}
 use Rattle.session_run.specs.declared.live.desk_pairs.Desk.{Desk}
-use Rattle.session_run.proofs.StageLemmas.{at-match, at-some, four, second-count, second-ready}
+use Rattle.session_run.specs.declared.live.feed_pairs.Feeder.{Feeder}
+use Rattle.session_run.specs.declared.live.stages.Stage.{Stage}
+use Rattle.session_run.specs.Stages.{IsDeskOf, IsEquipped, IsFeederOf, MayRunActors}
+use Rattle.session_run.proofs.StageLemmas.{at-some, equip, four, second-count, second-ready}
+use Rattle.session_run.proofs.Starts.{may-run}
 use Rattle.session_run.proofs.live.stages.begun.Goals as goal
+
+pub returns-clause-board : goal.returns-clause-board
+returns-clause-board c =
+    let said = c.in_ok-board.ensures in
+    let passes = c.in_ok-board.passes in
+    ap (λ pass. record (root_of (knowledge pass)) { history = (knowledge pass).seen }) c.in_ok-actors.ensures.scribe
+    ∙ (λ i. record (root_of (record (knowledge passes.scribe) { root = said.root i })) { history = said.scribe_seen i })
 
 pub returns-clause-ready : goal.returns-clause-ready
 returns-clause-ready c =
-    let board = c.in_ok-board-2.board in
-    let passes = c.in_ok-board-2.passes in
+    let shared = c.in_ok-board.board in
+    let passes = c.in_ok-board.passes in
     let actors = c.in_ok-actors.actors in
-    let first : Recorded = as_began c.in_ok-board.board in
-    let root : Recorded = root_of (knowledge actors.scribe) in
-    let said = c.in_ok-board-2.ensures in
+    let board : Recorded = record c.args.interrupted.board { spare = 0 } in
+    let living = c.living_on-living.result in
+    let lives = c.living_on-living.ensures in
+    let said = c.in_ok-board.ensures in
     let are = c.in_ok-actors.ensures in
-    let began : first ≡ root =
-    sym (ap (λ (roots : List Recorded). root_of (record (knowledge passes.scribe) { root = roots })) said.root)
-    ∙ ap (λ pass. root_of (knowledge pass)) (sym are.scribe) in
-    let roads_are : c.args.roads.now ≡ root.start.roads =
-    sym (ap (λ (s : State). s.roads) c.in_ok-board.ensures.start) ∙ ap (λ (r : Recorded). r.start.roads) began in
-    let desk_2 : MatchOption actors.desks.second (passes.desk_2 ≡ None)
-    (λ (desk : Desk). (passes.desk_2 ≡ Some desk.pass) × (desk.pricer ≡ root.start.roads))
-    = subst (λ (m : RoadMap). MatchOption actors.desks.second (passes.desk_2 ≡ None) (λ (desk : Desk). (passes.desk_2 ≡ Some desk.pass) × (desk.pricer ≡ m)))
-    roads_are are.desk_2 in
+    let may = c.requires.may_go_on in
+    let same : record (root_of (knowledge actors.scribe)) { history = (knowledge actors.scribe).seen } ≡ board =
+    ap (λ pass. record (root_of (knowledge pass)) { history = (knowledge pass).seen }) are.scribe
+    ∙ (λ i. record (root_of (record (knowledge passes.scribe) { root = said.root i })) { history = said.scribe_seen i }) in
     record {
-      bare = sym (ap (λ (r : Recorded). r.history) began);
-      feed_1 = subst (λ (r : Recorded). IsNewFeed board r 1 actors.feeds.riders) began (at-some _ passes.feed_1 actors.feeds.riders are.feed_1 said.feed_1);
-      feed_2 = subst (λ (r : Recorded). IsNewFeed board r 2 actors.feeds.drivers) began (at-match _ _ passes.feed_2 actors.feeds.drivers are.feed_2 said.feed_2).1;
-      desk_1 = subst (λ (r : Recorded). IsNewDesk board r 3 actors.desks.first.pass) began
-          (at-some _ passes.desk_1 actors.desks.first.pass are.desk_1.0 said.desk_1);
-      pricer_1 = are.desk_1.1 ∙ roads_are;
-      desk_2 = second-ready (λ (desk : Desk). desk.pass) passes.desk_2 actors.desks.second (root.desks ≢ 2) (root.desks ≡ 2)
-          (IsNewDesk board root 4) (λ (desk : Desk). desk.pricer ≡ root.start.roads) desk_2 (rw (← began) said.desk_2);
-      scribe = subst (λ pass. IsBack board 0 pass) (sym are.scribe) said.scribe;
+      few = λ feed. subst (λ (b : Recorded). length (fed_commands feed b.history) ≤ most_earlier_commands) (sym same) (may.few feed);
+      feed_1 = subst (λ (b : Recorded). IsFeederOf shared b 1 actors.feeds.riders) (sym same) (record {
+        pass = at-some _ passes.feed_1 actors.feeds.riders.pass are.feed_1.0 said.feed_1;
+        lives_is = are.feed_1.1 ∙ lives.riders;
+      });
+      feed_2 = subst (λ (b : Recorded). MatchOption actors.feeds.drivers (b.feeds ≢ 2) (λ (feeder : Feeder). (b.feeds ≡ 2) × IsFeederOf shared b 2 feeder))
+          (sym same) (second-ready (λ (feeder : Feeder). feeder.pass) passes.feed_2 actors.feeds.drivers (board.feeds ≢ 2) (board.feeds ≡ 2)
+          (IsNewPass shared board 2) (λ (feeder : Feeder). feeder.lives ≡ living.drivers) (IsFeederOf shared board 2)
+          (λ feeder two pass is. record { pass = pass; lives_is = is ∙ lives.drivers two }) are.feed_2 said.feed_2);
+      desk_1 = subst (λ (b : Recorded). IsDeskOf shared b 1 actors.desks.first) (sym same) (record {
+        pass = at-some _ passes.desk_1 actors.desks.first.pass are.desk_1.0 said.desk_1;
+        equipped = equip are.desk_1.1 (sym may.roads_are) may.first_is lives.first;
+      });
+      desk_2 = subst (λ (b : Recorded). MatchOption actors.desks.second (b.desks ≢ 2) (λ (desk : Desk). (b.desks ≡ 2) × IsDeskOf shared b 2 desk))
+          (sym same) (second-ready (λ (desk : Desk). desk.pass) passes.desk_2 actors.desks.second (board.desks ≢ 2) (board.desks ≡ 2)
+          (IsNewPass shared board 4) (IsEquipped c.args.roads.now c.args.interrupted.second living.second) (IsDeskOf shared board 2)
+          (λ desk two pass is. record { pass = pass; equipped = equip is (sym may.roads_are) may.second_is lives.second }) are.desk_2 said.desk_2);
+      scribe = subst (λ pass. IsBack shared 0 pass) (sym are.scribe) said.scribe;
       scribe_point = rw are.scribe said.scribe_point;
-      scribe_seen = rw are.scribe said.scribe_seen;
       out = rw are.scribe (said.out ∙ four (one_if_some passes.feed_1) (one_if_some passes.feed_2) (one_if_some passes.desk_1)
-          (one_if_some passes.desk_2) (one_if_some actors.desks.second) (ap one_if_some are.feed_1) (ap one_if_some are.feed_2)
-          (ap one_if_some are.desk_1.0) (second-count (λ (desk : Desk). desk.pass) passes.desk_2 actors.desks.second
-          (λ (desk : Desk). desk.pricer ≡ root.start.roads) desk_2));
+          (one_if_some passes.desk_2) (one_if_some actors.feeds.drivers) (one_if_some actors.desks.second) (ap one_if_some are.feed_1.0)
+          (second-count (λ (feeder : Feeder). feeder.pass) passes.feed_2 actors.feeds.drivers (λ (feeder : Feeder). feeder.lives ≡ living.drivers) are.feed_2)
+          (ap one_if_some are.desk_1.0)
+          (second-count (λ (desk : Desk). desk.pass) passes.desk_2 actors.desks.second
+          (IsEquipped c.args.roads.now c.args.interrupted.second living.second) are.desk_2));
       output = c.in_ok-output.ensures;
     }
+
+pub returns-clause-may_run : goal.returns-clause-may_run
+returns-clause-may_run c =
+    let stage : Stage = record {
+      board = c.in_ok-board.board;
+      actors = c.in_ok-actors.actors;
+      output = c.in_ok-output.output;
+      log = c.args.interrupted.log;
+      feeds = c.feeds-feeds.result;
+      desks = c.desks-desks.result;
+      broken_off = c.is_broken_off-broken_off.result;
+    } in
+    subst (λ log. MayRunActors c.in_ok-board.board log c.in_ok-actors.actors)
+    (ap (λ (b : Recorded). b.start.settings.log) (returns-clause-board c) ∙ sym c.requires.may_go_on.log_is)
+    (may-run stage (returns-clause-ready c))

@@ -8,7 +8,7 @@ use Rattle.text_page.specs.Output.{HasPut, IsFresh}
 use Rattle.text_page.proofs.OutputLemmas.{put-same}
 use Rattle.session_loops.specs.declared.scribes.Scribed.{Scribed}
 use Rattle.session_run.specs.Actors.{bare}
-use Rattle.session_run.proofs.live.serving.put_rest.Goals as goal
+use Rattle.session_run.proofs.live.resuming.put_rest.Goals as goal
 
 pub returns-in-Ok-clause-logged : goal.returns-in-Ok-clause-logged
 returns-in-Ok-clause-logged g c before faults count text answered has =
