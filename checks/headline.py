@@ -1,12 +1,13 @@
 #!/usr/bin/env python3
-"""Which definitions the contract of `run` reaches: what has to be read, and no more, to know what it says.
+"""Which definitions the contract of `run` reaches, and that of `resume` beyond them: what has to be read, and no more, to know what they say.
 
-    python3 checks/headline.py [--list | --write | --check] [--from crates/dispatcher/src/top.rt --call run]
+    python3 checks/headline.py [--write | --check]
+    python3 checks/headline.py [--list] --from crates/dispatcher/src/top.rt --call run
 
 Prints how many definitions are reached, their lines, files and crates; with --list their names, file by file, in the order of crates.txt. --write
-puts the contract and the definitions themselves into docs/headline.md, behind its mark; --check says whether the page has them as they are, and
-whether README has their number. A definition is one of a crate's `specs/`; types of the code (`specs/declared`) and words of the kit are not counted,
-since the code and the kit's pages have them.
+puts both contracts and the definitions themselves into docs/headline.md, behind its mark; --check says whether the page has them as they are, and
+whether README has their numbers. --from and --call count for another call. A definition is one of a crate's `specs/`; types of the code
+(`specs/declared`) and words of the kit are not counted, since the code and the kit's pages have them.
 """
 import argparse
 import pathlib
@@ -16,6 +17,9 @@ from dataclasses import dataclass, field
 TOP = pathlib.Path(__file__).resolve().parent.parent
 PAGE = TOP / "docs" / "headline.md"
 MARK = "<!-- the contract and its definitions, printed by checks/headline.py --write -->\n"
+RUN = (TOP / "crates" / "dispatcher" / "src" / "top.rt", "run")
+RESUME = (TOP / "crates" / "resumption" / "src" / "top.rt", "resume")
+BEYOND = "\n## What a session that goes on says beyond that\n\n"
 HEAD = re.compile(r"^(?:abbrev |unfoldable )?(?:pub )?(?:abbrev |unfoldable )?(?:record |data )?(\S+)(?: \(| \{| :|$)")
 STARTS = re.compile(r"^(?:abbrev|unfoldable|pub|record|data)\b")
 WORD = re.compile(r"[^\s(){}\[\],.;λ→×∷]+")
@@ -151,29 +155,42 @@ def page_of(path: pathlib.Path, call: str, files: list[tuple[Module, list[Defini
 
 def main() -> None:
     parser = argparse.ArgumentParser(description=__doc__, formatter_class=argparse.RawDescriptionHelpFormatter)
-    parser.add_argument("--from", dest="path", default="crates/dispatcher/src/top.rt", help="the file of the call")
-    parser.add_argument("--call", default="run", help="the call (run)")
+    parser.add_argument("--from", dest="path", help="the file of another call")
+    parser.add_argument("--call", help="the call")
     parser.add_argument("--list", action="store_true", help="the names, file by file")
     parser.add_argument("--write", action="store_true", help="writes the page")
     parser.add_argument("--check", action="store_true", help="says whether the page and README are as the sources are")
     given = parser.parse_args()
     modules = read_modules()
-    found = reached(modules, *contract_of(TOP / given.path, given.call))
-    files, count = in_order(modules, found), count_of(found)
+    call = (TOP / given.path, given.call or "run") if given.path else RUN
+    found = reached(modules, *contract_of(*call))
+    print(count_of(found))
     if given.list:
-        for module, definitions in files:
+        for module, definitions in in_order(modules, found):
             print(f"{module.path.relative_to(TOP)}: {', '.join(definition.name for definition in definitions)}")
+    if not given.path:
+        whole_page(modules, found, given.write, given.check)
+
+
+def whole_page(modules: dict[str, Module], found: list[Definition], writes: bool, checks: bool) -> None:
+    """Prints what `resume` reaches beyond what `run` does, and writes or checks the page of both, as far as that is asked for."""
+    known = {(definition.module, definition.name) for definition in found}
+    more = [d for d in reached(modules, *contract_of(*RESUME)) if (d.module, d.name) not in known]
+    print(f"beyond them: {count_of(more)}")
+    wanted = page_of(*RUN, in_order(modules, found), count_of(found))
+    wanted += BEYOND + page_of(*RESUME, in_order(modules, more), count_of(more))
     before, mark, after = PAGE.read_text(encoding="utf-8").partition(MARK)
-    wanted = page_of(TOP / given.path, given.call, files, count)
-    if given.write:
+    if writes:
         PAGE.write_text(before + mark + wanted, encoding="utf-8")
-    print(count)
-    if given.check:
-        faults = [] if after == wanted else ["docs/headline.md is not as the sources are: python3 checks/headline.py --write"]
-        if f"{len(found)} definitions" not in (TOP / "README.md").read_text(encoding="utf-8"):
-            faults.append(f"README.md does not say that {len(found)} definitions are reached")
-        print("\n".join(faults), end="\n" if faults else "")
-        raise SystemExit(1 if faults else 0)
+    if not checks:
+        return
+    faults = [] if after == wanted else ["docs/headline.md is not as the sources are: python3 checks/headline.py --write"]
+    readme = (TOP / "README.md").read_text(encoding="utf-8")
+    for said in (f"{len(found)} definitions", f"{len(more)} more"):
+        if said not in readme:
+            faults.append(f"README.md does not say that {said} are reached")
+    print("\n".join(faults), end="\n" if faults else "")
+    raise SystemExit(1 if faults else 0)
 
 
 if __name__ == "__main__":

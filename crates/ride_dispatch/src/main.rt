@@ -1,16 +1,9 @@
 //! The dispatcher's program: it reads the words after its name, and ends with the status of `run`.
 #![tactic(auto)]
 
-mod messages;
-mod options;
-mod overheard;
-mod texts;
-mod verdicts;
-
 use dispatcher::{WORDS_REFUSED, run};
-use messages::{Report, tell_threads};
-use overheard::Overheard;
 use ride_ports::{FileShelf, OpenGate, Sink, StdoutSink, write_all};
+use run_messages::{Overheard, Program, Report, tell_threads};
 use std::env::{self, Env};
 use std::io;
 use std::process::ExitCode;
@@ -21,7 +14,7 @@ fn main(rt: HostRuntime) -> ExitCode {
         Ok(words) => words,
         Err(error) => return ExitCode::from(status_without_words(&error, &mut out)),
     };
-    tell_threads(&rt, words.as_slice());
+    tell_threads(&rt, Program::Dispatch, words.as_slice());
     let mut shelf = FileShelf::new(&rt);
     let status = run(
         &rt,
@@ -32,6 +25,7 @@ fn main(rt: HostRuntime) -> ExitCode {
         &OpenGate,
     );
     let report = Report {
+        program: Program::Dispatch,
         status,
         words: words.as_slice(),
         asked: shelf.asked(),

@@ -28,6 +28,7 @@ mod gates;
 mod leagues;
 mod limits;
 mod refusals;
+mod resumed;
 mod seatings;
 mod serving;
 mod sheets;
@@ -37,6 +38,7 @@ mod turns;
 
 use dispatcher::run;
 use gates::{Gated, Meeting, Watched};
+use resumption::resume;
 use ride_ports::{Gate, MemFile, MemShelf, MemSink, Sink};
 use std::process::Abort;
 use std::sync::Wait;
@@ -254,7 +256,14 @@ fn run_over<R: Abort + Threads + Wait + Sync + AllocGlobal, K: Sink, G: Gate>(
     let words = words_of(rt, words);
     let files = files_of(rt, setup);
     let mut shelf = MemShelf::new(rt.alloc(), &files, &[]);
-    let status = run(rt, rt.alloc(), words.as_slice(), &mut shelf, out, gate);
+    let status = if words
+        .first()
+        .is_some_and(|word| word.as_str() == "ride_resume")
+    {
+        resume(rt, rt.alloc(), words.as_slice(), &mut shelf, out, gate)
+    } else {
+        run(rt, rt.alloc(), words.as_slice(), &mut shelf, out, gate)
+    };
     (status, shelf.faults())
 }
 

@@ -2,6 +2,7 @@
 ghost use Rattle.std.specs.Prelude.{◌≡◌, false, Err, IfOk, OnErr};
 ghost use Rattle.clap.specs.Simple.{app_of};
 ghost use Rattle.clap.specs.Walk.{rule_of};
+ghost use Rattle.run_words.specs.Resumptions.{resumption_command};
 ghost use Rattle.run_words.specs.Words.{ahead_command, audit_command, bare_command, book_command, drill_command, league_command, option_rule, over_map_and_fleet, replay_command, serve_command, with_option};
 
 use crate::WordsError;
@@ -69,6 +70,16 @@ pub fn league_command<'a>(alloc: Global) -> Result<Command<'a>, WordsError>
 {
     let command = over_map_and_fleet(alloc, "league")?;
     with_two(command, alloc, "second", "feed")
+}
+
+/// The command of a resumption.
+pub fn resumption_command<'a>(alloc: Global) -> Result<Command<'a>, WordsError>
+    ensures command { IfOk result (λ command. app_of command ≡ resumption_command) }
+    ensures stopped { OnErr result (result ≡ Err WordsError.NoMemory) }
+{
+    let command = over_map_and_fleet(alloc, "ride_resume")?;
+    let command = with_two(command, alloc, "log", "riders")?;
+    with_two(command, alloc, "drivers", "workers")
 }
 
 // A command of this name over a map and a fleet file.

@@ -6,6 +6,7 @@ ghost use Rattle.run_words.specs.Asks.{IsAskOf, IsInRange};
 ghost use Rattle.run_words.specs.Words.{ahead_asked, ask_of, audit_asked, book_asked, drill_asked, first_word, league_asked, replay_asked, serve_asked, word_of};
 
 mod commands;
+mod resuming;
 mod values;
 mod words;
 
@@ -14,10 +15,11 @@ use commands::{
     ahead_command, audit_command, book_command, drill_command, league_command, replay_command,
     serve_command,
 };
+pub use resuming::{Resumption, read_resumption};
 use ride_model::limits::{LONGEST_REACH, MOST_WORKERS};
 use std::alloc::Global;
 use values::{number, read_by, text, three_texts};
-pub use words::{Usage, Word};
+pub use words::{RESUMPTION, Usage, Word};
 
 /// What the words ask for, with a variant a word. Files are told by their names.
 #[derive(Drop)]

@@ -22,6 +22,13 @@ pub struct Usage {
     pub does: &'static str,
 }
 
+/// What is told of a session that goes on from its log.
+pub const RESUMPTION: Usage = Usage {
+    name: "ride_resume",
+    options: "--map MAP --fleet FLEET --log LOG --riders FEED --drivers FEED --workers 1..16",
+    does: "goes on with the session of a log, which it writes anew with what comes then",
+};
+
 impl Word {
     /// All words, in the order in which they are told.
     pub const ALL: [Word; 7] = [

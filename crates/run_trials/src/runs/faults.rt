@@ -185,8 +185,8 @@ fn words_are_in_order_or_refused(rt: HostRuntime) {
     }
 }
 
-// Asserts that words are refused, by a line of which a sink takes what it has room for.
-fn expect_refused<R: Abort + Threads + Wait + Sync + AllocGlobal>(rt: &R, words: &str) {
+/// Asserts that words are refused, by a line of which a sink takes what it has room for.
+pub(super) fn expect_refused<R: Abort + Threads + Wait + Sync + AllocGlobal>(rt: &R, words: &str) {
     for (room, written) in [(ROOM, "words refused\n"), (7, "words r")] {
         let end = End {
             status: 2,

@@ -1,6 +1,7 @@
 //! Each read fails in turn, each write fails in turn, and each byte that is written is the last that a sink takes.
 use super::bookings::BOOK;
 use super::leagues::{FEED as RIDES, FIRST, LEAGUE, SECOND};
+use super::resumed::RESUME;
 use super::serving::SERVE;
 use super::sheets::{AHEAD, LEFT_OUT};
 use super::{AUDIT, Answer, LOG, REPLAY, Setup, WORKED, answer_to};
@@ -37,9 +38,10 @@ enum Failing {
 }
 
 /// Runs over the files of the worked request, or over others, with what each writes.
-static WRITTEN: [(&str, Setup<'static>, &str); 5] = [
+static WRITTEN: [(&str, Setup<'static>, &str); 6] = [
     (REPLAY, WORKED, LOG),
     (AUDIT, WORKED, AUDITED),
+    (RESUME, WORKED, LOG),
     (
         AHEAD,
         Setup {
@@ -63,13 +65,16 @@ static WRITTEN: [(&str, Setup<'static>, &str); 5] = [
 
 /// Runs, the file of drivers, which file's reads fail in turn, and how often it is read: a file of n bytes n / 7 times, and once more at
 /// its end.
-static READS: [(&str, &str, Failing, u64); 18] = [
+static READS: [(&str, &str, Failing, u64); 21] = [
     (REPLAY, CLOCK, Failing::Map, 10),
     (REPLAY, CLOCK, Failing::Fleet, 5),
     (REPLAY, CLOCK, Failing::Feed, 6),
     (AUDIT, CLOCK, Failing::Map, 10),
     (AUDIT, CLOCK, Failing::Fleet, 5),
     (AUDIT, CLOCK, Failing::Log, 30),
+    (RESUME, CLOCK, Failing::Map, 10),
+    (RESUME, CLOCK, Failing::Fleet, 5),
+    (RESUME, CLOCK, Failing::Log, 30),
     (SERVE, CLOCK, Failing::Map, 10),
     (SERVE, CLOCK, Failing::Fleet, 5),
     (SERVE, CLOCK, Failing::Feed, 6),
@@ -83,6 +88,15 @@ static READS: [(&str, &str, Failing, u64); 18] = [
     (LEAGUE, SECOND, Failing::Drivers, 4),
     (LEAGUE, SECOND, Failing::Feed, 6),
 ];
+
+/// A session of two feeds that goes on from a head alone, and which feed's reads fail in turn.
+const BEGUN: Setup<'static> = Setup {
+    drivers: text!(CLOCK),
+    log: text!("log 1 feeds 2 desks 1\n"),
+    ..WORKED
+};
+
+static GOING_ON: [(Failing, u64); 2] = [(Failing::Feed, 6), (Failing::Drivers, 3)];
 
 // Files of which one is read by sevens, and one read of it fails.
 fn one_failing<'a>(files: Setup<'a>, which: Failing, read: &'a [u64]) -> Setup<'a> {
@@ -194,6 +208,9 @@ fn each_read_fails_in_turn(rt: HostRuntime) {
             ..WORKED
         };
         fail_each_read(&rt, words, files, which, reads);
+    }
+    for &(which, reads) in GOING_ON.iter() {
+        fail_each_read(&rt, RESUME, BEGUN, which, reads);
     }
 }
 

@@ -1,5 +1,6 @@
 //! What is said on standard error of a map or a fleet file that is refused: its line, what stands there, and what would be right. No
 //! clause speaks of it. The file is read once more, where it is one that can be.
+use crate::programs::Program;
 use fleet_file::{FleetError, read_fleet};
 use gr_reader::{MapError, read_map};
 use ride_model::Network;
@@ -8,12 +9,17 @@ use std::rt::Files;
 use std::{fs, io};
 
 /// Says what is wrong with a map.
-pub fn tell_map<R: Files + Eprint + AllocGlobal>(rt: &R, name: &str) -> io::Result<()> {
+pub fn tell_map<R: Files + Eprint + AllocGlobal>(
+    rt: &R,
+    program: Program,
+    name: &str,
+) -> io::Result<()> {
+    let program = program.name();
     let Some(text) = text_of(rt, name) else {
-        return eprintln!(rt; "ride_dispatch: {name} is no road map; standard output says why");
+        return eprintln!(rt; "{program}: {name} is no road map; standard output says why");
     };
     match read_map(rt.alloc(), &mut SureSource::new(text.as_bytes())) {
-        Ok(_) => eprintln!(rt; "ride_dispatch: {name} was no road map; standard output says why"),
+        Ok(_) => eprintln!(rt; "{program}: {name} was no road map; standard output says why"),
         Err(error) => tell_map_error(rt, name, text.as_str(), error),
     }
 }
@@ -21,14 +27,16 @@ pub fn tell_map<R: Files + Eprint + AllocGlobal>(rt: &R, name: &str) -> io::Resu
 /// Says what is wrong with a fleet file over a map.
 pub fn tell_fleet<R: Files + Eprint + AllocGlobal>(
     rt: &R,
+    program: Program,
     map: &str,
     name: &str,
 ) -> io::Result<()> {
+    let program = program.name();
     let (Some(network), Some(text)) = (network_of(rt, map), text_of(rt, name)) else {
-        return eprintln!(rt; "ride_dispatch: {name} is no fleet file; standard output says why");
+        return eprintln!(rt; "{program}: {name} is no fleet file; standard output says why");
     };
     match read_fleet(rt.alloc(), &mut SureSource::new(text.as_bytes()), &network) {
-        Ok(_) => eprintln!(rt; "ride_dispatch: {name} was no fleet file; standard output says why"),
+        Ok(_) => eprintln!(rt; "{program}: {name} was no fleet file; standard output says why"),
         Err(error) => tell_fleet_error(rt, name, text.as_str(), network.nodes(), error),
     }
 }

@@ -9,7 +9,7 @@ pub fn tell_words<R: Eprint>(rt: &R, words: &[String]) -> io::Result<()> {
         None => "",
     };
     match Word::named(name) {
-        Some(word) => tell_fault(rt, words, word.usage()),
+        Some(word) => tell_word(rt, words, word.usage()),
         None => tell_all(rt, name),
     }
 }
@@ -37,36 +37,92 @@ fn tell_all<R: Eprint>(rt: &R, name: &str) -> io::Result<()> {
 }
 
 // What is wrong with the options of a word.
-fn tell_fault<R: Eprint>(rt: &R, words: &[String], usage: Usage) -> io::Result<()> {
+fn tell_word<R: Eprint>(rt: &R, words: &[String], usage: Usage) -> io::Result<()> {
     let Usage {
         name,
         options,
         does: _,
     } = usage;
-    match fault_of(words, options) {
-        Fault::Stray(word) => eprintln!(rt;
-            "ride_dispatch: {name}: {word} is no option; usage: ride_dispatch {name} {options}"
+    let called = Called {
+        program: "ride_dispatch",
+        colon: ": ",
+        space: " ",
+        word: name,
+    };
+    tell_fault(rt, called, options, fault_of(words, options))
+}
+
+/// Says what is wrong with the options of a program that takes no word, and all its options where none is given.
+pub fn tell_options<R: Eprint>(rt: &R, words: &[String], usage: Usage) -> io::Result<()> {
+    let Usage {
+        name,
+        options,
+        does,
+    } = usage;
+    if words.len() > 1 {
+        return tell_fault(
+            rt,
+            Called {
+                program: name,
+                space: "",
+                colon: "",
+                word: "",
+            },
+            options,
+            fault_of(words, options),
+        );
+    }
+    eprintln!(rt; "{name}: options are missing; these are all, in any order:")?;
+    eprintln!(rt; "  {name} {options}: {does}")?;
+    eprintln!(rt; "docs/guide.md says how they are used, docs/formats.md what each file holds.")
+}
+
+// How a program is called: its name, and a word where it takes one, with what stands before the word.
+#[derive(Clone, Copy)]
+struct Called {
+    program: &'static str,
+    colon: &'static str,
+    space: &'static str,
+    word: &'static str,
+}
+
+// Says a fault of options.
+fn tell_fault<R: Eprint>(
+    rt: &R,
+    called: Called,
+    options: &str,
+    fault: Fault<'_>,
+) -> io::Result<()> {
+    let Called {
+        program,
+        colon,
+        space,
+        word,
+    } = called;
+    match fault {
+        Fault::Stray(stray) => eprintln!(rt;
+            "{program}{colon}{word}: {stray} is no option; usage: {program}{space}{word} {options}"
         ),
         Fault::Unknown(option) => eprintln!(rt;
-            "ride_dispatch: {name}: no such option: {option}; usage: ride_dispatch {name} {options}"
+            "{program}{colon}{word}: no such option: {option}; usage: {program}{space}{word} {options}"
         ),
         Fault::Twice(option) => eprintln!(rt;
-            "ride_dispatch: {name}: {option} stands twice; usage: ride_dispatch {name} {options}"
+            "{program}{colon}{word}: {option} stands twice; usage: {program}{space}{word} {options}"
         ),
         Fault::NoValue(option) => eprintln!(rt;
-            "ride_dispatch: {name}: {option} has no value; usage: ride_dispatch {name} {options}"
+            "{program}{colon}{word}: {option} has no value; usage: {program}{space}{word} {options}"
         ),
         Fault::Range {
             option,
             value,
             range,
         } => eprintln!(rt;
-            "ride_dispatch: {name}: {option} {value} is not within {range}; usage: ride_dispatch {name} {options}"
+            "{program}{colon}{word}: {option} {value} is not within {range}; usage: {program}{space}{word} {options}"
         ),
         Fault::Missing(option) => eprintln!(rt;
-            "ride_dispatch: {name}: {option} is missing; usage: ride_dispatch {name} {options}"
+            "{program}{colon}{word}: {option} is missing; usage: {program}{space}{word} {options}"
         ),
-        Fault::Other => eprintln!(rt; "usage: ride_dispatch {name} {options}"),
+        Fault::Other => eprintln!(rt; "usage: {program}{space}{word} {options}"),
     }
 }
 

@@ -1,9 +1,11 @@
 //! What is said on standard error: of a run that was not whole, in one line, and of a session that cannot be live. No clause speaks of
 //! it.
-use crate::options::tell_words;
+use crate::options::{tell_options, tell_words};
+use crate::programs::Program;
 use crate::texts::{tell_fleet, tell_map};
 use crate::verdicts::{LogNames, tell_wrong};
 use ride_ports::FileFault;
+use run_words::RESUMPTION;
 use std::io;
 use std::rt::Files;
 use std::thread::{Builder, Threads};
@@ -12,9 +14,12 @@ const FEED_LIMIT: &str = " has more than 67,108,864 bytes or 1,000,000 lines";
 
 const FLEET_LIMIT: &str = " has more than 1,048,576 bytes";
 
+const LOG_LIMIT: &str = " has more than 1,073,741,824 bytes or 2,100,000 lines";
+
 /// What there is to tell of a run.
 #[derive(Clone, Copy, Drop)]
 pub struct Report<'a> {
+    pub program: Program,
     pub status: u8,
     pub words: &'a [String],
     /// The names of files that were asked for, in order.
@@ -38,15 +43,23 @@ impl<'a> Report<'a> {
     pub fn tell<R: Files + Eprint + Threads + Sync + AllocGlobal>(&self, rt: &R) {
         let _ = match self.status {
             0 => Ok(()),
-            2 => tell_words(rt, self.words),
-            3 => tell_map(rt, self.name(1)),
-            4 => tell_fleet(rt, self.name(1), self.name(self.asked.len())),
+            2 => self.tell_refused(rt),
+            3 => tell_map(rt, self.program, self.name(1)),
+            4 => tell_fleet(rt, self.program, self.name(1), self.name(self.asked.len())),
             7 => tell_wrong(rt, self.log_names(), self.said),
             _ => self.tell_fault(rt),
         };
     }
 
+    fn tell_refused<R: Eprint>(&self, rt: &R) -> io::Result<()> {
+        match self.program {
+            Program::Dispatch => tell_words(rt, self.words),
+            Program::Resume => tell_options(rt, self.words, RESUMPTION),
+        }
+    }
+
     fn tell_fault<R: Eprint>(&self, rt: &R) -> io::Result<()> {
+        let program = self.program.name();
         let Said {
             name,
             or,
@@ -54,8 +67,8 @@ impl<'a> Report<'a> {
             what,
         } = self.said();
         match self.cause() {
-            Some(cause) => eprintln!(rt; "ride_dispatch: {name}{or}{other}{what}: {cause}"),
-            None => eprintln!(rt; "ride_dispatch: {name}{or}{other}{what}"),
+            Some(cause) => eprintln!(rt; "{program}: {name}{or}{other}{what}: {cause}"),
+            None => eprintln!(rt; "{program}: {name}{or}{other}{what}"),
         }
     }
 
@@ -107,20 +120,20 @@ impl<'a> Report<'a> {
     // once.
     fn limit_passed(&self) -> Said<'_> {
         let last = self.asked.len();
-        let word = first_word(self.words);
-        let limit = limit_of(word, last);
-        if word == "serve" && last > 3 {
-            return Said {
-                name: self.name(3),
+        let word = self.program.word(self.words);
+        let what = limit_of(word, last);
+        match live_feeds(word) {
+            Some((riders, drivers)) if last == drivers => Said {
+                name: self.name(riders),
                 or: " or ",
-                other: self.name(4),
-                what: limit,
-            };
+                other: self.name(drivers),
+                what,
+            },
+            _ => said_of(self.name(last), what),
         }
-        said_of(self.name(last), limit)
     }
 
-    // The files of an audit.
+    // The files of a log.
     fn log_names(&self) -> LogNames<'_> {
         LogNames {
             map: self.name(1),
@@ -140,11 +153,21 @@ impl<'a> Report<'a> {
 
 /// Says so where the words ask for a session of two feeds, and no thread can be started: what should run side by side then runs one after
 /// another, with the same promises.
-pub fn tell_threads<R: Threads + Eprint>(rt: &R, words: &[String]) {
-    if first_word(words) == "serve" && !starts_threads(rt) {
+pub fn tell_threads<R: Threads + Eprint>(rt: &R, program: Program, words: &[String]) {
+    if live_feeds(program.word(words)).is_some() && !starts_threads(rt) {
+        let program = program.name();
         let _ = eprintln!(rt;
-            "ride_dispatch: no thread can be started, so that this session is not live: riders are read to their end first"
+            "{program}: no thread can be started, so that this session is not live: riders are read to their end first"
         );
+    }
+}
+
+// The numbers of the files of riders and of drivers, where a word asks for both at once.
+fn live_feeds(word: &str) -> Option<(usize, usize)> {
+    match word {
+        "serve" => Some((3, 4)),
+        "resume" => Some((4, 5)),
+        _ => None,
     }
 }
 
@@ -169,21 +192,13 @@ fn said_of<'a>(name: &'a str, what: &'static str) -> Said<'a> {
     }
 }
 
-// The first word, where there is one.
-fn first_word(words: &[String]) -> &str {
-    match words.get(0) {
-        Some(word) => word.as_str(),
-        None => "",
-    }
-}
-
-// What is said of the last of so many files of a first word, which passed its limit.
+// What is said of the last of so many files of a word, which passed its limit.
 fn limit_of(word: &str, files: usize) -> &'static str {
     match (word, files) {
         ("book", _) => FEED_LIMIT,
         (_, 1) => " has more than 134,217,728 bytes",
         (_, 2) | ("league", 3) => FLEET_LIMIT,
-        ("audit", _) => " has more than 1,073,741,824 bytes or 2,100,000 lines",
+        ("audit", _) | ("resume", 3) => LOG_LIMIT,
         _ => FEED_LIMIT,
     }
 }

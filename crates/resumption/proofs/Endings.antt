@@ -1,0 +1,134 @@
+-- Which statuses are left to a resumption of whole files without faults.
+use Rattle.std.proofs.Common.{◌≡◌, ◌⊎◌, inl, inr, ℕ, Bool, true, false, List, [], ◌∷◌, Option, Some, Result, Ok, Err, IfSome, refl, subst, ◌∙◌, arith}
+use Rattle.std.specs.Prelude.{All}
+use Rattle.std.proofs.lemmas.List.Elements.{All-head, All-tail}
+use Rattle.ride_ports.specs.Contents.{Contents, GivenBack}
+use Rattle.ride_ports.specs.Count.{Rose}
+use Rattle.ride_ports.specs.declared.outcome.Ran.{Ran}
+use Rattle.ride_model.specs.State.{State}
+use Rattle.ride_model.specs.declared.entry.Entry.{Entry}
+use Rattle.line_reader.specs.Limits.{IsTooLong}
+use Rattle.command_lines.specs.Limits.{feed_limits}
+use Rattle.log_audit.specs.declared.restoring.Restoration.{Restoration}
+use Rattle.log_audit.specs.declared.restoring.Restoration.TheVariants.{Standing, No}
+use Rattle.log_audit.specs.declared.verdict.AuditFault.{AuditFault}
+use Rattle.log_audit.specs.declared.verdict.AuditFault.TheVariants.{NoMemory, ReadFault, TooLong}
+use Rattle.log_audit.specs.Restored.{IsRestoration}
+use Rattle.session_run.specs.Resuming.{IsFeedAfter}
+use Rattle.session_run.specs.Serving.{FeedRun}
+use Rattle.run_words.specs.Resumptions.{GoingOn, resumption_files}
+use Rattle.run_words.specs.Words.{feed_file, fleet_file, log_file, map_file}
+use Rattle.dispatcher.specs.Meanings.{Meaning, start_of}
+use Rattle.dispatcher.specs.Runs.{HasStopped, IsUnread}
+use Rattle.dispatcher.specs.Shelves.{AreBytesOf, IsBackOf, Shelved, Sunk, told_bytes}
+use Rattle.dispatcher.specs.Whole.{IsWhole}
+use Rattle.dispatcher.proofs.Completing.{feed-not-long, map-first, whole-stops}
+use Rattle.dispatcher.proofs.Statuses.{long-status, ran-status}
+use Rattle.resumption.specs.Goings.{still_gives}
+use Rattle.resumption.specs.Logs.{EndsLog, ReadsLog}
+use Rattle.resumption.proofs.AnsweredFeeds.{none-within}
+use Rattle.resumption.specs.Resumptions.{AreAllWhole, HasGoneOn, HasRefusedLog, IsResumption}
+
+-- the log and both feeds are whole
+module _ (told : Option Contents) (asked : GoingOn) (whole : AreAllWhole told asked) where
+  after_texts : All (IsWhole told whole.0) (log_file asked.log ∷ feed_file asked.riders ∷ feed_file asked.drivers ∷ [])
+  after_texts =
+      All-tail (IsWhole told whole.0) (fleet_file asked.fleet) (log_file asked.log ∷ feed_file asked.riders ∷ feed_file asked.drivers ∷ [])
+      (All-tail (IsWhole told whole.0) (map_file asked.map)
+      (fleet_file asked.fleet ∷ log_file asked.log ∷ feed_file asked.riders ∷ feed_file asked.drivers ∷ []) whole.1)
+
+  feeds : All (IsWhole told whole.0) (feed_file asked.riders ∷ feed_file asked.drivers ∷ [])
+  feeds = All-tail (IsWhole told whole.0) (log_file asked.log) (feed_file asked.riders ∷ feed_file asked.drivers ∷ []) after_texts
+
+  pub log-whole : IsWhole told whole.0 (log_file asked.log)
+  log-whole = All-head (IsWhole told whole.0) (log_file asked.log) (feed_file asked.riders ∷ feed_file asked.drivers ∷ []) after_texts
+
+  pub riders-whole : IsWhole told whole.0 (feed_file asked.riders)
+  riders-whole = All-head (IsWhole told whole.0) (feed_file asked.riders) (feed_file asked.drivers ∷ []) feeds
+
+  pub drivers-whole : IsWhole told whole.0 (feed_file asked.drivers)
+  drivers-whole = All-head (IsWhole told whole.0) (feed_file asked.drivers) [] (All-tail (IsWhole told whole.0) (feed_file asked.riders) (feed_file asked.drivers ∷ []) feeds)
+
+-- a log within its limits is not too long
+restored-not-long : (start : State) (file : Option (List ℕ)) (bytes : List ℕ) (source : GivenBack) (log : FeedRun) (found : Result Restoration AuditFault)
+    → file ≡ Some bytes → IsBackOf file source log → ReadsLog start log found → found ≡ Err TooLong → IsRestoration start bytes (Err TooLong)
+restored-not-long start file bytes source log found told back reads long =
+    let same : log.bytes ≡ Some bytes = subst (λ (o : Option (List ℕ)). AreBytesOf o log.bytes) told back.bytes_are in
+    subst (λ (o : Option (List ℕ)). IfSome o (λ b. IsRestoration start b (Err TooLong))) same
+    (subst (λ (r : Result Restoration AuditFault). IfSome log.bytes (λ b. IsRestoration start b r)) long
+    (reads.answer (λ memory. absurd (cc (memory, long))) (λ fault. absurd (cc (fault, long)))))
+
+-- a feed that goes on has no too long bytes, within its limits
+after-not-long : (told : Option Contents) (m : Meaning) (name : List ℕ) (source : GivenBack) (run : FeedRun) (ran : Ran) (log feed : ℕ) (taken : List ℕ) (more : List Entry)
+    (gives : Bool) → IsWhole told m (feed_file name) → IsBackOf (told_bytes told name) source run → IsFeedAfter log feed gives run ran taken more
+    → IsTooLong feed_limits taken → ⊥
+after-not-long told m name source run ran log feed taken more true whole back after long =
+    feed-not-long told m name source run taken whole back (after.going refl).reads long
+after-not-long told m name source run ran log feed taken more false whole back after long =
+    none-long (subst (IsTooLong feed_limits) (after.over refl).0 long)
+  where
+    none-long : IsTooLong feed_limits [] → ⊥
+    none-long (inl many) = omega (arith, many, none-within.few_bytes)
+    none-long (inr many) = omega (arith, many, none-within.few_lines)
+
+module _ (asked : GoingOn) (old new : Shelved) (out : Sunk) (status : ℕ) (whole : AreAllWhole old.told asked) (no_shelf : Rose old.faults new.faults → ⊥)
+    (no_sink : Rose out.faults_before out.faults_after → ⊥) where
+  abbrev May : Type 0
+  May = (status ≡ 0) ⊎ (status ≡ 1) ⊎ (status ≡ 7)
+
+  -- a log that gave no board is wrong, or memory was wanting
+  found-may : (found : Result Restoration AuditFault) → EndsLog found status out → (status ≡ 5 → ⊥) → (found ≡ Err TooLong → ⊥) → May
+  found-may (Ok (Standing restored)) told no_source short = absurd told
+  found-may (Ok (No line why)) (inl (is, says)) no_source short = inr (inr is)
+  found-may (Ok (No line why)) (inr (is, says)) no_source short = inr (inl is)
+  found-may (Err NoMemory) (is, says) no_source short = inr (inl is)
+  found-may (Err TooLong) told no_source short = absurd (short refl)
+  found-may (Err ReadFault) (is, says) no_source short = absurd (no_source is)
+
+  refused-may : HasRefusedLog asked old new out status → May
+  refused-may refused =
+      let file = log-whole old.told asked whole in
+      found-may refused.found refused.said (λ five. no_shelf (refused.shelf_fault five))
+      (λ long. file.within (restored-not-long (start_of refused.meaning) (told_bytes old.told asked.log) file.bytes refused.over.source refused.over.feed refused.found
+      file.bytes_are refused.over.of_file refused.reads long).0)
+
+  gone-may : HasGoneOn asked old new out status → May
+  gone-may gone =
+      let ran = gone.goes_on.ran in
+      let is = gone.goes_on.status_is in
+      elim (ran-status ran) [
+        | inl zero ↦ inl (is ∙ zero)
+        | inr (inl one) ↦ inr (inl (is ∙ one))
+        | inr (inr (inl five)) ↦ absurd (no_shelf (gone.shelf_fault (is ∙ five)))
+        | inr (inr (inr (inl six))) ↦ absurd (no_sink (gone.sink_fault (is ∙ six)))
+        | inr (inr (inr (inr eight))) ↦ absurd (not-long (long-status ran eight).1)
+      ]
+    where
+      not-long : gone.goes_on.ran.too_long ≡ true → ⊥
+      not-long long = elim gone.goes_on.answered [
+        | inl not ↦ absurd (cc (not.no_limit, long))
+        | inr has ↦ elim (has.resumed.too_long long) [
+          | inl many ↦ after-not-long old.told whole.0 asked.riders gone.over.riders_source gone.over.riders gone.goes_on.ran
+              gone.restored.board.start.settings.log 1 has.resumed.riders_taken has.resumed.more (still_gives gone.restored.board 1)
+              (riders-whole old.told asked whole) gone.over.of_riders has.resumed.of_riders many
+          | inr many ↦ after-not-long old.told whole.0 asked.drivers gone.over.drivers_source gone.over.drivers gone.goes_on.ran
+              gone.restored.board.start.settings.log 2 has.resumed.drivers_taken has.resumed.more (still_gives gone.restored.board 2)
+              (drivers-whole old.told asked whole) gone.over.of_drivers has.resumed.of_drivers many
+        ]
+      ]
+
+  pub completes : IsUnread new out status ⊎ HasStopped (resumption_files asked) old new out status ⊎ HasRefusedLog asked old new out status
+      ⊎ HasGoneOn asked old new out status → May
+  completes (inl unread) = inr (inl unread.wanting)
+  completes (inr (inl stopped)) =
+      inr (inl (whole-stops (resumption_files asked) whole.0 old new out status
+      (map-first asked.map (fleet_file asked.fleet ∷ log_file asked.log ∷ feed_file asked.riders ∷ feed_file asked.drivers ∷ [])) stopped whole.1 no_shelf))
+  completes (inr (inr (inl refused))) = refused-may refused
+  completes (inr (inr (inr gone))) = gone-may gone
+
+-- a resumption, by how it ended
+pub resumption-of : (asked : GoingOn) (old new : Shelved) (out : Sunk) (status : ℕ)
+    → IsUnread new out status ⊎ HasStopped (resumption_files asked) old new out status ⊎ HasRefusedLog asked old new out status
+    ⊎ HasGoneOn asked old new out status → IsResumption asked old new out status
+resumption-of asked old new out status ended =
+    record { ended = ended; complete = λ whole no_shelf no_sink. completes asked old new out status whole no_shelf no_sink ended }

@@ -1,0 +1,6 @@
+pub mod LogFaults
+pub mod AnsweredFeeds
+pub mod MayResume
+pub mod Endings
+pub mod Resuming
+pub mod Keeping

@@ -1,0 +1,62 @@
+-- What the log of what was before gives back, and how it is said where it gives no board.
+use Rattle.std.specs.Prelude.{◌≡◌, ◌≢◌, ℕ, ◌+◌, List, [], ◌∷◌, ◌++◌, Option, Some, None, Result, Ok, Err, IfSome}
+use Rattle.ride_ports.specs.Contents.{GivenBack}
+use Rattle.ride_ports.specs.Count.{KeepsCount, Rose}
+use Rattle.ride_model.specs.State.{State}
+use Rattle.log_audit.specs.declared.restoring.Restored.{Restored}
+use Rattle.log_audit.specs.declared.restoring.Restoration.{Restoration}
+use Rattle.log_audit.specs.declared.restoring.Restoration.TheVariants.{Standing, No}
+use Rattle.log_audit.specs.declared.verdict.AuditFault.{AuditFault}
+use Rattle.log_audit.specs.declared.verdict.AuditFault.TheVariants.{NoMemory, ReadFault}
+use Rattle.log_audit.specs.declared.verdict.Verdict.TheVariants.{No as NoVerdict}
+use Rattle.log_audit.specs.Audit.{is_read_fault}
+use Rattle.log_audit.specs.Audited.{FailsAfter}
+use Rattle.log_audit.specs.LogLines.{TakesSome}
+use Rattle.log_audit.specs.Restored.{IsBoardOf, IsRestoration, IsSameButRoom}
+use Rattle.session_run.specs.Serving.{FeedRun}
+use Rattle.dispatcher.specs.Shelves.{IsBackOf, Shelved, Sunk, told_bytes}
+use Rattle.dispatcher.specs.Verdicts.{EndsBy}
+
+-- a log over a start was read, and this is what it gave back: what its bytes are decides, and they are nothing else; a board stands at the
+-- start, and the whole log was read; a source failed after bytes within the limits of which no line was wrong
+pub record ReadsLog (start : State) (log : FeedRun) (found : Result Restoration AuditFault) : Type 0 where
+  pub answer : found ≢ Err NoMemory → found ≢ Err ReadFault → IfSome log.bytes (λ bytes. IsRestoration start bytes found)
+  pub no_other : found ≢ Err NoMemory → found ≢ Err ReadFault
+      → IfSome log.bytes (λ bytes. (other : Result Restoration AuditFault) → IsRestoration start bytes other → IsSameButRoom other found)
+  pub stands : (restored : Restored) → found ≡ Ok (Standing restored) → IsBoardOf start restored
+  pub to_end : (restored : Restored) → found ≡ Ok (Standing restored) → IfSome log.left (λ rest. rest ≡ [])
+  pub before_fault : found ≡ Err ReadFault → FailsAfter start log.bytes log.left
+  pub taken : TakesSome log.bytes log.left
+  pub faults : KeepsCount (is_read_fault found) log.faults_before log.faults_after
+
+-- a log that gives no board is told as an audit tells it: its first wrong line and why, and nothing where it was too long or not
+-- read, or where memory was wanting
+abbrev pub EndsLog : Result Restoration AuditFault → ℕ → Sunk → Type 0
+EndsLog (Ok (Standing restored)) status out = ⊥
+EndsLog (Ok (No line why)) status out = EndsBy (Ok (NoVerdict line why)) status out
+EndsLog (Err fault) status out = EndsBy (Err fault) status out
+
+-- a name was asked for and not brought
+pub record AsksInVain (name : List ℕ) (old new : Shelved) : Type 0 where
+  pub told : new.told ≡ old.told
+  pub asked : new.asked ≡ old.asked ++ name ∷ []
+  pub brought : new.brought ≡ old.brought
+  pub back : new.back ≡ old.back
+  pub rose : Rose old.faults new.faults
+
+-- the source of a log was brought, read and given back
+pub record HandsLogBack (start : State) (name : List ℕ) (old new : Shelved) (found : Result Restoration AuditFault) : Type 0 where
+  pub told : new.told ≡ old.told
+  pub asked : new.asked ≡ old.asked ++ name ∷ []
+  pub brought : new.brought ≡ old.brought + 1
+  pub log : FeedRun
+  pub source : GivenBack
+  pub back : new.back ≡ old.back ++ source ∷ []
+  pub of_file : IsBackOf (told_bytes old.told name) source log
+  pub reads : ReadsLog start log found
+  pub sound : found ≢ Err ReadFault → new.faults ≡ old.faults
+  pub fault : found ≡ Err ReadFault → Rose old.faults new.faults
+
+abbrev pub BringsLog : State → List ℕ → Shelved → Shelved → Option (Result Restoration AuditFault) → Type 0
+BringsLog start name old new None = AsksInVain name old new
+BringsLog start name old new (Some found) = HandsLogBack start name old new found

@@ -1,0 +1,81 @@
+-- How a session that was to go on from its log ends.
+use Rattle.std.specs.Prelude.{◌≡◌, ◌⊎◌, ℕ, true, List, [], ◌∷◌, ◌++◌, length, map, All, Option, Result, Ok}
+use Rattle.ride_ports.specs.Contents.{Contents, GivenBack}
+use Rattle.ride_ports.specs.Count.{Rose}
+use Rattle.log_audit.specs.declared.restoring.Restored.{Restored}
+use Rattle.log_audit.specs.declared.restoring.Restoration.{Restoration}
+use Rattle.log_audit.specs.declared.restoring.Restoration.TheVariants.{Standing}
+use Rattle.log_audit.specs.declared.verdict.AuditFault.{AuditFault}
+use Rattle.session_run.specs.Serving.{FeedRun}
+use Rattle.run_words.specs.Resumptions.{GoingOn, resumption_files}
+use Rattle.run_words.specs.Words.{File, fleet_file, log_file, map_file, name_of}
+use Rattle.dispatcher.specs.Meanings.{Meaning, Means, start_of}
+use Rattle.dispatcher.specs.Runs.{HasStopped, IsOver, IsUnread}
+use Rattle.dispatcher.specs.Shelves.{AreBack, IsBackOf, IsSpent, Shelved, Sunk, told_bytes}
+use Rattle.dispatcher.specs.Whole.{IsWhole}
+use Rattle.resumption.specs.Goings.{GoesOn, still_gives}
+use Rattle.resumption.specs.Logs.{EndsLog, ReadsLog}
+
+-- the files up to the log
+abbrev pub files_to_log : GoingOn → List File
+files_to_log asked = map_file asked.map ∷ fleet_file asked.fleet ∷ log_file asked.log ∷ []
+
+-- the log gave no board: that is said as an audit says it, and no further name was asked for
+pub record HasRefusedLog (asked : GoingOn) (old new : Shelved) (out : Sunk) (status : ℕ) : Type 0 where
+  pub none_further : new.asked ≡ map name_of (files_to_log asked)
+  pub all_brought : new.brought ≡ length (files_to_log asked)
+  pub back : AreBack old.told (files_to_log asked) new
+  pub meaning : Meaning
+  pub means : All (Means old.told meaning) (files_to_log asked)
+  pub over : IsOver old.told asked.log new.back
+  pub found : Result Restoration AuditFault
+  pub reads : ReadsLog (start_of meaning) over.feed found
+  pub said : EndsLog found status out
+  pub shelf_sound : (status ≡ 5 → ⊥) → new.faults ≡ old.faults
+  pub shelf_fault : status ≡ 5 → Rose old.faults new.faults
+
+-- the last three sources that were given back are those of the log, of riders and of drivers
+pub record AreOverThree (told : Option Contents) (log_name riders_name drivers_name : List ℕ) (back : List GivenBack) : Type 0 where
+  pub log : FeedRun
+  pub riders : FeedRun
+  pub drivers : FeedRun
+  pub log_source : GivenBack
+  pub riders_source : GivenBack
+  pub drivers_source : GivenBack
+  pub earlier : List GivenBack
+  pub back_is : back ≡ (earlier ++ log_source ∷ []) ++ riders_source ∷ drivers_source ∷ []
+  pub of_log : IsBackOf (told_bytes told log_name) log_source log
+  pub of_riders : IsBackOf (told_bytes told riders_name) riders_source riders
+  pub of_drivers : IsBackOf (told_bytes told drivers_name) drivers_source drivers
+
+-- all files were brought, the log gave a board, and the session went on from it. Nothing is left of the texts and of the log; where the
+-- session ran whole, nothing is left of a feed that still gave commands either, and no count rose
+pub record HasGoneOn (asked : GoingOn) (old new : Shelved) (out : Sunk) (status : ℕ) : Type 0 where
+  pub all_asked : new.asked ≡ map name_of (resumption_files asked)
+  pub all_brought : new.brought ≡ length (resumption_files asked)
+  pub back : AreBack old.told (resumption_files asked) new
+  pub meaning : Meaning
+  pub means : All (Means old.told meaning) (resumption_files asked)
+  pub over : AreOverThree old.told asked.log asked.riders asked.drivers new.back
+  pub restored : Restored
+  pub reads : ReadsLog (start_of meaning) over.log (Ok (Standing restored))
+  pub goes_on : GoesOn restored.board over.riders over.drivers out status
+  pub log_spent : All IsSpent (over.earlier ++ over.log_source ∷ [])
+  pub riders_spent : status ≡ 0 → still_gives restored.board 1 ≡ true → IsSpent over.riders_source
+  pub drivers_spent : status ≡ 0 → still_gives restored.board 2 ≡ true → IsSpent over.drivers_source
+  pub shelf_sound : status ≡ 0 → new.faults ≡ old.faults
+  pub sink_sound : status ≡ 0 → out.faults_after ≡ out.faults_before
+  pub shelf_fault : status ≡ 5 → Rose old.faults new.faults
+  pub sink_fault : status ≡ 6 → Rose out.faults_before out.faults_after
+
+-- its files are told and whole
+abbrev pub AreAllWhole : Option Contents → GoingOn → Type 0
+AreAllWhole told asked = (m : Meaning) × All (IsWhole told m) (resumption_files asked)
+
+-- it ended so: memory was wanting before it began, or it stopped over a file, or its log gave no board, or it went on. Where the files are
+-- whole and no count rose, it went on whole, or its log is wrong, or memory was wanting
+pub record IsResumption (asked : GoingOn) (old new : Shelved) (out : Sunk) (status : ℕ) : Type 0 where
+  pub ended : IsUnread new out status ⊎ HasStopped (resumption_files asked) old new out status ⊎ HasRefusedLog asked old new out status
+      ⊎ HasGoneOn asked old new out status
+  pub complete : AreAllWhole old.told asked → (Rose old.faults new.faults → ⊥) → (Rose out.faults_before out.faults_after → ⊥)
+      → (status ≡ 0) ⊎ (status ≡ 1) ⊎ (status ≡ 7)

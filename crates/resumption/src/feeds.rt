@@ -1,0 +1,58 @@
+//! The feeds of a session that goes on, which are brought by their names and given back.
+ghost use Rattle.std.specs.Prelude.{◌<◌, ◌≤◌, length, string_bytes};
+ghost use Rattle.ride_model.specs.Limits.{most_workers};
+ghost use Rattle.session_run.specs.Resuming.{MayGoOn};
+ghost use Rattle.dispatcher.specs.Shelves.{shelved, sunk};
+ghost use Rattle.resumption.specs.Goings.{GoesOnOver};
+
+use adaptive_roads::Roads;
+use dispatcher::{Feeds, Status};
+use ride_ports::{Gate, Shelf, Sink};
+use session_run::{Interrupted, resume};
+use std::alloc::Global;
+use std::sync::Wait;
+use std::thread::Threads;
+
+/// Brings both feeds, goes on with the session over them, and gives them back. Returns the exit status.
+pub fn go_on<'r, R: Threads + Wait + Sync, H: Shelf, K: Sink, G: Gate>(
+    rt: &R,
+    alloc: Global,
+    roads: &'r Roads,
+    interrupted: Interrupted<'r>,
+    feeds: Feeds,
+    shelf: &mut H,
+    out: &mut K,
+    gate: &G,
+) -> u8
+    requires may_go_on { MayGoOn roads.now interrupted }
+    requires workers { (1 ≤ interrupted.workers) × (interrupted.workers ≤ most_workers) }
+    requires asked_room { length (H.asked shelf.old) < 7 }
+    requires back_room { length (H.back shelf.old) < 7 }
+    ensures { GoesOnOver interrupted.entry.board
+        (string_bytes feeds.riders) (string_bytes feeds.drivers)
+        (shelved H.contents H.asked H.brought H.back H.faults shelf.old)
+        (shelved H.contents H.asked H.brought H.back H.faults shelf.new)
+        (sunk K.written K.faults out.old out.new) result }
+{
+    let Feeds { riders, drivers } = feeds;
+    let Ok(mut riders) = shelf.bring(riders) else {
+        return Status::SourceFailed.code();
+    };
+    let Ok(mut drivers) = shelf.bring(drivers) else {
+        shelf.give_back(riders);
+        return Status::SourceFailed.code();
+    };
+    let ran = resume(
+        rt,
+        alloc,
+        roads,
+        interrupted,
+        &mut riders,
+        &mut drivers,
+        out,
+        gate,
+    );
+    shelf.give_back(riders);
+    shelf.give_back(drivers);
+    ran.status()
+}

@@ -1,0 +1,8 @@
+//! The second top call: a session goes on from its log, files by a shelf, and one sink.
+#![tactic(auto)]
+
+mod feeds;
+mod logs;
+mod top;
+
+pub use top::resume;

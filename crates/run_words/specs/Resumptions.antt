@@ -1,0 +1,51 @@
+-- What the words of a session that goes on from its log ask for.
+use Rattle.std.specs.Prelude.{◌≡◌, ℕ, List, [], ◌∷◌, codes, Option, Some, None, option_and_then, option_map, Result, MatchResult, string_bytes}
+use Rattle.clap.specs.Simple.{App}
+use Rattle.ride_model.specs.Limits.{most_workers}
+use Rattle.run_words.specs.declared.WordsError.{WordsError}
+use Rattle.run_words.specs.declared.WordsError.TheVariants.{Refused}
+use Rattle.run_words.specs.declared.resuming.Resumption.{Resumption}
+use Rattle.run_words.specs.Words.{File, feed_file, fleet_file, log_file, map_file, number_within, over_map_and_fleet, value_of, with_option}
+
+-- what is asked for, by the names of its files: that the session of a log over a map and a fleet file goes on with riders and drivers, by
+-- so many workers a desk
+pub record GoingOn : Type 0 where
+  pub map : List ℕ
+  pub fleet : List ℕ
+  pub log : List ℕ
+  pub riders : List ℕ
+  pub drivers : List ℕ
+  pub workers : ℕ
+
+abbrev pub going_on : List ℕ → List ℕ → List ℕ → List ℕ → List ℕ → ℕ → GoingOn
+going_on map fleet log riders drivers workers =
+    record { map = map; fleet = fleet; log = log; riders = riders; drivers = drivers; workers = workers }
+
+-- its command, which takes the first word for its name
+abbrev pub resumption_command : App
+resumption_command =
+    with_option (with_option (with_option (with_option (over_map_and_fleet (codes "ride_resume")) (codes "log")) (codes "riders"))
+    (codes "drivers")) (codes "workers")
+
+-- what words ask for; nothing where they are not in order
+abbrev pub resumption_of : List (List ℕ) → Option GoingOn
+resumption_of words =
+    let value = value_of resumption_command words in
+    option_and_then (λ map. option_and_then (λ fleet. option_and_then (λ log. option_and_then (λ riders.
+    option_and_then (λ drivers. option_map (λ workers. going_on map fleet log riders drivers workers)
+    (option_and_then (number_within 1 most_workers) (value (codes "workers"))))
+    (value (codes "drivers"))) (value (codes "riders"))) (value (codes "log"))) (value (codes "fleet"))) (value (codes "map"))
+
+-- the words of a resumption
+abbrev pub asked_by_resumption : Resumption → GoingOn
+asked_by_resumption r =
+    going_on (string_bytes r.map) (string_bytes r.fleet) (string_bytes r.log) (string_bytes r.riders) (string_bytes r.drivers) r.workers
+
+-- words were read that ask for this, or for nothing: it was found, or they were refused; or memory was wanting
+abbrev pub IsResumptionOf : Option GoingOn → Result Resumption WordsError → Type 0
+IsResumptionOf asked outcome = MatchResult outcome (λ r. asked ≡ Some (asked_by_resumption r)) (λ error. error ≡ Refused → asked ≡ None)
+
+-- its files, in the order in which they are brought
+abbrev pub resumption_files : GoingOn → List File
+resumption_files asked =
+    map_file asked.map ∷ fleet_file asked.fleet ∷ log_file asked.log ∷ feed_file asked.riders ∷ feed_file asked.drivers ∷ []

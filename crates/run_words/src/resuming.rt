@@ -1,0 +1,43 @@
+//! The words of a session that goes on from its log.
+ghost use Rattle.std.specs.Prelude.{◌≤◌, map, string_bytes, IfOk};
+ghost use Rattle.ride_model.specs.Limits.{most_workers};
+ghost use Rattle.run_words.specs.Resumptions.{resumption_of, IsResumptionOf};
+
+use crate::WordsError;
+use crate::commands::resumption_command;
+use crate::values::{number, read_by, text, three_texts};
+use ride_model::limits::MOST_WORKERS;
+use std::alloc::Global;
+
+/// A session that goes on: its files by their names, and how many workers each desk has.
+#[derive(Drop)]
+pub struct Resumption {
+    pub map: String,
+    pub fleet: String,
+    /// The log of what was before.
+    pub log: String,
+    pub riders: String,
+    pub drivers: String,
+    pub workers: u32,
+}
+
+/// Returns the session that the words name: the first is the program's own name, and the others are options, in any order.
+pub fn read_resumption(alloc: Global, words: &[String]) -> Result<Resumption, WordsError>
+    ensures resumption { IsResumptionOf (resumption_of (map string_bytes words.now)) result }
+    ensures workers { IfOk result (λ resumption. (1 ≤ resumption.workers)
+        × (resumption.workers ≤ most_workers)) }
+{
+    let given = read_by(resumption_command(alloc)?, words)?;
+    let (map, fleet, log) = three_texts(alloc, &given, "map", "fleet", "log")?;
+    let riders = text(alloc, &given, "riders")?;
+    let drivers = text(alloc, &given, "drivers")?;
+    let workers = number(&given, "workers", 1, MOST_WORKERS)? as u32;
+    Ok(Resumption {
+        map,
+        fleet,
+        log,
+        riders,
+        drivers,
+        workers,
+    })
+}
