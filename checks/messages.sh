@@ -1,7 +1,18 @@
 #!/usr/bin/env bash
-# What the built program says on standard error where its status is not 0. `rt run` in crates/ride_dispatch builds it.
-program="$(dirname "$0")/../crates/ride_dispatch/out/ride_dispatch"
+# What the built programs say on standard error where their status is not 0.
+#
+#     checks/messages.sh [PROGRAM [RESUME]]
+#
+# `rt run` in crates/ride_dispatch and crates/ride_resume builds them; ride_resume is left out where it is not built.
 here="$(cd "$(dirname "$0")/.." && pwd)"
+program="${1:-$here/crates/ride_dispatch/out/ride_dispatch}"
+resume="${2:-$here/crates/ride_resume/out/ride_resume}"
+for given in "$program" ${2:+"$resume"}; do
+    if [ ! -x "$given" ] || [ -d "$given" ]; then
+        printf 'messages.sh: %s is no program\n' "$given" >&2
+        exit 2
+    fi
+done
 map="$here/crates/ride_dispatch/data/map.gr"
 fleet="$here/crates/ride_dispatch/data/fleet.txt"
 feed="$here/crates/ride_dispatch/data/feed.txt"
@@ -19,9 +30,29 @@ says() {
     said="$("$program" "$@" 2>&1 >"$output")"
     status=$?
     if [ "$status" != "$wanted_status" ] || [ "$said" != "$wanted" ]; then
-        printf '%q: status %s, %s\n' "$*" "$status" "$said"
+        printf '%s %q: status %s, %s\n' "${program##*/}" "$*" "$status" "$said"
         failed=1
     fi
+}
+
+# The same of a session that goes on; the options behind have other values than these. A log with a batch that is open is the first.
+[ -x "$resume" ] || resume=''
+broken="$scratch/broken"
+printf 'log 1 feeds 2 desks 1\nf1 request 7 2 4 1 600 300 = waiting\nf1 batch = asked 1\nd1 open 1 at 0 requests 7 plans 1@0\n' > "$broken"
+goes_on() {
+    [ -n "$resume" ] || return
+    local wanted_status="$1" wanted="$2" name
+    local -A value=([--map]="$map" [--fleet]="$fleet" [--log]="$broken" [--riders]="$feed" [--drivers]=/dev/null [--workers]=2)
+    local -a options=()
+    shift 2
+    while [ $# -gt 1 ]; do
+        value[$1]="$2"
+        shift 2
+    done
+    for name in --map --fleet --log --riders --drivers --workers; do
+        options+=("$name" "${value[$name]}")
+    done
+    program="$resume" says "$wanted_status" "$wanted" "${options[@]}"
 }
 
 says 0 '' replay --map "$map" --fleet "$fleet" --feed "$feed"
@@ -56,6 +87,7 @@ $words" plan
 refused_map() {
     printf '%b' "$2" > "$scratch/no_map"
     says 3 "$scratch/no_map$1" replay --map "$scratch/no_map" --fleet "$fleet" --feed "$feed"
+    goes_on 3 "$scratch/no_map$1" --map "$scratch/no_map"
 }
 refused_map ": no line 'p sp NODES ARCS' before the first arc" 'a 1 2 60\n'
 refused_map ":2: a second problem line" 'p sp 2 1\np sp 2 1\na 1 2 60\n'
@@ -68,6 +100,7 @@ refused_fleet() {
     printf '%b' "$2" > "$scratch/no_fleet"
     says 4 "$scratch/no_fleet$1" replay --map "$map" --fleet "$scratch/no_fleet" --feed "$feed"
     says 4 "$scratch/no_fleet$1" league --map "$map" --fleet "$fleet" --second "$scratch/no_fleet" --feed "$feed"
+    goes_on 4 "$scratch/no_fleet$1" --fleet "$scratch/no_fleet"
 }
 nodes="$(sed -n 's/^p sp \([0-9]*\) .*/\1/p' "$map")"
 refused_fleet ":2: no such setting: penlty" '# a comment\nset penlty 3\n'
@@ -89,6 +122,7 @@ wrong_log() {
     sed "$3" "$morning/morning.log" > "$scratch/wrong"
     line="$(sed -n "${1}p" "$scratch/wrong")"
     says 7 "$scratch/wrong:$1: $2: $line$4" audit --map "$morning/map.gr" --fleet "$morning/fleet.txt" --log "$scratch/wrong"
+    goes_on 7 "$scratch/wrong:$1: $2: $line$4" --map "$morning/map.gr" --fleet "$morning/fleet.txt" --log "$scratch/wrong" --riders "$scratch"
 }
 # The line that was due is the example's own.
 other_due() {
@@ -98,9 +132,10 @@ other_due() {
 commit_due() {
     sed "$3" "$morning/morning.log" > "$scratch/wrong"
     line="$(sed -n "${1}p" "$scratch/wrong")"
-    said="$("$program" audit --map "$morning/map.gr" --fleet "$morning/fleet.txt" --log "$scratch/wrong" 2>&1 >/dev/null)"
+    over=(--map "$morning/map.gr" --fleet "$morning/fleet.txt" --log "$scratch/wrong")
+    said="$("$program" audit "${over[@]}" 2>&1 >/dev/null)"
     case "$said" in
-    "$scratch/wrong:$1: $2: $line; due: $4 seats "*" prices "*" pays"*" outcomes "*) ;;
+    "$scratch/wrong:$1: $2: $line; due: $4 seats "*" prices "*" pays"*" outcomes "*) goes_on 7 "$said" "${over[@]}" ;;
     *)
         printf 'line %s of a wrong log: %s\n' "$1" "$said"
         failed=1
@@ -121,6 +156,7 @@ sed '3s/waiting$/refused 2/' "$morning/morning.log" > "$scratch/pipe" &
 says 7 "$scratch/pipe:3: another reply is due" audit --map "$morning/map.gr" --fleet "$morning/fleet.txt" --log "$scratch/pipe"
 says 7 "$scratch/none:1: this is no line of a log, to the byte: " audit --map "$map" --fleet "$fleet" --log "$scratch/none"
 head -c 1048577 /dev/zero | tr '\0' '#' > "$scratch/long"
+cp "$scratch/long" "$scratch/long_fleet"
 says 8 "ride_dispatch: $scratch/long has more than 1,048,576 bytes" replay --map "$map" --fleet "$scratch/long" --feed "$feed"
 says 8 "ride_dispatch: $scratch/long has more than 1,048,576 bytes" league --map "$map" --fleet "$fleet" --second "$scratch/long" --feed "$feed"
 yes '' | head -n 1000001 > "$scratch/long"
@@ -135,19 +171,135 @@ output=/dev/null
 # Where no thread can be started, a session of two feeds says that it is not live, and ends as it would. Root has no such limit.
 open="$scratch/open"
 mkdir "$open"
-cp "$program" "$map" "$fleet" "$feed" "$open"
+cp "$map" "$fleet" "$feed" "$broken" "$open"
+cp "$program" "$open/ride_dispatch"
 chmod -R a+rX "$scratch"
 drop=()
 [ "$(id -u)" = 0 ] && drop=(setpriv --reuid 65534 --regid 65534 --clear-groups)
-if command -v prlimit > /dev/null && command -v setpriv > /dev/null; then
-    said="$("${drop[@]}" prlimit --nproc=1 "$open/ride_dispatch" serve --map "$open/map.gr" --fleet "$open/fleet.txt" \
-        --riders "$open/feed.txt" --drivers /dev/null --workers 2 --desks 2 2>&1 > /dev/null)"
+without_threads() {
+    local name="$1"
+    shift
+    command -v prlimit > /dev/null && command -v setpriv > /dev/null || return
+    said="$("${drop[@]}" prlimit --nproc=1 "$open/$name" "$@" --map "$open/map.gr" --fleet "$open/fleet.txt" \
+        --riders "$open/feed.txt" --drivers /dev/null --workers 2 2>&1 > /dev/null)"
     status=$?
-    wanted='ride_dispatch: no thread can be started, so that this session is not live: riders are read to their end first'
+    wanted="$name: no thread can be started, so that this session is not live: riders are read to their end first"
     if [ "$status" != 0 ] || [ "$said" != "$wanted" ]; then
-        printf 'a session without threads: status %s, %s\n' "$status" "$said"
+        printf '%s without threads: status %s, %s\n' "$name" "$status" "$said"
         failed=1
     fi
+}
+without_threads ride_dispatch serve --desks 2
+if [ -n "$resume" ]; then
+    cp "$resume" "$open/ride_resume"
+    without_threads ride_resume --log "$open/broken"
 fi
 says 0 '' serve --map "$map" --fleet "$fleet" --riders "$feed" --drivers /dev/null --workers 2 --desks 2
+
+# A session that goes on: words, which stand without a word before them.
+if [ -z "$resume" ]; then
+    echo 'ride_resume is left out: crates/ride_resume/out/ride_resume is not built'
+    exit "$failed"
+fi
+program="$resume"
+all='--map MAP --fleet FLEET --log LOG --riders FEED --drivers FEED --workers 1..16'
+usage="usage: ride_resume $all"
+given=(--map "$map" --fleet "$fleet" --log "$broken" --riders "$feed" --drivers /dev/null --workers 2)
+goes_on 0 ''
+says 2 "ride_resume: options are missing; these are all, in any order:
+  ride_resume $all: goes on with the session of a log, which it writes anew with what comes then
+docs/guide.md says how they are used, docs/formats.md what each file holds."
+for place in 0 2 4 6 8 10; do
+    name="${given[place]}"
+    says 2 "ride_resume: $name is missing; $usage" "${given[@]:0:place}" "${given[@]:place + 2}"
+    says 2 "ride_resume: $name stands twice; $usage" "${given[@]}" "$name" "${given[place + 1]}"
+    says 2 "ride_resume: $name has no value; $usage" "${given[@]:0:place}" "${given[@]:place + 2}" "$name"
+    says 2 "ride_resume: no such option: ${name}s; $usage" "${given[@]:0:place}" "${given[@]:place + 2}" "${name}s=x"
+done
+says 2 "ride_resume: --fleet is missing; $usage" "--map=$map"
+says 2 "ride_resume: no such option: --desks; $usage" "${given[@]}" --desks 1
+says 2 "ride_resume: no such option: --help; $usage" --help
+says 2 "ride_resume: serve is no option; $usage" serve "${given[@]}"
+says 2 "ride_resume: -h is no option; $usage" -h
+for workers in 0 17 two -1 ''; do
+    goes_on 2 "ride_resume: --workers $workers is not within 1..16; $usage" --workers "$workers"
+done
+
+# Files that cannot be read: each in its turn.
+for name in --map --fleet --log --riders --drivers; do
+    goes_on 5 "ride_resume: $scratch/missing could not be read: No such file or directory (os error 2)" "$name" "$scratch/missing"
+    goes_on 5 "ride_resume: $scratch could not be read: Is a directory (os error 21)" "$name" "$scratch"
+done
+goes_on 5 "ride_resume: $scratch/a could not be read: No such file or directory (os error 2)" --riders "$scratch/a" --drivers "$scratch/b"
+goes_on 5 "ride_resume: $scratch could not be read: Is a directory (os error 21)" --log "$scratch" --riders "$scratch/missing"
+
+# Logs: one that is none, one over another map, one through a pipe; what is torn is not looked at.
+cp "$feed" "$scratch/no_log"
+goes_on 7 "$scratch/no_log:1: this is no line of a log, to the byte: $(head -n 1 "$feed")" --log "$scratch/no_log"
+goes_on 7 "$scratch/none:1: this is no line of a log, to the byte: " --log "$scratch/none"
+printf 'log 1 feeds 2 des' > "$scratch/torn"
+goes_on 7 "$scratch/torn:1: this is no line of a log, to the byte: log 1 feeds 2 des" --log "$scratch/torn"
+{
+    sed '2s/waiting$/refused 4/' "$broken"
+    printf 'f1 clo'
+} > "$scratch/torn"
+goes_on 7 "$scratch/torn:2: another reply is due: f1 request 7 2 4 1 600 300 = refused 4; due: f1 request 7 2 4 1 600 300 = waiting" --log "$scratch/torn"
+(cat "$scratch/torn" > "$scratch/pipe") > /dev/null 2>&1 &
+goes_on 7 "$scratch/pipe:2: another reply is due" --log "$scratch/pipe"
+kill $! 2> /dev/null
+printf 'p sp 2 0\n' > "$scratch/two.gr"
+goes_on 7 "$broken:2: another reply is due: f1 request 7 2 4 1 600 300 = waiting; due: f1 request 7 2 4 1 600 300 = refused 2" --map "$scratch/two.gr"
+
+# Limits, also of a log, and of either feed, whose names are both said since both are read at once.
+goes_on 8 "ride_resume: $scratch/long_fleet has more than 1,048,576 bytes" --fleet "$scratch/long_fleet" --log "$scratch/missing"
+both='has more than 67,108,864 bytes or 1,000,000 lines'
+goes_on 8 "ride_resume: $scratch/long or /dev/null $both" --riders "$scratch/long"
+goes_on 8 "ride_resume: $feed or $scratch/long $both" --drivers "$scratch/long"
+{
+    echo 'log 1 feeds 2 desks 1'
+    yes 'f1 clock 0 = now 0' | head -n 2100000
+} > "$scratch/long_log"
+goes_on 8 "ride_resume: $scratch/long_log has more than 1,073,741,824 bytes or 2,100,000 lines" --log "$scratch/long_log" --riders "$scratch"
+rm "$scratch/long_log"
+
+# Outputs, and what stands where a log cannot be finished: some line of the program's own.
+if [ -w /dev/full ]; then
+    output=/dev/full
+    goes_on 6 'ride_resume: standard output could not be written: No space left on device (os error 28)'
+    goes_on 6 'ride_resume: standard output could not be written: No space left on device (os error 28)' --riders "$scratch"
+    output=/dev/null
+fi
+said="$("$resume" "${given[@]}" 2>&1 >&-)"
+status=$?
+if [ "$status" != 6 ] || [ "$said" != 'ride_resume: standard output could not be written: Bad file descriptor (os error 9)' ]; then
+    printf 'a session that goes on with a closed output: status %s, %s\n' "$status" "$said"
+    failed=1
+fi
+
+# A log that cannot be finished: a line of the program's own, whatever it says.
+for end in 'f1 cut' 'd2 cut' 'd1 abandon 1'; do
+    {
+        sed '1s/desks 1/desks 2/' "$broken"
+        echo "$end"
+    } > "$scratch/broken_off"
+    said="$("$resume" "${given[@]:0:4}" --log "$scratch/broken_off" "${given[@]:6}" 2>&1 > /dev/null)"
+    status=$?
+    if [ "$status" != 1 ] || [[ "$said" != 'ride_resume: '* ]] || [[ "$said" == *$'\n'* ]]; then
+        printf 'a session that goes on behind %s: status %s, %s\n' "$end" "$status" "$said"
+        failed=1
+    fi
+done
+
+# Want of memory: a map that takes more than there is. The last file that was asked for is said.
+printf 'p sp 500000 0\n' > "$scratch/large"
+said="$(
+    ulimit -v 40000
+    "$resume" --map "$scratch/large" "${given[@]:2}" 2>&1 > /dev/null
+)"
+status=$?
+names="^ride_resume: ($scratch/large|$fleet|$broken) was the last file that was asked for when memory was wanting\$"
+if [ "$status" != 1 ] || [[ ! "$said" =~ $names ]]; then
+    printf 'a session that goes on without memory: status %s, %s\n' "$status" "$said"
+    failed=1
+fi
 exit "$failed"
