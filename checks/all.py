@@ -4,7 +4,7 @@
     python3 checks/all.py [--passed N] [--only WORD]
 
 Each check is a command that ends with status 0 where all is well. What it prints is shown where it fails. A check whose tool is not
-installed is left out, and a line says so. None depends on how fast the machine is. The last line is `N passed, M failed`, to which
+installed is left out, and a line says so, as it does of a part that a check leaves out itself. None depends on how fast the machine is. The last line is `N passed, M failed`, to which
 --passed adds what passed before; the status is 1 where a check failed.
 """
 import argparse
@@ -74,7 +74,11 @@ def run(check: Check) -> bool:
     print(f"check: {check.name}: {'passed' if good else 'FAILED'} ({time.monotonic() - begun:.0f} s)", flush=True)
     if not good:
         print(said, flush=True)
-    return good
+        return False
+    for line in said.splitlines():
+        if "left out" in line:
+            print(f"check: {check.name}: {line}", flush=True)
+    return True
 
 
 def main() -> None:

@@ -116,7 +116,7 @@ d2 open 1 at 0 requests 7 plans 1@0
 def resumption(folder, program, plain):
     """The sample of a session that goes on from a log with an open batch; none where its program is not built."""
     if not os.path.exists(program):
-        print(f"{program} is not built: no session goes on from a log", flush=True)
+        print(f"ride_resume is left out: {program} is not built", flush=True)
         return []
     (folder / "opened.log").write_text(OPENED)
     (folder / "more_riders").write_text("clock 5\nrequest 8 3 1 1 900 600\nbatch\n")
