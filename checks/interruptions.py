@@ -1,7 +1,7 @@
 #!/usr/bin/env python3
 """Ends sessions by force at random moments, cuts logs, goes on from them by `ride_resume`, and looks at what came of it.
 
-    python3 checks/interruptions.py [--kills 200] [--bytes 1000] [--seed 1] [--only kills|cuts|hostile]
+    python3 checks/interruptions.py [--kills 200] [--bytes 1000] [--seed 1] [--only kills|cuts|hostile|edges]
 
 kills    Days of a drawn city are played on two named pipes, with two desks and drivers who follow their plans. Each session is ended by
          SIGKILL at a drawn moment: while it starts and writes the lines that it goes on from, after some time, behind some lines, at the
@@ -9,6 +9,7 @@ kills    Days of a drawn city are played on two named pipes, with two desks and 
          has answers on the log.
 cuts     A finished log is cut at each of its last bytes, and gone on with.
 hostile  Logs that are none, or of another map or fleet, or cannot be finished, or have no end; words, files and outputs that are wrong.
+edges    Logs whose reads fail or end anywhere, outputs that take no more, few open files, and memory in steps.
 
 Of each resumed log is seen that it begins with the whole lines of the one that broke off, that no batch was given up, and that a desk with
 an open batch waited for news; at the end that each feed's commands stand once and in order beside those that the clients meant, that no
@@ -26,7 +27,7 @@ import shutil
 import sys
 import tempfile
 import time
-from collections.abc import Sequence
+from collections.abc import Callable, Sequence
 from pathlib import Path
 
 sys.path.insert(0, str(Path(__file__).resolve().parent))
@@ -34,14 +35,15 @@ sys.path.insert(0, str(Path(__file__).resolve().parent))
 from interrupted import TOP  # noqa: E402
 from interrupted.cuts import try_cuts  # noqa: E402
 from interrupted.days import City, Count, Day, Sizes, check_yes, draw_city  # noqa: E402
-from interrupted.hostile import CASES, try_case  # noqa: E402
+from interrupted.edges import EDGES  # noqa: E402
+from interrupted.hostile import CASES, Place, try_case  # noqa: E402
 from interrupted.logs import Wrong  # noqa: E402
 from interrupted.programs import Programs  # noqa: E402
 from player.files import InputError, Parser, run_main, whole  # noqa: E402
 
 DISPATCH = TOP / "crates" / "ride_dispatch" / "out" / "ride_dispatch"
 RESUME = TOP / "crates" / "ride_resume" / "out" / "ride_resume"
-PARTS = ("kills", "cuts", "hostile")
+PARTS = ("kills", "cuts", "hostile", "edges")
 KILLS_OF_DAY = (4, 14)
 # Days in turn: in a larger city a batch takes longer, so that it is open more often when a session is killed.
 DAYS = (Sizes(), Sizes(side=40, vehicles=50, requests=150, minutes=10))
@@ -112,9 +114,9 @@ class Trial:
         if said is not None:
             print(f"cuts: a log at each of its last {most:,} bytes: {said} ({time.monotonic() - begun:.0f} s)", flush=True)
 
-    def hostile(self) -> None:
-        """Tries each hostile case."""
-        for case in CASES:
+    def cases(self, cases: list[Callable[[Place], None]]) -> None:
+        """Tries each of some cases."""
+        for case in cases:
             name = case.__name__.replace("_", " ")
 
             def work(folder: Path) -> str:
@@ -152,7 +154,8 @@ def main(words: Sequence[str]) -> int:
     wishes = parser.parse_args(words)
     trial = Trial((program(wishes.program), program(wishes.resume)), wishes.seed, Path(wishes.keep) if wishes.keep else None, wishes.second)
     for part in [wishes.only] if wishes.only else PARTS:
-        {"kills": lambda: trial.kills(wishes.kills), "cuts": lambda: trial.cuts(wishes.bytes), "hostile": trial.hostile}[part]()
+        {"kills": lambda: trial.kills(wishes.kills), "cuts": lambda: trial.cuts(wishes.bytes), "hostile": lambda: trial.cases(CASES),
+         "edges": lambda: trial.cases(EDGES)}[part]()
     print("so it is" if not trial.wrong else f"{trial.wrong} WRONG", flush=True)
     return 1 if trial.wrong else 0
 
