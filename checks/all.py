@@ -76,7 +76,7 @@ def run(check: Check) -> bool:
         print(said, flush=True)
         return False
     for line in said.splitlines():
-        if "left out" in line:
+        if " is left out: " in line:
             print(f"check: {check.name}: {line}", flush=True)
     return True
 

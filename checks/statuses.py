@@ -99,7 +99,7 @@ class Runs:
 
     def expect(self, status: int, called: list[str], options: Mapping[str, str], output: str = "/dev/null", memory: int | None = None) -> None:
         """Runs what is called with options in both orders; either run has to end with this status."""
-        for order in (list(options), list(reversed(options))):
+        for order in (list(options), list(options)[::-1]):
             words = list(called)
             for option in order:
                 value = options[option]
@@ -152,8 +152,8 @@ def try_resume(runs: Runs, resume: str) -> None:
     try_faults_in_turn(runs, resume)
     runs.expect(2, [resume, "serve"], GOING_ON)
     runs.expect(2, [resume], {**GOING_ON, "--desks": "2"})
-    for words in ([], ["resume"], ["--help"], ["--log", "log"]):
-        runs.run(2, [resume, *words])
+    for words in ("", "resume", "--help", "--log log"):
+        runs.run(2, [resume, *words.split()])
 
 
 def program(path: str) -> str:
@@ -176,8 +176,8 @@ def main(words: Sequence[str]) -> int:
         for word, options in WORDS.items():
             if given.only in (None, word):
                 try_options(runs, [dispatch, word], options, INSTEAD)
-        for some in ([], ["plan"], ["--map", "map"], ["help"]):
-            runs.run(2, [dispatch, *some])
+        for some in ("", "plan", "--map map", "help"):
+            runs.run(2, [dispatch, *some.split()])
         if not pathlib.Path(resume).exists():
             print(f"ride_resume is left out: {RESUME.relative_to(TOP)} is not built")
         elif given.only in (None, "resume"):

@@ -6,17 +6,21 @@ import errno
 import fcntl
 import os
 import resource
+import shutil
 import subprocess
 import sys
 import threading
 import time
-from collections.abc import Callable
+from collections.abc import Callable, Iterator
 from pathlib import Path
 
 from interrupted.hostile import COMMIT, ENDS, FIRST_LOOK, OPENED, SEATED, Place, expect, expect_legal
 from interrupted.logs import Wrong, whole_lines
 from interrupted.programs import KILLED, PATIENCE
 
+FAULTS = Path(__file__).resolve().parents[1] / "faults.c"
+PIECE = 7  # bytes that a read or a write takes where each fails in turn
+MOST_CALLS = 1_000  # that such a run makes
 LOADERS = 127  # the status where there is too little memory to load a program
 LEAST_KB, MOST_KB, STEP_KB = 2_500, 40_000, 1_250  # the memory of a session, in steps
 CLOCKS = 20_000  # lines of a long log
@@ -26,12 +30,14 @@ UNREADABLE = Path("/proc/self/mem")
 FEWEST_FILES, ENOUGH_FILES = 4, 6  # open at once: the three of every process and one more, and one for each feed and one to spare
 
 
-def ended(words: list[str], output: int | str | None = None, before: Callable[[], None] | None = None) -> tuple[int, bytes]:
-    """Returns the status of a run and what it writes, which goes into an output where one is given; its process is made ready by `before`."""
+def ended(words: list[str], output: int | str | None = None, before: Callable[[], None] | None = None,
+          environment: dict[str, str] | None = None) -> tuple[int, bytes]:
+    """Returns the status of a run and what it writes, which goes into an output where one is given. `before` makes its process ready, in an
+    environment of its own where one is given. Raises Wrong where it does not end."""
     sink = os.open(output, os.O_WRONLY) if isinstance(output, str) else output
     try:
         done = subprocess.run(words, stdin=subprocess.DEVNULL, stdout=subprocess.PIPE if sink is None else sink, stderr=subprocess.DEVNULL,
-                              timeout=PATIENCE, preexec_fn=before, check=False)
+                              timeout=PATIENCE, preexec_fn=before, env=environment, check=False)
     except subprocess.TimeoutExpired:
         raise Wrong(f"a run does not end within {PATIENCE:.0f} s: {' '.join(words)}") from None
     finally:
@@ -54,6 +60,81 @@ def logs_that_cannot_be_read(place: Place) -> None:
         expect(f"a log that is {str(name):.40}", ended(place.programs.resuming(name, 2, place.pipes())), (5, b""))
     words = place.programs.resuming(place.folder / "plain", 2, place.pipes())
     expect("a log of no name", ended([word if word != str(place.folder / "plain") else "" for word in words]), (5, b""))
+
+
+def failing(words: list[str], library: Path, reads: Path | None, number: int) -> tuple[int, bytes]:
+    """Returns the status and the output of a run in which the reads of a file, or all writes where there is none, fail from a number on."""
+    faults = {"LD_PRELOAD": str(library), "FAILS": str(number), "PIECE": str(PIECE), "READS": str(reads or "")}
+    return ended(words, environment={**os.environ, **faults})
+
+
+def each_call_fails(words: list[str], library: Path, reads: Path | None) -> Iterator[tuple[int, int, bytes]]:
+    """Gives a number with the status and the output of a run whose calls fail from it on, until a run needs no more calls."""
+    for number in range(1, MOST_CALLS):
+        status, said = failing(words, library, reads, number)
+        yield number, status, said
+        if status == 0:
+            return
+    raise Wrong(f"{MOST_CALLS} calls were let through, and the run is not whole")
+
+
+def library_of_faults(place: Place) -> Path | None:
+    """Returns the library that lets reads and writes fail, and says that it is left out where there is no compiler."""
+    if shutil.which("gcc") is None:
+        print("each read and write that fails in turn is left out: gcc not found", flush=True)
+        return None
+    library = place.folder / "faults.so"
+    subprocess.run(["gcc", "-O2", "-shared", "-fPIC", "-o", str(library), str(FAULTS), "-ldl"], check=True)
+    return library
+
+
+def each_read_fails_in_turn(place: Place) -> None:
+    library = library_of_faults(place)
+    if library is None:
+        return
+    log, feeds = place.write("log", SEATED), place.feeds("clock 5\nbatch\n", "done 1\n")
+    words = place.programs.resuming(log, 2, feeds)
+    for path in (place.programs.map, place.programs.fleet, log):
+        tried = 0
+        for tried, status, said in each_call_fails(words, library, path):
+            if status != 0:
+                expect(f"read {tried} of {path.name}", (status, said), (5, b""))
+        expect(f"reads of {path.name}", tried - 1 > path.stat().st_size // PIECE, True)
+    for feed, path in enumerate(feeds, 1):
+        for tried, status, said in each_call_fails(words, library, path):
+            text = said.decode()
+            expect(f"read {tried} of {path.name}", (status, text[:len(SEATED)]), (5 if f"f{feed} cut\n" in text else 0, SEATED))
+            expect_legal(place, text, "yes" if status == 0 else "no")
+
+
+def a_wrong_line_comes_before_a_read_that_fails(place: Place) -> None:
+    """A log whose third line is wrong: it decides as soon as it was read whole."""
+    library = library_of_faults(place)
+    if library is None:
+        return
+    wrong = SEATED.replace("asked 1", "asked 2")
+    log = place.write("log", wrong)
+    answer = place.audit(wrong)
+    decided = wrong.index("asked 2\n") + len("asked 2\n")
+    words, tried = place.programs.resuming(log, 2, place.pipes()), 0
+    while tried * PIECE <= len(wrong):
+        status, said = failing(words, library, log, tried + 1)
+        expect(f"what comes where {tried} reads are let through", (status, said.decode()), answer if tried * PIECE >= decided else (5, ""))
+        tried += 1
+
+
+def each_write_fails_in_turn(place: Place) -> None:
+    library = library_of_faults(place)
+    if library is None:
+        return
+    words = place.programs.resuming(place.write("log", SEATED), 2, place.feeds("clock 5\nbatch\n", "done 1\n"))
+    for number, status, said in each_call_fails(words, library, None):
+        text = said.decode()
+        expect(f"write {number}", (status, text[:len(SEATED)]), (0 if status == 0 else 6, SEATED[:len(text)]))
+        expect(f"the bytes before write {number}", len(said) <= (number - 1) * PIECE, True)
+        whole = whole_lines(said).decode()
+        if whole:
+            expect(f"the audit of what was written before write {number}", place.audit(whole)[1][:4], "yes ")
 
 
 def through_a_pipe(place: Place, write: Callable[[int], None]) -> tuple[int, bytes]:
@@ -117,7 +198,8 @@ def a_pipe_whose_writer_is_killed(place: Place) -> None:
     killed: list[int] = []
 
     def write(pipe: int) -> None:
-        killed.append(subprocess.run([sys.executable, "-c", script, SEATED + "f1 clock 9"], stdout=pipe, check=False).returncode)
+        killed.append(subprocess.run([sys.executable, "-c", script, SEATED + "f1 clock 9"], stdout=pipe, stderr=subprocess.DEVNULL,
+                                     check=False).returncode)
 
     status, said = through_a_pipe(place, write)
     expect("the writer", killed, [KILLED])
@@ -238,6 +320,7 @@ def no_memory_for_a_large_map(place: Place) -> None:
 
 
 EDGES: list[Callable[[Place], None]] = [
-    logs_that_cannot_be_read, pipes_that_end_anywhere, a_pipe_that_comes_in_single_bytes, a_pipe_whose_writer_is_killed, too_few_files,
-    outputs_that_take_nothing, a_reader_that_goes_while_old_lines_are_written, a_reader_that_goes_while_a_feed_is_silent,
-    a_closed_standard_error, little_memory, no_memory_for_a_large_map]
+    logs_that_cannot_be_read, each_read_fails_in_turn, a_wrong_line_comes_before_a_read_that_fails, each_write_fails_in_turn,
+    pipes_that_end_anywhere, a_pipe_that_comes_in_single_bytes, a_pipe_whose_writer_is_killed, too_few_files, outputs_that_take_nothing,
+    a_reader_that_goes_while_old_lines_are_written, a_reader_that_goes_while_a_feed_is_silent, a_closed_standard_error, little_memory,
+    no_memory_for_a_large_map]

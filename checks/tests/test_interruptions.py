@@ -2,6 +2,7 @@
 import os
 import pathlib
 import random
+import shutil
 import subprocess
 import sys
 import tempfile
@@ -13,7 +14,8 @@ sys.path.insert(0, str(CHECKS))
 
 from interrupted import TOP  # noqa: E402
 from interrupted.days import Count, Day, Sizes, draw_city  # noqa: E402
-from interrupted.hostile import COMMIT, ENDS, FLEET, MAP, OPENED, SEATED  # noqa: E402
+from interrupted.edges import PIECE, each_call_fails, ended, full_pipe, library_of_faults, through_a_pipe  # noqa: E402
+from interrupted.hostile import COMMIT, ENDS, FLEET, MAP, OPENED, SEATED, Place  # noqa: E402
 from interrupted.logs import Wrong, check_commands, check_promises, standing, whole_lines  # noqa: E402
 from interrupted.programs import KILLED, Moment, Pipe, Programs, Session, draw_moment, run  # noqa: E402
 from trip_log import read_fleet  # noqa: E402
@@ -155,6 +157,43 @@ class Runs(WithFolder):
         self.assertEqual((self.folder / "out").read_text(), "no\n")
 
 
+class Edges(WithFolder):
+    def place(self, resume: str) -> Place:
+        """Returns a place whose program that goes on is another one."""
+        return Place(Programs(PROGRAM, pathlib.Path(resume), self.path("map.gr", MAP), self.path("fleet.txt", FLEET)), self.folder)
+
+    def script(self, text: str) -> str:
+        """Returns the path of a shell script."""
+        path = self.path("script", f"#!/bin/sh\n{text}\n")
+        path.chmod(0o700)
+        return str(path)
+
+    @unittest.skipUnless(shutil.which("gcc"), "gcc is not there")
+    def test_each_read_and_each_write_fails_in_turn(self) -> None:
+        library = library_of_faults(self.place("/bin/true"))
+        assert library is not None
+        text = "".join(f"{number}\n" for number in range(20))
+        path = self.path("read", text)
+        for reads in (path, None):
+            found = list(each_call_fails(["cat", str(path)], library, reads))
+            self.assertEqual([status == 0 for _, status, _ in found], [False] * (len(found) - 1) + [True])
+            self.assertEqual(found[-1][2].decode(), text)
+            self.assertGreater(len(found), len(text) // PIECE)
+            for number, _, said in found:
+                self.assertEqual(said.decode(), text[:(number - 1) * PIECE])
+
+    def test_what_is_made_ready_before_a_run(self) -> None:
+        self.assertEqual(ended(["sh", "-c", "echo $A; exit 3"], environment={"A": "so"}), (3, b"so\n"))
+        self.assertNotEqual(ended(["sh", "-c", "echo so"], before=lambda: os.close(1))[0], 0)
+        given = full_pipe()[1]
+        self.assertEqual(ended(["sh", "-c", "trap '' PIPE; echo so 2> /dev/null || exit 6"], given)[0], 6)
+        os.close(given)
+
+    def test_a_log_comes_through_a_pipe(self) -> None:
+        place = self.place(self.script('while [ "$1" != --log ]; do shift; done; exec cat "$2"'))
+        self.assertEqual(through_a_pipe(place, lambda pipe: [os.write(pipe, b"a\n") for _ in range(3)]), (0, b"a\na\na\n"))
+
+
 @unittest.skipUnless(PROGRAM.exists(), f"{PROGRAM} is not there (RIDE_DISPATCH names another)")
 class WithProgram(WithFolder):
     def test_a_day_without_kills(self) -> None:
@@ -199,7 +238,7 @@ class Words(WithFolder):
         self.assertIn("--kills N", ran.stdout)
 
     def test_a_program_that_does_something_else_is_told_in_a_line_each(self) -> None:
-        for part in ("kills", "cuts", "hostile"):
+        for part in ("kills", "cuts", "hostile", "edges"):
             ran = self.run_words("--program", "/bin/true", "--resume", "/bin/true", "--only", part, "--kills", "1",
                                  "--keep", str(self.folder / "kept"))
             self.assertEqual((ran.returncode, ran.stderr), (1, ""), part)
