@@ -5,7 +5,7 @@ was doing meanwhile.
     python3 bench/all.py > figures.md
     python3 bench/all.py --only rows hierarchies
 
-It takes the built programs (`rt run` in crates/ride_dispatch and crates/ride_bench builds them), and builds the peers into a folder of its
+It takes the built programs (`rt run` in crates/ride_dispatch, ride_resume and ride_bench builds them), and builds the peers into a folder of its
 own; a peer whose compiler or library is missing is left out, and a line says so. A section that fails says why, the others go on, and the
 status is 1. All sections take most of an hour. Each stands on standard error as soon as it is done; at the end, or where it is stopped before,
 all that are done stand on standard output, behind what the machine was doing. --quick takes the smallest sizes, and its figures mean
@@ -30,10 +30,14 @@ from workshop import Workshop  # noqa: E402
 
 PROGRAM = f"{TOP}/crates/ride_dispatch/out/ride_dispatch"
 PARTS = f"{TOP}/crates/ride_bench/out/ride_bench"
+RESUME = f"{TOP}/crates/ride_resume/out/ride_resume"
+# The programs that a section takes, by what it is said to take.
+TAKES = {"program": ("program",), "bench": ("bench",), "resume": ("program", "resume")}
+NAMES = {"program": "ride_dispatch", "bench": "ride_bench", "resume": "ride_dispatch and ride_resume"}
 
 
 class Section(NamedTuple):
-    """A heading of the page, which program it takes, and what measures it."""
+    """A heading of the page, which programs it takes (a key of TAKES), and what measures it."""
     title: str
     takes: str
     measure: Callable[[Workshop], List[str]]
@@ -46,6 +50,7 @@ SECTIONS: Dict[str, Section] = {
     "shared": Section("A board that threads share", "bench", parts.shared),
     "audit": Section("The audit of a day", "program", days.audits),
     "second_auditor": Section("The second auditor", "program", days.second_auditor),
+    "going_on": Section("A log gives its board back", "resume", days.going_on),
     "commands": Section("Commands a second", "program", sessions.commands),
     "answers": Section("Answers while a batch is priced", "program", sessions.answers),
     "idle": Section("A session that is silent", "program", sessions.idle),
@@ -70,7 +75,7 @@ def chosen(names: Optional[Sequence[str]]) -> List[str]:
 
 def listing() -> List[str]:
     """Returns a line for each section."""
-    return [f"{name:16}{section.title} ({'ride_bench' if section.takes == 'bench' else 'ride_dispatch'})" for name, section in SECTIONS.items()]
+    return [f"{name:16}{section.title} ({NAMES[section.takes]})" for name, section in SECTIONS.items()]
 
 
 def program_of(path: str, option: str) -> str:
@@ -82,8 +87,8 @@ def program_of(path: str, option: str) -> str:
 
 def programs_of(wishes: argparse.Namespace, names: Sequence[str]) -> Dict[str, str]:
     """Returns the programs that the sections take. Raises InputError where one is not there."""
-    takes = {SECTIONS[name].takes for name in names}
-    given = {"program": wishes.program, "bench": wishes.bench}
+    takes = {program for name in names for program in TAKES[SECTIONS[name].takes]}
+    given = {"program": wishes.program, "bench": wishes.bench, "resume": wishes.resume}
     return {name: program_of(path, f"--{name}") for name, path in given.items() if name in takes}
 
 
@@ -93,6 +98,7 @@ def wishes_of(words: Sequence[str]) -> argparse.Namespace:
     add = parser.add_argument
     add("--program", default=PROGRAM, metavar="PATH", help="the built ride_dispatch (crates/ride_dispatch/out/ride_dispatch)")
     add("--bench", default=PARTS, metavar="PATH", help="the built ride_bench (crates/ride_bench/out/ride_bench)")
+    add("--resume", default=RESUME, metavar="PATH", help="the built ride_resume (crates/ride_resume/out/ride_resume)")
     add("--only", nargs="+", choices=SECTIONS, metavar="SECTION", help="only these sections, in the page's order (all)")
     add("--list", action="store_true", help="prints the names of the sections")
     add("--quick", action="store_true", help="takes the smallest sizes, once: to see that all of it works")
@@ -150,7 +156,8 @@ def main(words: Sequence[str]) -> int:
     programs = programs_of(wishes, names)
     watch = Watch(" ".join(["python3 bench/all.py", *map(shlex.quote, words)]), list(programs.values()))
     with printed_at_the_end(watch, programs, wishes.quick) as lines, tempfile.TemporaryDirectory() as folder:
-        shop = Workshop(programs.get("program", ""), programs.get("bench", ""), os.path.realpath(folder), wishes.quick)
+        shop = Workshop(programs.get("program", ""), programs.get("bench", ""), os.path.realpath(folder), wishes.quick,
+                        programs.get("resume", ""))
         for name in names:
             section = list(section_lines(shop, name))
             print("\n".join(section), file=sys.stderr, flush=True)

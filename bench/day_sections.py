@@ -1,4 +1,5 @@
 """The sections of bench/all.py that time whole runs of ride_dispatch over files: replays, audits, drills and leagues."""
+import filecmp
 import os
 import sys
 from functools import partial
@@ -7,7 +8,7 @@ from typing import Callable, Dict, List, NamedTuple, Sequence, Tuple
 from live import NEW_YORK
 from machine import TOP
 from measuring import TAKEN, Ran, busiest_ratio, found, in_turn, in_words, same, table, taken
-from player.files import read_lines
+from player.files import InputError, read_lines
 from workshop import EXAMPLES, Workshop
 
 TOWN, TOWN_NODES = f"{EXAMPLES}/map.gr", 30
@@ -143,6 +144,22 @@ def second_auditor(shop: Workshop) -> List[str]:
     audit = list(ran.values())[:1]
     rows = [[name, *taken([run]), busiest_ratio([run], audit)] for name, run in ran.items()]
     return [f"One run of each over the log of {day.name}. Both say `{said}`.", "", *table(["", *TAKEN, "of `audit`'s processors' time"], rows)]
+
+
+def going_on(shop: Workshop) -> List[str]:
+    """Times what a day's log gives back, beside the replay that writes it: a session goes on from it with nothing, and writes it again."""
+    day, log, again = city_day(shop), shop.path("day.log"), shop.path("again.log")
+    nothing = ["--riders", os.devnull, "--drivers", os.devnull, "--workers", "1"]
+    turns = shop.turns(2)
+    ran = in_turn(turns, {
+        "`replay`, which writes the log": partial(shop.run, *day.replay(shop), into=log),
+        "`ride_resume`, which goes on from it with nothing": partial(shop.run, shop.resume, *day.over(), "--log", log, *nothing, into=again)})
+    if not filecmp.cmp(log, again, shallow=False):
+        raise InputError("a log that is finished does not give itself back")
+    replayed = list(ran.values())[0]
+    rows = [[name, *taken(runs), busiest_ratio(runs, replayed)] for name, runs in ran.items()]
+    return [f"{day.name[0].upper()}{day.name[1:]}; {in_words(turns, 'run of each', 'runs of each in turn').lower()}. The second log is the first, to "
+            "the byte.", "", *table(["", *TAKEN, "of the replay's processors' time"], rows)]
 
 
 # Drills.

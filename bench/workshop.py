@@ -24,6 +24,7 @@ class Workshop:
     bench: str
     folder: str
     quick: bool = False
+    resume: str = ""
     commands: List[str] = field(default_factory=list)
     left_out: List[str] = field(default_factory=list)
     done: Set[str] = field(default_factory=set)
@@ -42,7 +43,7 @@ class Workshop:
 
     def word(self, word: str) -> str:
         """Returns how a word of a command is shown at the top of a clone."""
-        names = {self.program: "$program", self.bench: "$bench", sys.executable: "python3"}
+        names = {self.program: "$program", self.bench: "$bench", self.resume: "$resume", sys.executable: "python3"}
         if word in names:
             return names[word]
         for folder, name in ((self.folder, "$files"), (TOP, "")):

@@ -4,8 +4,8 @@
     python3 checks/all.py [--passed N] [--only WORD]
 
 Each check is a command that ends with status 0 where all is well. What it prints is shown where it fails. A check whose tool is not
-installed is left out, and a line says so, as it does of a part that a check leaves out itself. None depends on how fast the machine is. The last line is `N passed, M failed`, to which
---passed adds what passed before; the status is 1 where a check failed.
+installed is left out, and a line says so, as it does of a part that a check leaves out itself. None depends on how fast the machine is. The
+last line is `N passed, M failed`, to which --passed adds what passed before; the status is 1 where a check failed.
 """
 import argparse
 import pathlib

@@ -26,6 +26,7 @@ from player.files import InputError  # noqa: E402
 STAND_IN = os.path.join(HERE, "data", "stand_in.py")
 PROGRAM = os.environ.get("RIDE_DISPATCH", figures.PROGRAM)
 BENCH = os.environ.get("RIDE_BENCH", figures.PARTS)
+RESUME = os.environ.get("RIDE_RESUME", figures.RESUME)
 
 GRIDS = "random 128 x 1000 cost 149781 best 297 microseconds\nproduct 128 x 1000 cost 357760 best 10134 microseconds\n"
 PLACES = "sums 770500 and 770500\n120 place pairs: plain 2900 ns, by slack 730 ns, tables 7400 ns\n"
@@ -317,6 +318,10 @@ class WithPrograms(unittest.TestCase):
     @unittest.skipUnless(os.access(PROGRAM, os.X_OK), "the program is not built")
     def test_sections_of_the_dispatcher(self):
         self.quick("program", "--program", PROGRAM)
+
+    @unittest.skipUnless(os.access(PROGRAM, os.X_OK) and os.access(RESUME, os.X_OK), "the programs are not built")
+    def test_sections_of_both_programs(self):
+        self.quick("resume", "--resume", RESUME)
 
     @unittest.skipUnless(os.access(BENCH, os.X_OK), "the bench is not built")
     def test_sections_of_the_bench(self):
