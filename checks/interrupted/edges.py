@@ -14,7 +14,7 @@ import time
 from collections.abc import Callable, Iterator
 from pathlib import Path
 
-from interrupted.hostile import COMMIT, ENDS, FIRST_LOOK, OPENED, SEATED, Place, expect, expect_legal
+from interrupted.hostile import ENDS, FIRST_LOOK, OPENED, SEATED, Place, expect, expect_legal
 from interrupted.logs import Wrong, whole_lines
 from interrupted.programs import KILLED, PATIENCE
 
@@ -101,10 +101,12 @@ def each_read_fails_in_turn(place: Place) -> None:
                 expect(f"read {tried} of {path.name}", (status, said), (5, b""))
         expect(f"reads of {path.name}", tried - 1 > path.stat().st_size // PIECE, True)
     for feed, path in enumerate(feeds, 1):
+        tried = 0
         for tried, status, said in each_call_fails(words, library, path):
             text = said.decode()
             expect(f"read {tried} of {path.name}", (status, text[:len(SEATED)]), (5 if f"f{feed} cut\n" in text else 0, SEATED))
             expect_legal(place, text, "yes" if status == 0 else "no")
+        expect(f"reads of {path.name}", tried - 1 > path.stat().st_size // PIECE, True)
 
 
 def a_wrong_line_comes_before_a_read_that_fails(place: Place) -> None:
