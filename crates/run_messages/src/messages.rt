@@ -87,10 +87,17 @@ impl<'a> Report<'a> {
         if self.asked.is_empty() {
             return said_of("", "memory was wanting");
         }
-        said_of(
-            self.name(self.asked.len()),
-            " was the last file that was asked for when memory was wanting",
-        )
+        said_of(self.name(self.asked.len()), self.what_was_wanting())
+    }
+
+    // A session that went on ends with the same status where its log tells that the day cannot be finished.
+    fn what_was_wanting(&self) -> &'static str {
+        match self.program {
+            Program::Resume if self.asked.len() == 5 => {
+                " was the last file that was asked for: memory was wanting, or the log tells of a cut or of a batch that was given up"
+            }
+            _ => " was the last file that was asked for when memory was wanting",
+        }
     }
 
     // The system's reason, where it gave one.
