@@ -30,7 +30,7 @@ REQUEST = "request 7 2 4 1 600 300\n"
 PATIENCE = 60.0  # seconds that a due line may take
 SILENCE = 10.0  # seconds of an idle session
 IDLE_SECONDS = 0.1  # of processors, that an idle session may take
-SIDE, SEARCHES = 150, 128  # a square city whose rows take long to search, and the requests of its batch
+NODES, SEARCHES = 22_500, 128  # of a map whose rows take long to search, and the requests of its batch
 
 
 class Wrong(Exception):
@@ -216,15 +216,14 @@ LARGE_BATCH = f"set batch {SEARCHES}\n" + FLEET
 
 
 def large_map() -> str:
-    """Returns a square city."""
-    arcs = [(node, node + step) for node in range(1, SIDE * SIDE + 1) for step in (1, SIDE)
-            if node + step <= SIDE * SIDE and (step > 1 or node % SIDE)]
-    return f"p sp {SIDE * SIDE} {2 * len(arcs)}\n" + "".join(f"a {a} {b} 60\na {b} {a} 60\n" for a, b in arcs)
+    """Returns a map that has no hierarchy, so that its rows take long to search: from each node roads lead far away in all directions."""
+    arcs = [(node, node * factor % NODES + 1) for node in range(1, NODES + 1) for factor in (1, 7, 31)]
+    return f"p sp {NODES} {2 * len(arcs)}\n" + "".join(f"a {a} {b} 60\na {b} {a} 60\n" for a, b in arcs)
 
 
 def far_requests() -> list[str]:
     """Returns the requests of its batch."""
-    return [f"request {n} {n + 1} {SIDE * SIDE - n} 1 900000 900000" for n in range(1, SEARCHES + 1)]
+    return [f"request {n} {n + 1} {NODES - n} 1 900000 900000" for n in range(1, SEARCHES + 1)]
 
 
 def expect_workers(session: Session, idle: int) -> None:
