@@ -217,7 +217,8 @@ class Day:
             session.say(RIDERS, riders)
             session.say(DRIVERS, drivers)
             self._wait(session, [DRIVERS] if self.draw.random() < AHEAD else [RIDERS, DRIVERS])
-            if self.draw.random() < SETTLED:
+            # Behind the last turn nothing is said before the feeds end, and a desk that goes on waits for news.
+            if not clients.done and self.draw.random() < SETTLED:
                 self._wait(session, [RIDERS, DRIVERS], clients.batches_are_open)
         feeds = [RIDERS, DRIVERS]
         self.draw.shuffle(feeds)
