@@ -24,7 +24,8 @@ class Words(unittest.TestCase):
                 for words in some:
                     ran = subprocess.run([*([sys.executable, "-B"] if name.endswith(".py") else []), str(CHECKS / name), *words], text=True,
                                          capture_output=True, timeout=60, check=False)
-                    self.assertEqual((ran.returncode, ran.stdout, ran.stderr.count("\n")), (2, "", 1), (name, words, ran.stderr))
+                    said = [line for line in ran.stdout.splitlines() if "is left out" not in line]  # where ride_resume is not built
+                    self.assertEqual((ran.returncode, said, ran.stderr.count("\n")), (2, [], 1), (name, words, ran.stderr))
 
 
 if __name__ == "__main__":
