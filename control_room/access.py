@@ -3,6 +3,8 @@ from dataclasses import dataclass
 from typing import Tuple
 
 Address = Tuple[str, int]
+# The arguments by which a queue is declared as a stream.
+STREAM = {"x-queue-type": "stream"}
 
 
 @dataclass(frozen=True)

@@ -12,6 +12,7 @@ from typing import Any, Dict, List, Optional
 
 from control_room import remnants
 from control_room.access import Access
+from control_room.whole import write_whole
 
 SERVER = "/usr/lib/rabbitmq/bin"
 LOOPBACK = "127.0.0.1"
@@ -19,6 +20,8 @@ LOOPBACK = "127.0.0.1"
 ERLANG_WORDS = "-kernel inet_dist_use_interface {127,0,0,1} +sbwt none +sbwtdcpu none +sbwtdio none"
 # Seconds in which a node is up, at most.
 PATIENCE = 300.0
+# This file stands in the folder of a broker whose streams are still to be made: nobody has said anything to it (streams.py).
+UNMADE = "unmade"
 
 
 class BrokerError(Exception):
@@ -47,6 +50,16 @@ class Node:
     distance_port: int
     process: "Optional[subprocess.Popen[bytes]]" = None
 
+    @property
+    def data(self) -> Path:
+        """The folder of what the node keeps."""
+        return self.folder / "data"
+
+    def must_run(self) -> None:
+        """Raises BrokerError where the node's process has ended."""
+        if self.process and self.process.poll() is not None:
+            raise BrokerError(f"the broker ended with status {self.process.returncode}: {last_line(self.folder / 'output')}")
+
 
 class Broker:
     """One node or several, with the name service (epmd) that Erlang's nodes find each other by."""
@@ -64,25 +77,50 @@ class Broker:
         path = self.folder / "broker.json"
         if not path.exists():
             self.folder.mkdir(parents=True, exist_ok=True)
+            (self.folder / UNMADE).touch()
             said = {"epmd": free_port(), "password": secrets.token_hex(16), "ports": [[free_port(), free_port()] for _ in range(nodes)]}
-            handle = os.open(path, os.O_WRONLY | os.O_CREAT | os.O_TRUNC, 0o600)
-            with os.fdopen(handle, "w") as file:
-                json.dump(said, file)
+            write_whole(path, json.dumps(said), 0o600)
         found: Dict[str, Any] = json.loads(path.read_text())
         return found
+
+    def is_made(self) -> bool:
+        """Returns whether the streams were made, so that something may have been said to this broker."""
+        return not (self.folder / UNMADE).exists()
+
+    def note_made(self) -> None:
+        """Notes, on the disk, that the streams are made and are there again however the nodes end."""
+        (self.folder / UNMADE).unlink(missing_ok=True)
+        folder = os.open(self.folder, os.O_RDONLY | os.O_CLOEXEC)
+        try:
+            os.fsync(folder)
+        finally:
+            os.close(folder)
 
     def access(self) -> Access:
         """Returns where the nodes listen, and the password."""
         return Access(tuple((LOOPBACK, node.port) for node in self.nodes), "room", self.password)
 
     def start(self) -> None:
-        """Starts the name service and all nodes, and ends once all are up; raises BrokerError."""
+        """Starts the name service and all nodes, and ends once all are up; raises BrokerError. A broker that was ended before its streams
+        were made begins from nothing."""
         if not is_installed():
             raise BrokerError("rabbitmq-server is not installed: apt-get install rabbitmq-server")
+        is_new = not self.is_made()
+        if is_new:
+            self.forget()
         self.start_epmd()
-        for node in self.nodes:  # One after the other: those that come later join the first.
-            self.start_node(node)
-            self.wait_for(node)
+        # New nodes join those that are up. Nodes that were one broker wait for each other before they are.
+        for together in [[node] for node in self.nodes] if is_new else [self.nodes]:
+            for node in together:
+                self.start_node(node)
+            for node in together:
+                self.wait_for(node)
+
+    def forget(self) -> None:
+        """Takes away what the nodes keep."""
+        for node in self.nodes:
+            if node.data.exists():
+                shutil.rmtree(node.data)
 
     def start_epmd(self) -> None:
         environment = {**os.environ, remnants.MARK: str(self.folder.parent), "ERL_EPMD_ADDRESS": LOOPBACK,
@@ -125,20 +163,20 @@ class Broker:
         folder = str(node.folder)
         kept = {name: os.environ[name] for name in ("PATH", "LANG") if name in os.environ}
         return {**kept, remnants.MARK: str(self.folder.parent), "HOME": folder, "RABBITMQ_BASE": folder,
-                "RABBITMQ_MNESIA_BASE": f"{folder}/data", "RABBITMQ_LOG_BASE": f"{folder}/log",
+                "RABBITMQ_MNESIA_BASE": str(node.data), "RABBITMQ_LOG_BASE": f"{folder}/log",
                 "RABBITMQ_PID_FILE": f"{folder}/pid", "RABBITMQ_NODENAME": node.name, "RABBITMQ_NODE_IP_ADDRESS": LOOPBACK,
                 "RABBITMQ_NODE_PORT": str(node.port), "RABBITMQ_DIST_PORT": str(node.distance_port),
                 "RABBITMQ_ENABLED_PLUGINS_FILE": f"{folder}/plugins", "RABBITMQ_CONFIG_FILE": f"{folder}/rabbitmq",
                 "RABBITMQ_CONF_ENV_FILE": f"{folder}/env.conf", "ERL_EPMD_ADDRESS": LOOPBACK, "ERL_EPMD_PORT": str(self.epmd_port),
                 "RABBITMQ_SERVER_START_ARGS": "-start_epmd false",
+                "RUNNING_UNDER_SYSTEMD": "true",  # The node is one process, and no shell before it: who ends that ends the node.
                 "RABBITMQ_SERVER_ADDITIONAL_ERL_ARGS": ERLANG_WORDS}
 
     def wait_for(self, node: Node) -> None:
         """Ends once a node takes connections; raises BrokerError."""
         until = time.monotonic() + PATIENCE
         while time.monotonic() < until:
-            if node.process and node.process.poll() is not None:
-                raise BrokerError(f"the broker ended with status {node.process.returncode}: {last_line(node.folder / 'output')}")
+            node.must_run()
             if answers(node.port):
                 return
             time.sleep(0.1)

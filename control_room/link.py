@@ -6,7 +6,7 @@ from typing import Any, Callable, Dict, List, Optional, Sequence, Tuple, Union
 import pika
 from pika.adapters.asyncio_connection import AsyncioConnection
 
-from control_room.access import Access
+from control_room.access import STREAM, Access
 
 # So many messages of a stream are under way to a reader at most, and so many are acknowledged at once.
 UNDER_WAY = 2_000
@@ -155,8 +155,7 @@ class Link:
         self.published = 0
         await self._answer(lambda done: self.channel.confirm_delivery(self._on_confirmed, callback=done))
         for stream in self.streams:
-            await self._answer(lambda done: self.channel.queue_declare(
-                stream, durable=True, arguments={"x-queue-type": "stream"}, callback=done))
+            await self._answer(lambda done: self.channel.queue_declare(stream, durable=True, arguments=STREAM, callback=done))
 
     async def _answer(self, call: Callable[[Callable[[Any], None]], Any]) -> Any:
         """Returns what the broker answers to a call; raises LinkLost where the connection is lost first."""

@@ -103,7 +103,7 @@ class Room:
         process = nodes[name] if name in nodes else self.parts[name].process
         if process and process.poll() is None:
             if name in nodes:
-                os.killpg(process.pid, signal.SIGKILL)  # The node's own group: its shell and its Erlang.
+                os.killpg(process.pid, signal.SIGKILL)  # The node's own group: its Erlang, and what that started.
             else:
                 process.kill()
             process.wait()

@@ -6,6 +6,8 @@ import time
 from pathlib import Path
 from typing import Dict, List
 
+from control_room.whole import write_whole
+
 # Every process of a room has its folder in its environment under this name, by which it is known again.
 MARK = "CONTROL_ROOM_FOLDER"
 # Seconds for which the parts of one kind are waited for.
@@ -17,9 +19,7 @@ def note(folder: Path, name: str, process: int) -> None:
     path = folder / "processes.json"
     noted: Dict[str, int] = json.loads(path.read_text()) if path.exists() else {}
     noted[name] = process
-    beside = folder / "processes.json.new"
-    beside.write_text(json.dumps(noted, indent=1) + "\n")
-    beside.rename(path)
+    write_whole(path, json.dumps(noted, indent=1) + "\n")
 
 
 def is_of(process: int, folder: Path) -> bool:

@@ -14,7 +14,7 @@ from dataclasses import replace
 from pathlib import Path
 from typing import Any, Dict, List, Optional, Tuple
 
-from control_room import HERE, made_zones, remnants
+from control_room import HERE, made_zones, remnants, streams
 from control_room.auditor import audit
 from control_room.broker import Broker, BrokerError
 from control_room.keeper import CANNOT_START
@@ -170,6 +170,7 @@ def wait_for_web(server: str, zones: List[Zone], room: Room) -> None:
 def start(words: argparse.Namespace, room: Room, zones: List[Zone]) -> None:
     """Starts all parts, each once what it needs is there."""
     folder = str(room.folder)
+    secret, until = secret_of(room.folder), int(time.time()) + WEEK  # Drawn before two web servers ask for it.
     for zone in zones:  # First, so that a map or a fleet file that is refused is told at once.
         # A keeper that broke off is started again: its session lives, or goes on from the kept log. One that can begin none says why.
         room.start(Part(f"keeper.{zone.name}", ["keeper", folder, zone.name], (CANNOT_START,)))
@@ -179,7 +180,7 @@ def start(words: argparse.Namespace, room: Room, zones: List[Zone]) -> None:
         if not zone.resume:
             say(f"{zone.name}: ride_resume is not built: a session that breaks off will not go on")
     say("the broker starts")
-    room.broker.start()
+    streams.begin(room.broker, [stream for zone in zones for stream in zone.streams()], say)
     for zone in zones:
         room.start(Part(f"bridge.{zone.name}", ["bridge", folder, zone.name]))
     server = f"http://{words.host}:{words.port}"
@@ -191,7 +192,6 @@ def start(words: argparse.Namespace, room: Room, zones: List[Zone]) -> None:
             crowd = ["--seed", str(words.seed), "--riders-an-hour", str(words.riders_an_hour), "--riders", str(words.riders)]
             place = ["--host", words.host, "--port", str(words.port)]
             room.start(Part(f"simulate.{zone.name}", ["simulate", folder, zone.name, *place, *crowd]))
-    secret, until = secret_of(room.folder), int(time.time()) + WEEK
     for zone in zones:
         say(f"{zone.name}: a rider's page is {server}/telephone#token={sign(secret, Person('rider', zone.name, 'ada'), until)}")
         say(f"{zone.name}: open {server}/#zone={zone.name}&token={sign(secret, Person('office', zone.name, 'desk'), until)}")

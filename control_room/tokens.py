@@ -7,6 +7,8 @@ import time
 from dataclasses import dataclass
 from pathlib import Path
 
+from control_room.whole import write_whole
+
 ROLES = ("rider", "driver", "office")
 NAME = re.compile(r"[A-Za-z0-9_-]{1,40}")
 EVERY_ZONE = "all"
@@ -64,10 +66,6 @@ def read_token(secret: bytes, token: str, now: float = 0.0) -> Person:
 def secret_of(folder: Path) -> bytes:
     """Returns the secret of a control room's folder, which is drawn where there is none."""
     path = folder / "secret"
-    try:
-        handle = os.open(path, os.O_WRONLY | os.O_CREAT | os.O_EXCL, 0o600)
-    except FileExistsError:
-        return path.read_bytes()
-    with os.fdopen(handle, "wb") as file:
-        file.write(os.urandom(32).hex().encode())
+    if not path.exists():
+        write_whole(path, os.urandom(32).hex(), 0o600)
     return path.read_bytes()

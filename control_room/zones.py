@@ -7,6 +7,7 @@ from pathlib import Path
 from typing import Any, Dict, List
 
 from control_room.day_clock import DayClock
+from control_room.whole import write_whole
 
 ZONE_NAME = re.compile(r"[a-z][a-z0-9-]{0,30}")
 
@@ -77,7 +78,7 @@ class Zone:
         """Writes zone.json, by which the other parts know the zone."""
         if not ZONE_NAME.fullmatch(self.name):
             raise ZoneError(f"a zone's name has 1 to 31 small letters, digits and -, and is not {self.name!r}")
-        Path(self.path("zone.json")).write_text(json.dumps(asdict(self), indent=1) + "\n")
+        write_whole(Path(self.path("zone.json")), json.dumps(asdict(self), indent=1) + "\n")
 
 
 def load_zone(folder: str) -> Zone:
