@@ -5,3 +5,4 @@ pub mod LeastOffers
 pub mod PlanTimes
 pub mod LongerDrives
 pub mod NoOffers
+pub mod NoRoom

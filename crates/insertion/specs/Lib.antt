@@ -3,3 +3,4 @@ pub mod Joined
 pub mod Arrivals
 pub mod Drawn
 pub mod Least
+pub mod Rooms

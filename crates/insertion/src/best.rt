@@ -8,11 +8,13 @@ ghost use Rattle.insertion.specs.Arrivals.{plan_of, is_by};
 ghost use Rattle.insertion.specs.Asked.{IsAsked};
 ghost use Rattle.insertion.specs.Drawn.{IsDrawnFor};
 ghost use Rattle.insertion.specs.Least.{cost_if_any, least_with_pickup};
+ghost use Rattle.insertion.specs.Rooms.{rooms_of};
 
 use crate::near::Near;
 use crate::offer::{drawn_at, kept};
 use crate::plan::{Plan, pickup_at, plan_of};
 use crate::prices::{is_open, number_of_stops};
+use crate::rooms::rooms_of;
 use ride_model::{Offer, Ride, Settings, Vehicle};
 
 /// An offer of a vehicle to a ride of least cost, for a batch of the time `now`; none where there is no offer.
@@ -39,9 +41,11 @@ pub fn best_place(
         return None;
     }
     let plan = plan_of(vehicle, now, settings);
+    let rooms = rooms_of(vehicle, ride);
+    let rooms = rooms.as_slice();
     let mut best = None;
     for i in 0..number_of_stops(vehicle) as u32 + 1 {
-        best = best_with_pickup_at(best, vehicle, ride, i, settings, near, &plan);
+        best = best_with_pickup_at(best, vehicle, ride, i, settings, near, &plan, rooms);
     }
     best
 }
@@ -55,10 +59,12 @@ fn best_with_pickup_at(
     settings: &Settings,
     near: &Near,
     plan: &Plan,
+    rooms: &[bool],
 ) -> Option<Offer>
     requires asked { (roads : RoadMap)
         × IsAsked roads vehicle.now ride.now plan.now.time settings.now near.now }
     requires plan { plan.now ≡ plan_of vehicle.now plan.now.time settings.now }
+    requires rooms { rooms.now ≡ rooms_of vehicle.now ride.now }
     requires within { i ≤ length vehicle.now.stops.items }
     requires room { length vehicle.now.stops.items ≤ 14 }
     ensures cost { (roads : RoadMap)
@@ -78,6 +84,10 @@ fn best_with_pickup_at(
     }
     let mut best = other;
     for j in i..number_of_stops(vehicle) as u32 + 1 {
+        // What the ride takes must fit on all the way to the drop-off.
+        if !rooms[j as usize] {
+            return best;
+        }
         let drawn = drawn_at(vehicle, i, j, settings, near, plan);
         best = better(best, vehicle, ride, drawn, settings.dwell);
     }

@@ -66,11 +66,13 @@ impl<'r> Auditor<'r> {
         let Some(batch) = self.take_numbered(desk, commit.number) else {
             return Ok(Some(Fault::of(Why::Actor)));
         };
+        let priced = table(rt, self.search, &mut self.pricing, &batch)?;
         let seats = commit.seats.items();
-        let Some(placed) = seated(&mut self.pricing, &batch, seats, commit.cost)? else {
+        let Some(placed) = seated(&mut self.pricing, &batch, &priced, seats, commit.cost)? else {
             return Ok(Some(Fault::with_batch(Why::Seating, batch)));
         };
-        let Some((table, answer)) = self.certified(rt, &batch, commit, placed.as_slice())? else {
+        let placed = placed.as_slice();
+        let Some((table, answer)) = self.certified(priced, &batch, commit, placed)? else {
             return Ok(Some(Fault::with_batch(Why::Prices, batch)));
         };
         self.board.commit(Solved::tie(batch, table, answer));
@@ -79,22 +81,22 @@ impl<'r> Auditor<'r> {
         Ok(self.unless_told(line, Why::Outcomes))
     }
 
-    // The batch's table and the commit's answer, where its prices certify its seating.
-    fn certified<R: Threads + Sync>(
-        &mut self,
-        rt: &R,
+    // A batch's table with the seats' own offers, and the commit's answer, where its prices certify its seating.
+    fn certified(
+        &self,
+        table: PriceTable,
         batch: &Batch,
         commit: Commit,
         placed: &[Placed],
     ) -> Result<Option<(PriceTable, Answer)>, NoMemory>
-        requires time { batch.now.time ≤ latest_time }
-        requires over_map { IsBatchOver self.old.pricing batch.now }
-        requires lawful { All (IsLawful self.old.pricing) batch.now.vehicles }
-        requires seating { IsSeating self.old.pricing batch.now commit.seats }
-        requires placed { ArePlaced self.old.pricing batch.now commit.seats placed.now }
-        ensures certified { IfOk result (λ certified. MatchOption certified
-            (Certifies self.old.pricing batch.now commit.seats commit.prices commit.pays → ⊥)
-            (λ pair. IsTableOf self.old.pricing batch.now pair.0
+        requires fits { IsRoadMap self.now.pricing }
+        requires over_map { IsBatchOver self.now.pricing batch.now }
+        requires table { IsTableOf self.now.pricing batch.now table }
+        requires seating { IsSeating self.now.pricing batch.now commit.seats }
+        requires placed { ArePlaced self.now.pricing batch.now commit.seats placed.now }
+        ensures { IfOk result (λ certified. MatchOption certified
+            (Certifies self.now.pricing batch.now commit.seats commit.prices commit.pays → ⊥)
+            (λ pair. IsTableOf self.now.pricing batch.now pair.0
             × (pair.1 ≡ record {
               seating = commit.seats;
               prices = commit.prices;
@@ -102,10 +104,8 @@ impl<'r> Auditor<'r> {
               outcomes = undecided commit.prices;
             })
             × CertifiesOverCells batch.now pair.0 commit.seats commit.prices commit.pays
-            × Certifies self.old.pricing batch.now commit.seats commit.prices commit.pays)) }
-        ensures kept { self.new ≡ self.old }
+            × Certifies self.now.pricing batch.now commit.seats commit.prices commit.pays)) }
     {
-        let table = table(rt, self.search, &mut self.pricing, batch)?;
         let Some(table) = with_own_offers(table, batch, commit.seats.items(), placed) else {
             return Ok(None);
         };

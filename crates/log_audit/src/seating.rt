@@ -1,16 +1,18 @@
 //! Whether the seats of a commit are a seating of its batch, and what it costs.
-ghost use Rattle.std.specs.Prelude.{◌≡◌, ◌≤◌, ◌+◌, ◌-◌, ◌*◌, ◌^◌, ◌==◌, ◌↔◌, length, map, filter, sum_by, nat_eq, position, All, None, IfOk, IsSome, IsTrue, MatchOption};
+ghost use Rattle.std.specs.Prelude.{◌≡◌, ◌≤◌, ◌<◌, ◌+◌, ◌-◌, ◌*◌, ◌^◌, ◌==◌, ◌↔◌, length, map, filter, sum_by, nat_eq, position, slice_index_or, All, None, IfOk, IsSome, IsTrue, MatchOption};
 ghost use Rattle.std.specs.List.{IsDistinct, list_any};
 ghost use Rattle.ride_model.specs.declared.offer.Seat.{Seat};
 ghost use Rattle.ride_model.specs.declared.vehicle.Ride.{Ride};
 ghost use Rattle.ride_model.specs.declared.vehicle.Vehicle.{Vehicle};
+ghost use Rattle.ride_model.specs.Offers.{offer_of};
 ghost use Rattle.ride_model.specs.Seating.{IsBatchOver, has_seat, seat_offer};
 ghost use Rattle.ride_model.specs.Vehicle.{IsLawful, ride_ids};
 ghost use Rattle.ride_model.specs.Limits.{largest_batch, latest_time};
+ghost use Rattle.batch_commit.specs.Table.{IsTableOf};
 ghost use Rattle.log_audit.specs.declared.seating.Placed.{Placed};
 ghost use Rattle.log_audit.specs.Seated.{ArePlaced, IsPlaced, IsSeatedAt};
 
-use batch_commit::Batch;
+use batch_commit::{Batch, PriceTable};
 use pricing_workers::{Pricer, SeatPlaces, offer_of_seat};
 use ride_model::{NoMemory, Offer, Ride, Seat, Vehicle};
 use std::alloc::Global;
@@ -23,16 +25,18 @@ pub(crate) struct Placed {
     pub(crate) offer: Offer,
 }
 
-/// The places and offers of seats, where they are a seating of the batch of this cost.
+/// The places and offers of seats, where they are a seating of the batch of this cost. The table is the batch's.
 pub(crate) fn seated(
     pricing: &mut Pricer<'_>,
     batch: &Batch,
+    table: &PriceTable,
     seats: &[Seat],
     cost: u64,
 ) -> Result<Option<Vec<Placed>>, NoMemory>
     requires time { batch.now.time ≤ latest_time }
     requires over_map { IsBatchOver pricing.old batch.now }
     requires lawful { All (IsLawful pricing.old) batch.now.vehicles }
+    requires table { IsTableOf pricing.old batch.now table.now }
     ensures seated { IfOk result (λ placed. MatchOption placed
         (IsSeatedAt pricing.old batch.now seats.now cost → ⊥)
         (λ placed. IsSeatedAt pricing.old batch.now seats.now cost
@@ -42,7 +46,7 @@ pub(crate) fn seated(
     if !stand_in_order(pricing.alloc(), batch.requests(), seats)? || !drive_once(seats) {
         return Ok(None);
     }
-    let Some(placed) = placed_of(pricing, batch, seats)? else {
+    let Some(placed) = placed_of(pricing, batch, table, seats)? else {
         return Ok(None);
     };
     // This call tells that the vehicles differ.
@@ -115,11 +119,13 @@ fn drives(seats: &[Seat], vehicle: u64) -> bool
 fn placed_of(
     pricing: &mut Pricer<'_>,
     batch: &Batch,
+    table: &PriceTable,
     seats: &[Seat],
 ) -> Result<Option<Vec<Placed>>, NoMemory>
     requires time { batch.now.time ≤ latest_time }
     requires over_map { IsBatchOver pricing.old batch.now }
     requires lawful { All (IsLawful pricing.old) batch.now.vehicles }
+    requires table { IsTableOf pricing.old batch.now table.now }
     ensures placed { IfOk result (λ placed. MatchOption placed
         (All (λ seat. IsSome (seat_offer pricing.old batch.now seat)) seats.now → ⊥)
         (λ placed. ArePlaced pricing.old batch.now seats.now placed.items)) }
@@ -127,7 +133,7 @@ fn placed_of(
 {
     let mut all = Vec::with_capacity(pricing.alloc(), seats.len())?;
     for seat in seats {
-        let Some(placed) = placed_seat(pricing, batch, seat)? else {
+        let Some(placed) = placed_seat(pricing, batch, table, seat)? else {
             return Ok(None);
         };
         all.push(placed)?;
@@ -139,11 +145,13 @@ fn placed_of(
 fn placed_seat(
     pricing: &mut Pricer<'_>,
     batch: &Batch,
+    table: &PriceTable,
     seat: &Seat,
 ) -> Result<Option<Placed>, NoMemory>
     requires time { batch.now.time ≤ latest_time }
     requires over_map { IsBatchOver pricing.old batch.now }
     requires lawful { All (IsLawful pricing.old) batch.now.vehicles }
+    requires table { IsTableOf pricing.old batch.now table.now }
     ensures placed { IfOk result (λ placed. MatchOption placed
         (seat_offer pricing.old batch.now seat.now ≡ None)
         (IsPlaced pricing.old batch.now seat.now)) }
@@ -162,13 +170,40 @@ fn placed_seat(
         i: seat.i,
         j: seat.j,
     };
-    match offer_of_seat(batch, pricing, places)? {
+    match offer_at(pricing, batch, table, places)? {
         Some(offer) => Ok(Some(Placed {
             request,
             vehicle,
             offer,
         })),
         None => Ok(None),
+    }
+}
+
+// The offer of a seat's vehicle to its request at its places, if there is one: that of their cell where it has these places, as it has for
+// most seats, so that only others are priced once more.
+fn offer_at(
+    pricing: &mut Pricer<'_>,
+    batch: &Batch,
+    table: &PriceTable,
+    seat: SeatPlaces,
+) -> Result<Option<Offer>, NoMemory>
+    requires request_in { seat.request < length batch.now.requests }
+    requires vehicle_in { seat.vehicle < length batch.now.vehicles }
+    requires time { batch.now.time ≤ latest_time }
+    requires over_map { IsBatchOver pricing.old batch.now }
+    requires lawful { All (IsLawful pricing.old) batch.now.vehicles }
+    requires table { IsTableOf pricing.old batch.now table.now }
+    ensures offer { IfOk result (λ offer. (ride : Ride) (v : Vehicle)
+        → offer ≡ offer_of pricing.old batch.now.settings
+        (slice_index_or batch.now.vehicles seat.vehicle v)
+        (slice_index_or batch.now.requests seat.request ride)
+        batch.now.time seat.i seat.j) }
+    ensures kept { pricing.new ≡ pricing.old }
+{
+    match table.cell(seat.request, seat.vehicle) {
+        Some(least) if least.i == seat.i && least.j == seat.j => Ok(Some(*least)),
+        _ => offer_of_seat(batch, pricing, seat),
     }
 }
 

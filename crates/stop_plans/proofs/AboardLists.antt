@@ -1,14 +1,14 @@
 -- Lists of who is aboard.
-use Rattle.std.proofs.Common.{◌≡◌, ℕ, zero, suc, ◌+◌, ◌<◌, Bool, cond, List, [], ◌∷◌, ◌++◌, length, take, drop, get_or, eqb, refl, sym, ◌∙◌, ap, append_assoc, arith, add-one}
-use Rattle.std.specs.Prelude.{map, is_some, ◌==◌, if◌then◌else◌}
-use Rattle.std.specs.List.{range_with_len}
+use Rattle.std.proofs.Common.{◌≡◌, ℕ, zero, suc, ◌+◌, ◌*◌, ◌<◌, ◌≤◌, Bool, true, false, cond, List, [], ◌∷◌, ◌++◌, length, take, drop, get_or, eqb, refl, sym, ◌∙◌, ap, append_assoc, arith, add-one}
+use Rattle.std.specs.Prelude.{map, is_some, slice_set, ◌==◌, if◌then◌else◌}
+use Rattle.std.specs.List.{AllByRecursion, range_with_len}
 use Rattle.std.proofs.lemmas.List.Sums.{sum_by-cons}
 use Rattle.ride_model.specs.declared.vehicle.Load.{Load}
 use Rattle.ride_model.specs.declared.vehicle.Ride.{Ride}
 use Rattle.ride_model.specs.declared.vehicle.Vehicle.{Vehicle}
 use Rattle.ride_model.specs.declared.vehicle.Stop.{Stop}
 use Rattle.ride_model.specs.Loads.{is_pickup, is_aboard_from, is_aboard_after, load_after, loads_of}
-use Rattle.stop_plans.specs.Aboard.{boarded, seats_aboard, chairs_aboard, load_aboard, loads_behind}
+use Rattle.stop_plans.specs.Aboard.{boarded, seats_aboard, chairs_aboard, load_aboard, loads_behind, IsSmall}
 
 zero_plus : 0 + 1 ≡ 1
 zero_plus = refl
@@ -16,15 +16,110 @@ zero_plus = refl
 suc_plus : (i : ℕ) → suc i + 1 ≡ suc (i + 1)
 suc_plus i = omega arith
 
--- one rider after another
-pub boarded-drop : (stop : Stop) (rides : List Ride) (flags : List Bool) (i : ℕ) (d : Ride) (e : Bool) → i < length rides → length flags ≡ length rides
-    → boarded stop (drop i rides) (drop i flags)
-    ≡ (if stop.ride == (get_or rides i d).id then is_pickup stop.kind else get_or flags i e) ∷ boarded stop (drop (i + 1) rides) (drop (i + 1) flags)
-boarded-drop stop [] flags i d e h k = absurd (omega arith)
-boarded-drop stop (r ∷ rides) [] i d e h k = absurd (omega (arith, k))
-boarded-drop stop (r ∷ rides) (b ∷ flags) zero d e h k = refl
-boarded-drop stop (r ∷ rides) (b ∷ flags) (suc i) d e h k = rw (suc_plus i) (boarded-drop stop rides flags i d e (omega arith) (omega (arith, k)))
+-- the next rider is as he was
+pub next-of-boarded : (stop : Stop) (rides : List Ride) (flags : List Bool) (n : ℕ) (e : Bool) → n < length rides → length flags ≡ length rides
+    → get_or (boarded stop (take n rides) (take n flags) ++ drop n flags) n e ≡ get_or flags n e
+next-of-boarded stop [] flags n e h k = absurd (omega arith)
+next-of-boarded stop (r ∷ rides) [] n e h k = absurd (omega (arith, k))
+next-of-boarded stop (r ∷ rides) (b ∷ flags) zero e h k = refl
+next-of-boarded stop (r ∷ rides) (b ∷ flags) (suc n) e h k = next-of-boarded stop rides flags n e (omega arith) (omega (arith, k))
 
+-- who is aboard where so many of these riders were let in or out
+abbrev pub so_far_boarded : Stop → List Ride → List Bool → ℕ → List Bool
+so_far_boarded stop rides flags n = boarded stop (take n rides) (take n flags) ++ drop n flags
+
+-- one rider more is in or out
+pub one-more-boarded : (stop : Stop) (rides : List Ride) (flags : List Bool) (n : ℕ) (d : Ride) → n < length rides → length flags ≡ length rides
+    → eqb stop.ride (get_or rides n d).id ≡ true
+    → slice_set (so_far_boarded stop rides flags n) n (is_pickup stop.kind) ≡ so_far_boarded stop rides flags (n + 1)
+one-more-boarded stop rides flags n d h k own = step rides flags n h k own ∙ ap (so_far_boarded stop rides flags) (sym (add-one n))
+  where
+    step : (rs : List Ride) (fs : List Bool) (m : ℕ) → m < length rs → length fs ≡ length rs → eqb stop.ride (get_or rs m d).id ≡ true
+        → slice_set (so_far_boarded stop rs fs m) m (is_pickup stop.kind) ≡ so_far_boarded stop rs fs (suc m)
+    step [] fs m low same o = absurd (omega arith)
+    step (r ∷ rs) [] m low same o = absurd (omega (arith, same))
+    step (r ∷ rs) (b ∷ fs) zero low same o = sym (ap (λ x. cond x (is_pickup stop.kind) b ∷ fs) o)
+    step (r ∷ rs) (b ∷ fs) (suc m) low same o =
+        ap (λ rest. cond (eqb stop.ride r.id) (is_pickup stop.kind) b ∷ rest) (step rs fs m (omega arith) (omega (arith, same)) o)
+
+-- or stays as he is
+pub one-more-stays : (stop : Stop) (rides : List Ride) (flags : List Bool) (n : ℕ) (d : Ride) → n < length rides → length flags ≡ length rides
+    → eqb stop.ride (get_or rides n d).id ≡ false → so_far_boarded stop rides flags n ≡ so_far_boarded stop rides flags (n + 1)
+one-more-stays stop rides flags n d h k other = step rides flags n h k other ∙ ap (so_far_boarded stop rides flags) (sym (add-one n))
+  where
+    step : (rs : List Ride) (fs : List Bool) (m : ℕ) → m < length rs → length fs ≡ length rs → eqb stop.ride (get_or rs m d).id ≡ false
+        → so_far_boarded stop rs fs m ≡ so_far_boarded stop rs fs (suc m)
+    step [] fs m low same o = absurd (omega arith)
+    step (r ∷ rs) [] m low same o = absurd (omega (arith, same))
+    step (r ∷ rs) (b ∷ fs) zero low same o = sym (ap (λ x. cond x (is_pickup stop.kind) b ∷ fs) o)
+    step (r ∷ rs) (b ∷ fs) (suc m) low same o =
+        ap (λ rest. cond (eqb stop.ride r.id) (is_pickup stop.kind) b ∷ rest) (step rs fs m (omega arith) (omega (arith, same)) o)
+
+-- all are in or out
+pub all-boarded : (stop : Stop) (rides : List Ride) (flags : List Bool) (n : ℕ) → length rides ≤ n → length flags ≡ length rides
+    → so_far_boarded stop rides flags n ≡ boarded stop rides flags
+all-boarded stop [] [] zero h k = refl
+all-boarded stop [] [] (suc n) h k = refl
+all-boarded stop [] (b ∷ flags) n h k = absurd (omega (arith, k))
+all-boarded stop (r ∷ rides) [] n h k = absurd (omega (arith, k))
+all-boarded stop (r ∷ rides) (b ∷ flags) zero h k = absurd (omega (arith, h))
+all-boarded stop (r ∷ rides) (b ∷ flags) (suc n) h k =
+    ap (λ rest. (if stop.ride == r.id then is_pickup stop.kind else b) ∷ rest) (all-boarded stop rides flags n (omega (arith, h)) (omega (arith, k)))
+
+pub length-boarded : (stop : Stop) (rides : List Ride) (flags : List Bool) → length flags ≡ length rides
+    → length (boarded stop rides flags) ≡ length rides
+length-boarded stop [] flags k = refl
+length-boarded stop (r ∷ rides) [] k = absurd (omega (arith, k))
+length-boarded stop (r ∷ rides) (b ∷ flags) k = ap suc (length-boarded stop rides flags (omega (arith, k)))
+
+-- the parts of the riders, where one is in or out
+pub seats-set : (rides : List Ride) (flags : List Bool) (n : ℕ) (d : Ride) (e b : Bool) → n < length rides → length flags ≡ length rides
+    → seats_aboard rides (slice_set flags n b) + cond (get_or flags n e) (get_or rides n d).seats 0
+    ≡ seats_aboard rides flags + cond b (get_or rides n d).seats 0
+seats-set [] flags n d e b h k = absurd (omega arith)
+seats-set (r ∷ rides) [] n d e b h k = absurd (omega (arith, k))
+seats-set (r ∷ rides) (f ∷ flags) zero d e b h k = omega arith
+seats-set (r ∷ rides) (f ∷ flags) (suc n) d e b h k = omega (arith, seats-set rides flags n d e b (omega arith) (omega (arith, k)))
+
+pub chairs-set : (rides : List Ride) (flags : List Bool) (n : ℕ) (d : Ride) (e b : Bool) → n < length rides → length flags ≡ length rides
+    → chairs_aboard rides (slice_set flags n b) + cond (get_or flags n e) (get_or rides n d).chairs 0
+    ≡ chairs_aboard rides flags + cond b (get_or rides n d).chairs 0
+chairs-set [] flags n d e b h k = absurd (omega arith)
+chairs-set (r ∷ rides) [] n d e b h k = absurd (omega (arith, k))
+chairs-set (r ∷ rides) (f ∷ flags) zero d e b h k = omega arith
+chairs-set (r ∷ rides) (f ∷ flags) (suc n) d e b h k = omega (arith, chairs-set rides flags n d e b (omega arith) (omega (arith, k)))
+
+-- a rider's part is no more than the load
+pub seats-part : (rides : List Ride) (flags : List Bool) (n : ℕ) (d : Ride) (e : Bool) → n < length rides → length flags ≡ length rides
+    → cond (get_or flags n e) (get_or rides n d).seats 0 ≤ seats_aboard rides flags
+seats-part [] flags n d e h k = absurd (omega arith)
+seats-part (r ∷ rides) [] n d e h k = absurd (omega (arith, k))
+seats-part (r ∷ rides) (f ∷ flags) zero d e h k = omega arith
+seats-part (r ∷ rides) (f ∷ flags) (suc n) d e h k = omega (arith, seats-part rides flags n d e (omega arith) (omega (arith, k)))
+
+pub chairs-part : (rides : List Ride) (flags : List Bool) (n : ℕ) (d : Ride) (e : Bool) → n < length rides → length flags ≡ length rides
+    → cond (get_or flags n e) (get_or rides n d).chairs 0 ≤ chairs_aboard rides flags
+chairs-part [] flags n d e h k = absurd (omega arith)
+chairs-part (r ∷ rides) [] n d e h k = absurd (omega (arith, k))
+chairs-part (r ∷ rides) (f ∷ flags) zero d e h k = omega arith
+chairs-part (r ∷ rides) (f ∷ flags) (suc n) d e h k = omega (arith, chairs-part rides flags n d e (omega arith) (omega (arith, k)))
+
+pub if_at_most : (b : Bool) (n m : ℕ) → n ≤ m → cond b n 0 ≤ m
+if_at_most true n m h = h
+if_at_most false n m h = omega arith
+
+-- small rides have a small load
+pub seats-few : (rides : List Ride) (flags : List Bool) → AllByRecursion IsSmall rides → seats_aboard rides flags ≤ 8 * length rides
+seats-few [] flags h = omega arith
+seats-few (r ∷ rides) [] h = omega arith
+seats-few (r ∷ rides) (f ∷ flags) (small, rest) = omega (arith, seats-few rides flags rest, if_at_most f r.seats 8 small.0)
+
+pub chairs-few : (rides : List Ride) (flags : List Bool) → AllByRecursion IsSmall rides → chairs_aboard rides flags ≤ 8 * length rides
+chairs-few [] flags h = omega arith
+chairs-few (r ∷ rides) [] h = omega arith
+chairs-few (r ∷ rides) (f ∷ flags) (small, rest) = omega (arith, chairs-few rides flags rest, if_at_most f r.chairs 4 small.1)
+
+-- the load of one rider after another
 pub seats-drop : (rides : List Ride) (flags : List Bool) (i : ℕ) (d : Ride) (e : Bool) → i < length rides → length flags ≡ length rides
     → seats_aboard (drop i rides) (drop i flags)
     ≡ (if get_or flags i e then (get_or rides i d).seats else 0) + seats_aboard (drop (i + 1) rides) (drop (i + 1) flags)

@@ -1,5 +1,5 @@
 //! Loads.
-ghost use Rattle.std.specs.Prelude.{◌≡◌, ◌≤◌, [], length, map, All, is_some, ◌==◌, if◌then◌else◌};
+ghost use Rattle.std.specs.Prelude.{◌≡◌, ◌≤◌, ◌+◌, [], length, map, All, is_some, if◌then◌else◌};
 ghost use Rattle.ride_model.specs.declared.vehicle.Ride.{Ride};
 ghost use Rattle.ride_model.specs.Loads.{is_pickup, load_after, loads_of};
 ghost use Rattle.ride_model.specs.Vehicle.{IsRoutedSomewhere};
@@ -35,10 +35,11 @@ fn loads_along(rides: &[Ride], stops: &[Stop]) -> ArrayVec<Load, 16>
         (map (λ (ride : Ride). is_some ride.picked) rides.now) stops.now }
 {
     let mut aboard = aboard_at_start(rides);
+    let mut load = load_of(rides, aboard.as_slice());
     let mut loads = ArrayVec::new();
     for stop in stops {
-        aboard = aboard_after(rides, aboard.as_slice(), stop);
-        loads.push(load_of(rides, aboard.as_slice()));
+        load = load_behind(rides, aboard.as_mut_slice(), load, stop);
+        loads.push(load);
     }
     loads
 }
@@ -56,28 +57,44 @@ fn aboard_at_start(rides: &[Ride]) -> ArrayVec<bool, 16>
     aboard
 }
 
-// Whether each rider is aboard after a stop, where these were before it.
-fn aboard_after(rides: &[Ride], aboard: &[bool], stop: &Stop) -> ArrayVec<bool, 16>
+// Lets the rider of a stop in or out. Returns the load that is aboard then, where this one was before it.
+fn load_behind(rides: &[Ride], aboard: &mut [bool], load: Load, stop: &Stop) -> Load
     requires few { length rides.now ≤ most_rides }
-    requires one_flag_each { length aboard.now ≡ length rides.now }
-    ensures riders { result.items ≡ boarded stop.now rides.now aboard.now }
-    ensures one_each_after { length result.items ≡ length rides.now }
+    requires one_flag_each { length aboard.old ≡ length rides.now }
+    requires small { All IsSmall rides.now }
+    requires aboard { load ≡ load_aboard rides.now aboard.old }
+    ensures riders { aboard.new ≡ boarded stop.now rides.now aboard.old }
+    ensures load { result ≡ load_aboard rides.now (boarded stop.now rides.now aboard.old) }
 {
-    let mut after = ArrayVec::new();
+    let mut load = load;
     for (i, ride) in rides.iter().enumerate() {
-        after.push(is_aboard_after(ride, aboard[i], stop));
+        if stop.ride != ride.id {
+            continue;
+        }
+        let is_in = boards(stop);
+        load = exchanged(load, part_of(ride, aboard[i]), part_of(ride, is_in));
+        aboard[i] = is_in;
     }
-    after
+    load
 }
 
-// Whether a rider is aboard after a stop.
-fn is_aboard_after(ride: &Ride, aboard: bool, stop: &Stop) -> bool
-    ensures { result ≡ (if stop.now.ride == ride.now.id then is_pickup stop.now.kind else aboard) }
+// Whether a stop's rider is aboard after it.
+fn boards(stop: &Stop) -> bool
+    ensures { result ≡ is_pickup stop.now.kind }
 {
-    if stop.ride == ride.id {
-        stop.kind == Kind::Pickup
-    } else {
-        aboard
+    stop.kind == Kind::Pickup
+}
+
+// A load where a part of it is exchanged for another.
+fn exchanged(load: Load, part: Load, other: Load) -> Load
+    requires seats { (part.seats ≤ load.seats) × (load.seats ≤ 128) × (other.seats ≤ 128) }
+    requires chairs { (part.chairs ≤ load.chairs) × (load.chairs ≤ 128) × (other.chairs ≤ 128) }
+    ensures seats { result.seats + part.seats ≡ load.seats + other.seats }
+    ensures chairs { result.chairs + part.chairs ≡ load.chairs + other.chairs }
+{
+    Load {
+        seats: load.seats - part.seats + other.seats,
+        chairs: load.chairs - part.chairs + other.chairs,
     }
 }
 

@@ -1,4 +1,4 @@
-use Rattle.std.proofs.Common.{◌≡◌, ◌+◌, ◌≤◌, length, refl, sym, ◌∙◌, ap, subst, arith}
+use Rattle.std.proofs.Common.{◌≡◌, ◌+◌, ◌≤◌, false, length, get_or, refl, sym, ◌∙◌, ap, subst, arith}
 use Rattle.std.specs.Prelude.{All, Some}
 use Rattle.ride_model.specs.declared.offer.Offer.{Offer}
 use Rattle.ride_model.specs.Road.{lesser}
@@ -9,6 +9,7 @@ use Rattle.insertion.specs.Arrivals.{pickup_at, is_by}
 use Rattle.insertion.specs.Least.{cost_if_any, least_with_pickup}
 use Rattle.insertion.proofs.LeastOffers.{least-on, least-over, lesser-none, if-offered, one-of}
 use Rattle.insertion.proofs.NoOffers.{pickup-short, late-pickup, no-least}
+use Rattle.insertion.proofs.NoRoom.{length-rooms, no-least-behind}
 use Rattle.insertion.proofs.PlanTimes.{start-le}
 use Rattle.insertion.proofs.best.best_with_pickup_at.Goals as goal
 
@@ -43,6 +44,26 @@ returns-then-not-is_by-clause-cost c = λ roads asked.
     sym (lesser-none (cost_if_any c.args.other))
     ∙ ap (lesser (cost_if_any c.args.other)) (no-least roads c.args.settings.now c.args.vehicle.now c.args.ride.now c.args.plan.now.time c.args.i c.args.i
     (λ k. late-pickup roads c.args.settings.now c.args.vehicle.now c.args.ride.now c.args.near.now c.args.plan.now.time c.args.i k asked late))
+
+pub bounds-rooms-j : goal.bounds-rooms-j
+bounds-rooms-j c =
+    omega (
+      arith,
+      ap length c.requires.rooms,
+      length-rooms c.args.vehicle.now c.args.ride.now,
+      c.loop-j-test.true,
+      c.number_of_stops.ensures.number,
+    )
+
+pub returns-then-not-rooms-j-clause-cost : goal.returns-then-not-rooms-j-clause-cost
+returns-then-not-rooms-j-clause-cost c = λ roads asked.
+    let v = c.args.vehicle.now in
+    sym (lesser-none (cost_if_any c.loop-j.best))
+    ∙ ap (lesser (cost_if_any c.loop-j.best))
+    (no-least-behind roads c.args.settings.now v c.args.ride.now c.args.near.now c.args.plan.now.time c.args.i c.loop-j.j asked c.loop-j.auto.j
+    (omega (arith, c.loop-j-test.true, c.number_of_stops.ensures.number)) false
+    (ap (λ rooms. get_or rooms c.loop-j.j false) (sym c.requires.rooms) ∙ c.if-not-rooms-j.true))
+    ∙ c.loop-j.invariant.cost roads asked
 
 pub loop-j-preserved : goal.loop-j-preserved
 loop-j-preserved c = record {

@@ -1,11 +1,7 @@
-use Rattle.std.proofs.Common.{◌≡◌, ◌+◌, ◌*◌, ◌≤◌, ℕ, true, false, Bool, cond, drop, sym, ◌∙◌, ap, mul-add, mul-one, arith}
+use Rattle.std.proofs.Common.{◌≡◌, ◌+◌, ◌*◌, ◌≤◌, ℕ, drop, sym, ◌∙◌, ap, mul-add, mul-one, arith}
 use Rattle.stop_plans.specs.Aboard.{seats_aboard, chairs_aboard}
-use Rattle.stop_plans.proofs.AboardLists.{seats-drop, chairs-drop}
+use Rattle.stop_plans.proofs.AboardLists.{if_at_most, seats-drop, chairs-drop}
 use Rattle.stop_plans.proofs.stop_loads.load_of.Goals as goal
-
-if_at_most : (b : Bool) (n m : ℕ) → n ≤ m → cond b n 0 ≤ m
-if_at_most true n m h = h
-if_at_most false n m h = omega arith
 
 add_at_most : (a b m i : ℕ) → a ≤ m * i → b ≤ m → a + b ≤ m * (i + 1)
 add_at_most a b m i h k = omega (arith, h, k, mul-suc-add m i)

@@ -1,0 +1,10 @@
+use Rattle.std.proofs.Common.{◌≡◌, [], ◌∷◌, take, map}
+use Rattle.ride_model.specs.Loads.{load_after}
+use Rattle.insertion.specs.Rooms.{fits_beside}
+use Rattle.insertion.proofs.rooms.rooms_of.Given as goal
+
+-- the rooms at the start and behind the stops so far
+abbrev pub invariant-loop-load : goal.invariant-loop-load
+invariant-loop-load l =
+    l.rooms.items ≡ fits_beside l.vehicle l.ride (load_after l.vehicle.rides.items [])
+    ∷ map (fits_beside l.vehicle l.ride) (take l.load-index l.load-items)
