@@ -65,8 +65,32 @@ says 2 "ride_dispatch: replay: --map stands twice; $replay" replay --map "$map" 
 says 2 "ride_dispatch: replay: no such option: --flet; $replay" replay --map "$map" --flet "$fleet" --feed "$feed"
 says 2 "ride_dispatch: replay: $map is no option; $replay" replay "$map" --fleet "$fleet" --feed "$feed"
 says 2 "ride_dispatch: replay: no such option: --mapp; $replay" "replay" "--mapp=$map" --fleet "$fleet" --feed "$feed"
-says 2 "ride_dispatch: serve: --workers 17 is not within 1..16; $serve" serve --map "$map" --fleet "$fleet" --riders "$feed" --drivers "$feed" --workers 17 --desks 1
-says 2 "ride_dispatch: serve: --desks two is not within 1..2; $serve" serve --map "$map" --fleet "$fleet" --riders "$feed" --drivers "$feed" --workers 1 --desks two
+session=(serve --map "$map" --fleet "$fleet" --riders "$feed" --drivers "$feed")
+for workers in 0 17 018 99999999999999999; do
+    says 2 "ride_dispatch: serve: --workers $workers is not within 1..16; $serve" "${session[@]}" --workers "$workers" --desks 1
+    says 2 "ride_dispatch: serve: --workers $workers is not within 1..16; $serve" "${session[@]}" "--workers=$workers" --desks 1
+done
+for workers in +2 abc 2.0 -1 0000000000000000002 ''; do
+    says 2 "ride_dispatch: serve: --workers $workers is no number of 1 to 18 digits within 1..16; $serve" "${session[@]}" --workers "$workers" --desks 1
+done
+says 2 "ride_dispatch: serve: --workers -1 is no number of 1 to 18 digits within 1..16; $serve" "${session[@]}" --workers=-1 --desks 1
+says 2 "ride_dispatch: serve: --desks two is no number of 1 to 18 digits within 1..2; $serve" "${session[@]}" --workers 1 --desks two
+# A word that begins with a hyphen is no value, unless it is joined to its option; a hyphen alone is the name of a file.
+says 2 "ride_dispatch: replay: --map has no value; $replay" replay --map --fleet "$fleet" --feed "$feed"
+says 2 "ride_dispatch: replay: --map has no value; $replay" replay --map "--fleet=$fleet" --feed "$feed"
+says 2 "ride_dispatch: replay: --feed has no value; $replay" replay --map "$map" --feed --fleet "$fleet"
+says 2 "ride_dispatch: serve: --workers has no value; $serve" "${session[@]}" --workers --desks 1
+for value in -f --f --; do
+    says 2 "ride_dispatch: replay: --feed has no value, since $value begins with a hyphen: --feed=$value gives it; $replay" \
+        replay --map "$map" --feed "$value" --fleet "$fleet"
+    says 5 "ride_dispatch: $value could not be read: No such file or directory (os error 2)" replay --map "$map" "--feed=$value" --fleet "$fleet"
+done
+says 5 'ride_dispatch: - could not be read: No such file or directory (os error 2)' replay --map "$map" --feed - --fleet "$fleet"
+# Words that are not UTF-8: the first of them, with each such byte as it is; and what would leave the line.
+says 2 'ride_dispatch: a word is not UTF-8: \xff' $'\xff'
+says 2 'ride_dispatch: a word is not UTF-8: m\xc3' replay --map $'m\xc3' --fleet $'f\xff' --feed "$feed"
+says 2 'ride_dispatch: a word is not UTF-8: --workers=2\xfe' "${session[@]}" $'--workers=2\xfe' --desks 1
+says 2 "ride_dispatch: replay: m\\n\\u{1b}é is no option; $replay" replay $'m\n\eé' --fleet "$fleet" --feed "$feed"
 says 2 'ride_dispatch: audit: --map is missing; usage: ride_dispatch audit --map MAP --fleet FLEET --log LOG' audit
 says 2 'ride_dispatch: book: no such option: --map; usage: ride_dispatch book --feed FEED' book --map "$map"
 says 2 'ride_dispatch: league: --fleet is missing; usage: ride_dispatch league --map MAP --fleet FLEET --second FLEET --feed FEED' league --map "$map"
@@ -112,6 +136,11 @@ refused_fleet ":2: vehicle 7 stands twice" 'vehicle 7 4 1 0\nvehicle 7 4 1 0\n'
 refused_fleet ":1: node 999999 is not on the map (1 to $nodes)" 'vehicle 7 4 999999 0\n'
 refused_fleet ":1: batch 129 is out of range (1 to 128)" 'set batch 129\n'
 refused_fleet ":1: a vehicle has 1 to 16 seats and 0 to 4 chairs, and is ready by second 1000000000: vehicle 7 17 1 0" 'vehicle 7 17 1 0\n'
+# Bytes that are not UTF-8 stand as they are, and hide nothing where they stand in another line.
+refused_map ":1: neither a problem, nor an arc, nor a comment: p \\xff\\xfe" 'p \xff\xfe\n'
+refused_map ":3: node 3 is not on the map (1 to 2)" 'c \xff\np sp 2 1\na 1 3 60\n'
+refused_fleet ":2: no such setting: \\xffé" '# \xfe\nset \xffé 3\n'
+refused_fleet ":1: neither a setting, nor a vehicle, nor a comment: \\u{1b}[2J" '\x1b[2J\r\n'
 says 5 "ride_dispatch: $scratch/missing could not be read: No such file or directory (os error 2)" replay --map "$scratch/missing" --fleet "$fleet" --feed "$feed"
 says 5 "ride_dispatch: $scratch could not be read: Is a directory (os error 21)" replay --map "$map" --fleet "$fleet" --feed "$scratch"
 says 5 "ride_dispatch: $scratch could not be read: Is a directory (os error 21)" book --feed "$scratch"
@@ -150,6 +179,24 @@ commit_due 8 "these seats are no seating of the batch's copies, or cost somethin
 commit_due 8 'the prices and pays do not prove that no seating costs less' '8s/101:380/101:379/' 'd1 commit 1 cost 925'
 commit_due 27 'the prices and pays do not prove that no seating costs less' '27s/108:145/108:144/' 'd1 commit 3 cost 1005'
 other_due 8 'another outcome is due' '8s/103:confirmed$/103:away/'
+# Bytes that are not UTF-8, in the wrong line and in another, and control characters.
+wrong_bytes() {
+    printf '%b' "$2" > "$scratch/bytes"
+    says 7 "$scratch/bytes$1" audit --map "$map" --fleet "$fleet" --log "$scratch/bytes"
+    goes_on 7 "$scratch/bytes$1" --log "$scratch/bytes"
+}
+head='log 1 feeds 1 desks 1\n'
+wrong_bytes ':2: this is no line of a log, to the byte: f1 \xff\xc3' "$head"'f1 \xff\xc3\nf1 end\n'
+wrong_bytes ':2: this is no line of a log, to the byte: f1\tend\r' "$head"'f1\tend\r\n\xff\n'
+wrong_bytes ':1: this is no line of a log, to the byte: l\u{0}\u{7f}é\xff' 'l\0000\x7fé\xff\n'
+wrong_bytes ':2: another reply is due: f1 clock 5 = now 6; due: f1 clock 5 = now 5' "$head"'f1 clock 5 = now 6\nf1 b\xff\n'
+# The line is named where standard output takes nothing, too.
+if [ -w /dev/full ]; then
+    output=/dev/full
+    other_due 3 'another reply is due' '3s/waiting$/refused 2/'
+    wrong_bytes ':2: this is no line of a log, to the byte: f1 \xff' "$head"'f1 \xff\n'
+    output=/dev/null
+fi
 # A log that cannot be read twice is told without it.
 mkfifo "$scratch/pipe"
 sed '3s/waiting$/refused 2/' "$morning/morning.log" > "$scratch/pipe" &
@@ -214,6 +261,7 @@ for place in 0 2 4 6 8 10; do
     says 2 "ride_resume: $name is missing; $usage" "${given[@]:0:place}" "${given[@]:place + 2}"
     says 2 "ride_resume: $name stands twice; $usage" "${given[@]}" "$name" "${given[place + 1]}"
     says 2 "ride_resume: $name has no value; $usage" "${given[@]:0:place}" "${given[@]:place + 2}" "$name"
+    [ "$place" = 10 ] || says 2 "ride_resume: $name has no value; $usage" "${given[@]:0:place}" "$name" "${given[@]:place + 2}"
     says 2 "ride_resume: no such option: ${name}s; $usage" "${given[@]:0:place}" "${given[@]:place + 2}" "${name}s=x"
 done
 says 2 "ride_resume: --fleet is missing; $usage" "--map=$map"
@@ -221,9 +269,14 @@ says 2 "ride_resume: no such option: --desks; $usage" "${given[@]}" --desks 1
 says 2 "ride_resume: no such option: --help; $usage" --help
 says 2 "ride_resume: serve is no option; $usage" serve "${given[@]}"
 says 2 "ride_resume: -h is no option; $usage" -h
-for workers in 0 17 two -1 ''; do
+for workers in 0 17; do
     goes_on 2 "ride_resume: --workers $workers is not within 1..16; $usage" --workers "$workers"
 done
+for workers in +2 abc 2.0 -1 0000000000000000002 ''; do
+    goes_on 2 "ride_resume: --workers $workers is no number of 1 to 18 digits within 1..16; $usage" --workers "$workers"
+done
+goes_on 2 "ride_resume: --drivers has no value, since -d begins with a hyphen: --drivers=-d gives it; $usage" --drivers -d
+goes_on 2 'ride_resume: a word is not UTF-8: \xff' --drivers $'\xff'
 
 # Files that cannot be read: each in its turn.
 for name in --map --fleet --log --riders --drivers; do
@@ -250,16 +303,17 @@ kill $! 2> /dev/null
 printf 'p sp 2 0\n' > "$scratch/two.gr"
 goes_on 7 "$broken:2: another reply is due: f1 request 7 2 4 1 600 300 = waiting; due: f1 request 7 2 4 1 600 300 = refused 2" --map "$scratch/two.gr"
 
-# Limits, also of a log, and of either feed, whose names are both said since both are read at once.
+# Limits, also of a log, and of either feed, by what the log leaves of its lines, whose names are both said since both are read at once.
 goes_on 8 "ride_resume: $scratch/long_fleet has more than 1,048,576 bytes" --fleet "$scratch/long_fleet" --log "$scratch/missing"
-both='has more than 67,108,864 bytes or 1,000,000 lines'
+both='has more than 67,108,864 bytes, or more lines than its log leaves of 1,000,000'
 goes_on 8 "ride_resume: $scratch/long or /dev/null $both" --riders "$scratch/long"
 goes_on 8 "ride_resume: $feed or $scratch/long $both" --drivers "$scratch/long"
 {
     echo 'log 1 feeds 2 desks 1'
     yes 'f1 clock 0 = now 0' | head -n 2100000
 } > "$scratch/long_log"
-goes_on 8 "ride_resume: $scratch/long_log has more than 1,073,741,824 bytes or 2,100,000 lines" --log "$scratch/long_log" --riders "$scratch"
+limit='has more than 1,073,741,824 bytes or 2,100,000 lines, or answers more than 1,000,000 commands of a feed'
+goes_on 8 "ride_resume: $scratch/long_log $limit" --log "$scratch/long_log" --riders "$scratch"
 rm "$scratch/long_log"
 
 # Outputs, and what stands where a log cannot be finished: some line of the program's own.

@@ -62,7 +62,7 @@ INSTEAD: dict[str, dict[str, int]] = {
     "--map": {"no_map": 3, "missing": 5, "map": 0}, "--fleet": {"no_fleet": 4, "missing": 5, "long_fleet": 8, "map": 4},
     "--second": {"no_fleet": 4, "missing": 5, "long_fleet": 8}, "--feed": {"missing": 5, "long_feed": 8},
     "--riders": {"missing": 5, "long_feed": 8}, "--drivers": {"missing": 5, "long_feed": 8},
-    "--log": {"missing": 5, "wrong_log": 7, "long_log": 8}, "--workers": {"0": 2, "17": 2, "x": 2}, "--desks": {"0": 2, "3": 2},
+    "--log": {"missing": 5, "wrong_log": 7, "long_log": 8}, "--workers": {"0": 2, "17": 2, "x": 2, "+2": 2}, "--desks": {"0": 2, "3": 2},
     "--side": {"1": 2, "101": 2}, "--vehicles": {"1001": 2}, "--requests": {"16001": 2}, "--seed": {"2147483648": 2},
     "--reach": {"0": 2, "1000001": 2},
 }
@@ -73,7 +73,7 @@ OF_GOING_ON: dict[str, dict[str, int]] = {
     "--log": {"log": 0, "missing": 5, "folder": 5, "wrong_log": 7, "torn_wrong": 7, "torn_head": 7, "empty": 7, "feed": 7, "long_log": 8,
               "cut_feed": 1, "cut_desk": 1, "given_up": 1},
     "--riders": {"missing": 5, "folder": 5, "long_feed": 8, "empty": 0}, "--drivers": {"missing": 5, "folder": 5, "long_feed": 8, "empty": 0},
-    "--workers": {"0": 2, "17": 2, "x": 2, "1": 0, "16": 0},
+    "--workers": {"0": 2, "17": 2, "x": 2, "+2": 2, "1": 0, "16": 0},
 }
 
 # Several faults at once, in the order in which they are met: the first decides.

@@ -30,6 +30,10 @@ refused plan
 refused $'\xff'
 refused replay --map $'map\xff' --fleet f --feed r
 refused book --feed r --map m
+refused replay --map --fleet f --feed r
+for workers in +2 0 17 abc 2.0 -1 0000000000000000002; do
+    refused serve --map m --fleet f --riders r --drivers d --workers "$workers" --desks 1
+done
 
 if [ ! -x "$resume" ]; then
     echo 'ride_resume is left out: crates/ride_resume/out/ride_resume is not built'
@@ -69,6 +73,7 @@ for first in 0 1 2 3 4 5; do
     # Without this option, without its value, without both, with it twice, and with it by another name.
     refused "${forwards[@]:2}"
     refused "${forwards[@]:1}"
+    refused "${names[first]}" "${forwards[@]:2}"
     refused "${backwards[@]:0:11}"
     refused "${joined[@]:1}"
     refused "${forwards[@]}" "${forwards[@]:0:2}"
@@ -83,10 +88,10 @@ for place in 0 1 2 3 4 5; do
     but_workers=("${all[@]}")
     all+=("${names[place]}" "${values[place]}")
 done
-for workers in 1 16; do
+for workers in 1 16 000000000000000002; do
     taken "${but_workers[@]}" --workers "$workers"
 done
-for workers in 0 17 -1 two 1.5 '' ' ' 0x2 99999999999999999999; do
+for workers in 0 17 -1 +2 two 1.5 '' ' ' 0x2 0000000000000000002 99999999999999999999; do
     refused "${but_workers[@]}" --workers "$workers"
     refused "${but_workers[@]}" "--workers=$workers"
 done

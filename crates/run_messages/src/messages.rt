@@ -1,14 +1,18 @@
 //! What is said on standard error: of a run that was not whole, in one line, and of a session that cannot be live. No clause speaks of
 //! it.
 use crate::options::{tell_options, tell_words};
+use crate::overheard::Overheard;
 use crate::programs::Program;
 use crate::texts::{tell_fleet, tell_map};
 use crate::verdicts::{LogNames, tell_wrong};
-use ride_ports::FileFault;
+use ride_ports::{FileFault, FileShelf, StdoutSink};
 use run_words::RESUMPTION;
 use std::io;
 use std::rt::Files;
 use std::thread::{Builder, Threads};
+
+/// What is said where memory was wanting.
+pub const MEMORY_WANTING: &str = "memory was wanting";
 
 const FEED_LIMIT: &str = " has more than 67,108,864 bytes or 1,000,000 lines";
 
@@ -16,18 +20,45 @@ const FLEET_LIMIT: &str = " has more than 1,048,576 bytes";
 
 const LOG_LIMIT: &str = " has more than 1,073,741,824 bytes or 2,100,000 lines";
 
-/// What there is to tell of a run.
+const LATER_FEED_LIMIT: &str =
+    " has more than 67,108,864 bytes, or more lines than its log leaves of 1,000,000";
+
+const EARLIER_LOG_LIMIT: &str =
+    " has more than 1,073,741,824 bytes or 2,100,000 lines, or answers more than 1,000,000 commands of a feed";
+
+/// Says why a run was not whole, where its status is not 0.
+pub fn tell<R: Files + Print + Eprint + Threads + Sync + AllocGlobal>(
+    rt: &R,
+    program: Program,
+    words: &[String],
+    status: u8,
+    shelf: &FileShelf<'_, R>,
+    out: &Overheard<StdoutSink<'_, R>>,
+) {
+    let report = Report {
+        program,
+        status,
+        words,
+        asked: shelf.asked(),
+        file_fault: shelf.last_fault(),
+        output_fault: out.sink().last_fault(),
+        said: out.first(),
+    };
+    report.tell(rt);
+}
+
+// What there is to tell of a run.
 #[derive(Clone, Copy, Drop)]
-pub struct Report<'a> {
-    pub program: Program,
-    pub status: u8,
-    pub words: &'a [String],
-    /// The names of files that were asked for, in order.
-    pub asked: &'a [String],
-    pub file_fault: Option<FileFault>,
-    pub output_fault: Option<io::Error>,
-    /// The first bytes of what standard output took.
-    pub said: &'a [u8],
+struct Report<'a> {
+    program: Program,
+    status: u8,
+    words: &'a [String],
+    // The names of files that were asked for, in order.
+    asked: &'a [String],
+    file_fault: Option<FileFault>,
+    output_fault: Option<io::Error>,
+    // The first bytes of what standard output took, or was to take.
+    said: &'a [u8],
 }
 
 // What is said of a file, or of one of two.
@@ -39,8 +70,8 @@ struct Said<'a> {
 }
 
 impl<'a> Report<'a> {
-    /// Says why the run was not whole.
-    pub fn tell<R: Files + Eprint + Threads + Sync + AllocGlobal>(&self, rt: &R) {
+    // Says why the run was not whole.
+    fn tell<R: Files + Eprint + Threads + Sync + AllocGlobal>(&self, rt: &R) {
         let _ = match self.status {
             0 => Ok(()),
             2 => self.tell_refused(rt),
@@ -85,7 +116,7 @@ impl<'a> Report<'a> {
     // The file that was asked for last tells how far the run had come.
     fn memory_wanting(&self) -> Said<'_> {
         if self.asked.is_empty() {
-            return said_of("", "memory was wanting");
+            return said_of("", MEMORY_WANTING);
         }
         said_of(self.name(self.asked.len()), self.what_was_wanting())
     }
@@ -205,7 +236,9 @@ fn limit_of(word: &str, files: usize) -> &'static str {
         ("book", _) => FEED_LIMIT,
         (_, 1) => " has more than 134,217,728 bytes",
         (_, 2) | ("league", 3) => FLEET_LIMIT,
-        ("audit", _) | ("resume", 3) => LOG_LIMIT,
+        ("audit", _) => LOG_LIMIT,
+        ("resume", 3) => EARLIER_LOG_LIMIT,
+        ("resume", _) => LATER_FEED_LIMIT,
         _ => FEED_LIMIT,
     }
 }

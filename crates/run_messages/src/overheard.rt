@@ -1,8 +1,8 @@
-//! A sink whose first bytes are remembered, for what is said on standard error.
+//! A sink that remembers the first bytes that it was to take, for what is said on standard error.
 use arrayvec::ArrayVec;
 use ride_ports::{Failed, Sink};
 
-/// Takes bytes as the sink that it holds, and remembers the first of them.
+/// Takes bytes as the sink that it holds, and remembers the first of them, and of those of a write that failed.
 #[derive(Drop)]
 pub struct Overheard<K> {
     sink: K,
@@ -22,7 +22,7 @@ impl<K> Overheard<K> {
         &self.sink
     }
 
-    /// Returns the first bytes that were taken, 48 at most.
+    /// Returns the first bytes that were taken or were to be taken by a write that failed, 48 at most.
     pub fn first(&self) -> &[u8] {
         self.first.as_slice()
     }
@@ -34,11 +34,16 @@ impl<K: Sink> Sink for Overheard<K> {
     ghost faults = { λ s. K.faults s.sink };
 
     fn write(&mut self, piece: &[u8]) -> Result<usize, Failed> {
-        let taken = self.sink.write(piece)?;
-        if !self.first.is_full() {
-            remember(&mut self.first, &piece[..taken]);
+        match self.sink.write(piece) {
+            Ok(taken) => {
+                remember(&mut self.first, &piece[..taken]);
+                Ok(taken)
+            }
+            Err(failed) => {
+                remember(&mut self.first, piece);
+                Err(failed)
+            }
         }
-        Ok(taken)
     }
 }
 

@@ -1,5 +1,6 @@
 //! What is said on standard error of a log that an audit finds wrong: its first wrong line as it stands, which part of it is not what was
 //! due, and the line that was. No clause speaks of it. The log, its map and its fleet file are read once more, where they can be.
+use crate::shown::Shown;
 use crate::texts::{line_of, network_of, text_of};
 use adaptive_roads::Roads;
 use fleet_file::read_fleet;
@@ -21,33 +22,31 @@ pub struct LogNames<'a> {
     pub log: &'a str,
 }
 
-/// Says which line of a log is wrong, by what standard output said of it.
+/// Says which line of a log is wrong, by what was to be said of it on standard output.
 pub fn tell_wrong<R: Files + Eprint + Threads + Sync + AllocGlobal>(
     rt: &R,
     names: LogNames<'_>,
     said: &[u8],
 ) -> io::Result<()> {
-    let (number, why) = match from_utf8(said) {
-        Ok(line) => verdict_in(line),
-        Err(_) => ("?", ""),
+    let name = names.log;
+    let Some((number, why)) = verdict_in(said) else {
+        return eprintln!(rt; "{name}: a line is wrong; standard output says which");
     };
-    let (name, due) = (names.log, due_of(why));
-    match (text_of(rt, name), number.parse::<u64>()) {
-        (Some(text), Ok(place)) => {
-            let line = line_of(text.as_str(), place);
-            match line_due(rt, names, text.as_bytes()) {
-                Some(other) => {
-                    let other = other.as_str();
-                    eprintln!(rt; "{name}:{number}: {due}: {line}; due: {other}")
-                }
-                None => eprintln!(rt; "{name}:{number}: {due}: {line}"),
-            }
+    let due = due_of(why);
+    let Some(log) = text_of(rt, name) else {
+        return eprintln!(rt; "{name}:{number}: {due}");
+    };
+    let line = Shown(line_of(log.as_slice(), number));
+    match line_due(rt, names, log.as_slice()) {
+        Some(other) => {
+            let other = other.as_str();
+            eprintln!(rt; "{name}:{number}: {due}: {line}; due: {other}")
         }
-        _ => eprintln!(rt; "{name}:{number}: {due}"),
+        None => eprintln!(rt; "{name}:{number}: {due}: {line}"),
     }
 }
 
-// The line that was due in a log of this text, without its LF and as far as it is shown.
+// The line that was due in a log of these bytes, without its LF and as far as it is shown.
 fn line_due<R: Files + Threads + Sync + AllocGlobal>(
     rt: &R,
     names: LogNames<'_>,
@@ -55,8 +54,8 @@ fn line_due<R: Files + Threads + Sync + AllocGlobal>(
 ) -> Option<String> {
     let map = network_of(rt, names.map)?;
     let fleet = text_of(rt, names.fleet)?;
-    let Ok((settings, fleet)) = read_fleet(rt.alloc(), &mut SureSource::new(fleet.as_bytes()), &map)
-    else {
+    let mut fleet = SureSource::new(fleet.as_slice());
+    let Ok((settings, fleet)) = read_fleet(rt.alloc(), &mut fleet, &map) else {
         return None;
     };
     let Ok(roads) = Roads::new(rt.alloc(), &map) else {
@@ -79,12 +78,10 @@ fn shown(line: Vec<u8>) -> Option<String> {
 }
 
 // The number of the line and the word, of `no LINE WORD`.
-fn verdict_in(line: &str) -> (&str, &str) {
-    let mut words = line.split_whitespace().skip(1);
-    match (words.next(), words.next()) {
-        (Some(number), Some(why)) => (number, why),
-        _ => ("?", ""),
-    }
+fn verdict_in(said: &[u8]) -> Option<(u64, &str)> {
+    let mut words = from_utf8(said).ok()?.split_whitespace().skip(1);
+    let number = words.next()?.parse::<u64>().ok()?;
+    Some((number, words.next()?))
 }
 
 // What is not as it was due.
