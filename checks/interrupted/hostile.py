@@ -323,6 +323,20 @@ def files_that_are_refused_or_cannot_be_read(place: Place) -> None:
     expect("a feed that is too long", (status, said.decode()[:len(SEATED)], "f1 cut\n" in said.decode()), (8, SEATED, True))
 
 
+def a_feed_has_the_lines_that_its_log_leaves(place: Place) -> None:
+    """Those count that the log answers, so that a day is never longer than an audit takes, however often it is begun again."""
+    head, report, room = "log 1 feeds 2 desks 2\n", "f2 clock 0 = now 0\n", 3
+    log = head + report * (MOST_OF_FEED - room)
+    for lines, status, end in ((room, 0, "f2 end\n"), (room + 1, 8, "f2 cut\n")):
+        found, said = place.resume(log, place.feeds("clock 5\n" * (room + 1), "clock 0\n" * lines))
+        ours = [said.count("f1 clock"), said.count("f2 clock"), end in said]
+        expect(f"{lines} lines where there is room for {room}", (found, ours), (status, [room + 1, MOST_OF_FEED, True]))
+        expect("an audit of it", place.audit(said)[0], 0)
+    too_many = head + report * (MOST_OF_FEED + 1)
+    expect("an audit of a log of too many commands", place.audit(too_many)[0], 0)
+    expect("a session that is to go on from it", place.resume(too_many), (8, ""))
+
+
 def an_output_that_takes_no_more(place: Place) -> None:
     log = place.write("log", SEATED)
     expect("status", run(place.programs.resuming(log, 2, place.feeds("clock 5\n")), "/dev/full")[0], 6)
@@ -333,7 +347,8 @@ CASES: list[Callable[[Place], None]] = [
     what_is_no_log, a_wrong_line_is_named_as_an_audit_would, a_log_of_another_map_or_fleet, a_finished_log_gives_itself_back,
     torn_lines_are_dropped, an_open_batch_is_committed_by_its_copies_once_there_is_news, a_log_of_one_feed_goes_on_with_riders_alone,
     a_feed_that_has_ended_is_not_read, what_was_cut_or_given_up_cannot_be_finished, an_endless_log, a_log_that_comes_through_a_pipe,
-    words_in_any_order_and_all_of_them, files_that_are_refused_or_cannot_be_read, an_output_that_takes_no_more]
+    words_in_any_order_and_all_of_them, files_that_are_refused_or_cannot_be_read, a_feed_has_the_lines_that_its_log_leaves,
+    an_output_that_takes_no_more]
 
 
 def try_case(case: Callable[[Place], None], programs: Programs, folder: Path) -> None:

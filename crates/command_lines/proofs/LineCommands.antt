@@ -8,6 +8,7 @@ use Rattle.line_text.specs.Fields.{words_of}
 use Rattle.line_text.specs.Lines.{ended_lines, ended_after, rest_of, last_line}
 use Rattle.line_text.proofs.LineLemmas.{ended_lines-append}
 use Rattle.command_lines.specs.Commands.{before, command_of_fields, said_by_words, said_by, commands_from, commands_of}
+use Rattle.command_lines.specs.declared.forms.FeedForm.{FeedForm}
 use Rattle.command_lines.specs.Limits.{AreFirst, ended_commands}
 use Rattle.command_lines.proofs.Spelled.{spelled_fields}
 
@@ -62,18 +63,18 @@ ended-first log bytes more =
     (first-lines log 1 (ended_lines bytes) (ended_after (rest_of bytes) more ++ last_line (rest_of (bytes ++ more))))
 
 -- the commands of the lines that an LF ends within the limits are the first of all
-pub ended_commands-first : (log : ℕ) (bytes more : List ℕ) → AreFirst (ended_commands log bytes) (commands_of log (bytes ++ more))
-ended_commands-first log bytes more =
+pub ended_commands-first : (form : FeedForm) (bytes more : List ℕ) → AreFirst (ended_commands form bytes) (commands_of form.log (bytes ++ more))
+ended_commands-first form bytes more =
     let front : List ℕ = take 67108864 bytes in
-    let within : AreFirst (commands_from log 1 (take 1000000 (ended_lines front))) (commands_from log 1 (ended_lines front))
-    = subst (λ (ls : List (List ℕ)). AreFirst (commands_from log 1 (take 1000000 (ended_lines front))) (commands_from log 1 ls))
-    (take-append-drop 1000000 (ended_lines front))
-    (first-lines log 1 (take 1000000 (ended_lines front)) (drop 1000000 (ended_lines front))) in
+    let within : AreFirst (commands_from form.log 1 (take form.lines (ended_lines front))) (commands_from form.log 1 (ended_lines front))
+    = subst (λ (ls : List (List ℕ)). AreFirst (commands_from form.log 1 (take form.lines (ended_lines front))) (commands_from form.log 1 ls))
+    (take-append-drop form.lines (ended_lines front))
+    (first-lines form.log 1 (take form.lines (ended_lines front)) (drop form.lines (ended_lines front))) in
     let all : front ++ (drop 67108864 bytes ++ more) ≡ bytes ++ more
     = sym (append_assoc front (drop 67108864 bytes) more) ∙ ap (λ l. l ++ more) (take-append-drop 67108864 bytes) in
-    first-then (ended_commands log bytes) (commands_from log 1 (ended_lines front)) (commands_of log (bytes ++ more)) within
-    (subst (λ (l : List ℕ). AreFirst (commands_from log 1 (ended_lines front)) (commands_of log l)) all
-    (ended-first log front (drop 67108864 bytes ++ more)))
+    first-then (ended_commands form bytes) (commands_from form.log 1 (ended_lines front)) (commands_of form.log (bytes ++ more)) within
+    (subst (λ (l : List ℕ). AreFirst (commands_from form.log 1 (ended_lines front)) (commands_of form.log l)) all
+    (ended-first form.log front (drop 67108864 bytes ++ more)))
 
 -- what a line says has a text
 pub said-spelled : (log number : ℕ) (line : List ℕ) (command : Command) → number ≤ 1000001 → said_by log number line ≡ Some command

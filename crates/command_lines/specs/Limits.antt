@@ -1,9 +1,11 @@
--- The limits of a feed, and the commands that count of one that passes them.
-use Rattle.std.specs.Prelude.{◌≡◌, ℕ, List, ◌++◌}
+-- How a feed is read, its limits, and the commands that count of one that passes them.
+use Rattle.std.specs.Prelude.{◌≡◌, ℕ, ◌≤◌, List, ◌++◌}
 use Rattle.ride_model.specs.declared.command.Command.{Command}
+use Rattle.ride_model.specs.Text.{IsOneOrTwo}
 use Rattle.line_reader.specs.declared.limits.Limits.{Limits}
 use Rattle.line_reader.specs.Limits.{lines_within}
 use Rattle.command_lines.specs.Commands.{commands_from}
+use Rattle.command_lines.specs.declared.forms.FeedForm.{FeedForm}
 
 -- the most bytes and lines of a feed
 abbrev pub most_bytes : ℕ
@@ -12,13 +14,26 @@ most_bytes = 67108864
 abbrev pub most_lines : ℕ
 most_lines = 1000000
 
--- the limits of a feed: of a line the first 200 bytes are kept
+-- the limits of a feed that may have so many lines: of a line the first 200 bytes are kept
+abbrev pub limits_of : ℕ → Limits
+limits_of lines = record { line = 200; bytes = most_bytes; lines = lines }
+
+-- those of a feed that begins
 abbrev pub feed_limits : Limits
-feed_limits = record { line = 200; bytes = most_bytes; lines = most_lines }
+feed_limits = limits_of most_lines
+
+-- a feed that begins, by a version of the log
+abbrev pub new_feed : ℕ → FeedForm
+new_feed log = record { log = log; lines = most_lines }
+
+-- a form has a version of the log, and no more lines than a feed that begins
+pub record IsForm (form : FeedForm) : Type 0 where
+  pub log_fits : IsOneOrTwo form.log
+  pub few_lines : form.lines ≤ most_lines
 
 -- the commands of the lines that an LF ends within the limits
-abbrev pub ended_commands : ℕ → List ℕ → List Command
-ended_commands log bytes = commands_from log 1 (lines_within feed_limits bytes)
+abbrev pub ended_commands : FeedForm → List ℕ → List Command
+ended_commands form bytes = commands_from form.log 1 (lines_within (limits_of form.lines) bytes)
 
 -- these commands are the first of those
 abbrev pub AreFirst : List Command → List Command → Type 0

@@ -1,25 +1,28 @@
 //! The commands of a feed, one after the other.
-ghost use Rattle.std.specs.Prelude.{◌≡◌, ℕ, ◌<◌, ◌≤◌, ◌++◌, ◌∷◌, [], false, List, Option, IfOk, IfSome, MatchBool, MatchOption, MatchResult};
+ghost use Rattle.std.specs.Prelude.{◌≡◌, ℕ, ◌<◌, ◌≤◌, ◌++◌, ◌∷◌, [], false, List, Option, IfOk, IfSome, MatchOption, MatchResult};
 ghost use Rattle.ride_model.specs.declared.command.Command.{Command};
 ghost use Rattle.ride_model.specs.Text.{IsOneOrTwo, IsSpelledCommand};
 ghost use Rattle.ride_ports.specs.Bytes.{Reads};
 ghost use Rattle.ride_ports.specs.Count.{KeepsCount};
 ghost use Rattle.line_reader.specs.Reader.{IsShown, is_fault};
 ghost use Rattle.command_lines.specs.Commands.{before, said_by};
+ghost use Rattle.command_lines.specs.Limits.{IsForm};
 ghost use Rattle.command_lines.specs.Feeds.{HasCut, HasGiven, IsStopped, IsWhole, begins_with_letter, is_ready, lines_ahead};
 
+use crate::forms::FeedForm;
 use crate::limits::FEED_LIMITS;
 use crate::reading::read_feed_line;
-use line_reader::{LineReader, NextLine, ReadStop};
+use line_reader::{Limits, LineReader, NextLine, ReadStop};
 use ride_model::{Command, NoMemory};
 use ride_ports::Source;
 use std::alloc::Global;
 use std::marker::Model;
 
-/// Reads the commands of a feed, each as soon as its line has come. A feed has at most 2^26 bytes and 1,000,000 lines.
+/// Reads the commands of a feed, each as soon as its line has come. A feed has at most 2^26 bytes, and 1,000,000 lines or
+/// fewer.
 #[derive(Drop)]
 pub struct FeedReader {
-    log: u8,
+    form: FeedForm,
     lines: LineReader,
     /// Whether the feed was read to its end.
     ended: bool,
@@ -30,20 +33,24 @@ impl Model for FeedReader {
 
     ghost Value = { FeedState };
 
-    ghost view = { λ r. record { log = r.log; lines = r.lines; ended = r.ended } };
+    ghost view = { λ r. record { form = r.form; lines = r.lines; ended = r.ended } };
 }
 
 impl FeedReader {
-    /// A reader of a feed for a version of the log.
-    pub fn new(alloc: Global, log: u8) -> Result<FeedReader, NoMemory>
-        requires { IsOneOrTwo log }
-        ensures log { IfOk result (λ reader. reader.log ≡ log) }
+    /// Returns a reader of a feed.
+    pub fn new(alloc: Global, form: FeedForm) -> Result<FeedReader, NoMemory>
+        requires { IsForm form }
+        ensures form { IfOk result (λ reader. reader.form ≡ form) }
         ensures nothing_given { IfOk result
             (λ reader. (left : Option (List ℕ)) → HasGiven reader left [] []) }
     {
-        let lines = LineReader::new(alloc, FEED_LIMITS)?;
+        let limits = Limits {
+            lines: form.lines,
+            ..FEED_LIMITS
+        };
+        let lines = LineReader::new(alloc, limits)?;
         Ok(FeedReader {
-            log,
+            form,
             lines,
             ended: false,
         })
@@ -68,12 +75,12 @@ impl FeedReader {
             → HasGiven self.old (S.left source.old) commands bytes
             → MatchResult result
             (λ said. MatchOption said
-            (IsWhole self.old.log (S.left source.new) commands (bytes ++ more))
+            (IsWhole self.old.form (S.left source.new) commands (bytes ++ more))
             (λ command. HasGiven self.new (S.left source.new)
             (commands ++ command ∷ []) (bytes ++ more)))
-            (λ stop. IsStopped self.old.log stop commands (bytes ++ more))) }
-        ensures log { self.new.log ≡ self.old.log }
-        ensures spelled { IfOk result (λ said. IfSome said (IsSpelledCommand self.old.log)) }
+            (λ stop. IsStopped self.old.form stop commands (bytes ++ more))) }
+        ensures form { self.new.form ≡ self.old.form }
+        ensures spelled { IfOk result (λ said. IfSome said (IsSpelledCommand self.old.form.log)) }
         ensures faults { KeepsCount (is_fault result) (S.faults source.old) (S.faults source.new) }
     {
         while !self.ended {
@@ -86,7 +93,7 @@ impl FeedReader {
 
     /// Reads the next line, and answers what it says, if anything.
     fn next_line<S: Source>(&mut self, source: &mut S) -> Result<Option<Command>, ReadStop>
-        requires log { IsOneOrTwo self.old.log }
+        requires form { IsForm self.old.form }
         requires going { self.old.ended ≡ false }
         requires given { (commands : List Command) × (bytes : List ℕ)
             × HasCut self.old commands bytes }
@@ -95,9 +102,9 @@ impl FeedReader {
             → MatchResult result
             (λ said. HasGiven self.new (S.left source.new)
             (commands ++ before said []) (bytes ++ more))
-            (λ stop. IsStopped self.old.log stop commands (bytes ++ more))) }
-        ensures log { self.new.log ≡ self.old.log }
-        ensures spelled { IfOk result (λ said. IfSome said (IsSpelledCommand self.old.log)) }
+            (λ stop. IsStopped self.old.form stop commands (bytes ++ more))) }
+        ensures form { self.new.form ≡ self.old.form }
+        ensures spelled { IfOk result (λ said. IfSome said (IsSpelledCommand self.old.form.log)) }
         ensures fewer { IfOk result (λ _. lines_ahead self.new < lines_ahead self.old) }
         ensures faults { KeepsCount (is_fault result) (S.faults source.old) (S.faults source.new) }
     {
@@ -117,20 +124,20 @@ impl FeedReader {
 
     /// What the line says that was read last.
     fn said(&self) -> Option<Command>
-        requires log { IsOneOrTwo self.now.log }
+        requires log { IsOneOrTwo self.now.form.log }
         requires line { (number : ℕ) × (line : List ℕ) × (number ≤ 1000000)
             × IsShown self.now.lines number line }
         requires limit { self.now.lines.limits.line ≡ 200 }
         ensures said { (number : ℕ) (line : List ℕ) → number ≤ 1000000
             → IsShown self.now.lines number line
-            → result ≡ said_by self.now.log number line }
-        ensures spelled { IfSome result (IsSpelledCommand self.now.log) }
+            → result ≡ said_by self.now.form.log number line }
+        ensures spelled { IfSome result (IsSpelledCommand self.now.form.log) }
     {
         read_feed_line(
             self.lines.line(),
             self.lines.over(),
             self.lines.number(),
-            self.log,
+            self.form.log,
         )
     }
 }

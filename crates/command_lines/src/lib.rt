@@ -3,6 +3,7 @@
 #![tactic(auto)]
 
 mod feeds;
+mod forms;
 pub mod laws;
 mod limits;
 mod printing;
@@ -10,6 +11,7 @@ mod reading;
 mod verbs;
 
 pub use feeds::FeedReader;
+pub use forms::FeedForm;
 pub use limits::FEED_LIMITS;
 pub use printing::print_command;
 pub use reading::{read_command, read_feed_line, read_fields};

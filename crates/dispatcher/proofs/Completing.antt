@@ -171,7 +171,7 @@ pub feed-not-long : (told : Option Contents) (m : Meaning) (name : List ℕ) (so
     → IsWhole told m (feed_file name) → IsBackOf (told_bytes told name) source feed → Reads feed.bytes feed.left taken → IsTooLong feed_limits taken → ⊥
 feed-not-long told m name source feed taken whole back reads long =
     let bytes : feed.bytes ≡ Some whole.bytes = subst (λ (o : Option (List ℕ)). AreBytesOf o feed.bytes) whole.bytes_are back.bytes_are in
-    within-not-long whole.bytes taken feed.left whole.within (subst (λ (o : Option (List ℕ)). Reads o feed.left taken) bytes reads) long
+    within-not-long feed_limits whole.bytes taken feed.left whole.within (subst (λ (o : Option (List ℕ)). Reads o feed.left taken) bytes reads) long
 
 -- a session whose status tells of a fault or of a limit
 ran-ends : (ask : Asked) (ran : Ran) (status : ℕ) → status ≡ status_ran ran → (status ≡ 5 → ⊥) → (status ≡ 6 → ⊥) → (ran.too_long ≡ true → ⊥) → MayEnd ask status

@@ -10,6 +10,8 @@ use Rattle.ride_model.specs.declared.entry.Event.TheVariants.{Committed}
 use Rattle.ride_model.specs.History.{fed_commands}
 use Rattle.ride_model.specs.Legal.{IsLegal}
 use Rattle.ride_model.specs.State.{State}
+use Rattle.command_lines.specs.declared.forms.FeedForm.{FeedForm}
+use Rattle.command_lines.specs.Limits.{new_feed}
 use Rattle.command_lines.specs.Commands.{commands_of}
 use Rattle.command_lines.specs.Feeds.{IsWhole}
 use Rattle.history_laws.specs.Start.{IsStart}
@@ -39,12 +41,12 @@ module _ (feeds desks : ℕ) (start : State) (entries : List Entry) (legal : IsL
       unmoved-by_commit feeds desks start c.before c.desk c.number c.cost c.seats c.prices c.pays c.outcomes batch id begins before opened moved
 
 -- all commands of a file's bytes were answered, where its feed was
-pub answers-all : (log : ℕ) (file : Option (List ℕ)) (source : GivenBack) (feed : FeedRun) (taken : List ℕ) (commands : List Command) → IsBackOf file source feed
-    → Reads feed.bytes feed.left taken → IsWhole log feed.left commands taken → IfSome file (λ bytes. commands ≡ commands_of log bytes)
-answers-all log None source feed taken commands back reads whole = tt
-answers-all log (Some bytes) source feed taken commands back reads whole =
+pub answers-all : (form : FeedForm) (file : Option (List ℕ)) (source : GivenBack) (feed : FeedRun) (taken : List ℕ) (commands : List Command) → IsBackOf file source feed
+    → Reads feed.bytes feed.left taken → IsWhole form feed.left commands taken → IfSome file (λ bytes. commands ≡ commands_of form.log bytes)
+answers-all form None source feed taken commands back reads whole = tt
+answers-all form (Some bytes) source feed taken commands back reads whole =
     let all : taken ≡ bytes = subst (λ (o : Option (List ℕ)). IfSome o (λ b. taken ≡ b)) back.bytes_are (Reads-to_end reads whole.to_end) in
-    subst (λ (b : List ℕ). commands ≡ commands_of log b) all whole.commands_are
+    subst (λ (b : List ℕ). commands ≡ commands_of form.log b) all whole.commands_are
 
 -- a run that stopped is not whole
 pub stop-not-whole : (stop : Stop) → 0 ≡ status_of stop → ⊥
@@ -74,9 +76,9 @@ module _ (map fleet riders drivers : List ℕ) (workers desks : ℕ) (old new : 
                 history = has.entries;
                 logged = has.written.whole none.sink;
                 one_legal_history = has.legal.legal;
-                riders_answered = answers-all m.settings.log (told_bytes old.told riders) over.first_source over.first has.riders_taken (fed_commands 1 has.entries)
+                riders_answered = answers-all (new_feed m.settings.log) (told_bytes old.told riders) over.first_source over.first has.riders_taken (fed_commands 1 has.entries)
                     over.of_first has.of_riders.reads riders_whole.0;
-                drivers_answered = answers-all m.settings.log (told_bytes old.told drivers) over.second_source over.second has.drivers_taken
+                drivers_answered = answers-all (new_feed m.settings.log) (told_bytes old.told drivers) over.second_source over.second has.drivers_taken
                     (fed_commands 2 has.entries) over.of_second has.of_drivers.reads drivers_whole.0;
                 seated_at_least_cost = seats-least 2 desks (start_of m) has.entries has.legal.legal;
                 only_standing_committed = only-standing 2 desks (start_of m) has.entries has.legal.legal has.legal.begins;

@@ -7,7 +7,7 @@ use Rattle.ride_ports.proofs.ByteLemmas.{Reads-told}
 use Rattle.line_text.specs.Lines.{lines_of}
 use Rattle.line_text.proofs.LineLemmas.{lines-grow}
 use Rattle.line_reader.specs.Limits.{IsTooLong, IsWithinLimits}
-use Rattle.command_lines.specs.Limits.{feed_limits}
+use Rattle.line_reader.specs.declared.limits.Limits.{Limits}
 use Rattle.line_reader.specs.FeedRuns.{IsReadWhole}
 
 -- a session's status, by its flags
@@ -80,8 +80,9 @@ long-status ran eight = by ran.sink_failed ran.no_memory ran.source_failed ran.t
     by false false false false c d is = absurd (omega arith)
 
 -- bytes within the limits do not begin with too many
-pub within-not-long : (bytes taken : List ℕ) (left : Option (List ℕ)) → IsWithinLimits feed_limits bytes → Reads (Some bytes) left taken → IsTooLong feed_limits taken → ⊥
-within-not-long bytes taken left within reads long =
+pub within-not-long : (limits : Limits) (bytes taken : List ℕ) (left : Option (List ℕ)) → IsWithinLimits limits bytes → Reads (Some bytes) left taken
+    → IsTooLong limits taken → ⊥
+within-not-long limits bytes taken left within reads long =
     let (rest, is, all) = Reads-told bytes reads refl in
     let size : length bytes ≡ length taken + length rest = ap length all ∙ length-append taken rest in
     let lines : length (lines_of taken) ≤ length (lines_of bytes) = subst (λ (l : List ℕ). length (lines_of taken) ≤ length (lines_of l)) (sym all) (lines-grow taken rest) in

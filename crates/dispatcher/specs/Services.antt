@@ -1,14 +1,13 @@
 -- A service of riders and drivers at once.
-use Rattle.std.specs.Prelude.{◌≡◌, ◌⊎◌, ℕ, true, List, IsTrue, IsFalse}
-use Rattle.ride_ports.specs.Count.{Rose}
+use Rattle.std.specs.Prelude.{◌≡◌, ◌⊎◌, ℕ, true, List}
 use Rattle.ride_ports.specs.Status.{status_of}
 use Rattle.ride_ports.specs.declared.outcome.Ran.{Ran}
 use Rattle.ride_model.specs.Text.{text_of}
 use Rattle.ride_model.specs.declared.entry.Entry.{Entry}
 use Rattle.ride_model.specs.declared.entry.Ending.TheVariants.{Whole}
 use Rattle.line_reader.specs.Limits.{IsTooLong, IsWithinLimits}
-use Rattle.command_lines.specs.Limits.{feed_limits}
-use Rattle.session_run.specs.Serving.{FeedRun, HasNotServed, HasServed, IsFeedOf, IsWrittenOut}
+use Rattle.command_lines.specs.Limits.{feed_limits, new_feed}
+use Rattle.session_run.specs.Serving.{CountsFeeds, FeedRun, HasNotServed, HasServed, IsFeedOf, IsWrittenOut}
 use Rattle.dispatcher.specs.Meanings.{Meaning, start_of}
 use Rattle.dispatcher.specs.Shelves.{Sunk}
 
@@ -20,8 +19,8 @@ pub record HasAnswered (m : Meaning) (desks : ℕ) (riders drivers : FeedRun) (r
   pub entries : List Entry
   pub written : IsWrittenOut ran out.before out.after (text_of m.settings.log 2 desks entries)
   pub legal : HasServed (start_of m) 2 desks ran entries
-  pub of_riders : IsFeedOf m.settings.log 1 riders ran riders_taken entries
-  pub of_drivers : IsFeedOf m.settings.log 2 drivers ran drivers_taken entries
+  pub of_riders : IsFeedOf (new_feed m.settings.log) 1 riders ran riders_taken entries
+  pub of_drivers : IsFeedOf (new_feed m.settings.log) 2 drivers ran drivers_taken entries
   pub all_of_riders : status_of ran ≡ 0 → of_riders.ending ≡ Whole
   pub all_of_drivers : status_of ran ≡ 0 → of_drivers.ending ≡ Whole
   pub too_long : ran.too_long ≡ true → IsTooLong feed_limits riders_taken ⊎ IsTooLong feed_limits drivers_taken
@@ -33,6 +32,4 @@ pub record Serves (m : Meaning) (desks : ℕ) (riders drivers : FeedRun) (out : 
   pub ran : Ran
   pub status_is : status ≡ status_of ran
   pub served : HasNotServed riders drivers ran out.before out.after ⊎ HasAnswered m desks riders drivers ran out
-  pub source_failed : IsTrue ran.source_failed → Rose riders.faults_before riders.faults_after ⊎ Rose drivers.faults_before drivers.faults_after
-  pub riders_sound : IsFalse ran.source_failed → riders.faults_after ≡ riders.faults_before
-  pub drivers_sound : IsFalse ran.source_failed → drivers.faults_after ≡ drivers.faults_before
+  pub counts : CountsFeeds riders drivers ran

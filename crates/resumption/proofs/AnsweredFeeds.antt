@@ -18,14 +18,14 @@ use Rattle.model_laws.proofs.Histories.{replay-append}
 use Rattle.history_laws.proofs.Others.{in_range}
 use Rattle.line_text.specs.Lines.{ended_after, rest_after}
 use Rattle.line_reader.specs.Limits.{IsWithinLimits}
-use Rattle.command_lines.specs.Limits.{feed_limits}
+use Rattle.command_lines.specs.Limits.{limits_of}
 use Rattle.board_core.specs.Recorded.{Recorded}
-use Rattle.session_run.specs.Resuming.{IsFeedAfter, IsResumed, still_feeds}
+use Rattle.session_run.specs.Resuming.{IsFeedAfter, IsResumed, form_after, still_feeds}
 use Rattle.session_run.specs.Serving.{FeedRun, HasNotServed}
 use Rattle.dispatcher.specs.Shelves.{Sunk}
 use Rattle.dispatcher.proofs.Ends.{ending-whole}
 use Rattle.dispatcher.proofs.Statuses.{NoneWanting, none-status, whole-status}
-use Rattle.resumption.specs.Goings.{HasAnsweredOn, IsUnheard, still_gives}
+use Rattle.resumption.specs.Goings.{HasAnsweredOn, IsUnheard, room_of, still_gives}
 
 -- who has not ended has not ended whole
 not-whole : (actor : Actor) (ended : List (Actor × Ending)) → list_any (λ (end : Actor × Ending). is_actor end.0 actor) ended ≡ false
@@ -47,13 +47,13 @@ gives-parts start feeds before feed gives =
     (leb-true feed feeds there, not-whole (Feed feed) (replay start before).ended (not-true (has_ended (replay start before) (Feed feed)) lives))
 
 -- nothing is within the limits
-pub none-within : IsWithinLimits feed_limits []
+pub none-within : (lines : ℕ) → IsWithinLimits (limits_of lines) []
 unfolding ended_after rest_after
-none-within = record { few_bytes = omega arith; few_lines = omega arith }
+none-within lines = record { few_bytes = omega arith; few_lines = omega arith }
 
 module _ (board : Recorded) (riders drivers : FeedRun) (ran : Ran) (out : Sunk) where
   abbrev run_of : ℕ → FeedRun → List ℕ → List Entry → Type 0
-  run_of feed run taken more = IsFeedAfter board.start.settings.log feed (still_gives board feed) run ran taken more
+  run_of feed run taken more = IsFeedAfter (form_after board.start feed board.history) feed (still_gives board feed) run ran taken more
 
   -- a session that went on
   module _ (resumed : IsResumed board riders drivers ran out.before out.after) where
@@ -70,9 +70,10 @@ module _ (board : Recorded) (riders drivers : FeedRun) (ran : Ran) (out : Sunk) 
         (subst (λ (s : State). ended_whole s (Feed feed) ≡ true) (replay-append board.start board.history resumed.more) whole) is.part is.fed
 
     feed-within : (feed : ℕ) (run : FeedRun) (taken : List ℕ) (after : run_of feed run taken resumed.more) → 1 ≤ feed → NoneWanting ran
-        → (gives : Bool) → still_gives board feed ≡ gives → IsWithinLimits feed_limits taken
+        → (gives : Bool) → still_gives board feed ≡ gives → IsWithinLimits (room_of board feed) taken
     feed-within feed run taken after one none true gives = ((after.going gives).whole (feed-whole feed run taken after one none gives)).0.within
-    feed-within feed run taken after one none false gives = subst (IsWithinLimits feed_limits) (sym (after.over gives).0) none-within
+    feed-within feed run taken after one none false gives =
+        subst (IsWithinLimits (room_of board feed)) (sym (after.over gives).0) (none-within (form_after board.start feed board.history).lines)
 
     has-answered : HasAnsweredOn board riders drivers ran out
     has-answered = record {

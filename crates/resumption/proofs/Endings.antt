@@ -1,53 +1,57 @@
 -- Which statuses are left to a resumption of whole files without faults.
-use Rattle.std.proofs.Common.{◌≡◌, ◌⊎◌, inl, inr, ℕ, Bool, true, false, List, [], ◌∷◌, Option, Some, Result, Ok, Err, IfSome, refl, subst, ◌∙◌, arith}
+use Rattle.std.proofs.Common.{◌≡◌, ◌⊎◌, inl, inr, ℕ, Bool, true, false, List, [], ◌∷◌, Option, Some, Result, Ok, Err, IfSome, refl, sym, subst, ◌∙◌, arith}
 use Rattle.std.specs.Prelude.{All}
-use Rattle.std.proofs.lemmas.List.Elements.{All-head, All-tail}
+use Rattle.std.proofs.lemmas.List.Elements.{All-head, All-tail, All-take}
 use Rattle.ride_ports.specs.Contents.{Contents, GivenBack}
 use Rattle.ride_ports.specs.Count.{Rose}
 use Rattle.ride_ports.specs.declared.outcome.Ran.{Ran}
 use Rattle.ride_model.specs.State.{State}
 use Rattle.ride_model.specs.declared.entry.Entry.{Entry}
-use Rattle.line_reader.specs.Limits.{IsTooLong}
-use Rattle.command_lines.specs.Limits.{feed_limits}
+use Rattle.line_reader.specs.Limits.{IsTooLong, IsWithinLimits}
+use Rattle.ride_ports.specs.Bytes.{Reads}
+use Rattle.board_core.specs.Recorded.{Recorded}
+use Rattle.command_lines.specs.declared.forms.FeedForm.{FeedForm}
+use Rattle.command_lines.specs.Limits.{limits_of}
+use Rattle.log_audit.specs.declared.restoring.Restored.{Restored}
 use Rattle.log_audit.specs.declared.restoring.Restoration.{Restoration}
 use Rattle.log_audit.specs.declared.restoring.Restoration.TheVariants.{Standing, No}
 use Rattle.log_audit.specs.declared.verdict.AuditFault.{AuditFault}
 use Rattle.log_audit.specs.declared.verdict.AuditFault.TheVariants.{NoMemory, ReadFault, TooLong}
 use Rattle.log_audit.specs.Restored.{IsRestoration}
-use Rattle.session_run.specs.Resuming.{IsFeedAfter}
+use Rattle.session_run.specs.Resuming.{HaveFewCommands, IsFeedAfter, form_after}
 use Rattle.session_run.specs.Serving.{FeedRun}
 use Rattle.run_words.specs.Resumptions.{GoingOn, resumption_files}
 use Rattle.run_words.specs.Words.{feed_file, fleet_file, log_file, map_file}
-use Rattle.dispatcher.specs.Meanings.{Meaning, start_of}
+use Rattle.dispatcher.specs.Meanings.{Means, start_of}
 use Rattle.dispatcher.specs.Runs.{HasStopped, IsUnread}
 use Rattle.dispatcher.specs.Shelves.{AreBytesOf, IsBackOf, Shelved, Sunk, told_bytes}
 use Rattle.dispatcher.specs.Whole.{IsWhole}
-use Rattle.dispatcher.proofs.Completing.{feed-not-long, map-first, whole-stops}
-use Rattle.dispatcher.proofs.Statuses.{long-status, ran-status}
+use Rattle.dispatcher.proofs.Completing.{map-first, whole-stops}
+use Rattle.dispatcher.proofs.Statuses.{long-status, ran-status, within-not-long}
 use Rattle.resumption.specs.Goings.{still_gives}
 use Rattle.resumption.specs.Logs.{EndsLog, ReadsLog}
 use Rattle.resumption.proofs.AnsweredFeeds.{none-within}
-use Rattle.resumption.specs.Resumptions.{AreAllWhole, HasGoneOn, HasRefusedLog, IsResumption}
+use Rattle.resumption.specs.Resumptions.{AreAllWhole, HasGoneOn, HasRefusedLog, HasRoom, IsResumption}
 
 -- the log and both feeds are whole
 module _ (told : Option Contents) (asked : GoingOn) (whole : AreAllWhole told asked) where
-  after_texts : All (IsWhole told whole.0) (log_file asked.log ∷ feed_file asked.riders ∷ feed_file asked.drivers ∷ [])
+  after_texts : All (IsWhole told whole.meaning) (log_file asked.log ∷ feed_file asked.riders ∷ feed_file asked.drivers ∷ [])
   after_texts =
-      All-tail (IsWhole told whole.0) (fleet_file asked.fleet) (log_file asked.log ∷ feed_file asked.riders ∷ feed_file asked.drivers ∷ [])
-      (All-tail (IsWhole told whole.0) (map_file asked.map)
-      (fleet_file asked.fleet ∷ log_file asked.log ∷ feed_file asked.riders ∷ feed_file asked.drivers ∷ []) whole.1)
+      All-tail (IsWhole told whole.meaning) (fleet_file asked.fleet) (log_file asked.log ∷ feed_file asked.riders ∷ feed_file asked.drivers ∷ [])
+      (All-tail (IsWhole told whole.meaning) (map_file asked.map)
+      (fleet_file asked.fleet ∷ log_file asked.log ∷ feed_file asked.riders ∷ feed_file asked.drivers ∷ []) whole.files)
 
-  feeds : All (IsWhole told whole.0) (feed_file asked.riders ∷ feed_file asked.drivers ∷ [])
-  feeds = All-tail (IsWhole told whole.0) (log_file asked.log) (feed_file asked.riders ∷ feed_file asked.drivers ∷ []) after_texts
+  feeds : All (IsWhole told whole.meaning) (feed_file asked.riders ∷ feed_file asked.drivers ∷ [])
+  feeds = All-tail (IsWhole told whole.meaning) (log_file asked.log) (feed_file asked.riders ∷ feed_file asked.drivers ∷ []) after_texts
 
-  pub log-whole : IsWhole told whole.0 (log_file asked.log)
-  log-whole = All-head (IsWhole told whole.0) (log_file asked.log) (feed_file asked.riders ∷ feed_file asked.drivers ∷ []) after_texts
+  pub log-whole : IsWhole told whole.meaning (log_file asked.log)
+  log-whole = All-head (IsWhole told whole.meaning) (log_file asked.log) (feed_file asked.riders ∷ feed_file asked.drivers ∷ []) after_texts
 
-  pub riders-whole : IsWhole told whole.0 (feed_file asked.riders)
-  riders-whole = All-head (IsWhole told whole.0) (feed_file asked.riders) (feed_file asked.drivers ∷ []) feeds
+  pub riders-whole : IsWhole told whole.meaning (feed_file asked.riders)
+  riders-whole = All-head (IsWhole told whole.meaning) (feed_file asked.riders) (feed_file asked.drivers ∷ []) feeds
 
-  pub drivers-whole : IsWhole told whole.0 (feed_file asked.drivers)
-  drivers-whole = All-head (IsWhole told whole.0) (feed_file asked.drivers) [] (All-tail (IsWhole told whole.0) (feed_file asked.riders) (feed_file asked.drivers ∷ []) feeds)
+  pub drivers-whole : IsWhole told whole.meaning (feed_file asked.drivers)
+  drivers-whole = All-head (IsWhole told whole.meaning) (feed_file asked.drivers) [] (All-tail (IsWhole told whole.meaning) (feed_file asked.riders) (feed_file asked.drivers ∷ []) feeds)
 
 -- a log within its limits is not too long
 restored-not-long : (start : State) (file : Option (List ℕ)) (bytes : List ℕ) (source : GivenBack) (log : FeedRun) (found : Result Restoration AuditFault)
@@ -58,18 +62,28 @@ restored-not-long start file bytes source log found told back reads long =
     (subst (λ (r : Result Restoration AuditFault). IfSome log.bytes (λ b. IsRestoration start b r)) long
     (reads.answer (λ memory. absurd (cc (memory, long))) (λ fault. absurd (cc (fault, long)))))
 
+-- the board that it gives back is that of its bytes
+board-given : (start : State) (file : Option (List ℕ)) (bytes : List ℕ) (source : GivenBack) (log : FeedRun) (restored : Restored) → file ≡ Some bytes
+    → IsBackOf file source log → ReadsLog start log (Ok (Standing restored)) → IfSome file (λ b. IsRestoration start b (Ok (Standing restored)))
+board-given start file bytes source log restored told back reads =
+    let same : log.bytes ≡ Some bytes = subst (λ (o : Option (List ℕ)). AreBytesOf o log.bytes) told back.bytes_are in
+    subst (λ (o : Option (List ℕ)). IfSome o (λ b. IsRestoration start b (Ok (Standing restored)))) (same ∙ sym told)
+    (reads.answer (λ no. absurd (cc no)) (λ no. absurd (cc no)))
+
 -- a feed that goes on has no too long bytes, within its limits
-after-not-long : (told : Option Contents) (m : Meaning) (name : List ℕ) (source : GivenBack) (run : FeedRun) (ran : Ran) (log feed : ℕ) (taken : List ℕ) (more : List Entry)
-    (gives : Bool) → IsWhole told m (feed_file name) → IsBackOf (told_bytes told name) source run → IsFeedAfter log feed gives run ran taken more
-    → IsTooLong feed_limits taken → ⊥
-after-not-long told m name source run ran log feed taken more true whole back after long =
-    feed-not-long told m name source run taken whole back (after.going refl).reads long
-after-not-long told m name source run ran log feed taken more false whole back after long =
-    none-long (subst (IsTooLong feed_limits) (after.over refl).0 long)
+after-not-long : (file : Option (List ℕ)) (bytes : List ℕ) (source : GivenBack) (run : FeedRun) (ran : Ran) (form : FeedForm) (feed : ℕ) (taken : List ℕ)
+    (more : List Entry) (gives : Bool) → file ≡ Some bytes → IfSome file (IsWithinLimits (limits_of form.lines)) → IsBackOf file source run
+    → IsFeedAfter form feed gives run ran taken more → IsTooLong (limits_of form.lines) taken → ⊥
+after-not-long file bytes source run ran form feed taken more true told room back after long =
+    let same : run.bytes ≡ Some bytes = subst (λ (o : Option (List ℕ)). AreBytesOf o run.bytes) told back.bytes_are in
+    within-not-long (limits_of form.lines) bytes taken run.left (subst (λ (o : Option (List ℕ)). IfSome o (IsWithinLimits (limits_of form.lines))) told room)
+    (subst (λ (o : Option (List ℕ)). Reads o run.left taken) same (after.going refl).reads) long
+after-not-long file bytes source run ran form feed taken more false told room back after long =
+    none-long (subst (IsTooLong (limits_of form.lines)) (after.over refl).0 long)
   where
-    none-long : IsTooLong feed_limits [] → ⊥
-    none-long (inl many) = omega (arith, many, none-within.few_bytes)
-    none-long (inr many) = omega (arith, many, none-within.few_lines)
+    none-long : IsTooLong (limits_of form.lines) [] → ⊥
+    none-long (inl many) = omega (arith, many, (none-within form.lines).few_bytes)
+    none-long (inr many) = omega (arith, many, (none-within form.lines).few_lines)
 
 module _ (asked : GoingOn) (old new : Shelved) (out : Sunk) (status : ℕ) (whole : AreAllWhole old.told asked) (no_shelf : Rose old.faults new.faults → ⊥)
     (no_sink : Rose out.faults_before out.faults_after → ⊥) where
@@ -77,13 +91,14 @@ module _ (asked : GoingOn) (old new : Shelved) (out : Sunk) (status : ℕ) (whol
   May = (status ≡ 0) ⊎ (status ≡ 1) ⊎ (status ≡ 7)
 
   -- a log that gave no board is wrong, or memory was wanting
-  found-may : (found : Result Restoration AuditFault) → EndsLog found status out → (status ≡ 5 → ⊥) → (found ≡ Err TooLong → ⊥) → May
-  found-may (Ok (Standing restored)) told no_source short = absurd told
-  found-may (Ok (No line why)) (inl (is, says)) no_source short = inr (inr is)
-  found-may (Ok (No line why)) (inr (is, says)) no_source short = inr (inl is)
-  found-may (Err NoMemory) (is, says) no_source short = inr (inl is)
-  found-may (Err TooLong) told no_source short = absurd (short refl)
-  found-may (Err ReadFault) (is, says) no_source short = absurd (no_source is)
+  found-may : (found : Result Restoration AuditFault) → EndsLog found status out → (status ≡ 5 → ⊥) → (found ≡ Err TooLong → ⊥)
+      → ((restored : Restored) → found ≡ Ok (Standing restored) → HaveFewCommands restored.board.feeds restored.board.history) → May
+  found-may (Ok (Standing restored)) (many, told) no_source short few = absurd (many (few restored refl))
+  found-may (Ok (No line why)) (inl (is, says)) no_source short few = inr (inr is)
+  found-may (Ok (No line why)) (inr (is, says)) no_source short few = inr (inl is)
+  found-may (Err NoMemory) (is, says) no_source short few = inr (inl is)
+  found-may (Err TooLong) told no_source short few = absurd (short refl)
+  found-may (Err ReadFault) (is, says) no_source short few = absurd (no_source is)
 
   refused-may : HasRefusedLog asked old new out status → May
   refused-may refused =
@@ -91,6 +106,9 @@ module _ (asked : GoingOn) (old new : Shelved) (out : Sunk) (status : ℕ) (whol
       found-may refused.found refused.said (λ five. no_shelf (refused.shelf_fault five))
       (λ long. file.within (restored-not-long (start_of refused.meaning) (told_bytes old.told asked.log) file.bytes refused.over.source refused.over.feed refused.found
       file.bytes_are refused.over.of_file refused.reads long).0)
+      (λ restored stands. (whole.room refused.meaning restored refused.means
+      (board-given (start_of refused.meaning) (told_bytes old.told asked.log) file.bytes refused.over.source refused.over.feed restored file.bytes_are
+      refused.over.of_file (subst (ReadsLog (start_of refused.meaning) refused.over.feed) stands refused.reads))).few)
 
   gone-may : HasGoneOn asked old new out status → May
   gone-may gone =
@@ -104,16 +122,26 @@ module _ (asked : GoingOn) (old new : Shelved) (out : Sunk) (status : ℕ) (whol
         | inr (inr (inr (inr eight))) ↦ absurd (not-long (long-status ran eight).1)
       ]
     where
+      board : Recorded
+      board = gone.restored.board
+
+      room : HasRoom old.told asked board
+      room =
+          let file = log-whole old.told asked whole in
+          whole.room gone.meaning gone.restored (All-take (Means old.told gone.meaning) 3 (resumption_files asked) gone.means)
+          (board-given (start_of gone.meaning) (told_bytes old.told asked.log) file.bytes gone.over.log_source gone.over.log gone.restored file.bytes_are
+          gone.over.of_log gone.reads)
+
       not-long : gone.goes_on.ran.too_long ≡ true → ⊥
       not-long long = elim gone.goes_on.answered [
         | inl not ↦ absurd (cc (not.no_limit, long))
         | inr has ↦ elim (has.resumed.too_long long) [
-          | inl many ↦ after-not-long old.told whole.0 asked.riders gone.over.riders_source gone.over.riders gone.goes_on.ran
-              gone.restored.board.start.settings.log 1 has.resumed.riders_taken has.resumed.more (still_gives gone.restored.board 1)
-              (riders-whole old.told asked whole) gone.over.of_riders has.resumed.of_riders many
-          | inr many ↦ after-not-long old.told whole.0 asked.drivers gone.over.drivers_source gone.over.drivers gone.goes_on.ran
-              gone.restored.board.start.settings.log 2 has.resumed.drivers_taken has.resumed.more (still_gives gone.restored.board 2)
-              (drivers-whole old.told asked whole) gone.over.of_drivers has.resumed.of_drivers many
+          | inl many ↦ after-not-long (told_bytes old.told asked.riders) (riders-whole old.told asked whole).bytes gone.over.riders_source gone.over.riders
+              gone.goes_on.ran (form_after board.start 1 board.history) 1 has.resumed.riders_taken has.resumed.more (still_gives board 1)
+              (riders-whole old.told asked whole).bytes_are room.of_riders gone.over.of_riders has.resumed.of_riders many
+          | inr many ↦ after-not-long (told_bytes old.told asked.drivers) (drivers-whole old.told asked whole).bytes gone.over.drivers_source gone.over.drivers
+              gone.goes_on.ran (form_after board.start 2 board.history) 2 has.resumed.drivers_taken has.resumed.more (still_gives board 2)
+              (drivers-whole old.told asked whole).bytes_are room.of_drivers gone.over.of_drivers has.resumed.of_drivers many
         ]
       ]
 
@@ -121,8 +149,8 @@ module _ (asked : GoingOn) (old new : Shelved) (out : Sunk) (status : ℕ) (whol
       ⊎ HasGoneOn asked old new out status → May
   completes (inl unread) = inr (inl unread.wanting)
   completes (inr (inl stopped)) =
-      inr (inl (whole-stops (resumption_files asked) whole.0 old new out status
-      (map-first asked.map (fleet_file asked.fleet ∷ log_file asked.log ∷ feed_file asked.riders ∷ feed_file asked.drivers ∷ [])) stopped whole.1 no_shelf))
+      inr (inl (whole-stops (resumption_files asked) whole.meaning old new out status
+      (map-first asked.map (fleet_file asked.fleet ∷ log_file asked.log ∷ feed_file asked.riders ∷ feed_file asked.drivers ∷ [])) stopped whole.files no_shelf))
   completes (inr (inr (inl refused))) = refused-may refused
   completes (inr (inr (inr gone))) = gone-may gone
 

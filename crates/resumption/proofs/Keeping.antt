@@ -12,7 +12,7 @@ use Rattle.command_lines.specs.Commands.{commands_of}
 use Rattle.board_core.proofs.FedEntries.{fed_commands-append}
 use Rattle.log_audit.specs.Restored.{StandsAt}
 use Rattle.log_audit.specs.declared.restoring.Restored.{Restored}
-use Rattle.session_run.specs.Resuming.{IsFeedAfter, still_feeds}
+use Rattle.session_run.specs.Resuming.{IsFeedAfter, form_after, still_feeds}
 use Rattle.session_run.specs.Serving.{FeedRun}
 use Rattle.run_words.specs.Resumptions.{GoingOn, resumption_files}
 use Rattle.dispatcher.specs.Runs.{HasStopped, IsUnread}
@@ -31,14 +31,14 @@ joined (Some bytes) log all before more is answers = is ∙ ap (λ l. before ++ 
 
 module _ (start : State) (feeds : ℕ) (before more : List Entry) (ran : Ran) where
   answers-on : (feed : ℕ) (file : Option (List ℕ)) (source : GivenBack) (run : FeedRun) (taken : List ℕ) → IsBackOf file source run
-      → (after : IsFeedAfter start.settings.log feed (still_feeds start feeds before feed) run ran taken more)
+      → (after : IsFeedAfter (form_after start feed before) feed (still_feeds start feeds before feed) run ran taken more)
       → ((gives : still_feeds start feeds before feed ≡ true) → (after.going gives).ending ≡ Whole)
       → AnswersOn start feeds before (before ++ more) feed file
   answers-on feed file source run taken back after whole = record {
     still_gives = λ gives.
         joined file start.settings.log (fed_commands feed (before ++ more)) (fed_commands feed before) (fed_commands feed more)
         (fed_commands-append feed before more)
-        (answers-all start.settings.log file source run taken (fed_commands feed more) back (after.going gives).reads ((after.going gives).whole (whole gives)).0);
+        (answers-all (form_after start feed before) file source run taken (fed_commands feed more) back (after.going gives).reads ((after.going gives).whole (whole gives)).0);
     gives_no_more = λ over.
         fed_commands-append feed before more
         ∙ ap (λ l. fed_commands feed before ++ l) (ap (filter_map (λ (entry : Entry). command_of entry.event)) (after.over over).1.adds_none)

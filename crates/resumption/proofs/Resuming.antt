@@ -10,6 +10,7 @@ use Rattle.ride_ports.specs.Count.{Rose}
 use Rattle.gr_reader.specs.MapText.{map_format}
 use Rattle.log_audit.specs.declared.restoring.Restored.{Restored}
 use Rattle.log_audit.specs.declared.restoring.Restoration.TheVariants.{Standing}
+use Rattle.session_run.specs.Resuming.{HaveFewCommands}
 use Rattle.session_run.specs.Serving.{FeedRun}
 use Rattle.run_words.specs.Resumptions.{GoingOn, resumption_files}
 use Rattle.run_words.specs.Words.{File, feed_file, fleet_file, log_file, map_file}
@@ -72,7 +73,7 @@ module _ (asked : GoingOn) (m : Meaning) (old mid : Shelved) (read : AreRead (ma
   abbrev feeds : List File
   feeds = feed_file asked.riders ∷ feed_file asked.drivers ∷ []
 
-  -- and the log gave no board
+  -- and the log gave no board to go on from
   has-refused : (new : Shelved) (out : Sunk) (status : ℕ) → RefusesLog m asked.log mid new out status → HasRefusedLog asked old new out status
   has-refused new out status refuses =
       let log = refuses.log in
@@ -104,7 +105,8 @@ module _ (asked : GoingOn) (m : Meaning) (old mid : Shelved) (read : AreRead (ma
       }
 
   -- or it gave a board
-  module _ (restored : Restored) (next : Shelved) (log : HandsLogBack (start_of m) asked.log mid next (Ok (Standing restored))) where
+  module _ (restored : Restored) (next : Shelved) (log : HandsLogBack (start_of m) asked.log mid next (Ok (Standing restored)))
+      (few : HaveFewCommands restored.board.feeds restored.board.history) where
     log-spent : IsSpent log.source
     log-spent = spent-of (told_bytes mid.told asked.log) log.source log.log log.of_file (log.reads.faults.stays refl) (log.reads.to_end restored refl)
 
@@ -166,6 +168,7 @@ module _ (asked : GoingOn) (m : Meaning) (old mid : Shelved) (read : AreRead (ma
           };
           restored = restored;
           reads = log.reads;
+          few = few;
           goes_on = both.goes_on;
           log_spent = All-append IsSpent mid.back (log.source ∷ []) read.spent (all_of_one IsSpent log.source log-spent);
           riders_spent = both.first_spent;
@@ -193,7 +196,7 @@ module _ (asked : GoingOn) (m : Meaning) (old mid : Shelved) (read : AreRead (ma
       inl (subst (λ (k : ℕ). HasStopped (resumption_files asked) old new out k) (sym misses.status_is)
       (missed texts (log_file asked.log) feeds m old mid new out (λ s. tt) read vain.told vain.asked vain.back vain.brought vain.rose misses.untouched))
   ends-over new out status (inr (inl refuses)) = inr (inl (has-refused new out status refuses))
-  ends-over new out status (inr (inr stands)) = elim (feeds-over stands.restored stands.mid stands.log new out status stands.feeds) [
+  ends-over new out status (inr (inr stands)) = elim (feeds-over stands.restored stands.mid stands.log stands.few new out status stands.feeds) [
     | inl stopped ↦ inl stopped
     | inr gone ↦ inr (inr gone)
   ]

@@ -1,15 +1,16 @@
 -- A session that goes on from a board over two feeds.
-use Rattle.std.specs.Prelude.{◌≡◌, ◌⊎◌, ℕ, ◌+◌, Bool, true, false, List, [], ◌∷◌, ◌++◌, IsTrue, IsFalse}
+use Rattle.std.specs.Prelude.{◌≡◌, ◌⊎◌, ℕ, ◌+◌, Bool, true, false, List, [], ◌∷◌, ◌++◌}
 use Rattle.ride_ports.specs.Contents.{GivenBack}
 use Rattle.ride_ports.specs.Count.{Rose}
 use Rattle.ride_ports.specs.Status.{status_of}
 use Rattle.ride_ports.specs.declared.outcome.Ran.{Ran}
 use Rattle.ride_model.specs.declared.entry.Ending.TheVariants.{Whole}
 use Rattle.line_reader.specs.Limits.{IsWithinLimits}
-use Rattle.command_lines.specs.Limits.{feed_limits}
+use Rattle.line_reader.specs.declared.limits.Limits.{Limits}
+use Rattle.command_lines.specs.Limits.{limits_of}
 use Rattle.board_core.specs.Recorded.{Recorded}
-use Rattle.session_run.specs.Resuming.{IsResumed, still_feeds}
-use Rattle.session_run.specs.Serving.{FeedRun, HasNotServed}
+use Rattle.session_run.specs.Resuming.{IsResumed, form_after, still_feeds}
+use Rattle.session_run.specs.Serving.{CountsFeeds, FeedRun, HasNotServed}
 use Rattle.dispatcher.specs.Pairs.{BringsOne}
 use Rattle.dispatcher.specs.Shelves.{IsBackOf, IsLeftOf, IsSpent, Shelved, Sunk, told_bytes}
 use Rattle.dispatcher.specs.Sources.{BringsNone}
@@ -18,12 +19,16 @@ use Rattle.dispatcher.specs.Sources.{BringsNone}
 abbrev pub still_gives : Recorded → ℕ → Bool
 still_gives board feed = still_feeds board.start board.feeds board.history feed
 
+-- the limits of what a feed of a board may still give
+abbrev pub room_of : Recorded → ℕ → Limits
+room_of board feed = limits_of (form_after board.start feed board.history).lines
+
 -- a session went on: at status 0, which comes only where both feeds are within their limits, each feed that still gave commands ended whole
 pub record HasAnsweredOn (board : Recorded) (riders drivers : FeedRun) (ran : Ran) (out : Sunk) : Type 0 where
   pub resumed : IsResumed board riders drivers ran out.before out.after
   pub all_of_riders : status_of ran ≡ 0 → (gives : still_gives board 1 ≡ true) → (resumed.of_riders.going gives).ending ≡ Whole
   pub all_of_drivers : status_of ran ≡ 0 → (gives : still_gives board 2 ≡ true) → (resumed.of_drivers.going gives).ending ≡ Whole
-  pub within : status_of ran ≡ 0 → IsWithinLimits feed_limits resumed.riders_taken × IsWithinLimits feed_limits resumed.drivers_taken
+  pub within : status_of ran ≡ 0 → IsWithinLimits (room_of board 1) resumed.riders_taken × IsWithinLimits (room_of board 2) resumed.drivers_taken
 
 -- nothing was read of a feed, and it counted no fault
 pub record IsUnheard (feed : FeedRun) : Type 0 where
@@ -38,9 +43,7 @@ pub record GoesOn (board : Recorded) (riders drivers : FeedRun) (out : Sunk) (st
   pub answered : HasNotServed riders drivers ran out.before out.after ⊎ HasAnsweredOn board riders drivers ran out
   pub riders_over : still_gives board 1 ≡ false → IsUnheard riders
   pub drivers_over : still_gives board 2 ≡ false → IsUnheard drivers
-  pub source_failed : IsTrue ran.source_failed → Rose riders.faults_before riders.faults_after ⊎ Rose drivers.faults_before drivers.faults_after
-  pub riders_sound : IsFalse ran.source_failed → riders.faults_after ≡ riders.faults_before
-  pub drivers_sound : IsFalse ran.source_failed → drivers.faults_after ≡ drivers.faults_before
+  pub counts : CountsFeeds riders drivers ran
 
 -- both feeds were brought, the session went on over them, and they were given back. Where it ran whole, nothing is left of a feed that
 -- still gave commands

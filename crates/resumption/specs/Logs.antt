@@ -7,12 +7,13 @@ use Rattle.log_audit.specs.declared.restoring.Restored.{Restored}
 use Rattle.log_audit.specs.declared.restoring.Restoration.{Restoration}
 use Rattle.log_audit.specs.declared.restoring.Restoration.TheVariants.{Standing, No}
 use Rattle.log_audit.specs.declared.verdict.AuditFault.{AuditFault}
-use Rattle.log_audit.specs.declared.verdict.AuditFault.TheVariants.{NoMemory, ReadFault}
+use Rattle.log_audit.specs.declared.verdict.AuditFault.TheVariants.{NoMemory, ReadFault, TooLong}
 use Rattle.log_audit.specs.declared.verdict.Verdict.TheVariants.{No as NoVerdict}
 use Rattle.log_audit.specs.Audit.{is_read_fault}
 use Rattle.log_audit.specs.Audited.{FailsAfter}
 use Rattle.log_audit.specs.LogLines.{TakesSome}
 use Rattle.log_audit.specs.Restored.{IsBoardOf, IsRestoration, IsSameButRoom}
+use Rattle.session_run.specs.Resuming.{HaveFewCommands}
 use Rattle.session_run.specs.Serving.{FeedRun}
 use Rattle.dispatcher.specs.Shelves.{IsBackOf, Shelved, Sunk, told_bytes}
 use Rattle.dispatcher.specs.Verdicts.{EndsBy}
@@ -30,9 +31,9 @@ pub record ReadsLog (start : State) (log : FeedRun) (found : Result Restoration 
   pub faults : KeepsCount (is_read_fault found) log.faults_before log.faults_after
 
 -- a log that gives no board is told as an audit tells it: its first wrong line and why, and nothing where it was too long or not
--- read, or where memory was wanting
+-- read, or where memory was wanting. One of which a feed gave more commands than it may have lines is too long to be gone on from
 abbrev pub EndsLog : Result Restoration AuditFault → ℕ → Sunk → Type 0
-EndsLog (Ok (Standing restored)) status out = ⊥
+EndsLog (Ok (Standing restored)) status out = (HaveFewCommands restored.board.feeds restored.board.history → ⊥) × EndsBy (Err TooLong) status out
 EndsLog (Ok (No line why)) status out = EndsBy (Ok (NoVerdict line why)) status out
 EndsLog (Err fault) status out = EndsBy (Err fault) status out
 

@@ -4,6 +4,7 @@ use Rattle.log_audit.specs.declared.restoring.Restored.{Restored}
 use Rattle.log_audit.specs.declared.restoring.Restoration.{Restoration}
 use Rattle.log_audit.specs.declared.restoring.Restoration.TheVariants.{Standing}
 use Rattle.log_audit.specs.declared.verdict.AuditFault.{AuditFault}
+use Rattle.session_run.specs.Resuming.{HaveFewCommands}
 use Rattle.dispatcher.specs.Meanings.{Meaning, start_of}
 use Rattle.dispatcher.specs.Shelves.{IsUntouched, Shelved, Sunk}
 use Rattle.resumption.specs.Goings.{GoesOnOver}
@@ -15,17 +16,18 @@ pub record MissesLog (name : List ℕ) (old new : Shelved) (out : Sunk) (status 
   pub in_vain : AsksInVain name old new
   pub untouched : IsUntouched out
 
--- it gave no board, and that was said
+-- it gave no board to go on from, and that was said
 pub record RefusesLog (m : Meaning) (name : List ℕ) (old new : Shelved) (out : Sunk) (status : ℕ) : Type 0 where
   pub found : Result Restoration AuditFault
   pub log : HandsLogBack (start_of m) name old new found
   pub said : EndsLog found status out
 
--- it gave a board, from which the session went on over both feeds
+-- it gave a board with room for more, from which the session went on over both feeds
 pub record StandsAndGoesOn (m : Meaning) (name riders drivers : List ℕ) (old new : Shelved) (out : Sunk) (status : ℕ) : Type 0 where
   pub restored : Restored
   pub mid : Shelved
   pub log : HandsLogBack (start_of m) name old mid (Ok (Standing restored))
+  pub few : HaveFewCommands restored.board.feeds restored.board.history
   pub feeds : GoesOnOver restored.board riders drivers mid new out status
 
 abbrev pub ResumesOver : Meaning → List ℕ → List ℕ → List ℕ → Shelved → Shelved → Sunk → ℕ → Type 0

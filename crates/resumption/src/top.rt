@@ -12,10 +12,10 @@ ghost use Rattle.resumption.specs.Steps.{ResumesOver};
 use crate::feeds::go_on;
 use crate::logs::bring_log;
 use dispatcher::{Feeds, Status, TextNames, Texts, WORDS_REFUSED, answer, bring_texts, say_found};
-use log_audit::{Restoration, Restored, Verdict};
+use log_audit::{AuditFault, Restoration, Restored, Verdict};
 use ride_ports::{Gate, Shelf, Sink, write_all};
 use run_words::{Resumption, WordsError, read_resumption};
-use session_run::Interrupted;
+use session_run::{Interrupted, have_few_commands};
 use std::alloc::Global;
 use std::sync::Wait;
 use std::thread::Threads;
@@ -142,6 +142,9 @@ fn resume_over<R: Threads + Wait + Sync, H: Shelf, K: Sink, G: Gate>(
     };
     match found {
         Ok(Restoration::Standing(restored)) => {
+            if !have_few_commands(&restored.board) {
+                return say_found(alloc, Err(AuditFault::TooLong), out);
+            }
             let interrupted = interrupted_by(restored, workers, version);
             go_on(rt, alloc, &roads, interrupted, feeds, shelf, out, gate)
         }

@@ -18,7 +18,8 @@ use Rattle.line_reader.specs.Reader.{is_fault}
 use Rattle.command_lines.specs.Commands.{commands_of}
 use Rattle.command_lines.specs.Feeds.{FeedState, HasGiven, IsWhole}
 use Rattle.line_reader.specs.Limits.{IsTooLong, IsWithinLimits}
-use Rattle.command_lines.specs.Limits.{AreFirst, ended_commands, feed_limits}
+use Rattle.command_lines.specs.declared.forms.FeedForm.{FeedForm}
+use Rattle.command_lines.specs.Limits.{AreFirst, ended_commands, limits_of}
 use Rattle.command_lines.proofs.ReaderLemmas.{given-few}
 use Rattle.history_laws.specs.Start.{is_fed}
 use Rattle.board_core.specs.Recorded.{end_entry}
@@ -105,7 +106,12 @@ fed-more reader next feed left rest a b c command more so_far reads given adds =
 pub few-more : (reader : FeedState) (feed left : Option (List ℕ)) (a b : Known) → HasFedSoFar reader feed left a b
     → length (commands_in b.own) ≤ length (commands_in a.own) + 1000000
 few-more reader feed left a b so_far =
-    omega (arith, own-commands a b so_far.answers so_far.commands so_far.answered, given-few reader left so_far.commands so_far.taken so_far.given)
+    omega (
+      arith,
+      own-commands a b so_far.answers so_far.commands so_far.answered,
+      given-few reader left so_far.commands so_far.taken so_far.given,
+      so_far.given.form_is.few_lines,
+    )
 
 -- each answer leaves less of them to come
 pub fewer-left : (reader : FeedState) (feed left : Option (List ℕ)) (a b c : Known) (command : Command) → HasFedSoFar reader feed left a b
@@ -124,35 +130,35 @@ fewer-left reader feed left a b c command so_far adds few =
     )
 
 -- what was submitted, by what ended it
-pub submitted : (log : ℕ) (feed left : Option (List ℕ)) (stop : Option Stop) (a b : Known) (taken : List ℕ) (answers : List Entry)
-    (commands : List Command) → HasAnswered a b answers commands → Reads feed left taken → AreFirstOf log feed taken commands
-    → MatchOption stop (IsWhole log left commands taken) (λ why. IsStoppedBy log why commands taken) → HasSubmitted log feed left stop a b
-submitted log feed left stop a b taken answers commands has reads first ended = record {
+pub submitted : (form : FeedForm) (feed left : Option (List ℕ)) (stop : Option Stop) (a b : Known) (taken : List ℕ) (answers : List Entry)
+    (commands : List Command) → HasAnswered a b answers commands → Reads feed left taken → AreFirstOf form feed taken commands
+    → MatchOption stop (IsWhole form left commands taken) (λ why. IsStoppedBy form why commands taken) → HasSubmitted form feed left stop a b
+submitted form feed left stop a b taken answers commands has reads first ended = record {
   taken = taken;
   answers = answers;
   made = has.made;
   fed = has.fed;
   reads = reads;
-  first = subst (λ (cs : List Command). AreFirstOf log feed taken cs) (sym has.commands_are) first;
-  ended = subst (λ (cs : List Command). MatchOption stop (IsWhole log left cs taken) (λ why. IsStoppedBy log why cs taken)) (sym has.commands_are)
+  first = subst (λ (cs : List Command). AreFirstOf form feed taken cs) (sym has.commands_are) first;
+  ended = subst (λ (cs : List Command). MatchOption stop (IsWhole form left cs taken) (λ why. IsStoppedBy form why cs taken)) (sym has.commands_are)
       ended;
 }
 
 -- nothing, where memory was wanting for the reader
-pub nothing-submitted : (log : ℕ) (feed : Option (List ℕ)) (k : Known) → HasSubmitted log feed feed (Some NoMemory) k k
-nothing-submitted log feed k = record {
+pub nothing-submitted : (form : FeedForm) (feed : Option (List ℕ)) (k : Known) → HasSubmitted form feed feed (Some NoMemory) k k
+nothing-submitted form feed k = record {
   taken = [];
   answers = [];
   made = made-none k;
   fed = All-nil (λ (e : Entry). IsTrue (is_fed e.event));
   reads = Reads-none feed;
-  first = record { of_taken = (commands_of log [], refl); of_feed = each feed; few = omega arith };
+  first = record { of_taken = (commands_of form.log [], refl); of_feed = each feed; few = omega arith };
   ended = tt;
 }
   where
-    each : (o : Option (List ℕ)) → IfSome o (λ bytes. AreFirst [] (commands_of log bytes))
+    each : (o : Option (List ℕ)) → IfSome o (λ bytes. AreFirst [] (commands_of form.log bytes))
     each None = tt
-    each (Some bytes) = (commands_of log bytes, refl)
+    each (Some bytes) = (commands_of form.log bytes, refl)
 
 -- a stop of the source is a fault of it
 pub fault-stops : (stop : ReadStop) (before after : ℕ) → KeepsCount (is_fault {T = Option Command} (Err stop)) before after
@@ -161,9 +167,9 @@ fault-stops SourceFailed before after kept = kept
 fault-stops TooLong before after kept = kept
 
 -- what it has fed
-has-fed : (log : ℕ) (feed left : Option (List ℕ)) (stop : Option Stop) (a b : Known) (has : HasSubmitted log feed left stop a b)
-    → HasFed log feed left (ran_of stop false) has.taken has.answers (ending_of stop)
-has-fed log feed left stop a b has = record {
+has-fed : (form : FeedForm) (feed left : Option (List ℕ)) (stop : Option Stop) (a b : Known) (has : HasSubmitted form feed left stop a b)
+    → HasFed form feed left (ran_of stop false) has.taken has.answers (ending_of stop)
+has-fed form feed left stop a b has = record {
   reads = has.reads;
   fed = has.fed;
   first = has.first;
@@ -178,16 +184,16 @@ has-fed log feed left stop a b has = record {
     commands = commands_in has.answers
 
     Ended : Option Stop → Type 0
-    Ended o = MatchOption o (IsWhole log left (commands_in has.answers) has.taken) (λ why. IsStoppedBy log why (commands_in has.answers) has.taken)
+    Ended o = MatchOption o (IsWhole form left (commands_in has.answers) has.taken) (λ why. IsStoppedBy form why (commands_in has.answers) has.taken)
 
-    whole : (o : Option Stop) → Ended o → is_no_memory o ≡ false → IsReadWhole (ran_of o false) → (ending_of o ≡ Whole) × IsWhole log left commands has.taken
+    whole : (o : Option Stop) → Ended o → is_no_memory o ≡ false → IsReadWhole (ran_of o false) → (ending_of o ≡ Whole) × IsWhole form left commands has.taken
     whole None ended memory read = (refl, ended)
     whole (Some NoMemory) ended memory read = absurd (true≢false memory)
     whole (Some (OfFeed SourceFailed)) ended memory read = absurd (true≢false read.0)
     whole (Some (OfFeed TooLong)) ended memory read = absurd (true≢false read.1)
 
     cut : (o : Option Stop) → Ended o → is_no_memory o ≡ false → (IsReadWhole (ran_of o false) → ⊥)
-        → (ending_of o ≡ Cut) × (commands ≡ ended_commands log has.taken)
+        → (ending_of o ≡ Cut) × (commands ≡ ended_commands form has.taken)
     cut None ended memory not_read = absurd (not_read (refl, refl))
     cut (Some NoMemory) ended memory not_read = absurd (true≢false memory)
     cut (Some (OfFeed SourceFailed)) ended memory not_read = (refl, ended.1)
@@ -197,26 +203,26 @@ has-fed log feed left stop a b has = record {
     wanting None memory = absurd (true≢false (sym memory))
     wanting (Some why) memory = refl
 
-    within : (o : Option Stop) → Ended o → is_no_memory o ≡ false → is_too_long o ≡ false → IsWithinLimits feed_limits has.taken
+    within : (o : Option Stop) → Ended o → is_no_memory o ≡ false → is_too_long o ≡ false → IsWithinLimits (limits_of form.lines) has.taken
     within None ended memory short = ended.within
     within (Some NoMemory) ended memory short = absurd (true≢false memory)
     within (Some (OfFeed SourceFailed)) ended memory short = ended.0
     within (Some (OfFeed TooLong)) ended memory short = absurd (true≢false short)
 
-    too_long : (o : Option Stop) → Ended o → is_too_long o ≡ true → IsTooLong feed_limits has.taken
+    too_long : (o : Option Stop) → Ended o → is_too_long o ≡ true → IsTooLong (limits_of form.lines) has.taken
     too_long None ended long = absurd (true≢false (sym long))
     too_long (Some NoMemory) ended long = absurd (true≢false (sym long))
     too_long (Some (OfFeed SourceFailed)) ended long = absurd (true≢false (sym long))
     too_long (Some (OfFeed TooLong)) ended long = ended.0
 
 -- what it leaves of its pass
-pub runs-feed : (log : ℕ) (feed left : Option (List ℕ)) (stop : Option Stop) (ending : Ending) (ran : Ran) (a b c : Known) → HasSubmitted log feed left stop a b
-    → ending ≡ ending_of stop → ran ≡ ran_of stop false → AddsEntry b c (end_entry (actor_of b.number) ending) → RunsFeed log feed left ran a c
-runs-feed log feed left stop ending ran a b c has ending_is ran_is ends = record {
+pub runs-feed : (form : FeedForm) (feed left : Option (List ℕ)) (stop : Option Stop) (ending : Ending) (ran : Ran) (a b c : Known) → HasSubmitted form feed left stop a b
+    → ending ≡ ending_of stop → ran ≡ ran_of stop false → AddsEntry b c (end_entry (actor_of b.number) ending) → RunsFeed form feed left ran a c
+runs-feed form feed left stop ending ran a b c has ending_is ran_is ends = record {
   taken = has.taken;
   answers = has.answers;
   ending = ending;
   ends = made-end a b c has.answers ending has.made ends;
-  fed = subst (λ (r : Ran). HasFed log feed left r has.taken has.answers ending) (sym ran_is)
-      (subst (λ (e : Ending). HasFed log feed left (ran_of stop false) has.taken has.answers e) (sym ending_is) (has-fed log feed left stop a b has));
+  fed = subst (λ (r : Ran). HasFed form feed left r has.taken has.answers ending) (sym ran_is)
+      (subst (λ (e : Ending). HasFed form feed left (ran_of stop false) has.taken has.answers e) (sym ending_is) (has-fed form feed left stop a b has));
 }

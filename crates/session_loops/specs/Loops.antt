@@ -12,7 +12,8 @@ use Rattle.ride_ports.specs.declared.outcome.Ran.{Ran}
 use Rattle.ride_ports.specs.Bytes.{Reads, Writes, WritesPrefix}
 use Rattle.command_lines.specs.Feeds.{IsWhole}
 use Rattle.line_reader.specs.Limits.{IsWithinLimits, IsTooLong}
-use Rattle.command_lines.specs.Limits.{ended_commands, feed_limits}
+use Rattle.command_lines.specs.declared.forms.FeedForm.{FeedForm}
+use Rattle.command_lines.specs.Limits.{ended_commands, limits_of}
 use Rattle.history_laws.specs.Start.{is_fed}
 use Rattle.history_laws.specs.Finishing.{gives_up}
 use Rattle.board_core.specs.Recorded.{end_entry, opened_entry}
@@ -32,23 +33,23 @@ AreFed entries = All (λ (entry : Entry). IsTrue (is_fed entry.event)) entries
 
 -- of a feed with these bytes some were taken and answered by these entries, so that those are left: all of them where nothing
 -- was wanting, those within the limits and before a fault where only the source was
-pub record HasFed (log : ℕ) (feed left : Option (List ℕ)) (ran : Ran) (taken : List ℕ) (answers : List Entry) (ending : Ending) : Type 0 where
+pub record HasFed (form : FeedForm) (feed left : Option (List ℕ)) (ran : Ran) (taken : List ℕ) (answers : List Entry) (ending : Ending) : Type 0 where
   pub reads : Reads feed left taken
   pub fed : AreFed answers
-  pub first : AreFirstOf log feed taken (commands_in answers)
-  pub whole : ran.no_memory ≡ false → IsReadWhole ran → (ending ≡ Whole) × IsWhole log left (commands_in answers) taken
-  pub cut : ran.no_memory ≡ false → (IsReadWhole ran → ⊥) → (ending ≡ Cut) × (commands_in answers ≡ ended_commands log taken)
+  pub first : AreFirstOf form feed taken (commands_in answers)
+  pub whole : ran.no_memory ≡ false → IsReadWhole ran → (ending ≡ Whole) × IsWhole form left (commands_in answers) taken
+  pub cut : ran.no_memory ≡ false → (IsReadWhole ran → ⊥) → (ending ≡ Cut) × (commands_in answers ≡ ended_commands form taken)
   pub wanting : ran.no_memory ≡ true → ending ≡ Cut
-  pub within : ran.no_memory ≡ false → ran.too_long ≡ false → IsWithinLimits feed_limits taken
-  pub too_long : ran.too_long ≡ true → IsTooLong feed_limits taken
+  pub within : ran.no_memory ≡ false → ran.too_long ≡ false → IsWithinLimits (limits_of form.lines) taken
+  pub too_long : ran.too_long ≡ true → IsTooLong (limits_of form.lines) taken
 
 -- what a feed's loop leaves of its pass
-pub record RunsFeed (log : ℕ) (feed left : Option (List ℕ)) (ran : Ran) (old new : Known) : Type 0 where
+pub record RunsFeed (form : FeedForm) (feed left : Option (List ℕ)) (ran : Ran) (old new : Known) : Type 0 where
   pub taken : List ℕ
   pub answers : List Entry
   pub ending : Ending
   pub ends : EndsWith old new answers ending
-  pub fed : HasFed log feed left ran taken answers ending
+  pub fed : HasFed form feed left ran taken answers ending
 
 -- an entry closes the batch that another opened
 abbrev pub Closes : Event → Event → Type 0

@@ -10,6 +10,7 @@ use Rattle.ride_model.specs.History.{is_abandoned}
 use Rattle.ride_model.specs.Seating.{BatchCopy}
 use Rattle.ride_ports.specs.Bytes.{Reads}
 use Rattle.command_lines.specs.Feeds.{IsStopped, IsWhole}
+use Rattle.command_lines.specs.declared.forms.FeedForm.{FeedForm}
 use Rattle.history_laws.specs.Finishing.{gives_up}
 use Rattle.board_core.specs.Recorded.{opened_entry}
 use Rattle.fleet_board.specs.Passes.{Known, AddsEntry, commands_in}
@@ -31,19 +32,19 @@ pub record AddsAnswer (command : Command) (old new : Known) : Type 0 where
   pub adds : AddsEntry old new (record { actor = actor; event = Fed command reply })
 
 -- why a feed was stopped after these bytes: memory was wanting, or the feed gave no more
-abbrev pub IsStoppedBy : ℕ → Stop → List Command → List ℕ → Type 0
-IsStoppedBy log NoMemory commands bytes = ⊤
-IsStoppedBy log (OfFeed stop) commands bytes = IsStopped log stop commands bytes
+abbrev pub IsStoppedBy : FeedForm → Stop → List Command → List ℕ → Type 0
+IsStoppedBy form NoMemory commands bytes = ⊤
+IsStoppedBy form (OfFeed stop) commands bytes = IsStopped form stop commands bytes
 
 -- of a feed with these bytes some were taken and answered, so that those are left
-pub record HasSubmitted (log : ℕ) (feed left : Option (List ℕ)) (stop : Option Stop) (old new : Known) : Type 0 where
+pub record HasSubmitted (form : FeedForm) (feed left : Option (List ℕ)) (stop : Option Stop) (old new : Known) : Type 0 where
   pub taken : List ℕ
   pub answers : List Entry
   pub made : HasMade old new answers
   pub fed : AreFed answers
   pub reads : Reads feed left taken
-  pub first : AreFirstOf log feed taken (commands_in answers)
-  pub ended : MatchOption stop (IsWhole log left (commands_in answers) taken) (λ why. IsStoppedBy log why (commands_in answers) taken)
+  pub first : AreFirstOf form feed taken (commands_in answers)
+  pub ended : MatchOption stop (IsWhole form left (commands_in answers) taken) (λ why. IsStoppedBy form why (commands_in answers) taken)
 
 -- a desk's open batch was committed, or given up
 pub record ClosesBatch (committed : Bool) (batch : BatchCopy) (old new : Known) : Type 0 where

@@ -4,6 +4,7 @@ ghost use Rattle.ride_model.specs.Text.{IsSpelledCommand};
 ghost use Rattle.ride_model.specs.Limits.{most_commands, most_earlier_commands};
 ghost use Rattle.ride_ports.specs.Count.{KeepsCount};
 ghost use Rattle.command_lines.specs.Feeds.{HasGiven};
+ghost use Rattle.command_lines.specs.Limits.{IsForm};
 ghost use Rattle.turn_lock.specs.Passes.{knowledge};
 ghost use Rattle.fleet_board.specs.Passes.{AddsNone, IsPoint, commands_in, root_of};
 ghost use Rattle.fleet_board.specs.Roles.{MayFeed};
@@ -13,7 +14,7 @@ ghost use Rattle.session_loops.specs.Making.{AddsAnswer, HasSubmitted};
 ghost use Rattle.line_reader.specs.FeedRuns.{is_source_failed};
 
 use crate::stops::ending_of;
-use command_lines::FeedReader;
+use command_lines::{FeedForm, FeedReader};
 use fleet_board::{ActorPass, SharedBoard};
 use line_reader::{Stop, ran_of};
 use ride_model::{Command, NoMemory};
@@ -31,19 +32,20 @@ pub fn feed_loop<'r, R: Wait, S: Source, G: Gate>(
     pass: &mut ActorPass<'r>,
     source: &mut S,
     gate: &G,
-    log: u8,
+    form: FeedForm,
 ) -> Ran
     requires feed { MayFeed board.now pass.old }
-    requires log { log ≡ (root_of (knowledge pass.old)).start.settings.log }
+    requires form { IsForm form }
+    requires log { form.log ≡ (root_of (knowledge pass.old)).start.settings.log }
     requires few { length (commands_in (knowledge pass.old).own) ≤ most_earlier_commands }
     ensures pass { MayUse board.now pass.new }
     ensures point { IsPoint (knowledge pass.new) }
-    ensures ran { RunsFeed log (S.left source.old) (S.left source.new) result
+    ensures ran { RunsFeed form (S.left source.old) (S.left source.new) result
         (knowledge pass.old) (knowledge pass.new) }
     ensures sink { result.sink_failed ≡ false }
     ensures faults { KeepsCount result.source_failed (S.faults source.old) (S.faults source.new) }
 {
-    let stop = run_feed(rt, alloc, board, pass, source, gate, log);
+    let stop = run_feed(rt, alloc, board, pass, source, gate, form);
     board.end(rt, pass, ending_of(stop));
     ran_of(stop, false)
 }
@@ -56,18 +58,19 @@ fn run_feed<'r, R: Wait, S: Source, G: Gate>(
     pass: &mut ActorPass<'r>,
     source: &mut S,
     gate: &G,
-    log: u8,
+    form: FeedForm,
 ) -> Option<Stop>
     requires feed { MayFeed board.now pass.old }
-    requires log { log ≡ (root_of (knowledge pass.old)).start.settings.log }
+    requires form { IsForm form }
+    requires log { form.log ≡ (root_of (knowledge pass.old)).start.settings.log }
     requires few { length (commands_in (knowledge pass.old).own) ≤ most_earlier_commands }
     ensures feed { MayFeed board.now pass.new }
-    ensures submitted { HasSubmitted log (S.left source.old) (S.left source.new) result
+    ensures submitted { HasSubmitted form (S.left source.old) (S.left source.new) result
         (knowledge pass.old) (knowledge pass.new) }
     ensures faults { KeepsCount (is_source_failed result)
         (S.faults source.old) (S.faults source.new) }
 {
-    match FeedReader::new(alloc, log) {
+    match FeedReader::new(alloc, form) {
         Ok(mut reader) => submit_commands(rt, board, pass, &mut reader, source, gate),
         Err(_) => Some(Stop::NoMemory),
     }
@@ -83,11 +86,11 @@ fn submit_commands<'r, R: Wait, S: Source, G: Gate>(
     gate: &G,
 ) -> Option<Stop>
     requires feed { MayFeed board.now pass.old }
-    requires version { reader.old.log ≡ (root_of (knowledge pass.old)).start.settings.log }
+    requires version { reader.old.form.log ≡ (root_of (knowledge pass.old)).start.settings.log }
     requires few { length (commands_in (knowledge pass.old).own) ≤ most_earlier_commands }
     requires nothing_given { HasGiven reader.old (S.left source.old) [] [] }
     ensures feed { MayFeed board.now pass.new }
-    ensures submitted { HasSubmitted reader.old.log (S.left source.old)
+    ensures submitted { HasSubmitted reader.old.form (S.left source.old)
         (S.left source.new) result (knowledge pass.old)
         (knowledge pass.new) }
     ensures faults { KeepsCount (is_source_failed result)

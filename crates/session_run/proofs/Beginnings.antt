@@ -50,6 +50,7 @@ module _ (desks : ℕ) (riders drivers : FeedRun) (ran : Ran) (before after : Op
       and-true false = refl
 
   first-served : (start : State) → HasResumed start 2 desks [] riders drivers ran before after → IsServed start desks riders drivers ran before after
+  unfolding entries_of
   first-served start r = (
     r.riders_taken,
     r.drivers_taken,

@@ -19,7 +19,8 @@ use Rattle.ride_ports.specs.declared.outcome.Ran.{Ran}
 use Rattle.ride_ports.specs.Count.{KeepsCount, Rose}
 use Rattle.command_lines.specs.Feeds.{IsWhole}
 use Rattle.line_reader.specs.Limits.{IsTooLong}
-use Rattle.command_lines.specs.Limits.{ended_commands, feed_limits}
+use Rattle.command_lines.specs.declared.forms.FeedForm.{FeedForm}
+use Rattle.command_lines.specs.Limits.{ended_commands, limits_of}
 use Rattle.history_laws.specs.Finishing.{has_whole_end, is_whole_end}
 use Rattle.board_core.specs.Recorded.{end_entry}
 use Rattle.fleet_board.specs.Passes.{Known, actor_of, commands_in}
@@ -74,14 +75,14 @@ part-after actor before more made whole =
     append_cancel_left (entries_of actor before) (entries_of actor more) made (sym (entries-append actor before more) ∙ whole)
 
 -- what the entries that a session adds have of a feed
-pub record FeedOf (log feed : ℕ) (run : FeedRun) (own session : Ran) (more : List Entry) : Type 0 where
+pub record FeedOf (form : FeedForm) (feed : ℕ) (run : FeedRun) (own session : Ran) (more : List Entry) : Type 0 where
   pub taken : List ℕ
-  pub is : IsFeedOf log feed run session taken more
-  pub too_long : own.too_long ≡ true → IsTooLong feed_limits taken
+  pub is : IsFeedOf form feed run session taken more
+  pub too_long : own.too_long ≡ true → IsTooLong (limits_of form.lines) taken
   pub ends_whole : own.no_memory ≡ false → IsReadWhole own → has_whole_end (entries_of (Feed feed) more) ≡ true
 
-module _ (log : ℕ) (run : FeedRun) (own : Ran) (taken : List ℕ) (answers : List Entry) (ending : Ending)
-    (fed : HasFed log run.bytes run.left own taken answers ending) where
+module _ (form : FeedForm) (run : FeedRun) (own : Ran) (taken : List ℕ) (answers : List Entry) (ending : Ending)
+    (fed : HasFed form run.bytes run.left own taken answers ending) where
   -- a feed that ended whole was read whole, and memory was not wanting
   whole-read : ending ≡ Whole → (own.no_memory ≡ false) × IsReadWhole own
   whole-read whole = elim (cases_Bool own.no_memory) [
@@ -94,18 +95,18 @@ module _ (log : ℕ) (run : FeedRun) (own : Ran) (taken : List ℕ) (answers : L
 
   -- one that was cut without want of memory was kept from it by its source
   cut-kept : own.no_memory ≡ false → ending ≡ Cut
-      → (commands_in answers ≡ ended_commands log taken) × ((own.source_failed ≡ true) ⊎ (own.too_long ≡ true))
+      → (commands_in answers ≡ ended_commands form taken) × ((own.source_failed ≡ true) ⊎ (own.too_long ≡ true))
   cut-kept memory cut = elim (read_whole own) [
     | inl read ↦ absurd (cc ((fed.whole memory read).0, cut))
     | inr kept ↦ ((fed.cut memory (not_whole own kept)).1, kept)
   ]
 
-pub feed-of : (log feed : ℕ) (run : FeedRun) (own session : Ran) (before more : List Entry) (old new : Known)
+pub feed-of : (form : FeedForm) (feed : ℕ) (run : FeedRun) (own session : Ran) (before more : List Entry) (old new : Known)
     → IsOneOrTwo feed → old.number ≡ feed → old.own ≡ entries_of (Feed feed) before
-    → RunsFeed log run.bytes run.left own old new → IsPartOf (before ++ more) (Feed feed) new
+    → RunsFeed form run.bytes run.left own old new → IsPartOf (before ++ more) (Feed feed) new
     → KeepsCount own.source_failed run.faults_before run.faults_after
-    → (session.no_memory ≡ false → own.no_memory ≡ false) → FeedOf log feed run own session more
-feed-of log feed run own session before more old new fits number own_is runs its kept memory =
+    → (session.no_memory ≡ false → own.no_memory ≡ false) → FeedOf form feed run own session more
+feed-of form feed run own session before more old new fits number own_is runs its kept memory =
     record {
       taken = runs.taken;
       is = record {
@@ -114,14 +115,14 @@ feed-of log feed run own session before more old new fits number own_is runs its
         ending = runs.ending;
         part = part;
         fed = runs.fed.fed;
-        first = subst (λ (cs : List Command). AreFirstOf log run.bytes runs.taken cs) (sym commands) runs.fed.first;
+        first = subst (λ (cs : List Command). AreFirstOf form run.bytes runs.taken cs) (sym commands) runs.fed.first;
         whole = λ whole.
-            let (wants_none, read) = whole-read log run own runs.taken runs.answers runs.ending runs.fed whole in (
-              subst (λ (cs : List Command). IsWhole log run.left cs runs.taken) (sym commands) (runs.fed.whole wants_none read).1,
+            let (wants_none, read) = whole-read form run own runs.taken runs.answers runs.ending runs.fed whole in (
+              subst (λ (cs : List Command). IsWhole form run.left cs runs.taken) (sym commands) (runs.fed.whole wants_none read).1,
               kept.stays read.0,
             );
         cut = λ wants_none cut.
-            let (are, cause) = cut-kept log run own runs.taken runs.answers runs.ending runs.fed (memory wants_none) cut in
+            let (are, cause) = cut-kept form run own runs.taken runs.answers runs.ending runs.fed (memory wants_none) cut in
             (commands ∙ are, by_cause cause);
       };
       too_long = runs.fed.too_long;
@@ -143,6 +144,6 @@ feed-of log feed run own session before more old new fits number own_is runs its
     commands : fed_commands feed more ≡ commands_in runs.answers
     commands = ap commands_in part ∙ commands-ended runs.answers (Feed feed) runs.ending
 
-    by_cause : (own.source_failed ≡ true) ⊎ (own.too_long ≡ true) → Rose run.faults_before run.faults_after ⊎ IsTooLong feed_limits runs.taken
+    by_cause : (own.source_failed ≡ true) ⊎ (own.too_long ≡ true) → Rose run.faults_before run.faults_after ⊎ IsTooLong (limits_of form.lines) runs.taken
     by_cause (inl failed) = inl (kept.rose failed)
     by_cause (inr long) = inr (runs.fed.too_long long)

@@ -14,6 +14,7 @@ pub mod Replays
 pub mod WrittenSessions
 pub mod Begun
 pub mod NothingLeft
+pub mod Counts
 pub mod FeedParts
 pub mod DeskParts
 pub mod BrokenOff

@@ -22,7 +22,7 @@ use Rattle.ride_model.specs.Text.{HasText}
 use Rattle.line_reader.specs.declared.answers.ReadStop.TheVariants.{SourceFailed, TooLong}
 use Rattle.command_lines.specs.Commands.{commands_of}
 use Rattle.line_reader.specs.Limits.{IsTooLong, IsWithinLimits}
-use Rattle.command_lines.specs.Limits.{AreFirst, ended_commands, feed_limits}
+use Rattle.command_lines.specs.Limits.{AreFirst, ended_commands, feed_limits, new_feed}
 use Rattle.history_laws.specs.Start.{IsStart}
 use Rattle.history_laws.proofs.KeptHistory.{keeps_promises}
 use Rattle.board_core.specs.Recorded.{Recorded, state_of, end_entry}
@@ -106,7 +106,7 @@ whole-desk opened asked is = ap (λ b. cond b Whole Cut) (eq-eqb opened asked is
 module _ (start : State) (begins : IsStart start) (ran : Ran) (feed : Option (List ℕ)) (taken : List ℕ) (old new : Recorded) (no_memory : Bool)
     (old_start : old.start ≡ start) (new_start : new.start ≡ old.start) (feeds : new.feeds ≡ old.feeds) (desks : new.desks ≡ old.desks)
     (legal : IsLegal new.feeds new.desks new.start new.history) (text : HasText new.start.settings.log new.feeds new.desks new.history)
-    (first : AreFirstOf old.start.settings.log feed taken (fed_commands 1 old.history)) (wanting : ran.no_memory ≡ no_memory) where
+    (first : AreFirstOf (new_feed old.start.settings.log) feed taken (fed_commands 1 old.history)) (wanting : ran.no_memory ≡ no_memory) where
   legal_one : IsSession old → old.feeds ≡ 1 → IsLegal 1 1 start new.history
   legal_one session one_feed =
       subst (λ n. IsLegal n 1 start new.history) (feeds ∙ one_feed)
@@ -120,10 +120,10 @@ module _ (start : State) (begins : IsStart start) (ran : Ran) (feed : Option (Li
       (subst (λ (s : State). HasText s.settings.log new.feeds new.desks new.history) (new_start ∙ old_start) text))
 
   -- the commands are those of before the ends
-  first_now : fed_commands 1 new.history ≡ fed_commands 1 old.history → AreFirstOf start.settings.log feed taken (fed_commands 1 new.history)
+  first_now : fed_commands 1 new.history ≡ fed_commands 1 old.history → AreFirstOf (new_feed start.settings.log) feed taken (fed_commands 1 new.history)
   first_now same =
-      subst (λ (cs : List Command). AreFirstOf start.settings.log feed taken cs) (sym same)
-      (subst (λ (s : State). AreFirstOf s.settings.log feed taken (fed_commands 1 old.history)) old_start first)
+      subst (λ (cs : List Command). AreFirstOf (new_feed start.settings.log) feed taken cs) (sym same)
+      (subst (λ (s : State). AreFirstOf (new_feed s.settings.log) feed taken (fed_commands 1 old.history)) old_start first)
 
   -- a feed that was cut is not said to end whole
   not_whole_end : {Said : Type 0} (ending desk_ending : Ending) → ending ≡ Cut → (state_of new).ended ≡ (Feed 1, ending) ∷ (Desk 1, desk_ending) ∷ []
@@ -136,12 +136,12 @@ module _ (start : State) (begins : IsStart start) (ran : Ran) (feed : Option (Li
   cut-replay : (ending : Ending) → ending ≡ Cut → IsRunning old no_memory
       → new.history ≡ old.history ++ end_entry (Feed 1) ending ∷ end_entry (Desk 1) (cond (eqb (state_of old).opened (state_of old).asked) Whole Cut) ∷ []
       → (IsReadWhole ran → ⊥) → (ran.too_long ≡ false → IsWithinLimits feed_limits taken) → (ran.too_long ≡ true → IsTooLong feed_limits taken)
-      → fed_commands 1 old.history ≡ ended_commands old.start.settings.log taken → IsReplay start ran feed taken new.history
+      → fed_commands 1 old.history ≡ ended_commands (new_feed old.start.settings.log) taken → IsReplay start ran feed taken new.history
   cut-replay ending is_cut running history not_whole within too_long fed =
       let ends = ends-so old new ending (cond (eqb (state_of old).opened (state_of old).asked) Whole Cut) running.session new_start history in
       let lawful = legal_one running.session running.one_feed in
-      let commands : fed_commands 1 new.history ≡ ended_commands start.settings.log taken
-      = ends.commands ∙ fed ∙ ap (λ (s : State). ended_commands s.settings.log taken) old_start in
+      let commands : fed_commands 1 new.history ≡ ended_commands (new_feed start.settings.log) taken
+      = ends.commands ∙ fed ∙ ap (λ (s : State). ended_commands (new_feed s.settings.log) taken) old_start in
       record {
         begins = begins;
         legal = lawful;

@@ -9,7 +9,7 @@ use Rattle.ride_ports.specs.declared.outcome.Ran.{Ran}
 use Rattle.ride_ports.specs.declared.sources.Failed.{Failed}
 use Rattle.line_reader.specs.FeedRuns.{IsReadWhole}
 use Rattle.line_reader.specs.Limits.{IsTooLong}
-use Rattle.command_lines.specs.Limits.{feed_limits}
+use Rattle.command_lines.specs.Limits.{limits_of}
 use Rattle.history_laws.specs.Start.{IsStart}
 use Rattle.board_core.specs.Recorded.{Recorded}
 use Rattle.turn_lock.specs.Passes.{knowledge}
@@ -21,7 +21,7 @@ use Rattle.session_run.specs.declared.live.actors.Actors.{Actors}
 use Rattle.session_run.specs.declared.live.actors.Answers.{Answers}
 use Rattle.session_run.specs.declared.live.stages.Stage.{Stage}
 use Rattle.session_run.specs.Actors.{bare}
-use Rattle.session_run.specs.Resuming.{IsFeedAfter, IsResumed, is_broken_off, still_feeds}
+use Rattle.session_run.specs.Resuming.{IsResumed, form_after, is_broken_off, still_feeds}
 use Rattle.session_run.specs.Serving.{FeedRun, HasServed, IsWrittenOut}
 use Rattle.session_run.specs.Stages.{IsClosed, IsReady, LeavesActors, board_of, is_cut_short, ran_of}
 use Rattle.session_run.proofs.Sessions.{served, text-joined, written-out}
@@ -129,8 +129,8 @@ module _ (log feeds desks : ℕ) (stage : Stage) (riders drivers : FeedRun) (hea
         ran of_riders of_drivers (none memory).riders (none memory).drivers (read_both read).0 (read_both read).1 (none memory).sound));
     riders_taken = of_riders.taken;
     drivers_taken = of_drivers.taken;
-    of_riders = subst (λ v. IsFeedAfter v 1 (still_feeds old.start old.feeds old.history 1) riders ran of_riders.taken more) (sym log_is) of_riders.is;
-    of_drivers = subst (λ v. IsFeedAfter v 2 (still_feeds old.start old.feeds old.history 2) drivers ran of_drivers.taken more) (sym log_is) of_drivers.is;
+    of_riders = of_riders.is;
+    of_drivers = of_drivers.is;
     too_long = λ long. by_feed (length-passed answers output.failed broken_off left.desks.first.only.length long);
     broken_off = broken-wanted answers output.failed broken_off;
     written = subst (IsWrittenOut ran first last) text_is
@@ -164,7 +164,7 @@ module _ (log feeds desks : ℕ) (stage : Stage) (riders drivers : FeedRun) (hea
       riders_sink = feeder-sink left.feeds.of_riders
 
       drivers_sink : answers.drivers.sink_failed ≡ false
-      drivers_sink = drivers-sink log drivers answers.drivers stage.board stage.actors.feeds.drivers new.feeds.drivers left.feeds.of_drivers
+      drivers_sink = drivers-sink drivers answers.drivers stage.board stage.actors.feeds.drivers new.feeds.drivers left.feeds.of_drivers
 
       began_so : as_began board ≡ root_of (knowledge stage.actors.scribe)
       began_so = began log stage riders drivers head_failed written now m n answers new ready left board closed
@@ -190,6 +190,7 @@ module _ (log feeds desks : ℕ) (stage : Stage) (riders drivers : FeedRun) (hea
           let f = lengths-fit answers output.failed broken_off fits in
           ((s.0, f.0), (s.1, f.1))
 
-      by_feed : (answers.riders.too_long ≡ true) ⊎ (answers.drivers.too_long ≡ true) → IsTooLong feed_limits of_riders.taken ⊎ IsTooLong feed_limits of_drivers.taken
+      by_feed : (answers.riders.too_long ≡ true) ⊎ (answers.drivers.too_long ≡ true) → IsTooLong (limits_of (form_after old.start 1 old.history).lines) of_riders.taken
+          ⊎ IsTooLong (limits_of (form_after old.start 2 old.history).lines) of_drivers.taken
       by_feed (inl long) = inl (of_riders.too_long long)
       by_feed (inr long) = inr (of_drivers.too_long long)

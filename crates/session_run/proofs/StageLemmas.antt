@@ -17,7 +17,8 @@ use Rattle.ride_ports.specs.declared.outcome.Ran.{Ran}
 use Rattle.ride_ports.proofs.Counts.{KeepsCount-none}
 use Rattle.line_reader.specs.FeedRuns.{IsReadWhole}
 use Rattle.line_reader.specs.Limits.{IsTooLong}
-use Rattle.command_lines.specs.Limits.{feed_limits}
+use Rattle.command_lines.specs.declared.forms.FeedForm.{FeedForm}
+use Rattle.command_lines.specs.Limits.{limits_of}
 use Rattle.model_laws.proofs.Histories.{IsLegal-parts}
 use Rattle.history_laws.specs.Finishing.{gives_up, has_whole_end, is_whole_end}
 use Rattle.board_core.specs.Recorded.{Recorded, state_of}
@@ -27,15 +28,17 @@ use Rattle.fleet_board.specs.Passes.{Known, root_of}
 use Rattle.fleet_board.specs.Sets.{IsPartOf, one_if_some}
 use Rattle.fleet_board.specs.Turns.{as_began}
 use Rattle.fleet_board.proofs.Looking.{root-stays}
+use Rattle.session_loops.specs.Loops.{RunsFeed}
 use Rattle.session_run.specs.declared.live.actors.Actors.{Actors}
 use Rattle.session_run.specs.declared.live.actors.Answers.{Answers}
 use Rattle.session_run.specs.declared.live.desk_pairs.Desk.{Desk}
 use Rattle.session_run.specs.declared.live.feed_pairs.Feeder.{Feeder}
+use Rattle.session_run.specs.declared.live.living.Standing.{Standing}
 use Rattle.session_run.specs.declared.live.stages.Stage.{Stage}
 use Rattle.session_run.specs.Actors.{IsIdle, LeavesDesk, LeavesFeeder}
-use Rattle.session_run.specs.Resuming.{IsFeedAfter, is_broken_off, still_feeds}
+use Rattle.session_run.specs.Resuming.{IsFeedAfter, form_after, is_broken_off, still_feeds}
 use Rattle.session_run.specs.Serving.{FeedRun}
-use Rattle.session_run.specs.Stages.{IsClosed, IsDeskOf, IsEquipped, IsFeederOf, IsReady, LeavesActors, board_of}
+use Rattle.session_run.specs.Stages.{IsClosed, IsDeskOf, IsEquipped, IsFeederOf, IsReady, IsStanding, LeavesActors, board_of}
 use Rattle.session_run.proofs.BrokenOff.{ended-whole, no-feed, none-broken}
 use Rattle.session_run.proofs.DeskParts.{DeskWhole, desk-of, desk-over}
 use Rattle.session_run.proofs.FeedParts.{entries-append, feed-of, part-after}
@@ -65,6 +68,10 @@ pub equip : {roads map : RoadMap} {batch open_one : Option BatchCopy} {lives sti
     → roads ≡ map → batch ≡ open_one → lives ≡ still → IsEquipped map open_one still desk
 equip e maps batches alive = record { pricer_is = e.pricer_is ∙ maps; batch_is = e.batch_is ∙ batches; lives_is = e.lives_is ∙ alive }
 
+-- a feed stands so whatever room the board has
+pub of-bare : {board : Recorded} {feed : ℕ} {standing : Standing} → IsStanding board feed standing → IsStanding (record board { spare = 0 }) feed standing
+of-bare stands = record { lives_is = stands.lives_is; form_is = stands.form_is }
+
 -- two, and one more for each other that there is
 pub four : (a b c d e f : ℕ) → a ≡ 1 → b ≡ e → c ≡ 1 → d ≡ f → a + b + c + d ≡ 2 + e + f
 four a b c d e f first second third last = omega arith
@@ -76,24 +83,24 @@ idle-faults {run} {ran} idle =
     (subst (λ c. KeepsCount false run.faults_before c) (sym idle.no_fault) (KeepsCount-none run.faults_before))
 
 -- a feed has nothing to do with the sink, and counts its source's faults
-module _ {log : ℕ} {run : FeedRun} {ran : Ran} {shared : SharedBoard} {earlier later : Feeder}
-    (leaves : LeavesFeeder shared log run ran earlier later) where
+module _ {run : FeedRun} {ran : Ran} {shared : SharedBoard} {earlier later : Feeder}
+    (leaves : LeavesFeeder shared run ran earlier later) where
   pub feeder-sink : ran.sink_failed ≡ false
-  feeder-sink = elim (cases_Bool earlier.lives) [
+  feeder-sink = elim (cases_Bool earlier.standing.lives) [
     | inl lives ↦ (leaves.going lives).sink
     | inr ended ↦ ap (λ (r : Ran). r.sink_failed) (leaves.over ended).1.ran_is
   ]
 
   pub feeder-faults : KeepsCount ran.source_failed run.faults_before run.faults_after
-  feeder-faults = elim (cases_Bool earlier.lives) [
+  feeder-faults = elim (cases_Bool earlier.standing.lives) [
     | inl lives ↦ (leaves.going lives).faults
     | inr ended ↦ idle-faults (leaves.over ended).1
   ]
 
 -- the same of the feed of drivers, also where there is none
-module _ (log : ℕ) (run : FeedRun) (ran : Ran) (shared : SharedBoard) where
+module _ (run : FeedRun) (ran : Ran) (shared : SharedBoard) where
   abbrev pub LeavesAny : Option Feeder → Option Feeder → Type 0
-  LeavesAny o p = MatchOption o (IsNone p × IsIdle run ran) (λ (earlier : Feeder). IsSomeAnd p (LeavesFeeder shared log run ran earlier))
+  LeavesAny o p = MatchOption o (IsNone p × IsIdle run ran) (λ (earlier : Feeder). IsSomeAnd p (LeavesFeeder shared run ran earlier))
 
   pub drivers-sink : (o p : Option Feeder) → LeavesAny o p → ran.sink_failed ≡ false
   drivers-sink None p (gone, idle) = ap (λ (r : Ran). r.sink_failed) idle.ran_is
@@ -145,8 +152,8 @@ module _ (log : ℕ) (stage : Stage) (riders drivers : FeedRun) (head_failed : B
     -- what a feed that lives, or does not, leaves of the history
     pub record FeederOf (n : ℕ) (run : FeedRun) (own session : Ran) (lives : Bool) : Type 0 where
       pub taken : List ℕ
-      pub is : IsFeedAfter log n lives run session taken more
-      pub too_long : own.too_long ≡ true → IsTooLong feed_limits taken
+      pub is : IsFeedAfter (form_after old.start n old.history) n lives run session taken more
+      pub too_long : own.too_long ≡ true → IsTooLong (limits_of (form_after old.start n old.history).lines) taken
       pub ends_whole : own.no_memory ≡ false → IsReadWhole own → is_broken_off old.history ≡ false
           → n ≤ old.feeds → has_whole_end (entries_of (Feed n) board.history) ≡ true
 
@@ -164,11 +171,11 @@ module _ (log : ℕ) (stage : Stage) (riders drivers : FeedRun) (head_failed : B
     }
 
     feeder-of : (n : ℕ) (run : FeedRun) (own session : Ran) (earlier later : Feeder) → IsOneOrTwo n
-        → IsFeederOf stage.board old n earlier → LeavesFeeder stage.board log run own earlier later
+        → IsFeederOf stage.board old n earlier → LeavesFeeder stage.board run own earlier later
         → IsPartOf board.history (Feed n) (knowledge later.pass) → (session.no_memory ≡ false → own.no_memory ≡ false)
         → FeederOf n run own session (not (has_ended (state_of old) (Feed n)))
     feeder-of n run own session earlier later fits its leaves part memory =
-        subst (FeederOf n run own session) its.lives_is (by_lives earlier.lives refl)
+        subst (FeederOf n run own session) its.stands.lives_is (by_lives earlier.standing.lives refl)
       where
         own_is : (knowledge earlier.pass).own ≡ entries_of (Feed n) old.history
         own_is = own-feed stage ready n earlier fits its
@@ -176,11 +183,13 @@ module _ (log : ℕ) (stage : Stage) (riders drivers : FeedRun) (head_failed : B
         part-on : IsPartOf (old.history ++ more) (Feed n) (knowledge later.pass)
         part-on = subst (λ (es : List Entry). IsPartOf es (Feed n) (knowledge later.pass)) grown part
 
-        by_lives : (b : Bool) → earlier.lives ≡ b → FeederOf n run own session b
+        by_lives : (b : Bool) → earlier.standing.lives ≡ b → FeederOf n run own session b
         by_lives true lives =
             let ran = leaves.going lives in
-            let f = feed-of log n run own session old.history more (knowledge earlier.pass) (knowledge later.pass) fits
-            (ap (λ (k : Known). k.number) its.pass.0.1) own_is ran.runs part-on ran.faults memory in
+            let runs = subst (λ (form : FeedForm). RunsFeed form run.bytes run.left own (knowledge earlier.pass) (knowledge later.pass))
+            its.stands.form_is ran.runs in
+            let f = feed-of (form_after old.start n old.history) n run own session old.history more (knowledge earlier.pass) (knowledge later.pass) fits
+            (ap (λ (k : Known). k.number) its.pass.0.1) own_is runs part-on ran.faults memory in
             record {
               taken = f.taken;
               is = record { going = λ _. f.is; over = λ ended. absurd (true≢false ended) };
@@ -192,7 +201,7 @@ module _ (log : ℕ) (stage : Stage) (riders drivers : FeedRun) (head_failed : B
             none-of n run own session idle
             (part-after (Feed n) old.history more []
             (sym part-on.own_all ∙ ap (λ pass. (knowledge pass).own) same ∙ own_is ∙ sym (append-nil (entries_of (Feed n) old.history))))
-            (λ sound there. ended-before n (ended-whole old.start old.history (Feed n) (started n) (ended-so (has_ended (state_of old) (Feed n)) (sym its.lives_is ∙ ended)) sound))
+            (λ sound there. ended-before n (ended-whole old.start old.history (Feed n) (started n) (ended-so (has_ended (state_of old) (Feed n)) (sym its.stands.lives_is ∙ ended)) sound))
           where
             ended-so : (b : Bool) → not b ≡ false → b ≡ true
             ended-so true is = refl
@@ -240,7 +249,7 @@ module _ (log : ℕ) (stage : Stage) (riders drivers : FeedRun) (head_failed : B
         by_feed : (o p : Option Feeder)
             → MatchOption o (old.feeds ≢ 2) (λ (feeder : Feeder). (old.feeds ≡ 2) × IsFeederOf stage.board old 2 feeder)
             → MatchOption o (IsNone p × IsIdle drivers answers.drivers)
-            (λ (earlier : Feeder). IsSomeAnd p (LeavesFeeder stage.board log drivers answers.drivers earlier))
+            (λ (earlier : Feeder). IsSomeAnd p (LeavesFeeder stage.board drivers answers.drivers earlier))
             → IfSome p (λ (feeder : Feeder). IsPartOf board.history (Feed 2) (knowledge feeder.pass))
             → FeederOf 2 drivers answers.drivers session (still_feeds old.start old.feeds old.history 2)
         by_feed None p other (gone, idle) part = none other idle

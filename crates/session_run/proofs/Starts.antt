@@ -3,11 +3,13 @@ use Rattle.std.proofs.Common.{◌≡◌, ◌≢◌, ℕ, ◌+◌, ◌-◌, ◌�
 use Rattle.std.specs.Prelude.{IfSome, IsFalse, MatchOption, is_some, length}
 use Rattle.ride_model.specs.declared.command.Actor.TheVariants.{Feed, Desk as DeskNumbered}
 use Rattle.ride_model.specs.declared.entry.Entry.{Entry}
-use Rattle.ride_model.specs.History.{entries_of}
+use Rattle.ride_model.specs.History.{entries_of, fed_commands}
 use Rattle.ride_model.specs.Limits.{most_earlier_commands}
 use Rattle.ride_model.specs.Seating.{BatchCopy}
 use Rattle.ride_model.specs.State.{has_ended, open_batch_numbered, open_batch_of}
 use Rattle.ride_model.specs.Text.{IsOneOrTwo}
+use Rattle.command_lines.specs.declared.forms.FeedForm.{FeedForm}
+use Rattle.command_lines.specs.Limits.{IsForm, most_lines}
 use Rattle.board_core.specs.Recorded.{Recorded, state_of}
 use Rattle.turn_lock.specs.Passes.{knowledge}
 use Rattle.fleet_board.specs.Openings.{IsPriceable}
@@ -48,7 +50,7 @@ module _ (stage : Stage) (ready : IsReady stage) where
   own-desk n desk fits its = ap (λ (k : Known). k.own) its.pass.0.1 ∙ items-desk log n old.history told-of.text.lines fits
 
   may-feed : (n : ℕ) (feeder : Feeder) → IsOneOrTwo n → n ≤ old.feeds → IsFeederOf stage.board old n feeder
-      → MayRunFeeder stage.board log feeder
+      → MayRunFeeder stage.board feeder
   may-feed n feeder fits there its = record {
     may_use = its.pass.0.0;
     going = λ lives. record {
@@ -56,12 +58,19 @@ module _ (stage : Stage) (ready : IsReady stage) where
         may_use = its.pass.0.0;
         point = its.pass.1;
         feed = standing-feed old n (knowledge feeder.pass) its.pass.0.1 (fits.0, there)
-            (untrue (has_ended (state_of old) (Feed n)) (sym its.lives_is ∙ lives));
+            (untrue (has_ended (state_of old) (Feed n)) (sym its.stands.lives_is ∙ lives));
       };
-      log_is = sym (ap (λ (k : Known). (root_of k).start.settings.log) its.pass.0.1);
+      form_is = subst IsForm (sym its.stands.form_is) (record {
+        log_fits = told-of.text.log_version;
+        few_lines = fewer (length (fed_commands n old.history));
+      });
+      log_is = ap (λ (f : FeedForm). f.log) its.stands.form_is ∙ sym (ap (λ (k : Known). (root_of k).start.settings.log) its.pass.0.1);
       few = subst (λ (own : List Entry). length (commands_in own) ≤ most_earlier_commands) (sym (own-feed n feeder fits its)) (ready.few n);
     };
   }
+    where
+      fewer : (answered : ℕ) → most_lines - answered ≤ most_lines
+      fewer answered = omega arith
 
   may-desk : (n : ℕ) (desk : Desk) → IsOneOrTwo n → n ≤ old.desks → IsDeskOf stage.board old n desk → MayRunDesk stage.board desk
   may-desk n desk fits there its = record {
@@ -128,7 +137,7 @@ module _ (stage : Stage) (ready : IsReady stage) where
       two = (omega arith, omega arith)
 
       drivers : (o : Option Feeder) → MatchOption o (old.feeds ≢ 2) (λ (feeder : Feeder). (old.feeds ≡ 2) × IsFeederOf stage.board old 2 feeder)
-          → IfSome o (MayRunFeeder stage.board log)
+          → IfSome o (MayRunFeeder stage.board)
       drivers None none = tt
       drivers (Some feeder) (are_two, its) = may-feed 2 feeder two (omega (arith, are_two)) its
 

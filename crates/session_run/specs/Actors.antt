@@ -6,6 +6,8 @@ use Rattle.ride_model.specs.Limits.{most_earlier_commands}
 use Rattle.ride_ports.specs.Count.{KeepsCount}
 use Rattle.ride_ports.specs.declared.outcome.Ran.{Ran}
 use Rattle.ride_ports.specs.declared.sources.Failed.{Failed}
+use Rattle.command_lines.specs.declared.forms.FeedForm.{FeedForm}
+use Rattle.command_lines.specs.Limits.{IsForm}
 use Rattle.board_core.specs.Recorded.{Recorded}
 use Rattle.turn_lock.specs.declared.chronicle.Chronicle.{Ghosts}
 use Rattle.turn_lock.specs.declared.lock.Pass.{Pass}
@@ -60,16 +62,17 @@ pub record HasToldSome (log : ℕ) (head_failed : Bool) (before after : Option (
       → HasPut earlier after faults faults_after (bare (is_err scribed)) (text ++ entry_lines log (take count seen))
 
 module _ {g : Ghosts Kept Recorded Entry} where
-  -- a feed may run: few commands are its own, and they are read by this version of the log
-  pub record MayRunFeed (board : SharedBoard) (log : ℕ) (pass : Pass Kept Recorded Entry g) : Type 0 where
+  -- a feed may run: few commands are its own, and more are read so, by the board's version of the log
+  pub record MayRunFeed (board : SharedBoard) (form : FeedForm) (pass : Pass Kept Recorded Entry g) : Type 0 where
     pub feed : MayFeed board pass
-    pub log_is : log ≡ (root_of (knowledge pass)).start.settings.log
+    pub form_is : IsForm form
+    pub log_is : form.log ≡ (root_of (knowledge pass)).start.settings.log
     pub few : length (commands_in (knowledge pass).own) ≤ most_earlier_commands
 
   -- a feed ran
-  pub record LeavesFeed (board : SharedBoard) (log : ℕ) (run : FeedRun) (ran : Ran) (old new : Pass Kept Recorded Entry g) : Type 0 where
+  pub record LeavesFeed (board : SharedBoard) (form : FeedForm) (run : FeedRun) (ran : Ran) (old new : Pass Kept Recorded Entry g) : Type 0 where
     pub may_use : MayUse board new
-    pub runs : RunsFeed log run.bytes run.left ran (knowledge old) (knowledge new)
+    pub runs : RunsFeed form run.bytes run.left ran (knowledge old) (knowledge new)
     pub sink : ran.sink_failed ≡ false
     pub faults : KeepsCount ran.source_failed run.faults_before run.faults_after
 
@@ -90,15 +93,15 @@ module _ {g : Ghosts Kept Recorded Entry} where
     pub some : HasToldSome log head_failed before after faults_before faults_after scribed count (knowledge new).seen
 
 -- a feed may run, unless it has ended
-pub record MayRunFeeder (board : SharedBoard) (log : ℕ) (feeder : Feeder) : Type 0 where
+pub record MayRunFeeder (board : SharedBoard) (feeder : Feeder) : Type 0 where
   pub may_use : MayUse board feeder.pass
-  pub going : feeder.lives ≡ true → MayRunFeed board log feeder.pass
+  pub going : feeder.standing.lives ≡ true → MayRunFeed board feeder.standing.form feeder.pass
 
 -- a feed ran, or one that had ended did nothing and was not read
-pub record LeavesFeeder (board : SharedBoard) (log : ℕ) (run : FeedRun) (ran : Ran) (old new : Feeder) : Type 0 where
+pub record LeavesFeeder (board : SharedBoard) (run : FeedRun) (ran : Ran) (old new : Feeder) : Type 0 where
   pub may_use : MayUse board new.pass
-  pub going : old.lives ≡ true → LeavesFeed board log run ran old.pass new.pass
-  pub over : old.lives ≡ false → (new.pass ≡ old.pass) × IsIdle run ran
+  pub going : old.standing.lives ≡ true → LeavesFeed board old.standing.form run ran old.pass new.pass
+  pub over : old.standing.lives ≡ false → (new.pass ≡ old.pass) × IsIdle run ran
 
 -- a desk may run, unless it has ended: it prices over the board's map, also the batch that it has open
 pub record MayRunDesk (board : SharedBoard) (desk : Desk) : Type 0 where

@@ -7,6 +7,7 @@ use Rattle.ride_model.specs.History.{fed_commands}
 use Rattle.ride_model.specs.Text.{text_of}
 use Rattle.ride_ports.specs.Bytes.{Reads}
 use Rattle.command_lines.specs.Feeds.{IsStopped, IsWhole}
+use Rattle.command_lines.specs.Limits.{new_feed}
 use Rattle.board_core.specs.Recorded.{Recorded}
 use Rattle.idle_moves.specs.declared.moves.MoveSheet.{MoveSheet}
 use Rattle.idle_moves.specs.AheadText.{head_line, sheet_lines}
@@ -22,19 +23,19 @@ use Rattle.session_run.specs.Running.{IsPrompt, IsSession, IsRunning}
 -- why a session's feed was stopped after these bytes: memory was wanting, or the feed gave no more
 abbrev pub IsEnded : ℕ → Stop → Recorded → Bool → List ℕ → Type 0
 IsEnded log NoMemory board no_memory bytes = IsSession board × (board.feeds ≡ 1) × (no_memory ≡ true)
-IsEnded log (OfFeed stop) board no_memory bytes = IsRunning board no_memory × IsStopped log stop (fed_commands 1 board.history) bytes
+IsEnded log (OfFeed stop) board no_memory bytes = IsRunning board no_memory × IsStopped (new_feed log) stop (fed_commands 1 board.history) bytes
 
 -- a session's feed was answered to its end, or until something stopped it
 abbrev pub HasEnded : ℕ → Option (List ℕ) → Option Stop → Recorded → Bool → List ℕ → Type 0
 HasEnded log left stop board no_memory bytes = MatchOption stop
-    (IsRunning board no_memory × IsWhole log left (fed_commands 1 board.history) bytes)
+    (IsRunning board no_memory × IsWhole (new_feed log) left (fed_commands 1 board.history) bytes)
     (λ why. IsEnded log why board no_memory bytes)
 
 -- of a feed with these bytes some were taken and answered, so that those are left
 pub record HasRun (log : ℕ) (feed left : Option (List ℕ)) (stop : Option Stop) (board : Recorded) (no_memory : Bool) : Type 0 where
   pub taken : List ℕ
   pub reads : Reads feed left taken
-  pub first : AreFirstOf log feed taken (fed_commands 1 board.history)
+  pub first : AreFirstOf (new_feed log) feed taken (fed_commands 1 board.history)
   pub ended : HasEnded log left stop board no_memory taken
 
 -- what was logged is the text of the board's history

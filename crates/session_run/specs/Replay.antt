@@ -13,7 +13,7 @@ use Rattle.ride_model.specs.Text.{HasText}
 use Rattle.ride_ports.specs.declared.outcome.Ran.{Ran}
 use Rattle.command_lines.specs.Commands.{commands_of}
 use Rattle.line_reader.specs.Limits.{IsWithinLimits, IsTooLong}
-use Rattle.command_lines.specs.Limits.{ended_commands, feed_limits}
+use Rattle.command_lines.specs.Limits.{ended_commands, feed_limits, new_feed}
 use Rattle.history_laws.specs.Start.{IsStart}
 use Rattle.line_reader.specs.FeedRuns.{IsReadWhole}
 use Rattle.session_loops.specs.Stops.{AreFirstOf}
@@ -28,7 +28,7 @@ pub record IsWhole (start : State) (taken : List ℕ) (entries : List Entry) : T
 
 -- a feed was answered up to its last whole line within the limits, each accepted ask at once by a commit, and then cut
 pub record IsCut (start : State) (taken : List ℕ) (entries : List Entry) : Type 0 where
-  pub commands : fed_commands 1 entries ≡ ended_commands start.settings.log taken
+  pub commands : fed_commands 1 entries ≡ ended_commands (new_feed start.settings.log) taken
   pub direct : IsDirect entries
   pub none_given_up : IsFalse (list_any (λ (entry : Entry). is_abandoned entry.event) entries)
   pub ended : (replay start entries).ended ≡ (Feed 1, Cut) ∷ (Desk 1, Whole) ∷ []
@@ -48,7 +48,7 @@ pub record IsReplay (start : State) (ran : Ran) (feed : Option (List ℕ)) (take
   pub text : HasText start.settings.log 1 1 entries
   pub promises : KeepsPromises start entries
   pub settled : IsSettled entries
-  pub first : AreFirstOf start.settings.log feed taken (fed_commands 1 entries)
+  pub first : AreFirstOf (new_feed start.settings.log) feed taken (fed_commands 1 entries)
   pub whole : ran.no_memory ≡ false → IsReadWhole ran → IsWhole start taken entries
   pub cut : ran.no_memory ≡ false → (IsReadWhole ran → ⊥) → IsCut start taken entries
   pub within : ran.no_memory ≡ false → ran.too_long ≡ false → IsWithinLimits feed_limits taken

@@ -1,5 +1,5 @@
 -- What a session of two feeds gives.
-use Rattle.std.specs.Prelude.{◌≡◌, ℕ, ◌⊎◌, true, false, List, [], ◌∷◌, ◌++◌, Option, IsTrue, IsFalse}
+use Rattle.std.specs.Prelude.{◌≡◌, ℕ, ◌≤◌, ◌⊎◌, true, false, List, [], ◌∷◌, ◌++◌, Option, IsTrue, IsFalse}
 use Rattle.std.specs.List.{list_any}
 use Rattle.ride_model.specs.declared.command.Actor.TheVariants.{Feed, Desk}
 use Rattle.ride_model.specs.declared.entry.Ending.{Ending}
@@ -15,7 +15,8 @@ use Rattle.ride_ports.specs.Bytes.{Reads, Writes, WritesPrefix}
 use Rattle.ride_ports.specs.Count.{Rose}
 use Rattle.command_lines.specs.Feeds.{IsWhole}
 use Rattle.line_reader.specs.Limits.{IsTooLong}
-use Rattle.command_lines.specs.Limits.{ended_commands, feed_limits}
+use Rattle.command_lines.specs.declared.forms.FeedForm.{FeedForm}
+use Rattle.command_lines.specs.Limits.{ended_commands, feed_limits, limits_of, new_feed}
 use Rattle.history_laws.specs.Start.{IsStart}
 use Rattle.board_core.specs.Recorded.{end_entry}
 use Rattle.session_loops.specs.Loops.{AreFed}
@@ -38,19 +39,28 @@ feed_run left faults before after = record {
   faults_after = faults after;
 }
 
+-- a session counts the faults of two sources: it says that one failed only where a count rose, neither rose where it does not say so, and
+-- no count falls
+pub record CountsFeeds (riders drivers : FeedRun) (ran : Ran) : Type 0 where
+  pub failed : IsTrue ran.source_failed → Rose riders.faults_before riders.faults_after ⊎ Rose drivers.faults_before drivers.faults_after
+  pub riders_sound : IsFalse ran.source_failed → riders.faults_after ≡ riders.faults_before
+  pub drivers_sound : IsFalse ran.source_failed → drivers.faults_after ≡ drivers.faults_before
+  pub riders_never_fall : riders.faults_before ≤ riders.faults_after
+  pub drivers_never_fall : drivers.faults_before ≤ drivers.faults_after
+
 -- a history has this part of a feed, of whose bytes these were taken: the answers to its commands, once and in order, and its
 -- end. It ended whole exactly where all its commands were answered, and where memory was not wanting it was cut exactly where
 -- its own source failed or was too long, after the commands of the lines that an LF ends within the limits
-pub record IsFeedOf (log feed : ℕ) (run : FeedRun) (ran : Ran) (taken : List ℕ) (entries : List Entry) : Type 0 where
+pub record IsFeedOf (form : FeedForm) (feed : ℕ) (run : FeedRun) (ran : Ran) (taken : List ℕ) (entries : List Entry) : Type 0 where
   pub reads : Reads run.bytes run.left taken
   pub answers : List Entry
   pub ending : Ending
   pub part : entries_of (Feed feed) entries ≡ answers ++ end_entry (Feed feed) ending ∷ []
   pub fed : AreFed answers
-  pub first : AreFirstOf log run.bytes taken (fed_commands feed entries)
-  pub whole : ending ≡ Whole → IsWhole log run.left (fed_commands feed entries) taken × (run.faults_after ≡ run.faults_before)
-  pub cut : ran.no_memory ≡ false → ending ≡ Cut → (fed_commands feed entries ≡ ended_commands log taken)
-      × (Rose run.faults_before run.faults_after ⊎ IsTooLong feed_limits taken)
+  pub first : AreFirstOf form run.bytes taken (fed_commands feed entries)
+  pub whole : ending ≡ Whole → IsWhole form run.left (fed_commands feed entries) taken × (run.faults_after ≡ run.faults_before)
+  pub cut : ran.no_memory ≡ false → ending ≡ Cut → (fed_commands feed entries ≡ ended_commands form taken)
+      × (Rose run.faults_before run.faults_after ⊎ IsTooLong (limits_of form.lines) taken)
 
 -- a legal history of so many feeds and desks, which keeps its promises. Where memory was not wanting each desk ended whole and no batch was
 -- given up, and where each feed was read whole too it is finished
@@ -84,7 +94,7 @@ abbrev pub IsServed : State → ℕ → FeedRun → FeedRun → Ran → Option (
 IsServed start desks riders drivers ran before after =
     (riders_taken drivers_taken : List ℕ) × (entries : List Entry)
     × HasServed start 2 desks ran entries
-    × IsFeedOf start.settings.log 1 riders ran riders_taken entries
-    × IsFeedOf start.settings.log 2 drivers ran drivers_taken entries
+    × IsFeedOf (new_feed start.settings.log) 1 riders ran riders_taken entries
+    × IsFeedOf (new_feed start.settings.log) 2 drivers ran drivers_taken entries
     × (ran.too_long ≡ true → IsTooLong feed_limits riders_taken ⊎ IsTooLong feed_limits drivers_taken)
     × IsWrittenOut ran before after (text_of start.settings.log 2 desks entries)

@@ -25,20 +25,27 @@ use Rattle.session_run.specs.declared.live.desk_pairs.Desk.{Desk}
 use Rattle.session_run.specs.declared.live.desk_pairs.Desks.{Desks}
 use Rattle.session_run.specs.declared.live.feed_pairs.Feeder.{Feeder}
 use Rattle.session_run.specs.declared.live.feed_pairs.Feeders.{Feeders}
-use Rattle.session_run.specs.declared.live.stages.Living.{Living}
+use Rattle.session_run.specs.declared.live.living.Living.{Living}
+use Rattle.session_run.specs.declared.live.living.Standing.{Standing}
 use Rattle.session_run.specs.declared.live.stages.Stage.{Stage}
 use Rattle.session_loops.specs.declared.scribes.Scribed.{Scribed}
 use Rattle.session_run.specs.Actors.{IsIdle, LeavesDesk, LeavesFeeder, LeavesScribe, MayRunDesk, MayRunFeeder, MayScribe, either}
+use Rattle.session_run.specs.Resuming.{form_after}
 use Rattle.session_run.specs.Serving.{FeedRun}
 
 -- the board that a session goes on from, by the scribe's pass: as it began, and then with what had happened
 abbrev pub board_of : Stage → Recorded
 board_of stage = record (root_of (knowledge stage.actors.scribe)) { history = (knowledge stage.actors.scribe).seen }
 
+-- a feed of a board stands so: it has not ended, or has, and may have as many lines as one that begins less those that are answered
+pub record IsStanding (board : Recorded) (feed : ℕ) (standing : Standing) : Type 0 where
+  pub lives_is : standing.lives ≡ not (has_ended (state_of board) (Feed feed))
+  pub form_is : standing.form ≡ form_after board.start feed board.history
+
 -- which actors of a board have not ended: of drivers and of a second desk only where there are such
 pub record AreLiving (board : Recorded) (living : Living) : Type 0 where
-  pub riders : living.riders ≡ not (has_ended (state_of board) (Feed 1))
-  pub drivers : board.feeds ≡ 2 → living.drivers ≡ not (has_ended (state_of board) (Feed 2))
+  pub riders : IsStanding board 1 living.riders
+  pub drivers : board.feeds ≡ 2 → IsStanding board 2 living.drivers
   pub first : living.first ≡ not (has_ended (state_of board) (DeskNumbered 1))
   pub second : living.second ≡ not (has_ended (state_of board) (DeskNumbered 2))
 
@@ -51,7 +58,7 @@ pub record IsEquipped (roads : RoadMap) (batch : Option BatchCopy) (lives : Bool
 -- a feed of a board that was shared as it stands, and a desk of one
 pub record IsFeederOf (shared : SharedBoard) (board : Recorded) (feed : ℕ) (feeder : Feeder) : Type 0 where
   pub pass : IsNewPass shared board feed feeder.pass
-  pub lives_is : feeder.lives ≡ not (has_ended (state_of board) (Feed feed))
+  pub stands : IsStanding board feed feeder.standing
 
 pub record IsDeskOf (shared : SharedBoard) (board : Recorded) (number : ℕ) (desk : Desk) : Type 0 where
   pub pass : IsNewPass shared board (number + 2) desk.pass
@@ -93,9 +100,9 @@ pub record IsClosed (actors : Actors) (board : Recorded) : Type 0 where
   pub desk_2 : IfSome actors.desks.second (λ (desk : Desk). IsPartOf board.history (DeskNumbered 2) (knowledge desk.pass))
 
 -- each feed may run
-pub record MayRunFeeds (board : SharedBoard) (log : ℕ) (feeders : Feeders) : Type 0 where
-  pub riders : MayRunFeeder board log feeders.riders
-  pub drivers : IfSome feeders.drivers (MayRunFeeder board log)
+pub record MayRunFeeds (board : SharedBoard) (feeders : Feeders) : Type 0 where
+  pub riders : MayRunFeeder board feeders.riders
+  pub drivers : IfSome feeders.drivers (MayRunFeeder board)
 
 -- each desk may run
 pub record MayRunDesks (board : SharedBoard) (desks : Desks) : Type 0 where
@@ -104,15 +111,15 @@ pub record MayRunDesks (board : SharedBoard) (desks : Desks) : Type 0 where
 
 -- all actors may run
 pub record MayRunActors (board : SharedBoard) (log : ℕ) (actors : Actors) : Type 0 where
-  pub feeds : MayRunFeeds board log actors.feeds
+  pub feeds : MayRunFeeds board actors.feeds
   pub desks : MayRunDesks board actors.desks
   pub scribe : MayScribe board log actors.scribe
 
 -- each feed ran with its answer; of drivers without a feed nothing was read
-pub record LeavesFeeds (board : SharedBoard) (log : ℕ) (riders drivers : FeedRun) (answers : Ran × Ran) (old new : Feeders) : Type 0 where
-  pub of_riders : LeavesFeeder board log riders answers.0 old.riders new.riders
+pub record LeavesFeeds (board : SharedBoard) (riders drivers : FeedRun) (answers : Ran × Ran) (old new : Feeders) : Type 0 where
+  pub of_riders : LeavesFeeder board riders answers.0 old.riders new.riders
   pub of_drivers : MatchOption old.drivers (IsNone new.drivers × IsIdle drivers answers.1)
-      (λ (earlier : Feeder). IsSomeAnd new.drivers (LeavesFeeder board log drivers answers.1 earlier))
+      (λ (earlier : Feeder). IsSomeAnd new.drivers (LeavesFeeder board drivers answers.1 earlier))
 
 -- each desk ran, with one answer of them all
 pub record LeavesDesks (board : SharedBoard) (ran : Ran) (old new : Desks) : Type 0 where
@@ -123,7 +130,7 @@ pub record LeavesDesks (board : SharedBoard) (ran : Ran) (old new : Desks) : Typ
 -- all actors ran
 pub record LeavesActors (board : SharedBoard) (log : ℕ) (riders drivers : FeedRun) (head_failed : Bool)
     (before after : Option (List ℕ)) (faults_before faults_after : ℕ) (answers : Answers) (old new : Actors) : Type 0 where
-  pub feeds : LeavesFeeds board log riders drivers (answers.riders, answers.drivers) old.feeds new.feeds
+  pub feeds : LeavesFeeds board riders drivers (answers.riders, answers.drivers) old.feeds new.feeds
   pub desks : LeavesDesks board answers.desks old.desks new.desks
   pub scribe : LeavesScribe board log head_failed before after faults_before faults_after answers.scribed old.scribe new.scribe
 

@@ -14,7 +14,7 @@ mod session;
 mod tools;
 
 pub use drills::drill;
-pub use live::{Interrupted, Outset, resume, serve};
+pub use live::{Interrupted, Outset, have_few_commands, resume, serve};
 pub use replaying::replay;
 pub use sending::ahead;
 pub use session_loops::{Scribed, desk_loop, feed_loop, scribe_loop, solved};

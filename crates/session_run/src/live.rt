@@ -2,11 +2,13 @@
 mod actors;
 mod desk_pairs;
 mod feed_pairs;
+mod living;
 mod outcomes;
 mod resuming;
 mod serving;
 mod shared;
 mod stages;
 
+pub use living::have_few_commands;
 pub use resuming::{Interrupted, resume};
 pub use serving::{Outset, serve};

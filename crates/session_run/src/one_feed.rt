@@ -9,6 +9,7 @@ ghost use Rattle.ride_model.specs.Limits.{longest_reach};
 ghost use Rattle.ride_ports.specs.Bytes.{Reads};
 ghost use Rattle.ride_ports.specs.Count.{KeepsCount};
 ghost use Rattle.command_lines.specs.Feeds.{HasGiven};
+ghost use Rattle.command_lines.specs.Limits.{new_feed};
 ghost use Rattle.text_page.specs.Output.{IsFresh};
 ghost use Rattle.session_run.specs.Ahead.{IsWrittenBy};
 ghost use Rattle.line_reader.specs.FeedRuns.{is_source_failed};
@@ -19,7 +20,7 @@ ghost use Rattle.session_run.specs.Running.{IsRunning};
 
 use crate::session::Session;
 use adaptive_roads::Roads;
-use command_lines::FeedReader;
+use command_lines::{FeedForm, FeedReader};
 use line_reader::{Stop, is_source_failed, is_too_long};
 use pricing_workers::workers_at_hand;
 use ride_model::{Fleet, NoMemory, Settings};
@@ -94,11 +95,11 @@ fn begun<'r>(
     ensures running { IfOk result (λ made. IsRunning made.0.board made.0.no_memory) }
     ensures log { IfOk result (λ made. IsFresh made.0.log) }
     ensures reach { IfOk result (λ made. made.0.reach ≡ reach) }
-    ensures version { IfOk result (λ made. made.1.log ≡ settings.log) }
+    ensures form { IfOk result (λ made. made.1.form ≡ new_feed settings.log) }
     ensures nothing_given { IfOk result
         (λ made. (left : Option (List ℕ)) → HasGiven made.1 left [] []) }
 {
-    let reader = FeedReader::new(alloc, settings.log)?;
+    let reader = FeedReader::new(alloc, FeedForm::new(settings.log))?;
     let workers = workers_at_hand(rt);
     let session = Session::new(alloc, roads, settings, fleet, workers, reach)?;
     Ok((session, reader))
@@ -113,7 +114,7 @@ fn run_feed<R: Threads + Sync, S: Source, K: Sink>(
     out: &mut K,
 ) -> Option<Stop>
     requires running { IsRunning session.old.board session.old.no_memory }
-    requires version { reader.old.log ≡ session.old.board.start.settings.log }
+    requires form { reader.old.form ≡ new_feed session.old.board.start.settings.log }
     requires nothing_given { HasGiven reader.old (S.left feed.old)
         (fed_commands 1 session.old.board.history) [] }
     ensures ran { HasRun session.old.board.start.settings.log (S.left feed.old)

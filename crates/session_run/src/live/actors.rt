@@ -78,10 +78,10 @@ fn run_all<'r, R: Threads + Wait + Sync, S: Source, K: Sink, G: Gate>(
     out: &mut K,
     head_failed: bool,
 ) -> (Result<Scribed, Failed>, (Ran, (Ran, Ran)))
-    requires feeds { MayRunFeeds shared.now.board.now shared.now.log feeds.old }
+    requires feeds { MayRunFeeds shared.now.board.now feeds.old }
     requires desks { MayRunDesks shared.now.board.now desks.old }
     requires scribe { MayScribe shared.now.board.now shared.now.log scribe.old }
-    ensures feeds { LeavesFeeds shared.now.board.now shared.now.log
+    ensures feeds { LeavesFeeds shared.now.board.now
         (feed_run S.left S.faults riders.old riders.new)
         (feed_run S.left S.faults drivers.old drivers.new) result.1.1 feeds.old feeds.new }
     ensures desks { LeavesDesks shared.now.board.now result.1.0 desks.old desks.new }
@@ -99,9 +99,9 @@ fn run_all<'r, R: Threads + Wait + Sync, S: Source, K: Sink, G: Gate>(
                 result scribe.entry.now scribe.exit.now }
         { run_scribe(shared, scribe, out, head_failed) },
         &mut || -> (Ran, (Ran, Ran))
-            requires { IsSync R.row × MayRunFeeds shared.now.board.now shared.now.log feeds.now
+            requires { IsSync R.row × MayRunFeeds shared.now.board.now feeds.now
                 × MayRunDesks shared.now.board.now desks.now }
-            ensures { LeavesFeeds shared.entry.now.board.now shared.entry.now.log
+            ensures { LeavesFeeds shared.entry.now.board.now
                 (feed_run S.left S.faults riders.entry.now riders.exit.now)
                 (feed_run S.left S.faults drivers.entry.now drivers.exit.now)
                 result.1 feeds.entry.now feeds.exit.now
@@ -118,9 +118,9 @@ fn run_orders<'r, R: Threads + Wait + Sync, S: Source, G: Gate>(
     riders: &mut S,
     drivers: &mut S,
 ) -> (Ran, (Ran, Ran))
-    requires feeds { MayRunFeeds shared.now.board.now shared.now.log feeds.old }
+    requires feeds { MayRunFeeds shared.now.board.now feeds.old }
     requires desks { MayRunDesks shared.now.board.now desks.old }
-    ensures feeds { LeavesFeeds shared.now.board.now shared.now.log
+    ensures feeds { LeavesFeeds shared.now.board.now
         (feed_run S.left S.faults riders.old riders.new)
         (feed_run S.left S.faults drivers.old drivers.new) result.1 feeds.old feeds.new }
     ensures desks { LeavesDesks shared.now.board.now result.0 desks.old desks.new }
@@ -132,8 +132,8 @@ fn run_orders<'r, R: Threads + Wait + Sync, S: Source, G: Gate>(
             ensures { LeavesDesks shared.entry.now.board.now result desks.entry.now desks.exit.now }
         { run_desks(shared, desks) },
         &mut || -> (Ran, Ran)
-            requires { IsSync R.row × MayRunFeeds shared.now.board.now shared.now.log feeds.now }
-            ensures { LeavesFeeds shared.entry.now.board.now shared.entry.now.log
+            requires { IsSync R.row × MayRunFeeds shared.now.board.now feeds.now }
+            ensures { LeavesFeeds shared.entry.now.board.now
                 (feed_run S.left S.faults riders.entry.now riders.exit.now)
                 (feed_run S.left S.faults drivers.entry.now drivers.exit.now)
                 result feeds.entry.now feeds.exit.now }

@@ -3,6 +3,7 @@ ghost use Rattle.session_run.specs.Actors.{LeavesFeeder, MayRunFeeder};
 ghost use Rattle.session_run.specs.Serving.{feed_run};
 ghost use Rattle.session_run.specs.Stages.{LeavesFeeds, MayRunFeeds};
 
+use super::living::Standing;
 use super::outcomes::nothing_wanting;
 use super::shared::Shared;
 use fleet_board::ActorPass;
@@ -11,11 +12,11 @@ use session_loops::feed_loop;
 use std::sync::Wait;
 use std::thread::{Threads, join_mut};
 
-/// A feed: its pass, and whether it has not ended when the session begins.
+/// A feed: its pass, and how it stands when the session begins.
 #[derive(Drop)]
 pub(super) struct Feeder<'r> {
     pub(super) pass: ActorPass<'r>,
-    pub(super) lives: bool,
+    pub(super) standing: Standing,
 }
 
 /// The feed of riders, which is feed 1, and that of drivers, feed 2, where there is one.
@@ -31,11 +32,11 @@ fn run_feed<'r, R: Wait, S: Source, G: Gate>(
     feeder: &mut Feeder<'r>,
     source: &mut S,
 ) -> Ran
-    requires { MayRunFeeder shared.now.board.now shared.now.log feeder.old }
-    ensures { LeavesFeeder shared.now.board.now shared.now.log
+    requires { MayRunFeeder shared.now.board.now feeder.old }
+    ensures { LeavesFeeder shared.now.board.now
         (feed_run S.left S.faults source.old source.new) result feeder.old feeder.new }
 {
-    if !feeder.lives {
+    if !feeder.standing.lives {
         return nothing_wanting();
     }
     feed_loop(
@@ -45,7 +46,7 @@ fn run_feed<'r, R: Wait, S: Source, G: Gate>(
         &mut feeder.pass,
         source,
         shared.gate,
-        shared.log,
+        feeder.standing.form,
     )
 }
 
@@ -57,24 +58,24 @@ fn run_both_feeds<'r, R: Threads + Wait + Sync, S: Source, G: Gate>(
     riders: &mut S,
     drivers: &mut S,
 ) -> (Ran, Ran)
-    requires one { MayRunFeeder shared.now.board.now shared.now.log one.old }
-    requires two { MayRunFeeder shared.now.board.now shared.now.log two.old }
-    ensures one { LeavesFeeder shared.now.board.now shared.now.log
+    requires one { MayRunFeeder shared.now.board.now one.old }
+    requires two { MayRunFeeder shared.now.board.now two.old }
+    ensures one { LeavesFeeder shared.now.board.now
         (feed_run S.left S.faults riders.old riders.new) result.0 one.old one.new }
-    ensures two { LeavesFeeder shared.now.board.now shared.now.log
+    ensures two { LeavesFeeder shared.now.board.now
         (feed_run S.left S.faults drivers.old drivers.new) result.1 two.old two.new }
 {
     join_mut(
         shared.rt,
         &mut || -> Ran
-            requires { MayRunFeeder shared.now.board.now shared.now.log one.now }
-            ensures { LeavesFeeder shared.entry.now.board.now shared.entry.now.log
+            requires { MayRunFeeder shared.now.board.now one.now }
+            ensures { LeavesFeeder shared.entry.now.board.now
                 (feed_run S.left S.faults riders.entry.now riders.exit.now)
                 result one.entry.now one.exit.now }
         { run_feed(shared, one, riders) },
         &mut || -> Ran
-            requires { MayRunFeeder shared.now.board.now shared.now.log two.now }
-            ensures { LeavesFeeder shared.entry.now.board.now shared.entry.now.log
+            requires { MayRunFeeder shared.now.board.now two.now }
+            ensures { LeavesFeeder shared.entry.now.board.now
                 (feed_run S.left S.faults drivers.entry.now drivers.exit.now)
                 result two.entry.now two.exit.now }
         { run_feed(shared, two, drivers) },
@@ -88,8 +89,8 @@ pub(super) fn run_feeds<'r, R: Threads + Wait + Sync, S: Source, G: Gate>(
     riders: &mut S,
     drivers: &mut S,
 ) -> (Ran, Ran)
-    requires { MayRunFeeds shared.now.board.now shared.now.log feeders.old }
-    ensures { LeavesFeeds shared.now.board.now shared.now.log
+    requires { MayRunFeeds shared.now.board.now feeders.old }
+    ensures { LeavesFeeds shared.now.board.now
         (feed_run S.left S.faults riders.old riders.new)
         (feed_run S.left S.faults drivers.old drivers.new) result feeders.old feeders.new }
 {

@@ -1,15 +1,14 @@
 //! Sessions that go on from a board as it stands. One that begins goes on from a board on which nothing happened.
-ghost use Rattle.std.specs.Prelude.{◌≡◌, ◌≢◌, ℕ, ◌≤◌, ◌⊎◌, ◌++◌, [], false, true, drop, is_err, length, All, IfOk, List, Option, IsTrue};
-ghost use Rattle.board_core.specs.Recorded.{Recorded};
+ghost use Rattle.std.specs.Prelude.{◌≡◌, ◌≢◌, ℕ, ◌≤◌, ◌⊎◌, ◌++◌, [], false, true, drop, is_err, length, All, IfOk, List, Option};
 ghost use Rattle.ride_model.specs.declared.entry.Entry.{Entry};
 ghost use Rattle.ride_model.specs.Text.{HasLine, IsOneOrTwo, entry_lines};
 ghost use Rattle.ride_model.specs.Limits.{most_workers};
-ghost use Rattle.ride_ports.specs.Count.{KeepsCount, Rose, most_count};
+ghost use Rattle.ride_ports.specs.Count.{KeepsCount, most_count};
 ghost use Rattle.text_page.specs.Output.{HasPut, IsFresh};
 ghost use Rattle.session_loops.specs.declared.scribes.Scribed.{Scribed};
 ghost use Rattle.session_run.specs.Actors.{bare};
 ghost use Rattle.session_run.specs.Resuming.{IsResumed, MayGoOn, is_broken_off};
-ghost use Rattle.session_run.specs.Serving.{HasNotServed, feed_run};
+ghost use Rattle.session_run.specs.Serving.{CountsFeeds, HasNotServed, feed_run};
 ghost use Rattle.session_run.specs.Stages.{IsReady, MayRunActors, board_of};
 
 use super::actors::run_actors;
@@ -66,15 +65,9 @@ pub fn resume<'r, R: Threads + Wait + Sync, S: Source, K: Sink, G: Gate>(
         (feed_run S.left S.faults riders.old riders.new)
         (feed_run S.left S.faults drivers.old drivers.new) result
         (K.written out.old) (K.written out.new) }
-    ensures source_fault { IsTrue result.source_failed
-        → Rose (S.faults riders.old) (S.faults riders.new)
-        ⊎ Rose (S.faults drivers.old) (S.faults drivers.new) }
-    ensures riders_count_none { result.source_failed ≡ false
-        → S.faults riders.new ≡ S.faults riders.old }
-    ensures drivers_count_none { result.source_failed ≡ false
-        → S.faults drivers.new ≡ S.faults drivers.old }
-    ensures riders_never_fall { S.faults riders.old ≤ S.faults riders.new }
-    ensures drivers_never_fall { S.faults drivers.old ≤ S.faults drivers.new }
+    ensures source_faults { CountsFeeds
+        (feed_run S.left S.faults riders.old riders.new)
+        (feed_run S.left S.faults drivers.old drivers.new) result }
     ensures sink_faults { KeepsCount result.sink_failed (K.faults out.old) (K.faults out.new) }
 {
     match begun(alloc, roads, interrupted) {
@@ -108,15 +101,9 @@ fn run<'r, R: Threads + Wait + Sync, S: Source, K: Sink, G: Gate>(
         (feed_run S.left S.faults riders.old riders.new)
         (feed_run S.left S.faults drivers.old drivers.new)
         result (K.written out.old) (K.written out.new) }
-    ensures source_fault { IsTrue result.source_failed
-        → Rose (S.faults riders.old) (S.faults riders.new)
-        ⊎ Rose (S.faults drivers.old) (S.faults drivers.new) }
-    ensures riders_count_none { result.source_failed ≡ false
-        → S.faults riders.new ≡ S.faults riders.old }
-    ensures drivers_count_none { result.source_failed ≡ false
-        → S.faults drivers.new ≡ S.faults drivers.old }
-    ensures riders_never_fall { S.faults riders.old ≤ S.faults riders.new }
-    ensures drivers_never_fall { S.faults drivers.old ≤ S.faults drivers.new }
+    ensures source_faults { CountsFeeds
+        (feed_run S.left S.faults riders.old riders.new)
+        (feed_run S.left S.faults drivers.old drivers.new) result }
     ensures sink_faults { KeepsCount result.sink_failed (K.faults out.old) (K.faults out.new) }
 {
     let Stage {

@@ -1,11 +1,11 @@
 //! Sessions of two feeds from their beginning.
-ghost use Rattle.std.specs.Prelude.{◌≡◌, ◌≢◌, ◌≤◌, ◌⊎◌, false, IsTrue};
+ghost use Rattle.std.specs.Prelude.{◌≢◌, ◌≤◌, ◌⊎◌, false};
 ghost use Rattle.ride_model.specs.Fleet.{MayStart};
 ghost use Rattle.ride_model.specs.State.{start_state};
 ghost use Rattle.ride_model.specs.Text.{IsOneOrTwo};
 ghost use Rattle.ride_model.specs.Limits.{most_workers};
-ghost use Rattle.ride_ports.specs.Count.{KeepsCount, Rose, most_count};
-ghost use Rattle.session_run.specs.Serving.{HasNotServed, IsServed, feed_run};
+ghost use Rattle.ride_ports.specs.Count.{KeepsCount, most_count};
+ghost use Rattle.session_run.specs.Serving.{CountsFeeds, HasNotServed, IsServed, feed_run};
 
 use super::resuming::{Interrupted, resume};
 use adaptive_roads::Roads;
@@ -51,15 +51,9 @@ pub fn serve<R: Threads + Wait + Sync, S: Source, K: Sink, G: Gate>(
         (feed_run S.left S.faults riders.old riders.new)
         (feed_run S.left S.faults drivers.old drivers.new) result
         (K.written out.old) (K.written out.new) }
-    ensures source_fault { IsTrue result.source_failed
-        → Rose (S.faults riders.old) (S.faults riders.new)
-        ⊎ Rose (S.faults drivers.old) (S.faults drivers.new) }
-    ensures riders_count_none { result.source_failed ≡ false
-        → S.faults riders.new ≡ S.faults riders.old }
-    ensures drivers_count_none { result.source_failed ≡ false
-        → S.faults drivers.new ≡ S.faults drivers.old }
-    ensures riders_never_fall { S.faults riders.old ≤ S.faults riders.new }
-    ensures drivers_never_fall { S.faults drivers.old ≤ S.faults drivers.new }
+    ensures source_faults { CountsFeeds
+        (feed_run S.left S.faults riders.old riders.new)
+        (feed_run S.left S.faults drivers.old drivers.new) result }
     ensures sink_faults { KeepsCount result.sink_failed (K.faults out.old) (K.faults out.new) }
 {
     let Outset {

@@ -1,18 +1,19 @@
 //! A session from before its actors run to after they did.
 ghost use Rattle.std.specs.Prelude.{◌≡◌, ◌≤◌, IfOk, IsSome, MatchOption, None, Some};
-ghost use Rattle.session_run.specs.Resuming.{MayGoOn, breaks_off, is_broken_off};
-ghost use Rattle.session_run.specs.Stages.{AreLiving, IsClosed, IsEquipped, IsReady, MayClose, MayRunActors, board_of};
+ghost use Rattle.session_run.specs.Resuming.{MayGoOn, is_broken_off};
+ghost use Rattle.session_run.specs.Stages.{IsClosed, IsEquipped, IsReady, MayClose, MayRunActors, board_of};
 
 use super::actors::Actors;
 use super::desk_pairs::{Desk, Desks};
 use super::feed_pairs::{Feeder, Feeders};
+use super::living::{Living, Standing, is_broken_off, living_on};
 use super::resuming::Interrupted;
 use adaptive_roads::Roads;
 use batch_commit::Batch;
 use board_core::Board;
 use fleet_board::{ActorPass, PassSet, SharedBoard};
 use pricing_workers::Pricer;
-use ride_model::{Actor, Ending, Entry, Event, NoMemory};
+use ride_model::NoMemory;
 use std::alloc::Global;
 use text_page::Output;
 
@@ -27,16 +28,6 @@ pub(super) struct Stage<'r> {
     pub(super) desks: u8,
     /// Whether an actor was cut, or a batch given up, before the session began.
     pub(super) broken_off: bool,
-}
-
-/// Which actors of a board have not ended, and whether something has happened on it.
-#[derive(Clone, Copy)]
-struct Living {
-    riders: bool,
-    drivers: bool,
-    first: bool,
-    second: bool,
-    has_begun: bool,
 }
 
 /// Takes all memory that a session needs before its actors run.
@@ -68,7 +59,7 @@ pub(super) fn begun<'r>(
     let output = Output::new(alloc)?;
     let feeds = board.feeds();
     let desks = board.desks();
-    let living = living_on(&board);
+    let living = living_on(&board, log);
     let broken_off = is_broken_off(board.entries());
     let (board, passes) = SharedBoard::share(alloc, board)?;
     let actors = actors_of(
@@ -91,38 +82,6 @@ pub(super) fn begun<'r>(
     })
 }
 
-// Which actors of a board have not ended.
-fn living_on(board: &Board<'_>) -> Living
-    ensures { AreLiving board.now result }
-{
-    let two_feeds = board.feeds() == 2;
-    Living {
-        riders: !board.has_ended(Actor::Feed(1)),
-        drivers: two_feeds && !board.has_ended(Actor::Feed(2)),
-        first: !board.has_ended(Actor::Desk(1)),
-        second: !board.has_ended(Actor::Desk(2)),
-        has_begun: !board.entries().is_empty(),
-    }
-}
-
-// Whether one of these entries cuts its actor off, or gives a batch up.
-fn is_broken_off(entries: &[Entry]) -> bool
-    ensures { result ≡ is_broken_off entries.now }
-{
-    entries.iter().any(|entry| breaks_off(entry))
-}
-
-// Whether an entry cuts its actor off, or gives a batch up.
-fn breaks_off(entry: &Entry) -> bool
-    ensures { result ≡ breaks_off entry.now.event }
-{
-    match &entry.event {
-        Event::Finish { ending } => matches!(ending, Ending::Cut),
-        Event::Abandoned { batch: _ } => true,
-        _ => false,
-    }
-}
-
 // The actors of a set of passes, with pricers for their desks, and with the batches that these have open.
 fn actors_of<'r>(
     alloc: Global,
@@ -137,10 +96,11 @@ fn actors_of<'r>(
     requires desk_1 { IsSome passes.desk_1 }
     requires workers { 1 ≤ workers }
     ensures feed_1 { IfOk result (λ actors. (passes.entry.feed_1 ≡ Some actors.feeds.riders.pass)
-        × (actors.feeds.riders.lives ≡ living.riders)) }
+        × (actors.feeds.riders.standing ≡ living.riders)) }
     ensures feed_2 { IfOk result (λ actors. MatchOption actors.feeds.drivers
         (passes.entry.feed_2 ≡ None)
-        (λ feeder. (passes.entry.feed_2 ≡ Some feeder.pass) × (feeder.lives ≡ living.drivers))) }
+        (λ feeder. (passes.entry.feed_2 ≡ Some feeder.pass)
+        × (feeder.standing ≡ living.drivers))) }
     ensures desk_1 { IfOk result (λ actors. (passes.entry.desk_1 ≡ Some actors.desks.first.pass)
         × IsEquipped roads.now first living.first actors.desks.first) }
     ensures desk_2 { IfOk result (λ actors. MatchOption actors.desks.second
@@ -156,7 +116,7 @@ fn actors_of<'r>(
         desk_2,
         scribe,
     } = passes;
-    let waits = living.has_begun && (living.riders || living.drivers);
+    let waits = living.has_begun && (living.riders.lives || living.drivers.lives);
     let Some(riders) = feeder_of(feed_1, living.riders) else {
         unreachable!();
     };
@@ -173,12 +133,12 @@ fn actors_of<'r>(
 }
 
 // The feed of a pass.
-fn feeder_of<'r>(pass: Option<ActorPass<'r>>, lives: bool) -> Option<Feeder<'r>>
+fn feeder_of<'r>(pass: Option<ActorPass<'r>>, standing: Standing) -> Option<Feeder<'r>>
     ensures { MatchOption result (pass.entry ≡ None)
-        (λ feeder. (pass.entry ≡ Some feeder.pass) × (feeder.lives ≡ lives)) }
+        (λ feeder. (pass.entry ≡ Some feeder.pass) × (feeder.standing ≡ standing)) }
 {
     match pass {
-        Some(pass) => Some(Feeder { pass, lives }),
+        Some(pass) => Some(Feeder { pass, standing }),
         None => None,
     }
 }

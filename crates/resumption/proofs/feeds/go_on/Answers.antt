@@ -90,22 +90,20 @@ returns g c =
         ran = ran;
         status_is = c.status.ensures;
         answered = answered;
-        riders_over = riders-over c.args.interrupted.board first second ran _ answered c.resume-ran.ensures.riders_count_none;
-        drivers_over = drivers-over c.args.interrupted.board first second ran _ answered c.resume-ran.ensures.drivers_count_none;
-        source_failed = c.resume-ran.ensures.source_fault;
-        riders_sound = c.resume-ran.ensures.riders_count_none;
-        drivers_sound = c.resume-ran.ensures.drivers_count_none;
+        riders_over = riders-over c.args.interrupted.board first second ran _ answered c.resume-ran.ensures.source_faults.riders_sound;
+        drivers_over = drivers-over c.args.interrupted.board first second ran _ answered c.resume-ran.ensures.source_faults.drivers_sound;
+        counts = c.resume-ran.ensures.source_faults;
       };
       first_spent = λ zero gives.
           let whole = whole-status ran (sym c.status.ensures ∙ zero) in
-          record { no_fault = c.resume-ran.ensures.riders_count_none whole.read.0 ∙ c.in-Ok.ensures.unharmed; to_end = of_riders.to_end whole gives };
+          record { no_fault = c.resume-ran.ensures.source_faults.riders_sound whole.read.0 ∙ c.in-Ok.ensures.unharmed; to_end = of_riders.to_end whole gives };
       second_spent = λ zero gives.
           let whole = whole-status ran (sym c.status.ensures ∙ zero) in
-          record { no_fault = c.resume-ran.ensures.drivers_count_none whole.read.0 ∙ c.in-Ok-bring.ensures.unharmed; to_end = of_drivers.to_end whole gives };
+          record { no_fault = c.resume-ran.ensures.source_faults.drivers_sound whole.read.0 ∙ c.in-Ok-bring.ensures.unharmed; to_end = of_drivers.to_end whole gives };
       shelf_sound = λ zero.
           let whole = whole-status ran (sym c.status.ensures ∙ zero) in
-          c.give_back-3.ensures.sound_counts_none (c.resume-ran.ensures.drivers_count_none whole.read.0 ∙ c.in-Ok-bring.ensures.unharmed)
-          ∙ c.give_back-2.ensures.sound_counts_none (c.resume-ran.ensures.riders_count_none whole.read.0 ∙ c.in-Ok.ensures.unharmed)
+          c.give_back-3.ensures.sound_counts_none (c.resume-ran.ensures.source_faults.drivers_sound whole.read.0 ∙ c.in-Ok-bring.ensures.unharmed)
+          ∙ c.give_back-2.ensures.sound_counts_none (c.resume-ran.ensures.source_faults.riders_sound whole.read.0 ∙ c.in-Ok.ensures.unharmed)
           ∙ c.in-Ok-bring.ensures.ok_counts_none ∙ c.in-Ok.ensures.ok_counts_none;
       sink_sound = λ zero. c.resume-ran.ensures.sink_faults.stays (whole-status ran (sym c.status.ensures ∙ zero)).sink;
       shelf_fault = λ five. subst (λ (k : ℕ). Rose k (g.H.Shelf.faults c.give_back-3.new.self)) (c.in-Ok-bring.ensures.ok_counts_none ∙ c.in-Ok.ensures.ok_counts_none)
@@ -113,6 +111,6 @@ returns g c =
           (λ rose. Rose-then_kept _ _ _ (c.give_back-2.ensures.fault_rises (rose-above _ _ c.in-Ok.ensures.unharmed rose)) c.give_back-3.ensures.count_never_falls)
           (λ rose. Rose-after_kept _ _ _ c.give_back-2.ensures.count_never_falls
           (c.give_back-3.ensures.fault_rises (rose-above _ _ c.in-Ok-bring.ensures.unharmed rose)) c.give_back-3.ensures.count_never_falls)
-          (c.resume-ran.ensures.source_fault (source-status ran (sym c.status.ensures ∙ five))));
+          (c.resume-ran.ensures.source_faults.failed (source-status ran (sym c.status.ensures ∙ five))));
       sink_fault = λ six. c.resume-ran.ensures.sink_faults.rose (sink-status ran (sym c.status.ensures ∙ six));
     }))

@@ -9,6 +9,6 @@ end-requires-clause-may_end g c =
 
 pub returns-clause-ran : goal.returns-clause-ran
 returns-clause-ran g c =
-    runs-feed c.args.log (g.S.Source.left c.args.source.now) (g.S.Source.left c.run_feed-stop.new.source) c.run_feed-stop.result c.ending_of.result
+    runs-feed c.args.form (g.S.Source.left c.args.source.now) (g.S.Source.left c.run_feed-stop.new.source) c.run_feed-stop.result c.ending_of.result
     c.ran_of.result (knowledge c.args.pass.now) (knowledge c.run_feed-stop.new.pass) (knowledge c.end.new.pass) c.run_feed-stop.ensures.submitted
     c.ending_of.ensures c.ran_of.ensures c.end.ensures.entry

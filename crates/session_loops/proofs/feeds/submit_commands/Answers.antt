@@ -2,6 +2,7 @@ use Rattle.std.proofs.Common.{ℕ, ◌++◌, ◌∷◌, [], List, Option, Some, 
 use Rattle.ride_model.specs.declared.command.Command.{Command}
 use Rattle.ride_ports.proofs.ByteLemmas.{Reads-then}
 use Rattle.ride_ports.proofs.Counts.{KeepsCount-none, KeepsCount-then}
+use Rattle.command_lines.specs.declared.forms.FeedForm.{FeedForm}
 use Rattle.command_lines.specs.Feeds.{IsStopped, IsWhole}
 use Rattle.board_core.specs.Recorded.{Recorded}
 use Rattle.turn_lock.specs.Passes.{knowledge}
@@ -36,9 +37,9 @@ commands-preserved g c =
     let after : Known = knowledge c.submit.new.pass in
     record {
       feed = c.submit.ensures.feed;
-      log = c.next_command.ensures.log ∙ c.commands.invariant.log
+      log = ap (λ (f : FeedForm). f.log) c.next_command.ensures.form ∙ c.commands.invariant.log
           ∙ ap (λ (r : Recorded). r.start.settings.log) (sym (root-added before after _ adds.adds));
-      version = c.next_command.ensures.log ∙ c.commands.invariant.version;
+      version = c.next_command.ensures.form ∙ c.commands.invariant.version;
       faults = KeepsCount-then c.commands.invariant.faults c.in-Ok-Some.ensures.faults;
       so_far = fed-more c.commands.reader c.next_command.new.self (g.S.Source.left c.args.source.now) (g.S.Source.left c.commands.source)
           (g.S.Source.left c.next_command.new.source) (knowledge c.args.pass.now) before after c.in-Ok-Some.command more so_far reads_more
@@ -64,16 +65,16 @@ pub returns-in-Err-submit-clause-submitted : goal.returns-in-Err-submit-clause-s
 returns-in-Err-submit-clause-submitted g c =
     let so_far = c.commands.invariant.so_far in
     let (more, reads_more, step) = rw c.in-Ok-Some.field-0-is at c.in-Ok-Some.ensures.given in
-    let log : ℕ = c.args.reader.now.log in
+    let form : FeedForm = c.args.reader.now.form in
     let commands : List Command = so_far.commands ++ c.in-Ok-Some.command ∷ [] in
     let feed : Option (List ℕ) = g.S.Source.left c.args.source.now in
     let left : Option (List ℕ) = g.S.Source.left c.next_command.new.source in
-    submitted log feed left (Some NoMemory) (knowledge c.args.pass.now) (knowledge c.submit.new.pass) (so_far.taken ++ more) so_far.answers so_far.commands
+    submitted form feed left (Some NoMemory) (knowledge c.args.pass.now) (knowledge c.submit.new.pass) (so_far.taken ++ more) so_far.answers so_far.commands
     (answered-same (knowledge c.args.pass.now) (knowledge c.commands.pass) (knowledge c.submit.new.pass) so_far.answers so_far.commands so_far.answered
     c.in-Err-submit.ensures.no_memory)
     (Reads-then so_far.reads reads_more)
-    (fewer-first log feed (so_far.taken ++ more) so_far.commands commands (c.in-Ok-Some.command ∷ [], refl)
-    (given-first-of c.next_command.new.self log feed left commands (so_far.taken ++ more) (c.next_command.ensures.log ∙ c.commands.invariant.version)
+    (fewer-first form feed (so_far.taken ++ more) so_far.commands commands (c.in-Ok-Some.command ∷ [], refl)
+    (given-first-of c.next_command.new.self form feed left commands (so_far.taken ++ more) (c.next_command.ensures.form ∙ c.commands.invariant.version)
     (Reads-then so_far.reads reads_more) (step so_far.commands so_far.taken so_far.given)))
     tt
 
@@ -81,28 +82,28 @@ pub returns-in-Ok-None-clause-submitted : goal.returns-in-Ok-None-clause-submitt
 returns-in-Ok-None-clause-submitted g c =
     let so_far = c.commands.invariant.so_far in
     let (more, reads_more, step) = rw c.in-Ok-None.field-0-is at c.in-Ok-None.ensures.given in
-    let log : ℕ = c.args.reader.now.log in
+    let form : FeedForm = c.args.reader.now.form in
     let feed : Option (List ℕ) = g.S.Source.left c.args.source.now in
     let left : Option (List ℕ) = g.S.Source.left c.next_command.new.source in
-    let whole : IsWhole log left so_far.commands (so_far.taken ++ more)
-    = subst (λ n. IsWhole n left so_far.commands (so_far.taken ++ more)) c.commands.invariant.version (step so_far.commands so_far.taken so_far.given) in
-    submitted log feed left None (knowledge c.args.pass.now) (knowledge c.commands.pass) (so_far.taken ++ more) so_far.answers so_far.commands
+    let whole : IsWhole form left so_far.commands (so_far.taken ++ more)
+    = subst (λ (f : FeedForm). IsWhole f left so_far.commands (so_far.taken ++ more)) c.commands.invariant.version (step so_far.commands so_far.taken so_far.given) in
+    submitted form feed left None (knowledge c.args.pass.now) (knowledge c.commands.pass) (so_far.taken ++ more) so_far.answers so_far.commands
     so_far.answered (Reads-then so_far.reads reads_more)
-    (whole-first-of log feed left so_far.commands (so_far.taken ++ more) (Reads-then so_far.reads reads_more) whole) whole
+    (whole-first-of form feed left so_far.commands (so_far.taken ++ more) (Reads-then so_far.reads reads_more) whole) whole
 
 pub returns-in-Err-clause-submitted : goal.returns-in-Err-clause-submitted
 returns-in-Err-clause-submitted g c =
     let so_far = c.commands.invariant.so_far in
     let (more, reads_more, step) = c.in-Err.ensures.given in
-    let log : ℕ = c.args.reader.now.log in
+    let form : FeedForm = c.args.reader.now.form in
     let feed : Option (List ℕ) = g.S.Source.left c.args.source.now in
     let left : Option (List ℕ) = g.S.Source.left c.next_command.new.source in
-    let stopped : IsStopped log c.in-Err.stop so_far.commands (so_far.taken ++ more)
-    = subst (λ n. IsStopped n c.in-Err.stop so_far.commands (so_far.taken ++ more)) c.commands.invariant.version
+    let stopped : IsStopped form c.in-Err.stop so_far.commands (so_far.taken ++ more)
+    = subst (λ (f : FeedForm). IsStopped f c.in-Err.stop so_far.commands (so_far.taken ++ more)) c.commands.invariant.version
     (step so_far.commands so_far.taken so_far.given) in
-    submitted log feed left (Some (OfFeed c.in-Err.stop)) (knowledge c.args.pass.now) (knowledge c.commands.pass) (so_far.taken ++ more) so_far.answers
+    submitted form feed left (Some (OfFeed c.in-Err.stop)) (knowledge c.args.pass.now) (knowledge c.commands.pass) (so_far.taken ++ more) so_far.answers
     so_far.commands so_far.answered (Reads-then so_far.reads reads_more)
-    (stopped-first-of log feed left c.in-Err.stop so_far.commands (so_far.taken ++ more) (Reads-then so_far.reads reads_more) stopped) stopped
+    (stopped-first-of form feed left c.in-Err.stop so_far.commands (so_far.taken ++ more) (Reads-then so_far.reads reads_more) stopped) stopped
 
 -- the source failed only where it gave the stop
 pub returns-in-Err-submit-clause-faults : goal.returns-in-Err-submit-clause-faults

@@ -10,8 +10,8 @@ use Rattle.session_loops.proofs.feeds.submit_commands.Given as goal
 abbrev pub invariant-commands : goal.invariant-commands
 invariant-commands g l = record {
   feed : MayFeed l.board l.pass;
-  log : l.reader.log ≡ (root_of (knowledge l.pass)).start.settings.log;
-  version : l.reader.log ≡ l.initial.reader.log;
+  log : l.reader.form.log ≡ (root_of (knowledge l.pass)).start.settings.log;
+  version : l.reader.form ≡ l.initial.reader.form;
   faults : KeepsCount false (g.S.Source.faults l.initial.source) (g.S.Source.faults l.source);
   so_far : HasFedSoFar l.reader (g.S.Source.left l.initial.source) (g.S.Source.left l.source) (knowledge l.initial.pass) (knowledge l.pass);
 }

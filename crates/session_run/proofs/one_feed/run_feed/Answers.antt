@@ -3,6 +3,8 @@ use Rattle.ride_model.specs.declared.command.Command.{Command}
 use Rattle.ride_model.specs.History.{fed_commands}
 use Rattle.ride_ports.proofs.ByteLemmas.{Reads-none, Reads-then}
 use Rattle.ride_ports.proofs.Counts.{KeepsCount-none, KeepsCount-then}
+use Rattle.command_lines.specs.declared.forms.FeedForm.{FeedForm}
+use Rattle.command_lines.specs.Limits.{new_feed}
 use Rattle.command_lines.specs.Feeds.{HasGiven, IsStopped, IsWhole}
 use Rattle.command_lines.proofs.ReaderLemmas.{given-few}
 use Rattle.session_loops.proofs.FeedEnds.{fault-stops}
@@ -13,7 +15,7 @@ use Rattle.session_run.proofs.one_feed.run_feed.Goals as goal
 pub take_command-requires-clause-few : goal.take_command-requires-clause-few
 take_command-requires-clause-few g c =
     let (taken, reads, given) = c.commands.invariant.given in
-    let few = given-few c.commands.reader _ (fed_commands 1 c.commands.session.board.history) taken given in omega (arith, few)
+    let few = given-few c.commands.reader _ (fed_commands 1 c.commands.session.board.history) taken given in omega (arith, few, given.form_is.few_lines)
 
 pub commands-preserved : goal.commands-preserved
 commands-preserved g c =
@@ -25,7 +27,7 @@ commands-preserved g c =
       running = c.in-Ok.ensures.running;
       start = c.take_command.ensures.start ∙ c.commands.invariant.start;
       reach = c.take_command.ensures.reach ∙ c.commands.invariant.reach;
-      version = c.next_command.ensures.log ∙ c.commands.invariant.version;
+      form = c.next_command.ensures.form ∙ c.commands.invariant.form;
       faults = KeepsCount-then c.commands.invariant.faults c.in-Ok-Some.ensures.faults;
       given = (
         taken ++ more,
@@ -42,22 +44,22 @@ commands-smaller g c =
     let (more, reads_more, step) = rw c.in-Ok-Some.field-0-is at c.in-Ok-Some.ensures.given in
     let old : List Command = fed_commands 1 c.commands.session.board.history in
     let few = given-few c.next_command.new.self (g.S.Source.left c.next_command.new.source) (old ++ c.in-Ok-Some.command ∷ []) (taken ++ more) (step old taken given) in
-    omega (arith, few, ap length c.in-Ok.ensures.commands, length-append old (c.in-Ok-Some.command ∷ []))
+    omega (arith, few, given.form_is.few_lines, ap (λ (f : FeedForm). f.lines) c.next_command.ensures.form, ap length c.in-Ok.ensures.commands, length-append old (c.in-Ok-Some.command ∷ []))
 
 pub returns-in-Err-take_command-clause-ran : goal.returns-in-Err-take_command-clause-ran
 returns-in-Err-take_command-clause-ran g c =
     let (taken, reads, given) = c.commands.invariant.given in
     let (more, reads_more, step) = rw c.in-Ok-Some.field-0-is at c.in-Ok-Some.ensures.given in
-    let log : ℕ = c.args.session.now.board.start.settings.log in
+    let form : FeedForm = new_feed c.args.session.now.board.start.settings.log in
     let old : List Command = fed_commands 1 c.commands.session.board.history in
     record {
       taken = taken ++ more;
       reads = Reads-then reads reads_more;
-      first = fewer-first log (g.S.Source.left c.args.feed.now) (taken ++ more) (fed_commands 1 c.take_command.new.self.board.history)
+      first = fewer-first form (g.S.Source.left c.args.feed.now) (taken ++ more) (fed_commands 1 c.take_command.new.self.board.history)
           (old ++ c.in-Ok-Some.command ∷ [])
           (stops-first c.in-Ok-Some.command c.commands.session.board c.take_command.new.self.board c.in-Err-take_command.ensures.stopped)
-          (given-first-of c.next_command.new.self log (g.S.Source.left c.args.feed.now) (g.S.Source.left c.next_command.new.source)
-          (old ++ c.in-Ok-Some.command ∷ []) (taken ++ more) (c.next_command.ensures.log ∙ c.commands.invariant.version) (Reads-then reads reads_more)
+          (given-first-of c.next_command.new.self form (g.S.Source.left c.args.feed.now) (g.S.Source.left c.next_command.new.source)
+          (old ++ c.in-Ok-Some.command ∷ []) (taken ++ more) (c.next_command.ensures.form ∙ c.commands.invariant.form) (Reads-then reads reads_more)
           (step old taken given));
       ended = (
         c.in-Err-take_command.ensures.stopped.session,
@@ -74,14 +76,14 @@ pub returns-in-Err-clause-ran : goal.returns-in-Err-clause-ran
 returns-in-Err-clause-ran g c =
     let (taken, reads, given) = c.commands.invariant.given in
     let (more, reads_more, step) = c.in-Err.ensures.given in
-    let log : ℕ = c.args.session.now.board.start.settings.log in
+    let form : FeedForm = new_feed c.args.session.now.board.start.settings.log in
     let fed : List Command = fed_commands 1 c.commands.session.board.history in
-    let stopped : IsStopped log c.in-Err.stop fed (taken ++ more)
-    = subst (λ n. IsStopped n c.in-Err.stop fed (taken ++ more)) c.commands.invariant.version (step fed taken given) in
+    let stopped : IsStopped form c.in-Err.stop fed (taken ++ more)
+    = subst (λ (f : FeedForm). IsStopped f c.in-Err.stop fed (taken ++ more)) c.commands.invariant.form (step fed taken given) in
     record {
       taken = taken ++ more;
       reads = Reads-then reads reads_more;
-      first = stopped-first-of log (g.S.Source.left c.args.feed.now) (g.S.Source.left c.next_command.new.source) c.in-Err.stop fed (taken ++ more)
+      first = stopped-first-of form (g.S.Source.left c.args.feed.now) (g.S.Source.left c.next_command.new.source) c.in-Err.stop fed (taken ++ more)
           (Reads-then reads reads_more) stopped;
       ended = (c.commands.invariant.running, stopped);
     }
@@ -90,15 +92,15 @@ pub returns-in-Ok-None-clause-ran : goal.returns-in-Ok-None-clause-ran
 returns-in-Ok-None-clause-ran g c =
     let (taken, reads, given) = c.commands.invariant.given in
     let (more, reads_more, step) = rw c.in-Ok-None.field-0-is at c.in-Ok-None.ensures.given in
-    let log : ℕ = c.args.session.now.board.start.settings.log in
+    let form : FeedForm = new_feed c.args.session.now.board.start.settings.log in
     let left : Option (List ℕ) = g.S.Source.left c.next_command.new.source in
     let fed : List Command = fed_commands 1 c.commands.session.board.history in
-    let whole : IsWhole log left fed (taken ++ more)
-    = subst (λ n. IsWhole n left fed (taken ++ more)) c.commands.invariant.version (step fed taken given) in
+    let whole : IsWhole form left fed (taken ++ more)
+    = subst (λ (f : FeedForm). IsWhole f left fed (taken ++ more)) c.commands.invariant.form (step fed taken given) in
     record {
       taken = taken ++ more;
       reads = Reads-then reads reads_more;
-      first = whole-first-of log (g.S.Source.left c.args.feed.now) left fed (taken ++ more) (Reads-then reads reads_more) whole;
+      first = whole-first-of form (g.S.Source.left c.args.feed.now) left fed (taken ++ more) (Reads-then reads reads_more) whole;
       ended = (c.commands.invariant.running, whole);
     }
 
@@ -108,7 +110,7 @@ commands-init g c = record {
   running = c.requires.running;
   start = refl;
   reach = refl;
-  version = c.requires.version;
+  form = c.requires.form;
   faults = KeepsCount-none (g.S.Source.faults c.args.feed.now);
   given = ([], Reads-none (g.S.Source.left c.args.feed.now), c.requires.nothing_given);
   told = λ earlier faults has. has;

@@ -3,6 +3,7 @@ use Rattle.ride_model.specs.History.{fed_commands}
 use Rattle.ride_ports.specs.Bytes.{Reads}
 use Rattle.ride_ports.specs.Count.{KeepsCount}
 use Rattle.command_lines.specs.Feeds.{HasGiven}
+use Rattle.command_lines.specs.Limits.{new_feed}
 use Rattle.session_run.specs.Reading.{HasTold}
 use Rattle.session_run.specs.Running.{IsRunning}
 use Rattle.session_run.proofs.one_feed.run_feed.Given as goal
@@ -13,7 +14,7 @@ invariant-commands g l = record {
   running : IsRunning l.session.board l.session.no_memory;
   start : l.session.board.start ≡ l.initial.session.board.start;
   reach : l.session.reach ≡ l.initial.session.reach;
-  version : l.reader.log ≡ l.initial.session.board.start.settings.log;
+  form : l.reader.form ≡ new_feed l.initial.session.board.start.settings.log;
   faults : KeepsCount false (g.S.Source.faults l.initial.feed) (g.S.Source.faults l.feed);
   given : (taken : List ℕ) × Reads (g.S.Source.left l.initial.feed) (g.S.Source.left l.feed) taken
       × HasGiven l.reader (g.S.Source.left l.feed) (fed_commands 1 l.session.board.history) taken;

@@ -11,6 +11,7 @@ use Rattle.board_core.specs.Recorded.{Recorded, state_of, end_entry}
 use Rattle.ride_ports.specs.Count.{KeepsCount}
 use Rattle.ride_ports.proofs.Counts.{KeepsCount-none}
 use Rattle.line_reader.specs.declared.stops.Stop.{Stop}
+use Rattle.command_lines.specs.Limits.{new_feed}
 use Rattle.command_lines.specs.Feeds.{HasGiven}
 use Rattle.session_run.specs.SessionState.{SessionState}
 use Rattle.session_loops.specs.Stops.{AreFirstOf, ending_of}
@@ -57,8 +58,8 @@ returns-clause-session g c =
     let left : Option (List ℕ) = g.S.Source.left c.run_feed-stop.new.feed in
     let ended : HasEnded old.start.settings.log left stop old no_memory taken =
     subst (λ n. HasEnded n left stop old no_memory taken) log runs.ended in
-    let first : AreFirstOf old.start.settings.log (g.S.Source.left c.args.feed.now) taken (fed_commands 1 old.history) =
-    subst (λ n. AreFirstOf n (g.S.Source.left c.args.feed.now) taken (fed_commands 1 old.history)) log runs.first in
+    let first : AreFirstOf (new_feed old.start.settings.log) (g.S.Source.left c.args.feed.now) taken (fed_commands 1 old.history) =
+    subst (λ n. AreFirstOf (new_feed n) (g.S.Source.left c.args.feed.now) taken (fed_commands 1 old.history)) log runs.first in
     let history : new.history ≡ old.history ++ end_entry (Feed 1) (ending_of stop)
     ∷ end_entry (Desk 1) (cond (eqb (state_of old).opened (state_of old).asked) Whole Cut) ∷ [] =
     subst (λ (e : Ending). new.history ≡ old.history ++ end_entry (Feed 1) e

@@ -3,6 +3,7 @@ use Rattle.std.proofs.lemmas.Result.{err_from_is_err_and}
 use Rattle.ride_model.specs.declared.command.Command.{Command}
 use Rattle.ride_ports.proofs.ByteLemmas.{Reads-then}
 use Rattle.command_lines.specs.Commands.{before}
+use Rattle.command_lines.specs.declared.forms.FeedForm.{FeedForm}
 use Rattle.command_lines.specs.Feeds.{FeedState, HasGiven, IsStopped}
 use Rattle.command_lines.proofs.ReaderLemmas.{going}
 use Rattle.command_lines.proofs.feeds.FeedReader.next_command.Goals as goal
@@ -16,11 +17,11 @@ returns-in_err-command-clause-given g c =
       more ++ piece,
       Reads-then reads reads_piece,
       λ commands bytes given.
-          let stopped : IsStopped c.loop-self.self.log c.in_err-command.field-0.0 commands ((bytes ++ more) ++ piece)
+          let stopped : IsStopped c.loop-self.self.form c.in_err-command.field-0.0 commands ((bytes ++ more) ++ piece)
           = step commands (bytes ++ more) (going c.loop-self.self _ commands (bytes ++ more) goes (so_far commands bytes given)) in
           rw (failed.1, failed.2)
-          (subst (λ (l : List ℕ). IsStopped c.args.self.now.log c.in_err-command.field-0.0 commands l) (append_assoc bytes more piece)
-          (subst (λ n. IsStopped n c.in_err-command.field-0.0 commands ((bytes ++ more) ++ piece)) c.loop-self.invariant.log stopped)),
+          (subst (λ (l : List ℕ). IsStopped c.args.self.now.form c.in_err-command.field-0.0 commands l) (append_assoc bytes more piece)
+          (subst (λ (f : FeedForm). IsStopped f c.in_err-command.field-0.0 commands ((bytes ++ more) ++ piece)) c.loop-self.invariant.form stopped)),
     )
 
 pub returns-in-Some-clause-given : goal.returns-in-Some-clause-given
@@ -44,7 +45,7 @@ loop-self-preserved g c =
     let goes : c.loop-self.self.ended ≡ false = cc (c.loop-self-test.true, ap (λ (r : FeedState). r.ended) c.self.view_is) in
     let left : Option (List ℕ) = g.S.Source.left c.next_line.new.source in
     record {
-      log = c.next_line.ensures.log ∙ c.loop-self.invariant.log;
+      form = c.next_line.ensures.form ∙ c.loop-self.invariant.form;
       count = c.in_ok-command.ensures.faults.stays (refl {a = false}) ∙ c.loop-self.invariant.count;
       given = (
         more ++ piece,

@@ -1,12 +1,13 @@
 use Rattle.std.proofs.Common.{ℕ, ◌+◌, ◌++◌, [], List, Option, true, length, refl, ap, sym, subst, ◌∙◌}
 use Rattle.std.specs.Prelude.{IfSome}
 use Rattle.ride_model.specs.declared.command.Command.{Command}
-use Rattle.ride_model.specs.Text.{IsOneOrTwo, IsSpelledCommand}
+use Rattle.ride_model.specs.Text.{IsSpelledCommand}
 use Rattle.line_text.specs.Lines.{ended_lines}
 use Rattle.line_reader.specs.declared.answers.NextLine.{NextLine}
 use Rattle.line_reader.specs.declared.limits.Limits.{Limits}
 use Rattle.line_reader.specs.Reader.{IsAtEnd, IsNext}
 use Rattle.command_lines.specs.Commands.{before}
+use Rattle.command_lines.specs.Limits.{IsForm}
 use Rattle.command_lines.specs.Feeds.{FeedState, HasCut, HasGiven, IsStopped}
 use Rattle.command_lines.proofs.ReaderLemmas.{given-end, given-last, given-line, number-last, number-next, stopped}
 use Rattle.command_lines.proofs.feeds.FeedReader.next_line.Goals as goal
@@ -14,8 +15,8 @@ use Rattle.command_lines.proofs.feeds.FeedReader.next_line.Goals as goal
 pub returns-in-Ok-Line-clause-given : goal.returns-in-Ok-Line-clause-given
 returns-in-Ok-Line-clause-given g c =
     let left : Option (List ℕ) = g.S.Source.left c.next.new.source in
-    let old : FeedState = record { log = c.self.inside.log; lines = c.self.inside.lines; ended = c.self.inside.ended } in
-    let new : FeedState = record { log = c.self.inside.log; lines = c.next.new.self; ended = c.self.inside.ended } in
+    let old : FeedState = record { form = c.self.inside.form; lines = c.self.inside.lines; ended = c.self.inside.ended } in
+    let new : FeedState = record { form = c.self.inside.form; lines = c.next.new.self; ended = c.self.inside.ended } in
     let (more, reads, step) = c.in-Ok-Line.ensures.next in (
       more,
       reads,
@@ -24,17 +25,18 @@ returns-in-Ok-Line-clause-given g c =
           let (line, next) = subst (λ (n : NextLine). IsNext left c.next.new.self has.cut (old.lines.pending ++ more) n) c.in-Ok-Line.field-0-is
           (step has.cut has.given) in
           let said = c.said.ensures.said (length (ended_lines has.cut) + 1) line
-          (number-next c.next.new.self has.cut (old.lines.pending ++ more) line (c.next.ensures.limits ∙ has.limits) next) next.shown in
+          (number-next old.form.lines c.next.new.self has.cut (old.lines.pending ++ more) line (subst (λ (r : FeedState). IsForm r.form) (sym c.self.view_is) c.requires.form).few_lines
+          (c.next.ensures.limits ∙ has.limits) next) next.shown in
           subst (λ (o : Option Command). HasGiven new left (commands ++ before o []) (bytes ++ more)) (sym said)
-          (given-line old new left commands bytes more has (subst (λ (r : FeedState). IsOneOrTwo r.log) (sym c.self.view_is) c.requires.log) refl line
+          (given-line old new left commands bytes more has (subst (λ (r : FeedState). IsForm r.form) (sym c.self.view_is) c.requires.form) refl line
           (ap (λ (r : FeedState). r.ended) c.self.view_is ∙ c.requires.going) c.next.ensures.limits next),
     )
 
 pub returns-in-Ok-Unfinished-clause-given : goal.returns-in-Ok-Unfinished-clause-given
 returns-in-Ok-Unfinished-clause-given g c =
     let left : Option (List ℕ) = g.S.Source.left c.next.new.source in
-    let old : FeedState = record { log = c.self.inside.log; lines = c.self.inside.lines; ended = c.self.inside.ended } in
-    let new : FeedState = record { log = c.self.inside.log; lines = c.next.new.self; ended = true } in
+    let old : FeedState = record { form = c.self.inside.form; lines = c.self.inside.lines; ended = c.self.inside.ended } in
+    let new : FeedState = record { form = c.self.inside.form; lines = c.next.new.self; ended = true } in
     let (more, reads, step) = c.in-Ok-Unfinished.ensures.next in (
       more,
       reads,
@@ -45,21 +47,22 @@ returns-in-Ok-Unfinished-clause-given g c =
           let end : IsAtEnd left old.lines.limits has.cut (old.lines.pending ++ more)
           = subst (λ (l : Limits). IsAtEnd left l has.cut (old.lines.pending ++ more)) c.next.ensures.limits at_end in
           let said = c.said-in-Ok-Unfinished.ensures.said (length (ended_lines has.cut) + 1) (old.lines.pending ++ more)
-          (number-last left old.lines.limits has.cut (old.lines.pending ++ more) has.limits end some) shown in
+          (number-last old.form.lines left old.lines.limits has.cut (old.lines.pending ++ more)
+          (subst (λ (r : FeedState). IsForm r.form) (sym c.self.view_is) c.requires.form).few_lines has.limits end some) shown in
           subst (λ (o : Option Command). HasGiven new left (commands ++ before o []) (bytes ++ more)) (sym said)
-          (given-last old new left commands bytes more has (subst (λ (r : FeedState). IsOneOrTwo r.log) (sym c.self.view_is) c.requires.log) refl
+          (given-last old new left commands bytes more has (subst (λ (r : FeedState). IsForm r.form) (sym c.self.view_is) c.requires.form) refl
           refl end some),
     )
 
 pub returns-in-Ok-Unfinished-clause-spelled : goal.returns-in-Ok-Unfinished-clause-spelled
 returns-in-Ok-Unfinished-clause-spelled g c =
-    subst (λ (r : FeedState). IfSome c.said-in-Ok-Unfinished.result (IsSpelledCommand r.log)) c.self.view_is c.said-in-Ok-Unfinished.ensures.spelled
+    subst (λ (r : FeedState). IfSome c.said-in-Ok-Unfinished.result (IsSpelledCommand r.form.log)) c.self.view_is c.said-in-Ok-Unfinished.ensures.spelled
 
 pub returns-in-Ok-End-clause-given : goal.returns-in-Ok-End-clause-given
 returns-in-Ok-End-clause-given g c =
     let left : Option (List ℕ) = g.S.Source.left c.next.new.source in
-    let old : FeedState = record { log = c.self.inside.log; lines = c.self.inside.lines; ended = c.self.inside.ended } in
-    let new : FeedState = record { log = c.self.inside.log; lines = c.next.new.self; ended = true } in
+    let old : FeedState = record { form = c.self.inside.form; lines = c.self.inside.lines; ended = c.self.inside.ended } in
+    let new : FeedState = record { form = c.self.inside.form; lines = c.next.new.self; ended = true } in
     let (more, reads, step) = c.in-Ok-End.ensures.next in (
       more,
       reads,
@@ -67,19 +70,19 @@ returns-in-Ok-End-clause-given g c =
           let has : HasCut old commands bytes = subst (λ (r : FeedState). HasCut r commands bytes) (sym c.self.view_is) given in
           let (at_end, none) = subst (λ (n : NextLine). IsNext left c.next.new.self has.cut (old.lines.pending ++ more) n) c.in-Ok-End.field-0-is
           (step has.cut has.given) in
-          given-end old new left commands bytes more has (subst (λ (r : FeedState). IsOneOrTwo r.log) (sym c.self.view_is) c.requires.log) refl refl
+          given-end old new left commands bytes more has (subst (λ (r : FeedState). IsForm r.form) (sym c.self.view_is) c.requires.form) refl refl
           (subst (λ (l : Limits). IsAtEnd left l has.cut (old.lines.pending ++ more)) c.next.ensures.limits at_end) none,
     )
 
 pub returns-in-Err-clause-given : goal.returns-in-Err-clause-given
 returns-in-Err-clause-given g c =
-    let old : FeedState = record { log = c.self.inside.log; lines = c.self.inside.lines; ended = c.self.inside.ended } in
+    let old : FeedState = record { form = c.self.inside.form; lines = c.self.inside.lines; ended = c.self.inside.ended } in
     let (more, reads, step) = c.in-Err.ensures.next in (
       more,
       reads,
       λ commands bytes given.
           let has : HasCut old commands bytes = subst (λ (r : FeedState). HasCut r commands bytes) (sym c.self.view_is) given in
-          subst (λ (r : FeedState). IsStopped r.log c.in-Err.stop commands (bytes ++ more)) c.self.view_is
+          subst (λ (r : FeedState). IsStopped r.form c.in-Err.stop commands (bytes ++ more)) c.self.view_is
           (stopped old old (g.S.Source.left c.next.new.source) commands bytes more has
-          (subst (λ (r : FeedState). IsOneOrTwo r.log) (sym c.self.view_is) c.requires.log) refl c.in-Err.stop (step has.cut has.given)),
+          (subst (λ (r : FeedState). IsForm r.form) (sym c.self.view_is) c.requires.form) refl c.in-Err.stop (step has.cut has.given)),
     )

@@ -14,15 +14,15 @@ returns-clause-said c number line few shown =
     c.read_feed_line.ensures line
     (c.line.ensures ∙ ap (λ (r : FeedState). r.lines.cutter.shown) c.self.view_is ∙ shown.bytes ∙ ap (λ n. take n line) c.requires.limit)
     (c.over.ensures ∙ ap (λ (r : FeedState). r.lines.cutter.over) c.self.view_is ∙ shown.over ∙ ap (λ n. nat_lt n (length line)) c.requires.limit)
-    ∙ rw (number_is, ap (λ (r : FeedState). r.log) c.self.view_is) refl
+    ∙ rw (number_is, ap (λ (r : FeedState). r.form.log) c.self.view_is) refl
 
 pub returns-clause-spelled : goal.returns-clause-spelled
 returns-clause-spelled c =
     let (number, line, few, shown) = c.requires.line in
     each c.read_feed_line.result
-    (λ command is. said-spelled c.args.self.now.log number line command (omega (arith, few)) (sym (returns-clause-said c number line few shown) ∙ is))
+    (λ command is. said-spelled c.args.self.now.form.log number line command (omega (arith, few)) (sym (returns-clause-said c number line few shown) ∙ is))
   where
-    each : (o : Option Command) → ((command : Command) → o ≡ Some command → IsSpelledCommand c.args.self.now.log command)
-        → IfSome o (IsSpelledCommand c.args.self.now.log)
+    each : (o : Option Command) → ((command : Command) → o ≡ Some command → IsSpelledCommand c.args.self.now.form.log command)
+        → IfSome o (IsSpelledCommand c.args.self.now.form.log)
     each None h = tt
     each (Some command) h = h command refl

@@ -45,7 +45,7 @@ logged g c =
 -- what the drivers' feed leaves of sink and faults
 drivers_sink : (g : given.Over) (c : goal.After-drop-output-inside g) → c.run_actors-answers.result.drivers.sink_failed ≡ false
 drivers_sink g c =
-    drivers-sink c.args.stage.log (feed_run g.S.Source.left g.S.Source.faults c.args.drivers.now c.run_actors-answers.new.drivers)
+    drivers-sink (feed_run g.S.Source.left g.S.Source.faults c.args.drivers.now c.run_actors-answers.new.drivers)
     c.run_actors-answers.result.drivers c.args.stage.board c.args.stage.actors.feeds.drivers c.run_actors-answers.new.actors.feeds.drivers
     c.run_actors-answers.ensures.feeds.of_drivers
 
@@ -53,7 +53,7 @@ drivers_faults : (g : given.Over) (c : goal.After-drop-output-inside g)
     → KeepsCount c.run_actors-answers.result.drivers.source_failed (g.S.Source.faults c.args.drivers.now)
     (g.S.Source.faults c.run_actors-answers.new.drivers)
 drivers_faults g c =
-    drivers-faults c.args.stage.log (feed_run g.S.Source.left g.S.Source.faults c.args.drivers.now c.run_actors-answers.new.drivers)
+    drivers-faults (feed_run g.S.Source.left g.S.Source.faults c.args.drivers.now c.run_actors-answers.new.drivers)
     c.run_actors-answers.result.drivers c.args.stage.board c.args.stage.actors.feeds.drivers c.run_actors-answers.new.actors.feeds.drivers
     c.run_actors-answers.ensures.feeds.of_drivers
 
@@ -84,30 +84,32 @@ returns-clause-resumed g c =
     c.run_actors-answers.ensures c.closed-board.result c.closed-board.ensures c.put_rest.new.output c.requires.feeds c.requires.desks
     c.requires.log c.put_rest.ensures.nothing_left (logged g c))
 
-pub returns-clause-source_fault : goal.returns-clause-source_fault
-returns-clause-source_fault g c failed =
+-- whether a source failed, by what the loops answered
+source_said : (g : given.Over) (c : goal.After-drop-output-inside g)
+    → c.ran_of.result.source_failed ≡ (ran_of c.run_actors-answers.result c.failed.result c.args.stage.broken_off).source_failed
+source_said g c = ap (λ (r : Ran). r.source_failed) c.ran_of.ensures
+
+both_sound : (g : given.Over) (c : goal.After-drop-output-inside g) → c.ran_of.result.source_failed ≡ false
+    → (c.run_actors-answers.result.riders.source_failed ≡ false) × (c.run_actors-answers.result.drivers.source_failed ≡ false)
+both_sound g c sound =
+    sources-sound c.run_actors-answers.result c.failed.result c.args.stage.broken_off (sym (source_said g c) ∙ sound)
+
+pub returns-clause-source_faults : goal.returns-clause-source_faults
+returns-clause-source_faults g c =
     let left = c.run_actors-answers.ensures in
-    elim (source-failed c.run_actors-answers.result c.failed.result c.args.stage.broken_off left.desks.first.only.source
-    (sym (ap (λ (r : Ran). r.source_failed) c.ran_of.ensures) ∙ failed)) [
-      | inl riders ↦ inl ((feeder-faults left.feeds.of_riders).rose riders)
-      | inr drivers ↦ inr ((drivers_faults g c).rose drivers)
-    ]
-
-pub returns-clause-riders_count_none : goal.returns-clause-riders_count_none
-returns-clause-riders_count_none g c sound =
-    (feeder-faults c.run_actors-answers.ensures.feeds.of_riders).stays
-    (sources-sound c.run_actors-answers.result c.failed.result c.args.stage.broken_off (sym (ap (λ (r : Ran). r.source_failed) c.ran_of.ensures) ∙ sound)).0
-
-pub returns-clause-drivers_count_none : goal.returns-clause-drivers_count_none
-returns-clause-drivers_count_none g c sound =
-    (drivers_faults g c).stays
-    (sources-sound c.run_actors-answers.result c.failed.result c.args.stage.broken_off (sym (ap (λ (r : Ran). r.source_failed) c.ran_of.ensures) ∙ sound)).1
-
-pub returns-clause-riders_never_fall : goal.returns-clause-riders_never_fall
-returns-clause-riders_never_fall g c = (feeder-faults c.run_actors-answers.ensures.feeds.of_riders).never_falls
-
-pub returns-clause-drivers_never_fall : goal.returns-clause-drivers_never_fall
-returns-clause-drivers_never_fall g c = (drivers_faults g c).never_falls
+    let riders = feeder-faults left.feeds.of_riders in
+    let drivers = drivers_faults g c in
+    record {
+      failed = λ failed. elim (source-failed c.run_actors-answers.result c.failed.result c.args.stage.broken_off left.desks.first.only.source
+          (sym (source_said g c) ∙ failed)) [
+            | inl one ↦ inl (riders.rose one)
+            | inr one ↦ inr (drivers.rose one)
+          ];
+      riders_sound = λ sound. riders.stays (both_sound g c sound).0;
+      drivers_sound = λ sound. drivers.stays (both_sound g c sound).1;
+      riders_never_fall = riders.never_falls;
+      drivers_never_fall = drivers.never_falls;
+    }
 
 pub returns-clause-sink_faults : goal.returns-clause-sink_faults
 returns-clause-sink_faults g c =

@@ -9,8 +9,8 @@ use Rattle.fleet_board.specs.Sets.{IsBack, IsNewPass, one_if_some}
 use Rattle.session_run.specs.declared.live.desk_pairs.Desk.{Desk}
 use Rattle.session_run.specs.declared.live.feed_pairs.Feeder.{Feeder}
 use Rattle.session_run.specs.declared.live.stages.Stage.{Stage}
-use Rattle.session_run.specs.Stages.{IsDeskOf, IsEquipped, IsFeederOf, MayRunActors}
-use Rattle.session_run.proofs.StageLemmas.{at-some, equip, four, second-count, second-ready}
+use Rattle.session_run.specs.Stages.{IsDeskOf, IsEquipped, IsFeederOf, IsStanding, MayRunActors}
+use Rattle.session_run.proofs.StageLemmas.{at-some, equip, four, of-bare, second-count, second-ready}
 use Rattle.session_run.proofs.Starts.{may-run}
 use Rattle.session_run.proofs.live.stages.begun.Goals as goal
 
@@ -39,12 +39,12 @@ returns-clause-ready c =
       few = λ feed. subst (λ (b : Recorded). length (fed_commands feed b.history) ≤ most_earlier_commands) (sym same) (may.few feed);
       feed_1 = subst (λ (b : Recorded). IsFeederOf shared b 1 actors.feeds.riders) (sym same) (record {
         pass = at-some _ passes.feed_1 actors.feeds.riders.pass are.feed_1.0 said.feed_1;
-        lives_is = are.feed_1.1 ∙ lives.riders;
+        stands = subst (IsStanding board 1) (sym are.feed_1.1) (of-bare lives.riders);
       });
       feed_2 = subst (λ (b : Recorded). MatchOption actors.feeds.drivers (b.feeds ≢ 2) (λ (feeder : Feeder). (b.feeds ≡ 2) × IsFeederOf shared b 2 feeder))
           (sym same) (second-ready (λ (feeder : Feeder). feeder.pass) passes.feed_2 actors.feeds.drivers (board.feeds ≢ 2) (board.feeds ≡ 2)
-          (IsNewPass shared board 2) (λ (feeder : Feeder). feeder.lives ≡ living.drivers) (IsFeederOf shared board 2)
-          (λ feeder two pass is. record { pass = pass; lives_is = is ∙ lives.drivers two }) are.feed_2 said.feed_2);
+          (IsNewPass shared board 2) (λ (feeder : Feeder). feeder.standing ≡ living.drivers) (IsFeederOf shared board 2)
+          (λ feeder two pass is. record { pass = pass; stands = subst (IsStanding board 2) (sym is) (of-bare (lives.drivers two)) }) are.feed_2 said.feed_2);
       desk_1 = subst (λ (b : Recorded). IsDeskOf shared b 1 actors.desks.first) (sym same) (record {
         pass = at-some _ passes.desk_1 actors.desks.first.pass are.desk_1.0 said.desk_1;
         equipped = equip are.desk_1.1 (sym may.roads_are) may.first_is lives.first;
@@ -57,7 +57,7 @@ returns-clause-ready c =
       scribe_point = rw are.scribe said.scribe_point;
       out = rw are.scribe (said.out ∙ four (one_if_some passes.feed_1) (one_if_some passes.feed_2) (one_if_some passes.desk_1)
           (one_if_some passes.desk_2) (one_if_some actors.feeds.drivers) (one_if_some actors.desks.second) (ap one_if_some are.feed_1.0)
-          (second-count (λ (feeder : Feeder). feeder.pass) passes.feed_2 actors.feeds.drivers (λ (feeder : Feeder). feeder.lives ≡ living.drivers) are.feed_2)
+          (second-count (λ (feeder : Feeder). feeder.pass) passes.feed_2 actors.feeds.drivers (λ (feeder : Feeder). feeder.standing ≡ living.drivers) are.feed_2)
           (ap one_if_some are.desk_1.0)
           (second-count (λ (desk : Desk). desk.pass) passes.desk_2 actors.desks.second
           (IsEquipped c.args.roads.now c.args.interrupted.second living.second) are.desk_2));
