@@ -303,7 +303,7 @@ kill $! 2> /dev/null
 printf 'p sp 2 0\n' > "$scratch/two.gr"
 goes_on 7 "$broken:2: another reply is due: f1 request 7 2 4 1 600 300 = waiting; due: f1 request 7 2 4 1 600 300 = refused 2" --map "$scratch/two.gr"
 
-# Limits, also of a log, and of either feed, by what the log leaves of its lines, whose names are both said since both are read at once.
+# Limits, also of a log, and of either feed, whose lines are those that its log leaves; both names are said, since both are read at once.
 goes_on 8 "ride_resume: $scratch/long_fleet has more than 1,048,576 bytes" --fleet "$scratch/long_fleet" --log "$scratch/missing"
 both='has more than 67,108,864 bytes, or more lines than its log leaves of 1,000,000'
 goes_on 8 "ride_resume: $scratch/long or /dev/null $both" --riders "$scratch/long"
