@@ -1,6 +1,6 @@
 #!/usr/bin/env python3
 """Where the gate's time goes: runs `rt ci` at the top of the repository and prints the processor seconds of each crate, those of its
-proof, of the proof of its tests and of its edits that must fail.
+proof, of the proof of its tests and of its edits that must fail, and how long all of it took by the clock.
 
     python3 bench/gate_time.py --anew > gate_time.txt
 
@@ -71,6 +71,7 @@ def table(works, seconds):
 
 def main():
     top = os.path.realpath(os.path.join(os.path.dirname(__file__), ".."))
+    begun = time.monotonic()
     gate = subprocess.Popen(["rt", "ci", *sys.argv[1:]], cwd=top, stdout=sys.stderr)
     works, seconds = {}, {}
     while gate.poll() is None:
@@ -78,7 +79,8 @@ def main():
         time.sleep(PERIOD)
     print("\n".join(table(works, seconds)))
     taken = resource.getrusage(resource.RUSAGE_CHILDREN)
-    print(f"with the runs and rt itself {(taken.ru_utime + taken.ru_stime) / 60:.0f} minutes")
+    clock = (time.monotonic() - begun) / 60
+    print(f"with the runs and rt itself {(taken.ru_utime + taken.ru_stime) / 60:.0f} minutes of processors, {clock:.0f} by the clock")
     return gate.returncode
 
 

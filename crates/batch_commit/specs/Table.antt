@@ -1,11 +1,19 @@
 -- Price tables: for each request and vehicle of a batch a least offer.
-use Rattle.std.specs.Prelude.{◌≡◌, ℕ, ◌+◌, ◌*◌, ◌<◌, List, length, slice_index_or, Option, Some, None, MatchOption, IfSome, ◌^◌}
+use Rattle.std.specs.Prelude.{◌≡◌, ℕ, ◌+◌, ◌*◌, ◌<◌, ◌≤◌, List, length, slice_index_or, All, Option, Some, None, MatchOption, IfSome, ◌^◌}
 use Rattle.ride_model.specs.declared.offer.Offer.{Offer}
 use Rattle.ride_model.specs.declared.vehicle.Ride.{Ride}
 use Rattle.ride_model.specs.declared.vehicle.Vehicle.{Vehicle}
 use Rattle.ride_model.specs.Road.{RoadMap}
 use Rattle.ride_model.specs.Offers.{offer_of, price}
-use Rattle.ride_model.specs.Seating.{BatchCopy}
+use Rattle.ride_model.specs.Seating.{BatchCopy, IsBatchOver}
+use Rattle.ride_model.specs.Vehicle.{IsLawful}
+use Rattle.ride_model.specs.Limits.{latest_time}
+
+-- a batch can be priced over a map
+pub record IsPriceable (roads : RoadMap) (batch : BatchCopy) : Type 0 where
+  pub in_time : batch.time ≤ latest_time
+  pub over_map : IsBatchOver roads batch
+  pub lawful : All (IsLawful roads) batch.vehicles
 
 -- a table of rows of requests and columns of vehicles, its cells row by row
 pub record Table : Type 0 where

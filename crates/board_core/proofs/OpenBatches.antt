@@ -20,10 +20,10 @@ use Rattle.ride_model.specs.Batch.{next_batch, after_opening, after_commit, outc
 use Rattle.ride_model.specs.History.{entries_of, command_of, fed_commands}
 use Rattle.ride_model.specs.Legal.{after_entry, replay, IsLegal, all_feeds_ended}
 use Rattle.ride_model.specs.Road.{RoadMap}
-use Rattle.ride_model.specs.Seating.{BatchCopy, IsBatchOver, seating_cost}
+use Rattle.ride_model.specs.Seating.{BatchCopy, seating_cost}
 use Rattle.ride_model.specs.State.{State, is_actor, is_batch, open_batch_of, open_batch_numbered}
-use Rattle.ride_model.specs.Vehicle.{IsLawful}
 use Rattle.batch_commit.specs.Solved.{SolvedBatch}
+use Rattle.batch_commit.specs.Table.{IsPriceable}
 use Rattle.model_laws.proofs.Histories.{replay-push}
 use Rattle.model_laws.proofs.RequestStates.{others-opening, abandon-is}
 use Rattle.history_laws.specs.Consistent.{IsOpenBatch}
@@ -229,21 +229,24 @@ pub open-abandoned : (old new : Recorded) (batch : BatchCopy) → new.start ≡ 
 open-abandoned old new batch start held history b is other =
     open-other (state_of old) (state_of new) batch (batches-abandoned old new batch start held history) b other is
 
--- what pricing asks of an open batch
-pub open-fits : (board : Recorded) (batch : BatchCopy) → IsStart board.start → IsLegal board.feeds board.desks board.start board.history
-    → IsOpen (state_of board) batch
-    → (batch.time ≤ 1000000000) × IsBatchOver board.start.roads batch × All (IsLawful board.start.roads) batch.vehicles
-open-fits board batch begins legal held =
+-- a batch that is open can be priced over the board's map
+pub priceable : (board : Recorded) (desks : ℕ) (batch : BatchCopy) → IsStart board.start → IsLegal board.feeds board.desks board.start board.history
+    → IsOpenBatch desks (state_of board) batch → IsPriceable board.start.roads batch
+priceable board desks batch begins legal is =
+    let c = consistent board.feeds board.desks board.start board.history begins legal in
+    let in_time : batch.time ≤ (state_of board).clock = is.in_time in
+    let clock : (state_of board).clock ≤ 1000000000 = c.clock_fits in
+    subst (λ (r : RoadMap). IsPriceable r batch) c.roads_stay (record { in_time = omega arith; over_map = is.over_map; lawful = is.lawful })
+
+-- and so can the open batch of a number
+pub open-priceable : (board : Recorded) (desk number : ℕ) (batch : BatchCopy) → IsStart board.start
+    → IsLegal board.feeds board.desks board.start board.history → open_batch_numbered (state_of board) desk number ≡ Some batch
+    → IsPriceable board.start.roads batch
+open-priceable board desk number batch begins legal held =
     let s : State = state_of board in
     let c = consistent board.feeds board.desks board.start board.history begins legal in
-    let (there, _) = found_among (is_batch batch.desk batch.number) s.batches batch held in
-    let is : IsOpenBatch board.desks s batch = of_all (IsOpenBatch board.desks s) s.batches batch c.batches_fit there in
-    let in_time : batch.time ≤ s.clock = is.in_time in
-    let clock : s.clock ≤ 1000000000 = c.clock_fits in (
-      omega arith,
-      subst (λ (r : RoadMap). IsBatchOver r batch) c.roads_stay is.over_map,
-      subst (λ (r : RoadMap). All (IsLawful r) batch.vehicles) c.roads_stay is.lawful,
-    )
+    let (there, _) = found_among (is_batch desk number) s.batches batch held in
+    priceable board board.desks batch begins legal (of_all (IsOpenBatch board.desks s) s.batches batch c.batches_fit there)
 
 -- a batch that is kept stays kept
 pub still-kept : (desk : ℕ) (s t : State) (kept : Option BatchCopy) → ((b : BatchCopy) → IsOpen s b → IsOpen t b)

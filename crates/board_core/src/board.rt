@@ -1,5 +1,5 @@
 //! The board, and what it shows.
-ghost use Rattle.std.specs.Prelude.{◌≡◌, ◌≤◌, ◌↔◌, [], ◌++◌, ◌∷◌, option_map, option_copied, IfOk, OnOk, IsTrue};
+ghost use Rattle.std.specs.Prelude.{◌≡◌, ◌≤◌, ◌↔◌, [], option_map, option_copied, IfOk, OnOk, IsTrue};
 ghost use Rattle.ride_model.specs.declared.entry.Entry.{Entry};
 ghost use Rattle.ride_model.specs.Fleet.{MayStart};
 ghost use Rattle.ride_model.specs.Seating.{BatchCopy, find_vehicle};
@@ -192,6 +192,13 @@ impl<'r> Board<'r> {
         ensures { result ≡ (state_of self.now).opened }
     {
         self.kept.opened
+    }
+
+    /// The version of the log.
+    pub fn log(&self) -> u8
+        ensures { result ≡ self.now.start.settings.log }
+    {
+        self.setup.settings().log
     }
 
     pub fn feeds(&self) -> u8

@@ -21,7 +21,7 @@ use Rattle.log_audit.specs.declared.verdict.AuditFault.{AuditFault}
 use Rattle.log_audit.specs.declared.verdict.AuditFault.TheVariants.{ReadFault, TooLong, NoMemory as AuditNoMemory}
 use Rattle.log_audit.specs.declared.verdict.Verdict.{Verdict}
 use Rattle.log_audit.specs.declared.verdict.Verdict.TheVariants.{Yes, No}
-use Rattle.session_run.specs.Serving.{FeedRun}
+use Rattle.live_sessions.specs.Serving.{FeedRun}
 use Rattle.run_words.specs.Words.{Asked, a_replay, an_ahead, an_audit, a_service, a_drill, a_booking, a_league, File, map_file, fleet_file, second_fleet_file, feed_file, log_file, files_of}
 use Rattle.dispatcher.specs.Meanings.{IsFleetFile, Meaning, Means, StopsAt, start_of, status_of}
 use Rattle.dispatcher.specs.Runs.{HasStopped, HasWorked, IsUnread}

@@ -17,7 +17,7 @@ use Rattle.command_lines.specs.Feeds.{IsWhole}
 use Rattle.history_laws.specs.Start.{IsStart}
 use Rattle.history_laws.proofs.Unmoved.{unmoved-by_commit}
 use Rattle.model_laws.proofs.Histories.{IsLegal-parts}
-use Rattle.session_run.specs.Serving.{FeedRun}
+use Rattle.live_sessions.specs.Serving.{FeedRun}
 use Rattle.run_words.specs.Words.{Asked, a_replay, an_ahead, an_audit, a_service, a_drill, a_booking, a_league, files_of}
 use Rattle.dispatcher.specs.Meanings.{start_of, status_of}
 use Rattle.dispatcher.specs.Mission.{CommitsOnlyStanding, SeatsAtLeastCost, ServesWell}

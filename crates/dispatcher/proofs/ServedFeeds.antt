@@ -11,7 +11,7 @@ use Rattle.ride_model.specs.Legal.{replay}
 use Rattle.ride_model.specs.declared.command.Actor.TheVariants.{Feed}
 use Rattle.ride_model.specs.declared.entry.Ending.TheVariants.{Whole}
 use Rattle.ride_model.specs.declared.entry.Entry.{Entry}
-use Rattle.session_run.specs.Serving.{FeedRun, HasNotServed, HasServed, IsServed}
+use Rattle.live_sessions.specs.Serving.{FeedRun, HasNotServed, HasServed, IsServed}
 use Rattle.dispatcher.specs.Meanings.{Meaning, start_of}
 use Rattle.dispatcher.specs.Services.{HasAnswered}
 use Rattle.dispatcher.specs.Shelves.{Sunk}

@@ -1,6 +1,5 @@
 -- What is done over one source.
-use Rattle.std.proofs.Common.{◌≡◌, inl, inr, ℕ, ◌<◌, false, List, [], Result, Ok, Err, IfSome, refl, sym, ◌∙◌, ap, arith}
-use Rattle.std.specs.Prelude.{IsTrue}
+use Rattle.std.proofs.Common.{◌≡◌, inl, inr, ℕ, ◌<◌, List, [], Result, Ok, Err, IfSome, refl, sym, ◌∙◌, ap, arith}
 use Rattle.ride_ports.specs.Bytes.{Reads}
 use Rattle.ride_ports.specs.Count.{KeepsCount, Rose}
 use Rattle.ride_ports.specs.Status.{status_of}
@@ -11,7 +10,7 @@ use Rattle.log_audit.specs.declared.verdict.Verdict.{Verdict}
 use Rattle.log_audit.specs.declared.verdict.Verdict.TheVariants.{Yes, No}
 use Rattle.board_core.specs.declared.board.totals.Totals.{Totals}
 use Rattle.log_audit.specs.Audit.{is_read_fault}
-use Rattle.session_run.specs.Serving.{FeedRun}
+use Rattle.live_sessions.specs.Serving.{FeedRun}
 use Rattle.dispatcher.specs.Shelves.{Sunk}
 use Rattle.dispatcher.specs.Sources.{Did, WorksOver}
 use Rattle.dispatcher.specs.Verdicts.{EndsBy}

@@ -7,7 +7,7 @@ use Rattle.ride_model.specs.declared.entry.Entry.{Entry}
 use Rattle.ride_model.specs.declared.entry.Ending.TheVariants.{Whole}
 use Rattle.line_reader.specs.Limits.{IsTooLong, IsWithinLimits}
 use Rattle.command_lines.specs.Limits.{feed_limits, new_feed}
-use Rattle.session_run.specs.Serving.{CountsFeeds, FeedRun, HasNotServed, HasServed, IsFeedOf, IsWrittenOut}
+use Rattle.live_sessions.specs.Serving.{CountsFeeds, FeedRun, HasNotServed, HasServed, IsFeedOf, IsWrittenOut}
 use Rattle.dispatcher.specs.Meanings.{Meaning, start_of}
 use Rattle.dispatcher.specs.Shelves.{Sunk}
 

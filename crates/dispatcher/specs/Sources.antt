@@ -3,7 +3,7 @@ use Rattle.std.specs.Prelude.{◌≡◌, ◌⊎◌, ℕ, ◌+◌, ⊤, List, [],
 use Rattle.ride_ports.specs.Bytes.{Reads}
 use Rattle.ride_ports.specs.Contents.{GivenBack}
 use Rattle.ride_ports.specs.Count.{Rose}
-use Rattle.session_run.specs.Serving.{FeedRun}
+use Rattle.live_sessions.specs.Serving.{FeedRun}
 use Rattle.dispatcher.specs.Readings.{meaning_of}
 use Rattle.dispatcher.specs.Shelves.{IsBackOf, IsLeftOf, IsSpent, IsUntouched, Shelved, Sunk, told_bytes}
 use Rattle.dispatcher.specs.Verdicts.{Audits}

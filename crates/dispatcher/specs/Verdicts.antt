@@ -11,7 +11,7 @@ use Rattle.log_audit.specs.declared.verdict.Verdict.{Verdict}
 use Rattle.log_audit.specs.declared.verdict.Verdict.TheVariants.{Yes, No}
 use Rattle.log_audit.specs.declared.verdict.Why.{Why}
 use Rattle.log_audit.specs.declared.verdict.Why.TheVariants.{Spelling, Actor, Reply, Batch, Seating, Prices, Outcomes}
-use Rattle.session_run.specs.Serving.{FeedRun}
+use Rattle.live_sessions.specs.Serving.{FeedRun}
 use Rattle.dispatcher.specs.Meanings.{Meaning, start_of}
 use Rattle.dispatcher.specs.Shelves.{IsUntouched, SaysTo, Sunk}
 

@@ -11,7 +11,7 @@ use Rattle.session_run.specs.Ahead.{IsWrittenBy}
 use Rattle.session_run.specs.Drills.{summary_line}
 use Rattle.session_run.specs.Logged.{IsLogged}
 use Rattle.session_run.specs.Replay.{IsReplay}
-use Rattle.session_run.specs.Serving.{FeedRun}
+use Rattle.live_sessions.specs.Serving.{FeedRun}
 use Rattle.booking_desk.specs.Booked.{IsBooked}
 use Rattle.league_session.specs.Leagued.{IsLeagued}
 use Rattle.dispatcher.specs.Meanings.{Meaning, start_of}

@@ -8,8 +8,8 @@ ghost use Rattle.dispatcher.specs.Shelves.{shelved, sunk};
 
 use crate::files::Texts;
 use crate::status::Status;
+use live_sessions::Outset;
 use ride_ports::{Gate, Shelf, Sink};
-use session_run::Outset;
 use std::alloc::Global;
 use std::sync::Wait;
 use std::thread::Threads;
@@ -70,7 +70,7 @@ pub fn serve_feeds<R: Threads + Wait + Sync, H: Shelf, K: Sink, G: Gate>(
         workers: crew.workers,
         desks: crew.desks,
     };
-    let ran = session_run::serve(
+    let ran = live_sessions::serve(
         rt,
         alloc,
         &roads,

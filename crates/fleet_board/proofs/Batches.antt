@@ -21,9 +21,10 @@ use Rattle.board_core.specs.declared.opening.Opening.{Opening}
 use Rattle.board_core.specs.declared.opening.Opening.TheVariants.{Batch}
 use Rattle.board_core.specs.Opening.{opening_at}
 use Rattle.board_core.specs.Recorded.{Recorded, state_of, opened_entry, committed_entry, abandoned_entry}
-use Rattle.board_core.proofs.OpenBatches.{IsOpen, Gets, gets, got-next, open-fits, batches-committed, batches-abandoned, after-committed}
+use Rattle.board_core.proofs.OpenBatches.{IsOpen, Gets, gets, got-next, open-priceable, batches-committed, batches-abandoned, after-committed}
 use Rattle.fleet_board.specs.Commits.{CommitsSolved, ChangesOnlyStanding}
-use Rattle.fleet_board.specs.Openings.{HasNoneOpen, HasOpen, IsPriceable, OpensBatch, OpensNone}
+use Rattle.fleet_board.specs.Openings.{HasNoneOpen, HasOpen, OpensBatch, OpensNone}
+use Rattle.batch_commit.specs.Table.{IsPriceable}
 use Rattle.fleet_board.specs.Passes.{Known, root_of, seen_state, state_before, desk_of, IsPoint, IsDesk}
 use Rattle.fleet_board.specs.Turns.{IsTold}
 use Rattle.fleet_board.proofs.Actors.{DeskFound, desk-found}
@@ -129,9 +130,8 @@ opens k after old new batch a found next held = record {
     is_open = ap (λ (s : State). open_batch_numbered s batch.desk batch.number) (state-new k after old new (opened_entry batch) a) ∙ held;
   };
   priceable =
-      let fits = open-fits new batch a.told.start_fits a.told.legal held in
       subst (λ (r : Recorded). IsPriceable r.start.roads batch) (sym (root-new k after old new (opened_entry batch) a))
-      (record { in_time = fits.0; over_map = fits.1; lawful = fits.2 });
+      (open-priceable new batch.desk batch.number batch a.told.start_fits a.told.legal held);
 }
 
 -- the desk has none open still

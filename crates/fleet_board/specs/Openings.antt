@@ -1,11 +1,9 @@
 -- What a desk gets that asks for a batch, and the batch that it has open.
-use Rattle.std.specs.Prelude.{◌≡◌, ◌≤◌, All, Some, IsNone}
+use Rattle.std.specs.Prelude.{◌≡◌, Some, IsNone}
 use Rattle.ride_model.specs.Batch.{next_batch}
-use Rattle.ride_model.specs.Road.{RoadMap}
-use Rattle.ride_model.specs.Seating.{BatchCopy, IsBatchOver}
+use Rattle.ride_model.specs.Seating.{BatchCopy}
 use Rattle.ride_model.specs.State.{open_batch_of, open_batch_numbered}
-use Rattle.ride_model.specs.Vehicle.{IsLawful}
-use Rattle.ride_model.specs.Limits.{latest_time}
+use Rattle.batch_commit.specs.Table.{IsPriceable}
 use Rattle.board_core.specs.declared.opening.Opening.{Opening}
 use Rattle.board_core.specs.declared.opening.Opening.TheVariants.{Batch, Idle, Ended}
 use Rattle.board_core.specs.Opening.{opening_at}
@@ -20,12 +18,6 @@ HasNoneOpen k = IsNone (open_batch_of (seen_state k) (desk_of k))
 pub record HasOpen (k : Known) (batch : BatchCopy) : Type 0 where
   pub of_desk : batch.desk ≡ desk_of k
   pub is_open : open_batch_numbered (seen_state k) batch.desk batch.number ≡ Some batch
-
--- what pricing over a map asks of a batch
-pub record IsPriceable (roads : RoadMap) (batch : BatchCopy) : Type 0 where
-  pub in_time : batch.time ≤ latest_time
-  pub over_map : IsBatchOver roads batch
-  pub lawful : All (IsLawful roads) batch.vehicles
 
 -- the desk opened a batch: that of the state before its entry, copies of all vehicles included
 pub record OpensBatch (old new : Known) (batch : BatchCopy) : Type 0 where

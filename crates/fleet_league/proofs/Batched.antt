@@ -3,11 +3,10 @@ use Rattle.std.proofs.Common.{◌≡◌, ◌≤◌, List, length, Some, None, sy
 use Rattle.std.specs.Prelude.{All, Contains}
 use Rattle.ride_model.specs.declared.vehicle.Ride.{Ride}
 use Rattle.ride_model.specs.declared.vehicle.Vehicle.{Vehicle}
-use Rattle.ride_model.specs.Road.{RoadMap}
-use Rattle.ride_model.specs.Seating.{IsBatchOver}
 use Rattle.ride_model.specs.Settings.{IsSettings}
 use Rattle.ride_model.specs.State.{State, accepted_request}
 use Rattle.ride_model.specs.Vehicle.{IsRide, IsFresh, IsRouted, IsLawful, ride_ids}
+use Rattle.batch_commit.specs.Table.{IsPriceable}
 use Rattle.plain_lemmas.proofs.Among.{among_from_contains, among_map_back}
 use Rattle.plain_lemmas.proofs.Each.{of_all, all_of}
 use Rattle.history_laws.specs.Consistent.{HasPromised, promised_as}
@@ -17,14 +16,9 @@ use Rattle.fleet_league.specs.Prices.{IsNewRide}
 use Rattle.fleet_league.proofs.Legality.{IsLegalBoard}
 use Rattle.fleet_league.specs.Quoting.{quoting_batch}
 
--- what pricing asks of a batch
-pub record MayPrice (roads : RoadMap) (s : State) (rides : List Ride) : Type 0 where
-  pub in_time : s.clock ≤ 1000000000
-  pub over_map : IsBatchOver roads (quoting_batch s rides)
-  pub lawful : All (IsLawful roads) s.vehicles
-
+-- they can be priced over the board's map
 pub may-price : (board : Recorded) (rides : List Ride) → IsLegalBoard board → length rides ≤ 128
-    → All (IsNewRide (state_of board)) rides → MayPrice board.start.roads (state_of board) rides
+    → All (IsNewRide (state_of board)) rides → IsPriceable board.start.roads (quoting_batch (state_of board) rides)
 may-price board rides is few new =
     let s : State = state_of board in
     let sure = consistent board.feeds board.desks board.start board.history is.begins is.legal in

@@ -3,10 +3,9 @@ ghost use Rattle.std.specs.Prelude.{◌≡◌, ◌≤◌, ◌<◌, ◌++◌, len
 ghost use Rattle.std.specs.List.{IsDistinct};
 ghost use Rattle.ride_model.specs.Legal.{versions_of};
 ghost use Rattle.ride_model.specs.Road.{RoadMap};
-ghost use Rattle.ride_model.specs.Seating.{IsBatchOver};
-ghost use Rattle.ride_model.specs.Vehicle.{IsLawful, ride_ids};
-ghost use Rattle.ride_model.specs.Limits.{largest_batch, latest_time};
-ghost use Rattle.batch_commit.specs.Table.{cell_at, FitsBatch, IsTableOf};
+ghost use Rattle.ride_model.specs.Vehicle.{ride_ids};
+ghost use Rattle.ride_model.specs.Limits.{largest_batch};
+ghost use Rattle.batch_commit.specs.Table.{cell_at, FitsBatch, IsPriceable, IsTableOf};
 ghost use Rattle.board_core.specs.Recorded.{state_of};
 ghost use Rattle.fleet_league.specs.Awards.{won_rides};
 ghost use Rattle.fleet_league.specs.Prices.{prices_by, prices_of, IsNewRide};
@@ -116,10 +115,7 @@ impl<'r> Company<'r> {
         requires ids_differ { IsDistinct nat_eq (ride_ids rides.now) }
         ensures batch { IfOk result (λ batch. batch
             ≡ quoting_batch (state_of self.now.board) rides.now) }
-        ensures time { IfOk result (λ batch. batch.time ≤ latest_time) }
-        ensures over_map { IfOk result (IsBatchOver self.now.board.start.roads) }
-        ensures lawful { IfOk result (λ batch.
-            All (IsLawful self.now.board.start.roads) batch.vehicles) }
+        ensures priceable { IfOk result (IsPriceable self.now.board.start.roads) }
     {
         // This call tells that the history is legal.
         let _history = self.board.entries();

@@ -1,6 +1,6 @@
 -- The open batches of a log's desks, entry by entry.
-use Rattle.std.proofs.Common.{◌≡◌, ℕ, ◌≤◌, Bool, true, false, not, cond, List, [], ◌∷◌, ◌++◌, eqb, refl, sym, ap, subst, ◌∙◌, arith}
-use Rattle.std.specs.Prelude.{◌==◌, ◌&&◌, map, find, filter, nat_lt, is_some, Option, Some, None, All, IsTrue}
+use Rattle.std.proofs.Common.{◌≡◌, ℕ, Bool, true, false, not, cond, List, [], ◌∷◌, ◌++◌, eqb, refl, sym, ap, subst, ◌∙◌}
+use Rattle.std.specs.Prelude.{◌==◌, ◌&&◌, map, find, filter, nat_lt, is_some, Option, Some, None, IsTrue}
 use Rattle.std.specs.List.{AllByRecursion, IsDistinct}
 use Rattle.std.proofs.lemmas.Bool.{eqb-true, eqb-false, eq-eqb, ne_eqb, and_parts}
 use Rattle.std.proofs.lemmas.Map.Keys.{IsDistinct-head, IsDistinct-tail}
@@ -11,17 +11,14 @@ use Rattle.ride_model.specs.declared.command.Command.{Command}
 use Rattle.ride_model.specs.declared.entry.Ending.{Ending}
 use Rattle.ride_model.specs.Batch.{may_open, next_batch, after_opening, after_commit, after_abandon}
 use Rattle.ride_model.specs.Legal.{after_entry, replay, IsLegal}
-use Rattle.ride_model.specs.Road.{RoadMap}
-use Rattle.ride_model.specs.Seating.{BatchCopy, IsBatchOver}
+use Rattle.ride_model.specs.Seating.{BatchCopy}
 use Rattle.ride_model.specs.State.{State, has_ended, is_batch, open_batch_of, open_batch_numbered}
 use Rattle.ride_model.specs.Text.{IsOneOrTwo}
-use Rattle.ride_model.specs.Vehicle.{IsLawful}
 use Rattle.batch_commit.specs.Solved.{SolvedBatch}
+use Rattle.batch_commit.specs.Table.{IsPriceable}
 use Rattle.plain_lemmas.proofs.Among.{Among, found_among}
-use Rattle.plain_lemmas.proofs.Each.{of_all}
 use Rattle.model_laws.proofs.RequestStates.{others-opening, abandon-is}
 use Rattle.history_laws.proofs.Untouched.{leaves-step, stays-outcomes}
-use Rattle.history_laws.specs.Consistent.{IsOpenBatch}
 use Rattle.history_laws.specs.Start.{IsStart}
 use Rattle.history_laws.proofs.EveryState.{consistent}
 use Rattle.history_laws.proofs.Lookups.{found_by}
@@ -29,7 +26,7 @@ use Rattle.trip_log.proofs.ReadLemmas.{for_one_or_two}
 use Rattle.board_core.specs.Recorded.{Recorded, state_of, fed_entry, end_entry, opened_entry, committed_entry, abandoned_entry}
 use Rattle.board_core.proofs.Closed.{find-without}
 use Rattle.board_core.proofs.Opened.{open-with}
-use Rattle.board_core.proofs.OpenBatches.{state-push, none-numbered}
+use Rattle.board_core.proofs.OpenBatches.{state-push, none-numbered, open-priceable}
 use Rattle.log_audit.specs.declared.open_batches.OpenBatches.{OpenBatches}
 use Rattle.log_audit.specs.OpenBatches.{batch_of, with_batch, AreOpen}
 
@@ -118,9 +115,7 @@ pub record OpenOne (board : Recorded) (desk number : ℕ) (batch : BatchCopy) : 
   pub number_is : batch.number ≡ number
   pub of_desk : open_batch_of (state_of board) batch.desk ≡ Some batch
   pub numbered : open_batch_numbered (state_of board) batch.desk batch.number ≡ Some batch
-  pub in_time : batch.time ≤ 1000000000
-  pub over_map : IsBatchOver board.start.roads batch
-  pub lawful : All (IsLawful board.start.roads) batch.vehicles
+  pub priceable : IsPriceable board.start.roads batch
   pub roads_stay : (state_of board).roads ≡ board.start.roads
   pub desks_differ : IsDistinct eqb (map (λ (b : BatchCopy). b.desk) (state_of board).batches)
 
@@ -134,15 +129,12 @@ open-one board desk number batch begins legal found =
     let both = and_parts (eqb batch.desk desk) (eqb batch.number number) is in
     let desk_is : batch.desk ≡ desk = eqb-true batch.desk desk both.0 in
     let number_is : batch.number ≡ number = eqb-true batch.number number both.1 in
-    let fine = of_all (IsOpenBatch board.desks s) s.batches batch c.batches_fit there in
     record {
       desk_is = desk_is;
       number_is = number_is;
       of_desk = found_by (λ (b : BatchCopy). b.desk) s.batches batch c.desks_differ there;
       numbered = (λ i. open_batch_numbered s (desk_is i) (number_is i)) ∙ found;
-      in_time = omega (arith, fine.in_time, c.clock_fits);
-      over_map = subst (λ (r : RoadMap). IsBatchOver r batch) c.roads_stay fine.over_map;
-      lawful = subst (λ (r : RoadMap). All (IsLawful r) batch.vehicles) c.roads_stay fine.lawful;
+      priceable = open-priceable board desk number batch begins legal found;
       roads_stay = c.roads_stay;
       desks_differ = c.desks_differ;
     }

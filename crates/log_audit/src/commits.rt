@@ -1,5 +1,5 @@
 //! Commits: the seats are a seating, its cost is the cost that is said, the prices certify it, and the outcomes are those of the moment.
-ghost use Rattle.std.specs.Prelude.{◌≡◌, ℕ, ◌≤◌, ◌++◌, ◌∷◌, [], List, All, Some, IfOk, OnOk, MatchOption};
+ghost use Rattle.std.specs.Prelude.{◌≡◌, ℕ, ◌++◌, ◌∷◌, [], List, All, Some, IfOk, OnOk, MatchOption};
 ghost use Rattle.ride_model.specs.declared.command.Actor.TheVariants.{Desk};
 ghost use Rattle.ride_model.specs.declared.entry.Entry.{Entry};
 ghost use Rattle.ride_model.specs.declared.entry.Event.TheVariants.{Committed};
@@ -8,8 +8,6 @@ ghost use Rattle.ride_model.specs.Road.{IsRoadMap, RoadMap};
 ghost use Rattle.ride_model.specs.Seating.{Certifies, IsBatchOver, IsSeating};
 ghost use Rattle.ride_model.specs.State.{open_batch_numbered};
 ghost use Rattle.ride_model.specs.Text.{IsOneOrTwo};
-ghost use Rattle.ride_model.specs.Vehicle.{IsLawful};
-ghost use Rattle.ride_model.specs.Limits.{latest_time};
 ghost use Rattle.batch_commit.specs.Answer.{CertifiesOverCells, IsSeatAt, undecided};
 ghost use Rattle.batch_commit.specs.Table.{IsTableOf};
 ghost use Rattle.board_core.specs.Recorded.{state_of};
@@ -22,10 +20,10 @@ use crate::fault::Fault;
 use crate::seating::{Placed, seated};
 use batch_commit::{Answer, Batch, PriceTable, Solved};
 use dual_check::certifies;
-use hungarian::solve;
-use pricing_workers::{Pricer, Search, price_batch_by};
+use pricing_workers::{price_batch_by, seat_batch_by};
 use ride_model::{AmountList, NoMemory, Seat, SeatList};
 use ride_ports::OpenGate;
+use std::alloc::AllocError;
 use std::thread::Threads;
 
 /// What a commit says but for the outcomes.
@@ -66,7 +64,7 @@ impl<'r> Auditor<'r> {
         let Some(batch) = self.take_numbered(desk, commit.number) else {
             return Ok(Some(Fault::of(Why::Actor)));
         };
-        let priced = table(rt, self.search, &mut self.pricing, &batch)?;
+        let priced = price_batch_by(rt, self.search, &batch, &mut self.pricing, &OpenGate)?;
         let seats = commit.seats.items();
         let Some(placed) = seated(&mut self.pricing, &batch, &priced, seats, commit.cost)? else {
             return Ok(Some(Fault::with_batch(Why::Seating, batch)));
@@ -136,30 +134,13 @@ impl<'r> Auditor<'r> {
     {
         // This call tells that the history is legal.
         let _history = self.board.entries();
-        let table = table(rt, self.search, &mut self.pricing, &batch)?;
-        let answer = solve(self.pricing.alloc(), &batch, &table)?;
-        self.board.commit(Solved::tie(batch, table, answer));
+        let seated = seat_batch_by(rt, self.search, batch, &mut self.pricing, &OpenGate);
+        let Ok(solved) = seated else {
+            return Err(AllocError);
+        };
+        self.board.commit(solved);
         Ok(())
     }
-}
-
-// The table of a batch.
-fn table<R: Threads + Sync>(
-    rt: &R,
-    search: Search,
-    pricing: &mut Pricer<'_>,
-    batch: &Batch,
-) -> Result<PriceTable, NoMemory>
-    requires time { batch.now.time ≤ latest_time }
-    requires over_map { IsBatchOver pricing.old batch.now }
-    requires lawful { All (IsLawful pricing.old) batch.now.vehicles }
-    ensures table { IfOk result (λ table. IsTableOf pricing.old batch.now table) }
-    ensures fits { IsRoadMap pricing.old }
-    ensures kept { pricing.new ≡ pricing.old }
-{
-    // This call tells that the map is within its limits.
-    let _nodes = pricing.roads().nodes();
-    price_batch_by(rt, search, batch, pricing, &OpenGate)
 }
 
 // A batch's table with the seats' own offers in their cells, where each costs no more than its pair's price.

@@ -1,14 +1,14 @@
 //! Whether the seats of a commit are a seating of its batch, and what it costs.
-ghost use Rattle.std.specs.Prelude.{◌≡◌, ◌≤◌, ◌<◌, ◌+◌, ◌-◌, ◌*◌, ◌^◌, ◌==◌, ◌↔◌, length, map, filter, sum_by, nat_eq, position, slice_index_or, All, None, IfOk, IsSome, IsTrue, MatchOption};
+ghost use Rattle.std.specs.Prelude.{◌≡◌, ◌≤◌, ◌+◌, ◌-◌, ◌*◌, ◌^◌, ◌==◌, ◌↔◌, length, map, filter, sum_by, nat_eq, position, All, None, IfOk, IsSome, IsTrue, MatchOption};
 ghost use Rattle.std.specs.List.{IsDistinct, list_any};
 ghost use Rattle.ride_model.specs.declared.offer.Seat.{Seat};
 ghost use Rattle.ride_model.specs.declared.vehicle.Ride.{Ride};
 ghost use Rattle.ride_model.specs.declared.vehicle.Vehicle.{Vehicle};
-ghost use Rattle.ride_model.specs.Offers.{offer_of};
-ghost use Rattle.ride_model.specs.Seating.{IsBatchOver, has_seat, seat_offer};
-ghost use Rattle.ride_model.specs.Vehicle.{IsLawful, ride_ids};
-ghost use Rattle.ride_model.specs.Limits.{largest_batch, latest_time};
-ghost use Rattle.batch_commit.specs.Table.{IsTableOf};
+ghost use Rattle.ride_model.specs.Seating.{has_seat, seat_offer};
+ghost use Rattle.ride_model.specs.Vehicle.{ride_ids};
+ghost use Rattle.ride_model.specs.Limits.{largest_batch};
+ghost use Rattle.batch_commit.specs.Table.{IsPriceable, IsTableOf};
+ghost use Rattle.pricing_workers.specs.Seats.{IsOfferOf, IsWithin};
 ghost use Rattle.log_audit.specs.declared.seating.Placed.{Placed};
 ghost use Rattle.log_audit.specs.Seated.{ArePlaced, IsPlaced, IsSeatedAt};
 
@@ -33,9 +33,7 @@ pub(crate) fn seated(
     seats: &[Seat],
     cost: u64,
 ) -> Result<Option<Vec<Placed>>, NoMemory>
-    requires time { batch.now.time ≤ latest_time }
-    requires over_map { IsBatchOver pricing.old batch.now }
-    requires lawful { All (IsLawful pricing.old) batch.now.vehicles }
+    requires priceable { IsPriceable pricing.old batch.now }
     requires table { IsTableOf pricing.old batch.now table.now }
     ensures seated { IfOk result (λ placed. MatchOption placed
         (IsSeatedAt pricing.old batch.now seats.now cost → ⊥)
@@ -122,9 +120,7 @@ fn placed_of(
     table: &PriceTable,
     seats: &[Seat],
 ) -> Result<Option<Vec<Placed>>, NoMemory>
-    requires time { batch.now.time ≤ latest_time }
-    requires over_map { IsBatchOver pricing.old batch.now }
-    requires lawful { All (IsLawful pricing.old) batch.now.vehicles }
+    requires priceable { IsPriceable pricing.old batch.now }
     requires table { IsTableOf pricing.old batch.now table.now }
     ensures placed { IfOk result (λ placed. MatchOption placed
         (All (λ seat. IsSome (seat_offer pricing.old batch.now seat)) seats.now → ⊥)
@@ -148,9 +144,7 @@ fn placed_seat(
     table: &PriceTable,
     seat: &Seat,
 ) -> Result<Option<Placed>, NoMemory>
-    requires time { batch.now.time ≤ latest_time }
-    requires over_map { IsBatchOver pricing.old batch.now }
-    requires lawful { All (IsLawful pricing.old) batch.now.vehicles }
+    requires priceable { IsPriceable pricing.old batch.now }
     requires table { IsTableOf pricing.old batch.now table.now }
     ensures placed { IfOk result (λ placed. MatchOption placed
         (seat_offer pricing.old batch.now seat.now ≡ None)
@@ -188,17 +182,10 @@ fn offer_at(
     table: &PriceTable,
     seat: SeatPlaces,
 ) -> Result<Option<Offer>, NoMemory>
-    requires request_in { seat.request < length batch.now.requests }
-    requires vehicle_in { seat.vehicle < length batch.now.vehicles }
-    requires time { batch.now.time ≤ latest_time }
-    requires over_map { IsBatchOver pricing.old batch.now }
-    requires lawful { All (IsLawful pricing.old) batch.now.vehicles }
+    requires seat { IsWithin batch.now seat }
+    requires priceable { IsPriceable pricing.old batch.now }
     requires table { IsTableOf pricing.old batch.now table.now }
-    ensures offer { IfOk result (λ offer. (ride : Ride) (v : Vehicle)
-        → offer ≡ offer_of pricing.old batch.now.settings
-        (slice_index_or batch.now.vehicles seat.vehicle v)
-        (slice_index_or batch.now.requests seat.request ride)
-        batch.now.time seat.i seat.j) }
+    ensures offer { IfOk result (IsOfferOf pricing.old batch.now seat) }
     ensures kept { pricing.new ≡ pricing.old }
 {
     match table.cell(seat.request, seat.vehicle) {

@@ -1,11 +1,8 @@
 //! The table of a batch.
-ghost use Rattle.std.specs.Prelude.{◌≡◌, ◌≤◌, length, All, IfOk};
+ghost use Rattle.std.specs.Prelude.{◌≡◌, All, IfOk};
 ghost use Rattle.std.specs.Result.{OnOk};
-ghost use Rattle.ride_model.specs.Road.{IsNode};
-ghost use Rattle.ride_model.specs.Seating.{IsBatchOver};
-ghost use Rattle.ride_model.specs.Vehicle.{IsLawful};
-ghost use Rattle.ride_model.specs.Limits.{latest_time};
-ghost use Rattle.batch_commit.specs.Table.{IsTableOf};
+ghost use Rattle.ride_model.specs.Road.{IsNode, IsRoadMap};
+ghost use Rattle.batch_commit.specs.Table.{HasSmallCosts, IsPriceable, IsTableOf};
 ghost use Rattle.pricing_workers.specs.Pairs.{MayFill};
 
 use crate::cells::{Job, table_of};
@@ -29,10 +26,10 @@ pub fn price_batch<R: Threads + Sync, G: Gate>(
     pricer: &mut Pricer,
     gate: &G,
 ) -> Result<PriceTable, NoMemory>
-    requires time { batch.now.time ≤ latest_time }
-    requires over_map { IsBatchOver pricer.old batch.now }
-    requires lawful { All (IsLawful pricer.old) batch.now.vehicles }
+    requires priceable { IsPriceable pricer.old batch.now }
     ensures table { IfOk result (λ table. IsTableOf pricer.old batch.now table) }
+    ensures small { IfOk result HasSmallCosts }
+    ensures fits { IsRoadMap pricer.old }
     ensures pricer { pricer.new ≡ pricer.old }
 {
     price_batch_by(rt, Search::BySlack, batch, pricer, gate)
@@ -46,9 +43,26 @@ pub fn price_batch_by<R: Threads + Sync, G: Gate>(
     pricer: &mut Pricer,
     gate: &G,
 ) -> Result<PriceTable, NoMemory>
-    requires time { batch.now.time ≤ latest_time }
-    requires over_map { IsBatchOver pricer.old batch.now }
-    requires lawful { All (IsLawful pricer.old) batch.now.vehicles }
+    requires priceable { IsPriceable pricer.old batch.now }
+    ensures table { IfOk result (λ table. IsTableOf pricer.old batch.now table) }
+    ensures small { IfOk result HasSmallCosts }
+    ensures fits { IsRoadMap pricer.old }
+    ensures pricer { pricer.new ≡ pricer.old }
+{
+    // The number of nodes is asked for the proof alone: with it comes that the map is within its limits.
+    let _nodes = pricer.roads().nodes();
+    priced(rt, search, batch, pricer, gate)
+}
+
+// The table of a batch.
+fn priced<R: Threads + Sync, G: Gate>(
+    rt: &R,
+    search: Search,
+    batch: &Batch,
+    pricer: &mut Pricer,
+    gate: &G,
+) -> Result<PriceTable, NoMemory>
+    requires priceable { IsPriceable pricer.old batch.now }
     ensures table { IfOk result (λ table. IsTableOf pricer.old batch.now table) }
     ensures pricer { pricer.new ≡ pricer.old }
 {
@@ -72,9 +86,7 @@ pub fn price_batch_by<R: Threads + Sync, G: Gate>(
 
 // Makes it what is wanted for a batch, of a map that is within its limits, as all roads are.
 fn renew_wanted(wanted: &mut Wanted, batch: &Batch, roads: &Roads) -> Result<(), NoMemory>
-    requires time { batch.now.time ≤ latest_time }
-    requires over_map { IsBatchOver roads.now batch.now }
-    requires lawful { All (IsLawful roads.now) batch.now.vehicles }
+    requires priceable { IsPriceable roads.now batch.now }
     ensures ready { OnOk result (MayFill roads.now batch.now wanted.new) }
     ensures inside { OnOk result (All (IsNode roads.now) wanted.new.nodes.items) }
 {

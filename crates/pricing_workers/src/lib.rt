@@ -1,4 +1,4 @@
-//! The least offers of a batch's vehicles to its requests, found by several threads.
+//! Batches: the least offers of their vehicles to their requests, found by several threads, and their least seatings.
 #![tactic(auto)]
 
 mod batches;
@@ -6,6 +6,7 @@ mod cells;
 mod pairs;
 mod pricer;
 mod rows;
+mod seating;
 mod seats;
 mod tables;
 mod times;
@@ -15,5 +16,6 @@ mod workers;
 pub use batches::{price_batch, price_batch_by};
 pub use pairs::Search;
 pub use pricer::Pricer;
+pub use seating::{seat_batch, seat_batch_by};
 pub use seats::{SeatPlaces, offer_of_seat};
 pub use workers::workers_at_hand;

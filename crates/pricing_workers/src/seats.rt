@@ -1,14 +1,11 @@
 //! The offer of a vehicle to a request at given places.
-ghost use Rattle.std.specs.Prelude.{◌≡◌, ◌≤◌, ◌<◌, length, slice_index_or, All, IfOk};
+ghost use Rattle.std.specs.Prelude.{◌≡◌, IfOk};
 ghost use Rattle.std.specs.Result.{OnOk};
-ghost use Rattle.ride_model.specs.declared.vehicle.Ride.{Ride};
-ghost use Rattle.ride_model.specs.declared.vehicle.Vehicle.{Vehicle};
-ghost use Rattle.ride_model.specs.Offers.{offer_of};
 ghost use Rattle.ride_model.specs.Road.{IsRoadMap};
-ghost use Rattle.ride_model.specs.Seating.{IsBatchOver};
 ghost use Rattle.ride_model.specs.Vehicle.{IsLawful, IsRide};
-ghost use Rattle.ride_model.specs.Limits.{latest_time};
+ghost use Rattle.batch_commit.specs.Table.{IsPriceable};
 ghost use Rattle.insertion.specs.Asked.{HoldsTimes};
+ghost use Rattle.pricing_workers.specs.Seats.{IsOfferOf, IsWithin};
 ghost use Rattle.pricing_workers.specs.Wanted.{nodes_of};
 
 use crate::pairs::near;
@@ -35,16 +32,9 @@ pub fn offer_of_seat(
     pricer: &mut Pricer,
     seat: SeatPlaces,
 ) -> Result<Option<Offer>, NoMemory>
-    requires request_in { seat.request < length batch.now.requests }
-    requires vehicle_in { seat.vehicle < length batch.now.vehicles }
-    requires time { batch.now.time ≤ latest_time }
-    requires over_map { IsBatchOver pricer.old batch.now }
-    requires lawful { All (IsLawful pricer.old) batch.now.vehicles }
-    ensures offer { IfOk result (λ offer. (ride : Ride) (v : Vehicle)
-        → offer ≡ offer_of pricer.old batch.now.settings
-        (slice_index_or batch.now.vehicles seat.vehicle v)
-        (slice_index_or batch.now.requests seat.request ride)
-        batch.now.time seat.i seat.j) }
+    requires seat { IsWithin batch.now seat }
+    requires priceable { IsPriceable pricer.old batch.now }
+    ensures offer { IfOk result (IsOfferOf pricer.old batch.now seat) }
     ensures pricer { pricer.new ≡ pricer.old }
 {
     let ride = &batch.requests()[seat.request as usize];

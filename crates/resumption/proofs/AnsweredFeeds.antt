@@ -20,8 +20,8 @@ use Rattle.line_text.specs.Lines.{ended_after, rest_after}
 use Rattle.line_reader.specs.Limits.{IsWithinLimits}
 use Rattle.command_lines.specs.Limits.{limits_of}
 use Rattle.board_core.specs.Recorded.{Recorded}
-use Rattle.session_run.specs.Resuming.{IsFeedAfter, IsResumed, form_after, still_feeds}
-use Rattle.session_run.specs.Serving.{FeedRun, HasNotServed}
+use Rattle.live_sessions.specs.Resuming.{IsFeedAfter, IsResumed, form_after, still_feeds}
+use Rattle.live_sessions.specs.Serving.{FeedRun, HasNotServed}
 use Rattle.dispatcher.specs.Shelves.{Sunk}
 use Rattle.dispatcher.proofs.Ends.{ending-whole}
 use Rattle.dispatcher.proofs.Statuses.{NoneWanting, none-status, whole-status}

@@ -18,8 +18,8 @@ use Rattle.log_audit.specs.declared.restoring.Restoration.TheVariants.{Standing,
 use Rattle.log_audit.specs.declared.verdict.AuditFault.{AuditFault}
 use Rattle.log_audit.specs.declared.verdict.AuditFault.TheVariants.{NoMemory, ReadFault, TooLong}
 use Rattle.log_audit.specs.Restored.{IsRestoration}
-use Rattle.session_run.specs.Resuming.{HaveFewCommands, IsFeedAfter, form_after}
-use Rattle.session_run.specs.Serving.{FeedRun}
+use Rattle.live_sessions.specs.Resuming.{HaveFewCommands, IsFeedAfter, form_after}
+use Rattle.live_sessions.specs.Serving.{FeedRun}
 use Rattle.run_words.specs.Resumptions.{GoingOn, resumption_files}
 use Rattle.run_words.specs.Words.{feed_file, fleet_file, log_file, map_file}
 use Rattle.dispatcher.specs.Meanings.{Means, start_of}

@@ -12,8 +12,8 @@ use Rattle.command_lines.specs.Commands.{commands_of}
 use Rattle.board_core.proofs.FedEntries.{fed_commands-append}
 use Rattle.log_audit.specs.Restored.{StandsAt}
 use Rattle.log_audit.specs.declared.restoring.Restored.{Restored}
-use Rattle.session_run.specs.Resuming.{IsFeedAfter, form_after, still_feeds}
-use Rattle.session_run.specs.Serving.{FeedRun}
+use Rattle.live_sessions.specs.Resuming.{IsFeedAfter, form_after, still_feeds}
+use Rattle.live_sessions.specs.Serving.{FeedRun}
 use Rattle.run_words.specs.Resumptions.{GoingOn, resumption_files}
 use Rattle.dispatcher.specs.Runs.{HasStopped, IsUnread}
 use Rattle.dispatcher.specs.Shelves.{IsBackOf, Shelved, Sunk, told_bytes}

@@ -11,8 +11,8 @@ use Rattle.ride_model.specs.declared.settings.Settings.{Settings}
 use Rattle.ride_model.specs.declared.vehicle.Vehicle.{Vehicle}
 use Rattle.log_audit.specs.Restored.{IsBoardOf}
 use Rattle.log_audit.specs.declared.restoring.Restored.{Restored}
-use Rattle.session_run.specs.Resuming.{MayGoOn}
-use Rattle.session_run.specs.declared.live.resuming.Interrupted.{Interrupted}
+use Rattle.live_sessions.specs.Resuming.{MayGoOn}
+use Rattle.live_sessions.specs.declared.resuming.Interrupted.{Interrupted}
 
 -- a history has no more commands of a feed than entries
 few-commands : (feed : ℕ) (history : List Entry) → length (fed_commands feed history) ≤ length history
@@ -24,11 +24,10 @@ few-commands feed history =
 
 pub may-resume : (roads : RoadMap) (settings : Settings) (fleet : List Vehicle) (restored : Restored) (interrupted : Interrupted) (workers : ℕ)
     → IsBoardOf (start_state roads settings fleet) restored
-    → interrupted ≡ record { board = restored.board; first = restored.first; second = restored.second; workers = workers; log = settings.log }
+    → interrupted ≡ record { board = restored.board; first = restored.first; second = restored.second; workers = workers }
     → MayGoOn roads interrupted
 may-resume roads settings fleet restored interrupted workers stands is = subst (MayGoOn roads) (sym is) (record {
   roads_are = ap (λ (s : State). s.roads) stands.start_is;
-  log_is = sym (ap (λ (s : State). s.settings.log) stands.start_is);
   first_is = stands.first_is;
   second_is = stands.second_is;
   few = λ feed. omega (arith, few-commands feed restored.board.history, stands.few);

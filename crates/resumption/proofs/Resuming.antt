@@ -10,8 +10,8 @@ use Rattle.ride_ports.specs.Count.{Rose}
 use Rattle.gr_reader.specs.MapText.{map_format}
 use Rattle.log_audit.specs.declared.restoring.Restored.{Restored}
 use Rattle.log_audit.specs.declared.restoring.Restoration.TheVariants.{Standing}
-use Rattle.session_run.specs.Resuming.{HaveFewCommands}
-use Rattle.session_run.specs.Serving.{FeedRun}
+use Rattle.live_sessions.specs.Resuming.{HaveFewCommands}
+use Rattle.live_sessions.specs.Serving.{FeedRun}
 use Rattle.run_words.specs.Resumptions.{GoingOn, resumption_files}
 use Rattle.run_words.specs.Words.{File, feed_file, fleet_file, log_file, map_file}
 use Rattle.dispatcher.specs.Meanings.{Meaning, Means, said_of, start_of, status_of}

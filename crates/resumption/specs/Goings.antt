@@ -9,8 +9,8 @@ use Rattle.line_reader.specs.Limits.{IsWithinLimits}
 use Rattle.line_reader.specs.declared.limits.Limits.{Limits}
 use Rattle.command_lines.specs.Limits.{limits_of}
 use Rattle.board_core.specs.Recorded.{Recorded}
-use Rattle.session_run.specs.Resuming.{IsResumed, form_after, still_feeds}
-use Rattle.session_run.specs.Serving.{CountsFeeds, FeedRun, HasNotServed}
+use Rattle.live_sessions.specs.Resuming.{IsResumed, form_after, still_feeds}
+use Rattle.live_sessions.specs.Serving.{CountsFeeds, FeedRun, HasNotServed}
 use Rattle.dispatcher.specs.Pairs.{BringsOne}
 use Rattle.dispatcher.specs.Shelves.{IsBackOf, IsLeftOf, IsSpent, Shelved, Sunk, told_bytes}
 use Rattle.dispatcher.specs.Sources.{BringsNone}

@@ -13,8 +13,8 @@ use Rattle.log_audit.specs.Audit.{is_read_fault}
 use Rattle.log_audit.specs.Audited.{FailsAfter}
 use Rattle.log_audit.specs.LogLines.{TakesSome}
 use Rattle.log_audit.specs.Restored.{IsBoardOf, IsRestoration, IsSameButRoom}
-use Rattle.session_run.specs.Resuming.{HaveFewCommands}
-use Rattle.session_run.specs.Serving.{FeedRun}
+use Rattle.live_sessions.specs.Resuming.{HaveFewCommands}
+use Rattle.live_sessions.specs.Serving.{FeedRun}
 use Rattle.dispatcher.specs.Shelves.{IsBackOf, Shelved, Sunk, told_bytes}
 use Rattle.dispatcher.specs.Verdicts.{EndsBy}
 

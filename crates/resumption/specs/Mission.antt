@@ -10,7 +10,7 @@ use Rattle.ride_model.specs.State.{State}
 use Rattle.ride_model.specs.Text.{text_of}
 use Rattle.line_reader.specs.Reader.{HasNoLf}
 use Rattle.command_lines.specs.Commands.{commands_of}
-use Rattle.session_run.specs.Resuming.{still_feeds}
+use Rattle.live_sessions.specs.Resuming.{still_feeds}
 use Rattle.run_words.specs.Resumptions.{GoingOn, resumption_files}
 use Rattle.dispatcher.specs.Meanings.{Meaning, Means, start_of}
 use Rattle.dispatcher.specs.Mission.{CommitsOnlyStanding, SeatsAtLeastCost}

@@ -9,8 +9,8 @@ use Rattle.log_audit.specs.declared.restoring.Restored.{Restored}
 use Rattle.log_audit.specs.declared.restoring.Restoration.{Restoration}
 use Rattle.log_audit.specs.declared.restoring.Restoration.TheVariants.{Standing}
 use Rattle.log_audit.specs.declared.verdict.AuditFault.{AuditFault}
-use Rattle.session_run.specs.Resuming.{HaveFewCommands}
-use Rattle.session_run.specs.Serving.{FeedRun}
+use Rattle.live_sessions.specs.Resuming.{HaveFewCommands}
+use Rattle.live_sessions.specs.Serving.{FeedRun}
 use Rattle.run_words.specs.Resumptions.{GoingOn, resumption_files}
 use Rattle.run_words.specs.Words.{File, fleet_file, log_file, map_file, name_of}
 use Rattle.dispatcher.specs.Meanings.{Meaning, Means, start_of}

@@ -4,7 +4,7 @@ use Rattle.log_audit.specs.declared.restoring.Restored.{Restored}
 use Rattle.log_audit.specs.declared.restoring.Restoration.{Restoration}
 use Rattle.log_audit.specs.declared.restoring.Restoration.TheVariants.{Standing}
 use Rattle.log_audit.specs.declared.verdict.AuditFault.{AuditFault}
-use Rattle.session_run.specs.Resuming.{HaveFewCommands}
+use Rattle.live_sessions.specs.Resuming.{HaveFewCommands}
 use Rattle.dispatcher.specs.Meanings.{Meaning, start_of}
 use Rattle.dispatcher.specs.Shelves.{IsUntouched, Shelved, Sunk}
 use Rattle.resumption.specs.Goings.{GoesOnOver}

@@ -1,14 +1,14 @@
 //! The feeds of a session that goes on, which are brought by their names and given back.
 ghost use Rattle.std.specs.Prelude.{◌<◌, ◌≤◌, length, string_bytes};
 ghost use Rattle.ride_model.specs.Limits.{most_workers};
-ghost use Rattle.session_run.specs.Resuming.{MayGoOn};
+ghost use Rattle.live_sessions.specs.Resuming.{MayGoOn};
 ghost use Rattle.dispatcher.specs.Shelves.{shelved, sunk};
 ghost use Rattle.resumption.specs.Goings.{GoesOnOver};
 
 use adaptive_roads::Roads;
 use dispatcher::{Feeds, Status};
+use live_sessions::{Interrupted, resume};
 use ride_ports::{Gate, Shelf, Sink};
-use session_run::{Interrupted, resume};
 use std::alloc::Global;
 use std::sync::Wait;
 use std::thread::Threads;

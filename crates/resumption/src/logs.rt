@@ -2,7 +2,7 @@
 ghost use Rattle.std.specs.Prelude.{◌<◌, length, string_bytes};
 ghost use Rattle.ride_model.specs.Fleet.{MayStart};
 ghost use Rattle.ride_model.specs.State.{start_state};
-ghost use Rattle.session_run.specs.Serving.{feed_run};
+ghost use Rattle.live_sessions.specs.Serving.{feed_run};
 ghost use Rattle.dispatcher.specs.Shelves.{shelved};
 ghost use Rattle.resumption.specs.Logs.{BringsLog, ReadsLog};
 

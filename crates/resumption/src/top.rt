@@ -12,10 +12,10 @@ ghost use Rattle.resumption.specs.Steps.{ResumesOver};
 use crate::feeds::go_on;
 use crate::logs::bring_log;
 use dispatcher::{Feeds, Status, TextNames, Texts, WORDS_REFUSED, answer, bring_texts, say_found};
+use live_sessions::{Interrupted, have_few_commands};
 use log_audit::{AuditFault, Restoration, Restored, Verdict};
 use ride_ports::{Gate, Shelf, Sink, write_all};
 use run_words::{Resumption, WordsError, read_resumption};
-use session_run::{Interrupted, have_few_commands};
 use std::alloc::Global;
 use std::sync::Wait;
 use std::thread::Threads;
@@ -136,7 +136,6 @@ fn resume_over<R: Threads + Wait + Sync, H: Shelf, K: Sink, G: Gate>(
         feeds,
         workers,
     } = rest;
-    let version = settings.log;
     let Some(found) = bring_log(rt, alloc, &roads, settings, fleet, log, shelf) else {
         return Status::SourceFailed.code();
     };
@@ -145,7 +144,7 @@ fn resume_over<R: Threads + Wait + Sync, H: Shelf, K: Sink, G: Gate>(
             if !have_few_commands(&restored.board) {
                 return say_found(alloc, Err(AuditFault::TooLong), out);
             }
-            let interrupted = interrupted_by(restored, workers, version);
+            let interrupted = interrupted_by(restored, workers);
             go_on(rt, alloc, &roads, interrupted, feeds, shelf, out, gate)
         }
         Ok(Restoration::No { line, why }) => say_found(alloc, Ok(Verdict::No { line, why }), out),
@@ -154,13 +153,12 @@ fn resume_over<R: Threads + Wait + Sync, H: Shelf, K: Sink, G: Gate>(
 }
 
 // What a session goes on from: what its log gave back, by so many workers a desk.
-fn interrupted_by(restored: Restored<'_>, workers: u32, log: u8) -> Interrupted<'_>
+fn interrupted_by(restored: Restored<'_>, workers: u32) -> Interrupted<'_>
     ensures { result ≡ record {
       board = restored.entry.board;
       first = restored.entry.first;
       second = restored.entry.second;
       workers = workers;
-      log = log;
     } }
 {
     let (board, first, second) = restored.into_parts();
@@ -169,6 +167,5 @@ fn interrupted_by(restored: Restored<'_>, workers: u32, log: u8) -> Interrupted<
         first,
         second,
         workers,
-        log,
     }
 }

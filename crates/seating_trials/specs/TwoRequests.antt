@@ -1,11 +1,10 @@
 -- Batches of two requests and two idle vehicles, on a road of four nodes in a line, a minute between neighbours.
-use Rattle.std.specs.Prelude.{◌==◌, ◌&&◌, ◌≤◌, not, ℕ, Bool, true, List, [], ◌∷◌, All, is_none}
+use Rattle.std.specs.Prelude.{◌==◌, ◌&&◌, not, ℕ, Bool, true, List, [], ◌∷◌, is_none}
 use Rattle.ride_model.specs.declared.settings.Settings.{Settings}
 use Rattle.ride_model.specs.declared.vehicle.Ride.{Ride}
 use Rattle.ride_model.specs.declared.vehicle.Vehicle.{Vehicle}
-use Rattle.ride_model.specs.Limits.{latest_time}
-use Rattle.ride_model.specs.Seating.{BatchCopy, IsBatchOver}
-use Rattle.ride_model.specs.Vehicle.{IsLawful}
+use Rattle.ride_model.specs.Seating.{BatchCopy}
+use Rattle.batch_commit.specs.Table.{IsPriceable}
 use Rattle.plan_trials.specs.LineRoad.{is_ride}
 use Rattle.plan_trials.specs.SmallPlans.{four_nodes}
 
@@ -43,8 +42,6 @@ abbrev pub may_ask : Ride → Ride → Bool
 may_ask first second =
     is_ride first && is_none first.picked && is_ride second && is_none second.picked && not (first.id == second.id)
 
--- a batch over the road, in due time and with lawful vehicles
-pub record IsOverLine (batch : BatchCopy) : Type 0 where
-  pub in_time : batch.time ≤ latest_time
-  pub over_map : IsBatchOver four_nodes batch
-  pub lawful : All (IsLawful four_nodes) batch.vehicles
+-- a batch can be priced over the road
+abbrev pub IsOverLine : BatchCopy → Type 0
+IsOverLine batch = IsPriceable four_nodes batch

@@ -13,8 +13,8 @@ use Rattle.board_core.specs.declared.board.totals.Totals.{Totals}
 use Rattle.board_core.specs.Totals.{AreTotalsOf}
 use Rattle.board_core.proofs.FedEntries.{fed_commands-append}
 use Rattle.session_run.specs.Replay.{IsReplay}
-use Rattle.session_run.specs.Resuming.{HasResumed, HaveFewCommands, IsFeedAfter, form_after}
-use Rattle.session_run.specs.Serving.{FeedRun, HasServed, IsFeedOf}
+use Rattle.live_sessions.specs.Resuming.{HasResumed, HaveFewCommands, IsFeedAfter, form_after}
+use Rattle.live_sessions.specs.Serving.{FeedRun, HasServed, IsFeedOf}
 use Rattle.log_audit.specs.declared.verdict.AuditFault.{AuditFault}
 use Rattle.log_audit.specs.declared.verdict.Verdict.{Verdict}
 use Rattle.log_audit.specs.declared.verdict.Verdict.TheVariants.{Yes}

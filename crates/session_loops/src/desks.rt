@@ -4,18 +4,17 @@ ghost use Rattle.ride_model.specs.declared.entry.Ending.TheVariants.{Whole};
 ghost use Rattle.ride_model.specs.declared.entry.Event.TheVariants.{Finish};
 ghost use Rattle.ride_model.specs.Legal.{IsLegalEvent};
 ghost use Rattle.turn_lock.specs.Passes.{knowledge};
-ghost use Rattle.fleet_board.specs.Openings.{IsPriceable};
+ghost use Rattle.batch_commit.specs.Table.{IsPriceable};
 ghost use Rattle.fleet_board.specs.Passes.{IsPoint, actor_of, root_of, seen_state};
 ghost use Rattle.fleet_board.specs.Roles.{MayCommit, MayOpen};
 ghost use Rattle.fleet_board.specs.Sharing.{MayUse};
 ghost use Rattle.session_loops.specs.Loops.{RunsDesk};
 ghost use Rattle.session_loops.specs.Making.{ClosesBatch, ClosesFirst, HasRunBatches};
 
-use crate::solving::solved;
 use batch_commit::Batch;
 use board_core::Opening;
 use fleet_board::{ActorPass, SharedBoard};
-use pricing_workers::Pricer;
+use pricing_workers::{Pricer, seat_batch};
 use ride_model::Ending;
 use ride_ports::{Gate, Ran};
 use std::sync::Wait;
@@ -154,7 +153,7 @@ fn close_batch<'r, R: Threads + Wait + Sync, G: Gate>(
     ensures pricer { pricer.new ≡ pricer.old }
 {
     gate.pass(1);
-    match solved(rt, batch, pricer, gate) {
+    match seat_batch(rt, batch, pricer, gate) {
         Ok(solved) => {
             gate.pass(2);
             board.commit(rt, pass, solved);

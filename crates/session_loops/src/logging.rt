@@ -1,11 +1,9 @@
-//! What is written of a session: its log, or the sheets of its batches.
+//! What is written of a session's log.
 ghost use Rattle.std.specs.Prelude.{◌≡◌, [], All};
 ghost use Rattle.ride_model.specs.Text.{HasLine, IsOneOrTwo, entry_line, entry_lines, head_line};
-ghost use Rattle.idle_moves.specs.AheadText.{head_line as head_of_sheets, last_line, sheet_line};
 ghost use Rattle.text_page.specs.Output.{HasPut, IsFresh, Puts};
 
-use idle_moves::{MoveSheet, print_end, print_head as print_reach, print_sheet};
-use ride_model::{Ending, Entry};
+use ride_model::Entry;
 use ride_ports::Sink;
 use text_page::Output;
 use trip_log::{print_entry, print_head};
@@ -57,41 +55,5 @@ fn put<K: Sink>(output: &mut Output, out: &mut K, entry: &Entry, log: u8)
         return;
     }
     let printed = print_entry(entry, log, out);
-    output.note(printed);
-}
-
-/// Writes the first line of the sheets within a reach.
-pub fn put_reach<K: Sink>(output: &mut Output, out: &mut K, reach: u64)
-    requires { IsFresh output.old }
-    ensures { HasPut (K.written out.old) (K.written out.new) (K.faults out.old) (K.faults out.new)
-        output.new (head_of_sheets reach) }
-{
-    let printed = print_reach(reach, out);
-    output.note(printed);
-}
-
-/// Writes the line of a sheet.
-pub fn put_sheet<K: Sink>(output: &mut Output, out: &mut K, sheet: &MoveSheet)
-    ensures { Puts (K.written out.old) (K.faults out.old) output.old (K.written out.new)
-        (K.faults out.new) output.new (sheet_line sheet.now) }
-{
-    output.end(out);
-    if output.failed() {
-        return;
-    }
-    let printed = print_sheet(sheet, out);
-    output.note(printed);
-}
-
-/// Writes the last line of the sheets.
-pub fn put_end<K: Sink>(output: &mut Output, out: &mut K, ending: Ending)
-    ensures { Puts (K.written out.old) (K.faults out.old) output.old (K.written out.new)
-        (K.faults out.new) output.new (last_line ending) }
-{
-    output.end(out);
-    if output.failed() {
-        return;
-    }
-    let printed = print_end(ending, out);
     output.note(printed);
 }

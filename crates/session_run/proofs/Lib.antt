@@ -14,14 +14,3 @@ pub mod Replays
 pub mod WrittenSessions
 pub mod Begun
 pub mod NothingLeft
-pub mod Counts
-pub mod FeedParts
-pub mod DeskParts
-pub mod BrokenOff
-pub mod OpenDesks
-pub mod Sessions
-pub mod Starts
-pub mod StageLemmas
-pub mod ScribeRuns
-pub mod Served
-pub mod Beginnings

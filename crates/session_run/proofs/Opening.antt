@@ -1,5 +1,5 @@
 -- A board whose desk opens the next batch, and closes it.
-use Rattle.std.proofs.Common.{◌≡◌, ℕ, ◌+◌, ◌≤◌, Bool, true, false, cond, List, [], ◌∷◌, ◌++◌, Option, Some, None, lt-ltb, refl, sym, ap, subst, ◌∙◌, arith, append_assoc}
+use Rattle.std.proofs.Common.{◌≡◌, ℕ, ◌+◌, Bool, true, false, cond, List, [], ◌∷◌, ◌++◌, Option, Some, None, lt-ltb, refl, sym, ap, subst, ◌∙◌, arith, append_assoc}
 use Rattle.std.specs.Prelude.{option_and_then, nat_lt, ◌==◌, IsSome, IsSomeAnd, All}
 use Rattle.ride_model.specs.declared.command.Actor.TheVariants.{Desk}
 use Rattle.ride_model.specs.declared.entry.Entry.{Entry}
@@ -9,17 +9,13 @@ use Rattle.ride_model.specs.Batch.{was_cancelled, next_batch, after_opening, aft
 use Rattle.ride_model.specs.History.{awaited_after}
 use Rattle.ride_model.specs.History.Awaited.{any}
 use Rattle.ride_model.specs.Legal.{all_feeds_ended, replay, IsLegal, IsLegalEntry, CommitsBatch}
-use Rattle.ride_model.specs.Road.{RoadMap}
-use Rattle.ride_model.specs.Seating.{BatchCopy, IsBatchOver, seat_offer, seating_cost}
-use Rattle.ride_model.specs.Vehicle.{IsLawful}
+use Rattle.ride_model.specs.Seating.{BatchCopy, seat_offer, seating_cost}
 use Rattle.ride_model.specs.State.{State, open_batch_numbered}
 use Rattle.batch_commit.specs.Solved.{SolvedBatch}
 use Rattle.plain_lemmas.proofs.Each.{of_all, all_of}
 use Rattle.model_laws.proofs.Histories.{IsLegal-parts}
 use Rattle.model_laws.proofs.RequestStates.{others-opening, abandon-is}
 use Rattle.history_laws.specs.Consistent.{IsOpenBatch}
-use Rattle.history_laws.specs.Start.{IsStart}
-use Rattle.history_laws.proofs.EveryState.{consistent}
 use Rattle.board_core.specs.declared.opening.Opening.{Opening}
 use Rattle.board_core.specs.declared.opening.Opening.TheVariants.{Batch, Idle, Ended}
 use Rattle.board_core.specs.Opening.{opening_at}
@@ -164,20 +160,6 @@ runs committed old middle new asked start feeds history closed =
           ∙ ap (λ o. option_and_then (λ a. awaited_after a entry.actor entry.event) o) awaited);
       none_given_up = λ is none. closed.none_given_up is (gave_up-push old.history middle.history entry history refl none);
     }
-
--- what pricing asks of an open batch
-pub opened-fits : (board : Recorded) (batch : BatchCopy) → IsOpened batch board → IsStart board.start
-    → IsLegal board.feeds board.desks board.start board.history
-    → (batch.time ≤ 1000000000) × IsBatchOver board.start.roads batch × All (IsLawful board.start.roads) batch.vehicles
-opened-fits board batch opened begins legal =
-    let is = consistent board.feeds board.desks board.start board.history begins legal in
-    let roads : (state_of board).roads ≡ board.start.roads = is.roads_stay in
-    let in_time : batch.time ≤ (state_of board).clock = opened.open_now.in_time in
-    let clock : (state_of board).clock ≤ 1000000000 = is.clock_fits in (
-      omega arith,
-      subst (λ (r : RoadMap). IsBatchOver r batch) roads opened.open_now.over_map,
-      subst (λ (r : RoadMap). All (IsLawful r) batch.vehicles) roads opened.open_now.lawful,
-    )
 
 -- what a desk gets at a board at which a batch is to be opened
 pub next-opened : (s : State) (feeds : ℕ) (batch : BatchCopy) (o : Opening) → o ≡ opening_at feeds s 1 → o ≡ Batch batch

@@ -43,8 +43,8 @@ lines-more reach sheets more =
 -- a session before and after an answer, of which sheets are told
 module _ (reach : ℕ) (answered : Answered) (earlier now later : Option (List ℕ)) (faults n m : ℕ) (old new : SessionState)
     (wanting : new.no_memory ≡ (old.no_memory || not (is_whole answered)))
-    (logged : (text : List ℕ) → HasPut earlier now faults n old.log text
-    → HasPut earlier later faults m new.log (text ++ cond new.no_memory [] (sheet_lines (sheets_in answered)))) where
+    (logged : (text : List ℕ) → HasPut earlier now faults n old.output text
+    → HasPut earlier later faults m new.output (text ++ cond new.no_memory [] (sheet_lines (sheets_in answered)))) where
   -- where memory was wanting no more is told
   told-wanting : new.no_memory ≡ true → GoesOn old.board new.board
       → TellsSheets reach (λ sheets. head_line reach ++ sheet_lines sheets) earlier now faults n old
@@ -62,7 +62,7 @@ module _ (reach : ℕ) (answered : Answered) (earlier now later : Option (List �
         prompt = tells.prompt;
         sheets_are = subst (λ s. AreSheetsOf s reach tells.first tells.sheets) (sym goes_on.start) tells.sheets_are;
         all = λ sound. absurd (cc (is, sound));
-        logged = subst (λ (t : List ℕ). HasPut earlier later faults m new.log t)
+        logged = subst (λ (t : List ℕ). HasPut earlier later faults m new.output t)
             (ap (λ b. text ++ cond b [] (sheet_lines (sheets_in answered))) is ∙ append-nil text) (logged text tells.logged);
       }
 
@@ -83,7 +83,7 @@ module _ (reach : ℕ) (answered : Answered) (earlier now later : Option (List �
         sheets_are = goes_on.sheets whole reach refl tells.sheets
             (subst (λ h. AreSheetsOf old.board.start reach h tells.sheets) first tells.sheets_are);
         all = λ _. refl;
-        logged = subst (λ (t : List ℕ). HasPut earlier later faults m new.log t)
+        logged = subst (λ (t : List ℕ). HasPut earlier later faults m new.output t)
             (ap (λ b. text ++ cond b [] (sheet_lines more)) is ∙ lines-more reach tells.sheets more) (logged text tells.logged);
       }
     where
@@ -104,8 +104,8 @@ module _ (reach : ℕ) (answered : Answered) (earlier now later : Option (List �
 -- the last line is told where memory was not wanting
 pub told-last : (reach told : ℕ) (ending : Ending) (earlier now later : Option (List ℕ)) (faults n m : ℕ) (old new : SessionState)
     → new.no_memory ≡ old.no_memory → GoesOnTo ending told old.board new.board
-    → ((text : List ℕ) → HasPut earlier now faults n old.log text
-    → HasPut earlier later faults m new.log (text ++ cond old.no_memory [] (last_line ending)))
+    → ((text : List ℕ) → HasPut earlier now faults n old.output text
+    → HasPut earlier later faults m new.output (text ++ cond old.no_memory [] (last_line ending)))
     → TellsSheets reach (λ sheets. head_line reach ++ sheet_lines sheets) earlier now faults n old
     → TellsSheets reach (sheets_text reach new.no_memory ending) earlier later faults m new
 told-last reach told ending earlier now later faults n m old new same goes_on logged tells =
@@ -128,7 +128,7 @@ told-last reach told ending earlier now later faults n m old new same goes_on lo
           prompt = tells.prompt;
           sheets_are = subst (λ s. AreSheetsOf s reach tells.first tells.sheets) (sym goes_on.start) tells.sheets_are;
           all = λ sound. absurd (cc (is, same, sound));
-          logged = subst (λ (t : List ℕ). HasPut earlier later faults m new.log t)
+          logged = subst (λ (t : List ℕ). HasPut earlier later faults m new.output t)
               (ap (λ b. lines ++ cond b [] (last_line ending)) is ∙ append-nil lines
               ∙ sym (ap (λ b. sheets_text reach b ending tells.sheets) (same ∙ is))) (logged lines tells.logged);
         }
@@ -142,18 +142,18 @@ told-last reach told ending earlier now later faults n m old new same goes_on lo
           sheets_are = adds-ends reach old.board new.board ending goes_on.desk_ending goes_on.start goes_on.grows tells.sheets
               (subst (λ h. AreSheetsOf old.board.start reach h tells.sheets) first tells.sheets_are);
           all = λ _. refl;
-          logged = subst (λ (t : List ℕ). HasPut earlier later faults m new.log t)
+          logged = subst (λ (t : List ℕ). HasPut earlier later faults m new.output t)
               (ap (λ b. lines ++ cond b [] (last_line ending)) is
               ∙ ap (λ sheets. ahead_text reach ending sheets) (sym (append-nil tells.sheets))
               ∙ sym (ap (λ b. sheets_text reach b ending (tells.sheets ++ [])) (same ∙ is))) (logged lines tells.logged);
         }
 
 -- what was told stays told where the page is written
-pub told-flushed : (reach : Option ℕ) (ending : Ending) (earlier now later : Option (List ℕ)) (faults n m : ℕ) (s : SessionState) (log : OutputState)
-    → ((text : List ℕ) → HasPut earlier now faults n s.log text → HasPut earlier later faults m log text)
-    → HasToldAllBy reach ending earlier now faults n s → HasToldAllBy reach ending earlier later faults m (record s { log = log })
-told-flushed None ending earlier now later faults n m s log logged told = logged (text_of s.board.start.settings.log 1 1 s.board.history) told
-told-flushed (Some reach) ending earlier now later faults n m s log logged told = record {
+pub told-flushed : (reach : Option ℕ) (ending : Ending) (earlier now later : Option (List ℕ)) (faults n m : ℕ) (s : SessionState) (output : OutputState)
+    → ((text : List ℕ) → HasPut earlier now faults n s.output text → HasPut earlier later faults m output text)
+    → HasToldAllBy reach ending earlier now faults n s → HasToldAllBy reach ending earlier later faults m (record s { output = output })
+told-flushed None ending earlier now later faults n m s output logged told = logged (text_of s.board.start.settings.log 1 1 s.board.history) told
+told-flushed (Some reach) ending earlier now later faults n m s output logged told = record {
   first = told.first;
   sheets = told.sheets;
   begins = told.begins;
@@ -164,11 +164,11 @@ told-flushed (Some reach) ending earlier now later faults n m s log logged told 
 }
 
 -- what was told stays told, where more of it is written
-pub told-written : (reach : Option ℕ) (earlier now later : Option (List ℕ)) (faults n m : ℕ) (s : SessionState) (log : OutputState)
-    → ((text : List ℕ) → HasPut earlier now faults n s.log text → HasPut earlier later faults m log text)
-    → HasToldBy reach earlier now faults n s → HasToldBy reach earlier later faults m (record s { log = log })
-told-written None earlier now later faults n m s log put told = put _ told
-told-written (Some reach) earlier now later faults n m s log put told = record {
+pub told-written : (reach : Option ℕ) (earlier now later : Option (List ℕ)) (faults n m : ℕ) (s : SessionState) (output : OutputState)
+    → ((text : List ℕ) → HasPut earlier now faults n s.output text → HasPut earlier later faults m output text)
+    → HasToldBy reach earlier now faults n s → HasToldBy reach earlier later faults m (record s { output = output })
+told-written None earlier now later faults n m s output put told = put _ told
+told-written (Some reach) earlier now later faults n m s output put told = record {
   first = told.first;
   sheets = told.sheets;
   begins = told.begins;

@@ -42,12 +42,12 @@ same-text reach false false one other sheets same ending = ap (λ e. ahead_text 
 
 -- what was written of a session whose run is this
 module _ (start : State) (ran : Ran) (taken : List ℕ) (ending : Ending) (before after : Option (List ℕ)) (faults n : ℕ) (s : SessionState)
-    (start_is : s.board.start ≡ start) (failed : ran.sink_failed ≡ s.log.failed) (memory : ran.no_memory ≡ s.no_memory)
-    (ends : s.no_memory ≡ false → ending ≡ feed_ending ran) (nothing_left : s.log.failed ≡ false → s.log.page ≡ []) where
+    (start_is : s.board.start ≡ start) (failed : ran.sink_failed ≡ s.output.failed) (memory : ran.no_memory ≡ s.no_memory)
+    (ends : s.no_memory ≡ false → ending ≡ feed_ending ran) (nothing_left : s.output.failed ≡ false → s.output.page ≡ []) where
   by_reach : (reach : Option ℕ) → HasToldAllBy reach ending before after faults n s → IsWrittenBy reach start ran taken s.board.history before after
   by_reach None told =
       subst (λ (from : State). IsLogged ran taken before after (text_of from.settings.log 1 1 s.board.history)) start_is
-      (is-logged ran taken before after faults n s.log (text_of s.board.start.settings.log 1 1 s.board.history) failed nothing_left told)
+      (is-logged ran taken before after faults n s.output (text_of s.board.start.settings.log 1 1 s.board.history) failed nothing_left told)
   by_reach (Some reach) told = record {
     first = told.first;
     sheets = told.sheets;
@@ -57,7 +57,7 @@ module _ (start : State) (ran : Ran) (taken : List ℕ) (ending : Ending) (befor
     all = λ sound. told.all (sym memory ∙ sound);
     written = subst (IsLogged ran taken before after)
         (same-text reach s.no_memory ran.no_memory ending (feed_ending ran) told.sheets (sym memory) ends)
-        (is-logged ran taken before after faults n s.log (sheets_text reach s.no_memory ending told.sheets) failed nothing_left told.logged);
+        (is-logged ran taken before after faults n s.output (sheets_text reach s.no_memory ending told.sheets) failed nothing_left told.logged);
   }
 
   pub written-by : (reach : Option ℕ) → s.reach ≡ reach → HasToldAll ending before after faults n s
@@ -67,7 +67,7 @@ module _ (start : State) (ran : Ran) (taken : List ℕ) (ending : Ending) (befor
 -- some text was logged
 pub record LoggedSome (before after : Option (List ℕ)) (faults n : ℕ) (s : SessionState) : Type 0 where
   pub text : List ℕ
-  pub has : HasPut before after faults n s.log text
+  pub has : HasPut before after faults n s.output text
 
 pub logged-some : (reach : Option ℕ) (ending : Ending) (before after : Option (List ℕ)) (faults n : ℕ) (s : SessionState)
     → HasToldAllBy reach ending before after faults n s → LoggedSome before after faults n s

@@ -53,11 +53,11 @@ pub record TellsSheets (reach : ℕ) (text : List MoveSheet → List ℕ) (earli
   pub prompt : IsPrompt first
   pub sheets_are : AreSheetsOf s.board.start reach first sheets
   pub all : s.no_memory ≡ false → first ≡ s.board.history
-  pub logged : HasPut earlier now faults_before faults_now s.log (text sheets)
+  pub logged : HasPut earlier now faults_before faults_now s.output (text sheets)
 
 -- what was written of a session so far: its log, or sheets
 abbrev pub HasToldBy : Option ℕ → Option (List ℕ) → Option (List ℕ) → ℕ → ℕ → SessionState → Type 0
-HasToldBy None earlier now faults_before faults_now s = IsTold earlier now faults_before faults_now s.log s.board
+HasToldBy None earlier now faults_before faults_now s = IsTold earlier now faults_before faults_now s.output s.board
 HasToldBy (Some reach) earlier now faults_before faults_now s =
     TellsSheets reach (λ sheets. head_line reach ++ sheet_lines sheets) earlier now faults_before faults_now s
 
@@ -66,7 +66,7 @@ HasTold earlier now faults_before faults_now s = HasToldBy s.reach earlier now f
 
 -- what was written of a session at its end: its log, or sheets with their last line where memory was not wanting
 abbrev pub HasToldAllBy : Option ℕ → Ending → Option (List ℕ) → Option (List ℕ) → ℕ → ℕ → SessionState → Type 0
-HasToldAllBy None ending earlier now faults_before faults_now s = IsTold earlier now faults_before faults_now s.log s.board
+HasToldAllBy None ending earlier now faults_before faults_now s = IsTold earlier now faults_before faults_now s.output s.board
 HasToldAllBy (Some reach) ending earlier now faults_before faults_now s =
     TellsSheets reach (sheets_text reach s.no_memory ending) earlier now faults_before faults_now s
 

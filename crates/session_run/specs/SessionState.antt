@@ -7,6 +7,6 @@ use Rattle.text_page.specs.Output.{OutputState}
 -- wanting
 pub record SessionState : Type 0 where
   pub board : Recorded
-  pub log : OutputState
+  pub output : OutputState
   pub reach : Option ℕ
   pub no_memory : Bool

@@ -1,10 +1,8 @@
 //! The batch after an accepted ask.
-ghost use Rattle.std.specs.Prelude.{◌≡◌, ◌≤◌, ◌++◌, ◌∷◌, [], ℕ, true, Some, All, IfOk, MatchOption, OnErr};
+ghost use Rattle.std.specs.Prelude.{◌≡◌, ◌≤◌, ◌++◌, ◌∷◌, [], ℕ, true, Some, IfOk, MatchOption, OnErr};
 ghost use Rattle.std.specs.Option.{ForSome};
-ghost use Rattle.ride_model.specs.Seating.{IsBatchOver};
-ghost use Rattle.ride_model.specs.Vehicle.{IsLawful};
 ghost use Rattle.ride_model.specs.Limits.{longest_reach};
-ghost use Rattle.batch_commit.specs.Table.{IsTableOf};
+ghost use Rattle.batch_commit.specs.Table.{IsPriceable, IsTableOf};
 ghost use Rattle.board_core.specs.Recorded.{committed_entry, state_of};
 ghost use Rattle.session_run.specs.Planning.{AddsSheets, CommitsPlanned, IsPlanned, is_whole, sheets_in};
 ghost use Rattle.session_run.specs.Running.{Closes, IsAsked, IsOpened, RunsBatch};
@@ -89,7 +87,7 @@ fn close_batch<R: Threads + Sync>(
 {
     // This call tells that the history is legal.
     let _history = board.entries();
-    match tools.solved(rt, batch) {
+    match tools.seat_batch(rt, batch) {
         Ok(solved) => {
             let answered = plan(tools, &solved, reach);
             commit(board, solved);
@@ -105,8 +103,7 @@ fn close_batch<R: Threads + Sync>(
 /// Plans the moves of a solved batch, where a reach is given.
 fn plan(tools: &mut Tools<'_>, solved: &Solved, reach: Option<u64>) -> Answered
     requires reach_limit { ForSome reach (λ r. r ≤ longest_reach) }
-    requires over_map { IsBatchOver tools.old solved.now.batch }
-    requires lawful { All (IsLawful tools.old) solved.now.batch.vehicles }
+    requires priceable { IsPriceable tools.old solved.now.batch }
     ensures planned { IsPlanned tools.old reach solved.now result }
     ensures tools { tools.new ≡ tools.old }
 {

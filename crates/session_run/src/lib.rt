@@ -1,20 +1,19 @@
 //! Sessions, whose trip log is written as it comes. In a replay of one feed a batch is opened, priced, seated and committed at
-//! once after each accepted ask; the same session writes sheets of orders to idle vehicles; in a session of two feeds riders and
-//! drivers are answered while desks price; a drill is the session of a generated city.
+//! once after each accepted ask; the same session writes sheets of orders to idle vehicles; a drill is the session of a generated
+//! city. Live sessions of two feeds are those of `live_sessions`.
 #![tactic(auto)]
 
 mod answers;
 mod batches;
 mod drills;
-mod live;
 mod one_feed;
 mod replaying;
 mod sending;
 mod session;
+mod sheets;
 mod tools;
+mod writes;
 
 pub use drills::drill;
-pub use live::{Interrupted, Outset, have_few_commands, resume, serve};
 pub use replaying::replay;
 pub use sending::ahead;
-pub use session_loops::{Scribed, desk_loop, feed_loop, scribe_loop, solved};

@@ -17,8 +17,10 @@ ghost use Rattle.session_run.specs.Reading.{HasRun, HasTold};
 ghost use Rattle.line_reader.specs.FeedRuns.{IsReadWhole};
 ghost use Rattle.session_run.specs.Replay.{IsReplay};
 ghost use Rattle.session_run.specs.Running.{IsRunning};
+ghost use Rattle.session_run.specs.Writing.{reach_of};
 
 use crate::session::Session;
+use crate::writes::Writes;
 use adaptive_roads::Roads;
 use command_lines::{FeedForm, FeedReader};
 use line_reader::{Stop, is_source_failed, is_too_long};
@@ -29,8 +31,8 @@ use session_loops::ending_of;
 use std::alloc::Global;
 use std::thread::Threads;
 
-/// Answers a feed over a fleet: after each accepted ask a batch is opened, priced, seated and committed at once. Its log is
-/// written, or the sheets of its batches where their reach is given, each line before more of the feed is waited for.
+/// Answers a feed over a fleet: after each accepted ask a batch is opened, priced, seated and committed at once. Each line of what is
+/// written is written before more of the feed is waited for.
 pub(crate) fn run_one_feed<R: Threads + Sync, S: Source, K: Sink>(
     rt: &R,
     alloc: Global,
@@ -38,15 +40,15 @@ pub(crate) fn run_one_feed<R: Threads + Sync, S: Source, K: Sink>(
     settings: Settings,
     fleet: Fleet,
     feed: &mut S,
-    reach: Option<u64>,
+    writes: Writes,
     out: &mut K,
 ) -> Ran
     requires start { MayStart roads.now settings fleet }
-    requires reach_limit { ForSome reach (λ r. r ≤ longest_reach) }
+    requires reach_limit { ForSome (reach_of writes) (λ r. r ≤ longest_reach) }
     ensures session { (taken : List ℕ) × (entries : List Entry)
         × Reads (S.left feed.old) (S.left feed.new) taken
         × IsReplay (start_state roads.now settings fleet) result (S.left feed.old) taken entries
-        × IsWrittenBy reach (start_state roads.now settings fleet) result taken entries
+        × IsWrittenBy (reach_of writes) (start_state roads.now settings fleet) result taken entries
         (K.written out.old) (K.written out.new) }
     ensures to_end { result.no_memory ≡ false → IsReadWhole result
         → IfSome (S.left feed.new) (λ bytes. bytes ≡ []) }
@@ -57,7 +59,7 @@ pub(crate) fn run_one_feed<R: Threads + Sync, S: Source, K: Sink>(
     // These calls tell that the map and the fleet are within their limits.
     let _nodes = roads.nodes();
     let _vehicles = fleet.vehicles();
-    let Ok((mut session, mut reader)) = begun(rt, alloc, roads, settings, fleet, reach) else {
+    let Ok((mut session, mut reader)) = begun(rt, alloc, roads, settings, fleet, writes) else {
         return Ran {
             sink_failed: false,
             no_memory: true,
@@ -85,23 +87,23 @@ fn begun<'r>(
     roads: &'r Roads,
     settings: Settings,
     fleet: Fleet,
-    reach: Option<u64>,
+    writes: Writes,
 ) -> Result<(Session<'r>, FeedReader), NoMemory>
     requires start { MayStart roads.now settings fleet }
-    requires reach_limit { ForSome reach (λ r. r ≤ longest_reach) }
+    requires reach_limit { ForSome (reach_of writes) (λ r. r ≤ longest_reach) }
     ensures start { IfOk result (λ made. made.0.board.start
         ≡ start_state roads.now settings fleet) }
     ensures history { IfOk result (λ made. made.0.board.history ≡ []) }
     ensures running { IfOk result (λ made. IsRunning made.0.board made.0.no_memory) }
-    ensures log { IfOk result (λ made. IsFresh made.0.log) }
-    ensures reach { IfOk result (λ made. made.0.reach ≡ reach) }
+    ensures output { IfOk result (λ made. IsFresh made.0.output) }
+    ensures reach { IfOk result (λ made. made.0.reach ≡ reach_of writes) }
     ensures form { IfOk result (λ made. made.1.form ≡ new_feed settings.log) }
     ensures nothing_given { IfOk result
         (λ made. (left : Option (List ℕ)) → HasGiven made.1 left [] []) }
 {
     let reader = FeedReader::new(alloc, FeedForm::new(settings.log))?;
     let workers = workers_at_hand(rt);
-    let session = Session::new(alloc, roads, settings, fleet, workers, reach)?;
+    let session = Session::new(alloc, roads, settings, fleet, workers, writes)?;
     Ok((session, reader))
 }
 

@@ -11,6 +11,7 @@ ghost use Rattle.line_reader.specs.FeedRuns.{IsReadWhole};
 ghost use Rattle.session_run.specs.Replay.{IsReplay};
 
 use crate::one_feed::run_one_feed;
+use crate::writes::Writes;
 use adaptive_roads::Roads;
 use ride_model::{Fleet, Settings};
 use ride_ports::{Ran, Sink, Source};
@@ -42,5 +43,5 @@ pub fn replay<R: Threads + Sync, S: Source, K: Sink>(
         (S.faults feed.old) (S.faults feed.new) }
     ensures sink_faults { KeepsCount result.sink_failed (K.faults out.old) (K.faults out.new) }
 {
-    run_one_feed(rt, alloc, roads, settings, fleet, feed, None, out)
+    run_one_feed(rt, alloc, roads, settings, fleet, feed, Writes::Log, out)
 }

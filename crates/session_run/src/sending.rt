@@ -11,6 +11,7 @@ ghost use Rattle.line_reader.specs.FeedRuns.{IsReadWhole};
 ghost use Rattle.session_run.specs.Replay.{IsReplay};
 
 use crate::one_feed::run_one_feed;
+use crate::writes::Writes;
 use adaptive_roads::Roads;
 use ride_model::{Fleet, Settings};
 use ride_ports::{Ran, Sink, Source};
@@ -45,5 +46,6 @@ pub fn ahead<R: Threads + Sync, S: Source, K: Sink>(
         (S.faults feed.old) (S.faults feed.new) }
     ensures sink_faults { KeepsCount result.sink_failed (K.faults out.old) (K.faults out.new) }
 {
-    run_one_feed(rt, alloc, roads, settings, fleet, feed, Some(reach), out)
+    let sheets = Writes::Sheets(reach);
+    run_one_feed(rt, alloc, roads, settings, fleet, feed, sheets, out)
 }

@@ -1,5 +1,5 @@
 //! A board, and what is written of it.
-ghost use Rattle.std.specs.Prelude.{◌≡◌, ℕ, ◌<◌, ◌≤◌, ◌++◌, ◌∷◌, ◌||◌, [], length, take, not, false, true, if◌then◌else◌, nat_eq, IfOk, OnErr, OnOk, List, None, Option, Some};
+ghost use Rattle.std.specs.Prelude.{◌≡◌, ℕ, ◌<◌, ◌≤◌, ◌++◌, ◌∷◌, ◌||◌, [], length, take, not, false, true, if◌then◌else◌, nat_eq, IfOk, OnErr, OnOk, List, Option, Some};
 ghost use Rattle.ride_model.specs.Fleet.{MayStart};
 ghost use Rattle.std.specs.Option.{ForSome};
 ghost use Rattle.ride_model.specs.declared.command.Actor.TheVariants.{Desk, Feed};
@@ -16,15 +16,18 @@ ghost use Rattle.session_run.specs.Planning.{is_whole, sheets_in};
 ghost use Rattle.session_run.specs.Reading.{HasTold, HasToldAll, IsTold};
 ghost use Rattle.session_run.specs.Telling.{GoesOnTo, GoesOnWith};
 ghost use Rattle.session_run.specs.Running.{IsRunning, IsSession, Stops};
+ghost use Rattle.session_run.specs.Writing.{reach_of};
 
 use crate::answers::answer;
 use crate::batches::Answered;
+use crate::sheets::{put_end, put_reach, put_sheet};
 use crate::tools::Tools;
+use crate::writes::Writes;
 use adaptive_roads::Roads;
 use board_core::Board;
 use ride_model::{Actor, Command, Ending, Entry, Fleet, NoMemory, Settings};
 use ride_ports::Sink;
-use session_loops::{put_all, put_end, put_head, put_reach, put_sheet};
+use session_loops::{put_all, put_head};
 use std::alloc::Global;
 use std::marker::Model;
 use std::thread::Threads;
@@ -34,11 +37,8 @@ use text_page::Output;
 pub(crate) struct Session<'r> {
     board: Board<'r>,
     tools: Tools<'r>,
-    log: Output,
-    /// The version of the log.
-    version: u8,
-    /// The reach of the sheets, where these are written in place of the log.
-    reach: Option<u64>,
+    output: Output,
+    writes: Writes,
     no_memory: bool,
 }
 
@@ -46,14 +46,21 @@ impl<'r> Model for Session<'r> {
     ghost use Rattle.std.specs.Prelude.{◌≡◌, ◌≤◌};
     ghost use Rattle.std.specs.Option.{ForSome};
     ghost use Rattle.session_run.specs.SessionState.{SessionState};
+    ghost use Rattle.session_run.specs.Writing.{reach_of};
 
     ghost Value = { SessionState };
 
-    ghost view = { λ s. record { board = s.board; log = s.log; reach = s.reach; no_memory = s.no_memory } };
+    ghost view = { λ s. record {
+      board = s.board;
+      output = s.output;
+      reach = reach_of s.writes;
+      no_memory = s.no_memory;
+    } };
 
     ghost use Rattle.ride_model.specs.Limits.{longest_reach};
 
-    ghost invariant = { λ s. (s.tools ≡ s.board.start.roads) × (s.version ≡ s.board.start.settings.log) × ForSome s.reach (λ r. r ≤ longest_reach) };
+    ghost invariant = { λ s. (s.tools ≡ s.board.start.roads)
+        × ForSome (reach_of s.writes) (λ r. r ≤ longest_reach) };
 }
 
 impl Drop for Session<'_> {
@@ -61,14 +68,13 @@ impl Drop for Session<'_> {
         let Session {
             board,
             tools,
-            log,
-            version: _,
-            reach: _,
+            output,
+            writes: _,
             no_memory: _,
         } = self;
         drop(board);
         drop(tools);
-        drop(log);
+        drop(output);
     }
 }
 
@@ -80,29 +86,27 @@ impl<'r> Session<'r> {
         settings: Settings,
         fleet: Fleet,
         workers: usize,
-        reach: Option<u64>,
+        writes: Writes,
     ) -> Result<Session<'r>, NoMemory>
         requires workers { 1 ≤ workers }
-        requires reach_limit { ForSome reach (λ r. r ≤ longest_reach) }
+        requires reach_limit { ForSome (reach_of writes) (λ r. r ≤ longest_reach) }
         requires start { MayStart roads.now settings fleet }
         ensures start { IfOk result (λ session. session.board.start
             ≡ start_state roads.now settings fleet) }
         ensures history { IfOk result (λ session. session.board.history ≡ []) }
         ensures running { IfOk result (λ session. IsRunning session.board session.no_memory) }
-        ensures log { IfOk result (λ session. IsFresh session.log) }
-        ensures reach { IfOk result (λ session. session.reach ≡ reach) }
+        ensures output { IfOk result (λ session. IsFresh session.output) }
+        ensures reach { IfOk result (λ session. session.reach ≡ reach_of writes) }
         ensures memory { IfOk result (λ session. session.no_memory ≡ false) }
     {
         let tools = Tools::new(alloc, roads, workers)?;
-        let log = Output::new(alloc)?;
-        let version = settings.log;
+        let output = Output::new(alloc)?;
         let board = Board::new(alloc, roads, settings, fleet, 1, 1)?;
         Ok(Session {
             board,
             tools,
-            log,
-            version,
-            reach,
+            output,
+            writes,
             no_memory: false,
         })
     }
@@ -127,18 +131,18 @@ impl<'r> Session<'r> {
 
     /// Whether the sink failed.
     pub(crate) fn sink_failed(&self) -> bool
-        ensures { result ≡ self.now.log.failed }
+        ensures { result ≡ self.now.output.failed }
     {
-        self.log.failed()
+        self.output.failed()
     }
 
     /// Writes the first line, at once.
     pub(crate) fn begin<K: Sink>(&mut self, out: &mut K)
-        requires fresh { IsFresh self.old.log }
+        requires fresh { IsFresh self.old.output }
         requires bare { self.old.board.history ≡ [] }
         ensures told { HasTold (K.written out.old) (K.written out.new)
             (K.faults out.old) (K.faults out.new) self.new }
-        ensures others { self.new ≡ record self.old { log = self.new.log } }
+        ensures others { self.new ≡ record self.old { output = self.new.output } }
     {
         self.tell_first(out);
         self.write_told(out, false);
@@ -149,29 +153,30 @@ impl<'r> Session<'r> {
         ensures told { (earlier : Option (List ℕ)) (faults : ℕ)
             → HasTold earlier (K.written out.old) faults (K.faults out.old) self.old
             → HasTold earlier (K.written out.new) faults (K.faults out.new) self.new }
-        ensures others { self.new ≡ record self.old { log = self.new.log } }
-        ensures nothing_left { more ≡ false → self.new.log.failed ≡ false → self.new.log.page ≡ [] }
+        ensures others { self.new ≡ record self.old { output = self.new.output } }
+        ensures nothing_left { more ≡ false → self.new.output.failed ≡ false
+            → self.new.output.page ≡ [] }
     {
         if more {
             return;
         }
-        self.log.end(out);
+        self.output.end(out);
         self.tools.prepare();
     }
 
     // Tells the first line.
     fn tell_first<K: Sink>(&mut self, out: &mut K)
-        requires fresh { IsFresh self.old.log }
+        requires fresh { IsFresh self.old.output }
         requires bare { self.old.board.history ≡ [] }
         ensures told { HasTold (K.written out.old) (K.written out.new)
             (K.faults out.old) (K.faults out.new) self.new }
-        ensures others { self.new ≡ record self.old { log = self.new.log } }
+        ensures others { self.new ≡ record self.old { output = self.new.output } }
     {
         // This call tells that the version is 1 or 2.
         let _history = self.board.entries();
-        match self.reach {
-            Some(reach) => put_reach(&mut self.log, out, reach),
-            None => put_head(&mut self.log, out, self.version, 1, 1),
+        match self.writes {
+            Writes::Log => put_head(&mut self.output, out, self.board.log(), 1, 1),
+            Writes::Sheets(reach) => put_reach(&mut self.output, out, reach),
         }
     }
 
@@ -225,7 +230,8 @@ impl<'r> Session<'r> {
             → HasTold earlier (K.written out.new) faults (K.faults out.new) self.new }
     {
         let told = self.board.entries().len();
-        match answer(&mut self.board, &mut self.tools, rt, command, self.reach) {
+        let reach = self.writes.reach();
+        match answer(&mut self.board, &mut self.tools, rt, command, reach) {
             Ok(answered) => {
                 self.tell(out, told, &answered);
                 Ok(())
@@ -253,12 +259,12 @@ impl<'r> Session<'r> {
         ensures told { (earlier : Option (List ℕ)) (faults : ℕ)
             → HasTold earlier (K.written out.old) faults (K.faults out.old) self.old
             → HasToldAll ending earlier (K.written out.new) faults (K.faults out.new) self.new }
-        ensures nothing_left { self.new.log.failed ≡ false → self.new.log.page ≡ [] }
+        ensures nothing_left { self.new.output.failed ≡ false → self.new.output.page ≡ [] }
     {
         let told = self.board.entries().len();
         self.end_actors(ending);
         self.tell_end(out, told, ending);
-        self.log.end(out);
+        self.output.end(out);
     }
 
     // Ends the feed, and then the desk.
@@ -289,30 +295,30 @@ impl<'r> Session<'r> {
             (record self.old { board = board })
             → HasTold earlier (K.written out.new) faults (K.faults out.new) self.new }
         ensures others { self.new ≡ record self.old {
-          log = self.new.log;
+          output = self.new.output;
           no_memory = self.old.no_memory || not (is_whole answered.now);
         } }
     {
         self.no_memory |= !answered.is_whole();
-        match self.reach {
-            None => self.log_rest(out, told),
-            Some(_) => self.tell_sheet(out, answered),
+        match self.writes {
+            Writes::Log => self.log_rest(out, told),
+            Writes::Sheets(_) => self.tell_sheet(out, answered),
         }
     }
 
     // Writes the sheet of the batch after a command, if there is one and memory was not wanting.
     fn tell_sheet<K: Sink>(&mut self, out: &mut K, answered: &Answered)
         ensures told { (earlier : Option (List ℕ)) (faults : ℕ) (text : List ℕ)
-            → HasPut earlier (K.written out.old) faults (K.faults out.old) self.old.log text
-            → HasPut earlier (K.written out.new) faults (K.faults out.new) self.new.log
+            → HasPut earlier (K.written out.old) faults (K.faults out.old) self.old.output text
+            → HasPut earlier (K.written out.new) faults (K.faults out.new) self.new.output
             (text ++ (if self.old.no_memory then [] else sheet_lines (sheets_in answered.now))) }
-        ensures others { self.new ≡ record self.old { log = self.new.log } }
+        ensures others { self.new ≡ record self.old { output = self.new.output } }
     {
         if self.no_memory {
             return;
         }
         if let Some(sheet) = answered.sheet() {
-            put_sheet(&mut self.log, out, sheet);
+            put_sheet(&mut self.output, out, sheet);
         }
     }
 
@@ -324,24 +330,24 @@ impl<'r> Session<'r> {
             → HasTold earlier (K.written out.old) faults (K.faults out.old)
             (record self.old { board = board })
             → HasToldAll ending earlier (K.written out.new) faults (K.faults out.new) self.new }
-        ensures others { self.new ≡ record self.old { log = self.new.log } }
+        ensures others { self.new ≡ record self.old { output = self.new.output } }
     {
-        match self.reach {
-            None => self.log_rest(out, told),
-            Some(_) => self.tell_last(out, ending),
+        match self.writes {
+            Writes::Log => self.log_rest(out, told),
+            Writes::Sheets(_) => self.tell_last(out, ending),
         }
     }
 
     // Writes the last line of the sheets, unless memory was wanting.
     fn tell_last<K: Sink>(&mut self, out: &mut K, ending: Ending)
         ensures told { (earlier : Option (List ℕ)) (faults : ℕ) (text : List ℕ)
-            → HasPut earlier (K.written out.old) faults (K.faults out.old) self.old.log text
-            → HasPut earlier (K.written out.new) faults (K.faults out.new) self.new.log
+            → HasPut earlier (K.written out.old) faults (K.faults out.old) self.old.output text
+            → HasPut earlier (K.written out.new) faults (K.faults out.new) self.new.output
             (text ++ (if self.old.no_memory then [] else last_line ending)) }
-        ensures others { self.new ≡ record self.old { log = self.new.log } }
+        ensures others { self.new ≡ record self.old { output = self.new.output } }
     {
         if !self.no_memory {
-            put_end(&mut self.log, out, ending);
+            put_end(&mut self.output, out, ending);
         }
     }
 
@@ -349,13 +355,13 @@ impl<'r> Session<'r> {
     fn log_rest<K: Sink>(&mut self, out: &mut K, told: usize)
         requires { told ≤ length self.old.board.history }
         ensures told { (earlier : Option (List ℕ)) (faults : ℕ)
-            → HasPut earlier (K.written out.old) faults (K.faults out.old) self.old.log
+            → HasPut earlier (K.written out.old) faults (K.faults out.old) self.old.output
             (text_of self.old.board.start.settings.log 1 1 (take told self.old.board.history))
             → IsTold earlier (K.written out.new) faults
-            (K.faults out.new) self.new.log self.new.board }
-        ensures others { self.new ≡ record self.old { log = self.new.log } }
+            (K.faults out.new) self.new.output self.new.board }
+        ensures others { self.new ≡ record self.old { output = self.new.output } }
     {
         let entries = self.board.entries();
-        put_all(&mut self.log, out, &entries[told..], self.version);
+        put_all(&mut self.output, out, &entries[told..], self.board.log());
     }
 }

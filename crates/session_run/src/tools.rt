@@ -1,15 +1,13 @@
 //! What the desk of a session of one feed works with.
-ghost use Rattle.std.specs.Prelude.{◌≡◌, ◌≤◌, All, IfOk, IfErr};
-ghost use Rattle.ride_model.specs.Seating.{IsBatchOver};
-ghost use Rattle.ride_model.specs.Vehicle.{IsLawful};
-ghost use Rattle.ride_model.specs.Limits.{latest_time, longest_reach};
-ghost use Rattle.batch_commit.specs.Table.{IsTableOf};
+ghost use Rattle.std.specs.Prelude.{◌≡◌, ◌≤◌, IfOk, IfErr};
+ghost use Rattle.ride_model.specs.Limits.{longest_reach};
+ghost use Rattle.batch_commit.specs.Table.{IsPriceable, IsTableOf};
 ghost use Rattle.idle_moves.specs.Sheet.{IsSheet};
 
 use adaptive_roads::{Roads, TravelTimes};
 use batch_commit::{Batch, Solved};
 use idle_moves::{MoveSheet, plan_moves};
-use pricing_workers::Pricer;
+use pricing_workers::{Pricer, seat_batch};
 use ride_model::NoMemory;
 use ride_ports::OpenGate;
 use std::alloc::Global;
@@ -63,27 +61,24 @@ impl<'r> Tools<'r> {
     }
 
     /// Prices and seats a batch: returns it with a least seating and its prices, or the batch again where memory is wanting.
-    pub(crate) fn solved<R: Threads + Sync>(
+    pub(crate) fn seat_batch<R: Threads + Sync>(
         &mut self,
         rt: &R,
         batch: Batch,
     ) -> Result<Solved, Batch>
-        requires time { batch.time ≤ latest_time }
-        requires over_map { IsBatchOver self.old batch }
-        requires lawful { All (IsLawful self.old) batch.vehicles }
+        requires priceable { IsPriceable self.old batch }
         ensures batch { IfOk result (λ solved. solved.batch ≡ batch) }
         ensures table { IfOk result (λ solved. IsTableOf self.old batch solved.table) }
         ensures same_batch { IfErr result (λ same. same ≡ batch) }
         ensures kept { self.new ≡ self.old }
     {
-        session_loops::solved(rt, batch, &mut self.pricer, &OpenGate)
+        seat_batch(rt, batch, &mut self.pricer, &OpenGate)
     }
 
     /// The orders that send idle vehicles ahead after a solved batch, each within a reach of seconds.
     pub(crate) fn moves(&mut self, solved: &Solved, reach: u64) -> Result<MoveSheet, NoMemory>
         requires reach_limit { reach ≤ longest_reach }
-        requires over_map { IsBatchOver self.old solved.now.batch }
-        requires lawful { All (IsLawful self.old) solved.now.batch.vehicles }
+        requires priceable { IsPriceable self.old solved.now.batch }
         ensures sheet { IfOk result (IsSheet self.old solved.now.batch
             solved.now.answer.seating reach) }
         ensures kept { self.new ≡ self.old }

@@ -12,10 +12,9 @@ ghost use Rattle.board_core.specs.Recorded.{state_of};
 use adaptive_roads::Roads;
 use batch_commit::Batch;
 use board_core::{Board, Opening};
-use pricing_workers::Pricer;
+use pricing_workers::{Pricer, seat_batch};
 use ride_model::{Actor, Command, Ending, Entry, NoMemory, Reply, RequestState};
 use ride_ports::{MemSink, OpenGate};
-use session_run::solved;
 use std::alloc::Global;
 use std::marker::Model;
 use std::process::Abort;
@@ -366,7 +365,7 @@ fn close<R: Threads + Sync>(
 {
     // This call tells that the history is legal.
     let _history = board.entries();
-    match solved(rt, batch, pricer, &OpenGate) {
+    match seat_batch(rt, batch, pricer, &OpenGate) {
         Ok(solved) => {
             board.commit(solved);
             true

@@ -1,5 +1,5 @@
 //! A board that is shared once something has happened on it: its feed ends, and its desk closes the batch that it had open.
-ghost use Rattle.std.specs.Prelude.{◌≡◌, Some, IfSome};
+ghost use Rattle.std.specs.Prelude.{◌≡◌, Some};
 ghost use Rattle.ride_model.specs.State.{open_batch_numbered};
 ghost use Rattle.board_core.specs.Recorded.{state_of};
 
@@ -12,7 +12,7 @@ use fleet_board::{PassSet, SharedBoard, Tail};
 use pricing_workers::Pricer;
 use ride_model::{Actor, Command, Ending, Event};
 use ride_ports::OpenGate;
-use session_run::desk_loop;
+use session_loops::desk_loop;
 use std::process::Abort;
 use std::sync::Wait;
 use std::thread::Threads;

@@ -5,7 +5,7 @@ ghost use Rattle.ride_model.specs.Legal.{versions_of};
 ghost use Rattle.ride_model.specs.Text.{IsSpelledCommand};
 ghost use Rattle.turn_lock.specs.Passes.{knowledge};
 ghost use Rattle.fleet_board.specs.Passes.{IsPoint, commands_in, root_of};
-ghost use Rattle.fleet_board.specs.Openings.{IsPriceable};
+ghost use Rattle.batch_commit.specs.Table.{IsPriceable};
 ghost use Rattle.fleet_board.specs.Roles.{MayFeed, MayOpen, MayCommit};
 ghost use Rattle.fleet_board.specs.Sharing.{MayUse};
 ghost use Rattle.booking_desk.specs.Desk.{Booking};
@@ -19,10 +19,9 @@ use board_core::{Board, Opening};
 use booking_desk::BookingDesk;
 use fleet_board::{ActorPass, PassSet, SharedBoard};
 use idle_moves::{Move, VersionWatch};
-use pricing_workers::Pricer;
+use pricing_workers::{Pricer, seat_batch};
 use ride_model::{Command, Entry, Event, NoMemory, Outcome};
 use ride_ports::OpenGate;
-use session_run::solved;
 use std::alloc::Global;
 use std::process::Abort;
 use std::sync::Wait;
@@ -276,7 +275,7 @@ fn commit<'r, R: Threads + Wait + Sync + Abort>(
     requires roads { pricer.old ≡ (root_of (knowledge desk.old)).start.roads }
     ensures { pricer.new ≡ pricer.old }
 {
-    match solved(rt, batch, pricer, &OpenGate) {
+    match seat_batch(rt, batch, pricer, &OpenGate) {
         Ok(solved) => board.commit(rt, desk, solved),
         Err(_) => panic!(rt; "there is memory"),
     }

@@ -23,5 +23,5 @@ returns-in-Some-clause-offer c = λ ride v.
     let batch = c.args.batch.now in
     own-offer c.args.pricing.now batch (slice_index_or batch.requests c.args.seat.request ride)
     (slice_index_or batch.vehicles c.args.seat.vehicle v) _ c.in-Some.least.now c.args.seat.i c.args.seat.j (c.in-Some.ensures)
-    (c.requires.table.cells_are c.args.seat.request c.args.seat.vehicle ride v c.requires.request_in c.requires.vehicle_in)
+    (c.requires.table.cells_are c.args.seat.request c.args.seat.vehicle ride v c.requires.seat.request_in c.requires.seat.vehicle_in)
     c.if-least-seat.true c.if-least-seat-2.true

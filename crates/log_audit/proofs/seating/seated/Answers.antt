@@ -15,7 +15,7 @@ cost_of-requires c =
       arith,
       are.count,
       ap length c.as_slice.ensures.value,
-      c.requires.over_map.few,
+      c.requires.priceable.over_map.few,
       few-seats c.args.batch.now c.args.seats.now (subst (λ rides. map (λ (seat : Seat). seat.request) c.args.seats.now ≡ filter (has_seat c.args.seats.now) (ride_ids rides))
           c.requests.ensures.requests (c.in_ok-stand_in_order.ensures.0 c.if-not-branch.false)),
     )

@@ -21,11 +21,11 @@ offer_at-requires c =
     let ride = get_or c.requests.result.now seat.request none in
     let v_is : v ≡ get_or batch.vehicles seat.vehicle v
     = c.index-vehicles-seat.is ∙ ap (λ vs. get_or vs seat.vehicle v) (c.vehicles-2.ensures.items ∙ c.vehicles.ensures) in
-    let ride_is = same-ride batch.requests c.requests.result.now seat.request c.requests.ensures.requests c.requires.request_in in (
+    let ride_is = same-ride batch.requests c.requests.result.now seat.request c.requests.ensures.requests c.requires.seat.request_in in (
       c.args.pricer.now,
       rw (c.time-time.ensures, c.settings-settings.ensures.settings)
           (seat-asked c.args.pricer.now batch ride v seat.request seat.vehicle c.in_ok-near.near c.in_ok-near.ensures.map_fits
-          c.requires.time c.requires.over_map c.requires.lawful c.requires.request_in c.requires.vehicle_in v_is ride_is
+          c.requires.priceable.in_time c.requires.priceable.over_map c.requires.priceable.lawful c.requires.seat.request_in c.requires.seat.vehicle_in v_is ride_is
           c.in_ok-near.ensures.times),
     )
 
@@ -38,13 +38,13 @@ returns-clause-offer c = λ d e.
     let ride = get_or c.requests.result.now seat.request none in
     let v_is : v ≡ get_or batch.vehicles seat.vehicle v
     = c.index-vehicles-seat.is ∙ ap (λ vs. get_or vs seat.vehicle v) (c.vehicles-2.ensures.items ∙ c.vehicles.ensures) in
-    let ride_is = same-ride batch.requests c.requests.result.now seat.request c.requests.ensures.requests c.requires.request_in in
+    let ride_is = same-ride batch.requests c.requests.result.now seat.request c.requests.ensures.requests c.requires.seat.request_in in
     let asked : IsAsked roads v ride c.time-time.result c.settings-settings.result.now c.in_ok-near.near
     = rw (c.time-time.ensures, c.settings-settings.ensures.settings)
-    (seat-asked roads batch ride v seat.request seat.vehicle c.in_ok-near.near c.in_ok-near.ensures.map_fits c.requires.time c.requires.over_map
-    c.requires.lawful c.requires.request_in c.requires.vehicle_in v_is ride_is c.in_ok-near.ensures.times) in
+    (seat-asked roads batch ride v seat.request seat.vehicle c.in_ok-near.near c.in_ok-near.ensures.map_fits c.requires.priceable.in_time
+    c.requires.priceable.over_map c.requires.priceable.lawful c.requires.seat.request_in c.requires.seat.vehicle_in v_is ride_is c.in_ok-near.ensures.times) in
     c.offer_at.ensures roads asked
     ∙ (λ k. offer_of roads (c.settings-settings.ensures.settings k) v ride (c.time-time.ensures k) seat.i seat.j)
-    ∙ ap (λ u. offer_of roads batch.settings u ride batch.time seat.i seat.j) (v_is ∙ get_or_default batch.vehicles seat.vehicle v e c.requires.vehicle_in)
+    ∙ ap (λ u. offer_of roads batch.settings u ride batch.time seat.i seat.j) (v_is ∙ get_or_default batch.vehicles seat.vehicle v e c.requires.seat.vehicle_in)
     ∙ ap (λ r. offer_of roads batch.settings (get_or batch.vehicles seat.vehicle e) r batch.time seat.i seat.j)
-    (ride_is ∙ get_or_default batch.requests seat.request ride d c.requires.request_in)
+    (ride_is ∙ get_or_default batch.requests seat.request ride d c.requires.seat.request_in)

@@ -5,7 +5,7 @@ use Rattle.ride_ports.specs.Contents.{Contents, IsContentOf, given_back}
 use Rattle.ride_ports.specs.Count.{Rose}
 use Rattle.ride_ports.proofs.ByteLemmas.{Reads-none}
 use Rattle.ride_ports.proofs.CountLemmas.{Rose-then_kept, Rose-after_kept}
-use Rattle.session_run.specs.Serving.{feed_run}
+use Rattle.live_sessions.specs.Serving.{feed_run}
 use Rattle.dispatcher.proofs.Bringing.{bytes-of, left-of, left-of-content}
 use Rattle.dispatcher.proofs.ServedFeeds.{one-of-two}
 use Rattle.dispatcher.proofs.Statuses.{sink-status, source-status, whole-status}

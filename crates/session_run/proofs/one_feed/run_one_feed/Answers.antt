@@ -14,6 +14,7 @@ use Rattle.line_reader.specs.declared.stops.Stop.{Stop}
 use Rattle.command_lines.specs.Limits.{new_feed}
 use Rattle.command_lines.specs.Feeds.{HasGiven}
 use Rattle.session_run.specs.SessionState.{SessionState}
+use Rattle.session_run.specs.Writing.{reach_of}
 use Rattle.session_loops.specs.Stops.{AreFirstOf, ending_of}
 use Rattle.session_run.specs.Reading.{HasEnded}
 use Rattle.ride_ports.proofs.ByteLemmas.{Reads-none}
@@ -30,7 +31,7 @@ returns-in_default-clause-session g c = (
   no-replay _ _ _ (is-start c.args.roads.now c.args.settings c.args.fleet c.nodes-nodes.ensures.fits
       c.vehicles-vehicles.ensures.is_fleet c.requires.start)
       (record { log_version = (c.requires.start.settings_fit.log_first, c.requires.start.settings_fit.log_limit); feeds_number = (omega arith, omega arith); desks_number = (omega arith, omega arith); lines = λ k d below. absurd (omega arith) }) refl refl,
-  none-written c.args.reach (start_state c.args.roads.now c.args.settings c.args.fleet) _ (g.K.Sink.written c.args.out.now) refl refl,
+  none-written (reach_of c.args.writes) (start_state c.args.roads.now c.args.settings c.args.fleet) _ (g.K.Sink.written c.args.out.now) refl refl,
 )
 
 pub returns-clause-session : goal.returns-clause-session
@@ -66,7 +67,7 @@ returns-clause-session g c =
     ∷ end_entry (Desk 1) (cond (eqb (state_of old).opened (state_of old).asked) Whole Cut) ∷ []) c.ending_of.ensures c.end.ensures.history in
     let told = c.end.ensures.told (g.K.Sink.written c.args.out.now) (g.K.Sink.faults c.args.out.now)
     (c.run_feed-stop.ensures.told (g.K.Sink.written c.args.out.now) (g.K.Sink.faults c.args.out.now) c.begin.ensures.told) in
-    let reach : c.end.new.self.reach ≡ c.args.reach =
+    let reach : c.end.new.self.reach ≡ reach_of c.args.writes =
     c.end.ensures.reach ∙ c.run_feed-stop.ensures.reach ∙ ap (λ (s : SessionState). s.reach) c.begin.ensures.others ∙ c.in-Ok.ensures.reach in (
       taken,
       new.history,
@@ -79,7 +80,7 @@ returns-clause-session g c =
           (λ memory. c.ending_of.ensures
           ∙ feed-ends old.start.settings.log left stop old no_memory taken ran c.is_source_failed.ensures c.is_too_long.ensures ended
           (sym c.end.ensures.no_memory ∙ memory))
-          c.end.ensures.nothing_left c.args.reach reach told,
+          c.end.ensures.nothing_left (reach_of c.args.writes) reach told,
     )
 
 -- nothing is given before the feed is read

@@ -1,24 +1,16 @@
-use Rattle.std.proofs.Common.{ap, sym, subst, ◌∙◌, All}
+use Rattle.std.proofs.Common.{ap, sym, subst, ◌∙◌}
 use Rattle.ride_model.specs.Road.{RoadMap}
-use Rattle.ride_model.specs.Seating.{BatchCopy, IsBatchOver}
-use Rattle.ride_model.specs.Vehicle.{IsLawful}
+use Rattle.ride_model.specs.Seating.{BatchCopy}
+use Rattle.batch_commit.specs.Table.{IsPriceable}
 use Rattle.board_core.specs.Recorded.{Recorded, state_of}
-use Rattle.board_core.proofs.OpenBatches.{IsOpen, open-fits, open-committed, open-abandoned}
+use Rattle.board_core.proofs.OpenBatches.{IsOpen, open-priceable, open-committed, open-abandoned}
 use Rattle.board_trials.proofs.boards.days.close.Goals as goal
 
-pub solved-requires-clause-time : goal.solved-requires-clause-time
-solved-requires-clause-time g c κs a =
-    (open-fits c.args.board.now c.args.batch c.entries-history.ensures.start c.entries-history.ensures.legal c.requires.held).0
-
-pub solved-requires-clause-over_map : goal.solved-requires-clause-over_map
-solved-requires-clause-over_map g c κs a =
-    subst (λ (r : RoadMap). IsBatchOver r c.args.batch) (sym c.requires.roads)
-    (open-fits c.args.board.now c.args.batch c.entries-history.ensures.start c.entries-history.ensures.legal c.requires.held).1
-
-pub solved-requires-clause-lawful : goal.solved-requires-clause-lawful
-solved-requires-clause-lawful g c κs a =
-    subst (λ (r : RoadMap). All (IsLawful r) c.args.batch.vehicles) (sym c.requires.roads)
-    (open-fits c.args.board.now c.args.batch c.entries-history.ensures.start c.entries-history.ensures.legal c.requires.held).2
+pub seat_batch-requires-clause-priceable : goal.seat_batch-requires-clause-priceable
+seat_batch-requires-clause-priceable g c κs a =
+    subst (λ (r : RoadMap). IsPriceable r c.args.batch) (sym c.requires.roads)
+    (open-priceable c.args.board.now c.args.batch.desk c.args.batch.number c.args.batch c.entries-history.ensures.start
+    c.entries-history.ensures.legal c.requires.held)
 
 pub returns-in-Ok-clause-others : goal.returns-in-Ok-clause-others
 returns-in-Ok-clause-others g c b held apart =

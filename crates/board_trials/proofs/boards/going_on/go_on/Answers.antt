@@ -1,6 +1,6 @@
 use Rattle.std.proofs.Common.{sym, subst}
-use Rattle.fleet_board.specs.Openings.{IsPriceable}
-use Rattle.fleet_board.proofs.Standing.{open-priceable}
+use Rattle.batch_commit.specs.Table.{IsPriceable}
+use Rattle.board_core.proofs.OpenBatches.{open-priceable}
 use Rattle.board_trials.proofs.boards.going_on.go_on.Goals as goal
 
 pub desk_loop-ran-requires-clause-priceable : goal.desk_loop-ran-requires-clause-priceable
@@ -9,4 +9,4 @@ desk_loop-ran-requires-clause-priceable g c κs fine =
     let batch = c.args.batch in
     let said = c.entries-history.ensures in
     subst (λ roads. IsPriceable roads batch) (sym c.requires.roads)
-    (open-priceable board (record { start_fits = said.start; legal = said.legal; text = said.text }) batch.desk batch.number batch c.requires.held)
+    (open-priceable board batch.desk batch.number batch said.start said.legal c.requires.held)

@@ -1,16 +1,16 @@
-use Rattle.std.proofs.Common.{◌≡◌, ◌≤◌, ℕ, ◌++◌, List, sym, ap, subst, ◌∙◌}
+use Rattle.std.proofs.Common.{◌≡◌, ℕ, ◌++◌, List, sym, ap, subst, ◌∙◌}
 use Rattle.std.specs.Prelude.{All}
 use Rattle.ride_model.specs.declared.settings.Settings.{Settings}
 use Rattle.ride_model.specs.declared.vehicle.Ride.{Ride}
 use Rattle.ride_model.specs.declared.vehicle.Vehicle.{Vehicle}
 use Rattle.ride_model.specs.Fleet.{IsFleet}
-use Rattle.ride_model.specs.Seating.{BatchCopy, IsBatchOver}
-use Rattle.ride_model.specs.Vehicle.{IsLawful}
+use Rattle.ride_model.specs.Seating.{BatchCopy}
+use Rattle.batch_commit.specs.Table.{IsPriceable}
 use Rattle.board_core.specs.Recorded.{Recorded, state_of}
 use Rattle.fleet_league.specs.Companies.{CompanyState}
 use Rattle.fleet_league.specs.Prices.{IsNewRide}
 use Rattle.fleet_league.specs.Quoting.{quoting_batch}
-use Rattle.fleet_league.proofs.Batched.{MayPrice, may-price}
+use Rattle.fleet_league.proofs.Batched.{may-price}
 use Rattle.fleet_league.proofs.Legality.{IsLegalBoard, board-fleet, board-settings}
 use Rattle.fleet_league.proofs.company.Company.batch_of.Goals as goal
 
@@ -38,14 +38,11 @@ returns c =
     } in
     let inside : c.of.result ≡ quoting_batch (state_of board) c.args.rides.now
     = c.of.ensures ∙ (λ i. made (c.now-time.ensures i) (settings i) (rides i) (vehicles i)) in
-    let may : MayPrice board.start.roads (state_of board) c.args.rides.now
+    let may : IsPriceable board.start.roads (quoting_batch (state_of board) c.args.rides.now)
     = may-price board c.args.rides.now legal c.requires.few
     (subst (λ (s : CompanyState). All (IsNewRide (state_of s.board)) c.args.rides.now) (sym c.self.view_is) c.requires.rides) in
     record {
       batch = inside ∙ ap (λ (s : CompanyState). quoting_batch (state_of s.board) c.args.rides.now) c.self.view_is;
-      time = subst (λ (b : BatchCopy). b.time ≤ 1000000000) (sym inside) may.in_time;
-      over_map = subst (λ (s : CompanyState). IsBatchOver s.board.start.roads c.of.result) c.self.view_is
-          (subst (λ (b : BatchCopy). IsBatchOver board.start.roads b) (sym inside) may.over_map);
-      lawful = subst (λ (s : CompanyState). All (IsLawful s.board.start.roads) c.of.result.vehicles) c.self.view_is
-          (subst (λ (b : BatchCopy). All (IsLawful board.start.roads) b.vehicles) (sym inside) may.lawful);
+      priceable = subst (λ (s : CompanyState). IsPriceable s.board.start.roads c.of.result) c.self.view_is
+          (subst (λ (b : BatchCopy). IsPriceable board.start.roads b) (sym inside) may);
     }

@@ -1,22 +1,16 @@
 use Rattle.std.proofs.Common.{◌≡◌, sym, ap, subst, ◌∙◌}
-use Rattle.std.specs.Prelude.{All}
 use Rattle.std.proofs.lemmas.Result.{IfOk-weaker}
 use Rattle.ride_model.specs.Road.{RoadMap}
-use Rattle.ride_model.specs.Seating.{BatchCopy, IsBatchOver}
-use Rattle.ride_model.specs.Vehicle.{IsLawful}
-use Rattle.batch_commit.specs.Table.{IsTableOf}
+use Rattle.ride_model.specs.Seating.{BatchCopy}
+use Rattle.batch_commit.specs.Table.{IsPriceable, IsTableOf}
 use Rattle.board_core.specs.Recorded.{state_of}
 use Rattle.fleet_league.specs.Awards.{won_rides}
 use Rattle.fleet_league.specs.Quoting.{quoting_batch}
 use Rattle.fleet_league.proofs.company.Company.price_won.Goals as goal
 
-pub price_batch-requires-clause-over_map : goal.price_batch-requires-clause-over_map
-price_batch-requires-clause-over_map g c κs within =
-    subst (λ (m : RoadMap). IsBatchOver m c.in_ok-batch.batch) (sym c.requires.roads) c.in_ok-batch.ensures.over_map
-
-pub price_batch-requires-clause-lawful : goal.price_batch-requires-clause-lawful
-price_batch-requires-clause-lawful g c κs within =
-    subst (λ (m : RoadMap). All (IsLawful m) c.in_ok-batch.batch.vehicles) (sym c.requires.roads) c.in_ok-batch.ensures.lawful
+pub price_batch-requires-clause-priceable : goal.price_batch-requires-clause-priceable
+price_batch-requires-clause-priceable g c κs within =
+    subst (λ (m : RoadMap). IsPriceable m c.in_ok-batch.batch) (sym c.requires.roads) c.in_ok-batch.ensures.priceable
 
 pub returns-clause-table : goal.returns-clause-table
 returns-clause-table g c =

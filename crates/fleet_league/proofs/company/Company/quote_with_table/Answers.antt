@@ -1,26 +1,20 @@
 use Rattle.std.proofs.Common.{◌≡◌, sym, ap, subst, ◌∙◌}
-use Rattle.std.specs.Prelude.{All}
 use Rattle.ride_model.specs.Road.{RoadMap, IsRoadMap}
 use Rattle.ride_model.specs.Seating.{BatchCopy, IsBatchOver}
-use Rattle.ride_model.specs.Vehicle.{IsLawful}
 use Rattle.board_core.specs.Recorded.{Recorded, state_of}
 use Rattle.fleet_league.specs.Companies.{CompanyState}
 use Rattle.fleet_league.specs.Prices.{prices_by, prices_of}
 use Rattle.fleet_league.specs.Quoting.{quoting_batch}
-use Rattle.batch_commit.specs.Table.{IsTableOf}
+use Rattle.batch_commit.specs.Table.{IsPriceable, IsTableOf}
 use Rattle.dual_check.specs.Cells.{GridCells}
 use Rattle.fleet_league.specs.Round.{IsPriced}
 use Rattle.fleet_league.proofs.Legality.{IsLegalBoard, board-fleet, board-roads}
 use Rattle.fleet_league.proofs.PricedQuotes.{batch-priced}
 use Rattle.fleet_league.proofs.company.Company.quote_with_table.Goals as goal
 
-pub price_batch-requires-clause-over_map : goal.price_batch-requires-clause-over_map
-price_batch-requires-clause-over_map g c κs within =
-    subst (λ (m : RoadMap). IsBatchOver m c.in_ok-batch.batch) (sym c.requires.roads) c.in_ok-batch.ensures.over_map
-
-pub price_batch-requires-clause-lawful : goal.price_batch-requires-clause-lawful
-price_batch-requires-clause-lawful g c κs within =
-    subst (λ (m : RoadMap). All (IsLawful m) c.in_ok-batch.batch.vehicles) (sym c.requires.roads) c.in_ok-batch.ensures.lawful
+pub price_batch-requires-clause-priceable : goal.price_batch-requires-clause-priceable
+price_batch-requires-clause-priceable g c κs within =
+    subst (λ (m : RoadMap). IsPriceable m c.in_ok-batch.batch) (sym c.requires.roads) c.in_ok-batch.ensures.priceable
 
 pub returns-clause-prices : goal.returns-clause-prices
 returns-clause-prices g c =
@@ -42,7 +36,7 @@ returns-clause-priced g c =
     = c.in_ok-batch.ensures.batch ∙ ap (λ (s : CompanyState). quoting_batch (state_of s.board) c.args.rides.now) (sym c.self.view_is) in
     let roads_are = (ap (λ (s : CompanyState). s.board.start.roads) c.self.view_is ∙ sym c.requires.roads) in
     let over = subst (λ (b : BatchCopy). IsBatchOver c.args.pricer.now b) batch
-    (subst (λ (m : RoadMap). IsBatchOver m c.in_ok-batch.batch) (sym c.requires.roads) c.in_ok-batch.ensures.over_map) in
+    (subst (λ (m : RoadMap). IsBatchOver m c.in_ok-batch.batch) (sym c.requires.roads) c.in_ok-batch.ensures.priceable.over_map) in
     let table = subst (λ (b : BatchCopy). IsTableOf c.args.pricer.now b c.in_ok-table.table) batch c.in_ok-table.ensures.table in
     let priced = batch-priced c.args.pricer.now (quoting_batch (state_of board) c.args.rides.now) c.in_ok-table.table
     (subst IsRoadMap roads_are legal.begins.map_fits) over table (board-fleet board legal) in

@@ -1,11 +1,9 @@
 use Rattle.std.proofs.Common.{◌≡◌, [], ◌∷◌, ◌++◌, Some, refl, sym, ◌∙◌, ap, subst}
-use Rattle.std.specs.Prelude.{All}
 use Rattle.ride_model.specs.declared.entry.Entry.{Entry}
 use Rattle.ride_model.specs.Road.{IsRoadMap, RoadMap}
 use Rattle.ride_model.specs.Seating.{IsBatchOver}
 use Rattle.ride_model.specs.State.{open_batch_numbered}
-use Rattle.ride_model.specs.Vehicle.{IsLawful}
-use Rattle.batch_commit.specs.Table.{IsTableOf}
+use Rattle.batch_commit.specs.Table.{IsPriceable, IsTableOf}
 use Rattle.board_core.specs.Recorded.{Recorded, state_of, committed_entry}
 use Rattle.log_audit.specs.declared.auditor.Auditor.{Auditor}
 use Rattle.log_audit.specs.declared.verdict.Why.TheVariants.{Outcomes, Prices, Seating}
@@ -15,47 +13,23 @@ use Rattle.log_audit.proofs.Judged.{auditing-on, judged, uncommitted}
 use Rattle.log_audit.proofs.OpenOnes.{OpenOne, open-one, open-committed}
 use Rattle.log_audit.proofs.auditor.Auditor.judge_committed.Goals as goal
 
-pub table-requires-clause-time : goal.table-requires-clause-time
-table-requires-clause-time g c = λ κs within.
-    (open-one c.args.self.now.board c.args.desk c.args.commit.number c.in-Some.batch c.entries-history.ensures.start c.entries-history.ensures.legal
-    (sym (sym c.in-Some.is ∙ c.take_numbered.ensures.batch))).in_time
-
-pub table-requires-clause-over_map : goal.table-requires-clause-over_map
-table-requires-clause-over_map g c = λ κs within.
+pub price_batch_by-requires-clause-priceable : goal.price_batch_by-requires-clause-priceable
+price_batch_by-requires-clause-priceable g c = λ κs within.
     let one = open-one c.args.self.now.board c.args.desk c.args.commit.number c.in-Some.batch c.entries-history.ensures.start
     c.entries-history.ensures.legal (sym (sym c.in-Some.is ∙ c.take_numbered.ensures.batch)) in
-    subst (λ (r : RoadMap). IsBatchOver r c.in-Some.batch)
-    (sym (ap (λ (a : Auditor). a.pricing) c.take_numbered.ensures.left ∙ c.requires.auditing.roads_are)) one.over_map
+    subst (λ (r : RoadMap). IsPriceable r c.in-Some.batch)
+    (sym (ap (λ (a : Auditor). a.pricing) c.take_numbered.ensures.left ∙ c.requires.auditing.roads_are)) one.priceable
 
-pub table-requires-clause-lawful : goal.table-requires-clause-lawful
-table-requires-clause-lawful g c = λ κs within.
+pub seated-requires-clause-priceable : goal.seated-requires-clause-priceable
+seated-requires-clause-priceable g c =
     let one = open-one c.args.self.now.board c.args.desk c.args.commit.number c.in-Some.batch c.entries-history.ensures.start
     c.entries-history.ensures.legal (sym (sym c.in-Some.is ∙ c.take_numbered.ensures.batch)) in
-    subst (λ (r : RoadMap). All (IsLawful r) c.in-Some.batch.vehicles)
-    (sym (ap (λ (a : Auditor). a.pricing) c.take_numbered.ensures.left ∙ c.requires.auditing.roads_are)) one.lawful
-
-pub seated-requires-clause-time : goal.seated-requires-clause-time
-seated-requires-clause-time g c =
-    (open-one c.args.self.now.board c.args.desk c.args.commit.number c.in-Some.batch c.entries-history.ensures.start c.entries-history.ensures.legal
-    (sym (sym c.in-Some.is ∙ c.take_numbered.ensures.batch))).in_time
-
-pub seated-requires-clause-over_map : goal.seated-requires-clause-over_map
-seated-requires-clause-over_map g c =
-    let one = open-one c.args.self.now.board c.args.desk c.args.commit.number c.in-Some.batch c.entries-history.ensures.start
-    c.entries-history.ensures.legal (sym (sym c.in-Some.is ∙ c.take_numbered.ensures.batch)) in
-    subst (λ (r : RoadMap). IsBatchOver r c.in-Some.batch)
-    (sym (c.in_ok-priced.ensures.kept ∙ ap (λ (a : Auditor). a.pricing) c.take_numbered.ensures.left ∙ c.requires.auditing.roads_are)) one.over_map
-
-pub seated-requires-clause-lawful : goal.seated-requires-clause-lawful
-seated-requires-clause-lawful g c =
-    let one = open-one c.args.self.now.board c.args.desk c.args.commit.number c.in-Some.batch c.entries-history.ensures.start
-    c.entries-history.ensures.legal (sym (sym c.in-Some.is ∙ c.take_numbered.ensures.batch)) in
-    subst (λ (r : RoadMap). All (IsLawful r) c.in-Some.batch.vehicles)
-    (sym (c.in_ok-priced.ensures.kept ∙ ap (λ (a : Auditor). a.pricing) c.take_numbered.ensures.left ∙ c.requires.auditing.roads_are)) one.lawful
+    subst (λ (r : RoadMap). IsPriceable r c.in-Some.batch)
+    (sym (c.in_ok-priced.ensures.pricer ∙ ap (λ (a : Auditor). a.pricing) c.take_numbered.ensures.left ∙ c.requires.auditing.roads_are)) one.priceable
 
 pub seated-requires-clause-table : goal.seated-requires-clause-table
 seated-requires-clause-table g c =
-    subst (λ (r : RoadMap). IsTableOf r c.in-Some.batch c.in_ok-priced.priced) (sym c.in_ok-priced.ensures.kept) c.in_ok-priced.ensures.table
+    subst (λ (r : RoadMap). IsTableOf r c.in-Some.batch c.in_ok-priced.priced) (sym c.in_ok-priced.ensures.pricer) c.in_ok-priced.ensures.table
 
 pub returns-in_default-2 : goal.returns-in_default-2
 returns-in_default-2 g c = λ outcomes is.
@@ -69,28 +43,28 @@ returns-in_default-2 g c = λ outcomes is.
     c.in-Some.batch c.with_batch.result c.with_batch.ensures
     (record {
       board_stays = ap (λ (a : Auditor). a.board) taken;
-      pricing_stays = c.in_ok-placed.ensures.kept ∙ c.in_ok-priced.ensures.kept ∙ ap (λ (a : Auditor). a.pricing) taken;
+      pricing_stays = c.in_ok-placed.ensures.kept ∙ c.in_ok-priced.ensures.pricer ∙ ap (λ (a : Auditor). a.pricing) taken;
       log_stays = ap (λ (a : Auditor). a.log) taken;
       is_open = one.numbered;
     })
-    (seats-wrong board c.args.desk said outcomes c.in-Some.batch c.table.new.pricing c.items-seats.result.now c.in_ok-placed.field-0 found
-    (one.roads_stay ∙ sym (c.in_ok-priced.ensures.kept ∙ ap (λ (a : Auditor). a.pricing) c.take_numbered.ensures.left ∙ c.requires.auditing.roads_are))
+    (seats-wrong board c.args.desk said outcomes c.in-Some.batch c.price_batch_by.new.pricer c.items-seats.result.now c.in_ok-placed.field-0 found
+    (one.roads_stay ∙ sym (c.in_ok-priced.ensures.pricer ∙ ap (λ (a : Auditor). a.pricing) c.take_numbered.ensures.left ∙ c.requires.auditing.roads_are))
     c.items-seats.ensures c.in_default-2.is c.in_ok-placed.ensures.seated)
 
 pub certified-requires-clause-fits : goal.certified-requires-clause-fits
-certified-requires-clause-fits g c = subst IsRoadMap (sym (c.in_ok-placed.ensures.kept ∙ c.in_ok-priced.ensures.kept)) c.in_ok-priced.ensures.fits
+certified-requires-clause-fits g c = subst IsRoadMap (sym (c.in_ok-placed.ensures.kept ∙ c.in_ok-priced.ensures.pricer)) c.in_ok-priced.ensures.fits
 
 pub certified-requires-clause-over_map : goal.certified-requires-clause-over_map
 certified-requires-clause-over_map g c =
     let one = open-one c.args.self.now.board c.args.desk c.args.commit.number c.in-Some.batch c.entries-history.ensures.start
     c.entries-history.ensures.legal (sym (sym c.in-Some.is ∙ c.take_numbered.ensures.batch)) in
     subst (λ (r : RoadMap). IsBatchOver r c.in-Some.batch)
-    (sym (c.in_ok-placed.ensures.kept ∙ c.in_ok-priced.ensures.kept ∙ ap (λ (a : Auditor). a.pricing) c.take_numbered.ensures.left
-    ∙ c.requires.auditing.roads_are)) one.over_map
+    (sym (c.in_ok-placed.ensures.kept ∙ c.in_ok-priced.ensures.pricer ∙ ap (λ (a : Auditor). a.pricing) c.take_numbered.ensures.left
+    ∙ c.requires.auditing.roads_are)) one.priceable.over_map
 
 pub certified-requires-clause-table : goal.certified-requires-clause-table
 certified-requires-clause-table g c =
-    subst (λ (r : RoadMap). IsTableOf r c.in-Some.batch c.in_ok-priced.priced) (sym (c.in_ok-placed.ensures.kept ∙ c.in_ok-priced.ensures.kept))
+    subst (λ (r : RoadMap). IsTableOf r c.in-Some.batch c.in_ok-priced.priced) (sym (c.in_ok-placed.ensures.kept ∙ c.in_ok-priced.ensures.pricer))
     c.in_ok-priced.ensures.table
 
 pub returns-in_default-3 : goal.returns-in_default-3
@@ -100,20 +74,20 @@ returns-in_default-3 g c = λ outcomes is.
     let said : Said = record { number = commit.number; cost = commit.cost; seats = commit.seats; prices = commit.prices; pays = commit.pays } in
     let found = sym (sym c.in-Some.is ∙ c.take_numbered.ensures.batch) in
     let one = open-one board c.args.desk commit.number c.in-Some.batch c.entries-history.ensures.start c.entries-history.ensures.legal found in
-    let roads_are : (state_of board).roads ≡ c.table.new.pricing
-    = one.roads_stay ∙ sym (c.in_ok-priced.ensures.kept ∙ ap (λ (a : Auditor). a.pricing) c.take_numbered.ensures.left ∙ c.requires.auditing.roads_are) in
+    let roads_are : (state_of board).roads ≡ c.price_batch_by.new.pricer
+    = one.roads_stay ∙ sym (c.in_ok-priced.ensures.pricer ∙ ap (λ (a : Auditor). a.pricing) c.take_numbered.ensures.left ∙ c.requires.auditing.roads_are) in
     let taken = c.take_numbered.ensures.left in
     uncommitted c.args.self.now (record c.take_numbered.new.self { pricing = c.seated.new.pricing }) (said_entry c.args.desk said outcomes) Prices c.in-Some.batch c.with_batch-in_default-3.result
     c.with_batch-in_default-3.ensures
     (record {
       board_stays = ap (λ (a : Auditor). a.board) taken;
-      pricing_stays = c.in_ok-placed.ensures.kept ∙ c.in_ok-priced.ensures.kept ∙ ap (λ (a : Auditor). a.pricing) taken;
+      pricing_stays = c.in_ok-placed.ensures.kept ∙ c.in_ok-priced.ensures.pricer ∙ ap (λ (a : Auditor). a.pricing) taken;
       log_stays = ap (λ (a : Auditor). a.log) taken;
       is_open = one.numbered;
     })
     (prices-wrong board c.args.desk said outcomes c.in-Some.batch c.seated.new.pricing c.in_ok-table.field-0 found
     (roads_are ∙ sym c.in_ok-placed.ensures.kept)
-    (seats-right (state_of board) said c.in-Some.batch c.table.new.pricing c.items-seats.result.now c.in_ok-placed.field-0 c.in-Some-2.placed
+    (seats-right (state_of board) said c.in-Some.batch c.price_batch_by.new.pricer c.items-seats.result.now c.in_ok-placed.field-0 c.in-Some-2.placed
     roads_are c.items-seats.ensures c.in-Some-2.is c.in_ok-placed.ensures.seated)
     c.in_default-3.is c.in_ok-table.ensures)
 
@@ -144,8 +118,8 @@ returns g c = λ outcomes is.
     let found = sym (sym c.in-Some.is ∙ c.take_numbered.ensures.batch) in
     let one : OpenOne board c.args.desk commit.number batch
     = open-one board c.args.desk commit.number batch c.entries-history.ensures.start c.entries-history.ensures.legal found in
-    let roads_are : (state_of board).roads ≡ c.table.new.pricing
-    = one.roads_stay ∙ sym (c.in_ok-priced.ensures.kept ∙ ap (λ (a : Auditor). a.pricing) c.take_numbered.ensures.left ∙ c.requires.auditing.roads_are) in
+    let roads_are : (state_of board).roads ≡ c.price_batch_by.new.pricer
+    = one.roads_stay ∙ sym (c.in_ok-priced.ensures.pricer ∙ ap (λ (a : Auditor). a.pricing) c.take_numbered.ensures.left ∙ c.requires.auditing.roads_are) in
     let facts : SolvedFacts c.seated.new.pricing batch said solved
     = solved-facts batch said c.seated.new.pricing (c.in-Some-3.table, c.in-Some-3.answer) solved
     (prices-right batch said c.seated.new.pricing c.in_ok-table.field-0 (c.in-Some-3.table, c.in-Some-3.answer) c.in-Some-3.is
@@ -156,7 +130,7 @@ returns g c = λ outcomes is.
     let last : Entry = committed_entry (state_of board) solved in
     let grows = c.commit.ensures.entry ∙ ap (λ (b : Recorded). b.history ++ committed_entry (state_of b) solved ∷ []) board_is in
     let batches = ap (λ (a : Auditor). a.batches) c.take_numbered.ensures.left in
-    let seated = seats-right (state_of board) said batch c.table.new.pricing c.items-seats.result.now c.in_ok-placed.field-0
+    let seated = seats-right (state_of board) said batch c.price_batch_by.new.pricer c.items-seats.result.now c.in_ok-placed.field-0
     c.in-Some-2.placed roads_are c.items-seats.ensures c.in-Some-2.is c.in_ok-placed.ensures.seated in
     judged old _ _ last c.args.line.now Outcomes c.unless_told.result c.requires.auditing c.entries-history-2.ensures.text
     (record {
@@ -165,7 +139,7 @@ returns g c = λ outcomes is.
       feeds_stay = ap (λ (b : Recorded). b.feeds) c.commit.ensures.others ∙ ap (λ (b : Recorded). b.feeds) board_is;
       desks_stay = ap (λ (b : Recorded). b.desks) c.commit.ensures.others ∙ ap (λ (b : Recorded). b.desks) board_is;
       auditing = auditing-on old _ c.requires.auditing start
-          (c.in_ok-placed.ensures.kept ∙ c.in_ok-priced.ensures.kept
+          (c.in_ok-placed.ensures.kept ∙ c.in_ok-priced.ensures.pricer
           ∙ ap (λ (a : Auditor). a.pricing) c.take_numbered.ensures.left)
           (ap (λ (a : Auditor). a.log) c.take_numbered.ensures.left)
           (subst (AreOpen (state_of c.commit.new.self)) (sym batches)

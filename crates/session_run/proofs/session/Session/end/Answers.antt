@@ -1,6 +1,7 @@
 use Rattle.std.proofs.Common.{length, sym, ap, subst, ◌∙◌}
 use Rattle.board_core.specs.Recorded.{Recorded}
 use Rattle.session_run.specs.SessionState.{SessionState}
+use Rattle.session_run.specs.Writing.{reach_of}
 use Rattle.session_run.specs.Reading.{HasTold, HasToldAll}
 use Rattle.session_run.proofs.ToldSheets.{told-flushed}
 use Rattle.session_run.proofs.session.Session.end.Goals as goal
@@ -8,9 +9,9 @@ use Rattle.session_run.proofs.session.Session.end.Goals as goal
 pub returns-clause-told : goal.returns-clause-told
 returns-clause-told g c earlier faults has =
     let old : Recorded = c.args.self.now.board in
-    told-flushed c.self-2.inside.reach c.args.ending earlier (g.K.Sink.written c.tell_end.new.out) (g.K.Sink.written c.end.new.out) faults
+    told-flushed (reach_of c.self-2.inside.writes) c.args.ending earlier (g.K.Sink.written c.tell_end.new.out) (g.K.Sink.written c.end.new.out) faults
     (g.K.Sink.faults c.tell_end.new.out) (g.K.Sink.faults c.end.new.out)
-    (record { board = c.self-2.inside.board; log = c.self-2.inside.log; reach = c.self-2.inside.reach; no_memory = c.self-2.inside.no_memory })
+    (record { board = c.self-2.inside.board; output = c.self-2.inside.output; reach = reach_of c.self-2.inside.writes; no_memory = c.self-2.inside.no_memory })
     c.end.new.self (λ text. c.end.ensures.put earlier faults text)
     (subst (λ (s : SessionState). HasToldAll c.args.ending earlier (g.K.Sink.written c.tell_end.new.out) faults (g.K.Sink.faults c.tell_end.new.out) s)
     (sym c.self-2.view_is)

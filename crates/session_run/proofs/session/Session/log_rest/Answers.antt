@@ -1,4 +1,4 @@
-use Rattle.std.proofs.Common.{◌≡◌, ◌++◌, ◌-◌, List, ℕ, length, take, drop, ap, sym, subst, ◌∙◌}
+use Rattle.std.proofs.Common.{◌++◌, ◌-◌, List, ℕ, length, take, drop, ap, sym, subst, ◌∙◌}
 use Rattle.ride_model.specs.declared.entry.Entry.{Entry}
 use Rattle.ride_model.specs.Text.{text_of, entry_lines}
 use Rattle.text_page.specs.Output.{HasPut}
@@ -11,12 +11,11 @@ returns-clause-told g c earlier faults has =
     let log : ℕ = c.self.inside.board.start.settings.log in
     let h : List Entry = c.self.inside.board.history in
     let es : List Entry = c.entries-entries.result.now in
-    let version : c.self.inside.version ≡ log = c.self.invariant.1 in
-    let before : HasPut earlier (g.K.Sink.written c.args.out.now) faults (g.K.Sink.faults c.args.out.now) c.self.inside.log
+    let before : HasPut earlier (g.K.Sink.written c.args.out.now) faults (g.K.Sink.faults c.args.out.now) c.self.inside.output
     (text_of log 1 1 (take c.args.told h)) =
-    subst (λ (s : SessionState). HasPut earlier (g.K.Sink.written c.args.out.now) faults (g.K.Sink.faults c.args.out.now) s.log
+    subst (λ (s : SessionState). HasPut earlier (g.K.Sink.written c.args.out.now) faults (g.K.Sink.faults c.args.out.now) s.output
     (text_of s.board.start.settings.log 1 1 (take c.args.told s.board.history))) (sym c.self.view_is) has in
     subst (λ (t : List ℕ). HasPut earlier (g.K.Sink.written c.put_all.new.out) faults (g.K.Sink.faults c.put_all.new.out) c.put_all.new.output t)
-    (ap (λ n. text_of log 1 1 (take c.args.told h) ++ entry_lines n (take (length es - c.args.told) (drop c.args.told es))) version
+    (ap (λ n. text_of log 1 1 (take c.args.told h) ++ entry_lines n (take (length es - c.args.told) (drop c.args.told es))) c.log.ensures
     ∙ text_of-rest log c.args.told h es c.entries-entries.ensures.items)
     (c.put_all.ensures earlier faults (text_of log 1 1 (take c.args.told h)) before)

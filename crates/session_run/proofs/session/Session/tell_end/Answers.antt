@@ -2,19 +2,20 @@ use Rattle.std.proofs.Common.{◌≡◌, ℕ, [], ◌∷◌, Option, Some, None,
 use Rattle.ride_model.specs.declared.command.Actor.TheVariants.{Desk, Feed}
 use Rattle.board_core.specs.Recorded.{Recorded, end_entry}
 use Rattle.session_run.specs.SessionState.{SessionState}
+use Rattle.session_run.specs.Writing.{reach_of}
 use Rattle.session_run.specs.Reading.{HasToldBy, HasToldAllBy}
 use Rattle.session_run.specs.Telling.{GoesOnTo}
 use Rattle.session_run.proofs.ToldSheets.{told-first, told-last}
 use Rattle.session_run.proofs.session.Session.tell_end.Goals as goal
 
-pub returns-in-Some-clause-told : goal.returns-in-Some-clause-told
-returns-in-Some-clause-told g c earlier faults board goes has =
+pub returns-in-Sheets-clause-told : goal.returns-in-Sheets-clause-told
+returns-in-Sheets-clause-told g c earlier faults board goes has =
     let now : SessionState = c.args.self.now in
     let old : SessionState = record now { board = board } in
     let new : SessionState = c.tell_last.new.self in
-    let reach : ℕ = c.in-Some.field-0 in
-    let given : now.reach ≡ Some reach = ap (λ (s : SessionState). s.reach) (sym c.self.view_is) ∙ c.in-Some.is in
-    let same : new ≡ record now { log = new.log } = c.tell_last.ensures.others in
+    let reach : ℕ = c.in-Sheets.field-0 in
+    let given : now.reach ≡ Some reach = ap (λ (s : SessionState). s.reach) (sym c.self.view_is) ∙ ap reach_of c.in-Sheets.is in
+    let same : new ≡ record now { output = new.output } = c.tell_last.ensures.others in
     let still : new.reach ≡ Some reach = ap (λ (s : SessionState). s.reach) same ∙ given in
     subst (λ (o : Option ℕ). HasToldAllBy o c.args.ending earlier (g.K.Sink.written c.tell_last.new.out) faults (g.K.Sink.faults c.tell_last.new.out) new)
     (sym still)
@@ -24,16 +25,16 @@ returns-in-Some-clause-told g c earlier faults board goes has =
     (c.tell_last.ensures.told earlier faults)
     (subst (λ (o : Option ℕ). HasToldBy o earlier (g.K.Sink.written c.args.out.now) faults (g.K.Sink.faults c.args.out.now) old) given has))
 
-pub returns-in-None-clause-told : goal.returns-in-None-clause-told
-returns-in-None-clause-told g c earlier faults board goes has =
+pub returns-in-Log-clause-told : goal.returns-in-Log-clause-told
+returns-in-Log-clause-told g c earlier faults board goes has =
     let now : SessionState = c.args.self.now in
     let old : SessionState = record now { board = board } in
     let new : SessionState = c.log_rest.new.self in
-    let given : now.reach ≡ None = ap (λ (s : SessionState). s.reach) (sym c.self.view_is) ∙ c.in-None.is in
+    let given : now.reach ≡ None = ap (λ (s : SessionState). s.reach) (sym c.self.view_is) ∙ ap reach_of c.in-Log.is in
     let still : new.reach ≡ None = ap (λ (s : SessionState). s.reach) c.log_rest.ensures.others ∙ given in
     subst (λ (o : Option ℕ). HasToldAllBy o c.args.ending earlier (g.K.Sink.written c.log_rest.new.out) faults (g.K.Sink.faults c.log_rest.new.out) new)
     (sym still)
     (c.log_rest.ensures.told earlier faults
-    (told-first c.args.told earlier (g.K.Sink.written c.args.out.now) faults (g.K.Sink.faults c.args.out.now) now.log board now.board
+    (told-first c.args.told earlier (g.K.Sink.written c.args.out.now) faults (g.K.Sink.faults c.args.out.now) now.output board now.board
     (end_entry (Feed 1) c.args.ending ∷ end_entry (Desk 1) goes.desk_ending ∷ []) goes.start goes.grows goes.all
     (subst (λ (o : Option ℕ). HasToldBy o earlier (g.K.Sink.written c.args.out.now) faults (g.K.Sink.faults c.args.out.now) old) given has)))

@@ -3,39 +3,40 @@ use Rattle.ride_model.specs.Text.{head_line, text_of}
 use Rattle.idle_moves.specs.AheadText.{head_line as head_of_sheets}
 use Rattle.text_page.specs.Output.{HasPut}
 use Rattle.session_run.specs.SessionState.{SessionState}
+use Rattle.session_run.specs.Writing.{reach_of}
 use Rattle.session_run.specs.Reading.{HasToldBy}
 use Rattle.session_loops.proofs.LogLemmas.{text_of-none}
 use Rattle.session_run.proofs.session.Session.tell_first.Goals as goal
 
-pub returns-in-None-clause-told : goal.returns-in-None-clause-told
-returns-in-None-clause-told g c =
+pub returns-in-Log-clause-told : goal.returns-in-Log-clause-told
+returns-in-Log-clause-told g c =
     let log : ℕ = c.self.inside.board.start.settings.log in
     let bare : c.self.inside.board.history ≡ [] = ap (λ (s : SessionState). s.board.history) c.self.view_is ∙ c.requires.bare in
     let new : SessionState = record {
       board = c.self.inside.board;
-      log = c.put_head.new.output;
-      reach = c.self.inside.reach;
+      output = c.put_head.new.output;
+      reach = reach_of c.self.inside.writes;
       no_memory = c.self.inside.no_memory;
     } in
     subst (λ (o : Option ℕ). HasToldBy o (g.K.Sink.written c.args.out.now) (g.K.Sink.written c.put_head.new.out) (g.K.Sink.faults c.args.out.now)
-    (g.K.Sink.faults c.put_head.new.out) new) (sym c.in-None.is)
+    (g.K.Sink.faults c.put_head.new.out) new) (sym (ap reach_of c.in-Log.is))
     (subst (λ (t : List ℕ). HasPut (g.K.Sink.written c.args.out.now) (g.K.Sink.written c.put_head.new.out) (g.K.Sink.faults c.args.out.now)
     (g.K.Sink.faults c.put_head.new.out) c.put_head.new.output t)
-    (ap (λ n. head_line n 1 1) c.self.invariant.1 ∙ sym (ap (text_of log 1 1) bare ∙ text_of-none log))
+    (ap (λ n. head_line n 1 1) c.log.ensures ∙ sym (ap (text_of log 1 1) bare ∙ text_of-none log))
     c.put_head.ensures.logged)
 
-pub returns-in-Some-clause-told : goal.returns-in-Some-clause-told
-returns-in-Some-clause-told g c =
-    let reach : ℕ = c.in-Some.reach in
+pub returns-in-Sheets-clause-told : goal.returns-in-Sheets-clause-told
+returns-in-Sheets-clause-told g c =
+    let reach : ℕ = c.in-Sheets.reach in
     let bare : c.self.inside.board.history ≡ [] = ap (λ (s : SessionState). s.board.history) c.self.view_is ∙ c.requires.bare in
     let new : SessionState = record {
       board = c.self.inside.board;
-      log = c.put_reach.new.output;
-      reach = c.self.inside.reach;
+      output = c.put_reach.new.output;
+      reach = reach_of c.self.inside.writes;
       no_memory = c.self.inside.no_memory;
     } in
     subst (λ (o : Option ℕ). HasToldBy o (g.K.Sink.written c.args.out.now) (g.K.Sink.written c.put_reach.new.out) (g.K.Sink.faults c.args.out.now)
-    (g.K.Sink.faults c.put_reach.new.out) new) (sym c.in-Some.is)
+    (g.K.Sink.faults c.put_reach.new.out) new) (sym (ap reach_of c.in-Sheets.is))
     (record {
       first = [];
       sheets = [];

@@ -10,5 +10,5 @@ returns-then-not-self-clause-told g c earlier faults text has =
     subst (λ b. HasPut earlier (g.K.Sink.written c.put_end.new.out) faults (g.K.Sink.faults c.put_end.new.out) c.put_end.new.output
     (text ++ cond b [] (last_line c.args.ending))) (sym sound)
     (c.put_end.ensures earlier faults text
-    (subst (λ (s : SessionState). HasPut earlier (g.K.Sink.written c.args.out.now) faults (g.K.Sink.faults c.args.out.now) s.log text)
+    (subst (λ (s : SessionState). HasPut earlier (g.K.Sink.written c.args.out.now) faults (g.K.Sink.faults c.args.out.now) s.output text)
     (sym c.self.view_is) has))

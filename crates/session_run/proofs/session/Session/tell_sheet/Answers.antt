@@ -16,5 +16,5 @@ returns-in-Some-clause-told g c earlier faults text has =
     subst (λ (l : List ℕ). HasPut earlier (g.K.Sink.written c.put_sheet.new.out) faults (g.K.Sink.faults c.put_sheet.new.out) c.put_sheet.new.output
     (text ++ l)) line
     (c.put_sheet.ensures earlier faults text
-    (subst (λ (s : SessionState). HasPut earlier (g.K.Sink.written c.args.out.now) faults (g.K.Sink.faults c.args.out.now) s.log text)
+    (subst (λ (s : SessionState). HasPut earlier (g.K.Sink.written c.args.out.now) faults (g.K.Sink.faults c.args.out.now) s.output text)
     (sym c.self.view_is) has))

@@ -1,5 +1,6 @@
 use Rattle.std.proofs.Common.{sym, subst}
 use Rattle.session_run.specs.SessionState.{SessionState}
+use Rattle.session_run.specs.Writing.{reach_of}
 use Rattle.session_run.specs.Reading.{HasTold}
 use Rattle.session_run.proofs.ToldSheets.{told-written}
 use Rattle.session_run.proofs.session.Session.write_told.Goals as goal
@@ -8,10 +9,10 @@ pub returns-clause-told : goal.returns-clause-told
 returns-clause-told g c earlier faults has =
     let was : SessionState = record {
       board = c.self.inside.board;
-      log = c.self.inside.log;
-      reach = c.self.inside.reach;
+      output = c.self.inside.output;
+      reach = reach_of c.self.inside.writes;
       no_memory = c.self.inside.no_memory;
     } in
-    told-written c.self.inside.reach earlier (g.K.Sink.written c.args.out.now) (g.K.Sink.written c.end.new.out) faults
+    told-written (reach_of c.self.inside.writes) earlier (g.K.Sink.written c.args.out.now) (g.K.Sink.written c.end.new.out) faults
     (g.K.Sink.faults c.args.out.now) (g.K.Sink.faults c.end.new.out) was c.end.new.self (c.end.ensures.put earlier faults)
     (subst (λ (s : SessionState). HasTold earlier (g.K.Sink.written c.args.out.now) faults (g.K.Sink.faults c.args.out.now) s) (sym c.self.view_is) has)

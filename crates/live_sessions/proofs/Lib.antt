@@ -1,0 +1,11 @@
+pub mod Counts
+pub mod FeedParts
+pub mod DeskParts
+pub mod BrokenOff
+pub mod OpenDesks
+pub mod Sessions
+pub mod Starts
+pub mod StageLemmas
+pub mod ScribeRuns
+pub mod Served
+pub mod Beginnings

@@ -1,6 +1,0 @@
-use Rattle.std.proofs.Common.{◌∙◌}
-use Rattle.session_run.proofs.Counts.{count-fed}
-use Rattle.session_run.proofs.live.living.count_commands.Goals as goal
-
-pub returns : goal.returns
-returns c = c.count_made.ensures ∙ count-fed c.args.feed c.args.entries.now

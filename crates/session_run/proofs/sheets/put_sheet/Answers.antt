@@ -1,0 +1,16 @@
+use Rattle.std.proofs.Common.{◌≡◌, false, sym}
+use Rattle.idle_moves.specs.AheadText.{sheet_line}
+use Rattle.text_page.proofs.OutputLemmas.{put-failed}
+use Rattle.text_page.proofs.PrintedPages.{printed-out}
+use Rattle.session_run.proofs.sheets.put_sheet.Goals as goal
+
+pub returns-then-failed : goal.returns-then-failed
+returns-then-failed g c before faults earlier has =
+    put-failed before _ faults _ c.end.new.self earlier (sheet_line c.args.sheet.now) (sym c.if-failed.ensures) (c.end.ensures.put before faults earlier has)
+
+pub returns : goal.returns
+returns g c before faults earlier has =
+    let stands : c.end.new.self.failed ≡ false = sym c.if-failed.ensures in
+    let printed = c.print_sheet-printed.ensures in
+    printed-out c.print_sheet-printed.result before _ _ faults _ _ c.end.new.self c.note.new.self earlier (sheet_line c.args.sheet.now) stands
+    (c.end.ensures.nothing_left stands) c.note.ensures printed.whole printed.prefix printed.faults (c.end.ensures.put before faults earlier has)
