@@ -7,6 +7,7 @@ use crate::texts::{tell_fleet, tell_map};
 use crate::verdicts::{LogNames, tell_wrong};
 use ride_ports::{FileFault, FileShelf, StdoutSink};
 use run_words::RESUMPTION;
+use std::fmt::{self, Display, Formatter};
 use std::io;
 use std::rt::Files;
 use std::thread::{Builder, Threads};
@@ -62,11 +63,21 @@ struct Report<'a> {
 }
 
 // What is said of a file, or of one of two.
+#[derive(Clone, Copy, Drop)]
 struct Said<'a> {
     name: &'a str,
     or: &'static str,
     other: &'a str,
     what: &'static str,
+}
+
+impl Display for Said<'_> {
+    fn fmt<W: fmt::Write>(&self, f: &mut Formatter<W>) -> fmt::Result {
+        f.write_str(self.name)?;
+        f.write_str(self.or)?;
+        f.write_str(self.other)?;
+        f.write_str(self.what)
+    }
 }
 
 impl<'a> Report<'a> {
@@ -91,15 +102,10 @@ impl<'a> Report<'a> {
 
     fn tell_fault<R: Eprint>(&self, rt: &R) -> io::Result<()> {
         let program = self.program.name();
-        let Said {
-            name,
-            or,
-            other,
-            what,
-        } = self.said();
+        let said = self.said();
         match self.cause() {
-            Some(cause) => eprintln!(rt; "{program}: {name}{or}{other}{what}: {cause}"),
-            None => eprintln!(rt; "{program}: {name}{or}{other}{what}"),
+            Some(cause) => eprintln!(rt; "{program}: {said}: {cause}"),
+            None => eprintln!(rt; "{program}: {said}"),
         }
     }
 

@@ -18,24 +18,35 @@ pub fn tell_words<R: Eprint>(rt: &R, words: &[String]) -> io::Result<()> {
 
 // A line for each word.
 fn tell_all<R: Eprint>(rt: &R, name: &str) -> io::Result<()> {
-    if name.is_empty() {
-        eprintln!(rt;
-            "ride_dispatch: a word is missing; these are all, with their options in any order:"
-        )?;
-    } else {
-        let name = Shown(name.as_bytes());
-        eprintln!(rt;
-            "ride_dispatch: no such word: {name}; these are all, with their options in any order:"
-        )?;
-    }
+    tell_no_word(rt, name)?;
     for word in Word::ALL.iter() {
-        let Usage {
-            name,
-            options,
-            does,
-        } = word.usage();
-        eprintln!(rt; "  {name} {options}: {does}")?;
+        tell_usage(rt, word.usage())?;
     }
+    tell_guide(rt)
+}
+
+fn tell_no_word<R: Eprint>(rt: &R, name: &str) -> io::Result<()> {
+    if name.is_empty() {
+        return eprintln!(rt;
+            "ride_dispatch: a word is missing; these are all, with their options in any order:"
+        );
+    }
+    let name = Shown(name.as_bytes());
+    eprintln!(rt;
+        "ride_dispatch: no such word: {name}; these are all, with their options in any order:"
+    )
+}
+
+fn tell_usage<R: Eprint>(rt: &R, usage: Usage) -> io::Result<()> {
+    let Usage {
+        name,
+        options,
+        does,
+    } = usage;
+    eprintln!(rt; "  {name} {options}: {does}")
+}
+
+fn tell_guide<R: Eprint>(rt: &R) -> io::Result<()> {
     eprintln!(rt; "docs/guide.md says how they are used, docs/formats.md what each file holds.")
 }
 
@@ -52,16 +63,13 @@ fn tell_word<R: Eprint>(rt: &R, words: &[String], usage: Usage) -> io::Result<()
 
 /// Says what is wrong with the options of a program that takes no word, and all its options where none is given.
 pub fn tell_options<R: Eprint>(rt: &R, words: &[String], usage: Usage) -> io::Result<()> {
-    let Usage {
-        name,
-        options,
-        does,
-    } = usage;
+    let name = usage.name;
     if words.len() > 1 {
+        let options = usage.options;
         let fault = fault_of(words, options);
         return eprintln!(rt; "{name}: {fault}; usage: {name} {options}");
     }
     eprintln!(rt; "{name}: options are missing; these are all, in any order:")?;
-    eprintln!(rt; "  {name} {options}: {does}")?;
-    eprintln!(rt; "docs/guide.md says how they are used, docs/formats.md what each file holds.")
+    tell_usage(rt, usage)?;
+    tell_guide(rt)
 }

@@ -7,8 +7,20 @@ use gr_reader::{MapError, read_map};
 use line_text::read_number;
 use ride_model::Network;
 use ride_ports::SureSource;
+use std::fmt::Display;
 use std::rt::Files;
 use std::{fs, io};
+
+// The settings of a fleet file with their ranges, one a line.
+const RANGES: &str = "\
+batch: 1 to 128
+penalty: 0 to 1000000000000
+drive: 0 to 1000
+wait: 0 to 1000
+lead: 0 to 3600
+dwell: 0 to 3600
+log: 1 to 2
+";
 
 /// Says what is wrong with a map.
 pub fn tell_map<R: Files + Eprint + AllocGlobal>(
@@ -16,13 +28,12 @@ pub fn tell_map<R: Files + Eprint + AllocGlobal>(
     program: Program,
     name: &str,
 ) -> io::Result<()> {
-    let program = program.name();
     let Some(text) = text_of(rt, name) else {
-        return eprintln!(rt; "{program}: {name} is no road map; standard output says why");
+        return tell_refused(rt, program, name, "is no road map");
     };
-    match read_map(rt.alloc(), &mut SureSource::new(text.as_slice())) {
-        Ok(_) => eprintln!(rt; "{program}: {name} was no road map; standard output says why"),
-        Err(error) => tell_map_error(rt, name, text.as_slice(), error),
+    match fault_of_map(rt, text.as_slice()) {
+        Some(error) => tell_map_error(rt, name, text.as_slice(), error),
+        None => tell_refused(rt, program, name, "was no road map"),
     }
 }
 
@@ -33,14 +44,41 @@ pub fn tell_fleet<R: Files + Eprint + AllocGlobal>(
     map: &str,
     name: &str,
 ) -> io::Result<()> {
-    let program = program.name();
-    let (Some(network), Some(text)) = (network_of(rt, map), text_of(rt, name)) else {
-        return eprintln!(rt; "{program}: {name} is no fleet file; standard output says why");
-    };
-    match read_fleet(rt.alloc(), &mut SureSource::new(text.as_slice()), &network) {
-        Ok(_) => eprintln!(rt; "{program}: {name} was no fleet file; standard output says why"),
-        Err(error) => tell_fleet_error(rt, name, text.as_slice(), network.nodes(), error),
+    match network_of(rt, map) {
+        Some(network) => tell_fleet_over(rt, program, &network, name),
+        None => tell_refused(rt, program, name, "is no fleet file"),
     }
+}
+
+fn tell_fleet_over<R: Files + Eprint + AllocGlobal>(
+    rt: &R,
+    program: Program,
+    network: &Network,
+    name: &str,
+) -> io::Result<()> {
+    let Some(text) = text_of(rt, name) else {
+        return tell_refused(rt, program, name, "is no fleet file");
+    };
+    match fault_of_fleet(rt, text.as_slice(), network) {
+        Some(error) => tell_fleet_error(rt, name, text.as_slice(), network.nodes(), error),
+        None => tell_refused(rt, program, name, "was no fleet file"),
+    }
+}
+
+// Says that a file was refused whose fault is not found again.
+fn tell_refused<R: Eprint>(rt: &R, program: Program, name: &str, what: &str) -> io::Result<()> {
+    let program = program.name();
+    eprintln!(rt; "{program}: {name} {what}; standard output says why")
+}
+
+// Why bytes are no map.
+fn fault_of_map<R: AllocGlobal>(rt: &R, text: &[u8]) -> Option<MapError> {
+    read_map(rt.alloc(), &mut SureSource::new(text)).err()
+}
+
+// Why bytes are no fleet file over a map.
+fn fault_of_fleet<R: AllocGlobal>(rt: &R, text: &[u8], map: &Network) -> Option<FleetError> {
+    read_fleet(rt.alloc(), &mut SureSource::new(text), map).err()
 }
 
 /// Returns the bytes of a file, where it is no pipe.
@@ -58,9 +96,27 @@ pub fn network_of<R: Files + AllocGlobal>(rt: &R, map: &str) -> Option<Network> 
     read_map(rt.alloc(), &mut SureSource::new(text.as_slice())).ok()
 }
 
-// A line as it is shown.
-fn shown_line(text: &[u8], line: u64) -> Shown<'_> {
-    Shown(bare(line_of(text, line)))
+// Says what is wrong with a line.
+fn tell_line<R: Eprint>(rt: &R, name: &str, line: u64, what: &str) -> io::Result<()> {
+    eprintln!(rt; "{name}:{line}: {what}")
+}
+
+// Says what is wrong with a line in which these bytes stand.
+fn tell_said<R: Eprint>(rt: &R, name: &str, line: u64, what: &str, said: &[u8]) -> io::Result<()> {
+    let said = Shown(said);
+    eprintln!(rt; "{name}:{line}: {what}: {said}")
+}
+
+// Says that a line names a node that is not on a map of so many.
+fn tell_node<R: Eprint>(
+    rt: &R,
+    name: &str,
+    line: u64,
+    node: &[u8],
+    nodes: &impl Display,
+) -> io::Result<()> {
+    let node = Shown(node);
+    eprintln!(rt; "{name}:{line}: node {node} is not on the map (1 to {nodes})")
 }
 
 fn tell_map_error<R: Eprint>(rt: &R, name: &str, text: &[u8], error: MapError) -> io::Result<()> {
@@ -68,16 +124,15 @@ fn tell_map_error<R: Eprint>(rt: &R, name: &str, text: &[u8], error: MapError) -
         MapError::NoProblem => eprintln!(rt;
             "{name}: no line 'p sp NODES ARCS' before the first arc"
         ),
-        MapError::SecondProblem(line) => eprintln!(rt; "{name}:{line}: a second problem line"),
+        MapError::SecondProblem(line) => tell_line(rt, name, line, "a second problem line"),
         MapError::BadLine(line) => {
-            let said = shown_line(text, line);
-            eprintln!(rt; "{name}:{line}: neither a problem, nor an arc, nor a comment: {said}")
+            let what = "neither a problem, nor an arc, nor a comment";
+            tell_said(rt, name, line, what, bare(line_of(text, line)))
         }
         MapError::NodeOut(line) => {
             let nodes = field(problem_of(text), 2);
-            let node = Shown(node_out(line_of(text, line), nodes));
-            let nodes = Shown(nodes);
-            eprintln!(rt; "{name}:{line}: node {node} is not on the map (1 to {nodes})")
+            let node = node_out(line_of(text, line), nodes);
+            tell_node(rt, name, line, node, &Shown(nodes))
         }
         MapError::WeightOut(line) => {
             let weight = Shown(field(line_of(text, line), 3));
@@ -87,8 +142,8 @@ fn tell_map_error<R: Eprint>(rt: &R, name: &str, text: &[u8], error: MapError) -
             eprintln!(rt; "{name}: the problem line says {said} arcs, {found} stand there")
         }
         MapError::TooLarge(line) => {
-            let said = shown_line(text, line);
-            eprintln!(rt; "{name}:{line}: more than 500000 nodes or 2000000 arcs: {said}")
+            let what = "more than 500000 nodes or 2000000 arcs";
+            tell_said(rt, name, line, what, bare(line_of(text, line)))
         }
         error => eprintln!(rt; "{name}: {error}"),
     }
@@ -103,69 +158,68 @@ fn tell_fleet_error<R: Eprint>(
 ) -> io::Result<()> {
     match error {
         FleetError::BadLine(line) => tell_bad_line(rt, name, line, line_of(text, line)),
-        FleetError::Repeat(line) => {
-            let said = line_of(text, line);
-            let which = Shown(field(said, 1));
-            match word(said, 0) {
-                "set" => eprintln!(rt; "{name}:{line}: {which} is set twice"),
-                _ => eprintln!(rt; "{name}:{line}: vehicle {which} stands twice"),
-            }
-        }
+        FleetError::Repeat(line) => tell_repeat(rt, name, line, line_of(text, line)),
         FleetError::NodeOut(line) => {
-            let node = Shown(field(line_of(text, line), 3));
-            eprintln!(rt; "{name}:{line}: node {node} is not on the map (1 to {nodes})")
+            tell_node(rt, name, line, field(line_of(text, line), 3), &nodes)
         }
         FleetError::ValueOut(line) => tell_value(rt, name, line, line_of(text, line)),
-        FleetError::TooMany(line) => eprintln!(rt; "{name}:{line}: more than 1000 vehicles"),
+        FleetError::TooMany(line) => tell_line(rt, name, line, "more than 1000 vehicles"),
         error => eprintln!(rt; "{name}: {error}"),
+    }
+}
+
+// A setting or a vehicle that stands twice.
+fn tell_repeat<R: Eprint>(rt: &R, name: &str, line: u64, text: &[u8]) -> io::Result<()> {
+    let which = Shown(field(text, 1));
+    match word(text, 0) {
+        "set" => eprintln!(rt; "{name}:{line}: {which} is set twice"),
+        _ => eprintln!(rt; "{name}:{line}: vehicle {which} stands twice"),
     }
 }
 
 // A line that is no line of a fleet file.
 fn tell_bad_line<R: Eprint>(rt: &R, name: &str, line: u64, text: &[u8]) -> io::Result<()> {
-    let said = Shown(bare(text));
-    match word(text, 0) {
-        "set" if range_of(word(text, 1)).is_none() => {
-            let setting = Shown(field(text, 1));
-            eprintln!(rt; "{name}:{line}: no such setting: {setting}")
-        }
-        "set" => eprintln!(rt; "{name}:{line}: a setting has one number: {said}"),
-        "vehicle" => eprintln!(rt;
-            "{name}:{line}: a vehicle has four numbers or five (ID SEATS NODE READY CHAIRS): {said}"
+    let (what, said) = match word(text, 0) {
+        "set" if range_of(word(text, 1)).is_none() => ("no such setting", field(text, 1)),
+        "set" => ("a setting has one number", bare(text)),
+        "vehicle" => (
+            "a vehicle has four numbers or five (ID SEATS NODE READY CHAIRS)",
+            bare(text),
         ),
-        _ => eprintln!(rt;
-            "{name}:{line}: neither a setting, nor a vehicle, nor a comment: {said}"
+        _ => (
+            "neither a setting, nor a vehicle, nor a comment",
+            bare(text),
         ),
-    }
+    };
+    tell_said(rt, name, line, what, said)
 }
 
 // A value that is out of its range.
 fn tell_value<R: Eprint>(rt: &R, name: &str, line: u64, text: &[u8]) -> io::Result<()> {
     let setting = word(text, 1);
-    match (word(text, 0), range_of(setting)) {
-        ("set", Some(range)) => {
+    match range_of(setting) {
+        Some(range) if word(text, 0) == "set" => {
             let value = Shown(field(text, 2));
             eprintln!(rt; "{name}:{line}: {setting} {value} is out of range ({range})")
         }
         _ => {
-            let said = Shown(bare(text));
-            eprintln!(rt;
-                "{name}:{line}: a vehicle has 1 to 16 seats and 0 to 4 chairs, and is ready by second 1000000000: {said}"
-            )
+            let what =
+                "a vehicle has 1 to 16 seats and 0 to 4 chairs, and is ready by second 1000000000";
+            tell_said(rt, name, line, what, bare(text))
         }
     }
 }
 
 // The range of a setting.
 fn range_of(setting: &str) -> Option<&'static str> {
-    match setting {
-        "batch" => Some("1 to 128"),
-        "penalty" => Some("0 to 1000000000000"),
-        "drive" | "wait" => Some("0 to 1000"),
-        "lead" | "dwell" => Some("0 to 3600"),
-        "log" => Some("1 to 2"),
-        _ => None,
+    for line in RANGES.lines() {
+        if let Some((name, range)) = line.split_once(": ")
+            && name == setting
+        {
+            return Some(range);
+        }
     }
+    None
 }
 
 // The first of an arc's nodes that is not on the map.

@@ -5,6 +5,7 @@ use crate::texts::{line_of, network_of, text_of};
 use adaptive_roads::Roads;
 use fleet_file::read_fleet;
 use log_audit::due_line;
+use ride_model::Network;
 use ride_ports::SureSource;
 use std::io;
 use std::rt::Files;
@@ -33,11 +34,23 @@ pub fn tell_wrong<R: Files + Eprint + Threads + Sync + AllocGlobal>(
         return eprintln!(rt; "{name}: a line is wrong; standard output says which");
     };
     let due = due_of(why);
-    let Some(log) = text_of(rt, name) else {
-        return eprintln!(rt; "{name}:{number}: {due}");
-    };
-    let line = Shown(line_of(log.as_slice(), number));
-    match line_due(rt, names, log.as_slice()) {
+    match text_of(rt, name) {
+        Some(log) => tell_line(rt, names, log.as_slice(), number, due),
+        None => eprintln!(rt; "{name}:{number}: {due}"),
+    }
+}
+
+// Says what stands in a line of a log of these bytes, and what was due there.
+fn tell_line<R: Files + Eprint + Threads + Sync + AllocGlobal>(
+    rt: &R,
+    names: LogNames<'_>,
+    log: &[u8],
+    number: u64,
+    due: &str,
+) -> io::Result<()> {
+    let name = names.log;
+    let line = Shown(line_of(log, number));
+    match line_due(rt, names, log) {
         Some(other) => {
             let other = other.as_str();
             eprintln!(rt; "{name}:{number}: {due}: {line}; due: {other}")
@@ -54,16 +67,24 @@ fn line_due<R: Files + Threads + Sync + AllocGlobal>(
 ) -> Option<String> {
     let map = network_of(rt, names.map)?;
     let fleet = text_of(rt, names.fleet)?;
-    let mut fleet = SureSource::new(fleet.as_slice());
-    let Ok((settings, fleet)) = read_fleet(rt.alloc(), &mut fleet, &map) else {
+    shown(line_over(rt, &map, fleet.as_slice(), log)?)
+}
+
+// The line that was due in a log over a map and a fleet file.
+fn line_over<R: Threads + Sync + AllocGlobal>(
+    rt: &R,
+    map: &Network,
+    fleet: &[u8],
+    log: &[u8],
+) -> Option<Vec<u8>> {
+    let Ok((settings, fleet)) = read_fleet(rt.alloc(), &mut SureSource::new(fleet), map) else {
         return None;
     };
-    let Ok(roads) = Roads::new(rt.alloc(), &map) else {
+    let Ok(roads) = Roads::new(rt.alloc(), map) else {
         return None;
     };
-    let mut source = SureSource::new(log);
-    let line = due_line(rt, rt.alloc(), &roads, settings, fleet, &mut source).ok()?;
-    shown(line?)
+    let mut log = SureSource::new(log);
+    due_line(rt, rt.alloc(), &roads, settings, fleet, &mut log).ok()?
 }
 
 // A line without its LF, cut where it is long.

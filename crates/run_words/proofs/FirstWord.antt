@@ -1,5 +1,8 @@
 -- Words of which there is none.
-use Rattle.std.proofs.Common.{◌≡◌, ℕ, List, [], ◌∷◌, None, refl, length, map, arith}
+use Rattle.std.proofs.Common.{◌≡◌, ◌≢◌, ℕ, false, List, [], ◌∷◌, None, refl, length, map, arith}
+use Rattle.std.specs.Prelude.{bytes_eq}
+use Rattle.std.proofs.lemmas.Bool.{false_from_ne_true}
+use Rattle.std.proofs.lemmas.Slice.Eq.{bytes_eq-Decides}
 use Rattle.run_words.specs.Words.{first_word, word_of}
 
 no-first_word : {S : Type 0} (text : S → List ℕ) (words : List S) → length words ≡ 0 → first_word (map text words) ≡ []
@@ -9,3 +12,7 @@ no-first_word text (word ∷ words) is = absurd (omega arith)
 pub no-word : {S : Type 0} (text : S → List ℕ) (words : List S) → length words ≡ 0 → None ≡ word_of (first_word (map text words))
 unfolding word_of
 no-word text words is = let none = no-first_word text words is in rw none refl
+
+-- bytes that differ
+pub differs : (bytes other : List ℕ) → bytes ≢ other → bytes_eq bytes other ≡ false
+differs bytes other apart = false_from_ne_true (bytes_eq bytes other) (λ same. apart ((bytes_eq-Decides bytes other).0 same))

@@ -27,14 +27,17 @@ resumption_command =
     with_option (with_option (with_option (with_option (over_map_and_fleet (codes "ride_resume")) (codes "log")) (codes "riders"))
     (codes "drivers")) (codes "workers")
 
--- what words ask for; nothing where they are not in order
-abbrev pub resumption_of : List (List ℕ) → Option GoingOn
-resumption_of words =
-    let value = value_of resumption_command words in
+-- what the values of its options ask for; nothing where one is wanting or out of its range
+abbrev pub resumption_asked : (List ℕ → Option (List ℕ)) → Option GoingOn
+resumption_asked value =
     option_and_then (λ map. option_and_then (λ fleet. option_and_then (λ log. option_and_then (λ riders.
     option_and_then (λ drivers. option_map (λ workers. going_on map fleet log riders drivers workers)
     (option_and_then (number_within 1 most_workers) (value (codes "workers"))))
     (value (codes "drivers"))) (value (codes "riders"))) (value (codes "log"))) (value (codes "fleet"))) (value (codes "map"))
+
+-- what words ask for; nothing where they are not in order
+abbrev pub resumption_of : List (List ℕ) → Option GoingOn
+resumption_of words = resumption_asked (value_of resumption_command words)
 
 -- the words of a resumption
 abbrev pub asked_by_resumption : Resumption → GoingOn

@@ -33,34 +33,22 @@ bare_command name = on_top (λ s. record s { disable_help_flag = true; disable_v
 abbrev pub with_option : App → List ℕ → App
 with_option command name = with_rule command (option_rule name)
 
--- the command of each first word, with its options
 abbrev pub over_map_and_fleet : List ℕ → App
 over_map_and_fleet name = with_option (with_option (bare_command name) (codes "map")) (codes "fleet")
 
-abbrev pub replay_command : App
-replay_command = with_option (over_map_and_fleet (codes "replay")) (codes "feed")
-
-abbrev pub audit_command : App
-audit_command = with_option (over_map_and_fleet (codes "audit")) (codes "log")
-
-abbrev pub serve_command : App
-serve_command =
+-- the command of each first word, with its options
+abbrev pub command_by_word : Word → App
+command_by_word Replay = with_option (over_map_and_fleet (codes "replay")) (codes "feed")
+command_by_word Ahead = with_option (with_option (over_map_and_fleet (codes "ahead")) (codes "feed")) (codes "reach")
+command_by_word Audit = with_option (over_map_and_fleet (codes "audit")) (codes "log")
+command_by_word Serve =
     with_option (with_option (with_option (with_option (over_map_and_fleet (codes "serve")) (codes "riders")) (codes "drivers"))
     (codes "workers")) (codes "desks")
-
-abbrev pub ahead_command : App
-ahead_command = with_option (with_option (over_map_and_fleet (codes "ahead")) (codes "feed")) (codes "reach")
-
-abbrev pub drill_command : App
-drill_command =
+command_by_word Drill =
     with_option (with_option (with_option (with_option (bare_command (codes "drill")) (codes "side")) (codes "vehicles")) (codes "requests"))
     (codes "seed")
-
-abbrev pub book_command : App
-book_command = with_option (bare_command (codes "book")) (codes "feed")
-
-abbrev pub league_command : App
-league_command = with_option (with_option (over_map_and_fleet (codes "league")) (codes "second")) (codes "feed")
+command_by_word Book = with_option (bare_command (codes "book")) (codes "feed")
+command_by_word League = with_option (with_option (over_map_and_fleet (codes "league")) (codes "second")) (codes "feed")
 
 -- what was found, where no fault was
 abbrev pub unless : Kinds → Option (List ℕ) → Option (List ℕ)
@@ -83,53 +71,33 @@ abbrev pub of_three : (List ℕ → List ℕ → List ℕ → Asked) → Option 
 of_three ask first second third =
     option_and_then (λ a. option_and_then (λ b. option_map (λ c. ask a b c) third) second) first
 
--- what words ask for whose first one is this
-abbrev pub replay_asked : List (List ℕ) → Option Asked
-replay_asked words =
-    let value = value_of replay_command words in
-    of_three a_replay (value (codes "map")) (value (codes "fleet")) (value (codes "feed"))
+-- the plan of a drill, by the ranges of plans
+abbrev pub plan_of : ℕ → ℕ → ℕ → ℕ → CityPlan
+plan_of side vehicles requests seed = record { side = side; vehicles = vehicles; requests = requests; seed = seed }
 
-abbrev pub ahead_asked : List (List ℕ) → Option Asked
-ahead_asked words =
-    let value = value_of ahead_command words in
+-- what the values of its options ask for behind each first word; nothing where one is wanting or out of its range
+abbrev pub asked_by_word : Word → (List ℕ → Option (List ℕ)) → Option Asked
+asked_by_word Replay value = of_three a_replay (value (codes "map")) (value (codes "fleet")) (value (codes "feed"))
+asked_by_word Ahead value =
     option_and_then (λ map. option_and_then (λ fleet. option_and_then (λ feed. option_map (λ reach. an_ahead map fleet feed reach)
     (option_and_then (number_within 1 longest_reach) (value (codes "reach"))))
     (value (codes "feed"))) (value (codes "fleet"))) (value (codes "map"))
-
-abbrev pub audit_asked : List (List ℕ) → Option Asked
-audit_asked words =
-    let value = value_of audit_command words in
-    of_three an_audit (value (codes "map")) (value (codes "fleet")) (value (codes "log"))
-
-abbrev pub serve_asked : List (List ℕ) → Option Asked
-serve_asked words =
-    let value = value_of serve_command words in
+asked_by_word Audit value = of_three an_audit (value (codes "map")) (value (codes "fleet")) (value (codes "log"))
+asked_by_word Serve value =
     option_and_then (λ map. option_and_then (λ fleet. option_and_then (λ riders. option_and_then (λ drivers.
     option_and_then (λ workers. option_map (λ desks. a_service map fleet riders drivers workers desks)
     (option_and_then (number_within 1 2) (value (codes "desks"))))
     (option_and_then (number_within 1 most_workers) (value (codes "workers"))))
     (value (codes "drivers"))) (value (codes "riders"))) (value (codes "fleet"))) (value (codes "map"))
-
--- the plan of a drill, by the ranges of plans
-abbrev pub plan_of : ℕ → ℕ → ℕ → ℕ → CityPlan
-plan_of side vehicles requests seed = record { side = side; vehicles = vehicles; requests = requests; seed = seed }
-
-abbrev pub drill_asked : List (List ℕ) → Option Asked
-drill_asked words =
-    let value = value_of drill_command words in
+asked_by_word Drill value =
     option_and_then (λ side. option_and_then (λ vehicles. option_and_then (λ requests.
     option_map (λ seed. a_drill (plan_of side vehicles requests seed))
     (option_and_then (number_within 0 2147483647) (value (codes "seed"))))
     (option_and_then (number_within 0 16000) (value (codes "requests"))))
     (option_and_then (number_within 0 most_vehicles) (value (codes "vehicles"))))
     (option_and_then (number_within 2 100) (value (codes "side")))
-
-abbrev pub book_asked : List (List ℕ) → Option Asked
-book_asked words = option_map (λ feed. a_booking feed) (value_of book_command words (codes "feed"))
-
-abbrev pub league_asked : List (List ℕ) → Option Asked
-league_asked words =
-    let value = value_of league_command words in
+asked_by_word Book value = option_map (λ feed. a_booking feed) (value (codes "feed"))
+asked_by_word League value =
     option_and_then (λ map. option_and_then (λ fleet. option_and_then (λ second. option_map (λ feed. a_league map fleet second feed)
     (value (codes "feed"))) (value (codes "second"))) (value (codes "fleet"))) (value (codes "map"))
 
@@ -144,21 +112,12 @@ word_of name =
     else (if bytes_eq name (codes "book") then Some Book
     else (if bytes_eq name (codes "league") then Some League else None))))))
 
-abbrev pub asked_by_word : Word → List (List ℕ) → Option Asked
-asked_by_word Replay = replay_asked
-asked_by_word Ahead = ahead_asked
-asked_by_word Audit = audit_asked
-asked_by_word Serve = serve_asked
-asked_by_word Drill = drill_asked
-asked_by_word Book = book_asked
-asked_by_word League = league_asked
-
 -- what words ask for: the first of them says what, and the others are its options; nothing where they are not in order
 abbrev pub first_word : List (List ℕ) → List ℕ
 first_word words = slice_index_or words 0 []
 
 abbrev pub ask_of : List (List ℕ) → Option Asked
-ask_of words = option_and_then (λ word. asked_by_word word words) (word_of (first_word words))
+ask_of words = option_and_then (λ word. asked_by_word word (value_of (command_by_word word) words)) (word_of (first_word words))
 
 -- a file that is asked for, by what it is to hold and by its name: a map, a fleet file, a second fleet file, a feed, or a log
 pub data File : Type 0 where

@@ -2,34 +2,51 @@
 ghost use Rattle.std.specs.Prelude.{◌≡◌, false, Err, IfOk, OnErr};
 ghost use Rattle.clap.specs.Simple.{app_of};
 ghost use Rattle.clap.specs.Walk.{rule_of};
+ghost use Rattle.run_words.specs.declared.words.Word.TheVariants.{Ahead, Audit, Book, Drill, League, Replay, Serve};
 ghost use Rattle.run_words.specs.Resumptions.{resumption_command};
-ghost use Rattle.run_words.specs.Words.{ahead_command, audit_command, bare_command, book_command, drill_command, league_command, option_rule, over_map_and_fleet, replay_command, serve_command, with_option};
+ghost use Rattle.run_words.specs.Words.{bare_command, command_by_word, option_rule, over_map_and_fleet, with_option};
 
-use crate::WordsError;
+use crate::{Word, WordsError};
 use clap::{Arg, ArgAction, Command};
 use std::alloc::Global;
 
-/// The command of a replay.
-pub fn replay_command<'a>(alloc: Global) -> Result<Command<'a>, WordsError>
-    ensures command { IfOk result (λ command. app_of command ≡ replay_command) }
+/// The command of a word.
+pub fn command_of<'a>(alloc: Global, word: Word) -> Result<Command<'a>, WordsError>
+    ensures command { IfOk result (λ command. app_of command ≡ command_by_word word) }
+    ensures stopped { OnErr result (result ≡ Err WordsError.NoMemory) }
+{
+    match word {
+        Word::Replay => replay_command(alloc),
+        Word::Ahead => ahead_command(alloc),
+        Word::Audit => audit_command(alloc),
+        Word::Serve => serve_command(alloc),
+        Word::Drill => drill_command(alloc),
+        Word::Book => book_command(alloc),
+        Word::League => league_command(alloc),
+    }
+}
+
+// The command of a replay.
+fn replay_command<'a>(alloc: Global) -> Result<Command<'a>, WordsError>
+    ensures command { IfOk result (λ command. app_of command ≡ command_by_word Replay) }
     ensures stopped { OnErr result (result ≡ Err WordsError.NoMemory) }
 {
     let command = over_map_and_fleet(alloc, "replay")?;
     with_option(command, alloc, "feed")
 }
 
-/// The command of an audit.
-pub fn audit_command<'a>(alloc: Global) -> Result<Command<'a>, WordsError>
-    ensures command { IfOk result (λ command. app_of command ≡ audit_command) }
+// The command of an audit.
+fn audit_command<'a>(alloc: Global) -> Result<Command<'a>, WordsError>
+    ensures command { IfOk result (λ command. app_of command ≡ command_by_word Audit) }
     ensures stopped { OnErr result (result ≡ Err WordsError.NoMemory) }
 {
     let command = over_map_and_fleet(alloc, "audit")?;
     with_option(command, alloc, "log")
 }
 
-/// The command of a service.
-pub fn serve_command<'a>(alloc: Global) -> Result<Command<'a>, WordsError>
-    ensures command { IfOk result (λ command. app_of command ≡ serve_command) }
+// The command of a service.
+fn serve_command<'a>(alloc: Global) -> Result<Command<'a>, WordsError>
+    ensures command { IfOk result (λ command. app_of command ≡ command_by_word Serve) }
     ensures stopped { OnErr result (result ≡ Err WordsError.NoMemory) }
 {
     let command = over_map_and_fleet(alloc, "serve")?;
@@ -37,35 +54,35 @@ pub fn serve_command<'a>(alloc: Global) -> Result<Command<'a>, WordsError>
     with_two(command, alloc, "workers", "desks")
 }
 
-/// The command of idle vehicles sent ahead.
-pub fn ahead_command<'a>(alloc: Global) -> Result<Command<'a>, WordsError>
-    ensures command { IfOk result (λ command. app_of command ≡ ahead_command) }
+// The command of idle vehicles sent ahead.
+fn ahead_command<'a>(alloc: Global) -> Result<Command<'a>, WordsError>
+    ensures command { IfOk result (λ command. app_of command ≡ command_by_word Ahead) }
     ensures stopped { OnErr result (result ≡ Err WordsError.NoMemory) }
 {
     let command = over_map_and_fleet(alloc, "ahead")?;
     with_two(command, alloc, "feed", "reach")
 }
 
-/// The command of a drill.
-pub fn drill_command<'a>(alloc: Global) -> Result<Command<'a>, WordsError>
-    ensures command { IfOk result (λ command. app_of command ≡ drill_command) }
+// The command of a drill.
+fn drill_command<'a>(alloc: Global) -> Result<Command<'a>, WordsError>
+    ensures command { IfOk result (λ command. app_of command ≡ command_by_word Drill) }
     ensures stopped { OnErr result (result ≡ Err WordsError.NoMemory) }
 {
     let command = with_two(bare_command(alloc, "drill"), alloc, "side", "vehicles")?;
     with_two(command, alloc, "requests", "seed")
 }
 
-/// The command of bookings.
-pub fn book_command<'a>(alloc: Global) -> Result<Command<'a>, WordsError>
-    ensures command { IfOk result (λ command. app_of command ≡ book_command) }
+// The command of bookings.
+fn book_command<'a>(alloc: Global) -> Result<Command<'a>, WordsError>
+    ensures command { IfOk result (λ command. app_of command ≡ command_by_word Book) }
     ensures stopped { OnErr result (result ≡ Err WordsError.NoMemory) }
 {
     with_option(bare_command(alloc, "book"), alloc, "feed")
 }
 
-/// The command of a league.
-pub fn league_command<'a>(alloc: Global) -> Result<Command<'a>, WordsError>
-    ensures command { IfOk result (λ command. app_of command ≡ league_command) }
+// The command of a league.
+fn league_command<'a>(alloc: Global) -> Result<Command<'a>, WordsError>
+    ensures command { IfOk result (λ command. app_of command ≡ command_by_word League) }
     ensures stopped { OnErr result (result ≡ Err WordsError.NoMemory) }
 {
     let command = over_map_and_fleet(alloc, "league")?;

@@ -2,8 +2,10 @@
 #![tactic(auto)]
 
 ghost use Rattle.std.specs.Prelude.{◌≡◌, codes, map, string_bytes, IfOk};
+ghost use Rattle.clap.specs.Matches.{first_value, found_of};
+ghost use Rattle.run_words.specs.declared.words.Word.TheVariants.{Ahead, Audit, Book, Drill, League, Replay, Serve};
 ghost use Rattle.run_words.specs.Asks.{IsAskOf, IsInRange};
-ghost use Rattle.run_words.specs.Words.{ahead_asked, ask_of, audit_asked, book_asked, drill_asked, first_word, league_asked, replay_asked, serve_asked, word_of};
+ghost use Rattle.run_words.specs.Words.{ask_of, asked_by_word, first_word, word_of};
 
 mod commands;
 mod resuming;
@@ -11,14 +13,12 @@ mod values;
 mod words;
 
 use city_maker::CityPlan;
-use commands::{
-    ahead_command, audit_command, book_command, drill_command, league_command, replay_command,
-    serve_command,
-};
+use clap::ArgMatches;
+use commands::command_of;
 pub use resuming::{Resumption, read_resumption};
 use ride_model::limits::{LONGEST_REACH, MOST_WORKERS};
 use std::alloc::Global;
-use values::{number, read_by, text, three_texts};
+use values::{ThreeNames, number, read_by, text, three_names};
 pub use words::{RESUMPTION, Usage, Word};
 
 /// What the words ask for, with a variant a word. Files are told by their names.
@@ -62,7 +62,7 @@ pub enum Ask {
 }
 
 /// Why the words ask for nothing.
-#[derive(Clone, Copy, Debug, PartialEq, Eq)]
+#[derive(Clone, Copy, PartialEq, Eq)]
 pub enum WordsError {
     /// They are not in order.
     Refused,
@@ -77,15 +77,8 @@ pub fn read_ask(alloc: Global, words: &[String]) -> Result<Ask, WordsError>
     let Some(word) = first_word(words) else {
         return Err(WordsError::Refused);
     };
-    match word {
-        Word::Replay => replay_words(alloc, words),
-        Word::Ahead => ahead_words(alloc, words),
-        Word::Audit => audit_words(alloc, words),
-        Word::Serve => serve_words(alloc, words),
-        Word::Drill => drill_words(alloc, words),
-        Word::Book => book_words(alloc, words),
-        Word::League => league_words(alloc, words),
-    }
+    let given = read_by(command_of(alloc, word)?, words)?;
+    ask_given(alloc, word, &given)
 }
 
 // The first word, where it is one.
@@ -98,56 +91,78 @@ fn first_word(words: &[String]) -> Option<Word>
     Word::named(words[0].as_str())
 }
 
-// The options of a replay.
-fn replay_words(alloc: Global, words: &[String]) -> Result<Ask, WordsError>
-    ensures ask { IsAskOf (replay_asked (map string_bytes words.now)) result }
+// What the values of a word's options ask for.
+fn ask_given(alloc: Global, word: Word, given: &ArgMatches<'_>) -> Result<Ask, WordsError>
+    ensures ask { IsAskOf (asked_by_word word (first_value (found_of given.now))) result }
     ensures in_range { IfOk result IsInRange }
 {
-    let given = read_by(replay_command(alloc)?, words)?;
-    let (map, fleet, feed) = three_texts(alloc, &given, "map", "fleet", "feed")?;
-    Ok(Ask::Replay { map, fleet, feed })
+    match word {
+        Word::Replay => replay_given(alloc, given),
+        Word::Ahead => ahead_given(alloc, given),
+        Word::Audit => audit_given(alloc, given),
+        Word::Serve => serve_given(alloc, given),
+        Word::Drill => drill_given(given),
+        Word::Book => book_given(alloc, given),
+        Word::League => league_given(alloc, given),
+    }
+}
+
+// The options of a replay.
+fn replay_given(alloc: Global, given: &ArgMatches<'_>) -> Result<Ask, WordsError>
+    ensures ask { IsAskOf (asked_by_word Replay (first_value (found_of given.now))) result }
+    ensures in_range { IfOk result IsInRange }
+{
+    let ThreeNames { map, fleet, other } = three_names(alloc, given, "feed")?;
+    Ok(Ask::Replay {
+        map,
+        fleet,
+        feed: other,
+    })
 }
 
 // The options of idle vehicles sent ahead.
-fn ahead_words(alloc: Global, words: &[String]) -> Result<Ask, WordsError>
-    ensures ask { IsAskOf (ahead_asked (map string_bytes words.now)) result }
+fn ahead_given(alloc: Global, given: &ArgMatches<'_>) -> Result<Ask, WordsError>
+    ensures ask { IsAskOf (asked_by_word Ahead (first_value (found_of given.now))) result }
     ensures in_range { IfOk result IsInRange }
 {
-    let given = read_by(ahead_command(alloc)?, words)?;
-    let (map, fleet, feed) = three_texts(alloc, &given, "map", "fleet", "feed")?;
-    let reach = number(&given, "reach", 1, LONGEST_REACH)?;
+    let names = three_names(alloc, given, "feed")?;
+    let reach = number(given, "reach", 1, LONGEST_REACH)?;
+    let ThreeNames { map, fleet, other } = names;
     Ok(Ask::Ahead {
         map,
         fleet,
-        feed,
+        feed: other,
         reach,
     })
 }
 
 // The options of an audit.
-fn audit_words(alloc: Global, words: &[String]) -> Result<Ask, WordsError>
-    ensures ask { IsAskOf (audit_asked (map string_bytes words.now)) result }
+fn audit_given(alloc: Global, given: &ArgMatches<'_>) -> Result<Ask, WordsError>
+    ensures ask { IsAskOf (asked_by_word Audit (first_value (found_of given.now))) result }
     ensures in_range { IfOk result IsInRange }
 {
-    let given = read_by(audit_command(alloc)?, words)?;
-    let (map, fleet, log) = three_texts(alloc, &given, "map", "fleet", "log")?;
-    Ok(Ask::Audit { map, fleet, log })
+    let ThreeNames { map, fleet, other } = three_names(alloc, given, "log")?;
+    Ok(Ask::Audit {
+        map,
+        fleet,
+        log: other,
+    })
 }
 
 // The options of a service.
-fn serve_words(alloc: Global, words: &[String]) -> Result<Ask, WordsError>
-    ensures ask { IsAskOf (serve_asked (map string_bytes words.now)) result }
+fn serve_given(alloc: Global, given: &ArgMatches<'_>) -> Result<Ask, WordsError>
+    ensures ask { IsAskOf (asked_by_word Serve (first_value (found_of given.now))) result }
     ensures in_range { IfOk result IsInRange }
 {
-    let given = read_by(serve_command(alloc)?, words)?;
-    let (map, fleet, riders) = three_texts(alloc, &given, "map", "fleet", "riders")?;
-    let drivers = text(alloc, &given, "drivers")?;
-    let workers = number(&given, "workers", 1, MOST_WORKERS)? as u32;
-    let desks = number(&given, "desks", 1, 2)? as u8;
+    let names = three_names(alloc, given, "riders")?;
+    let drivers = text(alloc, given, "drivers")?;
+    let workers = number(given, "workers", 1, MOST_WORKERS)? as u32;
+    let desks = number(given, "desks", 1, 2)? as u8;
+    let ThreeNames { map, fleet, other } = names;
     Ok(Ask::Serve {
         map,
         fleet,
-        riders,
+        riders: other,
         drivers,
         workers,
         desks,
@@ -155,15 +170,14 @@ fn serve_words(alloc: Global, words: &[String]) -> Result<Ask, WordsError>
 }
 
 // The options of a drill.
-fn drill_words(alloc: Global, words: &[String]) -> Result<Ask, WordsError>
-    ensures ask { IsAskOf (drill_asked (map string_bytes words.now)) result }
+fn drill_given(given: &ArgMatches<'_>) -> Result<Ask, WordsError>
+    ensures ask { IsAskOf (asked_by_word Drill (first_value (found_of given.now))) result }
     ensures in_range { IfOk result IsInRange }
 {
-    let given = read_by(drill_command(alloc)?, words)?;
-    let side = number(&given, "side", 2, 100)? as u32;
-    let vehicles = number(&given, "vehicles", 0, 1_000)? as u32;
-    let requests = number(&given, "requests", 0, 16_000)? as u32;
-    let seed = number(&given, "seed", 0, 2_147_483_647)? as u32;
+    let side = number(given, "side", 2, 100)? as u32;
+    let vehicles = number(given, "vehicles", 0, 1_000)? as u32;
+    let requests = number(given, "requests", 0, 16_000)? as u32;
+    let seed = number(given, "seed", 0, 2_147_483_647)? as u32;
     Ok(Ask::Drill(CityPlan {
         side,
         vehicles,
@@ -173,27 +187,26 @@ fn drill_words(alloc: Global, words: &[String]) -> Result<Ask, WordsError>
 }
 
 // The option of bookings.
-fn book_words(alloc: Global, words: &[String]) -> Result<Ask, WordsError>
-    ensures ask { IsAskOf (book_asked (map string_bytes words.now)) result }
+fn book_given(alloc: Global, given: &ArgMatches<'_>) -> Result<Ask, WordsError>
+    ensures ask { IsAskOf (asked_by_word Book (first_value (found_of given.now))) result }
     ensures in_range { IfOk result IsInRange }
 {
-    let given = read_by(book_command(alloc)?, words)?;
-    let feed = text(alloc, &given, "feed")?;
+    let feed = text(alloc, given, "feed")?;
     Ok(Ask::Book { feed })
 }
 
 // The options of a league.
-fn league_words(alloc: Global, words: &[String]) -> Result<Ask, WordsError>
-    ensures ask { IsAskOf (league_asked (map string_bytes words.now)) result }
+fn league_given(alloc: Global, given: &ArgMatches<'_>) -> Result<Ask, WordsError>
+    ensures ask { IsAskOf (asked_by_word League (first_value (found_of given.now))) result }
     ensures in_range { IfOk result IsInRange }
 {
-    let given = read_by(league_command(alloc)?, words)?;
-    let (map, fleet, second) = three_texts(alloc, &given, "map", "fleet", "second")?;
-    let feed = text(alloc, &given, "feed")?;
+    let names = three_names(alloc, given, "second")?;
+    let feed = text(alloc, given, "feed")?;
+    let ThreeNames { map, fleet, other } = names;
     Ok(Ask::League {
         map,
         fleet,
-        second,
+        second: other,
         feed,
     })
 }

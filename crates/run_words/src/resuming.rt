@@ -1,11 +1,13 @@
 //! The words of a session that goes on from its log.
 ghost use Rattle.std.specs.Prelude.{◌≤◌, map, string_bytes, IfOk};
+ghost use Rattle.clap.specs.Matches.{first_value, found_of};
 ghost use Rattle.ride_model.specs.Limits.{most_workers};
-ghost use Rattle.run_words.specs.Resumptions.{resumption_of, IsResumptionOf};
+ghost use Rattle.run_words.specs.Resumptions.{resumption_asked, resumption_of, IsResumptionOf};
 
 use crate::WordsError;
 use crate::commands::resumption_command;
-use crate::values::{number, read_by, text, three_texts};
+use crate::values::{ThreeNames, number, read_by, text, three_names};
+use clap::ArgMatches;
 use ride_model::limits::MOST_WORKERS;
 use std::alloc::Global;
 
@@ -28,14 +30,25 @@ pub fn read_resumption(alloc: Global, words: &[String]) -> Result<Resumption, Wo
         × (resumption.workers ≤ most_workers)) }
 {
     let given = read_by(resumption_command(alloc)?, words)?;
-    let (map, fleet, log) = three_texts(alloc, &given, "map", "fleet", "log")?;
-    let riders = text(alloc, &given, "riders")?;
-    let drivers = text(alloc, &given, "drivers")?;
-    let workers = number(&given, "workers", 1, MOST_WORKERS)? as u32;
+    resumption_given(alloc, &given)
+}
+
+// The session that the values of its options name.
+fn resumption_given(alloc: Global, given: &ArgMatches<'_>) -> Result<Resumption, WordsError>
+    ensures resumption { IsResumptionOf
+        (resumption_asked (first_value (found_of given.now))) result }
+    ensures workers { IfOk result (λ resumption. (1 ≤ resumption.workers)
+        × (resumption.workers ≤ most_workers)) }
+{
+    let names = three_names(alloc, given, "log")?;
+    let riders = text(alloc, given, "riders")?;
+    let drivers = text(alloc, given, "drivers")?;
+    let workers = number(given, "workers", 1, MOST_WORKERS)? as u32;
+    let ThreeNames { map, fleet, other } = names;
     Ok(Resumption {
         map,
         fleet,
-        log,
+        log: other,
         riders,
         drivers,
         workers,

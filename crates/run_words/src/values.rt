@@ -1,5 +1,5 @@
 //! The values that words give to options.
-ghost use Rattle.std.specs.Prelude.{◌≡◌, ◌≤◌, ◌⊎◌, ℕ, List, None, Some, true, map, option_and_then, string_bytes, Err, IfOk, MatchResult};
+ghost use Rattle.std.specs.Prelude.{◌≡◌, ◌≤◌, ◌⊎◌, ℕ, List, None, Some, true, codes, map, option_and_then, string_bytes, Err, IfOk, MatchResult};
 ghost use Rattle.clap.specs.Faults.{is_simple_and_free};
 ghost use Rattle.clap.specs.Matches.{first_value, found_of};
 ghost use Rattle.clap.specs.Simple.{app_of};
@@ -45,26 +45,33 @@ pub fn text(alloc: Global, given: &ArgMatches<'_>, option: &str) -> Result<Strin
     }
 }
 
-/// Copies of the values of three options.
-pub fn three_texts(
+/// The names of a map, of a fleet file and of one more file.
+#[derive(Drop)]
+pub struct ThreeNames {
+    pub map: String,
+    pub fleet: String,
+    pub other: String,
+}
+
+/// The names of a map and of a fleet file, and of the file that one more option names.
+pub fn three_names(
     alloc: Global,
     given: &ArgMatches<'_>,
-    first: &str,
-    second: &str,
-    third: &str,
-) -> Result<(String, String, String), WordsError>
+    option: &str,
+) -> Result<ThreeNames, WordsError>
     ensures { MatchResult result
-        (λ texts. (first_value (found_of given.now) first.now ≡ Some (string_bytes texts.0))
-        × (first_value (found_of given.now) second.now ≡ Some (string_bytes texts.1))
-        × (first_value (found_of given.now) third.now ≡ Some (string_bytes texts.2)))
-        (λ error. error ≡ WordsError.Refused → (first_value (found_of given.now) first.now ≡ None)
-        ⊎ (first_value (found_of given.now) second.now ≡ None)
-        ⊎ (first_value (found_of given.now) third.now ≡ None)) }
+        (λ names. (first_value (found_of given.now) (codes "map") ≡ Some (string_bytes names.map))
+        × (first_value (found_of given.now) (codes "fleet") ≡ Some (string_bytes names.fleet))
+        × (first_value (found_of given.now) option.now ≡ Some (string_bytes names.other)))
+        (λ error. error ≡ WordsError.Refused
+        → (first_value (found_of given.now) (codes "map") ≡ None)
+        ⊎ (first_value (found_of given.now) (codes "fleet") ≡ None)
+        ⊎ (first_value (found_of given.now) option.now ≡ None)) }
 {
-    let one = text(alloc, given, first)?;
-    let two = text(alloc, given, second)?;
-    let three = text(alloc, given, third)?;
-    Ok((one, two, three))
+    let map = text(alloc, given, "map")?;
+    let fleet = text(alloc, given, "fleet")?;
+    let other = text(alloc, given, option)?;
+    Ok(ThreeNames { map, fleet, other })
 }
 
 /// The number that an option's value is, where it is one from the least to the most.

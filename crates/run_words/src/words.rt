@@ -45,28 +45,16 @@ impl Word {
     pub fn named(name: &str) -> Option<Word>
         ensures { result ≡ word_of name.now }
     {
-        if name == "replay" {
-            return Some(Word::Replay);
+        match name {
+            "replay" => Some(Word::Replay),
+            "ahead" => Some(Word::Ahead),
+            "audit" => Some(Word::Audit),
+            "serve" => Some(Word::Serve),
+            "drill" => Some(Word::Drill),
+            "book" => Some(Word::Book),
+            "league" => Some(Word::League),
+            _ => None,
         }
-        if name == "ahead" {
-            return Some(Word::Ahead);
-        }
-        if name == "audit" {
-            return Some(Word::Audit);
-        }
-        if name == "serve" {
-            return Some(Word::Serve);
-        }
-        if name == "drill" {
-            return Some(Word::Drill);
-        }
-        if name == "book" {
-            return Some(Word::Book);
-        }
-        if name == "league" {
-            return Some(Word::League);
-        }
-        None
     }
 
     /// Returns what is told of it.

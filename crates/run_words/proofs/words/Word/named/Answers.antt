@@ -1,35 +1,45 @@
-use Rattle.std.proofs.Common.{sym, refl, ◌∙◌}
+use Rattle.std.proofs.Common.{refl}
 use Rattle.run_words.specs.Words.{word_of}
+use Rattle.run_words.proofs.FirstWord.{differs}
 use Rattle.run_words.proofs.words.Word.named.Goals as goal
 
-pub returns-then-eq : goal.returns-then-eq
+pub returns-in-replay : goal.returns-in-replay
 unfolding word_of
-returns-then-eq c = rw (sym c.eq.ensures ∙ c.if-eq.true) refl
+returns-in-replay c = rw c.in-replay.is refl
 
-pub returns-then-eq-2 : goal.returns-then-eq-2
+pub returns-in-ahead : goal.returns-in-ahead
 unfolding word_of
-returns-then-eq-2 c = rw (sym c.eq.ensures ∙ c.if-eq.false, sym c.eq-2.ensures ∙ c.if-eq-2.true) refl
+returns-in-ahead c = rw c.in-ahead.is refl
 
-pub returns-then-eq-3 : goal.returns-then-eq-3
+pub returns-in-audit : goal.returns-in-audit
 unfolding word_of
-returns-then-eq-3 c = rw (sym c.eq.ensures ∙ c.if-eq.false, sym c.eq-2.ensures ∙ c.if-eq-2.false, sym c.eq-3.ensures ∙ c.if-eq-3.true) refl
+returns-in-audit c = rw c.in-audit.is refl
 
-pub returns-then-eq-4 : goal.returns-then-eq-4
+pub returns-in-serve : goal.returns-in-serve
 unfolding word_of
-returns-then-eq-4 c = rw (sym c.eq.ensures ∙ c.if-eq.false, sym c.eq-2.ensures ∙ c.if-eq-2.false, sym c.eq-3.ensures ∙ c.if-eq-3.false, sym c.eq-4.ensures ∙ c.if-eq-4.true) refl
+returns-in-serve c = rw c.in-serve.is refl
 
-pub returns-then-eq-5 : goal.returns-then-eq-5
+pub returns-in-drill : goal.returns-in-drill
 unfolding word_of
-returns-then-eq-5 c = rw (sym c.eq.ensures ∙ c.if-eq.false, sym c.eq-2.ensures ∙ c.if-eq-2.false, sym c.eq-3.ensures ∙ c.if-eq-3.false, sym c.eq-4.ensures ∙ c.if-eq-4.false, sym c.eq-5.ensures ∙ c.if-eq-5.true) refl
+returns-in-drill c = rw c.in-drill.is refl
 
-pub returns-then-eq-6 : goal.returns-then-eq-6
+pub returns-in-book : goal.returns-in-book
 unfolding word_of
-returns-then-eq-6 c = rw (sym c.eq.ensures ∙ c.if-eq.false, sym c.eq-2.ensures ∙ c.if-eq-2.false, sym c.eq-3.ensures ∙ c.if-eq-3.false, sym c.eq-4.ensures ∙ c.if-eq-4.false, sym c.eq-5.ensures ∙ c.if-eq-5.false, sym c.eq-6.ensures ∙ c.if-eq-6.true) refl
+returns-in-book c = rw c.in-book.is refl
 
-pub returns-then-eq-7 : goal.returns-then-eq-7
+pub returns-in-league : goal.returns-in-league
 unfolding word_of
-returns-then-eq-7 c = rw (sym c.eq.ensures ∙ c.if-eq.false, sym c.eq-2.ensures ∙ c.if-eq-2.false, sym c.eq-3.ensures ∙ c.if-eq-3.false, sym c.eq-4.ensures ∙ c.if-eq-4.false, sym c.eq-5.ensures ∙ c.if-eq-5.false, sym c.eq-6.ensures ∙ c.if-eq-6.false, sym c.eq-7.ensures ∙ c.if-eq-7.true) refl
+returns-in-league c = rw c.in-league.is refl
 
-pub returns : goal.returns
+pub returns-in_default : goal.returns-in_default
 unfolding word_of
-returns c = rw (sym c.eq.ensures ∙ c.if-eq.false, sym c.eq-2.ensures ∙ c.if-eq-2.false, sym c.eq-3.ensures ∙ c.if-eq-3.false, sym c.eq-4.ensures ∙ c.if-eq-4.false, sym c.eq-5.ensures ∙ c.if-eq-5.false, sym c.eq-6.ensures ∙ c.if-eq-6.false, sym c.eq-7.ensures ∙ c.if-eq-7.false) refl
+returns-in_default c =
+    rw (
+      differs _ _ c.in_default.not-replay,
+      differs _ _ c.in_default.not-ahead,
+      differs _ _ c.in_default.not-audit,
+      differs _ _ c.in_default.not-serve,
+      differs _ _ c.in_default.not-drill,
+      differs _ _ c.in_default.not-book,
+      differs _ _ c.in_default.not-league,
+    ) refl
