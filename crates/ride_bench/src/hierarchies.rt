@@ -5,7 +5,7 @@ ghost use Rattle.ride_bench.specs.Sources.{AreSources};
 ghost use Rattle.trial_town.specs.Streets.{IsPlace};
 
 use crate::grid::{Grid, drawn, generate};
-use crate::rows::{NEW_YORK, SMALL, roads_of};
+use crate::rows::{NEW_YORK, SMALL, roads_of, spread, sum_of};
 use crate::stopwatch::Stopwatch;
 use anyhow::{Result, bail, ensure};
 use contraction::Contraction;
@@ -33,29 +33,6 @@ const ROWS: u32 = 512;
 
 /// The rows of these that are searched too.
 const SEARCHED: u32 = 8;
-
-/// So many nodes, spread over the map.
-fn spread(alloc: Global, nodes: u32, many: u32) -> Result<Vec<u32>, NoMemory>
-    requires many { (1 ≤ many) × (many ≤ nodes) }
-    requires nodes { nodes ≤ 500000 }
-    ensures nodes { IfOk result (λ list. All (IsPlace nodes) list.items) }
-    ensures count { IfOk result (λ list. length list.items ≡ many) }
-{
-    let mut list = Vec::new(alloc);
-    let step = nodes / many;
-    for place in 0..many {
-        list.push(1 + place * step)?;
-    }
-    Ok(list)
-}
-
-fn sum_of(row: &[Option<u64>]) -> u64 {
-    let mut sum = 0u64;
-    for time in row.iter().flatten() {
-        sum = sum.wrapping_add(*time);
-    }
-    sum
-}
 
 /// A map of which no node is contracted.
 fn uncontracted(alloc: Global, roads: &Roads) -> Result<Contraction, NoMemory>

@@ -200,18 +200,25 @@ fn tables_of(vehicle: &Vehicle, ride: &Ride) -> Slack
     Slack::of(vehicle, vehicle.ready, SETTINGS.dwell)
 }
 
+/// Asks the vehicle with the seven rides for one more, so many times by each search.
+fn time_nine(rt: &impl Clock, turns: u64) -> Times
+    requires turns { turns ≤ 1000 }
+{
+    time(rt, &RIDES, &STOPS, &NINE, turns)
+}
+
 /// Prints the sums of both searches at a few times.
 pub fn small(rt: &(impl Clock + Print)) -> io::Result<()> {
-    let times = time(rt, &RIDES, &STOPS, &NINE, 4);
+    let times = time_nine(rt, 4);
     let (plain, fast) = (times.plain_sum, times.fast_sum);
     println!(rt; "places plain {plain} by slack {fast}")
 }
 
 /// The best of 21 turns of 1,000 times each.
 fn best_times(rt: &impl Clock) -> Times {
-    let mut best = time(rt, &RIDES, &STOPS, &NINE, 1000);
+    let mut best = time_nine(rt, 1000);
     for _ in 0..20 {
-        let times = time(rt, &RIDES, &STOPS, &NINE, 1000);
+        let times = time_nine(rt, 1000);
         best.plain = best.plain.min(times.plain);
         best.fast = best.fast.min(times.fast);
         best.tables = best.tables.min(times.tables);

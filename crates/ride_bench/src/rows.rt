@@ -24,25 +24,43 @@ pub(crate) const NEW_YORK: Grid = Grid {
     kept: 7,
 };
 
-fn all_nodes(alloc: Global, nodes: u32) -> Result<Vec<u32>, AllocError>
+/// So many nodes, spread over the map.
+pub(crate) fn spread(alloc: Global, nodes: u32, many: u32) -> Result<Vec<u32>, AllocError>
+    requires many { (1 ≤ many) × (many ≤ nodes) }
+    requires nodes { nodes ≤ 500000 }
     ensures nodes { IfOk result (λ list. All (IsPlace nodes) list.items) }
-    ensures count { IfOk result (λ list. length list.items ≡ nodes) }
+    ensures count { IfOk result (λ list. length list.items ≡ many) }
 {
     let mut list = Vec::new(alloc);
-    for node in 0..nodes {
-        list.push(node + 1)?;
+    let step = nodes / many;
+    for place in 0..many {
+        list.push(1 + place * step)?;
     }
     Ok(list)
 }
 
+/// The sum of the times that a row has.
+pub(crate) fn sum_of(row: &[Option<u64>]) -> u64 {
+    let mut sum = 0u64;
+    for time in row {
+        sum = sum.wrapping_add(time.unwrap_or(0));
+    }
+    sum
+}
+
+/// How many times a row has.
+fn count_of(row: &[Option<u64>]) -> u64 {
+    let mut count = 0u64;
+    for time in row {
+        count = count.wrapping_add(u64::from(time.is_some()));
+    }
+    count
+}
+
 /// Prints how many nodes were reached, and the sum of their times.
 fn print_row(rt: &impl Print, source: u32, row: &[Option<u64>]) -> io::Result<()> {
-    let mut reached = 0u64;
-    let mut sum = 0u64;
-    for time in row.iter().flatten() {
-        reached = reached.wrapping_add(1);
-        sum = sum.wrapping_add(*time);
-    }
+    let reached = count_of(row);
+    let sum = sum_of(row);
     println!(rt; "from {source} reached {reached} sum {sum}")
 }
 
@@ -103,7 +121,7 @@ fn time_rows(
     requires nodes { (1 ≤ roads.now.nodes) × (roads.now.nodes ≤ 500000) }
     requires turns { (1 ≤ turns) × (turns ≤ 40) }
 {
-    let wanted = all_nodes(alloc, roads.nodes())?;
+    let wanted = spread(alloc, roads.nodes(), roads.nodes())?;
     let mut row = vec![in alloc; None; wanted.len()]?;
     let mut scratch = Scratch::new(alloc, roads)?;
     time_turns(rt, roads, &mut scratch, &wanted, &mut row, turns)

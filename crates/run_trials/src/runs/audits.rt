@@ -13,7 +13,7 @@ struct Change {
 }
 
 /// Changes of the log of one request.
-static PLAIN: [Change; 13] = [
+static PLAIN: [Change; 7] = [
     Change {
         from: "batch = asked 1",
         to: "batch = asked 2",
@@ -49,6 +49,10 @@ static PLAIN: [Change; 13] = [
         to: "d2 end",
         answer: "no 7 actor\n",
     },
+];
+
+/// Changes of how the same log is spelled, and its beginning.
+static SPELLINGS: [Change; 6] = [
     Change {
         from: "300 = waiting",
         to: "300  = waiting",
@@ -116,8 +120,90 @@ f2 cut\n\
 d1 end\n\
 d2 end\n";
 
-/// Changes of this day.
-static OF_DAY: [Change; 18] = [
+/// Changes of who does what on this day.
+static OF_ACTORS: [Change; 6] = [
+    Change {
+        from: "d1 open 3",
+        to: "d2 open 3",
+        answer: "no 16 actor\n",
+    },
+    Change {
+        from: "d2 commit 2",
+        to: "d1 commit 2",
+        answer: "no 13 actor\n",
+    },
+    Change {
+        from: "f2 cut\nd1 end",
+        to: "d1 end\nf2 cut",
+        answer: "no 27 actor\n",
+    },
+    Change {
+        from: "d2 abandon 6",
+        to: "d1 abandon 6",
+        answer: "no 25 actor\n",
+    },
+    Change {
+        from: "feeds 2",
+        to: "feeds 1",
+        answer: "no 10 actor\n",
+    },
+    Change {
+        from: "f2 cut",
+        to: "f1 cut",
+        answer: "no 27 actor\n",
+    },
+];
+
+/// Changes of its batches and replies.
+static OF_REPLIES: [Change; 5] = [
+    Change {
+        from: "plans 1@1 2@1",
+        to: "plans 1@1 2@0",
+        answer: "no 21 batch\n",
+    },
+    Change {
+        from: "f2 at 1 1 5 = onmap",
+        to: "f2 at 1 1 5 = late 5",
+        answer: "no 10 reply\n",
+    },
+    Change {
+        from: "open 6 at 20 requests plans",
+        to: "open 6 at 20 requests 7 plans",
+        answer: "no 24 batch\n",
+    },
+    Change {
+        from: "f1 clock 20 = now 20",
+        to: "f1 clock 20 = now 19",
+        answer: "no 12 reply\n",
+    },
+    Change {
+        from: "open 3 at 20",
+        to: "open 3 at 0",
+        answer: "no 14 batch\n",
+    },
+];
+
+/// Changes of its seats and their prices.
+static OF_SEATS: [Change; 3] = [
+    Change {
+        from: "seats 9:1:0:0",
+        to: "seats 9:2:0:0",
+        answer: "no 22 seating\n",
+    },
+    Change {
+        from: "cost 180 seats 8:2:0:0 prices 8:180 pays outcomes 8:confirmed",
+        to: "cost 240 seats 8:1:0:0 prices 8:240 pays outcomes 8:confirmed",
+        answer: "no 19 prices\n",
+    },
+    Change {
+        from: "prices 9:180 pays",
+        to: "prices 9:190 pays 1:10",
+        answer: "no 22 prices\n",
+    },
+];
+
+/// The day as it is, and changes of its outcomes.
+static OF_OUTCOMES: [Change; 4] = [
     Change {
         from: "2\nf1 request 7",
         to: "2\nf1 request 7",
@@ -137,76 +223,6 @@ static OF_DAY: [Change; 18] = [
         from: "7:gone",
         to: "7:confirmed",
         answer: "no 16 outcomes\n",
-    },
-    Change {
-        from: "d1 open 3",
-        to: "d2 open 3",
-        answer: "no 16 actor\n",
-    },
-    Change {
-        from: "d2 commit 2",
-        to: "d1 commit 2",
-        answer: "no 13 actor\n",
-    },
-    Change {
-        from: "f2 cut\nd1 end",
-        to: "d1 end\nf2 cut",
-        answer: "no 27 actor\n",
-    },
-    Change {
-        from: "plans 1@1 2@1",
-        to: "plans 1@1 2@0",
-        answer: "no 21 batch\n",
-    },
-    Change {
-        from: "f2 at 1 1 5 = onmap",
-        to: "f2 at 1 1 5 = late 5",
-        answer: "no 10 reply\n",
-    },
-    Change {
-        from: "seats 9:1:0:0",
-        to: "seats 9:2:0:0",
-        answer: "no 22 seating\n",
-    },
-    Change {
-        from: "cost 180 seats 8:2:0:0 prices 8:180 pays outcomes 8:confirmed",
-        to: "cost 240 seats 8:1:0:0 prices 8:240 pays outcomes 8:confirmed",
-        answer: "no 19 prices\n",
-    },
-    Change {
-        from: "prices 9:180 pays",
-        to: "prices 9:190 pays 1:10",
-        answer: "no 22 prices\n",
-    },
-    Change {
-        from: "d2 abandon 6",
-        to: "d1 abandon 6",
-        answer: "no 25 actor\n",
-    },
-    Change {
-        from: "open 6 at 20 requests plans",
-        to: "open 6 at 20 requests 7 plans",
-        answer: "no 24 batch\n",
-    },
-    Change {
-        from: "feeds 2",
-        to: "feeds 1",
-        answer: "no 10 actor\n",
-    },
-    Change {
-        from: "f2 cut",
-        to: "f1 cut",
-        answer: "no 27 actor\n",
-    },
-    Change {
-        from: "f1 clock 20 = now 20",
-        to: "f1 clock 20 = now 19",
-        answer: "no 12 reply\n",
-    },
-    Change {
-        from: "open 3 at 20",
-        to: "open 3 at 0",
-        answer: "no 14 batch\n",
     },
 ];
 
@@ -267,7 +283,11 @@ d1 end\n",
 #[test]
 fn an_audit_names_the_first_wrong_line(rt: HostRuntime) {
     expect_changes(&rt, ONE_BY_ONE, LOG, PLAIN.as_slice());
-    expect_changes(&rt, TWO_VEHICLES, DAY, OF_DAY.as_slice());
+    expect_changes(&rt, ONE_BY_ONE, LOG, SPELLINGS.as_slice());
+    expect_changes(&rt, TWO_VEHICLES, DAY, OF_ACTORS.as_slice());
+    expect_changes(&rt, TWO_VEHICLES, DAY, OF_REPLIES.as_slice());
+    expect_changes(&rt, TWO_VEHICLES, DAY, OF_SEATS.as_slice());
+    expect_changes(&rt, TWO_VEHICLES, DAY, OF_OUTCOMES.as_slice());
     expect_all(&rt, LOGS.as_slice());
 }
 

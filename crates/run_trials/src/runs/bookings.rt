@@ -33,7 +33,7 @@ const BOOKED: Case = Case {
     ..REPLAYED
 };
 
-static CASES: [Case; 9] = [
+static RELEASES: [Case; 4] = [
     Case {
         shows: "bookings of one moment come in order of their ids",
         feed: text!(EVENING),
@@ -77,6 +77,9 @@ clock 1000000001\n\
 # held 0\n",
         ..BOOKED
     },
+];
+
+static FAULTS: [Case; 3] = [
     Case {
         shows: "a feed that is missing",
         words: "book --feed x",
@@ -101,6 +104,10 @@ clock 1000000001\n\
         written: "cloc",
         ..BOOKED
     },
+];
+
+/// Words that are not in order, and a feed beyond its limit.
+static REFUSED: [Case; 2] = [
     Case {
         shows: "bookings have one option",
         words: "book --feed r --map m",
@@ -120,7 +127,9 @@ clock 1000000001\n\
 
 #[test]
 fn bookings_have_their_feeds_which_are_replayed(rt: HostRuntime) {
-    expect_all(&rt, CASES.as_slice());
+    expect_all(&rt, RELEASES.as_slice());
+    expect_all(&rt, FAULTS.as_slice());
+    expect_all(&rt, REFUSED.as_slice());
     let evening = Setup {
         feed: text!(EVENING),
         ..WORKED

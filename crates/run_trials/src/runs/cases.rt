@@ -6,7 +6,8 @@ use std::sync::Wait;
 use std::thread::Threads;
 
 /// A run by its words, its files, how many bytes its sink takes, and how it ends. Each text is a short one, as of `text_of`, and in what
-/// is written `*` is any part of a line.
+/// is written `*` is any part of a line. A table has two to four of them: the time that a check takes for a table grows with the square of
+/// its length.
 pub(super) struct Case {
     pub(super) shows: &'static str,
     pub(super) words: &'static str,

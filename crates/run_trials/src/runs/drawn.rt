@@ -113,10 +113,11 @@ fn expect_in_order(
 
 // The pattern of the answers to a feed: each of its lines with what is replied, and its end.
 fn answers_of(rt: &(impl Abort + AllocGlobal), actor: &str, feed: &str) -> String {
-    let feed = feed.replace(rt.alloc(), "no command", "bad ");
-    let feed = feed.expect(rt, "there is memory");
-    let between = format!(in rt.alloc(); "*\n{actor} ").expect(rt, "there is memory");
-    let answers = feed.replace(rt.alloc(), "\n", between.as_str());
-    let answers = answers.expect(rt, "there is memory");
-    format!(in rt.alloc(); "{actor} {answers}end\n").expect(rt, "there is memory")
+    let mut answers = String::new(rt.alloc());
+    for line in feed.lines() {
+        let told = if line == "no command" { "bad " } else { line };
+        write!(answers, "{actor} {told}*\n").expect(rt, "there is memory");
+    }
+    write!(answers, "{actor} end\n").expect(rt, "there is memory");
+    answers
 }

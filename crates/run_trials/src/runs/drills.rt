@@ -1,88 +1,48 @@
 //! Drills: their lines, and the ranges of their options.
-use super::cases::{Case, REPLAYED, expect_all};
-use super::{Answer, WORKED, answer_to};
+use super::faults::expect_refused;
+use super::{Answer, End, Setup, WORKED, answer_to, expect};
 
 /// A drill needs no files.
-const DRILLED: Case = Case {
+const NO_FILES: Setup<'static> = Setup {
     map: text!(""),
     fleet: text!(""),
-    ..REPLAYED
+    feed: text!(""),
+    log: text!(""),
+    ..WORKED
 };
 
-static DRILLS: [Case; 11] = [
-    Case {
-        shows: "a drill",
-        words: "drill --seed 1 --side 2 --vehicles 1 --requests 1",
-        written: "drill nodes 4 arcs 8 vehicles 1 requests 1 batches 1 confirmed 1 away 0 dropped 1\n",
-        ..DRILLED
-    },
-    // Nobody serves the two groups of nine requests.
-    Case {
-        shows: "a drill",
-        words: "drill --seed 0 --side 2 --vehicles 0 --requests 9",
-        written: "drill nodes 4 arcs 8 vehicles 0 requests 9 batches 2 confirmed 0 away 9 dropped 0\n",
-        ..DRILLED
-    },
-    Case {
-        shows: "a drill",
-        words: "drill --seed 2147483647 --side 100 --vehicles 0 --requests 0",
-        written: "drill nodes 10000 arcs 39600 vehicles 0 requests 0 batches 0 confirmed 0 away 0 dropped 0\n",
-        ..DRILLED
-    },
-    Case {
-        shows: "a drill",
-        words: "drill --seed 1 --side 2 --vehicles 1000 --requests 0",
-        written: "drill nodes 4 arcs 8 vehicles 1000 requests 0 batches 0 confirmed 0 away 0 dropped 0\n",
-        ..DRILLED
-    },
-    Case {
-        shows: "a drill",
-        words: "drill --seed 1 --side 2 --vehicles 0 --requests 16000",
-        written: "drill nodes 4 arcs 8 vehicles 0 requests 16000 batches 2000 confirmed 0 away 16000 dropped 0\n",
-        ..DRILLED
-    },
-    Case {
-        shows: "a drill",
-        words: "drill --seed 1 --side 1 --vehicles 1 --requests 1",
-        status: 2,
-        written: "words refused\n",
-        ..DRILLED
-    },
-    Case {
-        shows: "a drill",
-        words: "drill --seed 1 --side 101 --vehicles 1 --requests 1",
-        status: 2,
-        written: "words refused\n",
-        ..DRILLED
-    },
-    Case {
-        shows: "a drill",
-        words: "drill --seed 1 --side 2 --vehicles 1001 --requests 1",
-        status: 2,
-        written: "words refused\n",
-        ..DRILLED
-    },
-    Case {
-        shows: "a drill",
-        words: "drill --seed 1 --side 2 --vehicles 1 --requests 16001",
-        status: 2,
-        written: "words refused\n",
-        ..DRILLED
-    },
-    Case {
-        shows: "a drill",
-        words: "drill --seed 2147483648 --side 2 --vehicles 1 --requests 1",
-        status: 2,
-        written: "words refused\n",
-        ..DRILLED
-    },
-    Case {
-        shows: "a drill",
-        words: "drill --seed 1 --side two --vehicles 1 --requests 1",
-        status: 2,
-        written: "words refused\n",
-        ..DRILLED
-    },
+/// Drills, and the line that each writes. In the second nobody serves the two groups of nine requests.
+static DRILLS: [(&str, &str); 5] = [
+    (
+        "drill --seed 1 --side 2 --vehicles 1 --requests 1",
+        "drill nodes 4 arcs 8 vehicles 1 requests 1 batches 1 confirmed 1 away 0 dropped 1\n",
+    ),
+    (
+        "drill --seed 0 --side 2 --vehicles 0 --requests 9",
+        "drill nodes 4 arcs 8 vehicles 0 requests 9 batches 2 confirmed 0 away 9 dropped 0\n",
+    ),
+    (
+        "drill --seed 2147483647 --side 100 --vehicles 0 --requests 0",
+        "drill nodes 10000 arcs 39600 vehicles 0 requests 0 batches 0 confirmed 0 away 0 dropped 0\n",
+    ),
+    (
+        "drill --seed 1 --side 2 --vehicles 1000 --requests 0",
+        "drill nodes 4 arcs 8 vehicles 1000 requests 0 batches 0 confirmed 0 away 0 dropped 0\n",
+    ),
+    (
+        "drill --seed 1 --side 2 --vehicles 0 --requests 16000",
+        "drill nodes 4 arcs 8 vehicles 0 requests 16000 batches 2000 confirmed 0 away 16000 dropped 0\n",
+    ),
+];
+
+/// Words of drills that are not in order.
+static REFUSED: [&str; 6] = [
+    "drill --seed 1 --side 1 --vehicles 1 --requests 1",
+    "drill --seed 1 --side 101 --vehicles 1 --requests 1",
+    "drill --seed 1 --side 2 --vehicles 1001 --requests 1",
+    "drill --seed 1 --side 2 --vehicles 1 --requests 16001",
+    "drill --seed 2147483648 --side 2 --vehicles 1 --requests 1",
+    "drill --seed 1 --side two --vehicles 1 --requests 1",
 ];
 
 /// A drill of a city.
@@ -90,7 +50,17 @@ const CITY: &str = "drill --side 40 --vehicles 50 --requests 400 --seed 1";
 
 #[test]
 fn drills_have_their_lines(rt: HostRuntime) {
-    expect_all(&rt, DRILLS.as_slice());
+    for &(words, written) in DRILLS.iter() {
+        let end = End {
+            status: 0,
+            faults: 0,
+            written,
+        };
+        expect(&rt, "a drill", words, NO_FILES, end);
+    }
+    for words in REFUSED.as_slice() {
+        expect_refused(&rt, words);
+    }
 }
 
 #[test]
@@ -107,21 +77,21 @@ fn are_same(first: Answer<'_>, second: Answer<'_>) -> bool {
 
 // Whether all requests of the city were confirmed or turned away, and all that were confirmed were dropped.
 fn adds_up(line: &str) -> bool {
+    let Some((confirmed, away, dropped)) = counts_of(line) else {
+        return false;
+    };
+    dropped == confirmed && sum_of(confirmed, away) == Some(400)
+}
+
+// How many requests of the city were confirmed, turned away and dropped.
+fn counts_of(line: &str) -> Option<(&str, &str, &str)> {
     let start = "drill nodes 1600 arcs 6240 vehicles 50 requests 400 batches 50 confirmed ";
-    let Some(rest) = line.strip_prefix(start) else {
-        return false;
-    };
-    let Some((confirmed, rest)) = rest.split_once(" away ") else {
-        return false;
-    };
-    let Some((away, dropped)) = rest.split_once(" dropped ") else {
-        return false;
-    };
-    if dropped.strip_suffix('\n') != Some(confirmed) {
-        return false;
-    }
-    match (confirmed.parse::<u32>(), away.parse::<u32>()) {
-        (Ok(confirmed), Ok(away)) => confirmed.checked_add(away) == Some(400),
-        _ => false,
-    }
+    let (confirmed, rest) = line.strip_prefix(start)?.split_once(" away ")?;
+    let (away, dropped) = rest.split_once(" dropped ")?;
+    Some((confirmed, away, dropped.strip_suffix('\n')?))
+}
+
+fn sum_of(confirmed: &str, away: &str) -> Option<u32> {
+    let confirmed = confirmed.parse::<u32>().ok()?;
+    confirmed.checked_add(away.parse::<u32>().ok()?)
 }

@@ -4,10 +4,14 @@ use super::cases::{Case, REPLAYED, expect_all};
 
 #[test]
 fn odd_files_have_their_logs(rt: HostRuntime) {
-    expect_all(&rt, EDGES.as_slice());
+    expect_all(&rt, EMPTY.as_slice());
+    expect_all(&rt, FAR.as_slice());
+    expect_all(&rt, LAST_LINES.as_slice());
+    expect_all(&rt, BLANKS.as_slice());
 }
 
-static EDGES: [Case; 10] = [
+/// Files with nothing in them, or with a line that is no command.
+static EMPTY: [Case; 3] = [
     Case {
         shows: "an empty feed has two ends",
         written: "log 1 feeds 1 desks 1\n\
@@ -50,6 +54,10 @@ d1 end\n",
         audit: Some("yes entries 4 confirmed 0 away 0 picked 0 dropped 0 finished yes\n"),
         ..REPLAYED
     },
+];
+
+/// Nodes without a road, or too far away.
+static FAR: [Case; 3] = [
     Case {
         shows: "a request without a road is turned away",
         map: text!("p sp 2 0\n"),
@@ -111,6 +119,10 @@ d1 end\n",
         audit: Some("yes entries 6 confirmed 0 away 1 picked 0 dropped 0 finished yes\n"),
         ..REPLAYED
     },
+];
+
+/// Maps without their last line's end.
+static LAST_LINES: [Case; 2] = [
     Case {
         shows: "a map that ends within its last line",
         map: text!(
@@ -163,6 +175,10 @@ d1 end\n",
         audit: Some("yes entries 6 confirmed 1 away 0 picked 0 dropped 0 finished yes\n"),
         ..REPLAYED
     },
+];
+
+/// Blanks and comments.
+static BLANKS: [Case; 2] = [
     Case {
         shows: "blanks, comments and the least of parallel arcs",
         map: text!(

@@ -12,7 +12,7 @@ const OF_ONE: Case = Case {
     ..REPLAYED
 };
 
-static FAULTS: [Case; 13] = [
+static MISSING: [Case; 3] = [
     Case {
         shows: "a file that is missing",
         words: "replay --map x --fleet f --feed r",
@@ -34,6 +34,10 @@ static FAULTS: [Case; 13] = [
         faults: 1,
         ..OF_ONE
     },
+];
+
+/// Refusals that stand beside a fault.
+static REFUSALS: [Case; 4] = [
     Case {
         shows: "a faulty line of a map that was read whole comes before a fault",
         map: text!(
@@ -69,6 +73,25 @@ a 4 5 60\n",
         ..OF_ONE
     },
     Case {
+        shows: "a refusal of a map stands where the sink fails at its line",
+        map: text!(""),
+        room: 5,
+        status: 3,
+        written: "map r",
+        ..OF_ONE
+    },
+    Case {
+        shows: "a refusal of a fleet file stands where the sink fails at its line",
+        fleet: text!("vehicles"),
+        room: 5,
+        status: 4,
+        written: "fleet",
+        ..OF_ONE
+    },
+];
+
+static CUT: [Case; 3] = [
+    Case {
         shows: "a feed whose first read fails is cut",
         feed: text!(FEED, &[24], &[1]),
         status: 5,
@@ -98,22 +121,9 @@ d1 end\n",
         written: "log 1 feed",
         ..OF_ONE
     },
-    Case {
-        shows: "a refusal of a map stands where the sink fails at its line",
-        map: text!(""),
-        room: 5,
-        status: 3,
-        written: "map r",
-        ..OF_ONE
-    },
-    Case {
-        shows: "a refusal of a fleet file stands where the sink fails at its line",
-        fleet: text!("vehicles"),
-        room: 5,
-        status: 4,
-        written: "fleet",
-        ..OF_ONE
-    },
+];
+
+static TOO_LONG: [Case; 3] = [
     Case {
         shows: "a feed of too many lines is cut",
         feed: text!("<1000001|\n>"),
@@ -218,5 +228,8 @@ fn expect_replayed<R: Abort + Threads + Wait + Sync + AllocGlobal>(rt: &R, words
 
 #[test]
 fn faults_have_their_status_and_text(rt: HostRuntime) {
-    expect_all(&rt, FAULTS.as_slice());
+    expect_all(&rt, MISSING.as_slice());
+    expect_all(&rt, REFUSALS.as_slice());
+    expect_all(&rt, CUT.as_slice());
+    expect_all(&rt, TOO_LONG.as_slice());
 }

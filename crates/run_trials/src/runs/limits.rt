@@ -4,10 +4,14 @@ use super::cases::{Case, REPLAYED, expect_all};
 
 #[test]
 fn files_at_their_limits_have_their_logs(rt: HostRuntime) {
-    expect_all(&rt, LIMITS.as_slice());
+    expect_all(&rt, BATCHES.as_slice());
+    expect_all(&rt, REQUESTS.as_slice());
+    expect_all(&rt, LONG_LINES.as_slice());
+    expect_all(&rt, FLEETS.as_slice());
 }
 
-static LIMITS: [Case; 11] = [
+/// Batches, and a plan.
+static BATCHES: [Case; 3] = [
     Case {
         shows: "a batch takes the first 128",
         fleet: text!("set batch 128\n"),
@@ -30,16 +34,17 @@ d1 end\n",
         ..REPLAYED
     },
     Case {
-        shows: "an over-long line is bad and a comment is not",
-        feed: text!(
-            "<201|x>\n\
-#<200|x>"
-        ),
+        shows: "at most 2000 batches are asked for",
+        fleet: text!(""),
+        feed: text!("<2001|batch\n>"),
         written: "log 1 feeds 1 desks 1\n\
-f1 bad 1\n\
+<2000|f1 batch = asked %\n\
+d1 open % at 0 requests plans\n\
+d1 commit % cost 0 seats prices pays outcomes\n>\
+f1 batch = refused 16\n\
 f1 end\n\
 d1 end\n",
-        audit: Some("yes entries 3 confirmed 0 away 0 picked 0 dropped 0 finished yes\n"),
+        audit: Some("yes entries 6003 confirmed 0 away 0 picked 0 dropped 0 finished yes\n"),
         ..REPLAYED
     },
     Case {
@@ -91,20 +96,9 @@ d1 end\n",
         audit: Some("yes entries 38 confirmed 8 away 1 picked 0 dropped 0 finished yes\n"),
         ..REPLAYED
     },
-    Case {
-        shows: "at most 2000 batches are asked for",
-        fleet: text!(""),
-        feed: text!("<2001|batch\n>"),
-        written: "log 1 feeds 1 desks 1\n\
-<2000|f1 batch = asked %\n\
-d1 open % at 0 requests plans\n\
-d1 commit % cost 0 seats prices pays outcomes\n>\
-f1 batch = refused 16\n\
-f1 end\n\
-d1 end\n",
-        audit: Some("yes entries 6003 confirmed 0 away 0 picked 0 dropped 0 finished yes\n"),
-        ..REPLAYED
-    },
+];
+
+static REQUESTS: [Case; 2] = [
     Case {
         shows: "at most 100000 requests are accepted",
         fleet: text!(""),
@@ -132,6 +126,22 @@ d1 end\n",
         audit: Some("yes entries 4 confirmed 0 away 0 picked 0 dropped 0 finished yes\n"),
         ..REPLAYED
     },
+];
+
+static LONG_LINES: [Case; 3] = [
+    Case {
+        shows: "an over-long line is bad and a comment is not",
+        feed: text!(
+            "<201|x>\n\
+#<200|x>"
+        ),
+        written: "log 1 feeds 1 desks 1\n\
+f1 bad 1\n\
+f1 end\n\
+d1 end\n",
+        audit: Some("yes entries 3 confirmed 0 away 0 picked 0 dropped 0 finished yes\n"),
+        ..REPLAYED
+    },
     Case {
         shows: "an over-long comment of a map",
         map: text!(
@@ -153,6 +163,9 @@ d1 end\n",
         audit: Some("yes entries 2 confirmed 0 away 0 picked 0 dropped 0 finished yes\n"),
         ..REPLAYED
     },
+];
+
+static FLEETS: [Case; 3] = [
     Case {
         shows: "the greatest values of a fleet file",
         fleet: text!(

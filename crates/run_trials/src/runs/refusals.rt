@@ -5,7 +5,7 @@ use std::process::Abort;
 use std::sync::Wait;
 use std::thread::Threads;
 
-/// Texts of a map or a fleet file, and the line with which each is refused.
+/// Texts of a map or a fleet file, and the line with which each is refused. A table has few of them, as one of `Case`.
 struct Refused {
     shows: &'static str,
     texts: &'static [&'static str],
@@ -14,25 +14,46 @@ struct Refused {
 
 #[test]
 fn maps_and_fleet_files_are_refused_by_their_first_faulty_line(rt: HostRuntime) {
-    for case in MAPS.as_slice() {
-        for map in case.texts {
-            expect_refused(&rt, case, map, ONE_BY_ONE, 3);
-        }
+    for &(bytes, line) in CUT.iter() {
+        let map = LINE.get(..bytes).expect(&rt, "the map is longer");
+        expect_refused(&rt, "a map cut short", map, ONE_BY_ONE, 3, line);
     }
-    for case in FLEETS.as_slice() {
-        for fleet in case.texts {
-            expect_refused(&rt, case, LINE, fleet, 4);
+    expect_maps_refused(&rt, PROBLEM_LINES.as_slice());
+    expect_maps_refused(&rt, ARC_LINES.as_slice());
+    expect_maps_refused(&rt, LONG_LINES.as_slice());
+    expect_maps_refused(&rt, SIZES.as_slice());
+    expect_fleets_refused(&rt, FLEET_LINES.as_slice());
+    expect_fleets_refused(&rt, FLEET_VALUES.as_slice());
+    expect_fleets_refused(&rt, VEHICLES.as_slice());
+}
+
+fn expect_maps_refused<R: Abort + Threads + Wait + Sync + AllocGlobal>(rt: &R, cases: &[Refused]) {
+    for case in cases {
+        for map in case.texts {
+            expect_refused(rt, case.shows, map, ONE_BY_ONE, 3, case.line);
         }
     }
 }
 
-// Asserts that a replay ends so, whatever the pieces of its files.
+fn expect_fleets_refused<R: Abort + Threads + Wait + Sync + AllocGlobal>(
+    rt: &R,
+    cases: &[Refused],
+) {
+    for case in cases {
+        for fleet in case.texts {
+            expect_refused(rt, case.shows, LINE, fleet, 4, case.line);
+        }
+    }
+}
+
+// Asserts that a replay of a map and a fleet file ends so, whatever the pieces in which they are read.
 fn expect_refused<R: Abort + Threads + Wait + Sync + AllocGlobal>(
     rt: &R,
-    case: &Refused,
+    shows: &str,
     map: &str,
     fleet: &str,
     status: u8,
+    written: &str,
 ) {
     let map = text_of(rt, map);
     let fleet = text_of(rt, fleet);
@@ -46,94 +67,27 @@ fn expect_refused<R: Abort + Threads + Wait + Sync + AllocGlobal>(
         let end = End {
             status,
             faults: 0,
-            written: case.line,
+            written,
         };
-        expect(rt, case.shows, REPLAY, files, end);
+        expect(rt, shows, REPLAY, files, end);
     }
 }
 
-static MAPS: [Refused; 22] = [
-    Refused {
-        shows: "a map cut to 0 bytes",
-        texts: &[""],
-        line: "map refused 1\n",
-    },
-    Refused {
-        shows: "a map cut to 1 bytes",
-        texts: &["p"],
-        line: "map refused 3 line 1\n",
-    },
-    Refused {
-        shows: "a map cut to 5 bytes",
-        texts: &["p sp "],
-        line: "map refused 3 line 1\n",
-    },
-    Refused {
-        shows: "a map cut to 6 bytes",
-        texts: &["p sp 4"],
-        line: "map refused 3 line 1\n",
-    },
-    Refused {
-        shows: "a map cut to 7 bytes",
-        texts: &["p sp 4 "],
-        line: "map refused 3 line 1\n",
-    },
-    Refused {
-        shows: "a map cut to 8 bytes",
-        texts: &["p sp 4 6"],
-        line: "map refused 6 said 6 found 0\n",
-    },
-    Refused {
-        shows: "a map cut to 54 bytes",
-        texts: &[
-            "p sp 4 6\n\
-a 1 2 60\n\
-a 2 1 60\n\
-a 2 3 60\n\
-a 3 2 60\n\
-a 3 4 60\n",
-        ],
-        line: "map refused 6 said 6 found 5\n",
-    },
-    Refused {
-        shows: "a map cut to 55 bytes",
-        texts: &[
-            "p sp 4 6\n\
-a 1 2 60\n\
-a 2 1 60\n\
-a 2 3 60\n\
-a 3 2 60\n\
-a 3 4 60\n\
-a",
-        ],
-        line: "map refused 3 line 7\n",
-    },
-    Refused {
-        shows: "a map cut to 59 bytes",
-        texts: &[
-            "p sp 4 6\n\
-a 1 2 60\n\
-a 2 1 60\n\
-a 2 3 60\n\
-a 3 2 60\n\
-a 3 4 60\n\
-a 4 3",
-        ],
-        line: "map refused 3 line 7\n",
-    },
-    Refused {
-        shows: "a map cut to 60 bytes",
-        texts: &[
-            "p sp 4 6\n\
-a 1 2 60\n\
-a 2 1 60\n\
-a 2 3 60\n\
-a 3 2 60\n\
-a 3 4 60\n\
-a 4 3 ",
-        ],
-        line: "map refused 3 line 7\n",
-    },
+/// To how many bytes a map is cut, and the line with which it is refused.
+static CUT: [(usize, &str); 10] = [
+    (0, "map refused 1\n"),
+    (1, "map refused 3 line 1\n"),
+    (5, "map refused 3 line 1\n"),
+    (6, "map refused 3 line 1\n"),
+    (7, "map refused 3 line 1\n"),
+    (8, "map refused 6 said 6 found 0\n"),
+    (54, "map refused 6 said 6 found 5\n"),
+    (55, "map refused 3 line 7\n"),
+    (59, "map refused 3 line 7\n"),
+    (60, "map refused 3 line 7\n"),
+];
+
+static PROBLEM_LINES: [Refused; 3] = [
     Refused {
         shows: "no problem line before the arcs",
         texts: &[
@@ -168,6 +122,9 @@ p\n",
         ],
         line: "map refused 3 line 1\n",
     },
+];
+
+static ARC_LINES: [Refused; 4] = [
     Refused {
         shows: "an arc line of another form",
         texts: &[
@@ -181,22 +138,6 @@ a 1 2 -60\n",
 a 5 2 1000000000000000000\n",
         ],
         line: "map refused 3 line 2\n",
-    },
-    Refused {
-        shows: "an over-long line of a map",
-        texts: &[
-            " <200|c>\n\
-p sp 2 0",
-        ],
-        line: "map refused 3 line 1\n",
-    },
-    Refused {
-        shows: "an over-long line of a map with a problem line's first field",
-        texts: &[
-            "  p<198|c>\n\
-p sp 2 0",
-        ],
-        line: "map refused 3 line 1\n",
     },
     Refused {
         shows: "an arc to a node that is not on the map",
@@ -233,6 +174,28 @@ a 1 2 1000000001\n",
         ],
         line: "map refused 5 line 2\n",
     },
+];
+
+static LONG_LINES: [Refused; 2] = [
+    Refused {
+        shows: "an over-long line of a map",
+        texts: &[
+            " <200|c>\n\
+p sp 2 0",
+        ],
+        line: "map refused 3 line 1\n",
+    },
+    Refused {
+        shows: "an over-long line of a map with a problem line's first field",
+        texts: &[
+            "  p<198|c>\n\
+p sp 2 0",
+        ],
+        line: "map refused 3 line 1\n",
+    },
+];
+
+static SIZES: [Refused; 3] = [
     Refused {
         shows: "an arc more than said",
         texts: &[
@@ -253,7 +216,7 @@ a 1 2 60\n",
     },
 ];
 
-static FLEETS: [Refused; 7] = [
+static FLEET_LINES: [Refused; 2] = [
     Refused {
         shows: "a line of a fleet file of another form",
         texts: &[
@@ -275,21 +238,9 @@ static FLEETS: [Refused; 7] = [
         texts: &[" <200|#>"],
         line: "fleet refused 1 line 1\n",
     },
-    Refused {
-        shows: "a setting or a vehicle that is given again",
-        texts: &[
-            "\n\
-set log 1\n\
-set log 1\n",
-            "# one\n\
-set log 1\n\
-set log 3\n",
-            "vehicle 1 2 1 0\n\
-set log 1\n\
-vehicle 1 0 5 0\n",
-        ],
-        line: "fleet refused 2 line 3\n",
-    },
+];
+
+static FLEET_VALUES: [Refused; 2] = [
     Refused {
         shows: "a vehicle at no node of the map",
         texts: &[
@@ -317,6 +268,25 @@ vehicle 1 0 5 0\n",
             "vehicle 1 2 1 0 5\n",
         ],
         line: "fleet refused 4 line 1\n",
+    },
+];
+
+/// Vehicles and settings that are given again, and one more than there may be.
+static VEHICLES: [Refused; 3] = [
+    Refused {
+        shows: "a setting or a vehicle that is given again",
+        texts: &[
+            "\n\
+set log 1\n\
+set log 1\n",
+            "# one\n\
+set log 1\n\
+set log 3\n",
+            "vehicle 1 2 1 0\n\
+set log 1\n\
+vehicle 1 0 5 0\n",
+        ],
+        line: "fleet refused 2 line 3\n",
     },
     Refused {
         shows: "the first of 1000 vehicles again",

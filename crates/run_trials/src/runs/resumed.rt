@@ -17,7 +17,8 @@ const RESUMED: Case = Case {
     ..REPLAYED
 };
 
-static GOING_ON: [Case; 24] = [
+/// A log of a head alone, and one that is finished.
+static HEADS: [Case; 2] = [
     Case {
         shows: "a finished log gives itself back, and no feed is read",
         log: text!(LOG),
@@ -38,6 +39,10 @@ d1 end\n",
         audit: Some("yes entries 3 confirmed 0 away 0 picked 0 dropped 0 finished yes\n"),
         ..RESUMED
     },
+];
+
+/// Batches that were asked for or opened before.
+static OPENED: [Case; 4] = [
     Case {
         shows: "a batch that was open is committed by its copies, once there is news of the feed",
         log: text!(
@@ -120,6 +125,10 @@ d1 end\n",
         audit: Some("yes entries 7 confirmed 0 away 0 picked 0 dropped 0 finished yes\n"),
         ..RESUMED
     },
+];
+
+/// What stands behind the lines, and over what they promise.
+static PROMISED: [Case; 2] = [
     Case {
         shows: "what a feed gives comes behind what the lines answer",
         log: text!(
@@ -165,6 +174,10 @@ d1 end\n",
         audit: Some("yes entries 11 confirmed 1 away 0 picked 1 dropped 1 finished yes\n"),
         ..RESUMED
     },
+];
+
+/// Logs of sessions that do not get whole any more.
+static NOT_WHOLE: [Case; 2] = [
     Case {
         shows: "a feed that was cut stays cut, so that the session is not whole",
         log: text!("log 1 feeds 1 desks 1\nf1 cut\n"),
@@ -198,6 +211,9 @@ d1 end\n",
         audit: Some("yes entries 7 confirmed 0 away 0 picked 0 dropped 0 finished no\n"),
         ..RESUMED
     },
+];
+
+static HEADLESS: [Case; 2] = [
     Case {
         shows: "an empty log has no head",
         status: 7,
@@ -211,6 +227,9 @@ d1 end\n",
         written: "no 1 spelling\n",
         ..RESUMED
     },
+];
+
+static WRONG: [Case; 4] = [
     Case {
         shows: "a wrong line is named, and no feed is asked for",
         words: "ride_resume --map m --fleet f --log l --riders x --drivers x --workers 1",
@@ -246,13 +265,9 @@ f1 end\n"
         written: "no 2 reply\n",
         ..RESUMED
     },
-    Case {
-        shows: "a log whose second read fails",
-        log: text!(LOG, &[24], &[2]),
-        status: 5,
-        faults: 1,
-        ..RESUMED
-    },
+];
+
+static MISSING: [Case; 3] = [
     Case {
         shows: "a log that is missing",
         words: "ride_resume --map m --fleet f --log x --riders r --drivers d --workers 1",
@@ -272,6 +287,16 @@ f1 end\n"
         shows: "drivers that are missing",
         words: "ride_resume --map m --fleet f --log l --riders r --drivers x --workers 1",
         log: text!(LOG),
+        status: 5,
+        faults: 1,
+        ..RESUMED
+    },
+];
+
+static FAULTS: [Case; 3] = [
+    Case {
+        shows: "a log whose second read fails",
+        log: text!(LOG, &[24], &[2]),
         status: 5,
         faults: 1,
         ..RESUMED
@@ -302,6 +327,10 @@ d1 end\n",
         written: "log 1 feeds 1 desks 1\nf1 reque",
         ..RESUMED
     },
+];
+
+/// Maps and fleet files that are refused.
+static TEXTS: [Case; 2] = [
     Case {
         shows: "a map that is refused",
         map: text!(""),
@@ -336,7 +365,15 @@ static REFUSED: [&str; 10] = [
 
 #[test]
 fn sessions_go_on_from_logs(rt: HostRuntime) {
-    expect_all(&rt, GOING_ON.as_slice());
+    expect_all(&rt, HEADS.as_slice());
+    expect_all(&rt, OPENED.as_slice());
+    expect_all(&rt, PROMISED.as_slice());
+    expect_all(&rt, NOT_WHOLE.as_slice());
+    expect_all(&rt, HEADLESS.as_slice());
+    expect_all(&rt, WRONG.as_slice());
+    expect_all(&rt, MISSING.as_slice());
+    expect_all(&rt, FAULTS.as_slice());
+    expect_all(&rt, TEXTS.as_slice());
     for words in REFUSED.as_slice() {
         expect_refused(&rt, words);
     }

@@ -5,11 +5,14 @@ use super::cases::{Case, REPLAYED, expect_all};
 #[test]
 fn riders_sit_at_the_least_cost_within_their_limits_or_are_away(rt: HostRuntime) {
     expect_all(&rt, SEATINGS.as_slice());
-    expect_all(&rt, LIMITS.as_slice());
-    expect_all(&rt, PENALTIES.as_slice());
+    expect_all(&rt, POOLED.as_slice());
+    expect_all(&rt, LIMITS_KEPT.as_slice());
+    expect_all(&rt, LIMITS_PASSED.as_slice());
+    expect_all(&rt, COSTS.as_slice());
+    expect_all(&rt, NOT_OPEN.as_slice());
 }
 
-static SEATINGS: [Case; 5] = [
+static SEATINGS: [Case; 2] = [
     Case {
         shows: "one vehicle takes one of two requests",
         feed: text!(
@@ -50,6 +53,9 @@ d1 end\n",
         audit: Some("yes entries 7 confirmed 2 away 0 picked 0 dropped 0 finished yes\n"),
         ..REPLAYED
     },
+];
+
+static POOLED: [Case; 3] = [
     Case {
         shows: "a ride on the way is pooled at no added cost",
         feed: text!(
@@ -120,7 +126,7 @@ d1 end\n",
     },
 ];
 
-static LIMITS: [Case; 5] = [
+static LIMITS_KEPT: [Case; 3] = [
     Case {
         shows: "a ride limit is kept to the second",
         feed: text!(
@@ -154,6 +160,31 @@ d1 end\n",
         ..REPLAYED
     },
     Case {
+        shows: "limits of a confirmed ride hold in later batches",
+        feed: text!(
+            "request 7 2 4 1 60 120\n\
+batch\n\
+request 9 2 1 1 600 200\n\
+batch\n"
+        ),
+        written: "log 1 feeds 1 desks 1\n\
+f1 request 7 2 4 1 60 120 = waiting\n\
+f1 batch = asked 1\n\
+d1 open 1 at 0 requests 7 plans 1@0\n\
+d1 commit 1 cost 180 seats 7:1:0:0 prices* outcomes 7:confirmed\n\
+f1 request 9 2 1 1 600 200 = waiting\n\
+f1 batch = asked 2\n\
+d1 open 2 at 0 requests 9 plans 1@1\n\
+d1 commit 2 cost 180 seats 9:1:2:2 prices* outcomes 9:confirmed\n\
+f1 end\n\
+d1 end\n",
+        audit: Some("yes entries 10 confirmed 2 away 0 picked 0 dropped 0 finished yes\n"),
+        ..REPLAYED
+    },
+];
+
+static LIMITS_PASSED: [Case; 2] = [
+    Case {
         shows: "a ride limit is passed by a second",
         feed: text!(
             "request 7 2 4 1 600 119\n\
@@ -185,31 +216,9 @@ d1 end\n",
         audit: Some("yes entries 6 confirmed 0 away 1 picked 0 dropped 0 finished yes\n"),
         ..REPLAYED
     },
-    Case {
-        shows: "limits of a confirmed ride hold in later batches",
-        feed: text!(
-            "request 7 2 4 1 60 120\n\
-batch\n\
-request 9 2 1 1 600 200\n\
-batch\n"
-        ),
-        written: "log 1 feeds 1 desks 1\n\
-f1 request 7 2 4 1 60 120 = waiting\n\
-f1 batch = asked 1\n\
-d1 open 1 at 0 requests 7 plans 1@0\n\
-d1 commit 1 cost 180 seats 7:1:0:0 prices* outcomes 7:confirmed\n\
-f1 request 9 2 1 1 600 200 = waiting\n\
-f1 batch = asked 2\n\
-d1 open 2 at 0 requests 9 plans 1@1\n\
-d1 commit 2 cost 180 seats 9:1:2:2 prices* outcomes 9:confirmed\n\
-f1 end\n\
-d1 end\n",
-        audit: Some("yes entries 10 confirmed 2 away 0 picked 0 dropped 0 finished yes\n"),
-        ..REPLAYED
-    },
 ];
 
-static PENALTIES: [Case; 5] = [
+static COSTS: [Case; 3] = [
     Case {
         shows: "turning away costs the penalty",
         fleet: text!(
@@ -270,6 +279,9 @@ d1 end\n",
         audit: Some("yes entries 6 confirmed 1 away 0 picked 0 dropped 0 finished yes\n"),
         ..REPLAYED
     },
+];
+
+static NOT_OPEN: [Case; 2] = [
     Case {
         shows: "a vehicle that drives since before the batch is not open",
         fleet: text!(ONE_BY_ONE),

@@ -13,7 +13,7 @@ const SENT: Case = Case {
     ..REPLAYED
 };
 
-static CASES: [Case; 9] = [
+static REACHED: [Case; 2] = [
     Case {
         shows: "an idle vehicle is sent two minutes ahead",
         written: "ahead 1 reach 600\nmoves 1 cost 120 goes 7:1@0:3:120 prices 7:120 pays\nend\n",
@@ -26,6 +26,9 @@ static CASES: [Case; 9] = [
         written: "ahead 1 reach 119\nmoves 1 cost 119 goes prices 7:119 pays\nend\n",
         ..SENT
     },
+];
+
+static SHEETS: [Case; 3] = [
     Case {
         shows: "fewer vehicles than requests",
         feed: text!("request 7 3 4 1 100 300\nrequest 8 4 3 1 100 300\nbatch\n"),
@@ -60,6 +63,9 @@ moves 3 cost 600 goes prices 9:600 pays\n\
 end\n",
         ..SENT
     },
+];
+
+static FAULTS: [Case; 4] = [
     Case {
         shows: "a feed whose second read fails is cut",
         feed: text!("request 7 3 4 1 100 300\nbatch\nbatch\n", &[30], &[2]),
@@ -93,5 +99,7 @@ end\n",
 
 #[test]
 fn vehicles_are_sent_ahead(rt: HostRuntime) {
-    expect_all(&rt, CASES.as_slice());
+    expect_all(&rt, REACHED.as_slice());
+    expect_all(&rt, SHEETS.as_slice());
+    expect_all(&rt, FAULTS.as_slice());
 }

@@ -5,11 +5,14 @@ use super::cases::{Case, REPLAYED, expect_all};
 #[test]
 fn stops_take_their_time_chairs_are_not_shared_and_reports_have_their_answers(rt: HostRuntime) {
     expect_all(&rt, DWELLS.as_slice());
+    expect_all(&rt, DWELLS_OF_RIDES.as_slice());
+    expect_all(&rt, DWELLS_OF_PLANS.as_slice());
     expect_all(&rt, CHAIRS.as_slice());
     expect_all(&rt, REPORTS.as_slice());
+    expect_all(&rt, LATE_REPORTS.as_slice());
 }
 
-static DWELLS: [Case; 6] = [
+static DWELLS: [Case; 2] = [
     Case {
         shows: "each stop takes its time",
         fleet: text!(
@@ -66,6 +69,9 @@ d1 end\n",
         audit: Some("yes entries 9 confirmed 1 away 0 picked 1 dropped 0 finished yes\n"),
         ..REPLAYED
     },
+];
+
+static DWELLS_OF_RIDES: [Case; 2] = [
     Case {
         shows: "the time of the pickup counts for the ride limit, which is passed",
         fleet: text!(
@@ -108,6 +114,9 @@ d1 end\n",
         audit: Some("yes entries 6 confirmed 1 away 0 picked 0 dropped 0 finished yes\n"),
         ..REPLAYED
     },
+];
+
+static DWELLS_OF_PLANS: [Case; 2] = [
     Case {
         shows: "a pooled ride costs its two stops",
         fleet: text!(
@@ -254,7 +263,7 @@ d1 end\n",
     },
 ];
 
-static REPORTS: [Case; 6] = [
+static REPORTS: [Case; 3] = [
     Case {
         shows: "cancellations free a vehicle until the pickup",
         feed: text!(
@@ -299,6 +308,75 @@ d1 end\n",
         audit: Some("yes entries 22 confirmed 2 away 0 picked 1 dropped 1 finished yes\n"),
         ..REPLAYED
     },
+    Case {
+        shows: "a vehicle serves its stops where it stands",
+        feed: text!(
+            "done 1\n\
+request 7 2 4 1 600 300\n\
+batch\n\
+done 1\n\
+at 1 2 60\n\
+done 1\n\
+at 1 4 180\n\
+done 1\n\
+done 1\n\
+done 2\n"
+        ),
+        written: "log 1 feeds 1 desks 1\n\
+f1 done 1 = refused 14\n\
+f1 request 7 2 4 1 600 300 = waiting\n\
+f1 batch = asked 1\n\
+d1 open 1 at 0 requests 7 plans 1@0\n\
+d1 commit 1 cost 180 seats 7:1:0:0 prices* outcomes 7:confirmed\n\
+f1 done 1 = refused 15\n\
+f1 at 1 2 60 = onmap\n\
+f1 done 1 = picked 7\n\
+f1 at 1 4 180 = onmap\n\
+f1 done 1 = dropped 7\n\
+f1 done 1 = refused 14\n\
+f1 done 2 = refused 10\n\
+f1 end\n\
+d1 end\n",
+        audit: Some("yes entries 14 confirmed 1 away 0 picked 1 dropped 1 finished yes\n"),
+        ..REPLAYED
+    },
+    Case {
+        shows: "commands are refused by the first case that applies",
+        feed: text!(
+            "request 7 2 4 1 600 300\n\
+request 7 2 4 1 600 300\n\
+request 8 5 4 1 600 300\n\
+request 8 2 2 1 600 300\n\
+request 8 2 4 9 600 300\n\
+request 8 2 4 1 600 0\n\
+at 2 1 5\n\
+at 1 9 5\n\
+at 1 1 1000000001\n\
+clock 20\n\
+clock 5\n\
+clock 1000000001\n"
+        ),
+        written: "log 1 feeds 1 desks 1\n\
+f1 request 7 2 4 1 600 300 = waiting\n\
+f1 request 7 2 4 1 600 300 = refused 1\n\
+f1 request 8 5 4 1 600 300 = refused 2\n\
+f1 request 8 2 2 1 600 300 = refused 3\n\
+f1 request 8 2 4 9 600 300 = refused 4\n\
+f1 request 8 2 4 1 600 0 = refused 5\n\
+f1 at 2 1 5 = refused 10\n\
+f1 at 1 9 5 = refused 11\n\
+f1 at 1 1 1000000001 = refused 5\n\
+f1 clock 20 = now 20\n\
+f1 clock 5 = now 20\n\
+f1 clock 1000000001 = refused 5\n\
+f1 end\n\
+d1 end\n",
+        audit: Some("yes entries 14 confirmed 0 away 0 picked 0 dropped 0 finished yes\n"),
+        ..REPLAYED
+    },
+];
+
+static LATE_REPORTS: [Case; 3] = [
     Case {
         shows: "a late report breaks no ride that has time",
         fleet: text!(ONE_BY_ONE),
@@ -368,72 +446,6 @@ f1 done 1 = dropped 7\n\
 f1 end\n\
 d1 end\n",
         audit: Some("yes entries 10 confirmed 1 away 0 picked 1 dropped 1 finished yes\n"),
-        ..REPLAYED
-    },
-    Case {
-        shows: "a vehicle serves its stops where it stands",
-        feed: text!(
-            "done 1\n\
-request 7 2 4 1 600 300\n\
-batch\n\
-done 1\n\
-at 1 2 60\n\
-done 1\n\
-at 1 4 180\n\
-done 1\n\
-done 1\n\
-done 2\n"
-        ),
-        written: "log 1 feeds 1 desks 1\n\
-f1 done 1 = refused 14\n\
-f1 request 7 2 4 1 600 300 = waiting\n\
-f1 batch = asked 1\n\
-d1 open 1 at 0 requests 7 plans 1@0\n\
-d1 commit 1 cost 180 seats 7:1:0:0 prices* outcomes 7:confirmed\n\
-f1 done 1 = refused 15\n\
-f1 at 1 2 60 = onmap\n\
-f1 done 1 = picked 7\n\
-f1 at 1 4 180 = onmap\n\
-f1 done 1 = dropped 7\n\
-f1 done 1 = refused 14\n\
-f1 done 2 = refused 10\n\
-f1 end\n\
-d1 end\n",
-        audit: Some("yes entries 14 confirmed 1 away 0 picked 1 dropped 1 finished yes\n"),
-        ..REPLAYED
-    },
-    Case {
-        shows: "commands are refused by the first case that applies",
-        feed: text!(
-            "request 7 2 4 1 600 300\n\
-request 7 2 4 1 600 300\n\
-request 8 5 4 1 600 300\n\
-request 8 2 2 1 600 300\n\
-request 8 2 4 9 600 300\n\
-request 8 2 4 1 600 0\n\
-at 2 1 5\n\
-at 1 9 5\n\
-at 1 1 1000000001\n\
-clock 20\n\
-clock 5\n\
-clock 1000000001\n"
-        ),
-        written: "log 1 feeds 1 desks 1\n\
-f1 request 7 2 4 1 600 300 = waiting\n\
-f1 request 7 2 4 1 600 300 = refused 1\n\
-f1 request 8 5 4 1 600 300 = refused 2\n\
-f1 request 8 2 2 1 600 300 = refused 3\n\
-f1 request 8 2 4 9 600 300 = refused 4\n\
-f1 request 8 2 4 1 600 0 = refused 5\n\
-f1 at 2 1 5 = refused 10\n\
-f1 at 1 9 5 = refused 11\n\
-f1 at 1 1 1000000001 = refused 5\n\
-f1 clock 20 = now 20\n\
-f1 clock 5 = now 20\n\
-f1 clock 1000000001 = refused 5\n\
-f1 end\n\
-d1 end\n",
-        audit: Some("yes entries 14 confirmed 0 away 0 picked 0 dropped 0 finished yes\n"),
         ..REPLAYED
     },
 ];

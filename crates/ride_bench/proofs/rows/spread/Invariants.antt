@@ -1,7 +1,7 @@
 use Rattle.std.proofs.Common.{◌≡◌, length}
 use Rattle.std.specs.Prelude.{All}
 use Rattle.trial_town.specs.Streets.{IsPlace}
-use Rattle.ride_bench.proofs.hierarchies.spread.Given as goal
+use Rattle.ride_bench.proofs.rows.spread.Given as goal
 
 abbrev pub invariant-loop-place : goal.invariant-loop-place
 invariant-loop-place l = record {
