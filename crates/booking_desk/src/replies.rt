@@ -1,7 +1,7 @@
 //! How a booking is answered.
 
 /// How a booking is answered.
-#[derive(Clone, Copy, Debug, PartialEq, Eq)]
+#[derive(Clone, Copy, PartialEq, Eq)]
 pub enum BookReply {
     /// It is made, and held until its release.
     Held,

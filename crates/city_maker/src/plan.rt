@@ -1,7 +1,7 @@
 //! Plans of cities.
 
 /// What a city is drawn from.
-#[derive(Clone, Copy, Debug, PartialEq, Eq)]
+#[derive(Clone, Copy, PartialEq, Eq)]
 pub struct CityPlan {
     /// The rows of the grid of nodes, and the columns: 2 to 100.
     pub side: u32,

@@ -2,7 +2,7 @@
 use ride_model::{AmountList, ItemList, Ride};
 
 /// A ride that a company has won, with the vehicle that is to take it and the price that it was won at.
-#[derive(Clone, Copy, Debug, PartialEq, Eq)]
+#[derive(Clone, Copy, PartialEq, Eq)]
 pub struct Win {
     pub ride: Ride,
     pub vehicle: u64,
@@ -21,7 +21,7 @@ pub struct Brief {
 }
 
 /// What a company answers to an award.
-#[derive(Clone, Copy, Debug, PartialEq, Eq)]
+#[derive(Clone, Copy, PartialEq, Eq)]
 pub enum Settled {
     /// Every win is confirmed on its vehicle.
     Confirmed,

@@ -4,7 +4,7 @@ use ride_model::{AmountList, ItemList};
 
 /// An order to an idle vehicle: to drive to the pickup of a request that has no seat. It is advice: no plan changes by it,
 /// and the driver's own reports carry it out.
-#[derive(Clone, Copy, Debug, PartialEq, Eq)]
+#[derive(Clone, Copy, PartialEq, Eq)]
 pub struct Move {
     pub request: u64,
     pub vehicle: u64,

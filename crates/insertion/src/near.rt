@@ -2,7 +2,7 @@
 use arrayvec::ArrayVec;
 
 /// The times between a stop's node and a request's two nodes, absent where there is no way.
-#[derive(Clone, Copy, Debug, PartialEq, Eq, Default)]
+#[derive(Clone, Copy, PartialEq, Eq, Default)]
 pub struct NearStop {
     /// From the stop to the pickup.
     pub to_from: Option<u64>,

@@ -8,7 +8,7 @@ use ride_model::Ride;
 use std::alloc::Global;
 
 /// A vehicle of a company, as it was quoted.
-#[derive(Clone, Copy, Debug, PartialEq, Eq)]
+#[derive(Clone, Copy, PartialEq, Eq)]
 pub(crate) struct RoundColumn {
     pub(crate) company: u64,
     pub(crate) vehicle: u64,
@@ -16,7 +16,7 @@ pub(crate) struct RoundColumn {
 }
 
 /// A ride with the vehicle that it is paired with, if any, and its price.
-#[derive(Clone, Copy, Debug, PartialEq, Eq)]
+#[derive(Clone, Copy, PartialEq, Eq)]
 pub(crate) struct RoundRow {
     pub(crate) ride: Ride,
     pub(crate) column: Option<RoundColumn>,

@@ -2,7 +2,7 @@
 use ride_model::{AmountList, ItemList, OutcomeList, Reply};
 
 /// A request that a company's vehicle has won, with the vehicle's version.
-#[derive(Clone, Copy, Debug, PartialEq, Eq)]
+#[derive(Clone, Copy, PartialEq, Eq)]
 pub(crate) struct RoundAward {
     pub(crate) request: u64,
     pub(crate) company: u64,
@@ -11,7 +11,7 @@ pub(crate) struct RoundAward {
 }
 
 /// What a company's vehicle pays.
-#[derive(Clone, Copy, Debug, PartialEq, Eq)]
+#[derive(Clone, Copy, PartialEq, Eq)]
 pub(crate) struct RoundPay {
     pub(crate) company: u64,
     pub(crate) vehicle: u64,

@@ -2,7 +2,7 @@
 use board_core::Totals;
 
 /// Whether a log is the text of a legal history.
-#[derive(Clone, Copy, Debug, PartialEq, Eq)]
+#[derive(Clone, Copy, PartialEq, Eq)]
 pub enum Verdict {
     Yes(Totals),
     /// The number of the first wrong line, from 1, and the first of its faults.
@@ -10,7 +10,7 @@ pub enum Verdict {
 }
 
 /// Why a line is wrong, in the order in which the tests come.
-#[derive(Clone, Copy, Debug, PartialEq, Eq)]
+#[derive(Clone, Copy, PartialEq, Eq)]
 pub enum Why {
     /// It is no head, or no entry's line.
     Spelling,
@@ -29,7 +29,7 @@ pub enum Why {
 }
 
 /// Why a log was not judged.
-#[derive(Clone, Copy, Debug, PartialEq, Eq)]
+#[derive(Clone, Copy, PartialEq, Eq)]
 pub enum AuditFault {
     ReadFault,
     /// It has more bytes or more lines than a log may have.

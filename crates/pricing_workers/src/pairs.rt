@@ -22,7 +22,7 @@ use ride_model::{Offer, Ride, Settings, Vehicle};
 use slack_tables::{Slack, best_place_fast};
 
 /// How the places of a pair are searched for a least offer.
-#[derive(Clone, Copy, Debug, PartialEq, Eq)]
+#[derive(Clone, Copy, PartialEq, Eq)]
 pub enum Search {
     /// By the tables of the plan, fast.
     BySlack,

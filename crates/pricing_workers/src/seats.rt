@@ -18,7 +18,7 @@ use ride_ports::NoMemory;
 use std::alloc::Global;
 
 /// A seat by the places in the batch of its request and its vehicle, and its places in the vehicle's plan.
-#[derive(Clone, Copy, Debug, PartialEq, Eq)]
+#[derive(Clone, Copy, PartialEq, Eq)]
 pub struct SeatPlaces {
     pub request: u32,
     pub vehicle: u32,

@@ -5,7 +5,7 @@ ghost use Rattle.ride_model.specs.Limits.{most_stops};
 use arrayvec::ArrayVec;
 
 /// A ride: a rider's trip from one node to another.
-#[derive(Clone, Copy, Debug, PartialEq, Eq, Default)]
+#[derive(Clone, Copy, PartialEq, Eq, Default)]
 pub struct Ride {
     pub id: u64,
     /// The node of the pickup.
@@ -24,7 +24,7 @@ pub struct Ride {
 }
 
 /// What is aboard of a vehicle.
-#[derive(Clone, Copy, Debug, PartialEq, Eq, Default)]
+#[derive(Clone, Copy, PartialEq, Eq, Default)]
 pub struct Load {
     pub seats: u32,
     pub chairs: u32,

@@ -1,7 +1,7 @@
 //! How a session ran.
 
 /// What kept a session from running whole, in the order in which its causes decide.
-#[derive(Clone, Copy, Debug, Default, PartialEq, Eq)]
+#[derive(Clone, Copy, Default, PartialEq, Eq)]
 pub struct Ran {
     pub sink_failed: bool,
     pub no_memory: bool,

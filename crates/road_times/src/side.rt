@@ -1,5 +1,5 @@
 /// The side of a row of travel times.
-#[derive(Clone, Copy, Debug, PartialEq, Eq)]
+#[derive(Clone, Copy, PartialEq, Eq)]
 pub enum Side {
     /// From one node to the others.
     Out,

@@ -20,7 +20,7 @@ use text_page::Output;
 const MOST: u32 = 1024;
 
 /// What a scribe has written.
-#[derive(Clone, Copy, Debug, PartialEq, Eq)]
+#[derive(Clone, Copy, PartialEq, Eq)]
 pub struct Scribed {
     /// How many entries, from the first one on.
     pub entries: u64,

@@ -5,7 +5,7 @@ ghost use Rattle.slack_tables.specs.declared.found.Found.{Found};
 ghost use Rattle.slack_tables.specs.Search.{cost_found};
 
 /// A pair of places and what it costs.
-#[derive(Clone, Copy, Debug, PartialEq, Eq, Default)]
+#[derive(Clone, Copy, PartialEq, Eq, Default)]
 pub struct Found {
     pub i: u32,
     pub j: u32,

@@ -11,7 +11,7 @@ use crate::terms::Terms;
 use insertion::Near;
 
 /// A pickup before the stop at a place.
-#[derive(Clone, Copy, Debug, PartialEq, Eq, Default)]
+#[derive(Clone, Copy, PartialEq, Eq, Default)]
 pub struct Pickup {
     pub place: u32,
     /// The arrival there.

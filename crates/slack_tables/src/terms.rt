@@ -5,7 +5,7 @@ ghost use Rattle.slack_tables.specs.Search.{terms_of};
 use ride_model::{Load, Ride, Settings, Vehicle};
 
 /// The vehicle's start and room, the ride's load and limits, and what a second costs.
-#[derive(Clone, Copy, Debug, PartialEq, Eq, Default)]
+#[derive(Clone, Copy, PartialEq, Eq, Default)]
 pub struct Terms {
     /// The time of the batch.
     pub time: u64,

@@ -12,14 +12,14 @@ use arrayvec::ArrayVec;
 use ride_model::{Kind, Ride, Stop};
 
 /// A visit of a ride: the place of a stop and the arrival there.
-#[derive(Clone, Copy, Debug, PartialEq, Eq, Default)]
+#[derive(Clone, Copy, PartialEq, Eq, Default)]
 pub struct Visit {
     pub place: usize,
     pub time: u64,
 }
 
 /// A rider's trip in a plan, and by how much it may be delayed.
-#[derive(Clone, Copy, Debug, PartialEq, Eq, Default)]
+#[derive(Clone, Copy, PartialEq, Eq, Default)]
 pub struct Trip {
     /// How many stops are served when the rider is aboard: none for one who is so at the start.
     pub boarded: usize,

@@ -11,7 +11,7 @@ use ride_model::{Entry, NoMemory};
 use std::alloc::Global;
 
 /// What the head of a log says: its version, how many feeds it has, and how many desks.
-#[derive(Clone, Copy, Debug, PartialEq, Eq)]
+#[derive(Clone, Copy, PartialEq, Eq)]
 pub struct Head {
     pub log: u8,
     pub feeds: u8,

@@ -7,7 +7,7 @@ use crate::Board;
 use ride_model::{Entry, Event, Outcome, Reply};
 
 /// How much a history has of what matters, and whether it is finished.
-#[derive(Clone, Copy, Debug, PartialEq, Eq)]
+#[derive(Clone, Copy, PartialEq, Eq)]
 pub struct Totals {
     pub entries: u64,
     pub confirmed: u64,
