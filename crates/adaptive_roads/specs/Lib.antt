@@ -2,3 +2,6 @@ pub mod Made
 pub mod Seen
 pub mod Selections
 pub mod Batch
+pub mod hierarchy_laws
+pub mod contraction
+pub mod road_hierarchy

@@ -1,7 +1,7 @@
 -- A hierarchy, and what it was made of.
 use Rattle.std.specs.Prelude.{◌≡◌}
 use Rattle.ride_model.specs.Road.{RoadMap}
-use Rattle.contraction.specs.Contracted.{Contracted, IsContractionOf}
+use Rattle.adaptive_roads.specs.contraction.Contracted.{Contracted, IsContractionOf}
 
 -- a map, and a hierarchy that was made of it
 pub record MadeOf : Type 0 where

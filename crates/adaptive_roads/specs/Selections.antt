@@ -2,8 +2,8 @@
 use Rattle.std.specs.Prelude.{◌≡◌, ℕ, List}
 use Rattle.ride_model.specs.Road.{RoadMap}
 use Rattle.road_times.specs.declared.side.Side.TheVariants.{Out, Back}
-use Rattle.contraction.specs.Contracted.{Contracted, IsContractionOf}
-use Rattle.road_hierarchy.specs.Selection.{Selection, IsSelectionOf}
+use Rattle.adaptive_roads.specs.contraction.Contracted.{Contracted, IsContractionOf}
+use Rattle.adaptive_roads.specs.road_hierarchy.Selection.{Selection, IsSelectionOf}
 
 -- the hierarchy and the wanted nodes
 pub record Selected : Type 0 where

@@ -3,7 +3,7 @@ ghost use Rattle.std.specs.Prelude.{◌≡◌, ◌↔◌, IfOk, IfSome, IsTrue};
 ghost use Rattle.adaptive_roads.specs.Made.{IsMadeOf};
 
 use ride_model::{Network, NoMemory};
-use road_hierarchy::Hierarchy;
+use crate::road_hierarchy::Hierarchy;
 use road_times::Roads;
 use std::alloc::Global;
 use std::marker::Model;

@@ -3,9 +3,9 @@ ghost use Rattle.std.specs.Prelude.{◌≡◌, IfOk};
 ghost use Rattle.adaptive_roads.specs.Made.{IsMadeOf};
 
 use crate::made::Made;
-use contraction::Contraction;
+use crate::contraction::Contraction;
 use ride_model::{Network, NoMemory};
-use road_hierarchy::Hierarchy;
+use crate::road_hierarchy::Hierarchy;
 use road_times::Roads;
 use std::alloc::Global;
 use std::marker::Model;

@@ -3,7 +3,7 @@ ghost use Rattle.std.specs.Prelude.{◌≡◌, length, All, IfOk};
 
 use crate::Roads;
 use ride_model::NoMemory;
-use road_hierarchy::SweepRoom;
+use crate::road_hierarchy::SweepRoom;
 use std::alloc::Global;
 use std::marker::Model;
 

@@ -2,10 +2,10 @@
 ghost use Rattle.std.specs.Prelude.{◌≡◌, ◌≤◌, ◌+◌, length, map, All, IfOk};
 ghost use Rattle.ride_model.specs.Road.{RoadMap, IsRoadMap, travel};
 ghost use Rattle.road_times.specs.Turned.{travel_by};
-ghost use Rattle.contraction.specs.Contracted.{IsContractionOf};
+ghost use Rattle.adaptive_roads.specs.contraction.Contracted.{IsContractionOf};
 
 use ride_model::NoMemory;
-use road_hierarchy::{Hierarchy, Selected, SweepRoom};
+use crate::road_hierarchy::{Hierarchy, Selected, SweepRoom};
 use road_times::Side;
 use std::alloc::Global;
 use std::marker::Model;

@@ -10,7 +10,7 @@ use crate::batch_roads::BatchRoads;
 use crate::scratch::Scratch;
 use crate::selections::Selections;
 use ride_model::NoMemory;
-use road_hierarchy::Hierarchy;
+use crate::road_hierarchy::Hierarchy;
 use road_times::Side;
 use std::alloc::Global;
 use std::marker::Model;

@@ -25,9 +25,9 @@ use Rattle.ride_model.specs.Step.{Answered, step}
 use Rattle.ride_model.specs.Text.{IsOneOrTwo, IsSpelledCommand}
 use Rattle.ride_model.specs.Vehicle.{IsLawful}
 use Rattle.model_laws.proofs.Histories.{IsLegal-push, replay-push}
-use Rattle.history_laws.specs.Consistent.{HasPromised, IsWithVehicle, IsConsistent}
-use Rattle.history_laws.specs.Start.{fed_total, IsFedWithin}
-use Rattle.history_laws.proofs.EveryState.{consistent}
+use Rattle.model_laws.specs.history_laws.Consistent.{HasPromised, IsWithVehicle, IsConsistent}
+use Rattle.model_laws.specs.history_laws.Start.{fed_total, IsFedWithin}
+use Rattle.model_laws.proofs.history_laws.EveryState.{consistent}
 use Rattle.board_core.specs.declared.desks.Desks.{Desks}
 use Rattle.board_core.specs.declared.service.Service.{Service}
 use Rattle.board_core.specs.Given.{Given}

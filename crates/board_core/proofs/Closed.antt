@@ -18,13 +18,13 @@ use Rattle.ride_model.specs.History.{is_abandoned}
 use Rattle.ride_model.specs.Legal.{after_entry, IsLegalEntry, CommitsBatch}
 use Rattle.ride_model.specs.Seating.{BatchCopy}
 use Rattle.ride_model.specs.State.{State, is_batch, open_batch_of, open_batch_numbered}
-use Rattle.plain_lemmas.proofs.Among.{Among, found_among}
-use Rattle.plain_lemmas.proofs.Each.{of_all}
+use Rattle.model_laws.proofs.plain.Among.{Among, found_among}
+use Rattle.model_laws.proofs.plain.Each.{of_all}
 use Rattle.model_laws.proofs.Histories.{replay-push}
-use Rattle.history_laws.specs.Consistent.{IsOpenBatch}
-use Rattle.history_laws.specs.Start.{is_fed, IsFedSpelled}
-use Rattle.history_laws.proofs.Lookups.{found_by}
-use Rattle.history_laws.proofs.OpenedBatches.{committed-state, abandoned-state}
+use Rattle.model_laws.specs.history_laws.Consistent.{IsOpenBatch}
+use Rattle.model_laws.specs.history_laws.Start.{is_fed, IsFedSpelled}
+use Rattle.model_laws.proofs.history_laws.Lookups.{found_by}
+use Rattle.model_laws.proofs.history_laws.OpenedBatches.{committed-state, abandoned-state}
 use Rattle.board_core.specs.declared.desks.Desks.{Desks}
 use Rattle.board_core.specs.declared.service.Service.{Service}
 use Rattle.board_core.specs.Given.{Given}

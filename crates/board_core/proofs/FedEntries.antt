@@ -5,7 +5,7 @@ use Rattle.std.specs.List.{filter}
 use Rattle.std.proofs.lemmas.Bool.{eq-eqb, eqb-true}
 use Rattle.std.proofs.lemmas.List.Sums.{sum_by-cons}
 use Rattle.std.proofs.lemmas.List.Elements.{filter-append, filter_map-append, All-push}
-use Rattle.plain_lemmas.proofs.Numbers.{one_of_two}
+use Rattle.model_laws.proofs.plain.Numbers.{one_of_two}
 use Rattle.ride_model.specs.declared.command.Actor.{Actor}
 use Rattle.ride_model.specs.declared.command.Actor.TheVariants.{Feed, Desk}
 use Rattle.ride_model.specs.declared.command.Command.{Command}
@@ -16,7 +16,7 @@ use Rattle.ride_model.specs.declared.reply.Reply.{Reply}
 use Rattle.ride_model.specs.History.{entries_of, command_of, fed_commands}
 use Rattle.ride_model.specs.Legal.{after_entry, IsLegal, IsLegalEvent}
 use Rattle.ride_model.specs.State.{State, is_actor}
-use Rattle.history_laws.specs.Start.{is_fed, fed_total, IsFedSpelled, IsFedWithin}
+use Rattle.model_laws.specs.history_laws.Start.{is_fed, fed_total, IsFedSpelled, IsFedWithin}
 
 -- the commands of a feed in two parts of a history
 pub fed_commands-append : (feed : ℕ) (first second : List Entry)

@@ -10,9 +10,9 @@ use Rattle.ride_model.specs.State.{AcceptedRequest}
 use Rattle.ride_model.specs.Batch.{is_waiting}
 use Rattle.ride_model.specs.Vehicle.{ride_ids}
 use Rattle.ride_model.specs.Seating.{amount_ids}
-use Rattle.request_book.specs.Book.{waiting_of}
-use Rattle.history_laws.proofs.Lookups.{distinct-filter_by, distinct-take_by}
-use Rattle.history_laws.proofs.Raised.{length-filter-le}
+use Rattle.board_core.specs.request_book.Book.{waiting_of}
+use Rattle.model_laws.proofs.history_laws.Lookups.{distinct-filter_by, distinct-take_by}
+use Rattle.model_laws.proofs.history_laws.Raised.{length-filter-le}
 
 -- a test keeps no more of the first elements than there are
 pub few-kept : {X Y : Type 0} → (f : X → Y) (p : X → Bool) (xs : List X) (many : ℕ) → length (map f (filter p (take many xs))) ≤ many

@@ -17,9 +17,9 @@ use Rattle.ride_model.specs.Legal.{CommitsBatch, IsLegal, IsLegalEntry, IsLegalE
 use Rattle.ride_model.specs.Seating.{BatchCopy}
 use Rattle.ride_model.specs.State.{State, open_batch_numbered}
 use Rattle.ride_model.specs.Vehicle.{ride_ids}
-use Rattle.history_laws.specs.Start.{IsStart}
-use Rattle.history_laws.proofs.EveryState.{consistent}
-use Rattle.history_laws.proofs.Raised.{length-filter-le}
+use Rattle.model_laws.specs.history_laws.Start.{IsStart}
+use Rattle.model_laws.proofs.history_laws.EveryState.{consistent}
+use Rattle.model_laws.proofs.history_laws.Raised.{length-filter-le}
 use Rattle.model_laws.proofs.Histories.{IsLegal-parts}
 use Rattle.board_core.proofs.OpenBatches.{open-batch}
 

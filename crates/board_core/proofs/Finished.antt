@@ -5,13 +5,13 @@ use Rattle.std.specs.List.{list_all, range_with_len}
 use Rattle.std.proofs.lemmas.Bool.{eqb-true, eq-eqb, not-true, and_from, and_parts}
 use Rattle.ride_model.specs.declared.command.Actor.TheVariants.{Feed, Desk}
 use Rattle.ride_model.specs.History.{ended_whole, IsFinished}
-use Rattle.plain_lemmas.proofs.Among.{Among}
-use Rattle.plain_lemmas.proofs.Each.{of_all}
+use Rattle.model_laws.proofs.plain.Among.{Among}
+use Rattle.model_laws.proofs.plain.Each.{of_all}
 use Rattle.ride_model.specs.Seating.{BatchCopy}
 use Rattle.ride_model.specs.State.{State, open_batch_of}
 use Rattle.ride_model.specs.Text.{IsOneOrTwo}
-use Rattle.history_laws.specs.Consistent.{IsConsistent, IsOpenBatch}
-use Rattle.history_laws.specs.Start.{fed_total}
+use Rattle.model_laws.specs.history_laws.Consistent.{IsConsistent, IsOpenBatch}
+use Rattle.model_laws.specs.history_laws.Start.{fed_total}
 use Rattle.board_core.specs.declared.desks.Desks.{Desks}
 use Rattle.board_core.specs.declared.numbered.Numbered.{Numbered}
 use Rattle.board_core.specs.declared.service.Service.{Service}

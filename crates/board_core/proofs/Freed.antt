@@ -15,9 +15,9 @@ use Rattle.model_laws.proofs.Removal.{route_without, without_ride-is}
 use Rattle.stop_plans.specs.Change.{RemovesFrom}
 use Rattle.stop_plans.specs.First.{IsFirst, is_visit}
 use Rattle.stop_plans.proofs.RemovedLegs.{removal_places}
-use Rattle.plain_lemmas.proofs.Among.{among_from_contains}
-use Rattle.plain_lemmas.proofs.Each.{of_all}
-use Rattle.plain_lemmas.proofs.Lists.{same-head, same-tail}
+use Rattle.model_laws.proofs.plain.Among.{among_from_contains}
+use Rattle.model_laws.proofs.plain.Each.{of_all}
+use Rattle.model_laws.proofs.plain.Lists.{same-head, same-tail}
 use Rattle.board_core.specs.Legs.{nodes_without, leg_along, HasWaiting}
 use Rattle.board_core.proofs.LegLaws.{leg-of_route}
 

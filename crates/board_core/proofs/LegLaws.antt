@@ -10,10 +10,10 @@ use Rattle.ride_model.specs.Road.{RoadMap, IsNode, travel}
 use Rattle.ride_model.specs.Vehicle.{IsRide, IsLawful, visit_of, visits_due, stops_of, ride_ids}
 use Rattle.ride_model.specs.Insertion.{routed, stops_without}
 use Rattle.ride_model.specs.Offers.{leg_at}
-use Rattle.plain_lemmas.proofs.Among.{Among, among_from_contains, among_map, among_map_back, among_filter}
-use Rattle.plain_lemmas.proofs.Each.{of_all, all_of}
+use Rattle.model_laws.proofs.plain.Among.{Among, among_from_contains, among_map, among_map_back, among_filter}
+use Rattle.model_laws.proofs.plain.Each.{of_all, all_of}
 use Rattle.stop_plans.proofs.InsertedLegs.{route_head}
-use Rattle.history_laws.proofs.Raised.{length-filter-le}
+use Rattle.model_laws.proofs.history_laws.Raised.{length-filter-le}
 use Rattle.std.proofs.lemmas.List.{length-map}
 use Rattle.std.proofs.lemmas.Bool.{eq-eqb}
 use Rattle.std.proofs.lemmas.Option.{same_Some}

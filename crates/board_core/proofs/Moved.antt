@@ -11,7 +11,7 @@ use Rattle.ride_model.specs.Step.{raised, reported, report, report_driving}
 use Rattle.model_laws.proofs.Routes.{with_leg}
 use Rattle.model_laws.proofs.TravelTimes.{travel-le}
 use Rattle.stop_plans.specs.Legged.{relegged}
-use Rattle.history_laws.proofs.Raised.{placed_at, reported-is, routed-first, lawful-placed, lawful-raised}
+use Rattle.model_laws.proofs.history_laws.Raised.{placed_at, reported-is, routed-first, lawful-placed, lawful-raised}
 use Rattle.board_core.specs.Given.{Given}
 use Rattle.board_core.specs.Reports.{lateness_of, IsMoved}
 

@@ -6,10 +6,10 @@ use Rattle.std.specs.Option.{option_or}
 use Rattle.std.specs.declared.alloc.AllocError.{AllocError}
 use Rattle.std.proofs.lemmas.Bool.{eqb-true, ne_eqb}
 use Rattle.std.proofs.lemmas.List.Folds.{find-append}
-use Rattle.plain_lemmas.proofs.Each.{of_all}
-use Rattle.plain_lemmas.proofs.Lists.{length-filter_map-le}
-use Rattle.plain_lemmas.proofs.Options.{none_from_is_some}
-use Rattle.plain_lemmas.proofs.Among.{found_among}
+use Rattle.model_laws.proofs.plain.Each.{of_all}
+use Rattle.model_laws.proofs.plain.Lists.{length-filter_map-le}
+use Rattle.model_laws.proofs.plain.Options.{none_from_is_some}
+use Rattle.model_laws.proofs.plain.Among.{found_among}
 use Rattle.ride_model.specs.declared.command.Actor.{Actor}
 use Rattle.ride_model.specs.declared.command.Actor.TheVariants.{Feed}
 use Rattle.ride_model.specs.declared.command.Command.{Command}
@@ -26,13 +26,13 @@ use Rattle.batch_commit.specs.Solved.{SolvedBatch}
 use Rattle.batch_commit.specs.Table.{IsPriceable}
 use Rattle.model_laws.proofs.Histories.{replay-push}
 use Rattle.model_laws.proofs.RequestStates.{others-opening, abandon-is}
-use Rattle.history_laws.specs.Consistent.{IsOpenBatch}
-use Rattle.history_laws.specs.Start.{IsStart}
-use Rattle.history_laws.proofs.EveryState.{consistent}
-use Rattle.history_laws.proofs.Leaving.{is_batch-own}
-use Rattle.history_laws.proofs.Raised.{length-filter-le}
-use Rattle.history_laws.proofs.Untouched.{leaves-step, stays-outcomes}
-use Rattle.history_laws.proofs.OpenedBatches.{committed-state, abandoned-state}
+use Rattle.model_laws.specs.history_laws.Consistent.{IsOpenBatch}
+use Rattle.model_laws.specs.history_laws.Start.{IsStart}
+use Rattle.model_laws.proofs.history_laws.EveryState.{consistent}
+use Rattle.model_laws.proofs.history_laws.Leaving.{is_batch-own}
+use Rattle.model_laws.proofs.history_laws.Raised.{length-filter-le}
+use Rattle.model_laws.proofs.history_laws.Untouched.{leaves-step, stays-outcomes}
+use Rattle.model_laws.proofs.history_laws.OpenedBatches.{committed-state, abandoned-state}
 use Rattle.board_core.specs.declared.opening.Opening.{Opening}
 use Rattle.board_core.specs.declared.opening.Opening.TheVariants.{Batch, Idle, Ended}
 use Rattle.board_core.specs.Opening.{opening_at}

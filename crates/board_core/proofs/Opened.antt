@@ -15,7 +15,7 @@ use Rattle.ride_model.specs.State.{State, has_ended, open_batch_of}
 use Rattle.ride_model.specs.Text.{IsOneOrTwo}
 use Rattle.ride_model.specs.Vehicle.{ride_ids}
 use Rattle.model_laws.proofs.Histories.{replay-push}
-use Rattle.history_laws.specs.Consistent.{IsOpenBatch}
+use Rattle.model_laws.specs.history_laws.Consistent.{IsOpenBatch}
 use Rattle.board_core.specs.declared.desks.Desks.{Desks}
 use Rattle.board_core.specs.declared.service.Service.{Service}
 use Rattle.board_core.specs.Given.{Given}
@@ -27,7 +27,7 @@ use Rattle.board_core.proofs.FedEntries.{within-push, none-of_others}
 use Rattle.board_core.proofs.Marked.{with_states-marked}
 use Rattle.board_core.proofs.Numbering.{at_number-with, count-with}
 use Rattle.board_core.proofs.Boards.{board-consistent, pushed, recorded-push, abandoned-push}
-use Rattle.plain_lemmas.proofs.Options.{none_from_is_some}
+use Rattle.model_laws.proofs.plain.Options.{none_from_is_some}
 
 -- the next batch by what is kept
 pub next-is : (setup : Given) (service : Service) (kept : Desks) (capacity : ℕ) (board : Recorded) (desk : ℕ) → IsBoard setup service kept capacity board

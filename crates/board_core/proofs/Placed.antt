@@ -10,8 +10,8 @@ use Rattle.std.proofs.lemmas.List.Folds.{find_at}
 use Rattle.std.proofs.lemmas.List.FromFn.{length-enumerate_from, get_or-enumerate_from}
 use Rattle.std.proofs.lemmas.Map.Keys.{IsDistinct-head, IsDistinct-tail}
 use Rattle.std.proofs.lemmas.Option.{slice_get-get_or, slice_get_past}
-use Rattle.plain_lemmas.proofs.Numbers.{eqb-comm}
-use Rattle.plain_lemmas.proofs.Lists.{any-default}
+use Rattle.model_laws.proofs.plain.Numbers.{eqb-comm}
+use Rattle.model_laws.proofs.plain.Lists.{any-default}
 use Rattle.indexmap.specs.IndexSet.{insert_key}
 use Rattle.ride_model.specs.declared.vehicle.Vehicle.{Vehicle}
 use Rattle.ride_model.specs.Seating.{find_vehicle, vehicle_ids}

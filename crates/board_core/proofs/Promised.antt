@@ -10,10 +10,10 @@ use Rattle.ride_model.specs.Fleet.{IsFleet}
 use Rattle.ride_model.specs.Seating.{find_vehicle}
 use Rattle.ride_model.specs.State.{State, AcceptedRequest, accepted_request, request_state, placed_vehicle}
 use Rattle.ride_model.specs.Vehicle.{ride_ids}
-use Rattle.plain_lemmas.proofs.Among.{among_from_contains, contains_from_among, among_map_back, found_among}
-use Rattle.plain_lemmas.proofs.Each.{of_all}
-use Rattle.history_laws.specs.Consistent.{HasPromised, IsWithVehicle, promised_as, promised_state, vehicle_of_request}
-use Rattle.history_laws.proofs.Lookups.{placed_is}
+use Rattle.model_laws.proofs.plain.Among.{among_from_contains, contains_from_among, among_map_back, found_among}
+use Rattle.model_laws.proofs.plain.Each.{of_all}
+use Rattle.model_laws.specs.history_laws.Consistent.{HasPromised, IsWithVehicle, promised_as, promised_state, vehicle_of_request}
+use Rattle.model_laws.proofs.history_laws.Lookups.{placed_is}
 use Rattle.board_core.specs.Legs.{HasWaiting}
 
 -- a ride whose request is confirmed waits

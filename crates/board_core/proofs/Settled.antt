@@ -23,8 +23,8 @@ use Rattle.ride_model.specs.Seating.{BatchCopy, find_vehicle, vehicle_ids}
 use Rattle.ride_model.specs.State.{State}
 use Rattle.ride_model.specs.Step.{raised}
 use Rattle.ride_model.specs.Vehicle.{IsLawful, IsRide, IsFresh, ride_ids}
-use Rattle.plain_lemmas.proofs.Among.{Among, among_from_contains, contains_from_among, found_among}
-use Rattle.plain_lemmas.proofs.Each.{of_each, of_all}
+use Rattle.model_laws.proofs.plain.Among.{Among, among_from_contains, contains_from_among, found_among}
+use Rattle.model_laws.proofs.plain.Each.{of_each, of_all}
 use Rattle.model_laws.proofs.Costs.{OfferPlan, offer_plan}
 use Rattle.model_laws.proofs.Insertions.{InsertedFacts, inserted_facts, length-stops_with}
 use Rattle.model_laws.proofs.PlanStops.{unlegged-routed}
@@ -36,11 +36,11 @@ use Rattle.batch_commit.specs.Table.{cell_at, IsLeastOffer}
 use Rattle.dual_check.proofs.DifferentIds.{same-place, find-id, element}
 use Rattle.dual_check.proofs.SeatPlaces.{HasPlaces, places-of}
 use Rattle.stop_plans.specs.Change.{InsertsInto}
-use Rattle.history_laws.specs.Consistent.{IsEarlier, AreEarlier}
-use Rattle.history_laws.proofs.Lookups.{found_by, ids-map, placed_is, put, put-id}
-use Rattle.history_laws.proofs.Earlier.{later_of}
-use Rattle.history_laws.proofs.Confirming.{ready_at, start-fits, version_of-found, priced_start-found, routed-ready}
-use Rattle.history_laws.proofs.Committing.{put_elsewhere}
+use Rattle.model_laws.specs.history_laws.Consistent.{IsEarlier, AreEarlier}
+use Rattle.model_laws.proofs.history_laws.Lookups.{found_by, ids-map, placed_is, put, put-id}
+use Rattle.model_laws.proofs.history_laws.Earlier.{later_of}
+use Rattle.model_laws.proofs.history_laws.Confirming.{ready_at, start-fits, version_of-found, priced_start-found, routed-ready}
+use Rattle.model_laws.proofs.history_laws.Committing.{put_elsewhere}
 use Rattle.board_core.specs.declared.service.Service.{Service}
 use Rattle.board_core.specs.Given.{Given}
 use Rattle.board_core.specs.Service.{placed_in, HasRoomAbove}

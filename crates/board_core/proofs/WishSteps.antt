@@ -4,8 +4,8 @@ use Rattle.std.specs.Prelude.{Option, Some, None, is_some}
 use Rattle.std.proofs.lemmas.Bool.{leb-false, or_parts, and_parts}
 use Rattle.ride_model.specs.Road.{RoadMap, IsRoadMap, IsNode}
 use Rattle.ride_model.specs.State.{AcceptedRequest}
-use Rattle.request_book.specs.Book.{request_of}
-use Rattle.history_laws.proofs.Raised.{node_is}
+use Rattle.board_core.specs.request_book.Book.{request_of}
+use Rattle.model_laws.proofs.history_laws.Raised.{node_is}
 use Rattle.board_core.specs.declared.wishes.Wish.{Wish}
 use Rattle.board_core.specs.Wishes.{joins_nodes, has_odd_load, MayBeAccepted}
 

@@ -10,3 +10,4 @@ pub mod Reports
 pub mod Marking
 pub mod Settling
 pub mod Totals
+pub mod request_book

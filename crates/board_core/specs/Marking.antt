@@ -4,7 +4,7 @@ use Rattle.ride_model.specs.declared.reply.RequestState.{RequestState}
 use Rattle.ride_model.specs.declared.vehicle.Ride.{Ride}
 use Rattle.ride_model.specs.State.{AcceptedRequest}
 use Rattle.model_laws.specs.Requests.{is_in}
-use Rattle.request_book.specs.Book.{request_of, with_state}
+use Rattle.board_core.specs.request_book.Book.{request_of, with_state}
 
 -- the requests with those of these ids in one state
 abbrev pub marked_in : RequestState → List ℕ → List AcceptedRequest → List AcceptedRequest

@@ -14,7 +14,7 @@ use Rattle.ride_model.specs.Step.{step}
 use Rattle.ride_model.specs.Text.{IsOneOrTwo}
 use Rattle.ride_model.specs.Vehicle.{ride_ids}
 use Rattle.batch_commit.specs.Solved.{SolvedBatch}
-use Rattle.history_laws.specs.Start.{IsStart, IsFedWithin}
+use Rattle.model_laws.specs.history_laws.Start.{IsStart, IsFedWithin}
 
 -- the state that a board started from, its numbers of feeds and desks, its history, and how many entries of feeds there is
 -- room for

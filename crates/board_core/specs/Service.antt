@@ -11,8 +11,8 @@ use Rattle.ride_model.specs.State.{State}
 use Rattle.ride_model.specs.Step.{Answered}
 use Rattle.ride_model.specs.Vehicle.{IsLawful}
 use Rattle.ride_model.specs.Limits.{latest_time, most_batches}
-use Rattle.history_laws.specs.Consistent.{HasPromised, IsWithVehicle}
-use Rattle.request_book.specs.Book.{waiting_of}
+use Rattle.model_laws.specs.history_laws.Consistent.{HasPromised, IsWithVehicle}
+use Rattle.board_core.specs.request_book.Book.{waiting_of}
 use Rattle.board_core.specs.declared.service.Service.{Service}
 use Rattle.board_core.specs.Given.{Given}
 

@@ -16,7 +16,7 @@ use Rattle.ride_model.specs.Limits.{latest_time}
 use Rattle.batch_commit.specs.Answer.{CertifiesOverCells}
 use Rattle.batch_commit.specs.Solved.{SolvedBatch}
 use Rattle.batch_commit.specs.Table.{IsTableOf}
-use Rattle.history_laws.specs.Consistent.{AreEarlier}
+use Rattle.model_laws.specs.history_laws.Consistent.{AreEarlier}
 use Rattle.board_core.specs.declared.service.Service.{Service}
 use Rattle.board_core.specs.Given.{Given}
 use Rattle.board_core.specs.Service.{HasRoomAbove}

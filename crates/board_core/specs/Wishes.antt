@@ -5,7 +5,7 @@ use Rattle.ride_model.specs.Road.{RoadMap}
 use Rattle.ride_model.specs.State.{State, AcceptedRequest}
 use Rattle.ride_model.specs.Step.{Answered, is_node, request_step}
 use Rattle.ride_model.specs.Limits.{latest_time, longest_ride, most_chairs, most_requests, most_seats}
-use Rattle.request_book.specs.Book.{request_of}
+use Rattle.board_core.specs.request_book.Book.{request_of}
 use Rattle.board_core.specs.declared.wishes.Wish.{Wish}
 
 -- the ride that is asked for

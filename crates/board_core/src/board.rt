@@ -7,7 +7,7 @@ ghost use Rattle.ride_model.specs.State.{start_state, request_state, has_ended, 
 ghost use Rattle.ride_model.specs.Legal.{IsLegal};
 ghost use Rattle.ride_model.specs.History.{IsFinished};
 ghost use Rattle.ride_model.specs.Text.{IsOneOrTwo, HasText};
-ghost use Rattle.history_laws.specs.Start.{IsStart};
+ghost use Rattle.model_laws.specs.history_laws.Start.{IsStart};
 ghost use Rattle.board_core.specs.Recorded.{Recorded, state_of};
 
 mod batches;

@@ -12,6 +12,7 @@ mod numbered;
 mod opening;
 mod places;
 mod plans;
+pub mod request_book;
 mod service;
 mod setup;
 mod wishes;

@@ -1,10 +1,10 @@
 -- A watch over a board on which nothing happened yet, and how many commands a feed has given.
 use Rattle.std.proofs.Common.{◌≡◌, ◌≤◌, ◌==◌, List, [], ◌∷◌, length, take, sym, ap, ◌∙◌, arith}
-use Rattle.plain_lemmas.proofs.Lists.{length-filter_map-le}
+use Rattle.model_laws.proofs.plain.Lists.{length-filter_map-le}
 use Rattle.ride_model.specs.declared.entry.Entry.{Entry}
 use Rattle.ride_model.specs.History.{command_of}
 use Rattle.ride_model.specs.Legal.{replay, versions_of}
-use Rattle.history_laws.proofs.Raised.{length-filter-le}
+use Rattle.model_laws.proofs.history_laws.Raised.{length-filter-le}
 use Rattle.board_core.specs.Recorded.{Recorded}
 use Rattle.turn_lock.specs.History.{items_of}
 use Rattle.fleet_board.specs.Passes.{Known, IsPoint, commands_in, maker_of, root_of}

@@ -42,7 +42,7 @@ const CANCEL: Command = Command::Cancel { id: 7 };
 fn roads(rt: &impl Abort, alloc: Global) -> Roads
     ensures { result.nodes ≡ 4 }
 {
-    let Ok(roads) = trial_town::roads(alloc) else {
+    let Ok(roads) = plan_trials::trial_town::roads(alloc) else {
         panic!(rt; "there is memory");
     };
     roads

@@ -8,8 +8,8 @@ use Rattle.line_text.specs.Fields.{begins_with, fields_of, is_over_long}
 use Rattle.line_text.specs.Lines.{ended_after, ended_lines}
 use Rattle.ride_model.specs.declared.command.Command.{Command}
 use Rattle.ride_model.specs.Text.{IsSpelledCommand}
-use Rattle.text_page.specs.Output.{HasPut}
-use Rattle.text_page.proofs.OutputLemmas.{put-nothing, put-two}
+use Rattle.line_text.specs.text_page.Output.{HasPut}
+use Rattle.line_text.proofs.text_page.OutputLemmas.{put-nothing, put-two}
 use Rattle.booking_desk.specs.declared.replies.BookReply.{BookReply}
 use Rattle.booking_desk.specs.declared.replies.BookReply.TheVariants.{Held, Now, Refused}
 use Rattle.booking_desk.specs.BookLines.{call_of, call_of_fields, calls_in}
@@ -19,7 +19,7 @@ use Rattle.booking_desk.specs.declared.feed_desk.FeedDesk.{FeedDesk}
 use Rattle.booking_desk.specs.FeedDesk.{AreSpelled, HasBooked, IsNew, IsSpelledBooking}
 use Rattle.booking_desk.specs.Released.{DeskCall, book, unbook, clock, desk_after, released_at}
 use Rattle.booking_desk.proofs.AfterCalls.{booked-is, unbooked-is}
-use Rattle.plain_lemmas.proofs.Each.{each-append, each-filter}
+use Rattle.model_laws.proofs.plain.Each.{each-append, each-filter}
 
 pub begins-take : (line : List ℕ) → begins_with 35 (take 200 line) ≡ begins_with 35 line
 begins-take [] = refl

@@ -10,8 +10,8 @@ use Rattle.booking_desk.specs.Desk.{Booking, id_of, is_before, put_in, without}
 use Rattle.booking_desk.specs.Kept.{key_cmp}
 use Rattle.booking_desk.specs.Released.{all_put_in, sorted}
 use Rattle.booking_desk.proofs.Keys.{key_total, Equal-ids, Less-releases, early-Less}
-use Rattle.plain_lemmas.proofs.Filters.{filter-filter, filter-all, filter-none}
-use Rattle.plain_lemmas.proofs.Each.{each-filter, each-weaker, each-append}
+use Rattle.model_laws.proofs.plain.Filters.{filter-filter, filter-all, filter-none}
+use Rattle.model_laws.proofs.plain.Each.{each-filter, each-weaker, each-append}
 
 abbrev key_of : Booking → ℕ × ℕ
 key_of b = (b.release, id_of b)

@@ -7,7 +7,7 @@ use Rattle.std.proofs.lemmas.List.Elements.{filter-append}
 use Rattle.ride_model.specs.declared.command.Command.{Command}
 use Rattle.booking_desk.specs.Desk.{is_booked}
 use Rattle.booking_desk.specs.Released.{DeskCall, book, unbook, clock, BookCall, book_calls, call_id, first_of_each_id, greatest_clock, made_of}
-use Rattle.plain_lemmas.proofs.Each.{each-filter, each-take}
+use Rattle.model_laws.proofs.plain.Each.{each-filter, each-take}
 
 -- the call of a booking
 abbrev pub call_for : ℕ → ℕ → Command → BookCall

@@ -8,7 +8,7 @@ use Rattle.booking_desk.specs.Desk.{Booking, DeskState, after_take, after_unbook
 use Rattle.booking_desk.specs.Released.{DeskCall, book, unbook, clock, call_id, clock_of, desk_after, made_of, released_after, released_at, released_of, sorted, standing}
 use Rattle.booking_desk.specs.Steps.{DeskStep, call, take_due, after_call, after_steps, before, calls_of, taken_by, TakesAllDue}
 use Rattle.booking_desk.proofs.AfterCalls.{booked-is, clock-is, held-is, ids-are, unbooked-is}
-use Rattle.plain_lemmas.proofs.Each.{each-weaker}
+use Rattle.model_laws.proofs.plain.Each.{each-weaker}
 use Rattle.booking_desk.proofs.BookingOrder.{passing}
 use Rattle.booking_desk.proofs.Sound.{IsSound, sound-call, sound-new, sound-take, times, without-none}
 

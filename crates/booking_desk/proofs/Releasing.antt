@@ -15,9 +15,9 @@ use Rattle.fleet_board.specs.Passes.{Known, AddsEntry, AddsNone, commands_in, ro
 use Rattle.booking_desk.specs.Desk.{Booking, DeskState, after_take, due_of, is_due}
 use Rattle.booking_desk.specs.Releases.{HasSubmitted, IsAnswerTo, all_due}
 use Rattle.booking_desk.proofs.Due.{taken-rest}
-use Rattle.plain_lemmas.proofs.Filters.{filter-all}
-use Rattle.plain_lemmas.proofs.Each.{each-append}
-use Rattle.plain_lemmas.proofs.Among.{found_among}
+use Rattle.model_laws.proofs.plain.Filters.{filter-all}
+use Rattle.model_laws.proofs.plain.Each.{each-append}
+use Rattle.model_laws.proofs.plain.Among.{found_among}
 
 -- these bookings were due and are submitted, and few enough are left
 pub record ReleasesSoFar (desk new_desk : DeskState) (pass new_pass : Known) (count : ℕ) : Type 0 where

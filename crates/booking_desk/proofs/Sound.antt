@@ -8,8 +8,8 @@ use Rattle.booking_desk.specs.declared.replies.BookReply.TheVariants.{Held, Now,
 use Rattle.booking_desk.specs.Desk.{Booking, DeskState, after_book, after_take, due_of, id_of, is_before, is_booked, new_desk, put_in, reply_to_book, request_id, without}
 use Rattle.booking_desk.specs.Released.{DeskCall, book, unbook, clock}
 use Rattle.booking_desk.specs.Steps.{after_call}
-use Rattle.plain_lemmas.proofs.Filters.{any-append}
-use Rattle.plain_lemmas.proofs.Numbers.{eqb-flip}
+use Rattle.model_laws.proofs.plain.Filters.{any-append}
+use Rattle.model_laws.proofs.plain.Numbers.{eqb-flip}
 use Rattle.booking_desk.proofs.BookingOrder.{before-not_after}
 
 -- how many bookings have an id

@@ -9,8 +9,8 @@ use Rattle.std.proofs.Math.Bool.{or-false}
 use Rattle.ride_model.specs.declared.command.Command.{Command}
 use Rattle.booking_desk.specs.Desk.{is_booked, request_id, without}
 use Rattle.booking_desk.specs.Released.{DeskCall, book, unbook, clock, BookCall, book_calls, call_id, first_of_each_id, is_unbook, is_unbooked, made_of, standing}
-use Rattle.plain_lemmas.proofs.Filters.{any-append, filter-same}
-use Rattle.plain_lemmas.proofs.Each.{each-weaker}
+use Rattle.model_laws.proofs.plain.Filters.{any-append, filter-same}
+use Rattle.model_laws.proofs.plain.Each.{each-weaker}
 use Rattle.booking_desk.proofs.Made.{call_for, calls-append, made-places, taken-again, taken-full, taken-new}
 
 -- one more call unbooks a booking where it is an unbook of its id

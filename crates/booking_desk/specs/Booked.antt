@@ -1,7 +1,7 @@
 -- What the booking of a feed gives.
 use Rattle.std.specs.Prelude.{◌≡◌, ℕ, true, false, List, ◌++◌, Option}
-use Rattle.line_reader.specs.FeedRuns.{AreFirstLines, IsReadWhole, IsUnhindered}
-use Rattle.line_reader.specs.Limits.{IsTooLong, IsWithinLimits, lines_within}
+use Rattle.line_text.specs.line_reader.FeedRuns.{AreFirstLines, IsReadWhole, IsUnhindered}
+use Rattle.line_text.specs.line_reader.Limits.{IsTooLong, IsWithinLimits, lines_within}
 use Rattle.ride_ports.specs.Bytes.{Writes, WritesPrefix}
 use Rattle.ride_ports.specs.declared.outcome.Ran.{Ran}
 use Rattle.command_lines.specs.Limits.{feed_limits}

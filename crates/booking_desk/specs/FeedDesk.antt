@@ -1,9 +1,9 @@
 -- A desk that books a feed, line by line.
 use Rattle.std.specs.Prelude.{◌≡◌, ℕ, true, List, ◌++◌, length, map, Option, Some, None}
 use Rattle.std.specs.List.{AllByRecursion}
-use Rattle.line_reader.specs.declared.stops.Stop.{Stop}
+use Rattle.line_text.specs.declared.line_reader.stops.Stop.{Stop}
 use Rattle.ride_model.specs.Text.{IsSpelledCommand}
-use Rattle.text_page.specs.Output.{HasPut, IsFresh}
+use Rattle.line_text.specs.text_page.Output.{HasPut, IsFresh}
 use Rattle.booking_desk.specs.declared.feed_desk.FeedDesk.{FeedDesk}
 use Rattle.booking_desk.specs.BookLines.{calls_in}
 use Rattle.booking_desk.specs.BookText.{last_line_after, text_of_lines}

@@ -2,7 +2,7 @@
 ghost use Rattle.std.specs.Prelude.{◌≡◌, ◌<◌, ◌∷◌, ◌++◌, ℕ, [], false, true, List, Option, IfOk, MatchResult, if◌then◌else◌, length, take};
 ghost use Rattle.line_text.specs.Fields.{begins_with, is_over_long};
 ghost use Rattle.ride_model.specs.Text.{IsSpelledCommand};
-ghost use Rattle.text_page.specs.Output.{HasPut};
+ghost use Rattle.line_text.specs.text_page.Output.{HasPut};
 ghost use Rattle.command_lines.specs.Limits.{most_lines};
 ghost use Rattle.booking_desk.specs.BookText.{held_line, over_long_line, refusal_line, released_text, reply_text, text_of_lines};
 ghost use Rattle.booking_desk.specs.Desk.{after_book, after_unbook, is_held, IsRequest, most_bookings, reply_to_book};
@@ -16,7 +16,7 @@ use crate::{BookReply, BookingDesk, NoMemory};
 use ride_model::Command;
 use ride_ports::Sink;
 use std::alloc::Global;
-use text_page::Output;
+use line_text::text_page::Output;
 
 /// The code of an unbooking of what is not held.
 const NOT_HELD: u8 = 21;

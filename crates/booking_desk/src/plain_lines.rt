@@ -2,7 +2,7 @@
 ghost use Rattle.std.specs.Prelude.{◌≡◌, true};
 ghost use Rattle.ride_model.specs.Text.{IsSpelledCommand};
 ghost use Rattle.command_lines.specs.Commands.{spelling_of};
-ghost use Rattle.text_page.specs.Output.{Puts};
+ghost use Rattle.line_text.specs.text_page.Output.{Puts};
 ghost use Rattle.booking_desk.specs.BookText.{held_line, refusal_line, request_line, spelled_for, with_lf};
 ghost use Rattle.booking_desk.specs.Desk.{IsRequest};
 
@@ -10,7 +10,7 @@ use crate::spelling::print_request;
 use line_text::put_number;
 use ride_model::Command;
 use ride_ports::Sink;
-use text_page::Output;
+use line_text::text_page::Output;
 
 /// Puts bytes as a line.
 pub(crate) fn put_line<K: Sink>(output: &mut Output, out: &mut K, bytes: &[u8])

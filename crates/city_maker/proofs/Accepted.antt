@@ -17,7 +17,7 @@ use Rattle.ride_model.specs.Road.{IsNode}
 use Rattle.ride_model.specs.State.{State, placed_vehicle}
 use Rattle.ride_model.specs.Step.{Answered, step, at_step, done_step, at_found, done_found, done_at_stop, is_node, served_reply, report, reported, report_driving, report_reply}
 use Rattle.ride_model.specs.Vehicle.{IsRide}
-use Rattle.plain_lemmas.proofs.Among.{Among, contains_from_among}
+use Rattle.model_laws.proofs.plain.Among.{Among, contains_from_among}
 use Rattle.model_laws.proofs.PlanStops.{stop-of-ride}
 use Rattle.model_laws.proofs.TravelTimes.{travel-same}
 use Rattle.city_maker.specs.Reports.{IsOnTime, DrivesInTheDay}

@@ -5,11 +5,11 @@ use Rattle.std.proofs.lemmas.List.{length_push}
 use Rattle.ride_model.specs.declared.command.Command.{Command}
 use Rattle.line_text.specs.Lines.{ended_after, ended_lines, last_line, lines_of}
 use Rattle.line_text.proofs.LineLemmas.{last_line-some}
-use Rattle.line_reader.specs.declared.answers.ReadStop.{ReadStop}
-use Rattle.line_reader.specs.declared.limits.Limits.{Limits}
-use Rattle.line_reader.specs.Limits.{IsWithinLimits, lines_within}
-use Rattle.line_reader.specs.Reader.{ReaderState, StopsAt, IsAtEnd, IsNextLine, HasGiven as HasGivenLines, IsStopped as IsStoppedText}
-use Rattle.line_reader.proofs.FeedLines.{lines-at_end}
+use Rattle.line_text.specs.declared.line_reader.answers.ReadStop.{ReadStop}
+use Rattle.line_text.specs.declared.line_reader.limits.Limits.{Limits}
+use Rattle.line_text.specs.line_reader.Limits.{IsWithinLimits, lines_within}
+use Rattle.line_text.specs.line_reader.Reader.{ReaderState, StopsAt, IsAtEnd, IsNextLine, HasGiven as HasGivenLines, IsStopped as IsStoppedText}
+use Rattle.line_text.proofs.line_reader.FeedLines.{lines-at_end}
 use Rattle.command_lines.specs.Commands.{before, commands_from, commands_of, said_by}
 use Rattle.command_lines.specs.Feeds.{FeedState, HasCut, HasGiven, IsStopped, IsWhole}
 use Rattle.command_lines.specs.declared.forms.FeedForm.{FeedForm}

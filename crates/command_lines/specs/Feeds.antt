@@ -3,9 +3,9 @@ use Rattle.std.specs.List.{list_any}
 use Rattle.std.specs.Prelude.{◌≡◌, ◌==◌, ◌&&◌, ℕ, ◌+◌, Bool, false, nat_le, MatchBool, if◌then◌else◌, List, [], ◌∷◌, ◌++◌, Option, IfSome}
 use Rattle.ride_model.specs.declared.command.Command.{Command}
 use Rattle.line_text.specs.Lines.{ended_lines}
-use Rattle.line_reader.specs.declared.answers.ReadStop.{ReadStop}
-use Rattle.line_reader.specs.Limits.{IsWithinLimits}
-use Rattle.line_reader.specs.Reader.{ReaderState, StopsAt, HasGiven as HasGivenLines}
+use Rattle.line_text.specs.declared.line_reader.answers.ReadStop.{ReadStop}
+use Rattle.line_text.specs.line_reader.Limits.{IsWithinLimits}
+use Rattle.line_text.specs.line_reader.Reader.{ReaderState, StopsAt, HasGiven as HasGivenLines}
 use Rattle.command_lines.specs.Commands.{commands_from, commands_of}
 use Rattle.command_lines.specs.declared.forms.FeedForm.{FeedForm}
 use Rattle.command_lines.specs.Limits.{IsForm, ended_commands, limits_of}

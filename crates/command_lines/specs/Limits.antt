@@ -2,8 +2,8 @@
 use Rattle.std.specs.Prelude.{◌≡◌, ℕ, ◌≤◌, List, ◌++◌}
 use Rattle.ride_model.specs.declared.command.Command.{Command}
 use Rattle.ride_model.specs.Text.{IsOneOrTwo}
-use Rattle.line_reader.specs.declared.limits.Limits.{Limits}
-use Rattle.line_reader.specs.Limits.{lines_within}
+use Rattle.line_text.specs.declared.line_reader.limits.Limits.{Limits}
+use Rattle.line_text.specs.line_reader.Limits.{lines_within}
 use Rattle.command_lines.specs.Commands.{commands_from}
 use Rattle.command_lines.specs.declared.forms.FeedForm.{FeedForm}
 

@@ -4,7 +4,7 @@ ghost use Rattle.ride_model.specs.declared.command.Command.{Command};
 ghost use Rattle.ride_model.specs.Text.{IsOneOrTwo, IsSpelledCommand};
 ghost use Rattle.ride_ports.specs.Bytes.{Reads};
 ghost use Rattle.ride_ports.specs.Count.{KeepsCount};
-ghost use Rattle.line_reader.specs.Reader.{IsShown, is_fault};
+ghost use Rattle.line_text.specs.line_reader.Reader.{IsShown, is_fault};
 ghost use Rattle.command_lines.specs.Commands.{before, said_by};
 ghost use Rattle.command_lines.specs.Limits.{IsForm};
 ghost use Rattle.command_lines.specs.Feeds.{HasCut, HasGiven, IsStopped, IsWhole, begins_with_letter, is_ready, lines_ahead};
@@ -12,7 +12,7 @@ ghost use Rattle.command_lines.specs.Feeds.{HasCut, HasGiven, IsStopped, IsWhole
 use crate::forms::FeedForm;
 use crate::limits::FEED_LIMITS;
 use crate::reading::read_feed_line;
-use line_reader::{Limits, LineReader, NextLine, ReadStop};
+use line_text::line_reader::{Limits, LineReader, NextLine, ReadStop};
 use ride_model::{Command, NoMemory};
 use ride_ports::Source;
 use std::alloc::Global;

@@ -1,5 +1,5 @@
 //! The limits of a feed.
-use line_reader::Limits;
+use line_text::line_reader::Limits;
 use line_text::MOST_LINE;
 
 /// The limits of a feed: at most 2^26 bytes and 1,000,000 lines.

@@ -14,7 +14,7 @@ use Rattle.gr_reader.specs.MapText.{map_text}
 use Rattle.fleet_file.specs.declared.errors.FleetError.{FleetError}
 use Rattle.fleet_file.specs.declared.errors.FleetError.TheVariants.{TooLong as TooLongFleet}
 use Rattle.fleet_file.specs.FleetText.{fleet_text}
-use Rattle.line_reader.specs.Limits.{IsTooLong}
+use Rattle.line_text.specs.line_reader.Limits.{IsTooLong}
 use Rattle.command_lines.specs.Limits.{feed_limits}
 use Rattle.log_audit.specs.Audit.{IsAnswer}
 use Rattle.log_audit.specs.declared.verdict.AuditFault.{AuditFault}

@@ -14,8 +14,8 @@ use Rattle.command_lines.specs.declared.forms.FeedForm.{FeedForm}
 use Rattle.command_lines.specs.Limits.{new_feed}
 use Rattle.command_lines.specs.Commands.{commands_of}
 use Rattle.command_lines.specs.Feeds.{IsWhole}
-use Rattle.history_laws.specs.Start.{IsStart}
-use Rattle.history_laws.proofs.Unmoved.{unmoved-by_commit}
+use Rattle.model_laws.specs.history_laws.Start.{IsStart}
+use Rattle.model_laws.proofs.history_laws.Unmoved.{unmoved-by_commit}
 use Rattle.model_laws.proofs.Histories.{IsLegal-parts}
 use Rattle.live_sessions.specs.Serving.{FeedRun}
 use Rattle.run_words.specs.Words.{Asked, a_replay, an_ahead, an_audit, a_service, a_drill, a_booking, a_league, files_of}

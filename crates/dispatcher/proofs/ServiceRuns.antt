@@ -3,7 +3,7 @@ use Rattle.std.proofs.Common.{◌≡◌, inl, inr, ℕ, ◌+◌, List, [], ◌�
 use Rattle.std.specs.Prelude.{All, length, map}
 use Rattle.std.proofs.lemmas.List.{append_assoc, length-map, map-append}
 use Rattle.std.proofs.lemmas.List.Elements.{All-append}
-use Rattle.plain_lemmas.proofs.Each.{all_of_one, all_of_two}
+use Rattle.model_laws.proofs.plain.Each.{all_of_one, all_of_two}
 use Rattle.ride_ports.specs.Contents.{Contents, GivenBack}
 use Rattle.ride_ports.specs.Count.{Rose}
 use Rattle.run_words.specs.Words.{File, a_service, feed_file, fleet_file, map_file, name_of}

@@ -6,9 +6,9 @@ use Rattle.ride_ports.specs.declared.outcome.Ran.{Ran}
 use Rattle.ride_ports.proofs.ByteLemmas.{Reads-told}
 use Rattle.line_text.specs.Lines.{lines_of}
 use Rattle.line_text.proofs.LineLemmas.{lines-grow}
-use Rattle.line_reader.specs.Limits.{IsTooLong, IsWithinLimits}
-use Rattle.line_reader.specs.declared.limits.Limits.{Limits}
-use Rattle.line_reader.specs.FeedRuns.{IsReadWhole}
+use Rattle.line_text.specs.line_reader.Limits.{IsTooLong, IsWithinLimits}
+use Rattle.line_text.specs.declared.line_reader.limits.Limits.{Limits}
+use Rattle.line_text.specs.line_reader.FeedRuns.{IsReadWhole}
 
 -- a session's status, by its flags
 abbrev status_by : Bool → Bool → Bool → Bool → ℕ

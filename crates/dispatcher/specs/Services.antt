@@ -5,7 +5,7 @@ use Rattle.ride_ports.specs.declared.outcome.Ran.{Ran}
 use Rattle.ride_model.specs.Text.{text_of}
 use Rattle.ride_model.specs.declared.entry.Entry.{Entry}
 use Rattle.ride_model.specs.declared.entry.Ending.TheVariants.{Whole}
-use Rattle.line_reader.specs.Limits.{IsTooLong, IsWithinLimits}
+use Rattle.line_text.specs.line_reader.Limits.{IsTooLong, IsWithinLimits}
 use Rattle.command_lines.specs.Limits.{feed_limits, new_feed}
 use Rattle.live_sessions.specs.Serving.{CountsFeeds, FeedRun, HasNotServed, HasServed, IsFeedOf, IsWrittenOut}
 use Rattle.dispatcher.specs.Meanings.{Meaning, start_of}

@@ -1,7 +1,7 @@
 -- Files with which a run can be whole.
 use Rattle.std.specs.Prelude.{◌≡◌, ◌⊎◌, ℕ, ⊤, List, All, Option, Some}
 use Rattle.ride_ports.specs.Contents.{Contents}
-use Rattle.line_reader.specs.Limits.{IsWithinLimits}
+use Rattle.line_text.specs.line_reader.Limits.{IsWithinLimits}
 use Rattle.command_lines.specs.Limits.{feed_limits}
 use Rattle.log_audit.specs.Limits.{IsTooLong}
 use Rattle.run_words.specs.Words.{Asked, an_audit, File, feed_file, files_of, log_file, name_of}

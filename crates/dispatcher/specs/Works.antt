@@ -6,14 +6,14 @@ use Rattle.ride_ports.specs.declared.outcome.Ran.{Ran}
 use Rattle.ride_model.specs.declared.entry.Entry.{Entry}
 use Rattle.city_maker.specs.declared.plan.CityPlan.{CityPlan}
 use Rattle.city_maker.specs.Steps.{Drilled}
-use Rattle.line_reader.specs.FeedRuns.{IsReadWhole, IsUnhindered}
+use Rattle.line_text.specs.line_reader.FeedRuns.{IsReadWhole, IsUnhindered}
 use Rattle.session_run.specs.Ahead.{IsWrittenBy}
 use Rattle.session_run.specs.Drills.{summary_line}
 use Rattle.session_run.specs.Logged.{IsLogged}
 use Rattle.session_run.specs.Replay.{IsReplay}
 use Rattle.live_sessions.specs.Serving.{FeedRun}
 use Rattle.booking_desk.specs.Booked.{IsBooked}
-use Rattle.league_session.specs.Leagued.{IsLeagued}
+use Rattle.fleet_league.specs.league_session.Leagued.{IsLeagued}
 use Rattle.dispatcher.specs.Meanings.{Meaning, start_of}
 use Rattle.dispatcher.specs.Shelves.{IsUntouched, Sunk}
 

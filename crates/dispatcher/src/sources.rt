@@ -100,7 +100,7 @@ fn do_work<R: Threads + Sync, S: Source, K: Sink>(
                 fleet,
                 second,
             } = texts;
-            league_session::league(rt, alloc, &roads, settings, fleet, second, source, out).status()
+            fleet_league::league_session::league(rt, alloc, &roads, settings, fleet, second, source, out).status()
         }
         Work::Book => booking_desk::book_feed(alloc, source, out).status(),
     }

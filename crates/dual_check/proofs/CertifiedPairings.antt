@@ -10,7 +10,7 @@ use Rattle.std.proofs.lemmas.Bool.{ne_eqb, eq-eqb, false≢true}
 use Rattle.ride_model.specs.Seating.{amount_of}
 use Rattle.model_laws.proofs.CoveredPairs.{prices-le-cost}
 use Rattle.model_laws.proofs.Certificates.{amount-cons, sum-amounts-le}
-use Rattle.plain_lemmas.proofs.Sums.{sum_by-map}
+use Rattle.model_laws.proofs.plain.Sums.{sum_by-map}
 use Rattle.dual_check.specs.Cells.{GridCells, cell_at}
 use Rattle.dual_check.specs.Grid.{column_of, IsPairing, row_cost, pairing_cost, IsLeastPairing, price_at, CertifiesPairing}
 

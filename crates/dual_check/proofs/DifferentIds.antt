@@ -8,8 +8,8 @@ use Rattle.std.proofs.lemmas.List.Folds.{find_at}
 use Rattle.std.proofs.lemmas.List.Sums.{position_or_len_is}
 use Rattle.std.proofs.lemmas.Map.Keys.{IsDistinct-head, IsDistinct-tail, IsDistinct-cons, apart_from_distinct}
 use Rattle.std.proofs.lemmas.Option.{slice_get-get_or}
-use Rattle.plain_lemmas.proofs.Each.{each-filter}
-use Rattle.plain_lemmas.proofs.Lists.{distinct-filter}
+use Rattle.model_laws.proofs.plain.Each.{each-filter}
+use Rattle.model_laws.proofs.plain.Lists.{distinct-filter}
 use Rattle.batch_commit.specs.Answer.{place_of}
 
 -- different ids have different places

@@ -5,9 +5,9 @@ use Rattle.std.specs.List.{AllByRecursion, IsDistinct}
 use Rattle.std.proofs.lemmas.Bool.{eqb-true, eqb-false, ne_eqb, eq-eqb, false≢true}
 use Rattle.std.proofs.lemmas.Map.Keys.{IsDistinct-head, IsDistinct-tail}
 use Rattle.std.proofs.lemmas.List.{length_push, append_assoc, append-nil, drop_more, drop_all, length-drop}
-use Rattle.plain_lemmas.proofs.Each.{each-filter, each-weaker}
-use Rattle.plain_lemmas.proofs.Numbers.{eqb-flip}
-use Rattle.plain_lemmas.proofs.Filters.{filter-same}
+use Rattle.model_laws.proofs.plain.Each.{each-filter, each-weaker}
+use Rattle.model_laws.proofs.plain.Numbers.{eqb-flip}
+use Rattle.model_laws.proofs.plain.Filters.{filter-same}
 use Rattle.dual_check.specs.Orders.{item_of, has_item, StandsInOrder, first_if_of}
 
 -- two functions that agree at each element have the same images

@@ -10,8 +10,8 @@ use Rattle.ride_model.specs.declared.vehicle.Vehicle.{Vehicle}
 use Rattle.ride_model.specs.Road.{RoadMap}
 use Rattle.ride_model.specs.Offers.{offer_of, price}
 use Rattle.ride_model.specs.Seating.{BatchCopy, vehicle_ids, find_ride, find_vehicle, seat_offer, seat_cost, seating_cost, IsLeastSeating, amount_of, IsCovered, Certifies}
-use Rattle.plain_lemmas.proofs.Among.{Among}
-use Rattle.plain_lemmas.proofs.Each.{each-among}
+use Rattle.model_laws.proofs.plain.Among.{Among}
+use Rattle.model_laws.proofs.plain.Each.{each-among}
 use Rattle.model_laws.proofs.Certificates.{certified_is_least}
 use Rattle.batch_commit.specs.Table.{Table, IsTableOf, IsLeastOffer, cell_at as offer_at}
 use Rattle.batch_commit.specs.Answer.{place_of, cell_cost, cells_cost, CertifiesOverCells}

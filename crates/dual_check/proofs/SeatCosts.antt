@@ -12,11 +12,11 @@ use Rattle.ride_model.specs.declared.vehicle.Ride.{Ride}
 use Rattle.ride_model.specs.Vehicle.{ride_ids}
 use Rattle.ride_model.specs.Batch.{seat_of}
 use Rattle.ride_model.specs.Seating.{BatchCopy, vehicle_ids, has_seat, amount_ids, amount_of, has_amount}
-use Rattle.plain_lemmas.proofs.Among.{Among}
+use Rattle.model_laws.proofs.plain.Among.{Among}
 use Rattle.model_laws.proofs.Certificates.{sum-amounts, sum-amounts-le}
-use Rattle.plain_lemmas.proofs.Sums.{sum_by-map}
-use Rattle.plain_lemmas.proofs.Each.{each-among}
-use Rattle.plain_lemmas.proofs.Lists.{distinct-filter}
+use Rattle.model_laws.proofs.plain.Sums.{sum_by-map}
+use Rattle.model_laws.proofs.plain.Each.{each-among}
+use Rattle.model_laws.proofs.plain.Lists.{distinct-filter}
 use Rattle.batch_commit.specs.Table.{Table}
 use Rattle.batch_commit.specs.Answer.{place_of, cell_cost, cells_cost}
 use Rattle.dual_check.specs.Cells.{GridCells, cell_at}

@@ -14,8 +14,8 @@ use Rattle.ride_model.specs.declared.vehicle.Vehicle.{Vehicle}
 use Rattle.ride_model.specs.Vehicle.{ride_ids}
 use Rattle.ride_model.specs.Batch.{seat_of}
 use Rattle.ride_model.specs.Seating.{BatchCopy, vehicle_ids, has_seat, amount_ids, amount_of, has_amount}
-use Rattle.plain_lemmas.proofs.Among.{Among, among_from_contains, contains_from_among}
-use Rattle.plain_lemmas.proofs.Lists.{distinct-filter}
+use Rattle.model_laws.proofs.plain.Among.{Among, among_from_contains, contains_from_among}
+use Rattle.model_laws.proofs.plain.Lists.{distinct-filter}
 use Rattle.batch_commit.specs.Table.{Table, cell_at as offer_at}
 use Rattle.batch_commit.specs.Answer.{place_of, CertifiesOverCells}
 use Rattle.dual_check.specs.Cells.{cell_at}

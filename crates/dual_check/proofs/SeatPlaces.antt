@@ -13,7 +13,7 @@ use Rattle.ride_model.specs.Fleet.{IsFleet}
 use Rattle.ride_model.specs.Vehicle.{ride_ids}
 use Rattle.ride_model.specs.Batch.{seat_of}
 use Rattle.ride_model.specs.Seating.{BatchCopy, vehicle_ids}
-use Rattle.plain_lemmas.proofs.Among.{Among, contains_from_among, found_among}
+use Rattle.model_laws.proofs.plain.Among.{Among, contains_from_among, found_among}
 use Rattle.batch_commit.specs.Table.{Table, FitsBatch, cell_at as offer_at}
 use Rattle.batch_commit.specs.Answer.{IsSeatAt, place_of}
 use Rattle.dual_check.specs.Cells.{cell_at}

@@ -5,8 +5,8 @@ use Rattle.std.specs.List.{AllByRecursion, IsDistinct}
 use Rattle.std.proofs.lemmas.List.{length-map}
 use Rattle.std.proofs.lemmas.List.Sums.{length-filter, count_by-le-length}
 use Rattle.std.proofs.lemmas.Bool.{eq-eqb, or_right}
-use Rattle.plain_lemmas.proofs.Each.{each-weaker}
-use Rattle.plain_lemmas.proofs.Filters.{filter-all}
+use Rattle.model_laws.proofs.plain.Each.{each-weaker}
+use Rattle.model_laws.proofs.plain.Filters.{filter-all}
 use Rattle.ride_model.specs.declared.offer.Seat.{Seat}
 use Rattle.ride_model.specs.Vehicle.{ride_ids}
 use Rattle.ride_model.specs.Seating.{BatchCopy, vehicle_ids}

@@ -12,9 +12,9 @@ use Rattle.ride_model.specs.Legal.{IsNumbered}
 use Rattle.ride_model.specs.Seating.{BatchCopy}
 use Rattle.ride_model.specs.State.{State, has_ended, is_batch, open_batch_of, open_batch_numbered}
 use Rattle.ride_model.specs.Text.{IsOneOrTwo, HasLine}
-use Rattle.history_laws.proofs.Effects.{ends_in}
-use Rattle.history_laws.proofs.Others.{ended-same, ended-others, found-others, open_batch-others}
-use Rattle.history_laws.proofs.HistoryTexts.{one_or_two}
+use Rattle.model_laws.proofs.history_laws.Effects.{ends_in}
+use Rattle.model_laws.proofs.history_laws.Others.{ended-same, ended-others, found-others, open_batch-others}
+use Rattle.model_laws.proofs.history_laws.HistoryTexts.{one_or_two}
 use Rattle.board_core.specs.Recorded.{Recorded, state_of}
 use Rattle.turn_lock.specs.History.{items_of}
 use Rattle.fleet_board.specs.Passes.{Known, maker_of, commands_in, root_of, seen_state, desk_of, IsPoint, IsFeed, IsDesk}

@@ -10,13 +10,13 @@ use Rattle.ride_model.specs.Batch.{next_batch, outcomes_of}
 use Rattle.ride_model.specs.Legal.{replay, IsLegal, CommitsBatch}
 use Rattle.ride_model.specs.Seating.{BatchCopy, seating_cost}
 use Rattle.ride_model.specs.State.{State, is_batch, open_batch_of, open_batch_numbered}
-use Rattle.plain_lemmas.proofs.Among.{Among, found_among}
+use Rattle.model_laws.proofs.plain.Among.{Among, found_among}
 use Rattle.model_laws.proofs.Histories.{IsLegal-parts}
 use Rattle.batch_commit.specs.Solved.{SolvedBatch}
-use Rattle.history_laws.proofs.EveryState.{consistent}
-use Rattle.history_laws.proofs.Leaving.{is_batch-own}
-use Rattle.history_laws.proofs.Lookups.{found_by}
-use Rattle.history_laws.proofs.Unmoved.{unmoved, vehicles_differ}
+use Rattle.model_laws.proofs.history_laws.EveryState.{consistent}
+use Rattle.model_laws.proofs.history_laws.Leaving.{is_batch-own}
+use Rattle.model_laws.proofs.history_laws.Lookups.{found_by}
+use Rattle.model_laws.proofs.history_laws.Unmoved.{unmoved, vehicles_differ}
 use Rattle.board_core.specs.declared.opening.Opening.{Opening}
 use Rattle.board_core.specs.declared.opening.Opening.TheVariants.{Batch}
 use Rattle.board_core.specs.Opening.{opening_at}

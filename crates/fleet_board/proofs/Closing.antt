@@ -6,8 +6,8 @@ use Rattle.ride_model.specs.declared.command.Actor.{Actor}
 use Rattle.ride_model.specs.declared.command.Actor.TheVariants.{Feed, Desk}
 use Rattle.ride_model.specs.declared.entry.Entry.{Entry}
 use Rattle.ride_model.specs.Text.{IsOneOrTwo, HasLine}
-use Rattle.plain_lemmas.proofs.Among.{Among}
-use Rattle.plain_lemmas.proofs.Each.{of_all, all_of}
+use Rattle.model_laws.proofs.plain.Among.{Among}
+use Rattle.model_laws.proofs.plain.Each.{of_all, all_of}
 use Rattle.turn_lock.specs.declared.rule.Ended.{Ended}
 use Rattle.turn_lock.specs.History.{items_of, EndedStand}
 use Rattle.turn_lock.specs.Knowledge.{after_join}

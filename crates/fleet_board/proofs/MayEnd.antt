@@ -9,9 +9,9 @@ use Rattle.ride_model.specs.Batch.{next_batch}
 use Rattle.ride_model.specs.Legal.{IsLegal, IsLegalEvent, all_feeds_ended}
 use Rattle.ride_model.specs.State.{State}
 use Rattle.model_laws.proofs.Histories.{IsLegal-parts}
-use Rattle.history_laws.proofs.EveryState.{consistent}
-use Rattle.history_laws.proofs.Others.{NoneToCome, none_to_come}
-use Rattle.history_laws.proofs.HistoryTexts.{one_or_two}
+use Rattle.model_laws.proofs.history_laws.EveryState.{consistent}
+use Rattle.model_laws.proofs.history_laws.Others.{NoneToCome, none_to_come}
+use Rattle.model_laws.proofs.history_laws.HistoryTexts.{one_or_two}
 use Rattle.board_core.specs.declared.opening.Opening.TheVariants.{Batch, Idle, Ended}
 use Rattle.board_core.specs.Recorded.{Recorded, state_of}
 use Rattle.fleet_board.specs.Openings.{OpensNone}

@@ -2,7 +2,7 @@
 use Rattle.std.proofs.Common.{◌≡◌, ℕ, ◌+◌, ◌-◌, ◌≤◌, ◌<◌, List, length, take, drop, sym, ap, ◌∙◌, ◌⊎◌, inl, inr, arith, length-drop}
 use Rattle.std.specs.Prelude.{min}
 use Rattle.std.proofs.lemmas.List.{take_min, drop_all}
-use Rattle.plain_lemmas.proofs.Numbers.{le_or_lt}
+use Rattle.model_laws.proofs.plain.Numbers.{le_or_lt}
 
 -- the elements of a list between a place within it and one as far behind as may be
 pub slice-tail : {X : Type 0} (from most start many : ℕ) (xs : List X) → start ≡ min from (length xs) → many ≡ min most (length xs - start)

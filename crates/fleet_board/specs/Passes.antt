@@ -9,7 +9,7 @@ use Rattle.ride_model.specs.History.{Pass, Sees, Appends, command_of}
 use Rattle.ride_model.specs.Legal.{replay, all_feeds_ended, IsLegal, IsNumbered}
 use Rattle.ride_model.specs.State.{State, start_state, has_ended}
 use Rattle.ride_model.specs.Text.{HasText}
-use Rattle.history_laws.specs.Start.{IsStart}
+use Rattle.model_laws.specs.history_laws.Start.{IsStart}
 use Rattle.board_core.specs.Recorded.{Recorded, state_of}
 use Rattle.turn_lock.specs.declared.rule.Knowledge.{Knowledge}
 use Rattle.turn_lock.specs.History.{items_of}

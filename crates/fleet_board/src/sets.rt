@@ -4,7 +4,7 @@ ghost use mathlib.Core.List.{IsPrefix};
 ghost use Rattle.ride_model.specs.declared.command.Actor.TheVariants.{Feed, Desk};
 ghost use Rattle.ride_model.specs.Legal.{IsLegal};
 ghost use Rattle.ride_model.specs.Text.{HasText};
-ghost use Rattle.history_laws.specs.Start.{IsStart};
+ghost use Rattle.model_laws.specs.history_laws.Start.{IsStart};
 ghost use Rattle.turn_lock.specs.Knowledge.{after_join};
 ghost use Rattle.turn_lock.specs.Passes.{MayEnter, knowledge};
 ghost use Rattle.fleet_board.specs.Passes.{IsPoint};

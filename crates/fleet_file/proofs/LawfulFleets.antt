@@ -5,7 +5,7 @@ use Rattle.std.specs.List.{IsDistinct, list_any}
 use Rattle.std.specs.Str.{bytes_eq}
 use Rattle.std.proofs.lemmas.Bool.{eqb-false, le-leb, ltb-false, or_parts}
 use Rattle.std.proofs.lemmas.List.Elements.{All-append}
-use Rattle.plain_lemmas.proofs.Each.{all_of_one, all_of_none}
+use Rattle.model_laws.proofs.plain.Each.{all_of_one, all_of_none}
 use Rattle.line_text.specs.Fields.{numbers_of, words_of}
 use Rattle.line_text.specs.Lines.{lines_of}
 use Rattle.line_text.specs.Texts.{and_then, after_lines, after_ended}

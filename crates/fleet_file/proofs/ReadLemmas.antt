@@ -1,6 +1,6 @@
 -- What the reader has taken after one more line, and what the text gives then.
 use Rattle.std.proofs.Common.{◌≡◌, ◌≢◌, false, ℕ, ◌+◌, ◌≤◌, Option, Some, None, IfSome, List, [], ◌∷◌, ◌++◌, length, Result, Ok, Err, MatchResult, refl, ap, sym, ◌∙◌}
-use Rattle.plain_lemmas.proofs.Lists.{some_bytes}
+use Rattle.line_text.proofs.TextLemmas.{some_bytes}
 use Rattle.line_text.specs.Fields.{words_of}
 use Rattle.line_text.specs.Lines.{ended_lines, lines_of}
 use Rattle.line_text.specs.Reading.{AreFirst, GoesOn, counted_lines}

@@ -14,9 +14,9 @@ use Rattle.ride_model.specs.Batch.{was_cancelled, seat_of, outcome_by, outcome_o
 use Rattle.ride_model.specs.Seating.{BatchCopy, vehicle_ids, seat_offer}
 use Rattle.ride_model.specs.State.{State, placed_vehicle}
 use Rattle.ride_model.specs.Vehicle.{ride_ids}
-use Rattle.plain_lemmas.proofs.Among.{Among, found_among}
+use Rattle.model_laws.proofs.plain.Among.{Among, found_among}
 use Rattle.model_laws.proofs.RequestStates.{marked}
-use Rattle.history_laws.proofs.StandingSeats.{seated-confirmed}
+use Rattle.model_laws.proofs.history_laws.StandingSeats.{seated-confirmed}
 use Rattle.fleet_league.specs.declared.briefs.Win.{Win}
 use Rattle.fleet_league.specs.Awards.{won_rides, AreSeatsOf}
 use Rattle.fleet_league.proofs.Reports.{NoneWaits, none-marked}

@@ -29,11 +29,11 @@ use Rattle.batch_commit.specs.Solved.{SolvedBatch}
 use Rattle.batch_commit.specs.Table.{Table, IsTableOf}
 use Rattle.model_laws.specs.Requests.{is_of}
 use Rattle.model_laws.proofs.Histories.{replay-append}
-use Rattle.plain_lemmas.proofs.Among.{Among, among_map, among_map_back}
-use Rattle.plain_lemmas.proofs.Sums.{sum_by-map}
+use Rattle.model_laws.proofs.plain.Among.{Among, among_map, among_map_back}
+use Rattle.model_laws.proofs.plain.Sums.{sum_by-map}
 use Rattle.model_laws.proofs.RequestStates.{marked, opening-is, others-opening, abandon-is}
-use Rattle.history_laws.proofs.Untouched.{leaves-step, stays-outcomes}
-use Rattle.history_laws.proofs.OpenedBatches.{opened-not_cancelled, none-left, committed-state, abandoned-state, open-found}
+use Rattle.model_laws.proofs.history_laws.Untouched.{leaves-step, stays-outcomes}
+use Rattle.model_laws.proofs.history_laws.OpenedBatches.{opened-not_cancelled, none-left, committed-state, abandoned-state, open-found}
 use Rattle.dual_check.specs.Grid.{pairing_cost}
 use Rattle.dual_check.proofs.OverMaps.{certified-over-map}
 use Rattle.dual_check.proofs.SeatCosts.{sum-amounts-over}

@@ -8,9 +8,9 @@ use Rattle.ride_model.specs.Batch.{is_waiting, waiting_rides, after_opening}
 use Rattle.ride_model.specs.Seating.{BatchCopy}
 use Rattle.ride_model.specs.State.{State, AcceptedRequest}
 use Rattle.model_laws.specs.Requests.{is_of}
-use Rattle.plain_lemmas.proofs.Among.{Among, among_map, among_filter}
+use Rattle.model_laws.proofs.plain.Among.{Among, among_map, among_filter}
 use Rattle.model_laws.proofs.RequestStates.{marked, opening-is}
-use Rattle.history_laws.proofs.Opening.{is_of-among}
+use Rattle.model_laws.proofs.history_laws.Opening.{is_of-among}
 use Rattle.fleet_league.proofs.Reports.{NoneWaits}
 
 -- none waits where each that waited was marked

@@ -7,10 +7,10 @@ use Rattle.ride_model.specs.Settings.{IsSettings}
 use Rattle.ride_model.specs.State.{State, accepted_request}
 use Rattle.ride_model.specs.Vehicle.{IsRide, IsFresh, IsRouted, IsLawful, ride_ids}
 use Rattle.batch_commit.specs.Table.{IsPriceable}
-use Rattle.plain_lemmas.proofs.Among.{among_from_contains, among_map_back}
-use Rattle.plain_lemmas.proofs.Each.{of_all, all_of}
-use Rattle.history_laws.specs.Consistent.{HasPromised, promised_as}
-use Rattle.history_laws.proofs.EveryState.{consistent}
+use Rattle.model_laws.proofs.plain.Among.{among_from_contains, among_map_back}
+use Rattle.model_laws.proofs.plain.Each.{of_all, all_of}
+use Rattle.model_laws.specs.history_laws.Consistent.{HasPromised, promised_as}
+use Rattle.model_laws.proofs.history_laws.EveryState.{consistent}
 use Rattle.board_core.specs.Recorded.{Recorded, state_of}
 use Rattle.fleet_league.specs.Prices.{IsNewRide}
 use Rattle.fleet_league.proofs.Legality.{IsLegalBoard}

@@ -21,7 +21,7 @@ use Rattle.ride_model.specs.Seating.{BatchCopy, amount_ids, amount_of, has_amoun
 use Rattle.ride_model.specs.Vehicle.{ride_ids}
 use Rattle.batch_commit.specs.Answer.{CertifiesOverCells}
 use Rattle.batch_commit.specs.Table.{Table, IsTableOf, cell_at as offer_at}
-use Rattle.plain_lemmas.proofs.Among.{Among, among_from_contains, contains_from_among, among_map_back}
+use Rattle.model_laws.proofs.plain.Among.{Among, among_from_contains, contains_from_among, among_map_back}
 use Rattle.dual_check.specs.Cells.{GridCells, cell_at}
 use Rattle.dual_check.specs.Costs.{amounts_over}
 use Rattle.dual_check.specs.Grid.{column_of, CertifiesPairing}

@@ -2,10 +2,10 @@
 use Rattle.std.proofs.Common.{◌≡◌, ◌+◌}
 use Rattle.ride_model.specs.Fleet.{IsFleet}
 use Rattle.ride_model.specs.Legal.{IsLegal}
-use Rattle.history_laws.specs.Start.{IsStart, fed_total}
-use Rattle.history_laws.specs.Consistent.{IsConsistent}
-use Rattle.history_laws.proofs.EveryState.{any_id, consistent, legal_goes}
-use Rattle.history_laws.proofs.Invariant.{fleet_of}
+use Rattle.model_laws.specs.history_laws.Start.{IsStart, fed_total}
+use Rattle.model_laws.specs.history_laws.Consistent.{IsConsistent}
+use Rattle.model_laws.proofs.history_laws.EveryState.{any_id, consistent, legal_goes}
+use Rattle.model_laws.proofs.history_laws.Invariant.{fleet_of}
 use Rattle.board_core.specs.Recorded.{Recorded, state_of}
 
 -- a board's history is legal from a start

@@ -8,8 +8,8 @@ use Rattle.ride_model.specs.declared.vehicle.Ride.{Ride}
 use Rattle.ride_model.specs.Road.{RoadMap, IsRoadMap}
 use Rattle.ride_model.specs.Text.{IsSpelled, IsSpelledCommand}
 use Rattle.ride_model.specs.Vehicle.{IsRide, ride_ids}
-use Rattle.plain_lemmas.proofs.Among.{among_from_contains, contains_from_among}
-use Rattle.plain_lemmas.proofs.Each.{of_all, all_of}
+use Rattle.model_laws.proofs.plain.Among.{among_from_contains, contains_from_among}
+use Rattle.model_laws.proofs.plain.Each.{of_all, all_of}
 use Rattle.board_core.specs.Recorded.{Recorded, state_of}
 use Rattle.fleet_league.specs.declared.briefs.Brief.{Brief}
 use Rattle.fleet_league.specs.declared.briefs.Win.{Win}

@@ -11,8 +11,8 @@ use Rattle.ride_model.specs.Offers.{price}
 use Rattle.ride_model.specs.Road.{RoadMap, IsRoadMap}
 use Rattle.ride_model.specs.Seating.{BatchCopy, IsBatchOver}
 use Rattle.batch_commit.specs.Table.{Table, cell_at, IsLeastOffer, IsTableOf}
-use Rattle.plain_lemmas.proofs.Among.{Among, among_map_back, contains_from_among}
-use Rattle.plain_lemmas.proofs.Each.{all_of}
+use Rattle.model_laws.proofs.plain.Among.{Among, among_map_back, contains_from_among}
+use Rattle.model_laws.proofs.plain.Each.{all_of}
 use Rattle.dual_check.specs.Cells.{IsSmall}
 use Rattle.pricing_workers.proofs.SmallCosts.{small-costs}
 use Rattle.fleet_league.specs.Prices.{prices_by}

@@ -3,17 +3,17 @@ use Rattle.std.proofs.Common.{◌≡◌, ℕ, ◌+◌, Bool, true, false, not, c
 use Rattle.std.specs.Prelude.{option_map}
 use Rattle.std.proofs.lemmas.Bool.{eqb-true}
 use Rattle.std.proofs.lemmas.List.{length-map}
-use Rattle.plain_lemmas.proofs.Each.{all_of}
+use Rattle.model_laws.proofs.plain.Each.{all_of}
 use Rattle.ride_model.specs.declared.entry.Entry.{Entry}
 use Rattle.ride_model.specs.declared.vehicle.Vehicle.{Vehicle}
 use Rattle.ride_model.specs.Legal.{replay, versions_of, IsLegal}
 use Rattle.ride_model.specs.Seating.{vehicle_ids}
 use Rattle.ride_model.specs.State.{State}
-use Rattle.history_laws.specs.Consistent.{AreEarlier}
-use Rattle.history_laws.proofs.EveryState.{any_id, any_fine, consistent, history_goes, legal_goes}
-use Rattle.history_laws.proofs.Entries.{IsFineEvent}
+use Rattle.model_laws.specs.history_laws.Consistent.{AreEarlier}
+use Rattle.model_laws.proofs.history_laws.EveryState.{any_id, any_fine, consistent, history_goes, legal_goes}
+use Rattle.model_laws.proofs.history_laws.Entries.{IsFineEvent}
 use Rattle.model_laws.proofs.Histories.{replay-append, IsLegal-parts}
-use Rattle.history_laws.specs.Start.{fed_total}
+use Rattle.model_laws.specs.history_laws.Start.{fed_total}
 use Rattle.board_core.specs.Recorded.{Recorded, state_of}
 use Rattle.fleet_league.specs.declared.briefs.Brief.{Brief}
 use Rattle.fleet_league.specs.declared.briefs.Settled.TheVariants.{Confirmed, Timed}

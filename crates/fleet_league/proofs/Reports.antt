@@ -24,11 +24,11 @@ use Rattle.ride_model.specs.Road.{RoadMap, travel}
 use Rattle.ride_model.specs.State.{State, AcceptedRequest, accepted_request, placed_vehicle, start_state}
 use Rattle.ride_model.specs.Step.{Answered, is_node, cancel_by_state, cancel_found, cancel_step, freed, reported, report, report_driving, at_found, at_step, served_state, done_at_stop, done_found, done_step, duty_found, duty_step, clock_step, step}
 use Rattle.model_laws.proofs.RequestStates.{marked, marked-ride}
-use Rattle.history_laws.proofs.Changes.{find_request-map}
-use Rattle.history_laws.proofs.EveryState.{consistent}
-use Rattle.history_laws.proofs.Invariant.{find_request}
-use Rattle.history_laws.proofs.Others.{keeps_none}
-use Rattle.history_laws.proofs.Untouched.{leaves-step}
+use Rattle.model_laws.proofs.history_laws.Changes.{find_request-map}
+use Rattle.model_laws.proofs.history_laws.EveryState.{consistent}
+use Rattle.model_laws.proofs.history_laws.Invariant.{find_request}
+use Rattle.model_laws.proofs.history_laws.Others.{keeps_none}
+use Rattle.model_laws.proofs.history_laws.Untouched.{leaves-step}
 use Rattle.board_core.specs.Recorded.{Recorded, state_of, fed_entry}
 use Rattle.board_core.proofs.FedEntries.{fed_commands-append}
 use Rattle.board_core.proofs.OpenBatches.{state-push}

@@ -16,8 +16,8 @@ use Rattle.ride_model.specs.Road.{RoadMap, IsNode}
 use Rattle.ride_model.specs.State.{State, AcceptedRequest, accepted_request}
 use Rattle.ride_model.specs.Step.{Answered, is_node, with_accepted, request_step, step}
 use Rattle.ride_model.specs.Vehicle.{ride_ids}
-use Rattle.plain_lemmas.proofs.Among.{Among, among_map}
-use Rattle.plain_lemmas.proofs.Each.{of_all, all_of}
+use Rattle.model_laws.proofs.plain.Among.{Among, among_map}
+use Rattle.model_laws.proofs.plain.Each.{of_all, all_of}
 use Rattle.fleet_league.specs.declared.briefs.Win.{Win}
 use Rattle.fleet_league.specs.Prices.{IsNewRide}
 use Rattle.fleet_league.specs.Awards.{won_rides, request_of, request_entries}

@@ -7,7 +7,7 @@ use Rattle.std.proofs.lemmas.List.{get_or-map, length-map}
 use Rattle.std.proofs.lemmas.List.Filters.{sum_by-filter_both}
 use Rattle.std.proofs.lemmas.List.FromFn.{get_or-map-range_with_len}
 use Rattle.std.proofs.lemmas.List.Sums.{sum-map}
-use Rattle.plain_lemmas.proofs.Sums.{sum_by-map}
+use Rattle.model_laws.proofs.plain.Sums.{sum_by-map}
 use Rattle.dual_check.proofs.CertifiedPairings.{each-range}
 use Rattle.dual_check.proofs.DifferentIds.{same-place}
 use Rattle.dual_check.proofs.PairingParts.{row-of-column}

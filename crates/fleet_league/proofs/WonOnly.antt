@@ -23,7 +23,7 @@ use Rattle.ride_model.specs.Step.{Answered, ask_step, is_node, request_step, ste
 use Rattle.model_laws.specs.Requests.{is_of}
 use Rattle.model_laws.proofs.Histories.{replay-append}
 use Rattle.model_laws.proofs.RequestStates.{opening-is}
-use Rattle.history_laws.proofs.Untouched.{stays-outcomes}
+use Rattle.model_laws.proofs.history_laws.Untouched.{stays-outcomes}
 use Rattle.dual_check.specs.Grid.{pairing_cost}
 use Rattle.fleet_league.specs.declared.briefs.Brief.{Brief}
 use Rattle.fleet_league.specs.declared.briefs.Win.{Win}

@@ -7,3 +7,4 @@ pub mod Winning
 pub mod Filling
 pub mod Restriction
 pub mod Round
+pub mod league_session

@@ -8,6 +8,7 @@ mod briefs;
 mod company;
 mod confirming;
 pub mod laws;
+pub mod league_session;
 mod quotes;
 mod quoting;
 mod rounds;

@@ -1,7 +1,7 @@
 -- What the reader has taken after one more line, and what the text gives then.
 use Rattle.std.proofs.Common.{◌≡◌, ◌≢◌, false, ℕ, ◌+◌, ◌<◌, ◌≤◌, Option, Some, None, IfSome, List, [], ◌∷◌, ◌++◌, length, Result, Ok, Err, MatchResult, refl, ap, sym, ◌∙◌, arith}
 use Rattle.std.proofs.lemmas.List.{length_push}
-use Rattle.plain_lemmas.proofs.Lists.{some_bytes}
+use Rattle.line_text.proofs.TextLemmas.{some_bytes}
 use Rattle.line_text.specs.Fields.{words_of}
 use Rattle.line_text.specs.Lines.{ended_lines}
 use Rattle.line_text.specs.Reading.{AreFirst, GoesOn, counted_lines}

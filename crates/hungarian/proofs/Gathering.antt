@@ -7,9 +7,9 @@ use Rattle.std.proofs.lemmas.List.{map-id, append-nil, get_or-map}
 use Rattle.std.proofs.lemmas.List.Elements.{filter_map-append}
 use Rattle.std.proofs.lemmas.List.FromFn.{map-range_with_len_more}
 use Rattle.std.proofs.lemmas.Map.Keys.{IsDistinct-head, IsDistinct-tail}
-use Rattle.plain_lemmas.proofs.Each.{each-filter, each-weaker}
-use Rattle.plain_lemmas.proofs.Options.{none_from_not_some}
-use Rattle.plain_lemmas.proofs.Filters.{filter-same}
+use Rattle.model_laws.proofs.plain.Each.{each-filter, each-weaker}
+use Rattle.model_laws.proofs.plain.Options.{none_from_not_some}
+use Rattle.model_laws.proofs.plain.Filters.{filter-same}
 use Rattle.dual_check.specs.Orders.{item_of, has_item, StandsInOrder}
 use Rattle.dual_check.proofs.ItemOrders.{map-agree}
 

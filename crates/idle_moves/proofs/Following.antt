@@ -5,7 +5,7 @@ use Rattle.std.specs.List.{IsDistinct}
 use Rattle.std.proofs.lemmas.List.{append-nil, length-map}
 use Rattle.std.proofs.lemmas.List.Elements.{All-map, All-weaker}
 use Rattle.std.proofs.lemmas.List.Sums.{count_by-le-length}
-use Rattle.plain_lemmas.proofs.Each.{of_all}
+use Rattle.model_laws.proofs.plain.Each.{of_all}
 use Rattle.ride_model.specs.declared.command.Actor.{Actor}
 use Rattle.ride_model.specs.declared.command.Actor.TheVariants.{Feed, Desk}
 use Rattle.ride_model.specs.declared.entry.Entry.{Entry}
@@ -21,11 +21,11 @@ use Rattle.ride_model.specs.State.{State, open_batch_numbered}
 use Rattle.ride_model.specs.Vehicle.{ride_ids}
 use Rattle.model_laws.proofs.Histories.{IsLegal-parts, replay-push}
 use Rattle.model_laws.proofs.RequestStates.{abandon-is, opening-is}
-use Rattle.history_laws.specs.Start.{IsStart, fed_total, is_fed}
-use Rattle.history_laws.specs.Consistent.{IsConsistent, IsOpenBatch}
-use Rattle.history_laws.proofs.EveryState.{consistent}
-use Rattle.history_laws.proofs.Leaving.{open_batch}
-use Rattle.history_laws.proofs.Unmoved.{vehicles_differ}
+use Rattle.model_laws.specs.history_laws.Start.{IsStart, fed_total, is_fed}
+use Rattle.model_laws.specs.history_laws.Consistent.{IsConsistent, IsOpenBatch}
+use Rattle.model_laws.proofs.history_laws.EveryState.{consistent}
+use Rattle.model_laws.proofs.history_laws.Leaving.{open_batch}
+use Rattle.model_laws.proofs.history_laws.Unmoved.{vehicles_differ}
 use Rattle.idle_moves.specs.Raises.{HasRoom, after_entries, after_event, after_outcomes, raised_if, raises_in, vehicle_changed}
 use Rattle.idle_moves.proofs.Commits.{commit-rises}
 use Rattle.idle_moves.proofs.Steps.{step-rises}

@@ -8,7 +8,7 @@ use Rattle.std.proofs.lemmas.List.{get_or-map, length-map}
 use Rattle.std.proofs.lemmas.List.Elements.{All-from_recursion, recursion_from_All}
 use Rattle.std.proofs.lemmas.Map.Keys.{IsDistinct-head, IsDistinct-tail}
 use Rattle.std.proofs.lemmas.Option.{same_Some}
-use Rattle.plain_lemmas.proofs.Numbers.{eqb-comm}
+use Rattle.model_laws.proofs.plain.Numbers.{eqb-comm}
 use Rattle.indexmap.specs.IndexMap.{insert_entry, set_value_at}
 use Rattle.ride_model.specs.declared.vehicle.Vehicle.{Vehicle}
 use Rattle.ride_model.specs.Legal.{versions_of}

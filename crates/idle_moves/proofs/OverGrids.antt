@@ -14,7 +14,7 @@ use Rattle.road_times.specs.Turned.{travel_by}
 use Rattle.dual_check.specs.Cells.{GridCells}
 use Rattle.dual_check.specs.Grid.{CertifiesPairing, IsLeastPairing}
 use Rattle.dual_check.proofs.ItemOrders.{map-map}
-use Rattle.history_laws.proofs.Raised.{length-filter-le}
+use Rattle.model_laws.proofs.history_laws.Raised.{length-filter-le}
 use Rattle.idle_moves.specs.declared.moves.MoveSheet.{MoveSheet}
 use Rattle.idle_moves.specs.declared.standby.Standby.{Standby}
 use Rattle.idle_moves.specs.Sheet.{IsSheet, IsSheetOver, Shows, left_out, stands_by, standing_by, times_grid, within}

@@ -1,7 +1,7 @@
 -- Legs, read from the times near a ride.
 use Rattle.std.proofs.Common.{◌≡◌, ℕ, zero, suc, ◌-◌, ◌<◌, ◌≤◌, List, [], ◌∷◌, length, get_or, refl, ◌∙◌, ap, arith}
 use Rattle.std.specs.Prelude.{Option, Some}
-use Rattle.plain_lemmas.proofs.Numbers.{suc-less_one}
+use Rattle.model_laws.proofs.plain.Numbers.{suc-less_one}
 use Rattle.insertion.specs.declared.near.NearStop.{NearStop}
 use Rattle.insertion.specs.Joined.{leg_before, leg_after}
 

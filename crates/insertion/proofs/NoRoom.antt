@@ -4,8 +4,8 @@ use Rattle.std.specs.Prelude.{map, sum_by, insert, is_some, Contains, Option, So
 use Rattle.std.specs.List.{AllByRecursion, list_all, range_with_len}
 use Rattle.std.proofs.lemmas.Bool.{and_parts, eq-eqb, eqb-true}
 use Rattle.std.proofs.lemmas.List.Sums.{sum_by-append, sum_by-cons}
-use Rattle.plain_lemmas.proofs.Among.{Among, contains_from_among}
-use Rattle.plain_lemmas.proofs.Each.{each-take}
+use Rattle.model_laws.proofs.plain.Among.{Among, contains_from_among}
+use Rattle.model_laws.proofs.plain.Each.{each-take}
 use Rattle.ride_model.specs.declared.settings.Settings.{Settings}
 use Rattle.ride_model.specs.declared.vehicle.Load.{Load}
 use Rattle.ride_model.specs.declared.vehicle.Ride.{Ride}

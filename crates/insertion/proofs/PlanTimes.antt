@@ -2,7 +2,7 @@
 use Rattle.std.proofs.Common.{◌≡◌, ℕ, zero, suc, ◌+◌, ◌-◌, ◌<◌, ◌≤◌, List, [], ◌∷◌, length, get_or, refl, ◌∙◌, ap, arith}
 use Rattle.std.specs.Prelude.{Some, None, unwrap_or}
 use Rattle.std.specs.List.{last_or}
-use Rattle.plain_lemmas.proofs.Numbers.{suc-less_one}
+use Rattle.model_laws.proofs.plain.Numbers.{suc-less_one}
 use Rattle.ride_model.specs.declared.vehicle.Vehicle.{Vehicle}
 use Rattle.ride_model.specs.Times.{times_of, drive_of}
 use Rattle.ride_model.specs.Offers.{start_of}

@@ -14,8 +14,8 @@ use Rattle.ride_model.specs.Road.{IsRoadMap}
 use Rattle.ride_model.specs.State.{State, AcceptedRequest, accepted_request, request_state}
 use Rattle.ride_model.specs.Text.{IsSpelledCommand}
 use Rattle.ride_model.specs.Vehicle.{IsLawful, IsRoutedSomewhere, ride_ids}
-use Rattle.plain_lemmas.proofs.Among.{Among}
-use Rattle.plain_lemmas.proofs.Each.{of_all, all_of}
+use Rattle.model_laws.proofs.plain.Among.{Among}
+use Rattle.model_laws.proofs.plain.Each.{of_all, all_of}
 use Rattle.board_core.specs.Recorded.{Recorded, state_of}
 use Rattle.board_core.proofs.OpenBatches.{fed-le}
 use Rattle.city_maker.specs.Fleets.{default_settings}

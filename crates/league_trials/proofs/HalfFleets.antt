@@ -11,9 +11,9 @@ use Rattle.ride_model.specs.Fleet.{IsFleet, MayStart}
 use Rattle.ride_model.specs.Road.{RoadMap}
 use Rattle.ride_model.specs.Seating.{vehicle_ids}
 use Rattle.ride_model.specs.Vehicle.{IsLawful}
-use Rattle.plain_lemmas.proofs.Among.{among_filter_back}
-use Rattle.plain_lemmas.proofs.Each.{of_all, all_of}
-use Rattle.plain_lemmas.proofs.Lists.{distinct-filter}
+use Rattle.model_laws.proofs.plain.Among.{among_filter_back}
+use Rattle.model_laws.proofs.plain.Each.{of_all, all_of}
+use Rattle.model_laws.proofs.plain.Lists.{distinct-filter}
 use Rattle.league_trials.specs.Sides.{has_rest, half_of}
 
 -- what holds of each vehicle holds of the half

@@ -12,8 +12,8 @@ use Rattle.ride_model.specs.State.{State}
 use Rattle.dual_check.specs.Cells.{GridCells}
 use Rattle.dual_check.specs.Costs.{amounts_over}
 use Rattle.dual_check.specs.Grid.{column_of}
-use Rattle.history_laws.specs.Start.{IsStart}
-use Rattle.history_laws.proofs.EveryState.{consistent}
+use Rattle.model_laws.specs.history_laws.Start.{IsStart}
+use Rattle.model_laws.proofs.history_laws.EveryState.{consistent}
 use Rattle.board_core.specs.Recorded.{Recorded, state_of}
 use Rattle.fleet_league.specs.Awards.{AreOfOneState, IsCertifiedOver}
 use Rattle.fleet_league.specs.declared.quotes.Quote.{Quote}

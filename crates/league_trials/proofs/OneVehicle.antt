@@ -22,7 +22,7 @@ use Rattle.fleet_league.specs.declared.briefs.Brief.{Brief}
 use Rattle.fleet_league.specs.declared.briefs.Win.{Win}
 use Rattle.fleet_league.specs.declared.quotes.Quote.{Quote}
 use Rattle.fleet_league.specs.Prices.{IsNewRide, prices_of}
-use Rattle.trial_town.proofs.IdleVehicle.{may-start}
+use Rattle.plan_trials.proofs.trial_town.IdleVehicle.{may-start}
 use Rattle.league_trials.specs.OneVehicle.{IsNewCompany, IsOneVehicle, IsOneVehicleFleet, IsQuoteOf, IsTownNode, IsTownRide, one_price, won_alone}
 
 -- the one cell of a grid

@@ -9,9 +9,9 @@ use Rattle.ride_model.specs.Vehicle.{IsLawful, IsRide}
 use Rattle.dual_check.specs.declared.paired.Paired.{Paired}
 use Rattle.fleet_league.specs.declared.briefs.Brief.{Brief}
 use Rattle.fleet_league.specs.declared.quotes.Quote.{Quote}
-use Rattle.league_session.specs.League.{round_columns, round_rows}
+use Rattle.fleet_league.specs.league_session.League.{round_columns, round_rows}
 use Rattle.fleet_league.specs.Round.{IsRound, company_prices}
-use Rattle.league_session.specs.RoundParts.{brief_of}
+use Rattle.fleet_league.specs.league_session.RoundParts.{brief_of}
 
 -- a ride that waits, fits every map of so many nodes, and whose request has a text of the first version
 pub record IsRideOf (nodes : ℕ) (ride : Ride) : Type 0 where

@@ -14,7 +14,7 @@ use adaptive_roads::Roads;
 use board_core::{Board, Totals};
 use city_maker::{City, CityPlan, make_city};
 use fleet_league::{Brief, NoMemory, Quote, settle};
-use league_session::part_of;
+use fleet_league::league_session::part_of;
 use log_audit::{Verdict, audit};
 use ride_model::{Command, Entry, Fleet, Reply, Ride, Settings};
 use ride_ports::{MemSink, MemSource};

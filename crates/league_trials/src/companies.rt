@@ -119,7 +119,7 @@ fn try_new<R: Threads + Sync + Abort + AllocGlobal>(rt: &R, roads: &Roads, trial
 
 #[test]
 fn companies_of_one_vehicle(rt: HostRuntime) {
-    let Ok(roads) = trial_town::roads(rt.alloc()) else {
+    let Ok(roads) = plan_trials::trial_town::roads(rt.alloc()) else {
         panic!(&rt; "there is memory");
     };
     try_new(&rt, &roads, Trial::Moves);

@@ -60,7 +60,7 @@ pub(crate) fn company_of<'r>(
     ensures new { IfOk result IsNewCompany }
     ensures roads { IfOk result (λ company. company.board.start.roads ≡ roads.now) }
 {
-    Company::new(alloc, roads, trial_town::settings(1), fleet)
+    Company::new(alloc, roads, plan_trials::trial_town::settings(1), fleet)
 }
 
 /// The company of the town's fleet.
@@ -69,7 +69,7 @@ pub(crate) fn company<'r>(alloc: Global, roads: &'r Roads) -> Result<Company<'r>
     ensures new { IfOk result IsNewCompany }
     ensures roads { IfOk result (λ company. company.board.start.roads ≡ roads.now) }
 {
-    let fleet = trial_town::fleet(alloc, roads)?;
+    let fleet = plan_trials::trial_town::fleet(alloc, roads)?;
     company_of(alloc, roads, fleet)
 }
 

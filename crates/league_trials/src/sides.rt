@@ -8,7 +8,7 @@ ghost use Rattle.board_core.specs.Recorded.{state_of};
 ghost use Rattle.city_maker.specs.Fleets.{default_settings};
 ghost use Rattle.fleet_league.specs.Companies.{is_report, report_count};
 ghost use Rattle.fleet_league.specs.Winning.{MayPlay, MayWin};
-ghost use Rattle.league_session.specs.LeagueBoards.{IsSound};
+ghost use Rattle.fleet_league.specs.league_session.LeagueBoards.{IsSound};
 ghost use Rattle.fleet_league.specs.Prices.{quote_of};
 ghost use Rattle.fleet_league.specs.Round.{IsPriced};
 ghost use Rattle.league_trials.specs.Sides.{IsFreshRide, IsRideOf};

@@ -76,7 +76,7 @@ fn quote_of_town<R: Threads + Sync>(
     requires rides { AreTownRides rides.now }
     ensures { IfOk result IsQuoteOfTwo }
 {
-    let fleet = trial_town::fleet(alloc, roads)?;
+    let fleet = plan_trials::trial_town::fleet(alloc, roads)?;
     quote_of(rt, alloc, roads, fleet, rides)
 }
 
@@ -199,7 +199,7 @@ fn far() -> Case {
 
 #[test]
 fn rides_are_seated_over_three_companies(rt: HostRuntime) {
-    let Ok(roads) = trial_town::roads(rt.alloc()) else {
+    let Ok(roads) = plan_trials::trial_town::roads(rt.alloc()) else {
         panic!(&rt; "there is memory");
     };
     let rides = [ride(6, 2, 1), ride(7, 1, 2)];

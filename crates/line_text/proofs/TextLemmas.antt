@@ -1,5 +1,5 @@
 -- What a text gives, from what its first bytes give.
-use Rattle.std.proofs.Common.{◌≡◌, ℕ, ◌+◌, ◌<◌, ◌≤◌, suc, nat_lt, true, false, cond, List, [], ◌∷◌, ◌++◌, length, take, Result, Ok, Err, refl, ap, ◌∙◌, length-append, arith, lt-ltb, le-ltb}
+use Rattle.std.proofs.Common.{◌≡◌, ◌≢◌, ℕ, ◌+◌, ◌<◌, ◌≤◌, suc, nat_lt, true, false, cond, List, [], ◌∷◌, ◌++◌, length, take, Result, Ok, Err, refl, ap, ◌∙◌, length-append, arith, lt-ltb, le-ltb}
 use Rattle.std.proofs.lemmas.List.{take_at}
 use Rattle.line_text.specs.Lines.{ended_lines, lines_of}
 use Rattle.line_text.specs.Reading.{AreFirst, counted_lines}
@@ -68,3 +68,8 @@ text_value-too_long {S} {V} {E} format state front more full some is =
 pub text_value-taken : {S V E : Type 0} (format : Format S V E) (state : S) (bytes : List ℕ) → length bytes ≤ format.most →
     after_lines format 1 format.start (lines_of bytes) ≡ Ok state → text_value format bytes ≡ format.finish state
 text_value-taken {S} {V} {E} format state bytes short is = rw (le-ltb format.most (length bytes) short, is) refl
+
+-- a text that is not empty has a byte
+pub some_bytes : (bytes : List ℕ) → bytes ≢ [] → 0 < length bytes
+some_bytes [] some = absurd (some refl)
+some_bytes (byte ∷ bytes) some = omega arith

@@ -4,3 +4,5 @@ pub mod Numbers
 pub mod Fields
 pub mod Texts
 pub mod Reading
+pub mod line_reader
+pub mod text_page

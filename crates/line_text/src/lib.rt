@@ -4,8 +4,10 @@
 
 mod cutter;
 mod fields;
+pub mod line_reader;
 mod numbers;
 mod reading;
+pub mod text_page;
 
 pub use cutter::{Cut, LineCutter};
 pub use fields::{Fields, words_of};

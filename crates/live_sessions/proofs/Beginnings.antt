@@ -11,7 +11,7 @@ use Rattle.ride_model.specs.Limits.{most_earlier_commands}
 use Rattle.ride_model.specs.Road.{RoadMap}
 use Rattle.ride_model.specs.State.{State, has_ended, open_batch_of, start_state}
 use Rattle.ride_ports.specs.declared.outcome.Ran.{Ran}
-use Rattle.history_laws.specs.Start.{IsStart}
+use Rattle.model_laws.specs.history_laws.Start.{IsStart}
 use Rattle.board_core.specs.Recorded.{Recorded, state_of}
 use Rattle.live_sessions.specs.Resuming.{HasResumed, IsResumed, MayGoOn, still_feeds}
 use Rattle.live_sessions.specs.Serving.{FeedRun, HasNotServed, IsServed}

@@ -8,7 +8,7 @@ use Rattle.ride_model.specs.declared.entry.Event.{Event}
 use Rattle.ride_model.specs.declared.entry.Event.TheVariants.{Fed, Finish, Opened, Committed, Abandoned}
 use Rattle.ride_model.specs.History.{command_of, entries_of, fed_commands}
 use Rattle.ride_model.specs.State.{is_actor}
-use Rattle.history_laws.specs.Start.{is_fed}
+use Rattle.model_laws.specs.history_laws.Start.{is_fed}
 
 -- as many as are the feed's and answer one
 pub count-fed : (feed : ℕ) (entries : List Entry)

@@ -16,15 +16,15 @@ use Rattle.ride_model.specs.Legal.{after_entry, replay, IsLegal, IsLegalEvent, I
 use Rattle.ride_model.specs.Seating.{BatchCopy}
 use Rattle.ride_model.specs.State.{State, is_actor, open_batch_numbered}
 use Rattle.ride_ports.specs.declared.outcome.Ran.{Ran}
-use Rattle.plain_lemmas.proofs.Among.{Among}
-use Rattle.plain_lemmas.proofs.Each.{of_all}
+use Rattle.model_laws.proofs.plain.Among.{Among}
+use Rattle.model_laws.proofs.plain.Each.{of_all}
 use Rattle.model_laws.proofs.Histories.{IsLegal-parts}
-use Rattle.history_laws.specs.Consistent.{IsConsistent, IsOpenBatch}
-use Rattle.history_laws.specs.Finishing.{gives_up, has_whole_end, is_whole_end}
-use Rattle.history_laws.specs.Start.{IsStart, fed_total}
-use Rattle.history_laws.proofs.Effects.{effect, ends_in}
-use Rattle.history_laws.proofs.EveryState.{consistent}
-use Rattle.history_laws.proofs.Leaving.{open_batch}
+use Rattle.model_laws.specs.history_laws.Consistent.{IsConsistent, IsOpenBatch}
+use Rattle.model_laws.specs.history_laws.Finishing.{gives_up, has_whole_end, is_whole_end}
+use Rattle.model_laws.specs.history_laws.Start.{IsStart, fed_total}
+use Rattle.model_laws.proofs.history_laws.Effects.{effect, ends_in}
+use Rattle.model_laws.proofs.history_laws.EveryState.{consistent}
+use Rattle.model_laws.proofs.history_laws.Leaving.{open_batch}
 use Rattle.board_core.specs.Recorded.{end_entry}
 use Rattle.fleet_board.specs.Passes.{Known, actor_of}
 use Rattle.fleet_board.specs.Sets.{IsPartOf}

@@ -4,7 +4,7 @@ use Rattle.std.specs.Prelude.{find, ◌==◌}
 use Rattle.std.proofs.lemmas.Bool.{eqb-true}
 use Rattle.ride_model.specs.Seating.{BatchCopy}
 use Rattle.ride_model.specs.State.{State, is_batch, open_batch_numbered, open_batch_of}
-use Rattle.plain_lemmas.proofs.Among.{found_among}
+use Rattle.model_laws.proofs.plain.Among.{found_among}
 
 -- the first batch of a desk is the first of that desk and its own number
 found-numbered : (desk : ℕ) (batches : List BatchCopy) (batch : BatchCopy) → find (λ (b : BatchCopy). b.desk == desk) batches ≡ Some batch

@@ -7,7 +7,7 @@ use Rattle.ride_model.specs.Text.{entry_lines}
 use Rattle.ride_ports.specs.Bytes.{WritesPrefix}
 use Rattle.ride_ports.specs.Count.{KeepsCount}
 use Rattle.ride_ports.specs.declared.sources.Failed.{Failed}
-use Rattle.text_page.proofs.OutputLemmas.{put-failed, put-line, put-line_failed}
+use Rattle.line_text.proofs.text_page.OutputLemmas.{put-failed, put-line, put-line_failed}
 use Rattle.session_loops.specs.declared.scribes.Scribed.{Scribed}
 use Rattle.live_sessions.specs.Actors.{HasToldSome, bare}
 use Rattle.session_loops.specs.Loops.{HasScribed, HasScribedSome}

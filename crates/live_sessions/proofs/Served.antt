@@ -7,15 +7,15 @@ use Rattle.ride_model.specs.Legal.{IsLegal}
 use Rattle.ride_model.specs.Text.{HasText, entry_lines, head_line, text_of}
 use Rattle.ride_ports.specs.declared.outcome.Ran.{Ran}
 use Rattle.ride_ports.specs.declared.sources.Failed.{Failed}
-use Rattle.line_reader.specs.FeedRuns.{IsReadWhole}
-use Rattle.line_reader.specs.Limits.{IsTooLong}
+use Rattle.line_text.specs.line_reader.FeedRuns.{IsReadWhole}
+use Rattle.line_text.specs.line_reader.Limits.{IsTooLong}
 use Rattle.command_lines.specs.Limits.{limits_of}
-use Rattle.history_laws.specs.Start.{IsStart}
+use Rattle.model_laws.specs.history_laws.Start.{IsStart}
 use Rattle.board_core.specs.Recorded.{Recorded}
 use Rattle.turn_lock.specs.Passes.{knowledge}
 use Rattle.fleet_board.specs.Passes.{root_of}
 use Rattle.fleet_board.specs.Turns.{as_began}
-use Rattle.text_page.specs.Output.{HasPut, OutputState}
+use Rattle.line_text.specs.text_page.Output.{HasPut, OutputState}
 use Rattle.session_loops.specs.declared.scribes.Scribed.{Scribed}
 use Rattle.live_sessions.specs.declared.actors.Actors.{Actors}
 use Rattle.live_sessions.specs.declared.actors.Answers.{Answers}

@@ -15,12 +15,12 @@ use Rattle.ride_model.specs.Text.{IsOneOrTwo}
 use Rattle.ride_ports.specs.Count.{KeepsCount}
 use Rattle.ride_ports.specs.declared.outcome.Ran.{Ran}
 use Rattle.ride_ports.proofs.Counts.{KeepsCount-none}
-use Rattle.line_reader.specs.FeedRuns.{IsReadWhole}
-use Rattle.line_reader.specs.Limits.{IsTooLong}
+use Rattle.line_text.specs.line_reader.FeedRuns.{IsReadWhole}
+use Rattle.line_text.specs.line_reader.Limits.{IsTooLong}
 use Rattle.command_lines.specs.declared.forms.FeedForm.{FeedForm}
 use Rattle.command_lines.specs.Limits.{limits_of}
 use Rattle.model_laws.proofs.Histories.{IsLegal-parts}
-use Rattle.history_laws.specs.Finishing.{gives_up, has_whole_end, is_whole_end}
+use Rattle.model_laws.specs.history_laws.Finishing.{gives_up, has_whole_end, is_whole_end}
 use Rattle.board_core.specs.Recorded.{Recorded, state_of}
 use Rattle.turn_lock.specs.Passes.{knowledge}
 use Rattle.fleet_board.specs.declared.shared.SharedBoard.{SharedBoard}

@@ -18,7 +18,7 @@ use Rattle.batch_commit.specs.Table.{IsPriceable}
 use Rattle.fleet_board.specs.Passes.{AddsNone, IsPoint, commands_in, root_of}
 use Rattle.fleet_board.specs.Roles.{MayCommit, MayFeed, MayOpen}
 use Rattle.fleet_board.specs.Sharing.{MayUse}
-use Rattle.text_page.specs.Output.{HasPut, OutputState}
+use Rattle.line_text.specs.text_page.Output.{HasPut, OutputState}
 use Rattle.session_loops.specs.declared.scribes.Scribed.{Scribed}
 use Rattle.session_loops.specs.Loops.{RunsDesk, RunsFeed}
 use Rattle.live_sessions.specs.declared.desk_pairs.Desk.{Desk}

@@ -12,7 +12,7 @@ use Rattle.ride_model.specs.State.{State, has_ended, open_batch_of}
 use Rattle.ride_model.specs.Legal.{IsNumbered, replay}
 use Rattle.ride_model.specs.Text.{text_of}
 use Rattle.ride_ports.specs.declared.outcome.Ran.{Ran}
-use Rattle.line_reader.specs.Limits.{IsTooLong}
+use Rattle.line_text.specs.line_reader.Limits.{IsTooLong}
 use Rattle.command_lines.specs.declared.forms.FeedForm.{FeedForm}
 use Rattle.command_lines.specs.Limits.{limits_of, most_lines}
 use Rattle.board_core.specs.Recorded.{Recorded, state_of}

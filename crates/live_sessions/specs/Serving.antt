@@ -14,13 +14,13 @@ use Rattle.ride_ports.specs.declared.outcome.Ran.{Ran}
 use Rattle.ride_ports.specs.Bytes.{Reads, Writes, WritesPrefix}
 use Rattle.ride_ports.specs.Count.{Rose}
 use Rattle.command_lines.specs.Feeds.{IsWhole}
-use Rattle.line_reader.specs.Limits.{IsTooLong}
+use Rattle.line_text.specs.line_reader.Limits.{IsTooLong}
 use Rattle.command_lines.specs.declared.forms.FeedForm.{FeedForm}
 use Rattle.command_lines.specs.Limits.{ended_commands, feed_limits, limits_of, new_feed}
-use Rattle.history_laws.specs.Start.{IsStart}
+use Rattle.model_laws.specs.history_laws.Start.{IsStart}
 use Rattle.board_core.specs.Recorded.{end_entry}
 use Rattle.session_loops.specs.Loops.{AreFed}
-use Rattle.line_reader.specs.FeedRuns.{IsReadWhole}
+use Rattle.line_text.specs.line_reader.FeedRuns.{IsReadWhole}
 use Rattle.session_loops.specs.Stops.{AreFirstOf}
 
 -- a feed of a session, before and after it: the bytes that its source has left, and the faults that it counts

@@ -11,14 +11,14 @@ use Rattle.ride_model.specs.State.{has_ended, open_batch_of}
 use Rattle.ride_model.specs.Text.{HasText}
 use Rattle.ride_ports.specs.declared.outcome.Ran.{Ran}
 use Rattle.ride_ports.specs.declared.sources.Failed.{Failed}
-use Rattle.history_laws.specs.Start.{IsStart}
+use Rattle.model_laws.specs.history_laws.Start.{IsStart}
 use Rattle.board_core.specs.Recorded.{Recorded, state_of}
 use Rattle.turn_lock.specs.Passes.{knowledge}
 use Rattle.fleet_board.specs.declared.shared.SharedBoard.{SharedBoard}
 use Rattle.fleet_board.specs.Passes.{IsPoint, root_of}
 use Rattle.fleet_board.specs.Sets.{IsBack, IsNewPass, IsPartOf, one_if_some}
 use Rattle.fleet_board.specs.Turns.{as_began}
-use Rattle.text_page.specs.Output.{IsFresh}
+use Rattle.line_text.specs.text_page.Output.{IsFresh}
 use Rattle.live_sessions.specs.declared.actors.Actors.{Actors}
 use Rattle.live_sessions.specs.declared.actors.Answers.{Answers}
 use Rattle.live_sessions.specs.declared.desk_pairs.Desk.{Desk}

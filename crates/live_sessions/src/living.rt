@@ -6,7 +6,7 @@ ghost use Rattle.ride_model.specs.declared.entry.Entry.{Entry};
 ghost use Rattle.ride_model.specs.History.{fed_commands};
 ghost use Rattle.ride_model.specs.State.{is_actor};
 ghost use Rattle.command_lines.specs.Limits.{most_lines};
-ghost use Rattle.history_laws.specs.Start.{is_fed};
+ghost use Rattle.model_laws.specs.history_laws.Start.{is_fed};
 ghost use Rattle.live_sessions.specs.Resuming.{HaveFewCommands, breaks_off, is_broken_off};
 ghost use Rattle.live_sessions.specs.Stages.{AreLiving, IsFeedStart};
 

@@ -4,7 +4,7 @@ ghost use Rattle.ride_model.specs.declared.entry.Entry.{Entry};
 ghost use Rattle.ride_model.specs.Text.{HasLine, IsOneOrTwo, entry_lines};
 ghost use Rattle.ride_model.specs.Limits.{most_workers};
 ghost use Rattle.ride_ports.specs.Count.{KeepsCount, most_count};
-ghost use Rattle.text_page.specs.Output.{HasPut, IsFresh};
+ghost use Rattle.line_text.specs.text_page.Output.{HasPut, IsFresh};
 ghost use Rattle.session_loops.specs.declared.scribes.Scribed.{Scribed};
 ghost use Rattle.live_sessions.specs.Actors.{bare};
 ghost use Rattle.live_sessions.specs.Resuming.{IsResumed, MayGoOn, is_broken_off};
@@ -24,7 +24,7 @@ use session_loops::{Scribed, put_all, put_head};
 use std::alloc::Global;
 use std::sync::Wait;
 use std::thread::Threads;
-use text_page::Output;
+use line_text::text_page::Output;
 
 /// What a session goes on from: a board as it stands, the batches that its desks have open, and how many workers each has.
 #[derive(Drop)]

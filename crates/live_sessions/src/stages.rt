@@ -15,7 +15,7 @@ use fleet_board::{ActorPass, PassSet, SharedBoard};
 use pricing_workers::Pricer;
 use ride_model::NoMemory;
 use std::alloc::Global;
-use text_page::Output;
+use line_text::text_page::Output;
 
 /// A board, its actors, and its log on the way out, with what the log's head names.
 #[derive(Drop)]

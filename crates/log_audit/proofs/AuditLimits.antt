@@ -9,11 +9,11 @@ use Rattle.ride_model.specs.Legal.{IsLegal, IsNumbered}
 use Rattle.ride_model.specs.State.{State}
 use Rattle.ride_model.specs.Text.{HasText, text_of}
 use Rattle.command_lines.specs.Limits.{feed_limits}
-use Rattle.history_laws.specs.Start.{IsStart}
-use Rattle.limit_laws.proofs.FedCommands.{few-fed}
-use Rattle.limit_laws.proofs.Tallies.{few-entries}
-use Rattle.limit_laws.proofs.TextLines.{count-lines, each-line}
-use Rattle.limit_laws.proofs.Texts.{text-le}
+use Rattle.model_laws.specs.history_laws.Start.{IsStart}
+use Rattle.trip_log.proofs.limit_laws.FedCommands.{few-fed}
+use Rattle.trip_log.proofs.limit_laws.Tallies.{few-entries}
+use Rattle.trip_log.proofs.limit_laws.TextLines.{count-lines, each-line}
+use Rattle.trip_log.proofs.limit_laws.Texts.{text-le}
 use Rattle.board_core.specs.declared.board.totals.Totals.{Totals}
 use Rattle.board_core.specs.Totals.{AreTotalsOf}
 use Rattle.log_audit.specs.declared.verdict.AuditFault.{AuditFault}

@@ -9,16 +9,16 @@ use Rattle.ride_model.specs.declared.entry.Entry.{Entry}
 use Rattle.ride_model.specs.Legal.{IsLegal}
 use Rattle.ride_model.specs.State.{State}
 use Rattle.ride_model.specs.Text.{HasLine, HasText, IsOneOrTwo, entry_line, head_line, line_of, text_of}
-use Rattle.history_laws.specs.Start.{IsStart}
+use Rattle.model_laws.specs.history_laws.Start.{IsStart}
 use Rattle.board_core.specs.Recorded.{Recorded, state_of}
 use Rattle.log_audit.specs.declared.auditor.Auditor.{Auditor}
 use Rattle.log_audit.specs.declared.fault.Fault.{Fault}
 use Rattle.trip_log.specs.declared.reading.Head.{Head}
 use Rattle.trip_log.proofs.ReadLemmas.{for_one_or_two}
 use Rattle.trip_log.proofs.TextLemmas.{texts-same}
-use Rattle.line_reader.specs.declared.answers.NextLine.{NextLine}
-use Rattle.line_reader.specs.declared.answers.NextLine.TheVariants.{Line, Unfinished, End}
-use Rattle.line_reader.specs.Reader.{HasNoLf, ReaderState}
+use Rattle.line_text.specs.declared.line_reader.answers.NextLine.{NextLine}
+use Rattle.line_text.specs.declared.line_reader.answers.NextLine.TheVariants.{Line, Unfinished, End}
+use Rattle.line_text.specs.line_reader.Reader.{HasNoLf, ReaderState}
 use Rattle.log_audit.specs.declared.verdict.AuditFault.{AuditFault}
 use Rattle.log_audit.specs.declared.verdict.AuditFault.TheVariants.{ReadFault, TooLong, NoMemory}
 use Rattle.log_audit.specs.declared.verdict.Verdict.{Verdict}

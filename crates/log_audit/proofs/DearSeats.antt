@@ -12,11 +12,11 @@ use Rattle.ride_model.specs.Road.{RoadMap}
 use Rattle.ride_model.specs.Offers.{price}
 use Rattle.ride_model.specs.Vehicle.{ride_ids}
 use Rattle.ride_model.specs.Seating.{BatchCopy, find_ride, find_vehicle, has_seat, seat_offer, seat_cost, amount_of, IsCovered, Certifies}
-use Rattle.plain_lemmas.proofs.Among.{contains_from_among}
+use Rattle.model_laws.proofs.plain.Among.{contains_from_among}
 use Rattle.model_laws.proofs.Certificates.{sum-amounts, sum-amounts-le, each_capped, seat_facts}
 use Rattle.model_laws.proofs.CoveredPairs.{prices-le-cost}
 use Rattle.model_laws.proofs.OfferPrices.{price-le-cost}
-use Rattle.plain_lemmas.proofs.Sums.{sum_by-map}
+use Rattle.model_laws.proofs.plain.Sums.{sum_by-map}
 
 -- the price of a seat's pair
 abbrev pub pair_price : RoadMap → BatchCopy → Seat → ℕ

@@ -12,10 +12,10 @@ use Rattle.ride_model.specs.declared.entry.Entry.{Entry}
 use Rattle.ride_model.specs.State.{State}
 use Rattle.ride_model.specs.Legal.{replay}
 use Rattle.ride_model.specs.Text.{entry_line}
-use Rattle.history_laws.specs.Start.{IsStart}
+use Rattle.model_laws.specs.history_laws.Start.{IsStart}
 use Rattle.trip_log.specs.Cuts.{front_of}
 use Rattle.trip_log.proofs.TextLemmas.{cut-text, rest-text}
-use Rattle.line_reader.specs.Reader.{HasNoLf, ReaderState}
+use Rattle.line_text.specs.line_reader.Reader.{HasNoLf, ReaderState}
 use Rattle.log_audit.specs.declared.verdict.AuditFault.TheVariants.{ReadFault, TooLong}
 use Rattle.board_core.specs.declared.board.totals.Totals.{Totals}
 use Rattle.log_audit.specs.declared.verdict.Verdict.TheVariants.{Yes, No}

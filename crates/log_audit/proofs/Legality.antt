@@ -16,8 +16,8 @@ use Rattle.ride_model.specs.Seating.{BatchCopy, IsSeating, Certifies, seating_co
 use Rattle.ride_model.specs.State.{State, open_batch_numbered}
 use Rattle.ride_model.specs.Vehicle.{ride_ids}
 use Rattle.model_laws.proofs.Certificates.{certified_is_least}
-use Rattle.history_laws.specs.Start.{IsStart}
-use Rattle.history_laws.proofs.EveryState.{consistent}
+use Rattle.model_laws.specs.history_laws.Start.{IsStart}
+use Rattle.model_laws.proofs.history_laws.EveryState.{consistent}
 use Rattle.board_core.proofs.OpenBatches.{open-batch}
 use Rattle.log_audit.specs.declared.verdict.Why.{Why}
 use Rattle.log_audit.specs.declared.verdict.Why.TheVariants.{Spelling, Actor as ToActor, Reply as ToReply, Batch as ToBatch, Seating as ToSeating, Prices as ToPrices, Outcomes as ToOutcomes}

@@ -7,13 +7,13 @@ use Rattle.ride_ports.specs.Bytes.{Reads}
 use Rattle.ride_ports.proofs.ByteLemmas.{Reads-none, Reads-then, Reads-told}
 use Rattle.line_text.specs.Lines.{ended_lines, last_line, rest_of}
 use Rattle.line_text.proofs.LineLemmas.{lines-grow}
-use Rattle.line_reader.specs.declared.answers.NextLine.{NextLine}
-use Rattle.line_reader.specs.declared.answers.NextLine.TheVariants.{Line, Unfinished, End}
-use Rattle.line_reader.specs.declared.answers.ReadStop.TheVariants.{SourceFailed as ReadFailed, TooLong as ReadTooLong}
-use Rattle.line_reader.specs.declared.limits.Limits.{Limits}
-use Rattle.line_reader.specs.Limits.{IsWithinLimits, lines_within as lines_in}
-use Rattle.line_reader.specs.Reader.{ReaderState, IsNext as IsNextText, IsAtEnd as IsAtEndText, IsStopped}
-use Rattle.line_reader.proofs.LineParts.{lines-within}
+use Rattle.line_text.specs.declared.line_reader.answers.NextLine.{NextLine}
+use Rattle.line_text.specs.declared.line_reader.answers.NextLine.TheVariants.{Line, Unfinished, End}
+use Rattle.line_text.specs.declared.line_reader.answers.ReadStop.TheVariants.{SourceFailed as ReadFailed, TooLong as ReadTooLong}
+use Rattle.line_text.specs.declared.line_reader.limits.Limits.{Limits}
+use Rattle.line_text.specs.line_reader.Limits.{IsWithinLimits, lines_within as lines_in}
+use Rattle.line_text.specs.line_reader.Reader.{ReaderState, IsNext as IsNextText, IsAtEnd as IsAtEndText, IsStopped}
+use Rattle.line_text.proofs.line_reader.LineParts.{lines-within}
 use Rattle.log_audit.specs.declared.verdict.AuditFault.TheVariants.{ReadFault, TooLong}
 use Rattle.log_audit.specs.Limits.{most_bytes, most_lines, IsTooLong, lines_within, log_limits}
 use Rattle.log_audit.specs.LogLines.{HasRead, IsAtEnd, IsNext, IsStop, TakesSome}

@@ -9,7 +9,7 @@ use Rattle.ride_model.specs.Legal.{IsLegal, IsLegalEntry, replay}
 use Rattle.ride_model.specs.State.{State}
 use Rattle.ride_model.specs.Text.{HasLine, IsOneOrTwo, actor_field, event_fields, entry_line, entry_lines, head_line, text_of}
 use Rattle.model_laws.proofs.Histories.{IsLegal-parts}
-use Rattle.history_laws.specs.Start.{IsStart}
+use Rattle.model_laws.specs.history_laws.Start.{IsStart}
 use Rattle.trip_log.proofs.TextLemmas.{lines-go_on, texts-go_on, texts-same}
 use Rattle.board_core.proofs.FewOutcomes.{first-legal}
 use Rattle.log_audit.specs.declared.verdict.AuditFault.{AuditFault}

@@ -16,12 +16,12 @@ use Rattle.ride_model.specs.State.{State, has_ended, is_batch, open_batch_of, op
 use Rattle.ride_model.specs.Text.{IsOneOrTwo}
 use Rattle.batch_commit.specs.Solved.{SolvedBatch}
 use Rattle.batch_commit.specs.Table.{IsPriceable}
-use Rattle.plain_lemmas.proofs.Among.{Among, found_among}
+use Rattle.model_laws.proofs.plain.Among.{Among, found_among}
 use Rattle.model_laws.proofs.RequestStates.{others-opening, abandon-is}
-use Rattle.history_laws.proofs.Untouched.{leaves-step, stays-outcomes}
-use Rattle.history_laws.specs.Start.{IsStart}
-use Rattle.history_laws.proofs.EveryState.{consistent}
-use Rattle.history_laws.proofs.Lookups.{found_by}
+use Rattle.model_laws.proofs.history_laws.Untouched.{leaves-step, stays-outcomes}
+use Rattle.model_laws.specs.history_laws.Start.{IsStart}
+use Rattle.model_laws.proofs.history_laws.EveryState.{consistent}
+use Rattle.model_laws.proofs.history_laws.Lookups.{found_by}
 use Rattle.trip_log.proofs.ReadLemmas.{for_one_or_two}
 use Rattle.board_core.specs.Recorded.{Recorded, state_of, fed_entry, end_entry, opened_entry, committed_entry, abandoned_entry}
 use Rattle.board_core.proofs.Closed.{find-without}

@@ -6,7 +6,7 @@ use Rattle.line_text.specs.Lines.{ended_lines, rest_of}
 use Rattle.ride_model.specs.Legal.{replay}
 use Rattle.ride_model.specs.State.{State, open_batch_of}
 use Rattle.ride_model.specs.Text.{IsOneOrTwo}
-use Rattle.history_laws.specs.Start.{IsStart}
+use Rattle.model_laws.specs.history_laws.Start.{IsStart}
 use Rattle.trip_log.proofs.TextLemmas.{texts-same}
 use Rattle.log_audit.specs.declared.auditor.Auditor.{Auditor}
 use Rattle.log_audit.specs.declared.fault.Fault.{Fault}

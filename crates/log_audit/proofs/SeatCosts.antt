@@ -9,7 +9,7 @@ use Rattle.ride_model.specs.declared.vehicle.Ride.{Ride}
 use Rattle.ride_model.specs.Road.{RoadMap}
 use Rattle.ride_model.specs.Seating.{BatchCopy, has_seat, seat_cost, seat_offer, seating_cost, vehicle_ids}
 use Rattle.ride_model.specs.Vehicle.{ride_ids}
-use Rattle.history_laws.proofs.Raised.{length-filter-le}
+use Rattle.model_laws.proofs.history_laws.Raised.{length-filter-le}
 use Rattle.log_audit.specs.declared.seating.Placed.{Placed}
 use Rattle.log_audit.specs.Seated.{IsPlaced, ArePlaced}
 use Rattle.log_audit.proofs.OwnCells.{of-seat, cost-of-seat, no_place}

@@ -4,8 +4,8 @@ use Rattle.ride_model.specs.declared.entry.Entry.{Entry}
 use Rattle.ride_model.specs.Legal.{IsLegal, IsLegalEntry, replay}
 use Rattle.ride_model.specs.State.{State}
 use Rattle.ride_model.specs.Text.{HasLine, entry_line}
-use Rattle.history_laws.specs.Start.{IsStart}
-use Rattle.limit_laws.proofs.Texts.{next-line-le}
+use Rattle.model_laws.specs.history_laws.Start.{IsStart}
+use Rattle.trip_log.proofs.limit_laws.Texts.{next-line-le}
 use Rattle.log_audit.specs.Limits.{most_line}
 
 pub legal-short : (feeds desks : ℕ) (start : State) (entries : List Entry) (entry : Entry) → IsStart start → IsLegal feeds desks start entries

@@ -6,8 +6,8 @@ use Rattle.std.proofs.lemmas.List.{drop_more, map-append, take-append-drop, take
 use Rattle.std.proofs.lemmas.Map.Keys.{IsDistinct-head, IsDistinct-tail}
 use Rattle.std.proofs.lemmas.Bool.{or_parts}
 use Rattle.ride_model.specs.declared.offer.Seat.{Seat}
-use Rattle.plain_lemmas.proofs.Among.{Among, among_map, among_map_back}
-use Rattle.plain_lemmas.proofs.Lists.{distinct-push}
+use Rattle.model_laws.proofs.plain.Among.{Among, among_map, among_map_back}
+use Rattle.model_laws.proofs.plain.Lists.{distinct-push}
 
 abbrev pub vehicles_of : List Seat → List ℕ
 vehicles_of seats = map (λ (seat : Seat). seat.vehicle) seats

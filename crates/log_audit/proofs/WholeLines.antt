@@ -9,7 +9,7 @@ use Rattle.ride_model.specs.declared.entry.Entry.{Entry}
 use Rattle.ride_model.specs.Text.{HasLine, IsOneOrTwo, actor_field, event_fields, entry_line, entry_lines, head_line, text_of}
 use Rattle.trip_log.proofs.CutLemmas.{Avoids, all-joined, first-same}
 use Rattle.trip_log.proofs.SolidLemmas.{avoids-decimal, solid-entry, solids-avoid}
-use Rattle.line_reader.specs.Reader.{HasNoLf}
+use Rattle.line_text.specs.line_reader.Reader.{HasNoLf}
 
 -- bytes without LF have no byte that is one
 pub no_lf-avoids : (bytes : List ℕ) → HasNoLf bytes → Avoids 10 bytes

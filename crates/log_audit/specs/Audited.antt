@@ -6,7 +6,7 @@ use Rattle.ride_model.specs.Text.{IsOneOrTwo, head_line, text_of}
 use Rattle.board_core.specs.Recorded.{Recorded}
 use Rattle.ride_ports.specs.Bytes.{Reads}
 use Rattle.trip_log.specs.declared.reading.Head.{Head}
-use Rattle.line_reader.specs.Reader.{ReaderState}
+use Rattle.line_text.specs.line_reader.Reader.{ReaderState}
 use Rattle.log_audit.specs.declared.verdict.Why.{Why}
 use Rattle.log_audit.specs.Audit.{HasNoHead, IsWrongLine, IsWrongNext}
 use Rattle.log_audit.specs.Limits.{Counts, IsTooLong}

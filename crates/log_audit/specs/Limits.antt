@@ -1,7 +1,7 @@
 -- The limits of a log.
 use Rattle.std.specs.Prelude.{ℕ, ◌≤◌, min, List, length, take}
-use Rattle.line_reader.specs.declared.limits.Limits.{Limits}
-use Rattle.line_reader.specs.Limits.{IsTooLong as IsTooLongFor}
+use Rattle.line_text.specs.declared.line_reader.limits.Limits.{Limits}
+use Rattle.line_text.specs.line_reader.Limits.{IsTooLong as IsTooLongFor}
 use Rattle.line_text.specs.Lines.{ended_lines}
 
 -- the most bytes of a line without its LF, the most bytes of a log, and its most lines

@@ -1,8 +1,8 @@
 -- What is read of a log, line by line.
 use Rattle.std.specs.Prelude.{◌≡◌, ◌≢◌, ℕ, ◌≤◌, nat_lt, List, [], ◌∷◌, ◌++◌, length, take, Option, IfSome}
-use Rattle.line_reader.specs.declared.answers.NextLine.{NextLine}
-use Rattle.line_reader.specs.declared.answers.NextLine.TheVariants.{Line, Unfinished, End}
-use Rattle.line_reader.specs.Reader.{HasGiven, HasNoLf, ReaderState}
+use Rattle.line_text.specs.declared.line_reader.answers.NextLine.{NextLine}
+use Rattle.line_text.specs.declared.line_reader.answers.NextLine.TheVariants.{Line, Unfinished, End}
+use Rattle.line_text.specs.line_reader.Reader.{HasGiven, HasNoLf, ReaderState}
 use Rattle.line_text.specs.Lines.{ended_lines}
 use Rattle.ride_ports.specs.Bytes.{Reads}
 use Rattle.log_audit.specs.declared.verdict.AuditFault.{AuditFault}

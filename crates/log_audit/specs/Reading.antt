@@ -1,7 +1,7 @@
 -- How the reading of a log ends.
 use Rattle.std.specs.Prelude.{◌≡◌, ◌≢◌, ℕ, ◌+◌, ◌<◌, ⊤, List, [], length, Option, IfSome, Err}
 use Rattle.ride_model.specs.State.{State}
-use Rattle.line_reader.specs.Reader.{ReaderState}
+use Rattle.line_text.specs.line_reader.Reader.{ReaderState}
 use Rattle.log_audit.specs.declared.auditor.Auditor.{Auditor}
 use Rattle.log_audit.specs.declared.fault.Fault.{Fault}
 use Rattle.log_audit.specs.declared.reading.Ended.{Ended}

@@ -1,6 +1,6 @@
 -- What a log gives back that may end anywhere.
 use Rattle.std.specs.Prelude.{◌≡◌, ℕ, ◌<◌, ◌≤◌, ◌⊎◌, List, ◌++◌, length, Result, Ok, Err}
-use Rattle.line_reader.specs.Reader.{HasNoLf}
+use Rattle.line_text.specs.line_reader.Reader.{HasNoLf}
 use Rattle.line_text.specs.Lines.{ended_lines}
 use Rattle.ride_model.specs.State.{State, open_batch_of}
 use Rattle.board_core.specs.Recorded.{state_of}

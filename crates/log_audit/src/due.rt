@@ -1,6 +1,6 @@
 //! The line that was due where a log's first wrong line stands.
 ghost use Rattle.std.specs.Prelude.{◌≡◌, ◌≢◌, ℕ, ◌++◌, ◌∷◌, [], List, Option, Ok, Err, IfOk, IfSome, IsSomeAnd, IsTrue};
-ghost use Rattle.history_laws.specs.Start.{IsStart};
+ghost use Rattle.model_laws.specs.history_laws.Start.{IsStart};
 ghost use Rattle.ride_model.specs.declared.entry.Entry.{Entry};
 ghost use Rattle.ride_model.specs.Fleet.{MayStart};
 ghost use Rattle.ride_model.specs.State.{State, start_state};

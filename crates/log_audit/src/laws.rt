@@ -7,7 +7,7 @@ ghost use Rattle.ride_model.specs.Legal.{IsLegal, IsLegalEntry, IsNumbered, repl
 ghost use Rattle.ride_model.specs.State.{State};
 ghost use Rattle.ride_model.specs.Text.{HasText, text_of};
 ghost use Rattle.command_lines.specs.Limits.{feed_limits};
-ghost use Rattle.history_laws.specs.Start.{IsStart};
+ghost use Rattle.model_laws.specs.history_laws.Start.{IsStart};
 ghost use Rattle.board_core.specs.declared.board.totals.Totals.{Totals};
 ghost use Rattle.board_core.specs.Totals.{AreTotalsOf};
 ghost use Rattle.log_audit.specs.declared.verdict.AuditFault.{AuditFault};

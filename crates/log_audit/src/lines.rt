@@ -5,7 +5,7 @@ ghost use Rattle.log_audit.specs.Audit.{is_read_fault};
 ghost use Rattle.log_audit.specs.LogLines.{HasRead, IsNext, IsStop, TakesSome};
 
 use crate::AuditFault;
-use line_reader::{Limits, LineReader, NextLine, ReadStop};
+use line_text::line_reader::{Limits, LineReader, NextLine, ReadStop};
 use ride_model::NoMemory;
 use ride_ports::Source;
 use std::alloc::Global;

@@ -1,7 +1,7 @@
 //! Logs, read up to their end or their first wrong line.
 ghost use Rattle.std.specs.Prelude.{◌≡◌, ◌≢◌, ℕ, ◌<◌, ◌++◌, ◌∷◌, [], nat_lt, length, take, List, Option, IfOk, IfNone, IfSome, MatchOption, MatchResult};
-ghost use Rattle.history_laws.specs.Start.{IsStart};
-ghost use Rattle.line_reader.specs.Reader.{HasNoLf};
+ghost use Rattle.model_laws.specs.history_laws.Start.{IsStart};
+ghost use Rattle.line_text.specs.line_reader.Reader.{HasNoLf};
 ghost use Rattle.ride_model.specs.Fleet.{MayStart};
 ghost use Rattle.ride_model.specs.State.{start_state};
 ghost use Rattle.ride_model.specs.Text.{IsOneOrTwo, head_line};
@@ -18,7 +18,7 @@ use crate::fault::Fault;
 use crate::lines::{log_reader, next_line};
 use crate::{AuditFault, Why};
 use adaptive_roads::Roads;
-use line_reader::{LineReader, NextLine};
+use line_text::line_reader::{LineReader, NextLine};
 use pricing_workers::Search;
 use ride_model::{Fleet, NoMemory, Settings};
 use ride_ports::Source;

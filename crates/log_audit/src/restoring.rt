@@ -1,6 +1,6 @@
 //! Boards that are restored from logs which may end anywhere.
 ghost use Rattle.std.specs.Prelude.{◌≡◌, ◌≢◌, ℕ, [], List, Option, Result, Ok, Err, IfSome};
-ghost use Rattle.history_laws.specs.Start.{IsStart};
+ghost use Rattle.model_laws.specs.history_laws.Start.{IsStart};
 ghost use Rattle.ride_model.specs.Fleet.{MayStart};
 ghost use Rattle.ride_model.specs.State.{State, start_state};
 ghost use Rattle.ride_ports.specs.Count.{KeepsCount};

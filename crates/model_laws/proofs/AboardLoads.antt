@@ -5,7 +5,7 @@ use Rattle.std.specs.List.{filter, AllByRecursion, list_all, range_with_len, sum
 use Rattle.std.proofs.lemmas.Bool.{eqb-true, eq-eqb, and_from, and_parts}
 use Rattle.std.proofs.lemmas.List.Sums.{sum_by-cons}
 use Rattle.std.proofs.lemmas.List.{take-map, length-map}
-use Rattle.plain_lemmas.proofs.Numbers.{same_or_less, eqb-other}
+use Rattle.model_laws.proofs.plain.Numbers.{same_or_less, eqb-other}
 use Rattle.ride_model.specs.declared.vehicle.Load.{Load}
 use Rattle.ride_model.specs.declared.vehicle.Ride.{Ride}
 use Rattle.ride_model.specs.declared.vehicle.Stop.{Stop}

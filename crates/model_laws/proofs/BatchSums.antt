@@ -12,10 +12,10 @@ use Rattle.ride_model.specs.declared.vehicle.Vehicle.{Vehicle}
 use Rattle.ride_model.specs.Road.{RoadMap, IsRoadMap}
 use Rattle.ride_model.specs.Vehicle.{IsRide, IsRouted, IsFresh, ride_ids}
 use Rattle.ride_model.specs.Seating.{BatchCopy, IsBatchOver, seat_offer, has_seat, IsSeating, seat_cost, seating_cost}
-use Rattle.plain_lemmas.proofs.Among.{contains_from_among}
+use Rattle.model_laws.proofs.plain.Among.{contains_from_among}
 use Rattle.model_laws.proofs.Certificates.{seat_facts}
 use Rattle.model_laws.proofs.Costs.{cost-lt}
-use Rattle.plain_lemmas.proofs.Sums.{sum_by-le-times}
+use Rattle.model_laws.proofs.plain.Sums.{sum_by-le-times}
 
 seat-cost-lt : (roads : RoadMap) (batch : BatchCopy) (seat : Seat) → IsRoadMap roads → IsBatchOver roads batch
     → IsSome (seat_offer roads batch seat) → seat_cost roads batch seat ≤ 2 ^ 42

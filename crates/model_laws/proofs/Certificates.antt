@@ -16,10 +16,10 @@ use Rattle.ride_model.specs.Road.{RoadMap}
 use Rattle.ride_model.specs.Vehicle.{ride_ids}
 use Rattle.ride_model.specs.Offers.{offer_of}
 use Rattle.ride_model.specs.Seating.{BatchCopy, find_ride, find_vehicle, seat_offer, has_seat, IsSeating, seat_cost, IsLeastSeating, amount_ids, amount_of, IsCovered, Certifies}
-use Rattle.plain_lemmas.proofs.Among.{Among, contains_from_among, found_among}
+use Rattle.model_laws.proofs.plain.Among.{Among, contains_from_among, found_among}
 use Rattle.model_laws.proofs.OfferPrices.{price-le-cost}
 use Rattle.model_laws.proofs.CoveredPairs.{prices-le-cost}
-use Rattle.plain_lemmas.proofs.Sums.{sum_by-map}
+use Rattle.model_laws.proofs.plain.Sums.{sum_by-map}
 
 -- the amount of an id, by the first item
 pub amount-cons : (id amount : ℕ) (amounts : List (ℕ × ℕ)) (q : ℕ)

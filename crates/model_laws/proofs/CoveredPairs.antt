@@ -4,8 +4,8 @@ use Rattle.std.specs.Prelude.{map}
 use Rattle.std.specs.List.{filter, sum_by, AllByRecursion}
 use Rattle.std.proofs.lemmas.List.{length-map}
 use Rattle.std.proofs.lemmas.List.Filters.{length-filter_both, sum_by-filter_both}
-use Rattle.plain_lemmas.proofs.Sums.{sum_by-le-each, sum_by-add, sum_by-map, sum_by-le-times}
-use Rattle.plain_lemmas.proofs.Each.{each-filter}
+use Rattle.model_laws.proofs.plain.Sums.{sum_by-le-each, sum_by-add, sum_by-map, sum_by-le-times}
+use Rattle.model_laws.proofs.plain.Each.{each-filter}
 
 -- the core of weak duality: of some rows each has a pair; prices of rows are at most the penalty, and at most a pair's cost
 -- and its column's payment; the columns' payments are at most a total. Then the prices are at most the pairs' costs, the

@@ -11,8 +11,8 @@ use Rattle.ride_model.specs.declared.vehicle.Vehicle.{Vehicle}
 use Rattle.ride_model.specs.Road.{RoadMap}
 use Rattle.ride_model.specs.Vehicle.{IsRide, visits_due, visit_of, stops_of, ride_ids, IsFresh, IsPlanFor, IsRouted}
 use Rattle.ride_model.specs.Insertion.{routed, pickup_of, dropoff_of, stops_with, with_plan, inserted, stops_without}
-use Rattle.plain_lemmas.proofs.Among.{Among, among_from_contains, contains_from_among}
-use Rattle.plain_lemmas.proofs.Each.{each-append, each-take, each-drop}
+use Rattle.model_laws.proofs.plain.Among.{Among, among_from_contains, contains_from_among}
+use Rattle.model_laws.proofs.plain.Each.{each-append, each-take, each-drop}
 use Rattle.model_laws.proofs.Routes.{routed-has_legs}
 use Rattle.model_laws.proofs.PlanStops.{unlegged-routed, plan-same}
 use Rattle.model_laws.proofs.AboardLoads.{filter-kept, filter-skipped}

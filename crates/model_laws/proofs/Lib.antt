@@ -14,3 +14,4 @@ pub mod Walks
 pub mod TravelTimes
 pub mod Starts
 pub mod FewRides
+pub mod plain

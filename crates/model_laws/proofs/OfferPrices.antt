@@ -9,8 +9,8 @@ use Rattle.ride_model.specs.declared.vehicle.Vehicle.{Vehicle}
 use Rattle.ride_model.specs.Road.{RoadMap}
 use Rattle.ride_model.specs.Insertion.{inserted}
 use Rattle.ride_model.specs.Offers.{is_open, offer_of_plan, offer_of, place_pairs, offers, price}
-use Rattle.plain_lemmas.proofs.Among.{Among, among_map}
-use Rattle.plain_lemmas.proofs.Numbers.{same_or_less}
+use Rattle.model_laws.proofs.plain.Among.{Among, among_map}
+use Rattle.model_laws.proofs.plain.Numbers.{same_or_less}
 use Rattle.model_laws.proofs.Walks.{least_is_least}
 
 -- what a filter_map keeps

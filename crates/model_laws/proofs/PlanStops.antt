@@ -13,10 +13,10 @@ use Rattle.ride_model.specs.Road.{RoadMap, travel, IsNode}
 use Rattle.ride_model.specs.Vehicle.{visits_due, visit_of, stops_of, ride_ids, IsPlanFor, IsRide, IsLawful}
 use Rattle.ride_model.specs.Insertion.{routed, stops_without, rides_without}
 use Rattle.ride_model.specs.declared.vehicle.Vehicle.{Vehicle}
-use Rattle.plain_lemmas.proofs.Among.{Among, among_from_contains, contains_from_among, among_map, among_map_back, among_filter}
-use Rattle.plain_lemmas.proofs.Each.{of_all}
-use Rattle.plain_lemmas.proofs.Lists.{distinct-filter}
-use Rattle.plain_lemmas.proofs.Numbers.{eqb-other}
+use Rattle.model_laws.proofs.plain.Among.{Among, among_from_contains, contains_from_among, among_map, among_map_back, among_filter}
+use Rattle.model_laws.proofs.plain.Each.{of_all}
+use Rattle.model_laws.proofs.plain.Lists.{distinct-filter}
+use Rattle.model_laws.proofs.plain.Numbers.{eqb-other}
 use Rattle.model_laws.proofs.Routes.{with_leg}
 
 -- stops without their legs

@@ -4,7 +4,7 @@ use Rattle.std.specs.Prelude.{map, Option, Some, None, option_map, find, â—Œ==â—
 use Rattle.std.proofs.Common.{arith}
 use Rattle.std.proofs.lemmas.Bool.{eqb-true}
 use Rattle.std.specs.List.{filter}
-use Rattle.plain_lemmas.proofs.Numbers.{eqb-comm}
+use Rattle.model_laws.proofs.plain.Numbers.{eqb-comm}
 use Rattle.ride_model.specs.declared.reply.RequestState.{RequestState}
 use Rattle.ride_model.specs.declared.reply.RequestState.TheVariants.{Waiting, InBatch}
 use Rattle.ride_model.specs.declared.vehicle.Ride.{Ride}

@@ -4,6 +4,7 @@
 pub mod batches;
 pub mod duality;
 pub mod history;
+pub mod history_laws;
 pub mod offers;
 pub mod plans;
 pub mod travel;

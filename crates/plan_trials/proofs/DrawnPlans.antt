@@ -15,8 +15,8 @@ use Rattle.ride_model.specs.Insertion.{inserted}
 use Rattle.ride_model.specs.Offers.{start_of, is_open, cost_of, joins_of, offer_of_plan, offer_of}
 use Rattle.ride_model.specs.Road.{RoadMap, IsNode}
 use Rattle.ride_model.specs.Vehicle.{IsRide, IsFresh, IsLawful, HasLegs, ride_ids}
-use Rattle.plain_lemmas.proofs.Among.{Among, among_from_contains, among_map_back}
-use Rattle.plain_lemmas.proofs.Each.{of_each, of_all}
+use Rattle.model_laws.proofs.plain.Among.{Among, among_from_contains, among_map_back}
+use Rattle.model_laws.proofs.plain.Each.{of_each, of_all}
 use Rattle.model_laws.proofs.Insertions.{inserted_facts}
 use Rattle.model_laws.proofs.PlanStops.{stop-of-ride, stop-at-node}
 use Rattle.stop_plans.specs.Change.{InsertsInto}

@@ -2,7 +2,7 @@
 use Rattle.std.proofs.Common.{◌≡◌, ℕ, true, ◌&&◌, List, [], ◌∷◌, eqb, leb, leb-true, refl, sym, ◌∙◌, ap, arith}
 use Rattle.std.specs.Prelude.{map, Option, Some, None, is_none}
 use Rattle.std.proofs.lemmas.Bool.{and_parts}
-use Rattle.plain_lemmas.proofs.Options.{none_from_is_none}
+use Rattle.model_laws.proofs.plain.Options.{none_from_is_none}
 use Rattle.ride_model.specs.declared.settings.Settings.{Settings}
 use Rattle.ride_model.specs.declared.vehicle.Ride.{Ride}
 use Rattle.ride_model.specs.declared.vehicle.Stop.{Stop}

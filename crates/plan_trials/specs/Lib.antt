@@ -3,3 +3,6 @@ pub mod OneRide
 pub mod LineRoad
 pub mod NearPlaces
 pub mod NearInLine
+pub mod worked_rows
+pub mod trial_town
+pub mod roads

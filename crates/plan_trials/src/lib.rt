@@ -11,8 +11,12 @@ pub mod line_road;
 #[cfg(test)]
 mod offers;
 #[cfg(test)]
+mod roads;
+#[cfg(test)]
 mod slack;
 #[cfg(test)]
 mod stops;
+pub mod trial_town;
 #[cfg(test)]
 mod values;
+pub mod worked_rows;

@@ -7,7 +7,7 @@ use Rattle.ride_model.specs.declared.vehicle.Stop.{Stop}
 use Rattle.ride_model.specs.declared.vehicle.Vehicle.{Vehicle}
 use Rattle.ride_model.specs.Road.{RoadMap, IsNode}
 use Rattle.ride_model.specs.Vehicle.{IsLawful}
-use Rattle.plain_lemmas.proofs.Each.{each-among}
+use Rattle.model_laws.proofs.plain.Each.{each-among}
 use Rattle.model_laws.proofs.PlanStops.{stop-at-node}
 use Rattle.pricing_workers.specs.Wanted.{nodes_of, all_nodes}
 

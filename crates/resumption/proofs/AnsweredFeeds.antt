@@ -15,9 +15,9 @@ use Rattle.ride_model.specs.declared.entry.Ending.{Ending}
 use Rattle.ride_model.specs.declared.entry.Ending.TheVariants.{Whole}
 use Rattle.ride_model.specs.declared.entry.Entry.{Entry}
 use Rattle.model_laws.proofs.Histories.{replay-append}
-use Rattle.history_laws.proofs.Others.{in_range}
+use Rattle.model_laws.proofs.history_laws.Others.{in_range}
 use Rattle.line_text.specs.Lines.{ended_after, rest_after}
-use Rattle.line_reader.specs.Limits.{IsWithinLimits}
+use Rattle.line_text.specs.line_reader.Limits.{IsWithinLimits}
 use Rattle.command_lines.specs.Limits.{limits_of}
 use Rattle.board_core.specs.Recorded.{Recorded}
 use Rattle.live_sessions.specs.Resuming.{IsFeedAfter, IsResumed, form_after, still_feeds}

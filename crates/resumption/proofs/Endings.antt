@@ -7,7 +7,7 @@ use Rattle.ride_ports.specs.Count.{Rose}
 use Rattle.ride_ports.specs.declared.outcome.Ran.{Ran}
 use Rattle.ride_model.specs.State.{State}
 use Rattle.ride_model.specs.declared.entry.Entry.{Entry}
-use Rattle.line_reader.specs.Limits.{IsTooLong, IsWithinLimits}
+use Rattle.line_text.specs.line_reader.Limits.{IsTooLong, IsWithinLimits}
 use Rattle.ride_ports.specs.Bytes.{Reads}
 use Rattle.board_core.specs.Recorded.{Recorded}
 use Rattle.command_lines.specs.declared.forms.FeedForm.{FeedForm}

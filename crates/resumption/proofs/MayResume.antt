@@ -1,7 +1,7 @@
 -- A session may go on from what a log gave back.
 use Rattle.std.proofs.Common.{◌≡◌, ℕ, ◌≤◌, List, length, ap, sym, subst, arith}
-use Rattle.plain_lemmas.proofs.Lists.{length-filter_map-le}
-use Rattle.history_laws.proofs.Raised.{length-filter-le}
+use Rattle.model_laws.proofs.plain.Lists.{length-filter_map-le}
+use Rattle.model_laws.proofs.history_laws.Raised.{length-filter-le}
 use Rattle.ride_model.specs.declared.command.Actor.TheVariants.{Feed}
 use Rattle.ride_model.specs.declared.entry.Entry.{Entry}
 use Rattle.ride_model.specs.History.{command_of, entries_of, fed_commands}

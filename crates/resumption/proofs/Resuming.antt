@@ -3,7 +3,7 @@ use Rattle.std.proofs.Common.{◌≡◌, ◌⊎◌, inl, inr, ℕ, ◌+◌, List
 use Rattle.std.specs.Prelude.{length}
 use Rattle.std.proofs.lemmas.List.{append_assoc}
 use Rattle.std.proofs.lemmas.List.Elements.{All-append}
-use Rattle.plain_lemmas.proofs.Each.{all_of_one, all_of_two}
+use Rattle.model_laws.proofs.plain.Each.{all_of_one, all_of_two}
 use Rattle.ride_ports.specs.Bytes.{Reads}
 use Rattle.ride_ports.specs.Contents.{Contents, GivenBack}
 use Rattle.ride_ports.specs.Count.{Rose}

@@ -5,8 +5,8 @@ use Rattle.ride_ports.specs.Count.{Rose}
 use Rattle.ride_ports.specs.Status.{status_of}
 use Rattle.ride_ports.specs.declared.outcome.Ran.{Ran}
 use Rattle.ride_model.specs.declared.entry.Ending.TheVariants.{Whole}
-use Rattle.line_reader.specs.Limits.{IsWithinLimits}
-use Rattle.line_reader.specs.declared.limits.Limits.{Limits}
+use Rattle.line_text.specs.line_reader.Limits.{IsWithinLimits}
+use Rattle.line_text.specs.declared.line_reader.limits.Limits.{Limits}
 use Rattle.command_lines.specs.Limits.{limits_of}
 use Rattle.board_core.specs.Recorded.{Recorded}
 use Rattle.live_sessions.specs.Resuming.{IsResumed, form_after, still_feeds}

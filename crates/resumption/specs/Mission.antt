@@ -8,7 +8,7 @@ use Rattle.ride_model.specs.Legal.{IsLegal}
 use Rattle.ride_model.specs.Promises.{KeepsPromises}
 use Rattle.ride_model.specs.State.{State}
 use Rattle.ride_model.specs.Text.{text_of}
-use Rattle.line_reader.specs.Reader.{HasNoLf}
+use Rattle.line_text.specs.line_reader.Reader.{HasNoLf}
 use Rattle.command_lines.specs.Commands.{commands_of}
 use Rattle.live_sessions.specs.Resuming.{still_feeds}
 use Rattle.run_words.specs.Resumptions.{GoingOn, resumption_files}

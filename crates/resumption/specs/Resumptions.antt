@@ -2,7 +2,7 @@
 use Rattle.std.specs.Prelude.{◌≡◌, ◌⊎◌, ℕ, true, List, [], ◌∷◌, ◌++◌, length, map, All, Option, IfSome, Result, Ok}
 use Rattle.ride_ports.specs.Contents.{Contents, GivenBack}
 use Rattle.ride_ports.specs.Count.{Rose}
-use Rattle.line_reader.specs.Limits.{IsWithinLimits}
+use Rattle.line_text.specs.line_reader.Limits.{IsWithinLimits}
 use Rattle.board_core.specs.Recorded.{Recorded}
 use Rattle.log_audit.specs.Restored.{IsRestoration}
 use Rattle.log_audit.specs.declared.restoring.Restored.{Restored}

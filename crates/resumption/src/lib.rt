@@ -3,6 +3,7 @@
 
 mod feeds;
 mod logs;
+pub mod session_laws;
 mod top;
 
 pub use top::resume;

@@ -14,8 +14,8 @@ use Rattle.ride_model.specs.Legal.{replay}
 use Rattle.ride_model.specs.State.{State, has_ended}
 use Rattle.ride_model.specs.Step.{step}
 use Rattle.model_laws.proofs.Histories.{replay-push}
-use Rattle.history_laws.specs.Start.{IsStart}
-use Rattle.history_laws.proofs.Others.{ended-same}
+use Rattle.model_laws.specs.history_laws.Start.{IsStart}
+use Rattle.model_laws.proofs.history_laws.Others.{ended-same}
 use Rattle.board_core.specs.Recorded.{Recorded, state_of, fed_entry, end_entry}
 use Rattle.fleet_board.specs.Passes.{commands_in}
 

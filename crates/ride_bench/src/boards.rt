@@ -5,7 +5,7 @@ use adaptive_roads::Roads;
 use board_core::Board;
 use ride_model::{NoMemory, Settings};
 use std::alloc::Global;
-use trial_town::fleet;
+use plan_trials::trial_town::fleet;
 
 const SETTINGS: Settings = Settings {
     batch: 1,

@@ -1,6 +1,6 @@
 // Generated maps: crossings on a grid, of whose streets a part is there, and arcs that are drawn.
 ghost use Rattle.std.specs.Prelude.{◌≡◌, ◌≤◌, ◌<◌, ◌+◌, length, All, IfOk};
-ghost use Rattle.trial_town.specs.Streets.{IsPlace, AreStreets};
+ghost use Rattle.plan_trials.specs.trial_town.Streets.{IsPlace, AreStreets};
 
 use ride_model::{Network, RoadArc};
 use std::alloc::{AllocError, Global};

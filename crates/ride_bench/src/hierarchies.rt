@@ -1,16 +1,16 @@
 //! Rows of travel times by sweeps of a hierarchy, and by searches: the same sums, and how long they take.
 ghost use Rattle.std.specs.Prelude.{◌≡◌, ◌≤◌, ◌<◌, ◌*◌, length, All, IfOk, IfSome};
-ghost use Rattle.road_hierarchy.specs.Selection.{IsSelectionOf};
+ghost use Rattle.adaptive_roads.specs.road_hierarchy.Selection.{IsSelectionOf};
 ghost use Rattle.ride_bench.specs.Sources.{AreSources};
-ghost use Rattle.trial_town.specs.Streets.{IsPlace};
+ghost use Rattle.plan_trials.specs.trial_town.Streets.{IsPlace};
 
 use crate::grid::{Grid, drawn, generate};
 use crate::rows::{NEW_YORK, SMALL, roads_of, spread, sum_of};
 use crate::stopwatch::Stopwatch;
 use anyhow::{Result, bail, ensure};
-use contraction::Contraction;
+use adaptive_roads::contraction::Contraction;
 use ride_model::{Network, NoMemory};
-use road_hierarchy::{Hierarchy, Selected, SweepRoom};
+use adaptive_roads::road_hierarchy::{Hierarchy, Selected, SweepRoom};
 use road_times::{Roads, Scratch, Side};
 use std::alloc::Global;
 use std::io;

@@ -1,6 +1,6 @@
 //! Full rows of travel times on a generated map.
 ghost use Rattle.std.specs.Prelude.{◌≡◌, ◌≤◌, ◌<◌, length, All, IfOk};
-ghost use Rattle.trial_town.specs.Streets.{IsPlace};
+ghost use Rattle.plan_trials.specs.trial_town.Streets.{IsPlace};
 
 use crate::grid::{Grid, generate};
 use crate::stopwatch::Stopwatch;

@@ -354,7 +354,7 @@ fn time_load<R: Clock + Threads + Wait + Sync>(
 
 // How many entries two passes of 1,000 submits and an end each leave.
 fn entries_seen<R: Clock + Threads + Wait + Sync>(rt: &R, alloc: Global) -> Result<u64, NoMemory> {
-    let roads = trial_town::roads(alloc)?;
+    let roads = plan_trials::trial_town::roads(alloc)?;
     let (_, entries) = time_load(rt, alloc, &roads, Load::FeedsAndScribe, 1000)?;
     Ok(entries)
 }
@@ -404,6 +404,6 @@ fn time_all<R: Clock + Print + Threads + Wait + Sync>(
 
 /// Times the board's own calls, and those of one pass, of two, and of two beside the scribe.
 pub fn shared<R: Clock + Print + Threads + Wait + Sync>(rt: &R, alloc: Global) -> io::Result<()> {
-    let roads = trial_town::roads(alloc)?;
+    let roads = plan_trials::trial_town::roads(alloc)?;
     time_all(rt, alloc, &roads)
 }

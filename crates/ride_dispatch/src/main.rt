@@ -3,7 +3,7 @@
 
 use dispatcher::{WORDS_REFUSED, run};
 use ride_ports::{FileShelf, OpenGate, StdoutSink};
-use run_messages::{Overheard, Program, command_words, tell};
+use run_words::run_messages::{Overheard, Program, command_words, tell};
 use std::process::ExitCode;
 
 fn main(rt: HostRuntime) -> ExitCode {

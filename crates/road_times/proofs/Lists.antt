@@ -4,7 +4,7 @@ use Rattle.std.specs.Prelude.{Option, Some, None, is_some, count_by, replicate}
 use Rattle.std.proofs.lemmas.Bool.{cases_eq}
 use Rattle.std.proofs.lemmas.List.{get_or-set_same, get_or-set_other, length-set}
 use Rattle.std.proofs.lemmas.List.Sums.{sum_by-cons, sum_by-set, count_by-le-length}
-use Rattle.plain_lemmas.proofs.Options.{none_from_is_some}
+use Rattle.model_laws.proofs.plain.Options.{none_from_is_some}
 use Rattle.road_times.specs.Search.{label_of, IsListed}
 
 -- a write at a place, seen from any place

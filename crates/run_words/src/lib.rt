@@ -9,6 +9,7 @@ ghost use Rattle.run_words.specs.Words.{ask_of, asked_by_word, first_word, word_
 
 mod commands;
 mod resuming;
+pub mod run_messages;
 mod values;
 mod words;
 

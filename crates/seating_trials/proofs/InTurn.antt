@@ -10,7 +10,7 @@ use Rattle.ride_model.specs.Fleet.{IsFleet}
 use Rattle.ride_model.specs.Limits.{latest_time}
 use Rattle.ride_model.specs.Seating.{BatchCopy, IsBatchOver}
 use Rattle.ride_model.specs.Vehicle.{IsFresh, IsLawful, IsRide, ride_ids}
-use Rattle.plain_lemmas.proofs.Among.{among_from_contains}
+use Rattle.model_laws.proofs.plain.Among.{among_from_contains}
 use Rattle.plan_trials.specs.SmallPlans.{four_nodes, ride_of}
 use Rattle.plan_trials.specs.LineRoad.{is_lawful, is_new}
 use Rattle.plan_trials.proofs.LineRoad.{a_ride, fresh, lawful}

@@ -9,8 +9,8 @@ use Rattle.ride_model.specs.declared.vehicle.Vehicle.{Vehicle}
 use Rattle.ride_model.specs.Fleet.{IsFleet}
 use Rattle.ride_model.specs.Seating.{IsBatchOver}
 use Rattle.ride_model.specs.Vehicle.{IsRide, IsFresh, IsLawful, IsRouted}
-use Rattle.plain_lemmas.proofs.Among.{among_from_contains}
-use Rattle.plain_lemmas.proofs.Options.{none_from_is_none}
+use Rattle.model_laws.proofs.plain.Among.{among_from_contains}
+use Rattle.model_laws.proofs.plain.Options.{none_from_is_none}
 use Rattle.plan_trials.specs.SmallPlans.{four_nodes}
 use Rattle.plan_trials.specs.LineRoad.{is_ride}
 use Rattle.plan_trials.proofs.LineRoad.{a_ride}

@@ -4,6 +4,8 @@
 #[cfg(test)]
 mod batch_certificates;
 #[cfg(test)]
+mod desk;
+#[cfg(test)]
 mod grid_certificates;
 #[cfg(test)]
 mod outcomes;

@@ -9,7 +9,7 @@ use Rattle.ride_model.specs.declared.entry.Entry.{Entry}
 use Rattle.ride_model.specs.History.{is_abandoned}
 use Rattle.ride_model.specs.Seating.{BatchCopy}
 use Rattle.ride_ports.specs.declared.outcome.Ran.{Ran}
-use Rattle.history_laws.specs.Finishing.{gives_up}
+use Rattle.model_laws.specs.history_laws.Finishing.{gives_up}
 use Rattle.board_core.specs.Recorded.{opened_entry, end_entry}
 use Rattle.fleet_board.specs.Openings.{OpensBatch}
 use Rattle.fleet_board.specs.Passes.{Known, AddsEntry, AddsNone, actor_of}

@@ -4,14 +4,14 @@ use Rattle.std.specs.Prelude.{IfSome}
 use Rattle.ride_model.specs.declared.command.Command.{Command}
 use Rattle.ride_ports.specs.Bytes.{Reads}
 use Rattle.ride_ports.proofs.ByteLemmas.{Reads-told}
-use Rattle.line_reader.specs.declared.answers.ReadStop.{ReadStop}
+use Rattle.line_text.specs.declared.line_reader.answers.ReadStop.{ReadStop}
 use Rattle.command_lines.specs.Commands.{commands_of}
 use Rattle.command_lines.specs.Feeds.{FeedState, HasGiven, IsStopped, IsWhole}
 use Rattle.command_lines.specs.declared.forms.FeedForm.{FeedForm}
 use Rattle.command_lines.specs.Limits.{AreFirst, ended_commands}
 use Rattle.command_lines.proofs.LineCommands.{ended_commands-first, first-then}
 use Rattle.command_lines.proofs.ReaderLemmas.{given-few, given-first, given-first-of-all}
-use Rattle.limit_laws.proofs.FeedCommands.{ended-le, whole-le}
+use Rattle.trip_log.proofs.limit_laws.FeedCommands.{ended-le, whole-le}
 use Rattle.session_loops.specs.Stops.{AreFirstOf}
 
 -- fewer commands

@@ -11,8 +11,8 @@ use Rattle.board_core.specs.Recorded.{Recorded}
 use Rattle.fleet_board.specs.Passes.{AddsNone, IsPoint, Known, root_of}
 use Rattle.fleet_board.proofs.Looking.{adds_none-then, root-stays, first-stay, seen-grows}
 use Rattle.ride_ports.specs.declared.sources.Failed.{Failed}
-use Rattle.text_page.specs.Output.{HasPut, IsFresh, OutputState}
-use Rattle.text_page.proofs.OutputLemmas.{written-prefix, written-whole}
+use Rattle.line_text.specs.text_page.Output.{HasPut, IsFresh, OutputState}
+use Rattle.line_text.proofs.text_page.OutputLemmas.{written-prefix, written-whole}
 use Rattle.session_loops.specs.declared.scribes.Scribed.{Scribed}
 use Rattle.session_loops.specs.Loops.{HasScribed, HasScribedSome}
 use Rattle.session_loops.proofs.LogLemmas.{entry_lines-append}

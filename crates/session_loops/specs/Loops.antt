@@ -11,15 +11,15 @@ use Rattle.ride_model.specs.Text.{entry_lines}
 use Rattle.ride_ports.specs.declared.outcome.Ran.{Ran}
 use Rattle.ride_ports.specs.Bytes.{Reads, Writes, WritesPrefix}
 use Rattle.command_lines.specs.Feeds.{IsWhole}
-use Rattle.line_reader.specs.Limits.{IsWithinLimits, IsTooLong}
+use Rattle.line_text.specs.line_reader.Limits.{IsWithinLimits, IsTooLong}
 use Rattle.command_lines.specs.declared.forms.FeedForm.{FeedForm}
 use Rattle.command_lines.specs.Limits.{ended_commands, limits_of}
-use Rattle.history_laws.specs.Start.{is_fed}
-use Rattle.history_laws.specs.Finishing.{gives_up}
+use Rattle.model_laws.specs.history_laws.Start.{is_fed}
+use Rattle.model_laws.specs.history_laws.Finishing.{gives_up}
 use Rattle.board_core.specs.Recorded.{end_entry, opened_entry}
 use Rattle.fleet_board.specs.Passes.{Known, actor_of, all_ended, commands_in, root_of, seen_state}
 use Rattle.session_loops.specs.Stops.{AreFirstOf}
-use Rattle.line_reader.specs.FeedRuns.{IsReadWhole}
+use Rattle.line_text.specs.line_reader.FeedRuns.{IsReadWhole}
 
 -- a pass has seen more, made these entries and ended its actor so; nothing else of it changed
 pub record EndsWith (old new : Known) (made : List Entry) (ending : Ending) : Type 0 where

@@ -11,11 +11,11 @@ use Rattle.ride_model.specs.Seating.{BatchCopy}
 use Rattle.ride_ports.specs.Bytes.{Reads}
 use Rattle.command_lines.specs.Feeds.{IsStopped, IsWhole}
 use Rattle.command_lines.specs.declared.forms.FeedForm.{FeedForm}
-use Rattle.history_laws.specs.Finishing.{gives_up}
+use Rattle.model_laws.specs.history_laws.Finishing.{gives_up}
 use Rattle.board_core.specs.Recorded.{opened_entry}
 use Rattle.fleet_board.specs.Passes.{Known, AddsEntry, commands_in}
-use Rattle.line_reader.specs.declared.stops.Stop.{Stop}
-use Rattle.line_reader.specs.declared.stops.Stop.TheVariants.{NoMemory, OfFeed}
+use Rattle.line_text.specs.declared.line_reader.stops.Stop.{Stop}
+use Rattle.line_text.specs.declared.line_reader.stops.Stop.TheVariants.{NoMemory, OfFeed}
 use Rattle.session_loops.specs.Loops.{AreBatches, AreFed, Closes}
 use Rattle.session_loops.specs.Stops.{AreFirstOf}
 

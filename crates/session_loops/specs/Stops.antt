@@ -6,7 +6,7 @@ use Rattle.ride_model.specs.declared.entry.Ending.TheVariants.{Whole, Cut}
 use Rattle.command_lines.specs.Commands.{commands_of}
 use Rattle.command_lines.specs.declared.forms.FeedForm.{FeedForm}
 use Rattle.command_lines.specs.Limits.{AreFirst}
-use Rattle.line_reader.specs.declared.stops.Stop.{Stop}
+use Rattle.line_text.specs.declared.line_reader.stops.Stop.{Stop}
 
 -- these commands are the first that a feed gives of the bytes that were taken, and of all its bytes, where they are told; and they
 -- are no more than it may have lines

@@ -11,12 +11,12 @@ ghost use Rattle.fleet_board.specs.Roles.{MayFeed};
 ghost use Rattle.fleet_board.specs.Sharing.{MayUse};
 ghost use Rattle.session_loops.specs.Loops.{RunsFeed};
 ghost use Rattle.session_loops.specs.Making.{AddsAnswer, HasSubmitted};
-ghost use Rattle.line_reader.specs.FeedRuns.{is_source_failed};
+ghost use Rattle.line_text.specs.line_reader.FeedRuns.{is_source_failed};
 
 use crate::stops::ending_of;
 use command_lines::{FeedForm, FeedReader};
 use fleet_board::{ActorPass, SharedBoard};
-use line_reader::{Stop, ran_of};
+use line_text::line_reader::{Stop, ran_of};
 use ride_model::{Command, NoMemory};
 use ride_ports::{Gate, Ran, Source};
 use std::alloc::Global;

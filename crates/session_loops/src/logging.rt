@@ -1,11 +1,11 @@
 //! What is written of a session's log.
 ghost use Rattle.std.specs.Prelude.{◌≡◌, [], All};
 ghost use Rattle.ride_model.specs.Text.{HasLine, IsOneOrTwo, entry_line, entry_lines, head_line};
-ghost use Rattle.text_page.specs.Output.{HasPut, IsFresh, Puts};
+ghost use Rattle.line_text.specs.text_page.Output.{HasPut, IsFresh, Puts};
 
 use ride_model::Entry;
 use ride_ports::Sink;
-use text_page::Output;
+use line_text::text_page::Output;
 use trip_log::{print_entry, print_head};
 
 /// Writes the head of a log of so many feeds and desks.

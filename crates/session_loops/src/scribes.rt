@@ -5,7 +5,7 @@ ghost use Rattle.ride_ports.specs.Count.{KeepsCount};
 ghost use Rattle.turn_lock.specs.Passes.{knowledge};
 ghost use Rattle.fleet_board.specs.Passes.{AddsNone, IsPoint, all_ended, root_of, seen_state};
 ghost use Rattle.fleet_board.specs.Sharing.{MayUse};
-ghost use Rattle.text_page.specs.Output.{HasPut, IsFresh, Puts};
+ghost use Rattle.line_text.specs.text_page.Output.{HasPut, IsFresh, Puts};
 ghost use Rattle.session_loops.specs.Loops.{HasScribed, HasScribedSome, HasSeenAll};
 
 use crate::logging::put_all;
@@ -14,7 +14,7 @@ use ride_model::{Entry, NoMemory};
 use ride_ports::{Failed, Sink};
 use std::alloc::{AllocError, Global};
 use std::sync::Wait;
-use text_page::Output;
+use line_text::text_page::Output;
 
 /// The most entries that are copied while the board's turn is held.
 const MOST: u32 = 1024;

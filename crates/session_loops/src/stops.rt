@@ -2,7 +2,7 @@
 ghost use Rattle.std.specs.Prelude.{◌≡◌, Option};
 ghost use Rattle.session_loops.specs.Stops.{ending_of};
 
-use line_reader::Stop;
+use line_text::line_reader::Stop;
 use ride_model::Ending;
 
 /// How a feed ends that was stopped, or was not.

@@ -16,7 +16,7 @@ use Rattle.board_core.specs.Recorded.{Recorded, state_of, fed_entry}
 use Rattle.board_core.proofs.OpenBatches.{state-push}
 use Rattle.session_run.specs.Running.{GoesOn, IsSession, IsAsked, RunsBatch, Answers, Stops, gave_up}
 use Rattle.session_run.proofs.OneMoreEntry.{settled-push, awaited-push, gave_up-push, fed-feed, fed-other, goes-then}
-use Rattle.history_laws.proofs.Untouched.{is_asked, leaves-step}
+use Rattle.model_laws.proofs.history_laws.Untouched.{is_asked, leaves-step}
 
 -- what is awaited after an answer
 after-reply : (feed : ℕ) (command : Command) (reply : Reply) (b : Bool) → is_asked reply ≡ b

@@ -13,7 +13,7 @@ use Rattle.ride_model.specs.History.{awaited_after, is_whole}
 use Rattle.ride_model.specs.Legal.{IsLegal, MayEnd, after_entry, replay}
 use Rattle.ride_model.specs.Seating.{BatchCopy}
 use Rattle.ride_model.specs.State.{State, has_ended, is_actor, start_state}
-use Rattle.history_laws.specs.Start.{IsStart}
+use Rattle.model_laws.specs.history_laws.Start.{IsStart}
 use Rattle.board_core.specs.Recorded.{Recorded, end_entry, state_of}
 use Rattle.board_core.proofs.OpenBatches.{state-push}
 use Rattle.city_maker.specs.Steps.{last_steps}

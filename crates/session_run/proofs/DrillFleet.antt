@@ -13,8 +13,8 @@ use Rattle.ride_model.specs.Road.{IsNode, IsRoadMap, RoadMap}
 use Rattle.ride_model.specs.Seating.{vehicle_ids}
 use Rattle.ride_model.specs.Text.{IsSpelledCommand}
 use Rattle.ride_model.specs.Vehicle.{IsLawful}
-use Rattle.history_laws.specs.Start.{IsStart}
-use Rattle.history_laws.proofs.EveryState.{consistent}
+use Rattle.model_laws.specs.history_laws.Start.{IsStart}
+use Rattle.model_laws.proofs.history_laws.EveryState.{consistent}
 use Rattle.board_core.specs.Recorded.{Recorded, state_of}
 use Rattle.board_core.proofs.LegLaws.{stop_nodes}
 use Rattle.city_maker.proofs.FirstLegs.{first-leg-le}

@@ -23,7 +23,7 @@ use Rattle.board_core.proofs.OpenBatches.{state-push}
 use Rattle.city_maker.specs.Steps.{steps_with}
 use Rattle.session_run.specs.Drills.{GoesBy, IsDrilling, IsReporting}
 use Rattle.session_run.specs.Running.{AddsAnswer, Answers, AreOfABatch, IsCommit, IsOpening}
-use Rattle.history_laws.proofs.Untouched.{is_asked}
+use Rattle.model_laws.proofs.history_laws.Untouched.{is_asked}
 use Rattle.session_run.proofs.Answering.{applied-asked, applied-awaited, applied-none_given_up, applied-others, applied-session}
 
 -- steps after others

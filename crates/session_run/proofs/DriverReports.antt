@@ -13,7 +13,7 @@ use Rattle.ride_model.specs.Keeps.{broken_of}
 use Rattle.ride_model.specs.Road.{travel}
 use Rattle.ride_model.specs.State.{State, placed_vehicle}
 use Rattle.ride_model.specs.Step.{Answered, at_found, at_step, done_at_stop, done_found, done_step, is_node, report, report_driving, reported, served_reply, step}
-use Rattle.history_laws.proofs.Untouched.{is_asked}
+use Rattle.model_laws.proofs.history_laws.Untouched.{is_asked}
 
 -- one of two answers
 either-asks_none : (b : Bool) (x y : Answered) → is_asked x.reply ≡ false → is_asked y.reply ≡ false → is_asked (cond b x y).reply ≡ false

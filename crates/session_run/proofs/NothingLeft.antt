@@ -1,11 +1,11 @@
 -- What stopped a feed.
 use Rattle.std.proofs.Common.{◌≡◌, ℕ, Bool, false, List, [], sym, ◌∙◌, true≢false}
 use Rattle.std.specs.Prelude.{Option, Some, None, IfSome}
-use Rattle.line_reader.specs.declared.answers.ReadStop.TheVariants.{SourceFailed, TooLong}
+use Rattle.line_text.specs.declared.line_reader.answers.ReadStop.TheVariants.{SourceFailed, TooLong}
 use Rattle.board_core.specs.Recorded.{Recorded}
-use Rattle.line_reader.specs.declared.stops.Stop.{Stop}
-use Rattle.line_reader.specs.declared.stops.Stop.TheVariants.{NoMemory, OfFeed}
-use Rattle.line_reader.specs.FeedRuns.{is_source_failed, is_too_long}
+use Rattle.line_text.specs.declared.line_reader.stops.Stop.{Stop}
+use Rattle.line_text.specs.declared.line_reader.stops.Stop.TheVariants.{NoMemory, OfFeed}
+use Rattle.line_text.specs.line_reader.FeedRuns.{is_source_failed, is_too_long}
 use Rattle.session_run.specs.Reading.{HasEnded}
 
 -- where neither memory nor the source was wanting, and the feed was not too long, nothing is left of it

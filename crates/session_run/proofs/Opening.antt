@@ -12,10 +12,10 @@ use Rattle.ride_model.specs.Legal.{all_feeds_ended, replay, IsLegal, IsLegalEntr
 use Rattle.ride_model.specs.Seating.{BatchCopy, seat_offer, seating_cost}
 use Rattle.ride_model.specs.State.{State, open_batch_numbered}
 use Rattle.batch_commit.specs.Solved.{SolvedBatch}
-use Rattle.plain_lemmas.proofs.Each.{of_all, all_of}
+use Rattle.model_laws.proofs.plain.Each.{of_all, all_of}
 use Rattle.model_laws.proofs.Histories.{IsLegal-parts}
 use Rattle.model_laws.proofs.RequestStates.{others-opening, abandon-is}
-use Rattle.history_laws.specs.Consistent.{IsOpenBatch}
+use Rattle.model_laws.specs.history_laws.Consistent.{IsOpenBatch}
 use Rattle.board_core.specs.declared.opening.Opening.{Opening}
 use Rattle.board_core.specs.declared.opening.Opening.TheVariants.{Batch, Idle, Ended}
 use Rattle.board_core.specs.Opening.{opening_at}
@@ -24,8 +24,8 @@ use Rattle.board_core.proofs.OpenBatches.{state-push, same_batch}
 use Rattle.session_run.specs.Running.{IsAsked, IsOpened, RunsBatch, Closes}
 use Rattle.session_run.specs.Settled.{settles}
 use Rattle.session_run.proofs.OneMoreEntry.{settled-push, awaited-push, gave_up-push, fed-desk, goes-then}
-use Rattle.history_laws.proofs.Untouched.{stays-outcomes}
-use Rattle.history_laws.proofs.OpenedBatches.{opened-not_cancelled, open-found, none-left, committed-state, abandoned-state}
+use Rattle.model_laws.proofs.history_laws.Untouched.{stays-outcomes}
+use Rattle.model_laws.proofs.history_laws.OpenedBatches.{opened-not_cancelled, open-found, none-left, committed-state, abandoned-state}
 use Rattle.session_run.proofs.Settling.{outcomes-settled}
 
 -- a board after an opening

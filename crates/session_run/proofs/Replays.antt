@@ -19,21 +19,21 @@ use Rattle.ride_ports.proofs.ByteLemmas.{Reads-to_end}
 use Rattle.ride_ports.specs.Bytes.{Reads}
 use Rattle.ride_ports.specs.declared.outcome.Ran.{Ran}
 use Rattle.ride_model.specs.Text.{HasText}
-use Rattle.line_reader.specs.declared.answers.ReadStop.TheVariants.{SourceFailed, TooLong}
+use Rattle.line_text.specs.declared.line_reader.answers.ReadStop.TheVariants.{SourceFailed, TooLong}
 use Rattle.command_lines.specs.Commands.{commands_of}
-use Rattle.line_reader.specs.Limits.{IsTooLong, IsWithinLimits}
+use Rattle.line_text.specs.line_reader.Limits.{IsTooLong, IsWithinLimits}
 use Rattle.command_lines.specs.Limits.{AreFirst, ended_commands, feed_limits, new_feed}
-use Rattle.history_laws.specs.Start.{IsStart}
-use Rattle.history_laws.proofs.KeptHistory.{keeps_promises}
+use Rattle.model_laws.specs.history_laws.Start.{IsStart}
+use Rattle.model_laws.proofs.history_laws.KeptHistory.{keeps_promises}
 use Rattle.board_core.specs.Recorded.{Recorded, state_of, end_entry}
 use Rattle.board_core.proofs.OpenBatches.{state-push}
 use Rattle.board_core.proofs.FedEntries.{fed_commands-append}
-use Rattle.text_page.specs.Output.{HasPut, OutputState}
-use Rattle.text_page.proofs.OutputLemmas.{written-prefix, written-whole}
-use Rattle.line_reader.specs.declared.stops.Stop.{Stop}
-use Rattle.line_reader.specs.declared.stops.Stop.TheVariants.{NoMemory, OfFeed}
+use Rattle.line_text.specs.text_page.Output.{HasPut, OutputState}
+use Rattle.line_text.proofs.text_page.OutputLemmas.{written-prefix, written-whole}
+use Rattle.line_text.specs.declared.line_reader.stops.Stop.{Stop}
+use Rattle.line_text.specs.declared.line_reader.stops.Stop.TheVariants.{NoMemory, OfFeed}
 use Rattle.session_run.specs.Logged.{IsLogged}
-use Rattle.line_reader.specs.FeedRuns.{IsReadWhole, is_source_failed, is_too_long}
+use Rattle.line_text.specs.line_reader.FeedRuns.{IsReadWhole, is_source_failed, is_too_long}
 use Rattle.session_loops.specs.Stops.{AreFirstOf, ending_of}
 use Rattle.session_run.specs.Reading.{HasEnded}
 use Rattle.session_run.specs.Replay.{IsReplay}

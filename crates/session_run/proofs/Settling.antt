@@ -10,8 +10,8 @@ use Rattle.ride_model.specs.Batch.{was_cancelled, seat_of, seated_outcome, outco
 use Rattle.ride_model.specs.Seating.{BatchCopy, vehicle_ids, seat_offer}
 use Rattle.ride_model.specs.State.{State}
 use Rattle.ride_model.specs.Vehicle.{ride_ids}
-use Rattle.plain_lemmas.proofs.Among.{Among, found_among}
-use Rattle.history_laws.proofs.StandingSeats.{seated-confirmed}
+use Rattle.model_laws.proofs.plain.Among.{Among, found_among}
+use Rattle.model_laws.proofs.history_laws.StandingSeats.{seated-confirmed}
 use Rattle.session_run.specs.Settled.{is_settled}
 
 module _ (s : State) (batch : BatchCopy) (seats : List Seat) (vehicles_stand : batch.vehicles ≡ s.vehicles) (time_is : batch.time ≡ s.clock)

@@ -11,7 +11,7 @@ use Rattle.board_core.specs.Recorded.{Recorded, end_entry}
 use Rattle.idle_moves.specs.declared.moves.MoveSheet.{MoveSheet}
 use Rattle.idle_moves.specs.AheadText.{ahead_text, head_line, last_line, sheet_line, sheet_lines}
 use Rattle.idle_moves.specs.HistorySheets.{AreSheetsOf}
-use Rattle.text_page.specs.Output.{HasPut, OutputState}
+use Rattle.line_text.specs.text_page.Output.{HasPut, OutputState}
 use Rattle.session_run.specs.declared.batches.Answered.{Answered}
 use Rattle.session_run.specs.Ahead.{sheets_text}
 use Rattle.session_run.specs.SessionState.{SessionState}

@@ -6,18 +6,18 @@ use Rattle.ride_model.specs.declared.entry.Ending.TheVariants.{Whole, Cut}
 use Rattle.ride_model.specs.State.{State}
 use Rattle.ride_model.specs.Text.{text_of}
 use Rattle.ride_ports.specs.declared.outcome.Ran.{Ran}
-use Rattle.line_reader.specs.declared.answers.ReadStop.TheVariants.{SourceFailed, TooLong}
+use Rattle.line_text.specs.declared.line_reader.answers.ReadStop.TheVariants.{SourceFailed, TooLong}
 use Rattle.board_core.specs.Recorded.{Recorded}
 use Rattle.idle_moves.specs.declared.moves.MoveSheet.{MoveSheet}
 use Rattle.idle_moves.specs.AheadText.{ahead_text}
 use Rattle.idle_moves.specs.HistorySheets.{AreSheetsOf}
-use Rattle.text_page.specs.Output.{HasPut}
-use Rattle.line_reader.specs.declared.stops.Stop.{Stop}
-use Rattle.line_reader.specs.declared.stops.Stop.TheVariants.{NoMemory, OfFeed}
+use Rattle.line_text.specs.text_page.Output.{HasPut}
+use Rattle.line_text.specs.declared.line_reader.stops.Stop.{Stop}
+use Rattle.line_text.specs.declared.line_reader.stops.Stop.TheVariants.{NoMemory, OfFeed}
 use Rattle.session_run.specs.Ahead.{IsWrittenBy, feed_ending, sheets_text}
 use Rattle.session_run.specs.Logged.{IsLogged}
 use Rattle.session_run.specs.SessionState.{SessionState}
-use Rattle.line_reader.specs.FeedRuns.{is_source_failed, is_too_long}
+use Rattle.line_text.specs.line_reader.FeedRuns.{is_source_failed, is_too_long}
 use Rattle.session_loops.specs.Stops.{ending_of}
 use Rattle.session_run.specs.Reading.{HasEnded, HasToldAll, HasToldAllBy}
 use Rattle.session_run.proofs.Replays.{is-logged}

@@ -12,10 +12,10 @@ use Rattle.board_core.specs.Recorded.{Recorded}
 use Rattle.idle_moves.specs.declared.moves.MoveSheet.{MoveSheet}
 use Rattle.idle_moves.specs.AheadText.{head_line, sheet_lines}
 use Rattle.idle_moves.specs.HistorySheets.{AreSheetsOf}
-use Rattle.text_page.specs.Output.{HasPut, OutputState}
+use Rattle.line_text.specs.text_page.Output.{HasPut, OutputState}
 use Rattle.session_loops.specs.Stops.{AreFirstOf}
-use Rattle.line_reader.specs.declared.stops.Stop.{Stop}
-use Rattle.line_reader.specs.declared.stops.Stop.TheVariants.{NoMemory, OfFeed}
+use Rattle.line_text.specs.declared.line_reader.stops.Stop.{Stop}
+use Rattle.line_text.specs.declared.line_reader.stops.Stop.TheVariants.{NoMemory, OfFeed}
 use Rattle.session_run.specs.Ahead.{sheets_text}
 use Rattle.session_run.specs.SessionState.{SessionState}
 use Rattle.session_run.specs.Running.{IsPrompt, IsSession, IsRunning}

@@ -12,10 +12,10 @@ use Rattle.ride_model.specs.State.{State}
 use Rattle.ride_model.specs.Text.{HasText}
 use Rattle.ride_ports.specs.declared.outcome.Ran.{Ran}
 use Rattle.command_lines.specs.Commands.{commands_of}
-use Rattle.line_reader.specs.Limits.{IsWithinLimits, IsTooLong}
+use Rattle.line_text.specs.line_reader.Limits.{IsWithinLimits, IsTooLong}
 use Rattle.command_lines.specs.Limits.{ended_commands, feed_limits, new_feed}
-use Rattle.history_laws.specs.Start.{IsStart}
-use Rattle.line_reader.specs.FeedRuns.{IsReadWhole}
+use Rattle.model_laws.specs.history_laws.Start.{IsStart}
+use Rattle.line_text.specs.line_reader.FeedRuns.{IsReadWhole}
 use Rattle.session_loops.specs.Stops.{AreFirstOf}
 use Rattle.session_run.specs.Settled.{IsSettled}
 

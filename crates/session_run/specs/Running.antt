@@ -12,7 +12,7 @@ use Rattle.ride_model.specs.Batch.{was_cancelled}
 use Rattle.ride_model.specs.History.{fed_commands, is_abandoned, awaited_in, IsDirect}
 use Rattle.ride_model.specs.History.Awaited.{opening, commit}
 use Rattle.ride_model.specs.Seating.{BatchCopy}
-use Rattle.history_laws.specs.Consistent.{IsOpenBatch}
+use Rattle.model_laws.specs.history_laws.Consistent.{IsOpenBatch}
 use Rattle.board_core.specs.Recorded.{Recorded, state_of}
 use Rattle.session_run.specs.Settled.{IsSettled}
 

@@ -1,7 +1,7 @@
 -- A session, as it goes on.
 use Rattle.std.specs.Prelude.{ℕ, Bool, Option}
 use Rattle.board_core.specs.Recorded.{Recorded}
-use Rattle.text_page.specs.Output.{OutputState}
+use Rattle.line_text.specs.text_page.Output.{OutputState}
 
 -- a session: its board, what it writes, the reach of its sheets where it writes these in place of its log, and whether memory was
 -- wanting

@@ -7,7 +7,7 @@ ghost use Rattle.ride_model.specs.Text.{text_of};
 ghost use Rattle.ride_ports.specs.Bytes.{Reads};
 ghost use Rattle.ride_ports.specs.Count.{KeepsCount};
 ghost use Rattle.session_run.specs.Logged.{IsLogged};
-ghost use Rattle.line_reader.specs.FeedRuns.{IsReadWhole};
+ghost use Rattle.line_text.specs.line_reader.FeedRuns.{IsReadWhole};
 ghost use Rattle.session_run.specs.Replay.{IsReplay};
 
 use crate::one_feed::run_one_feed;

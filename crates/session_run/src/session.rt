@@ -11,7 +11,7 @@ ghost use Rattle.ride_model.specs.Text.{HasText, IsSpelledCommand, text_of};
 ghost use Rattle.ride_model.specs.Limits.{longest_reach, most_commands};
 ghost use Rattle.board_core.specs.Recorded.{Recorded, end_entry, state_of};
 ghost use Rattle.idle_moves.specs.AheadText.{last_line, sheet_lines};
-ghost use Rattle.text_page.specs.Output.{HasPut, IsFresh};
+ghost use Rattle.line_text.specs.text_page.Output.{HasPut, IsFresh};
 ghost use Rattle.session_run.specs.Planning.{is_whole, sheets_in};
 ghost use Rattle.session_run.specs.Reading.{HasTold, HasToldAll, IsTold};
 ghost use Rattle.session_run.specs.Telling.{GoesOnTo, GoesOnWith};
@@ -31,7 +31,7 @@ use session_loops::{put_all, put_head};
 use std::alloc::Global;
 use std::marker::Model;
 use std::thread::Threads;
-use text_page::Output;
+use line_text::text_page::Output;
 
 /// A board of one feed and one desk, what its desk works with, and what is written of it: its log, or the sheets of its batches.
 pub(crate) struct Session<'r> {

@@ -1,6 +1,6 @@
 -- Arrivals, and when a vehicle leaves for a place.
 use Rattle.std.proofs.Common.{◌≡◌, ℕ, zero, suc, ◌+◌, ◌-◌, ◌<◌, ◌≤◌, List, [], ◌∷◌, length, get_or, refl, ◌∙◌, ap, arith}
-use Rattle.plain_lemmas.proofs.Numbers.{suc-less_one}
+use Rattle.model_laws.proofs.plain.Numbers.{suc-less_one}
 use Rattle.insertion.proofs.PlanTimes.{leave-read}
 use Rattle.slack_tables.specs.Search.{leave_at, last_time}
 

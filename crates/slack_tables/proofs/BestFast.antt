@@ -4,7 +4,7 @@ use Rattle.std.specs.Prelude.{map, Some, None, option_map}
 use Rattle.std.specs.List.{range_with_len}
 use Rattle.std.proofs.lemmas.Bool.{and_from, and_parts}
 use Rattle.std.proofs.lemmas.Option.{same_Some}
-use Rattle.plain_lemmas.proofs.Numbers.{less_or_same, le_or_lt}
+use Rattle.model_laws.proofs.plain.Numbers.{less_or_same, le_or_lt}
 use Rattle.ride_model.specs.declared.offer.Joins.{Joins}
 use Rattle.ride_model.specs.declared.offer.Offer.{Offer}
 use Rattle.ride_model.specs.declared.settings.Settings.{Settings}

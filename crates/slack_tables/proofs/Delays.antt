@@ -1,7 +1,7 @@
 -- Arrivals of a plan with one stop more: one arrival more, and those behind it later.
 use Rattle.std.proofs.Common.{◌≡◌, ℕ, zero, suc, ◌+◌, ◌<◌, ◌≤◌, List, [], ◌∷◌, length, slice_index, refl, ◌∙◌, ap, arith}
 use Rattle.std.specs.Prelude.{insert}
-use Rattle.plain_lemmas.proofs.Numbers.{swap-last}
+use Rattle.model_laws.proofs.plain.Numbers.{swap-last}
 use Rattle.ride_model.specs.declared.vehicle.Stop.{Stop}
 use Rattle.ride_model.specs.Times.{times_from}
 use Rattle.stop_plans.specs.Legged.{relegged, with_stop}

@@ -2,7 +2,7 @@
 use Rattle.std.proofs.Common.{◌≡◌, ℕ, ◌+◌, ◌-◌, ◌<◌, ◌≤◌, ◌⊎◌, inl, inr, Bool, true, false, cond, length, eqb, refl, sym, ◌∙◌, ap, subst, arith}
 use Rattle.std.specs.Prelude.{Option, Some, None, IfSome, option_map, option_and_then}
 use Rattle.std.proofs.lemmas.Bool.{eqb-true, eq-eqb, cond_both}
-use Rattle.plain_lemmas.proofs.Numbers.{less_or_same, eqb-less}
+use Rattle.model_laws.proofs.plain.Numbers.{less_or_same, eqb-less}
 use Rattle.ride_model.specs.Road.{lesser}
 use Rattle.model_laws.proofs.AboardLoads.{range_passes, passes_range}
 use Rattle.insertion.specs.declared.near.Near.{Near}

@@ -2,7 +2,7 @@
 use Rattle.std.proofs.Common.{◌≡◌, ℕ, suc, ◌+◌, ◌-◌, ◌<◌, ◌≤◌, ◌⊎◌, inl, inr, Bool, true, false, not, cond, ◌&&◌, ◌||◌, leb, ltb, leb-true, refl, arith}
 use Rattle.std.proofs.lemmas.Bool.Decides.{nat_tests}
 use Rattle.std.proofs.lemmas.Bool.{and_parts}
-use Rattle.plain_lemmas.proofs.Numbers.{le_or_lt}
+use Rattle.model_laws.proofs.plain.Numbers.{le_or_lt}
 use Rattle.slack_tables.specs.declared.trips.Trip.{Trip}
 use Rattle.slack_tables.specs.Trips.{no_limit, room_in}
 

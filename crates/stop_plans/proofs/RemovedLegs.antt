@@ -15,7 +15,7 @@ use Rattle.ride_model.specs.Road.{RoadMap}
 use Rattle.ride_model.specs.Vehicle.{HasLegs, IsPlanFor, visit_of, visits_due, stops_of, ride_ids}
 use Rattle.ride_model.specs.Insertion.{routed, with_plan, stops_without, rides_without, without_ride}
 use Rattle.ride_model.specs.Offers.{leg_at}
-use Rattle.plain_lemmas.proofs.Among.{Among, among_from_contains, contains_from_among, among_map_back}
+use Rattle.model_laws.proofs.plain.Among.{Among, among_from_contains, contains_from_among, among_map_back}
 use Rattle.model_laws.proofs.AboardLoads.{filter-kept, filter-skipped}
 use Rattle.model_laws.proofs.Insertions.{all-kept}
 use Rattle.model_laws.proofs.Removal.{route_without, without_ride-is}

@@ -5,3 +5,4 @@ pub mod Cuts
 pub mod Heads
 pub mod Items
 pub mod Reads
+pub mod limit_laws

@@ -8,6 +8,7 @@ mod events;
 mod items;
 mod kinds;
 pub mod laws;
+pub mod limit_laws;
 pub mod lists;
 pub mod pieces;
 mod printing;

@@ -7,7 +7,7 @@ ghost use Rattle.ride_model.specs.Seating.{BatchCopy};
 ghost use Rattle.ride_model.specs.Legal.{IsNumbered, versions_of};
 ghost use Rattle.ride_model.specs.Vehicle.{ride_ids};
 ghost use Rattle.batch_commit.specs.Table.{IsTableOf};
-ghost use Rattle.history_laws.specs.Consistent.{IsOpenBatch};
+ghost use Rattle.model_laws.specs.history_laws.Consistent.{IsOpenBatch};
 ghost use Rattle.board_core.specs.Opening.{opening_at};
 ghost use Rattle.board_core.specs.Recorded.{Recorded, state_of, opened_entry, committed_entry, abandoned_entry};
 ghost use Rattle.board_core.specs.Settling.{balance};

@@ -9,13 +9,13 @@ ghost use Rattle.ride_model.specs.Limits.{most_chairs, most_requests, most_seats
 ghost use Rattle.board_core.specs.Given.{Given};
 ghost use Rattle.board_core.specs.Service.{state_at, answered_at, IsInOrder};
 ghost use Rattle.board_core.specs.Wishes.{ride_of, wish_step, joins_nodes, has_odd_load, has_odd_limits, MayBeAccepted};
-ghost use Rattle.request_book.specs.Book.{request_of};
+ghost use Rattle.board_core.specs.request_book.Book.{request_of};
 
 use crate::plans::free;
 use crate::service::Service;
 use crate::setup::Setup;
 use crate::wishes::Wish;
-use request_book::RequestBook;
+use crate::request_book::RequestBook;
 use ride_model::limits::{LATEST_TIME, LONGEST_RIDE, MOST_CHAIRS, MOST_SEATS};
 use ride_model::refusals::{
     END_OFF_MAP, KNOWN_ID, ODD_LOAD, ODD_TIME, REQUEST_CLOSED, REQUESTS_FULL, RIDER_ABOARD,

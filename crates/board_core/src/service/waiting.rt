@@ -16,7 +16,7 @@ use crate::service::{Service, copies_of};
 use crate::setup::Setup;
 use arrayvec::ArrayVec;
 use batch_commit::Batch;
-use request_book::RequestBook;
+use crate::request_book::RequestBook;
 use ride_model::{Fleet, NoMemory, RequestState, Ride};
 use std::alloc::Global;
 

@@ -19,7 +19,7 @@ use std::alloc::Global;
 use std::marker::Model;
 use std::process::Abort;
 use std::thread::Threads;
-use trial_town::{fleet, settings};
+use plan_trials::trial_town::{fleet, settings};
 use trip_log::print_entry;
 
 /// The numbers of a command are below this.

@@ -16,7 +16,7 @@ use session_loops::desk_loop;
 use std::process::Abort;
 use std::sync::Wait;
 use std::thread::Threads;
-use trial_town::{fleet, settings};
+use plan_trials::trial_town::{fleet, settings};
 
 /// Request 7, the ask and the batch that is opened; and then the end of the feed, the commit and the end of the desk.
 const ENTRIES_BEFORE: u64 = 3;

@@ -13,7 +13,7 @@ use ride_ports::SureSource;
 use std::alloc::Global;
 use std::process::Abort;
 use std::thread::Threads;
-use trial_town::settings;
+use plan_trials::trial_town::settings;
 
 /// What a log gives back: a board of so many entries with the numbers of its open batches, 0 where a desk has none; or its first wrong
 /// line.
@@ -147,7 +147,7 @@ fn new_fleet(rt: &impl Abort, alloc: Global, roads: &Roads) -> Fleet
     requires { roads.now.nodes ≡ 4 }
     ensures { (settings : Settings) → IsSettings settings → MayStart roads.now settings result }
 {
-    let Ok(fleet) = trial_town::fleet(alloc, roads) else {
+    let Ok(fleet) = plan_trials::trial_town::fleet(alloc, roads) else {
         panic!(rt; "there is memory");
     };
     fleet

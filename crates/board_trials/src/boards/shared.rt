@@ -26,7 +26,7 @@ use std::alloc::Global;
 use std::process::Abort;
 use std::sync::Wait;
 use std::thread::Threads;
-use trial_town::{fleet, settings};
+use plan_trials::trial_town::{fleet, settings};
 
 /// What happens on a shared board of one vehicle, one feed and so many desks, and what is read of it then.
 struct Play {

@@ -1,11 +1,11 @@
 use Rattle.std.proofs.Common.{◌≡◌, ◌++◌, ◌∷◌, [], ℕ, List, Option, refl, sym, subst, ◌∙◌, append-nil}
 use Rattle.std.specs.Prelude.{IfSome}
-use Rattle.plain_lemmas.proofs.Options.{none_from_not_some}
-use Rattle.plain_lemmas.proofs.Among.{found_among}
-use Rattle.plain_lemmas.proofs.Each.{of_each}
+use Rattle.model_laws.proofs.plain.Options.{none_from_not_some}
+use Rattle.model_laws.proofs.plain.Among.{found_among}
+use Rattle.model_laws.proofs.plain.Each.{of_each}
 use Rattle.ride_model.specs.declared.command.Command.{Command}
 use Rattle.ride_model.specs.Text.{IsSpelledCommand}
-use Rattle.text_page.specs.Output.{HasPut}
+use Rattle.line_text.specs.text_page.Output.{HasPut}
 use Rattle.booking_desk.specs.BookText.{request_line, released_text}
 use Rattle.booking_desk.specs.Desk.{Booking, IsRequest, due_of, is_due}
 use Rattle.booking_desk.specs.FeedDesk.{AreSpelled, IsSpelledBooking}

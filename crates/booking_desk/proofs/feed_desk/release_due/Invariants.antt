@@ -1,5 +1,5 @@
 use Rattle.std.proofs.Common.{◌≡◌, ℕ, ◌++◌, List, Option, length}
-use Rattle.text_page.specs.Output.{HasPut}
+use Rattle.line_text.specs.text_page.Output.{HasPut}
 use Rattle.booking_desk.specs.BookText.{released_text}
 use Rattle.booking_desk.specs.Desk.{Booking}
 use Rattle.booking_desk.specs.FeedDesk.{AreDue, AreSpelled, with_due}

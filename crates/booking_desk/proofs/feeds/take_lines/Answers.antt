@@ -1,7 +1,7 @@
 use Rattle.std.proofs.Common.{◌++◌, ◌∷◌, [], false, Ok, Err, refl, sym, ap, subst, ◌∙◌}
 use Rattle.line_text.specs.Lines.{ended_lines}
-use Rattle.line_reader.specs.declared.answers.NextLine.TheVariants.{Line, Unfinished, End}
-use Rattle.line_reader.proofs.FeedLines.{between-none, follows, run-sink_failed}
+use Rattle.line_text.specs.declared.line_reader.answers.NextLine.TheVariants.{Line, Unfinished, End}
+use Rattle.line_text.proofs.line_reader.FeedLines.{between-none, follows, run-sink_failed}
 use Rattle.command_lines.specs.Limits.{feed_limits}
 use Rattle.booking_desk.specs.Desk.{DeskState}
 use Rattle.booking_desk.specs.FeedDesk.{AreSpelled}

@@ -1,5 +1,5 @@
 use Rattle.std.proofs.Common.{◌++◌, ◌∷◌, []}
-use Rattle.text_page.proofs.OutputLemmas.{put-two}
+use Rattle.line_text.proofs.text_page.OutputLemmas.{put-two}
 use Rattle.booking_desk.proofs.plain_lines.put_line.Goals as goal
 
 pub returns : goal.returns

@@ -1,7 +1,7 @@
 use Rattle.std.proofs.Common.{◌≡◌, ◌++◌, ◌∷◌, [], List, ℕ, ap, subst, ◌∙◌}
 use Rattle.std.specs.Prelude.{codes, decimal}
-use Rattle.text_page.specs.Output.{HasPut}
-use Rattle.text_page.proofs.OutputLemmas.{put-five}
+use Rattle.line_text.specs.text_page.Output.{HasPut}
+use Rattle.line_text.proofs.text_page.OutputLemmas.{put-five}
 use Rattle.booking_desk.proofs.plain_lines.put_refusal.Goals as goal
 
 pub returns : goal.returns

@@ -1,7 +1,7 @@
 use Rattle.std.proofs.Common.{◌≡◌, List, ℕ, false, sym, ap, ◌∙◌}
-use Rattle.text_page.specs.Output.{OutputState}
-use Rattle.text_page.proofs.OutputLemmas.{put-failed, put-printed}
-use Rattle.text_page.proofs.PrintedPages.{printed-back}
+use Rattle.line_text.specs.text_page.Output.{OutputState}
+use Rattle.line_text.proofs.text_page.OutputLemmas.{put-failed, put-printed}
+use Rattle.line_text.proofs.text_page.PrintedPages.{printed-back}
 use Rattle.command_lines.specs.Commands.{spelling_of}
 use Rattle.booking_desk.specs.BookText.{spelled_for}
 use Rattle.booking_desk.proofs.plain_lines.put_spelling.Goals as goal

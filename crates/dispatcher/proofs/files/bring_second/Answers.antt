@@ -1,6 +1,6 @@
 use Rattle.std.proofs.Common.{sym, subst, ◌∙◌}
 use Rattle.ride_model.specs.Fleet.{IsFleet, MayStart}
-use Rattle.league_session.proofs.Desks.{no-fleet, none-start}
+use Rattle.fleet_league.proofs.league_session.Desks.{no-fleet, none-start}
 use Rattle.dispatcher.proofs.files.bring_second.Goals as goal
 
 pub new-requires-in_default : goal.new-requires-in_default

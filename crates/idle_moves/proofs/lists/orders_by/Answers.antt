@@ -1,6 +1,6 @@
 use Rattle.std.proofs.Common.{◌≡◌, ℕ, sym, ap, ◌∙◌}
 use Rattle.std.specs.Prelude.{Option}
-use Rattle.plain_lemmas.proofs.Options.{none_from_not_some}
+use Rattle.model_laws.proofs.plain.Options.{none_from_not_some}
 use Rattle.dual_check.specs.Grid.{column_of}
 use Rattle.hungarian.proofs.Gathering.{gathered-some, gathered-none}
 use Rattle.idle_moves.specs.declared.moves.Move.{Move}

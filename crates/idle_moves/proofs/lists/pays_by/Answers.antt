@@ -1,6 +1,6 @@
 use Rattle.std.proofs.Common.{◌≡◌, ℕ, sym, ap, ◌∙◌}
 use Rattle.std.specs.Prelude.{Option}
-use Rattle.plain_lemmas.proofs.Options.{none_from_not_some}
+use Rattle.model_laws.proofs.plain.Options.{none_from_not_some}
 use Rattle.ride_model.specs.Seating.{vehicle_ids}
 use Rattle.dual_check.specs.Grid.{price_at}
 use Rattle.hungarian.specs.Seats.{pay_at}

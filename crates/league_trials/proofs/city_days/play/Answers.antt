@@ -4,11 +4,11 @@ use Rattle.ride_model.specs.declared.vehicle.Ride.{Ride}
 use Rattle.board_core.specs.Recorded.{state_of}
 use Rattle.fleet_league.specs.declared.quotes.Quote.{Quote}
 use Rattle.fleet_league.specs.Companies.{CompanyState}
-use Rattle.league_session.specs.League.{quotes_of}
+use Rattle.fleet_league.specs.league_session.League.{quotes_of}
 use Rattle.fleet_league.specs.Winning.{MayWin}
 use Rattle.fleet_league.specs.Prices.{quote_of}
 use Rattle.fleet_league.specs.Round.{IsPriced}
-use Rattle.league_session.proofs.PlayedRounds.{AreMet}
+use Rattle.fleet_league.proofs.league_session.PlayedRounds.{AreMet}
 use Rattle.league_trials.proofs.DayRounds.{companies-meet, first-may, second-may}
 use Rattle.league_trials.proofs.city_days.play.Goals as goal
 

@@ -1,7 +1,7 @@
 use Rattle.std.proofs.Common.{refl, subst, arith}
 use Rattle.ride_model.specs.declared.command.Command.TheVariants.{At}
 use Rattle.ride_model.specs.Legal.{IsLegal}
-use Rattle.history_laws.specs.Start.{IsStart}
+use Rattle.model_laws.specs.history_laws.Start.{IsStart}
 use Rattle.board_core.specs.Recorded.{Recorded}
 use Rattle.fleet_league.specs.Companies.{CompanyState}
 use Rattle.league_trials.proofs.AfterAwards.{clear-reported, start-stays}

@@ -1,7 +1,7 @@
 use Rattle.std.proofs.Common.{refl, sym, subst}
 use Rattle.ride_model.specs.declared.command.Command.TheVariants.{Off}
 use Rattle.ride_model.specs.Legal.{IsLegal}
-use Rattle.history_laws.specs.Start.{IsStart}
+use Rattle.model_laws.specs.history_laws.Start.{IsStart}
 use Rattle.board_core.specs.Recorded.{Recorded}
 use Rattle.league_trials.specs.OneVehicle.{IsOneVehicle}
 use Rattle.league_trials.proofs.NoWins.{one-new, one-vehicle-quoted}

@@ -1,6 +1,6 @@
 use Rattle.std.proofs.Common.{refl, subst, arith}
 use Rattle.ride_model.specs.Legal.{IsLegal}
-use Rattle.history_laws.specs.Start.{IsStart}
+use Rattle.model_laws.specs.history_laws.Start.{IsStart}
 use Rattle.board_core.specs.Recorded.{Recorded}
 use Rattle.league_trials.proofs.AfterAwards.{clear-awarded}
 use Rattle.league_trials.proofs.OneVehicle.{MayAward, may-award}

@@ -1,5 +1,5 @@
 use Rattle.std.proofs.Common.{refl, arith}
-use Rattle.trial_town.proofs.IdleVehicle.{fleet-of, lawful-idle}
+use Rattle.plan_trials.proofs.trial_town.IdleVehicle.{fleet-of, lawful-idle}
 use Rattle.league_trials.proofs.OneVehicle.{idle-fleet}
 use Rattle.league_trials.proofs.three_companies.fleet_at.Goals as goal
 

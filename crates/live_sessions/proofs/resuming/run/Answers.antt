@@ -4,8 +4,8 @@ use Rattle.ride_model.specs.declared.entry.Entry.{Entry}
 use Rattle.ride_model.specs.Text.{entry_lines, head_line, text_of}
 use Rattle.ride_ports.specs.declared.outcome.Ran.{Ran}
 use Rattle.ride_ports.specs.Count.{KeepsCount}
-use Rattle.text_page.specs.Output.{HasPut}
-use Rattle.text_page.proofs.OutputLemmas.{put-same}
+use Rattle.line_text.specs.text_page.Output.{HasPut}
+use Rattle.line_text.proofs.text_page.OutputLemmas.{put-same}
 use Rattle.session_loops.specs.declared.scribes.Scribed.{Scribed}
 use Rattle.live_sessions.specs.Actors.{bare}
 use Rattle.live_sessions.specs.Resuming.{IsResumed}

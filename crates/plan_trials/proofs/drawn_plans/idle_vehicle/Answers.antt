@@ -1,7 +1,7 @@
 use Rattle.std.proofs.Common.{arith}
 use Rattle.plan_trials.proofs.drawn_plans.idle_vehicle.Goals as goal
 use Rattle.plan_trials.specs.SmallPlans.{four_nodes}
-use Rattle.trial_town.proofs.IdleVehicle.{lawful-idle}
+use Rattle.plan_trials.proofs.trial_town.IdleVehicle.{lawful-idle}
 
 pub returns-clause-lawful : goal.returns-clause-lawful
 returns-clause-lawful c =

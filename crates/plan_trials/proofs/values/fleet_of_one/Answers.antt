@@ -1,7 +1,7 @@
 use Rattle.std.proofs.Common.{sym, ◌∙◌, ap, subst, arith}
 use Rattle.std.specs.Prelude.{[], ◌∷◌, ◌++◌}
 use Rattle.ride_model.specs.Fleet.{IsFleet}
-use Rattle.trial_town.proofs.IdleVehicle.{fleet-of}
+use Rattle.plan_trials.proofs.trial_town.IdleVehicle.{fleet-of}
 use Rattle.plan_trials.proofs.values.fleet_of_one.Goals as goal
 
 pub new-fleet-requires : goal.new-fleet-requires

@@ -1,6 +1,6 @@
 use Rattle.std.proofs.Common.{List, sym, ap, subst}
 use Rattle.ride_model.specs.declared.network.RoadArc.{RoadArc}
-use Rattle.trial_town.specs.Streets.{AreStreets}
+use Rattle.plan_trials.specs.trial_town.Streets.{AreStreets}
 use Rattle.ride_bench.proofs.grid.generate.Goals as goal
 use Rattle.ride_bench.proofs.grid.generate.Goals.{then-node-grid-ne0+then-node-grid+in_ok-add_street, else-node-grid-ne0}
 

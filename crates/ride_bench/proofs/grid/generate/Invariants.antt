@@ -1,5 +1,5 @@
 use Rattle.std.proofs.Common.{◌≤◌, ◌*◌, length}
-use Rattle.trial_town.specs.Streets.{AreStreets}
+use Rattle.plan_trials.specs.trial_town.Streets.{AreStreets}
 use Rattle.ride_bench.proofs.grid.generate.Given as goal
 
 -- the streets fit, and each crossing so far has added at most four arcs

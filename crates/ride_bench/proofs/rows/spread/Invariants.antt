@@ -1,6 +1,6 @@
 use Rattle.std.proofs.Common.{◌≡◌, length}
 use Rattle.std.specs.Prelude.{All}
-use Rattle.trial_town.specs.Streets.{IsPlace}
+use Rattle.plan_trials.specs.trial_town.Streets.{IsPlace}
 use Rattle.ride_bench.proofs.rows.spread.Given as goal
 
 abbrev pub invariant-loop-place : goal.invariant-loop-place

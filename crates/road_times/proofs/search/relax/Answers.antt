@@ -1,7 +1,7 @@
 use Rattle.std.proofs.Common.{◌≡◌, ◌+◌, get_or, sym, ap, ◌∙◌, subst}
 use Rattle.std.specs.Prelude.{Some, None, not, slice_get}
 use Rattle.std.proofs.lemmas.Option.{slice_get-get_or}
-use Rattle.plain_lemmas.proofs.Options.{none_from_is_some}
+use Rattle.model_laws.proofs.plain.Options.{none_from_is_some}
 use Rattle.road_times.specs.declared.adjacency.Neighbor.{Neighbor}
 use Rattle.radix_queue.specs.Queue.{key_of, lesser_key}
 use Rattle.road_times.specs.Search.{IsRelaxed}

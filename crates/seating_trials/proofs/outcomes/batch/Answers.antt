@@ -2,7 +2,7 @@ use Rattle.std.proofs.Common.{sym, subst, eqb, arith}
 use Rattle.std.specs.List.{IsDistinct}
 use Rattle.ride_model.specs.Fleet.{IsFleet}
 use Rattle.ride_model.specs.Vehicle.{ride_ids}
-use Rattle.trial_town.proofs.IdleVehicle.{fleet-of}
+use Rattle.plan_trials.proofs.trial_town.IdleVehicle.{fleet-of}
 use Rattle.seating_trials.proofs.outcomes.batch.Goals as goal
 
 pub new-fleet-requires : goal.new-fleet-requires

@@ -1,6 +1,6 @@
 use Rattle.std.proofs.Common.{[], ◌∷◌, refl}
 use Rattle.std.proofs.lemmas.Result.{IfOk-at_ok}
-use Rattle.trial_town.proofs.TwoOfEach.{two_requests}
+use Rattle.plan_trials.proofs.trial_town.TwoOfEach.{two_requests}
 use Rattle.seating_trials.proofs.small_batches.batch.Goals as goal
 
 pub of-requires-clause-ids_differ : goal.of-requires-clause-ids_differ

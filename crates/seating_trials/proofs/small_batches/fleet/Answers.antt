@@ -1,6 +1,6 @@
 use Rattle.std.proofs.Common.{[], ◌∷◌, refl}
 use Rattle.std.proofs.lemmas.Result.{IfOk-at_ok}
-use Rattle.trial_town.proofs.TwoOfEach.{two_vehicles}
+use Rattle.plan_trials.proofs.trial_town.TwoOfEach.{two_vehicles}
 use Rattle.seating_trials.proofs.small_batches.fleet.Goals as goal
 
 pub new-requires : goal.new-requires

@@ -7,7 +7,7 @@ use Rattle.command_lines.specs.Feeds.{IsStopped, IsWhole}
 use Rattle.board_core.specs.Recorded.{Recorded}
 use Rattle.turn_lock.specs.Passes.{knowledge}
 use Rattle.fleet_board.specs.Passes.{Known}
-use Rattle.line_reader.specs.declared.stops.Stop.TheVariants.{NoMemory, OfFeed}
+use Rattle.line_text.specs.declared.line_reader.stops.Stop.TheVariants.{NoMemory, OfFeed}
 use Rattle.session_loops.proofs.FeedEnds.{answered-same, fault-stops, fed-more, few-more, fewer-left, nothing-fed, submitted}
 use Rattle.session_loops.proofs.FeedRuns.{fewer-first, given-first-of, stopped-first-of, whole-first-of}
 use Rattle.session_loops.proofs.MadeEntries.{root-added}

@@ -5,7 +5,7 @@ use Rattle.session_run.specs.Planning.{AddsSheets, is_whole, sheets_in}
 use Rattle.session_run.specs.Running.{RunsBatch, Answers, Stops}
 use Rattle.session_run.proofs.CommitSheets.{adds-none, adds-then}
 use Rattle.session_run.proofs.Answering.{answers-others, asks, asks-stops, answers-ask, not_asked}
-use Rattle.history_laws.proofs.Untouched.{is_asked}
+use Rattle.model_laws.proofs.history_laws.Untouched.{is_asked}
 use Rattle.session_run.proofs.answers.answer.Goals as goal
 use Rattle.session_run.proofs.answers.answer.Goals.{in-Asked, in_default}
 

@@ -1,7 +1,7 @@
 use Rattle.std.proofs.Common.{◌≡◌, ◌++◌, ◌∷◌, [], Ok, ap, sym, subst}
 use Rattle.ride_model.specs.Batch.{next_batch}
 use Rattle.ride_model.specs.Seating.{BatchCopy}
-use Rattle.history_laws.specs.Consistent.{IsOpenBatch}
+use Rattle.model_laws.specs.history_laws.Consistent.{IsOpenBatch}
 use Rattle.board_core.specs.declared.opening.Opening.{Opening}
 use Rattle.board_core.specs.Recorded.{Recorded, state_of, opened_entry}
 use Rattle.session_run.specs.Planning.{is_whole}

@@ -6,11 +6,11 @@ use Rattle.ride_model.specs.declared.entry.Entry.{Entry}
 use Rattle.ride_model.specs.History.{entries_of, fed_commands}
 use Rattle.ride_model.specs.State.{State, start_state}
 use Rattle.ride_ports.specs.declared.outcome.Ran.{Ran}
-use Rattle.history_laws.specs.Start.{IsStart}
+use Rattle.model_laws.specs.history_laws.Start.{IsStart}
 use Rattle.board_core.specs.Recorded.{Recorded, state_of, end_entry}
 use Rattle.ride_ports.specs.Count.{KeepsCount}
 use Rattle.ride_ports.proofs.Counts.{KeepsCount-none}
-use Rattle.line_reader.specs.declared.stops.Stop.{Stop}
+use Rattle.line_text.specs.declared.line_reader.stops.Stop.{Stop}
 use Rattle.command_lines.specs.Limits.{new_feed}
 use Rattle.command_lines.specs.Feeds.{HasGiven}
 use Rattle.session_run.specs.SessionState.{SessionState}

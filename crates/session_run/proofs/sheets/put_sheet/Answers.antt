@@ -1,7 +1,7 @@
 use Rattle.std.proofs.Common.{◌≡◌, false, sym}
 use Rattle.idle_moves.specs.AheadText.{sheet_line}
-use Rattle.text_page.proofs.OutputLemmas.{put-failed}
-use Rattle.text_page.proofs.PrintedPages.{printed-out}
+use Rattle.line_text.proofs.text_page.OutputLemmas.{put-failed}
+use Rattle.line_text.proofs.text_page.PrintedPages.{printed-out}
 use Rattle.session_run.proofs.sheets.put_sheet.Goals as goal
 
 pub returns-then-failed : goal.returns-then-failed

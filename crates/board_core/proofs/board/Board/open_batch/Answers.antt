@@ -8,7 +8,7 @@ use Rattle.ride_model.specs.Legal.{IsNumbered, versions_of}
 use Rattle.ride_model.specs.Seating.{BatchCopy}
 use Rattle.ride_model.specs.State.{start_state, has_ended, open_batch_of}
 use Rattle.ride_model.specs.Vehicle.{ride_ids}
-use Rattle.history_laws.specs.Consistent.{IsOpenBatch}
+use Rattle.model_laws.specs.history_laws.Consistent.{IsOpenBatch}
 use Rattle.board_core.specs.Given.{Given}
 use Rattle.board_core.specs.Kept.{IsBoard, with_opened}
 use Rattle.board_core.specs.Marking.{marked_in}

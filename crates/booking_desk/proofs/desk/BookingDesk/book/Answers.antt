@@ -2,7 +2,7 @@ use Rattle.std.proofs.Common.{◌≡◌, ◌+◌, ◌≤◌, ℕ, Bool, true, fa
 use Rattle.std.specs.Map.{keys_of, lookup}
 use Rattle.std.proofs.lemmas.List.{length-append, length-map}
 use Rattle.std.proofs.lemmas.List.Elements.{recursion_from_All, All-from_recursion}
-use Rattle.plain_lemmas.proofs.Options.{none_from_is_some}
+use Rattle.model_laws.proofs.plain.Options.{none_from_is_some}
 use Rattle.indexmap.proofs.CallerLemmas.{insert_entry-new}
 use Rattle.booking_desk.specs.Desk.{DeskState, request_id, put_in}
 use Rattle.booking_desk.specs.Kept.{IsHeldEntry, bookings_in}

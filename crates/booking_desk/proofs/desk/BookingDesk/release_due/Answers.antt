@@ -1,9 +1,9 @@
 use Rattle.std.proofs.Common.{◌≡◌, ◌∷◌, Option, sym, subst, ◌∙◌, arith}
 use Rattle.std.specs.Prelude.{IfSome}
 use Rattle.std.proofs.lemmas.Result.{err_from_is_err_and}
-use Rattle.plain_lemmas.proofs.Options.{none_from_not_some}
-use Rattle.plain_lemmas.proofs.Among.{found_among}
-use Rattle.plain_lemmas.proofs.Each.{of_all}
+use Rattle.model_laws.proofs.plain.Options.{none_from_not_some}
+use Rattle.model_laws.proofs.plain.Among.{found_among}
+use Rattle.model_laws.proofs.plain.Each.{of_all}
 use Rattle.ride_model.specs.declared.command.Actor.TheVariants.{Feed}
 use Rattle.ride_model.specs.declared.command.Command.{Command}
 use Rattle.ride_model.specs.declared.entry.Event.TheVariants.{Fed}

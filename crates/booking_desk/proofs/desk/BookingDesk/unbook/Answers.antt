@@ -1,7 +1,7 @@
 use Rattle.std.proofs.Common.{◌≡◌, ◌≤◌, Some, None, eqb, length, sym, ap, subst, ◌∙◌, is_some, arith}
 use Rattle.std.specs.Map.{keys_of, lookup}
 use Rattle.std.proofs.lemmas.List.Elements.{recursion_from_All, All-from_recursion}
-use Rattle.plain_lemmas.proofs.Options.{none_from_not_some}
+use Rattle.model_laws.proofs.plain.Options.{none_from_not_some}
 use Rattle.booking_desk.specs.Desk.{DeskState, after_unbook, is_held}
 use Rattle.booking_desk.specs.Kept.{IsHeldEntry}
 use Rattle.booking_desk.proofs.HeldEntries.{others-not_held, others-stay, unbooked-others, removed, left-kept}

@@ -1,5 +1,5 @@
 use Rattle.std.proofs.Common.{◌++◌, ◌∙◌, sym, subst}
-use Rattle.text_page.specs.Output.{HasPut}
+use Rattle.line_text.specs.text_page.Output.{HasPut}
 use Rattle.booking_desk.specs.declared.replies.BookReply.{BookReply}
 use Rattle.booking_desk.specs.BookText.{reply_text}
 use Rattle.booking_desk.specs.Desk.{DeskState}

@@ -1,6 +1,6 @@
 use Rattle.std.proofs.Common.{◌≡◌, ◌++◌, true, false, Option, Some, None, refl, sym, ap, subst, ◌∙◌, append-nil, List, ℕ}
 use Rattle.line_text.specs.Fields.{fields_of, is_over_long}
-use Rattle.text_page.specs.Output.{HasPut}
+use Rattle.line_text.specs.text_page.Output.{HasPut}
 use Rattle.booking_desk.specs.declared.asked.Asked.{Asked}
 use Rattle.booking_desk.specs.Asked.{as_call}
 use Rattle.booking_desk.specs.BookLines.{call_of_fields, calls_in}

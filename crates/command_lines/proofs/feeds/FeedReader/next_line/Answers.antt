@@ -3,9 +3,9 @@ use Rattle.std.specs.Prelude.{IfSome}
 use Rattle.ride_model.specs.declared.command.Command.{Command}
 use Rattle.ride_model.specs.Text.{IsSpelledCommand}
 use Rattle.line_text.specs.Lines.{ended_lines}
-use Rattle.line_reader.specs.declared.answers.NextLine.{NextLine}
-use Rattle.line_reader.specs.declared.limits.Limits.{Limits}
-use Rattle.line_reader.specs.Reader.{IsAtEnd, IsNext}
+use Rattle.line_text.specs.declared.line_reader.answers.NextLine.{NextLine}
+use Rattle.line_text.specs.declared.line_reader.limits.Limits.{Limits}
+use Rattle.line_text.specs.line_reader.Reader.{IsAtEnd, IsNext}
 use Rattle.command_lines.specs.Commands.{before}
 use Rattle.command_lines.specs.Limits.{IsForm}
 use Rattle.command_lines.specs.Feeds.{FeedState, HasCut, HasGiven, IsStopped}

@@ -1,5 +1,5 @@
 use Rattle.std.proofs.Common.{◌≡◌, sym, subst, arith}
-use Rattle.plain_lemmas.proofs.Each.{of_all, all_of}
+use Rattle.model_laws.proofs.plain.Each.{of_all, all_of}
 use Rattle.ride_model.specs.declared.vehicle.Ride.{Ride}
 use Rattle.ride_model.specs.Text.{IsSpelled, IsSpelledCommand}
 use Rattle.board_core.specs.Recorded.{state_of}
@@ -7,7 +7,7 @@ use Rattle.fleet_league.specs.Awards.{request_of, won_rides}
 use Rattle.fleet_league.specs.Companies.{CompanyState}
 use Rattle.fleet_league.specs.Winning.{MayWin}
 use Rattle.fleet_league.specs.Prices.{IsNewRide}
-use Rattle.league_session.proofs.AwardedMembers.{id-spelled}
+use Rattle.fleet_league.proofs.league_session.AwardedMembers.{id-spelled}
 use Rattle.fleet_league.proofs.MayAward.{won-each}
 use Rattle.league_trials.proofs.DaySides.{no-chairs}
 use Rattle.league_trials.proofs.sides.Side.award.Goals as goal

@@ -1,7 +1,7 @@
 use Rattle.std.proofs.Common.{subst}
 use Rattle.fleet_league.specs.Companies.{CompanyState}
-use Rattle.league_session.specs.LeagueBoards.{IsSound}
-use Rattle.league_session.proofs.LeagueMembers.{sound}
+use Rattle.fleet_league.specs.league_session.LeagueBoards.{IsSound}
+use Rattle.fleet_league.proofs.league_session.LeagueMembers.{sound}
 use Rattle.league_trials.proofs.sides.Side.quote.Goals as goal
 
 pub returns-clause-sound : goal.returns-clause-sound

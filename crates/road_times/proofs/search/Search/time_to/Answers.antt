@@ -1,7 +1,7 @@
 use Rattle.std.proofs.Common.{◌≡◌, ◌<◌, length, sym, ap, ◌∙◌, arith}
 use Rattle.std.specs.Prelude.{None, not}
 use Rattle.std.proofs.lemmas.List.{get_or_read}
-use Rattle.plain_lemmas.proofs.Options.{none_from_is_some}
+use Rattle.model_laws.proofs.plain.Options.{none_from_is_some}
 use Rattle.road_times.specs.Search.{label_of}
 use Rattle.road_times.proofs.Lists.{some_from_is_some}
 use Rattle.road_times.proofs.Searches.{label_is_travel, nothing_is_left}

@@ -3,7 +3,7 @@ use Rattle.std.specs.Prelude.{◌||◌, not}
 use Rattle.ride_model.specs.Text.{text_of}
 use Rattle.board_core.specs.Recorded.{Recorded}
 use Rattle.idle_moves.specs.AheadText.{sheet_lines}
-use Rattle.text_page.specs.Output.{HasPut}
+use Rattle.line_text.specs.text_page.Output.{HasPut}
 use Rattle.session_run.specs.SessionState.{SessionState}
 use Rattle.session_run.specs.Writing.{reach_of}
 use Rattle.session_run.specs.Planning.{is_whole, sheets_in}

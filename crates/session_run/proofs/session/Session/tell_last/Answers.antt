@@ -1,6 +1,6 @@
 use Rattle.std.proofs.Common.{◌≡◌, false, cond, [], ◌++◌, sym, ap, subst, ◌∙◌}
 use Rattle.idle_moves.specs.AheadText.{last_line}
-use Rattle.text_page.specs.Output.{HasPut}
+use Rattle.line_text.specs.text_page.Output.{HasPut}
 use Rattle.session_run.specs.SessionState.{SessionState}
 use Rattle.session_run.proofs.session.Session.tell_last.Goals as goal
 

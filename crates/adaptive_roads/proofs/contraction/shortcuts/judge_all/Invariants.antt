@@ -1,0 +1,5 @@
+use Rattle.adaptive_roads.specs.contraction.Witness.{IsRoomy}
+use Rattle.adaptive_roads.proofs.contraction.shortcuts.judge_all.Given as goal
+
+abbrev pub invariant-loop-into : goal.invariant-loop-into
+invariant-loop-into l = IsRoomy l.graph.nodes l.witness

@@ -1,0 +1,12 @@
+use Rattle.std.proofs.Common.{◌≡◌, length, take}
+use Rattle.adaptive_roads.specs.contraction.Graph.{IsGraph}
+use Rattle.adaptive_roads.proofs.contraction.start.graph_of.Given as goal
+
+abbrev pub invariant-loop-arc : goal.invariant-loop-arc
+invariant-loop-arc l = record {
+  graph : IsGraph l.graph;
+  nodes : l.graph.nodes ≡ l.map.nodes;
+  arcs : l.graph.arcs.items ≡ take l.arc-index l.map.arcs;
+  order : length l.graph.order.items ≡ 0;
+  count : length l.graph.arcs.items ≡ l.arc-index;
+}

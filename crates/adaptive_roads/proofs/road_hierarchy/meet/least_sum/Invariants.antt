@@ -1,0 +1,6 @@
+use Rattle.std.proofs.Common.{length}
+use Rattle.adaptive_roads.specs.road_hierarchy.Meet.{IsMeeting}
+use Rattle.adaptive_roads.proofs.road_hierarchy.meet.least_sum.Given as goal
+
+abbrev pub invariant-loop-up : goal.invariant-loop-up
+invariant-loop-up l = IsMeeting l.ups l.downs (length l.yielded) l.least

@@ -1,0 +1,7 @@
+use Rattle.std.proofs.Common.{◌≡◌, take}
+use Rattle.std.specs.Prelude.{map}
+use Rattle.adaptive_roads.specs.contraction.Levels.{level_in}
+use Rattle.adaptive_roads.proofs.road_hierarchy.selected.ranks_of.Given as goal
+
+abbrev pub invariant-loop-node : goal.invariant-loop-node
+invariant-loop-node l = l.list.items ≡ map (level_in l.levels) (take l.node-index l.nodes)

@@ -1,7 +1,0 @@
-use Rattle.std.proofs.Common.{subst}
-use Rattle.contraction.specs.Contracted.{IsFitContraction}
-use Rattle.contraction.proofs.Views.{fit-seen}
-use Rattle.contraction.proofs.Contraction.nodes.Goals as goal
-
-pub returns-clause-fits : goal.returns-clause-fits
-returns-clause-fits c = subst IsFitContraction c.self.view_is (fit-seen c.self.inside.is_spent c.self.inside.graph c.self.invariant.0)

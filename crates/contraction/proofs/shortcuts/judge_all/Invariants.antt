@@ -1,5 +1,0 @@
-use Rattle.contraction.specs.Witness.{IsRoomy}
-use Rattle.contraction.proofs.shortcuts.judge_all.Given as goal
-
-abbrev pub invariant-loop-into : goal.invariant-loop-into
-invariant-loop-into l = IsRoomy l.graph.nodes l.witness

@@ -1,8 +1,0 @@
-use Rattle.contraction.specs.Graph.{IsGraph, IsSameGraph}
-use Rattle.contraction.proofs.shortcuts.prune_all.Given as goal
-
-abbrev pub invariant-loop-neighbor : goal.invariant-loop-neighbor
-invariant-loop-neighbor l = record {
-  graph : IsGraph l.graph;
-  same : IsSameGraph l.initial.graph l.graph;
-}

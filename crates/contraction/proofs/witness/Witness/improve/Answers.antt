@@ -1,8 +1,0 @@
-use Rattle.std.proofs.Common.{refl}
-use Rattle.contraction.proofs.Witnesses.{witness-improved}
-use Rattle.contraction.proofs.witness.Witness.improve.Goals as goal
-
-pub returns-clause-ways : goal.returns-clause-ways
-returns-clause-ways c =
-    let (nodes, roomy, low) = c.requires.room in
-    witness-improved c.args.self.now _ c.args.node c.args.time nodes roomy low refl refl c.put_or_lower.ensures.key c.put_or_lower.ensures.others

@@ -1,8 +1,0 @@
-use Rattle.contraction.specs.Witness.{IsRoomy, IsWitness}
-use Rattle.contraction.proofs.witness.Witness.search.Given as goal
-
-abbrev pub invariant-settling : goal.invariant-settling
-invariant-settling l = record {
-  room : IsRoomy l.graph.nodes l.self;
-  ways : IsWitness l.graph l.avoided l.source l.self;
-}

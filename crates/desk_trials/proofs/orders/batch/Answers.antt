@@ -1,8 +1,0 @@
-use Rattle.std.proofs.Common.{rules, [], ◌∷◌}
-use Rattle.trial_town.proofs.TwoOfEach.{two_requests}
-use Rattle.desk_trials.proofs.orders.batch.Goals as goal
-
-pub of-requires-clause-ids_differ : goal.of-requires-clause-ids_differ
-of-requires-clause-ids_differ g c =
-    two_requests [] (c.request.result ∷ []) c.expect-requests.result.items c.request.result c.request-2.result 7 (search rules) (search rules)
-    (search rules) c.request.ensures.id c.request-2.ensures.id

@@ -1,8 +1,0 @@
-use Rattle.std.proofs.Common.{rules}
-use Rattle.desk_trials.proofs.ThreeVehicles.{three-fleet}
-use Rattle.desk_trials.proofs.orders.fleet.Goals as goal
-
-pub new-requires : goal.new-requires
-new-requires g c =
-    three-fleet c.expect.result.items c.vehicle.result c.vehicle-2.result c.vehicle-3.result (search rules)
-    c.vehicle.ensures.id c.vehicle-2.ensures.id c.vehicle-3.ensures.id

@@ -1,0 +1,73 @@
+-- What a league has written when its feed ended or was stopped.
+use Rattle.std.proofs.Common.{◌≡◌, ℕ, true, false, List, [], ◌++◌, inl, inr, Option, Some, None, Err, refl, subst}
+use Rattle.line_text.specs.declared.line_reader.stops.Stop.{Stop}
+use Rattle.line_text.specs.declared.line_reader.stops.Stop.TheVariants.{NoMemory, OfFeed}
+use Rattle.line_text.specs.declared.line_reader.answers.NextLine.{NextLine}
+use Rattle.line_text.specs.declared.line_reader.answers.ReadStop.{ReadStop}
+use Rattle.line_text.specs.declared.line_reader.answers.ReadStop.TheVariants.{SourceFailed, TooLong}
+use Rattle.line_text.specs.line_reader.FeedRuns.{HasRun, is_source_failed, ran_of}
+use Rattle.line_text.specs.line_reader.Reader.{is_fault}
+use Rattle.ride_ports.specs.Count.{KeepsCount}
+use Rattle.line_text.proofs.line_reader.FeedLines.{are-taken}
+use Rattle.ride_model.specs.declared.entry.Ending.{Ending}
+use Rattle.ride_model.specs.declared.entry.Ending.TheVariants.{Whole}
+use Rattle.ride_model.specs.declared.settings.Settings.{Settings}
+use Rattle.ride_model.specs.declared.vehicle.Vehicle.{Vehicle}
+use Rattle.ride_model.specs.Road.{RoadMap}
+use Rattle.ride_ports.specs.Bytes.{Writes, WritesPrefix}
+use Rattle.ride_ports.proofs.ByteLemmas.{WritesPrefix-of_first}
+use Rattle.command_lines.specs.Limits.{feed_limits}
+use Rattle.line_text.specs.text_page.Output.{HasPut, OutputState}
+use Rattle.line_text.proofs.text_page.OutputLemmas.{written-prefix, written-whole}
+use Rattle.fleet_league.specs.league_session.Leagued.{IsLeagued, IsTextOf}
+use Rattle.fleet_league.specs.league_session.LeagueRuns.{ended_text, ending_of, with_ending}
+use Rattle.fleet_league.specs.league_session.LeagueTexts.{last_line}
+
+-- a stop of the source is a fault of it
+pub fault-stops : (stop : ReadStop) (before after : ℕ) → KeepsCount (is_fault {T = NextLine} (Err stop)) before after
+    → KeepsCount (is_source_failed (Some (OfFeed stop))) before after
+fault-stops SourceFailed before after kept = kept
+fault-stops TooLong before after kept = kept
+
+-- what was written is a first part of the text with a last line
+ended-prefix : {before after : Option (List ℕ)} (o : Option Ending) (text : List ℕ) → WritesPrefix before after (with_ending o text)
+    → (ending : Ending) × WritesPrefix before after (text ++ last_line ending)
+ended-prefix None text part = (Whole, WritesPrefix-of_first (last_line Whole) part)
+ended-prefix (Some ending) text part = (ending, part)
+
+-- what was written of a league, once nothing is left on the page
+pub is-leagued : (roads : RoadMap) (settings : Settings) (one two : List Vehicle) (feed left before after : Option (List ℕ)) (faults n : ℕ)
+    (taken : List ℕ) (lines : List (List ℕ)) (text : List ℕ) (stop : Option Stop) (output : OutputState) → IsTextOf roads settings one two lines text
+    → (output.failed ≡ false → output.page ≡ []) → HasRun feed_limits feed left stop output.failed taken lines
+    → HasPut before after faults n output (ended_text stop text) → IsLeagued roads settings one two (ran_of stop output.failed) feed taken before after
+is-leagued roads settings one two feed left before after faults n taken lines text stop output is_text bare run put =
+    let are = are-taken feed_limits stop left taken output.failed lines run.ended in
+    let by_stop = λ (stood : output.failed ≡ false) (o : Option Stop) (is : stop ≡ o). subst (λ (s : Option Stop). Writes before after (ended_text s text)) is
+    (written-whole before after faults n output (ended_text stop text) put stood bare) in
+    let text_of = λ (all : List (List ℕ)) (is : lines ≡ all). subst (λ (ls : List (List ℕ)). IsTextOf roads settings one two ls text) is is_text in
+    record {
+      whole = λ written read.
+          let (none, all) = are.whole written read in
+          (text, text_of _ all, by_stop written.0 None none);
+      cut = λ written short.
+          let (why, is, within) = are.cut written short in
+          (text, text_of _ within, by_stop written.0 _ is);
+      no_memory = λ stood wanting. inr (lines, text, run.first, is_text, by_stop stood (Some NoMemory) (are.no_memory stood wanting));
+      sink_failed = λ fell.
+          let (ending, part) = ended-prefix (ending_of stop) text (written-prefix before after faults n output (ended_text stop text) put fell) in
+          (lines, text, ending, run.first, is_text, part);
+      within = are.within;
+      too_long = are.too_long;
+    }
+
+-- a league of which nothing was written for want of memory
+pub leagued-none : (roads : RoadMap) (settings : Settings) (one two : List Vehicle) (feed before : Option (List ℕ))
+    → IsLeagued roads settings one two (ran_of (Some NoMemory) false) feed [] before before
+leagued-none roads settings one two feed before = record {
+  whole = λ written _. absurd (let no : true ≡ false = written.1 in cc);
+  cut = λ written _. absurd (let no : true ≡ false = written.1 in cc);
+  no_memory = λ _ _. inl (refl, refl);
+  sink_failed = λ fell. absurd (cc fell);
+  within = λ written _. absurd (let no : true ≡ false = written.1 in cc);
+  too_long = λ long. absurd (cc long);
+}

@@ -1,0 +1,10 @@
+use Rattle.std.proofs.Common.{subst}
+use Rattle.fleet_league.specs.Companies.{CompanyState}
+use Rattle.fleet_league.specs.league_session.LeagueBoards.{IsSound}
+use Rattle.fleet_league.proofs.league_session.LeagueMembers.{sound}
+use Rattle.fleet_league.proofs.league_session.members.Member.quote.Goals as goal
+
+pub returns-clause-sound : goal.returns-clause-sound
+returns-clause-sound g c =
+    subst (λ (s : CompanyState). IsSound s.board) c.self.view_is
+    (subst IsSound c.board.ensures.board (sound c.board.result.now (record { begins = c.entries-history.ensures.start; legal = c.entries-history.ensures.legal })))

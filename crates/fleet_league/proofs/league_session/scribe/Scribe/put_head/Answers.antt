@@ -1,0 +1,8 @@
+use Rattle.std.proofs.Common.{◌++◌, List, ℕ, subst}
+use Rattle.line_text.specs.text_page.Output.{HasPut}
+use Rattle.fleet_league.proofs.league_session.scribe.Scribe.put_head.Goals as goal
+
+pub returns-clause-put : goal.returns-clause-put
+returns-clause-put g c before faults earlier has =
+    subst (λ (l : List ℕ). HasPut before (g.K.Sink.written c.put.new.out) faults (g.K.Sink.faults c.put.new.out) c.put.new.self (earlier ++ l))
+    c.head_line.ensures (c.put.ensures.put before faults earlier has)

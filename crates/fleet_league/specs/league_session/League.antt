@@ -1,0 +1,183 @@
+-- A league of two companies, and what each line of its feed makes of it.
+use Rattle.std.specs.Prelude.{◌≡◌, ◌≢◌, ℕ, ◌+◌, ◌==◌, nat_lt, if◌then◌else◌, Bool, false, List, [], ◌∷◌, ◌++◌, take, is_some, IsTrue, IsFalse}
+use Rattle.ride_model.specs.declared.command.Command.{Command}
+use Rattle.ride_model.specs.declared.command.Command.TheVariants.{Request, Cancel, Clock, Ask}
+use Rattle.ride_model.specs.declared.entry.Entry.{Entry}
+use Rattle.ride_model.specs.declared.reply.Reply.{Reply}
+use Rattle.ride_model.specs.declared.reply.Reply.TheVariants.{Noted, Refused}
+use Rattle.ride_model.specs.declared.reply.RequestState.TheVariants.{Cancelled}
+use Rattle.ride_model.specs.declared.settings.Settings.{Settings}
+use Rattle.ride_model.specs.declared.vehicle.Ride.{Ride}
+use Rattle.ride_model.specs.declared.vehicle.Vehicle.{Vehicle}
+use Rattle.ride_model.specs.Batch.{waiting_rides, with_request_states}
+use Rattle.ride_model.specs.Legal.{IsLegal, replay}
+use Rattle.ride_model.specs.Road.{RoadMap}
+use Rattle.ride_model.specs.State.{State, request_state, start_state}
+use Rattle.ride_model.specs.Step.{step}
+use Rattle.ride_model.specs.Limits.{most_batches}
+use Rattle.ride_model.specs.Refusals.{batches_full}
+use Rattle.dual_check.specs.declared.paired.Paired.{Paired}
+use Rattle.dual_check.specs.Grid.{pairing_cost}
+use Rattle.fleet_league.specs.declared.briefs.Brief.{Brief}
+use Rattle.fleet_league.specs.declared.league_session.lines.FeedLine.{FeedLine}
+use Rattle.fleet_league.specs.declared.league_session.lines.FeedLine.TheVariants.{League, Company}
+use Rattle.fleet_league.specs.declared.league_session.rows.RoundColumn.{RoundColumn}
+use Rattle.fleet_league.specs.declared.league_session.rows.RoundRow.{RoundRow}
+use Rattle.fleet_league.specs.declared.league_session.sheets.RoundSheet.{RoundSheet}
+use Rattle.fleet_league.specs.declared.league_session.sheets.Told.{Told}
+use Rattle.fleet_league.specs.declared.league_session.sheets.Told.TheVariants.{Answer, Round}
+use Rattle.fleet_league.specs.declared.quotes.Quote.{Quote}
+use Rattle.fleet_league.specs.Awards.{AddsAward, won_columns, won_rides}
+use Rattle.board_core.specs.Recorded.{state_of}
+use Rattle.fleet_league.specs.Companies.{CompanyState}
+use Rattle.fleet_league.specs.league_session.LeagueTexts.{told_line}
+use Rattle.fleet_league.specs.Prices.{prices_of, quote_of}
+use Rattle.fleet_league.specs.Round.{IsRound, company_prices}
+use Rattle.fleet_league.specs.league_session.RoundParts.{brief_of, paid_columns, rows_of, sheet_of, union_columns}
+
+-- a league: the desk that judges its requests, which has no vehicles and is asked for each round, and the companies' boards. A
+-- request waits where it waits at the desk, and is with a company whose board has accepted it. A round closes its requests at the
+-- desk: one that is neither waiting nor with a company is away or cancelled
+pub record LeagueState : Type 0 where
+  pub desk : State
+  pub first : State
+  pub second : State
+
+-- a league at its start: both companies have the same settings
+abbrev pub league_start : RoadMap → Settings → List Vehicle → List Vehicle → LeagueState
+league_start roads settings first second = record {
+  desk = start_state roads settings [];
+  first = start_state roads settings first;
+  second = start_state roads settings second;
+}
+
+-- the league after a line that makes no round, and the reply to it
+pub record LeagueAnswer : Type 0 where
+  pub league : LeagueState
+  pub reply : Reply
+
+-- a command that the desk answers, or a company's board
+abbrev pub by_desk : LeagueState → Command → LeagueAnswer
+by_desk s command = record { league = record s { desk = (step s.desk command).state }; reply = (step s.desk command).reply }
+
+abbrev pub by_first : LeagueState → Command → LeagueAnswer
+by_first s command = record { league = record s { first = (step s.first command).state }; reply = (step s.first command).reply }
+
+abbrev pub by_second : LeagueState → Command → LeagueAnswer
+by_second s command = record { league = record s { second = (step s.second command).state }; reply = (step s.second command).reply }
+
+-- whether a company's board has accepted the request of an id
+abbrev pub is_with : State → ℕ → Bool
+is_with board id = is_some (request_state board id)
+
+-- a cancellation goes to the company that the request is with
+abbrev pub cancel_answer : LeagueState → ℕ → LeagueAnswer
+cancel_answer s id =
+    if is_with s.first id then by_first s (Cancel id)
+    else if is_with s.second id then by_second s (Cancel id)
+    else by_desk s (Cancel id)
+
+-- the clock goes to every company
+abbrev pub clock_answer : LeagueState → ℕ → LeagueAnswer
+clock_answer s time = record {
+  league = record s { first = (step s.first (Clock time)).state; second = (step s.second (Clock time)).state };
+  reply = (step s.first (Clock time)).reply;
+}
+
+-- why a report to a company that is none is refused
+abbrev pub unknown_company : ℕ
+unknown_company = 18
+
+-- a report goes to the company of its number, if there is one
+abbrev pub report_answer : LeagueState → ℕ → Command → LeagueAnswer
+report_answer s company command =
+    if company == 1 then by_first s command
+    else if company == 2 then by_second s command
+    else record { league = s; reply = Refused unknown_company }
+
+-- a line that makes no round
+abbrev pub league_answer : LeagueState → FeedLine → LeagueAnswer
+league_answer s (League (Request id from to seats latest longest chairs)) = by_desk s (Request id from to seats latest longest chairs)
+league_answer s (League (Cancel id)) = cancel_answer s id
+league_answer s (League (Clock time)) = clock_answer s time
+league_answer s (League Ask) = record { league = s; reply = Refused batches_full }
+league_answer s (League _) = record { league = s; reply = Noted }
+league_answer s (Company company command) = report_answer s company command
+
+-- whether a line makes a round: a batch, where fewer than 2,000 rounds were made
+abbrev pub makes_round : LeagueState → FeedLine → Bool
+makes_round s (League Ask) = nat_lt s.desk.asked most_batches
+makes_round s _ = false
+
+-- the rides of the next round: the first that wait
+abbrev pub next_rides : LeagueState → List Ride
+next_rides s = take s.desk.settings.batch (waiting_rides s.desk)
+
+-- what two companies' boards quote for rides, as they stand
+abbrev pub quotes_of : State → State → List Ride → List Quote
+quotes_of first second rides = quote_of first rides ∷ quote_of second rides ∷ []
+
+-- the rows of a round of rides over quotes, and its columns with what they pay
+abbrev pub round_rows : List Quote → List Ride → Paired → List RoundRow
+round_rows quotes rides round = rows_of (union_columns quotes) rides round
+
+abbrev pub round_columns : List Quote → Paired → List (RoundColumn × ℕ)
+round_columns quotes round = paid_columns (union_columns quotes) round
+
+-- a round of rides between two companies, as their boards stand, and the part of the company of a number
+abbrev pub IsRoundBetween : CompanyState → CompanyState → List Ride → ℕ → Paired → Type 0
+IsRoundBetween first second rides penalty round =
+    IsRound penalty (company_prices (quotes_of (state_of first.board) (state_of second.board) rides)) round
+
+abbrev pub part_between : ℕ → CompanyState → CompanyState → List Ride → Paired → Brief
+part_between company first second rides round =
+    let quotes = quotes_of (state_of first.board) (state_of second.board) rides in
+    brief_of company (round_rows quotes rides round) (round_columns quotes round)
+
+-- what the commit of a company's part costs
+abbrev pub commit_cost : State → Brief → ℕ
+commit_cost s brief = pairing_cost (prices_of s (won_rides brief.wins)) s.settings.penalty (won_columns s.vehicles brief.wins)
+
+-- the desk after a round of rides
+abbrev pub after_round : State → List Ride → State
+after_round desk rides =
+    let closed = with_request_states Cancelled rides desk in
+    record closed { asked = desk.asked + 1; opened = desk.opened + 1 }
+
+-- a board after a confirmed award of a brief: as it was, where nothing was won, and else after entries that are legal at it
+pub record IsAwarded (brief : Brief) (old new : State) : Type 0 where
+  pub none_won : brief.wins ≡ [] → new ≡ old
+  pub won : brief.wins ≢ [] → (entries : List Entry) × AddsAward old brief [] entries × IsLegal 1 1 old entries × (new ≡ replay old entries)
+
+-- a round of rides over quotes, of which this is told, and which gives the companies these parts
+pub record IsRoundOf (penalty : ℕ) (quotes : List Quote) (rides : List Ride) (sheet : RoundSheet) (first second : Brief) : Type 0 where
+  pub round : Paired
+  pub is_round : IsRound penalty (company_prices quotes) round
+  pub sheet_is : sheet ≡ sheet_of (pairing_cost is_round.grid penalty round.columns) (round_rows quotes rides round) (round_columns quotes round)
+  pub first_is : first ≡ brief_of 1 (round_rows quotes rides round) (round_columns quotes round)
+  pub second_is : second ≡ brief_of 2 (round_rows quotes rides round) (round_columns quotes round)
+
+-- a round of rides was played by two boards as they stood, and this is told of it
+pub record PlaysRound (penalty : ℕ) (rides : List Ride) (first new_first second new_second : State) (sheet : RoundSheet) : Type 0 where
+  pub first_brief : Brief
+  pub second_brief : Brief
+  pub is_round : IsRoundOf penalty (quotes_of first second rides) rides sheet first_brief second_brief
+  pub first_awarded : IsAwarded first_brief first new_first
+  pub second_awarded : IsAwarded second_brief second new_second
+
+-- a league's round was made of the first requests that waited
+pub record MakesRound (old new : LeagueState) (sheet : RoundSheet) : Type 0 where
+  pub desk_is : new.desk ≡ after_round old.desk (next_rides old)
+  pub played : PlaysRound old.desk.settings.penalty (next_rides old) old.first new.first old.second new.second sheet
+
+-- a line of a feed takes a league on, and this becomes of it
+pub record TakesLine (old new : LeagueState) (line : FeedLine) (told : Told) : Type 0 where
+  pub answered : IsFalse (makes_round old line) → (new ≡ (league_answer old line).league) × (told ≡ Answer (league_answer old line).reply)
+  pub made : IsTrue (makes_round old line) → (sheet : RoundSheet) × MakesRound old new sheet × (told ≡ Round (old.desk.asked + 1) sheet)
+
+-- lines of a feed take a league on, one after another, and give a text
+unfoldable pub TellsLines : ℕ → LeagueState → List FeedLine → LeagueState → List ℕ → Type 0
+TellsLines log old [] new text = (new ≡ old) × (text ≡ [])
+TellsLines log old (line ∷ lines) new text =
+    (between : LeagueState) × (told : Told) × (rest : List ℕ) × TakesLine old between line told
+    × TellsLines log between lines new rest × (text ≡ told_line log line told ++ rest)

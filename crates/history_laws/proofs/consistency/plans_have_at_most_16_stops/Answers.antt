@@ -1,5 +1,0 @@
-use Rattle.history_laws.proofs.RideCounts.{plans_short, rides_short}
-use Rattle.history_laws.proofs.consistency.plans_have_at_most_16_stops.Goals as goal
-
-pub returns : goal.returns
-returns c = record { stops = plans_short; rides = rides_short }

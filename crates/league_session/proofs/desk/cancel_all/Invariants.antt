@@ -1,7 +1,0 @@
-use Rattle.std.proofs.Common.{take}
-use Rattle.league_session.proofs.Cancelling.{AreCancelled}
-use Rattle.league_session.proofs.desk.cancel_all.Given as goal
-
--- the requests of the rides so far are cancelled
-abbrev pub invariant-loop-ride : goal.invariant-loop-ride
-invariant-loop-ride l = AreCancelled l.initial.board l.board (take l.ride-index l.rides)

@@ -1,8 +1,0 @@
-use Rattle.std.proofs.Common.{◌≡◌, ◌++◌, take}
-use Rattle.std.specs.Prelude.{map}
-use Rattle.league_session.specs.RoundParts.{column_of_plan}
-use Rattle.league_session.proofs.rows.add_columns.Given as goal
-
--- the columns of the plans so far were added
-abbrev pub invariant-loop-plan : goal.invariant-loop-plan
-invariant-loop-plan l = l.columns.items ≡ l.initial.columns.items ++ map (column_of_plan l.company) (take l.plan-index l.plan-items)

@@ -1,5 +1,0 @@
-//! How many commands a feed gives at most, and how long the text of a legal history can be.
-#![tactic(auto)]
-
-pub mod feeds;
-pub mod lengths;

@@ -1,7 +1,0 @@
-use Rattle.std.proofs.Common.{refl}
-use Rattle.line_reader.proofs.LineParts.{read-nothing}
-use Rattle.line_reader.proofs.reader.LineReader.new.Goals as goal
-
-pub returns-clause-nothing_given : goal.returns-clause-nothing_given
-returns-clause-nothing_given c =
-    read-nothing _ c.in_ok-cutter.ensures.nothing_taken c.in_ok-cutter.ensures.most c.in_ok-piece.ensures refl refl

@@ -1,6 +1,0 @@
-use Rattle.std.specs.Prelude.{IfSome}
-use Rattle.link_lists.specs.Family.{IsHeld}
-use Rattle.list_trials.proofs.links.has_nodes.Given as goal
-
-abbrev pub invariant-loop-wanted : goal.invariant-loop-wanted
-invariant-loop-wanted l = IfSome l.current (IsHeld l.links)

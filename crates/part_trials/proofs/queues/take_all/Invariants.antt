@@ -1,0 +1,8 @@
+use Rattle.std.proofs.Common.{◌≡◌, length}
+use Rattle.part_trials.proofs.queues.take_all.Given as goal
+
+abbrev pub invariant-loop-step : goal.invariant-loop-step
+invariant-loop-step g l = record {
+  size : length l.queue.keys ≡ l.case.nodes;
+  floor : l.queue.floor ≡ l.floor;
+}

@@ -1,2 +1,0 @@
-//! Plain lemmas that several crates cite: of options, numbers and lists. They speak of no word of ride dispatch.
-#![tactic(auto)]

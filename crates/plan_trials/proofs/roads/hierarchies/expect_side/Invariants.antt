@@ -1,0 +1,8 @@
+use Rattle.std.proofs.Common.{◌≡◌, length}
+use Rattle.plan_trials.proofs.roads.hierarchies.expect_side.Given as goal
+
+abbrev pub invariant-loop-place : goal.invariant-loop-place
+invariant-loop-place g l = record {
+  room : l.room ≡ l.initial.room;
+  places : length l.row.items ≡ length l.initial.row.items;
+}

@@ -1,0 +1,5 @@
+use Rattle.std.proofs.Common.{◌≡◌}
+use Rattle.plan_trials.proofs.roads.hostile.compare_searches.Given as goal
+
+abbrev pub invariant-loop-place : goal.invariant-loop-place
+invariant-loop-place g l = (l.rooms.adaptive ≡ l.fn.rooms.adaptive) × (l.rooms.search ≡ l.fn.rooms.search)

@@ -1,0 +1,2 @@
+//! What holds of the log of every session.
+pub mod logs;

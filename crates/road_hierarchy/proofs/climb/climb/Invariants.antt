@@ -1,5 +1,0 @@
-use Rattle.road_hierarchy.proofs.Climbing.{IsClimbing}
-use Rattle.road_hierarchy.proofs.climb.climb.Given as goal
-
-abbrev pub invariant-loop-level : goal.invariant-loop-level
-invariant-loop-level l = IsClimbing l.levels l.fn.ascents.starts.items l.fn.ascents.uppers.items l.first l.level l.labels

@@ -1,7 +1,0 @@
-use Rattle.std.proofs.Common.{◌≡◌, ◌++◌, take}
-use Rattle.std.specs.Prelude.{map}
-use Rattle.road_hierarchy.specs.Selection.{step_from}
-use Rattle.road_hierarchy.proofs.selected.append_steps.Given as goal
-
-abbrev pub invariant-loop-upper : goal.invariant-loop-upper
-invariant-loop-upper l = l.steps.items ≡ l.initial.steps.items ++ map (step_from l.places) (take l.upper-index l.uppers)

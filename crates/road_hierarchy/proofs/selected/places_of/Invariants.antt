@@ -1,7 +1,0 @@
-use Rattle.std.proofs.Common.{◌≡◌, take}
-use Rattle.std.specs.Prelude.{map}
-use Rattle.road_hierarchy.specs.Marks.{node_at}
-use Rattle.road_hierarchy.proofs.selected.places_of.Given as goal
-
-abbrev pub invariant-loop-node : goal.invariant-loop-node
-invariant-loop-node l = l.list.items ≡ map (node_at l.places) (take l.node-index l.wanted)

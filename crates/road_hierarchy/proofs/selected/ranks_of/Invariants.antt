@@ -1,7 +1,0 @@
-use Rattle.std.proofs.Common.{◌≡◌, take}
-use Rattle.std.specs.Prelude.{map}
-use Rattle.contraction.specs.Levels.{level_in}
-use Rattle.road_hierarchy.proofs.selected.ranks_of.Given as goal
-
-abbrev pub invariant-loop-node : goal.invariant-loop-node
-invariant-loop-node l = l.list.items ≡ map (level_in l.levels) (take l.node-index l.nodes)

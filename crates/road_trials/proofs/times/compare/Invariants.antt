@@ -1,8 +1,0 @@
-use Rattle.std.proofs.Common.{◌≡◌, length}
-use Rattle.road_trials.proofs.times.compare.Given as goal
-
-abbrev pub invariant-loop-place : goal.invariant-loop-place
-invariant-loop-place g l = record {
-  scratch : l.scratch ≡ l.fn.scratch;
-  places : length l.row ≡ length l.fn.row;
-}

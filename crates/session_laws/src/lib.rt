@@ -1,4 +1,0 @@
-//! What holds of the log of every session.
-#![tactic(auto)]
-
-pub mod logs;

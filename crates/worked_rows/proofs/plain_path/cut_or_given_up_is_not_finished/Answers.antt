@@ -1,7 +1,0 @@
-use Rattle.std.proofs.lemmas.Bool.{false≢true}
-use Rattle.ride_model.specs.Legal.{replay}
-use Rattle.worked_rows.proofs.plain_path.cut_or_given_up_is_not_finished.Goals as goal
-
-pub returns-clause-cut : goal.returns-clause-cut
-unfolding replay
-returns-clause-cut c finished = false≢true finished.feeds_whole

@@ -1,8 +1,0 @@
-use Rattle.std.proofs.Common.{refl}
-use Rattle.std.specs.Fmt.{digits}
-use Rattle.ride_model.specs.Text.{text_of}
-use Rattle.worked_rows.proofs.plain_path.plain_path_text.Goals as goal
-
-pub returns : goal.returns
-unfolding text_of digits
-returns c = refl
