@@ -51,7 +51,7 @@ def crates() -> list[str]:
 
 def is_trial(crate: str) -> bool:
     """Returns whether a crate has tests or the bench, and nothing of the product."""
-    return crate.endswith("_trials") or crate in ("trial_town", "ride_bench", "worked_rows")
+    return crate.endswith("_trials") or crate == "ride_bench"
 
 
 def parameters_of(head: str) -> int:

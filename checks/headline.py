@@ -4,15 +4,18 @@
     python3 checks/headline.py [--write | --check]
     python3 checks/headline.py [--list] --from crates/dispatcher/src/top.rt --call run
 
-Prints how many definitions are reached, their lines, files and crates; with --list their names, file by file, in the order of crates.txt. --write
-puts both contracts and the definitions themselves into docs/headline.md, behind its mark; --check says whether the page has them as they are, and
-whether README has their numbers. --from and --call count for another call. A definition is one of a crate's `specs/`; types of the code
-(`specs/declared`) and words of the kit are not counted, since the code and the kit's pages have them.
+Prints how many definitions are reached, their lines without comments, files and crates; with --list their names, file by file, in the order of
+crates.txt. --write puts both contracts and the definitions themselves into docs/headline.md, behind its mark; --check says whether the page has them
+as they are, whether README has their numbers, and whether the others, and no more, stand in `specs/inner/` of each crate of the product. --from
+and --call count for another call. A definition is one of a crate's `specs/`; types of the code (`specs/declared`) and words of the kit are not
+counted, since the code and the kit's pages have them.
 """
 import argparse
 import pathlib
 import re
 from dataclasses import dataclass, field
+
+from figures import is_trial
 
 TOP = pathlib.Path(__file__).resolve().parent.parent
 PAGE = TOP / "docs" / "headline.md"
@@ -126,8 +129,8 @@ def crate_order() -> dict[str, int]:
 
 
 def count_of(found: list[Definition]) -> str:
-    """Returns how many definitions these are, with their lines, files and crates."""
-    lines = sum(len(definition.lines) for definition in found)
+    """Returns how many definitions these are, with their lines that are no comments, files and crates."""
+    lines = sum(bool(line.strip()) and not line.lstrip().startswith("--") for definition in found for line in definition.lines)
     modules = {definition.module for definition in found}
     crates = {module.split(".")[1] for module in modules}
     return f"{len(found)} definitions, {lines} lines, {len(modules)} files, {len(crates)} crates"
@@ -139,6 +142,20 @@ def in_order(modules: dict[str, Module], found: list[Definition]) -> list[tuple[
     wanted = {(definition.module, definition.name) for definition in found}
     names = sorted({definition.module for definition in found}, key=lambda module: (order.get(module.split(".")[1], -1), module))
     return [(modules[name], [d for key, d in modules[name].definitions.items() if (name, key) in wanted and key == d.name]) for name in names]
+
+
+def misplaced(modules: dict[str, Module], known: set[tuple[str, str]]) -> list[str]:
+    """Returns what is wrong with where definitions stand: those that a top call reaches outside `specs/inner/`, the others in it."""
+    faults = []
+    for name, module in modules.items():
+        crate, folder = name.split(".")[1], name.split(".")[3]
+        if is_trial(crate):
+            continue
+        for definition in {d.name for d in module.definitions.values()}:
+            if ((name, definition) in known) == (folder == "inner"):
+                where = "outside of" if folder == "inner" else "in"
+                faults.append(f"{module.path.relative_to(TOP)}: {definition} belongs {where} specs/inner/")
+    return sorted(faults)
 
 
 def page_of(path: pathlib.Path, call: str, files: list[tuple[Module, list[Definition]]], count: str) -> str:
@@ -185,6 +202,7 @@ def whole_page(modules: dict[str, Module], found: list[Definition], writes: bool
     if not checks:
         return
     faults = [] if after == wanted else ["docs/headline.md is not as the sources are: python3 checks/headline.py --write"]
+    faults += misplaced(modules, known | {(definition.module, definition.name) for definition in more})
     readme = (TOP / "README.md").read_text(encoding="utf-8")
     for said in (f"{len(found)} definitions", f"{len(more)} more"):
         if said not in readme:

@@ -1,7 +1,1 @@
-pub mod Made
-pub mod Seen
-pub mod Selections
-pub mod Batch
-pub mod hierarchy_laws
-pub mod contraction
-pub mod road_hierarchy
+pub mod inner

@@ -1,8 +1,8 @@
 //! Travel times for a batch by searches, or by sweeps and climbs, whichever is at hand: the times are the same.
 ghost use Rattle.std.specs.Prelude.{◌≡◌, length, map, All, IfSome};
 ghost use Rattle.ride_model.specs.Road.{IsRoadMap, IsNode, travel};
-ghost use Rattle.road_times.specs.Turned.{travel_by};
-ghost use Rattle.adaptive_roads.specs.Selections.{IsSelectedOf};
+ghost use Rattle.road_times.specs.inner.Turned.{travel_by};
+ghost use Rattle.adaptive_roads.specs.inner.Selections.{IsSelectedOf};
 
 use crate::Roads;
 use crate::scratch::Scratch;
@@ -19,11 +19,11 @@ pub struct BatchRoads<'a> {
 }
 
 impl<'a> Model for BatchRoads<'a> {
-    ghost use Rattle.adaptive_roads.specs.Batch.{Wants};
+    ghost use Rattle.adaptive_roads.specs.inner.Batch.{Wants};
 
     ghost Value = { Wants };
 
-    ghost use Rattle.adaptive_roads.specs.Batch.{AreServed};
+    ghost use Rattle.adaptive_roads.specs.inner.Batch.{AreServed};
 
     ghost view = { λ b. record { roads = b.roads.now; wanted = b.wanted.now } };
 

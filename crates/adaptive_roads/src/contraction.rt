@@ -5,11 +5,11 @@
 //! searches and its budget stand in no contract.
 ghost use Rattle.std.specs.Prelude.{◌≡◌, ℕ, ◌+◌, ◌<◌, ◌≤◌, [], length, All, Some, IfOk, IfSome, IsTrue, IsFalse, ◌↔◌, Ok, false, slice_get, slice_index_or};
 ghost use Rattle.ride_model.specs.Road.{RoadMap};
-ghost use Rattle.radix_queue.specs.Queue.{Queue};
-ghost use Rattle.adaptive_roads.specs.contraction.Contracted.{IsContractionOf, IsFitContraction};
-ghost use Rattle.adaptive_roads.specs.contraction.Graph.{IsGraph};
-ghost use Rattle.adaptive_roads.specs.contraction.Levels.{level_in};
-ghost use Rattle.adaptive_roads.specs.contraction.View.{contracted_of};
+ghost use Rattle.radix_queue.specs.inner.Queue.{Queue};
+ghost use Rattle.adaptive_roads.specs.inner.contraction.Contracted.{IsContractionOf, IsFitContraction};
+ghost use Rattle.adaptive_roads.specs.inner.contraction.Graph.{IsGraph};
+ghost use Rattle.adaptive_roads.specs.inner.contraction.Levels.{level_in};
+ghost use Rattle.adaptive_roads.specs.inner.contraction.View.{contracted_of};
 
 use radix_queue::RadixQueue;
 use ride_model::{Network, RoadArc};
@@ -86,13 +86,13 @@ pub struct Levelled {
 
 impl Model for Contraction {
     ghost use Rattle.std.specs.Prelude.{◌≡◌, ◌+◌, length};
-    ghost use Rattle.adaptive_roads.specs.contraction.Contracted.{Contracted};
+    ghost use Rattle.adaptive_roads.specs.inner.contraction.Contracted.{Contracted};
 
     ghost Value = { Contracted };
 
-    ghost use Rattle.adaptive_roads.specs.contraction.View.{contracted_of};
-    ghost use Rattle.adaptive_roads.specs.contraction.Graph.{IsGraph};
-    ghost use Rattle.adaptive_roads.specs.contraction.Witness.{IsRoomy};
+    ghost use Rattle.adaptive_roads.specs.inner.contraction.View.{contracted_of};
+    ghost use Rattle.adaptive_roads.specs.inner.contraction.Graph.{IsGraph};
+    ghost use Rattle.adaptive_roads.specs.inner.contraction.Witness.{IsRoomy};
 
     ghost view = { λ c. contracted_of c.is_spent c.graph };
 

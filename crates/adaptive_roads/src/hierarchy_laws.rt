@@ -5,10 +5,11 @@
 //! Nowatzyk and Werneck (PHAST, 2011), here with a core of nodes that were not contracted.
 ghost use Rattle.std.specs.Prelude.{◌≡◌, ℕ, ◌+◌, ◌<◌, ◌≤◌, ◌⊎◌, List, Contains};
 ghost use Rattle.ride_model.specs.declared.network.RoadArc.{RoadArc};
-ghost use Rattle.ride_model.specs.Road.{RoadMap, IsRoadMap, IsWalk, weight_of, travel};
-ghost use Rattle.adaptive_roads.specs.hierarchy_laws.Ways.{Reaches};
-ghost use Rattle.adaptive_roads.specs.hierarchy_laws.Hierarchy.{IsRising, IsFalling, IsHierarchyOf, IsBypassed, IsRaised, IsUpDown, flipped};
-ghost use Rattle.adaptive_roads.specs.hierarchy_laws.Labels.{IsLabel, IsGathered, time_of};
+ghost use Rattle.ride_model.specs.Road.{RoadMap, IsRoadMap, travel};
+ghost use Rattle.ride_model.specs.inner.Road.{IsWalk, weight_of};
+ghost use Rattle.adaptive_roads.specs.inner.hierarchy_laws.Ways.{Reaches};
+ghost use Rattle.adaptive_roads.specs.inner.hierarchy_laws.Hierarchy.{IsRising, IsFalling, IsHierarchyOf, IsBypassed, IsRaised, IsUpDown, flipped};
+ghost use Rattle.adaptive_roads.specs.inner.hierarchy_laws.Labels.{IsLabel, IsGathered, time_of};
 
 /// A hierarchy keeps what walks weigh: each walk has a way over the links that weighs no more, and each such way has a walk.
 pub fn ways_are_carried()

@@ -9,7 +9,7 @@
 
 ghost use Rattle.std.specs.Prelude.{◌≡◌, IfOk, IfSome};
 ghost use Rattle.ride_model.specs.Road.{IsRoadMap};
-ghost use Rattle.adaptive_roads.specs.Made.{IsMadeOf};
+ghost use Rattle.adaptive_roads.specs.inner.Made.{IsMadeOf};
 
 use made::Made;
 use making::{Making, Progress, contract_more};

@@ -1,6 +1,6 @@
 //! A hierarchy that was made, with the map that it was made of.
 ghost use Rattle.std.specs.Prelude.{◌≡◌, ◌↔◌, IfOk, IfSome, IsTrue};
-ghost use Rattle.adaptive_roads.specs.Made.{IsMadeOf};
+ghost use Rattle.adaptive_roads.specs.inner.Made.{IsMadeOf};
 
 use ride_model::{Network, NoMemory};
 use crate::road_hierarchy::Hierarchy;
@@ -16,7 +16,7 @@ pub(crate) struct Made {
 }
 
 impl Model for Made {
-    ghost use Rattle.adaptive_roads.specs.Made.{MadeOf, IsMadeOf};
+    ghost use Rattle.adaptive_roads.specs.inner.Made.{MadeOf, IsMadeOf};
 
     ghost Value = { MadeOf };
 

@@ -1,6 +1,6 @@
 //! How far a hierarchy is made.
 ghost use Rattle.std.specs.Prelude.{◌≡◌, IfOk};
-ghost use Rattle.adaptive_roads.specs.Made.{IsMadeOf};
+ghost use Rattle.adaptive_roads.specs.inner.Made.{IsMadeOf};
 
 use crate::made::Made;
 use crate::contraction::Contraction;
@@ -18,7 +18,7 @@ pub(crate) struct Contracting {
 }
 
 impl Model for Contracting {
-    ghost use Rattle.adaptive_roads.specs.Made.{MadeOf, IsMadeOf};
+    ghost use Rattle.adaptive_roads.specs.inner.Made.{MadeOf, IsMadeOf};
 
     ghost Value = { MadeOf };
 

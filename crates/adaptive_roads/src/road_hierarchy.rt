@@ -10,16 +10,16 @@
 ghost use Rattle.std.specs.Prelude.{◌≡◌, ◌≢◌, ℕ, ◌+◌, ◌<◌, ◌≤◌, length, map, IfOk, IfSome, IfNone};
 ghost use Rattle.ride_model.specs.Road.{RoadMap, IsRoadMap, travel};
 ghost use Rattle.road_times.specs.declared.side.Side.TheVariants.{Out, Back};
-ghost use Rattle.road_times.specs.Turned.{travel_by};
-ghost use Rattle.adaptive_roads.specs.contraction.Contracted.{Contracted, IsContractionOf, IsFitContraction};
-ghost use Rattle.adaptive_roads.specs.contraction.Levels.{level_in};
-ghost use Rattle.adaptive_roads.specs.road_hierarchy.Links.{IsLinkBy};
-ghost use Rattle.adaptive_roads.specs.road_hierarchy.Sweep.{never, label_for};
-ghost use Rattle.adaptive_roads.specs.road_hierarchy.Descents.{AreDescents};
-ghost use Rattle.adaptive_roads.specs.road_hierarchy.Marks.{node_at};
-ghost use Rattle.adaptive_roads.specs.road_hierarchy.Packed.{IsPackingOf, IsWhole, levelled};
-ghost use Rattle.adaptive_roads.specs.road_hierarchy.Climb.{AreClimbs, opposite};
-ghost use Rattle.adaptive_roads.specs.road_hierarchy.Selection.{IsSelectionOf};
+ghost use Rattle.road_times.specs.inner.Turned.{travel_by};
+ghost use Rattle.adaptive_roads.specs.inner.contraction.Contracted.{Contracted, IsContractionOf, IsFitContraction};
+ghost use Rattle.adaptive_roads.specs.inner.contraction.Levels.{level_in};
+ghost use Rattle.adaptive_roads.specs.inner.road_hierarchy.Links.{IsLinkBy};
+ghost use Rattle.adaptive_roads.specs.inner.road_hierarchy.Sweep.{never, label_for};
+ghost use Rattle.adaptive_roads.specs.inner.road_hierarchy.Descents.{AreDescents};
+ghost use Rattle.adaptive_roads.specs.inner.road_hierarchy.Marks.{node_at};
+ghost use Rattle.adaptive_roads.specs.inner.road_hierarchy.Packed.{IsPackingOf, IsWhole, levelled};
+ghost use Rattle.adaptive_roads.specs.inner.road_hierarchy.Climb.{AreClimbs, opposite};
+ghost use Rattle.adaptive_roads.specs.inner.road_hierarchy.Selection.{IsSelectionOf};
 
 use crate::contraction::{Contraction, Levelled};
 use road_times::Side;
@@ -58,11 +58,11 @@ pub struct Hierarchy {
 }
 
 impl Model for Hierarchy {
-    ghost use Rattle.adaptive_roads.specs.contraction.Contracted.{Contracted};
+    ghost use Rattle.adaptive_roads.specs.inner.contraction.Contracted.{Contracted};
 
     ghost Value = { Contracted };
 
-    ghost use Rattle.adaptive_roads.specs.road_hierarchy.Packed.{hierarchy_of, IsPacked};
+    ghost use Rattle.adaptive_roads.specs.inner.road_hierarchy.Packed.{hierarchy_of, IsPacked};
 
     ghost view = { λ h. hierarchy_of h.levels.items h.order.items h.descents h.ascents };
 
@@ -93,7 +93,7 @@ pub struct SweepRoom {
 
 impl Model for SweepRoom {
     ghost use Rattle.std.specs.Prelude.{length};
-    ghost use Rattle.adaptive_roads.specs.road_hierarchy.Rooms.{Places};
+    ghost use Rattle.adaptive_roads.specs.inner.road_hierarchy.Rooms.{Places};
 
     ghost Value = { Places };
 

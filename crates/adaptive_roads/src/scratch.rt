@@ -19,7 +19,7 @@ pub struct Scratch {
 
 impl Model for Scratch {
     ghost use Rattle.std.specs.Prelude.{◌+◌, ◌≤◌};
-    ghost use Rattle.road_times.specs.Room.{Room};
+    ghost use Rattle.road_times.specs.inner.Room.{Room};
 
     ghost Value = { Room };
 

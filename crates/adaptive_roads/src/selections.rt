@@ -1,8 +1,8 @@
 //! What is selected of a hierarchy for a batch.
 ghost use Rattle.std.specs.Prelude.{◌≡◌, ◌≤◌, ◌+◌, length, map, All, IfOk};
 ghost use Rattle.ride_model.specs.Road.{RoadMap, IsRoadMap, travel};
-ghost use Rattle.road_times.specs.Turned.{travel_by};
-ghost use Rattle.adaptive_roads.specs.contraction.Contracted.{IsContractionOf};
+ghost use Rattle.road_times.specs.inner.Turned.{travel_by};
+ghost use Rattle.adaptive_roads.specs.inner.contraction.Contracted.{IsContractionOf};
 
 use ride_model::NoMemory;
 use crate::road_hierarchy::{Hierarchy, Selected, SweepRoom};
@@ -20,11 +20,11 @@ pub struct Selections<'h> {
 }
 
 impl<'h> Model for Selections<'h> {
-    ghost use Rattle.adaptive_roads.specs.Selections.{Selected};
+    ghost use Rattle.adaptive_roads.specs.inner.Selections.{Selected};
 
     ghost Value = { Selected };
 
-    ghost use Rattle.adaptive_roads.specs.Selections.{AreSelections};
+    ghost use Rattle.adaptive_roads.specs.inner.Selections.{AreSelections};
 
     ghost view = { λ s. record { hierarchy = s.hierarchy.now; wanted = s.out.wanted } };
 

@@ -1,9 +1,9 @@
 //! Travel times over roads, as one asks for them.
 ghost use Rattle.std.specs.Prelude.{◌≡◌, length, map, All, IfOk, IfSome};
 ghost use Rattle.ride_model.specs.Road.{IsNode, IsRoadMap, travel};
-ghost use Rattle.road_times.specs.Turned.{travel_by};
-ghost use Rattle.adaptive_roads.specs.Seen.{IsSeenOf};
-ghost use Rattle.adaptive_roads.specs.Selections.{IsSelectedOf};
+ghost use Rattle.road_times.specs.inner.Turned.{travel_by};
+ghost use Rattle.adaptive_roads.specs.inner.Seen.{IsSeenOf};
+ghost use Rattle.adaptive_roads.specs.inner.Selections.{IsSelectedOf};
 
 use crate::Roads;
 use crate::batch_roads::BatchRoads;
@@ -37,8 +37,8 @@ pub struct TravelTimes<'r> {
 impl<'r> Model for TravelTimes<'r> {
     ghost use Rattle.std.specs.Prelude.{◌≡◌};
     ghost use Rattle.ride_model.specs.Road.{RoadMap};
-    ghost use Rattle.road_times.specs.Turned.{travel_by};
-    ghost use Rattle.adaptive_roads.specs.Seen.{IsSeenOf};
+    ghost use Rattle.road_times.specs.inner.Turned.{travel_by};
+    ghost use Rattle.adaptive_roads.specs.inner.Seen.{IsSeenOf};
 
     ghost Value = { RoadMap };
 

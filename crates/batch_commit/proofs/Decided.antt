@@ -10,7 +10,7 @@ use Rattle.ride_model.specs.State.{State}
 use Rattle.ride_model.specs.Vehicle.{ride_ids}
 use Rattle.ride_model.specs.Seating.{BatchCopy}
 use Rattle.ride_model.specs.Batch.{was_cancelled, seat_of, outcome_by, outcome_of}
-use Rattle.batch_commit.specs.Solved.{StandsSo}
+use Rattle.batch_commit.specs.inner.Solved.{StandsSo}
 
 -- one more is decided
 pub decided-more : (f : ℕ → Outcome) (ids : List ℕ) (xs : List (ℕ × Outcome)) (r id : ℕ) (o : Outcome) → length xs ≡ length ids → r < length ids

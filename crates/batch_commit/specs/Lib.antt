@@ -1,3 +1,1 @@
-pub mod Table
-pub mod Answer
-pub mod Solved
+pub mod inner

@@ -1,6 +1,6 @@
 //! Answers to batches.
 ghost use Rattle.std.specs.Prelude.{◌≡◌, IfOk};
-ghost use Rattle.batch_commit.specs.Answer.{undecided};
+ghost use Rattle.batch_commit.specs.inner.Answer.{undecided};
 
 use ride_model::{AmountList, NoMemory, Outcome, OutcomeList, SeatList};
 use std::alloc::Global;

@@ -7,7 +7,7 @@ ghost use Rattle.ride_model.specs.Offers.{start_of};
 ghost use Rattle.ride_model.specs.Vehicle.{ride_ids};
 ghost use Rattle.ride_model.specs.Seating.{vehicle_ids, find_vehicle};
 ghost use Rattle.ride_model.specs.Batch.{seat_of, priced_start, version_of, seated_outcome, outcome_by, outcomes_of};
-ghost use Rattle.batch_commit.specs.Solved.{StandsSo};
+ghost use Rattle.batch_commit.specs.inner.Solved.{StandsSo};
 
 use crate::Batch;
 use ride_model::{Outcome, OutcomeList, Seat, Vehicle};

@@ -4,9 +4,9 @@ ghost use Rattle.ride_model.specs.declared.vehicle.Vehicle.{Vehicle};
 ghost use Rattle.ride_model.specs.State.{State};
 ghost use Rattle.ride_model.specs.Seating.{vehicle_ids};
 ghost use Rattle.ride_model.specs.Batch.{outcomes_of};
-ghost use Rattle.batch_commit.specs.Answer.{undecided, CertifiesOverCells};
-ghost use Rattle.batch_commit.specs.Table.{FitsBatch};
-ghost use Rattle.batch_commit.specs.Solved.{StandsSo};
+ghost use Rattle.batch_commit.specs.inner.Answer.{undecided, CertifiesOverCells};
+ghost use Rattle.batch_commit.specs.inner.Table.{FitsBatch};
+ghost use Rattle.batch_commit.specs.inner.Solved.{StandsSo};
 
 use crate::outcomes::decide_each;
 use crate::{Answer, Batch, PriceTable};
@@ -21,7 +21,7 @@ pub struct Solved {
 }
 
 impl Model for Solved {
-    ghost use Rattle.batch_commit.specs.Solved.{SolvedBatch, IsSolved};
+    ghost use Rattle.batch_commit.specs.inner.Solved.{SolvedBatch, IsSolved};
 
     ghost Value = { SolvedBatch };
 

@@ -1,6 +1,6 @@
 //! Price tables.
 ghost use Rattle.std.specs.Prelude.{◌≡◌, ◌+◌, ◌*◌, ◌<◌, length, slice_set, Some, None, option_copied};
-ghost use Rattle.batch_commit.specs.Table.{Table, cell_at};
+ghost use Rattle.batch_commit.specs.inner.Table.{Table, cell_at};
 
 use ride_model::Offer;
 use std::marker::Model;
@@ -15,7 +15,7 @@ pub struct PriceTable {
 
 impl Model for PriceTable {
     ghost use Rattle.std.specs.Prelude.{◌≡◌, ◌*◌, length};
-    ghost use Rattle.batch_commit.specs.Table.{Table};
+    ghost use Rattle.batch_commit.specs.inner.Table.{Table};
 
     ghost Value = { Table };
 

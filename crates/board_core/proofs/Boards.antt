@@ -25,15 +25,16 @@ use Rattle.ride_model.specs.Step.{Answered, step}
 use Rattle.ride_model.specs.Text.{IsOneOrTwo, IsSpelledCommand}
 use Rattle.ride_model.specs.Vehicle.{IsLawful}
 use Rattle.model_laws.proofs.Histories.{IsLegal-push, replay-push}
-use Rattle.model_laws.specs.history_laws.Consistent.{HasPromised, IsWithVehicle, IsConsistent}
-use Rattle.model_laws.specs.history_laws.Start.{fed_total, IsFedWithin}
+use Rattle.model_laws.specs.inner.history_laws.Consistent.{HasPromised, IsWithVehicle, IsConsistent}
+use Rattle.model_laws.specs.inner.history_laws.Start.{fed_total, IsFedWithin}
 use Rattle.model_laws.proofs.history_laws.EveryState.{consistent}
 use Rattle.board_core.specs.declared.desks.Desks.{Desks}
 use Rattle.board_core.specs.declared.service.Service.{Service}
-use Rattle.board_core.specs.Given.{Given}
-use Rattle.board_core.specs.Kept.{places_kept, none_yet, ending_of, is_whole_end, Mirrors, IsBoard}
-use Rattle.board_core.specs.Recorded.{Recorded, IsRecorded, state_of}
-use Rattle.board_core.specs.Service.{state_at, answered_at, HasRoomAbove, IsInOrder}
+use Rattle.board_core.specs.inner.Given.{Given}
+use Rattle.board_core.specs.inner.Kept.{places_kept, none_yet, ending_of, is_whole_end, Mirrors, IsBoard}
+use Rattle.board_core.specs.Recorded.{Recorded, state_of}
+use Rattle.board_core.specs.inner.Recorded.{IsRecorded}
+use Rattle.board_core.specs.inner.Service.{state_at, answered_at, HasRoomAbove, IsInOrder}
 use Rattle.board_core.proofs.FedEntries.{fed_total-le, within-push, few-of_feed}
 
 -- vehicles of the same ids are a fleet as well

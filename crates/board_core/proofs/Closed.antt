@@ -21,17 +21,19 @@ use Rattle.ride_model.specs.State.{State, is_batch, open_batch_of, open_batch_nu
 use Rattle.model_laws.proofs.plain.Among.{Among, found_among}
 use Rattle.model_laws.proofs.plain.Each.{of_all}
 use Rattle.model_laws.proofs.Histories.{replay-push}
-use Rattle.model_laws.specs.history_laws.Consistent.{IsOpenBatch}
-use Rattle.model_laws.specs.history_laws.Start.{is_fed, IsFedSpelled}
+use Rattle.model_laws.specs.inner.history_laws.Consistent.{IsOpenBatch}
+use Rattle.model_laws.specs.history_laws.Start.{is_fed}
+use Rattle.model_laws.specs.inner.history_laws.Start.{IsFedSpelled}
 use Rattle.model_laws.proofs.history_laws.Lookups.{found_by}
 use Rattle.model_laws.proofs.history_laws.OpenedBatches.{committed-state, abandoned-state}
 use Rattle.board_core.specs.declared.desks.Desks.{Desks}
 use Rattle.board_core.specs.declared.service.Service.{Service}
-use Rattle.board_core.specs.Given.{Given}
-use Rattle.board_core.specs.Kept.{places_kept, with_closed, with_given_up, Mirrors, IsBoard}
-use Rattle.board_core.specs.Numbers.{at_number, one_if_some}
-use Rattle.board_core.specs.Recorded.{Recorded, state_of, abandoned_entry}
-use Rattle.board_core.specs.Service.{state_at}
+use Rattle.board_core.specs.inner.Given.{Given}
+use Rattle.board_core.specs.inner.Kept.{places_kept, with_closed, with_given_up, Mirrors, IsBoard}
+use Rattle.board_core.specs.inner.Numbers.{at_number, one_if_some}
+use Rattle.board_core.specs.Recorded.{Recorded, state_of}
+use Rattle.board_core.specs.inner.Recorded.{abandoned_entry}
+use Rattle.board_core.specs.inner.Service.{state_at}
 use Rattle.board_core.proofs.FedEntries.{within-push, none-of_others}
 use Rattle.board_core.proofs.Numbering.{at_number-with, count-with}
 use Rattle.board_core.proofs.Boards.{board-consistent, pushed, recorded-push, abandoned-push}

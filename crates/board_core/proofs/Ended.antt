@@ -18,9 +18,9 @@ use Rattle.ride_model.specs.Text.{IsOneOrTwo}
 use Rattle.model_laws.proofs.Histories.{replay-push}
 use Rattle.board_core.specs.declared.desks.Desks.{Desks}
 use Rattle.board_core.specs.declared.service.Service.{Service}
-use Rattle.board_core.specs.Given.{Given}
-use Rattle.board_core.specs.Kept.{ending_of, is_whole_end, places_kept, with_ending, Mirrors, IsBoard}
-use Rattle.board_core.specs.Numbers.{at_number, with_number, one_if_some}
+use Rattle.board_core.specs.inner.Given.{Given}
+use Rattle.board_core.specs.inner.Kept.{ending_of, is_whole_end, places_kept, with_ending, Mirrors, IsBoard}
+use Rattle.board_core.specs.inner.Numbers.{at_number, with_number, one_if_some}
 use Rattle.board_core.specs.Recorded.{Recorded, state_of}
 use Rattle.board_core.proofs.FedEntries.{within-push, none-of_others}
 use Rattle.board_core.proofs.Numbering.{at_number-with, count-with, count-le}

@@ -16,7 +16,8 @@ use Rattle.ride_model.specs.declared.reply.Reply.{Reply}
 use Rattle.ride_model.specs.History.{entries_of, command_of, fed_commands}
 use Rattle.ride_model.specs.Legal.{after_entry, IsLegal, IsLegalEvent}
 use Rattle.ride_model.specs.State.{State, is_actor}
-use Rattle.model_laws.specs.history_laws.Start.{is_fed, fed_total, IsFedSpelled, IsFedWithin}
+use Rattle.model_laws.specs.history_laws.Start.{is_fed}
+use Rattle.model_laws.specs.inner.history_laws.Start.{fed_total, IsFedSpelled, IsFedWithin}
 
 -- the commands of a feed in two parts of a history
 pub fed_commands-append : (feed : ℕ) (first second : List Entry)

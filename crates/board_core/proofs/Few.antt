@@ -10,7 +10,7 @@ use Rattle.ride_model.specs.State.{AcceptedRequest}
 use Rattle.ride_model.specs.Batch.{is_waiting}
 use Rattle.ride_model.specs.Vehicle.{ride_ids}
 use Rattle.ride_model.specs.Seating.{amount_ids}
-use Rattle.board_core.specs.request_book.Book.{waiting_of}
+use Rattle.board_core.specs.inner.request_book.Book.{waiting_of}
 use Rattle.model_laws.proofs.history_laws.Lookups.{distinct-filter_by, distinct-take_by}
 use Rattle.model_laws.proofs.history_laws.Raised.{length-filter-le}
 

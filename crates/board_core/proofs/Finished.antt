@@ -10,14 +10,14 @@ use Rattle.model_laws.proofs.plain.Each.{of_all}
 use Rattle.ride_model.specs.Seating.{BatchCopy}
 use Rattle.ride_model.specs.State.{State, open_batch_of}
 use Rattle.ride_model.specs.Text.{IsOneOrTwo}
-use Rattle.model_laws.specs.history_laws.Consistent.{IsConsistent, IsOpenBatch}
-use Rattle.model_laws.specs.history_laws.Start.{fed_total}
+use Rattle.model_laws.specs.inner.history_laws.Consistent.{IsConsistent, IsOpenBatch}
+use Rattle.model_laws.specs.inner.history_laws.Start.{fed_total}
 use Rattle.board_core.specs.declared.desks.Desks.{Desks}
 use Rattle.board_core.specs.declared.numbered.Numbered.{Numbered}
 use Rattle.board_core.specs.declared.service.Service.{Service}
-use Rattle.board_core.specs.Given.{Given}
-use Rattle.board_core.specs.Kept.{all_whole, is_finished, Mirrors, IsBoard}
-use Rattle.board_core.specs.Numbers.{at_number, one_if_some, count_in}
+use Rattle.board_core.specs.inner.Given.{Given}
+use Rattle.board_core.specs.inner.Kept.{all_whole, is_finished, Mirrors, IsBoard}
+use Rattle.board_core.specs.inner.Numbers.{at_number, one_if_some, count_in}
 use Rattle.board_core.specs.Recorded.{Recorded, state_of}
 use Rattle.board_core.proofs.Numbering.{one_or_two}
 use Rattle.board_core.proofs.Boards.{board-consistent}

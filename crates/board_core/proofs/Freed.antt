@@ -12,13 +12,13 @@ use Rattle.ride_model.specs.Vehicle.{IsLawful, visit_of, visits_due, stops_of}
 use Rattle.ride_model.specs.Insertion.{stops_without, without_ride}
 use Rattle.ride_model.specs.Offers.{leg_at}
 use Rattle.model_laws.proofs.Removal.{route_without, without_ride-is}
-use Rattle.stop_plans.specs.Change.{RemovesFrom}
-use Rattle.stop_plans.specs.First.{IsFirst, is_visit}
+use Rattle.stop_plans.specs.inner.Change.{RemovesFrom}
+use Rattle.stop_plans.specs.inner.First.{IsFirst, is_visit}
 use Rattle.stop_plans.proofs.RemovedLegs.{removal_places}
 use Rattle.model_laws.proofs.plain.Among.{among_from_contains}
 use Rattle.model_laws.proofs.plain.Each.{of_all}
 use Rattle.model_laws.proofs.plain.Lists.{same-head, same-tail}
-use Rattle.board_core.specs.Legs.{nodes_without, leg_along, HasWaiting}
+use Rattle.board_core.specs.inner.Legs.{nodes_without, leg_along, HasWaiting}
 use Rattle.board_core.proofs.LegLaws.{leg-of_route}
 
 -- the first stop of a ride, with what stands before and behind it

@@ -17,7 +17,7 @@ use Rattle.model_laws.proofs.history_laws.Raised.{length-filter-le}
 use Rattle.std.proofs.lemmas.List.{length-map}
 use Rattle.std.proofs.lemmas.Bool.{eq-eqb}
 use Rattle.std.proofs.lemmas.Option.{same_Some}
-use Rattle.board_core.specs.Legs.{nodes_without, leg_along}
+use Rattle.board_core.specs.inner.Legs.{nodes_without, leg_along}
 
 -- past the last but one node there is no leg
 pub leg-past : (roads : RoadMap) (nodes : List ℕ) (place : ℕ) → length nodes ≤ place + 1 → leg_along roads nodes place ≡ 0

@@ -5,7 +5,7 @@ use Rattle.ride_model.specs.declared.vehicle.Ride.{Ride}
 use Rattle.ride_model.specs.Batch.{with_request_states}
 use Rattle.ride_model.specs.State.{State, with_request_state}
 use Rattle.ride_model.specs.Vehicle.{ride_ids}
-use Rattle.board_core.specs.Marking.{marked_in}
+use Rattle.board_core.specs.inner.Marking.{marked_in}
 
 -- the state with these rides' requests in one state has their ids marked
 pub with_states-marked : (state : RequestState) (rides : List Ride) (s : State)

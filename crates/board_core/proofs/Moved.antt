@@ -10,10 +10,10 @@ use Rattle.ride_model.specs.State.{State, with_vehicle}
 use Rattle.ride_model.specs.Step.{raised, reported, report, report_driving}
 use Rattle.model_laws.proofs.Routes.{with_leg}
 use Rattle.model_laws.proofs.TravelTimes.{travel-le}
-use Rattle.stop_plans.specs.Legged.{relegged}
+use Rattle.stop_plans.specs.inner.Legged.{relegged}
 use Rattle.model_laws.proofs.history_laws.Raised.{placed_at, reported-is, routed-first, lawful-placed, lawful-raised}
-use Rattle.board_core.specs.Given.{Given}
-use Rattle.board_core.specs.Reports.{lateness_of, IsMoved}
+use Rattle.board_core.specs.inner.Given.{Given}
+use Rattle.board_core.specs.inner.Reports.{lateness_of, IsMoved}
 
 -- a vehicle put before its first stop
 abbrev pub put_before : Vehicle → ℕ → ℕ → ℕ → Vehicle

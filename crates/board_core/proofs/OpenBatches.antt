@@ -22,11 +22,11 @@ use Rattle.ride_model.specs.Legal.{after_entry, replay, IsLegal, all_feeds_ended
 use Rattle.ride_model.specs.Road.{RoadMap}
 use Rattle.ride_model.specs.Seating.{BatchCopy, seating_cost}
 use Rattle.ride_model.specs.State.{State, is_actor, is_batch, open_batch_of, open_batch_numbered}
-use Rattle.batch_commit.specs.Solved.{SolvedBatch}
-use Rattle.batch_commit.specs.Table.{IsPriceable}
+use Rattle.batch_commit.specs.inner.Solved.{SolvedBatch}
+use Rattle.batch_commit.specs.inner.Table.{IsPriceable}
 use Rattle.model_laws.proofs.Histories.{replay-push}
 use Rattle.model_laws.proofs.RequestStates.{others-opening, abandon-is}
-use Rattle.model_laws.specs.history_laws.Consistent.{IsOpenBatch}
+use Rattle.model_laws.specs.inner.history_laws.Consistent.{IsOpenBatch}
 use Rattle.model_laws.specs.history_laws.Start.{IsStart}
 use Rattle.model_laws.proofs.history_laws.EveryState.{consistent}
 use Rattle.model_laws.proofs.history_laws.Leaving.{is_batch-own}
@@ -35,8 +35,9 @@ use Rattle.model_laws.proofs.history_laws.Untouched.{leaves-step, stays-outcomes
 use Rattle.model_laws.proofs.history_laws.OpenedBatches.{committed-state, abandoned-state}
 use Rattle.board_core.specs.declared.opening.Opening.{Opening}
 use Rattle.board_core.specs.declared.opening.Opening.TheVariants.{Batch, Idle, Ended}
-use Rattle.board_core.specs.Opening.{opening_at}
-use Rattle.board_core.specs.Recorded.{Recorded, state_of, fed_entry, end_entry, opened_entry, committed_entry, abandoned_entry}
+use Rattle.board_core.specs.inner.Opening.{opening_at}
+use Rattle.board_core.specs.Recorded.{Recorded, state_of, end_entry, opened_entry}
+use Rattle.board_core.specs.inner.Recorded.{fed_entry, committed_entry, abandoned_entry}
 
 -- the state of a board that went on by an entry
 pub state-push : (old new : Recorded) (entry : Entry) → new.start ≡ old.start → new.history ≡ old.history ++ entry ∷ []

@@ -15,14 +15,14 @@ use Rattle.ride_model.specs.State.{State, has_ended, open_batch_of}
 use Rattle.ride_model.specs.Text.{IsOneOrTwo}
 use Rattle.ride_model.specs.Vehicle.{ride_ids}
 use Rattle.model_laws.proofs.Histories.{replay-push}
-use Rattle.model_laws.specs.history_laws.Consistent.{IsOpenBatch}
+use Rattle.model_laws.specs.inner.history_laws.Consistent.{IsOpenBatch}
 use Rattle.board_core.specs.declared.desks.Desks.{Desks}
 use Rattle.board_core.specs.declared.service.Service.{Service}
-use Rattle.board_core.specs.Given.{Given}
-use Rattle.board_core.specs.Kept.{places_kept, with_opened, Mirrors, IsBoard}
-use Rattle.board_core.specs.Marking.{marked_in}
+use Rattle.board_core.specs.inner.Given.{Given}
+use Rattle.board_core.specs.inner.Kept.{places_kept, with_opened, Mirrors, IsBoard}
+use Rattle.board_core.specs.inner.Marking.{marked_in}
 use Rattle.board_core.specs.Recorded.{Recorded, state_of, opened_entry}
-use Rattle.board_core.specs.Service.{state_at, batch_at}
+use Rattle.board_core.specs.inner.Service.{state_at, batch_at}
 use Rattle.board_core.proofs.FedEntries.{within-push, none-of_others}
 use Rattle.board_core.proofs.Marked.{with_states-marked}
 use Rattle.board_core.proofs.Numbering.{at_number-with, count-with}

@@ -15,7 +15,7 @@ use Rattle.model_laws.proofs.plain.Lists.{any-default}
 use Rattle.indexmap.specs.IndexSet.{insert_key}
 use Rattle.ride_model.specs.declared.vehicle.Vehicle.{Vehicle}
 use Rattle.ride_model.specs.Seating.{find_vehicle, vehicle_ids}
-use Rattle.board_core.specs.Service.{placed_in}
+use Rattle.board_core.specs.inner.Service.{placed_in}
 
 -- the first element with a key stands where the key stands first
 first-by : {X : Type 0} (key : X → ℕ) (xs : List X) (id : ℕ) → position_or_len (λ x. key x == id) xs ≡ position_or_len (eqb id) (map key xs)

@@ -12,9 +12,9 @@ use Rattle.ride_model.specs.State.{State, AcceptedRequest, accepted_request, req
 use Rattle.ride_model.specs.Vehicle.{ride_ids}
 use Rattle.model_laws.proofs.plain.Among.{among_from_contains, contains_from_among, among_map_back, found_among}
 use Rattle.model_laws.proofs.plain.Each.{of_all}
-use Rattle.model_laws.specs.history_laws.Consistent.{HasPromised, IsWithVehicle, promised_as, promised_state, vehicle_of_request}
+use Rattle.model_laws.specs.inner.history_laws.Consistent.{HasPromised, IsWithVehicle, promised_as, promised_state, vehicle_of_request}
 use Rattle.model_laws.proofs.history_laws.Lookups.{placed_is}
-use Rattle.board_core.specs.Legs.{HasWaiting}
+use Rattle.board_core.specs.inner.Legs.{HasWaiting}
 
 -- a ride whose request is confirmed waits
 waits-by_state : (vehicle other : ℕ) (picked : Option ℕ) → promised_state other picked ≡ Confirmed vehicle → picked ≡ None

@@ -22,7 +22,8 @@ use Rattle.ride_model.specs.Road.{RoadMap}
 use Rattle.ride_model.specs.Seating.{BatchCopy, find_vehicle, vehicle_ids}
 use Rattle.ride_model.specs.State.{State}
 use Rattle.ride_model.specs.Step.{raised}
-use Rattle.ride_model.specs.Vehicle.{IsLawful, IsRide, IsFresh, ride_ids}
+use Rattle.ride_model.specs.Vehicle.{IsLawful, IsRide, ride_ids}
+use Rattle.ride_model.specs.inner.Vehicle.{IsFresh}
 use Rattle.model_laws.proofs.plain.Among.{Among, among_from_contains, contains_from_among, found_among}
 use Rattle.model_laws.proofs.plain.Each.{of_each, of_all}
 use Rattle.model_laws.proofs.Costs.{OfferPlan, offer_plan}
@@ -31,20 +32,20 @@ use Rattle.model_laws.proofs.PlanStops.{unlegged-routed}
 use Rattle.model_laws.proofs.AboardLoads.{length-same}
 use Rattle.model_laws.proofs.Starts.{start-later}
 use Rattle.model_laws.proofs.FewRides.{few-rides}
-use Rattle.batch_commit.specs.Solved.{SolvedBatch}
-use Rattle.batch_commit.specs.Table.{cell_at, IsLeastOffer}
+use Rattle.batch_commit.specs.inner.Solved.{SolvedBatch}
+use Rattle.batch_commit.specs.inner.Table.{cell_at, IsLeastOffer}
 use Rattle.dual_check.proofs.DifferentIds.{same-place, find-id, element}
 use Rattle.dual_check.proofs.SeatPlaces.{HasPlaces, places-of}
-use Rattle.stop_plans.specs.Change.{InsertsInto}
-use Rattle.model_laws.specs.history_laws.Consistent.{IsEarlier, AreEarlier}
+use Rattle.stop_plans.specs.inner.Change.{InsertsInto}
+use Rattle.model_laws.specs.inner.history_laws.Consistent.{IsEarlier, AreEarlier}
 use Rattle.model_laws.proofs.history_laws.Lookups.{found_by, ids-map, placed_is, put, put-id}
 use Rattle.model_laws.proofs.history_laws.Earlier.{later_of}
 use Rattle.model_laws.proofs.history_laws.Confirming.{ready_at, start-fits, version_of-found, priced_start-found, routed-ready}
 use Rattle.model_laws.proofs.history_laws.Committing.{put_elsewhere}
 use Rattle.board_core.specs.declared.service.Service.{Service}
-use Rattle.board_core.specs.Given.{Given}
-use Rattle.board_core.specs.Service.{placed_in, HasRoomAbove}
-use Rattle.board_core.specs.Settling.{started, IsCommitted, IsSettledTo, IsToConfirm}
+use Rattle.board_core.specs.inner.Given.{Given}
+use Rattle.board_core.specs.inner.Service.{placed_in, HasRoomAbove}
+use Rattle.board_core.specs.inner.Settling.{started, IsCommitted, IsSettledTo, IsToConfirm}
 
 -- earlier records have the same ids
 pub earlier-ids : (earliers laters : List Vehicle) → AreEarlier earliers laters → vehicle_ids earliers ≡ vehicle_ids laters

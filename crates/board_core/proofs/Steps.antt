@@ -10,7 +10,7 @@ use Rattle.ride_model.specs.declared.vehicle.Stop.{Stop}
 use Rattle.ride_model.specs.declared.vehicle.Vehicle.{Vehicle}
 use Rattle.ride_model.specs.Insertion.{without_ride}
 use Rattle.board_core.specs.declared.wishes.Wish.{Wish}
-use Rattle.board_core.specs.Wishes.{ride_of, wish_step, joins_nodes, has_odd_load, has_odd_limits}
+use Rattle.board_core.specs.inner.Wishes.{ride_of, wish_step, joins_nodes, has_odd_load, has_odd_limits}
 use Rattle.ride_model.specs.State.{State, AcceptedRequest, accepted_request, request_state, placed_vehicle, with_vehicle, with_request_state}
 use Rattle.ride_model.specs.Step.{Answered, refused, with_accepted, request_step, raised, is_node, cancel_found, cancel_by_state, freed, cancel_step, reported, report, at_found, at_step, served, served_state, served_reply, done_found, done_at_stop, done_step, duty_found, duty_step}
 

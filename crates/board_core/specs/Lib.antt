@@ -1,13 +1,3 @@
 pub mod Recorded
-pub mod Opening
-pub mod Given
-pub mod Service
-pub mod Wishes
-pub mod Numbers
-pub mod Kept
-pub mod Legs
-pub mod Reports
-pub mod Marking
-pub mod Settling
 pub mod Totals
-pub mod request_book
+pub mod inner

@@ -1,20 +1,14 @@
 -- What a contract sees of a board.
 use Rattle.std.specs.Prelude.{ℕ, List}
 use Rattle.ride_model.specs.declared.command.Actor.{Actor}
-use Rattle.ride_model.specs.declared.command.Actor.TheVariants.{Feed, Desk}
-use Rattle.ride_model.specs.declared.command.Command.{Command}
+use Rattle.ride_model.specs.declared.command.Actor.TheVariants.{Desk}
 use Rattle.ride_model.specs.declared.entry.Ending.{Ending}
 use Rattle.ride_model.specs.declared.entry.Entry.{Entry}
-use Rattle.ride_model.specs.declared.entry.Event.TheVariants.{Fed, Finish, Opened, Committed, Abandoned}
-use Rattle.ride_model.specs.Batch.{outcomes_of}
-use Rattle.ride_model.specs.Legal.{replay, IsLegal, versions_of}
-use Rattle.ride_model.specs.Seating.{BatchCopy, seating_cost}
+use Rattle.ride_model.specs.declared.entry.Event.TheVariants.{Finish, Opened}
+use Rattle.ride_model.specs.Legal.{replay, versions_of}
+use Rattle.ride_model.specs.Seating.{BatchCopy}
 use Rattle.ride_model.specs.State.{State}
-use Rattle.ride_model.specs.Step.{step}
-use Rattle.ride_model.specs.Text.{IsOneOrTwo}
 use Rattle.ride_model.specs.Vehicle.{ride_ids}
-use Rattle.batch_commit.specs.Solved.{SolvedBatch}
-use Rattle.model_laws.specs.history_laws.Start.{IsStart, IsFedWithin}
 
 -- the state that a board started from, its numbers of feeds and desks, its history, and how many entries of feeds there is
 -- room for
@@ -29,36 +23,12 @@ pub record Recorded : Type 0 where
 abbrev pub state_of : Recorded → State
 state_of board = replay board.start board.history
 
--- a board's history is legal, and its commands have a text
-pub record IsRecorded (board : Recorded) : Type 0 where
-  pub start_fits : IsStart board.start
-  pub feeds_fit : IsOneOrTwo board.feeds
-  pub desks_fit : IsOneOrTwo board.desks
-  pub legal : IsLegal board.feeds board.desks board.start board.history
-  pub fed_within : IsFedWithin board.start.settings.log board.history
-
--- the entry of a feed's command at a state
-abbrev pub fed_entry : State → ℕ → Command → Entry
-fed_entry s feed command = record { actor = Feed feed; event = Fed command (step s command).reply }
-
 -- the entry of an opened batch
 abbrev pub opened_entry : BatchCopy → Entry
 opened_entry batch = record {
   actor = Desk batch.desk;
   event = Opened batch.number batch.time (ride_ids batch.requests) (versions_of batch.vehicles);
 }
-
--- the entry of a commit at a state
-abbrev pub committed_entry : State → SolvedBatch → Entry
-committed_entry s solved = record {
-  actor = Desk solved.batch.desk;
-  event = Committed solved.batch.number (seating_cost s.roads solved.batch solved.answer.seating)
-      solved.answer.seating solved.answer.prices solved.answer.pays (outcomes_of solved.batch solved.answer.seating s);
-}
-
--- the entry of an abandoned batch
-abbrev pub abandoned_entry : BatchCopy → Entry
-abandoned_entry batch = record { actor = Desk batch.desk; event = Abandoned batch.number }
 
 -- the entry of an end
 abbrev pub end_entry : Actor → Ending → Entry

@@ -41,7 +41,7 @@ impl<'r> Model for Board<'r> {
     ghost use Rattle.std.specs.Prelude.{vec_capacity};
     ghost use Rattle.ride_model.specs.State.{start_state};
     ghost use Rattle.board_core.specs.Recorded.{Recorded};
-    ghost use Rattle.board_core.specs.Kept.{IsBoard};
+    ghost use Rattle.board_core.specs.inner.Kept.{IsBoard};
 
     ghost Value = { Recorded };
 

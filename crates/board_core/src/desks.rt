@@ -2,7 +2,7 @@
 ghost use Rattle.std.specs.Prelude.{◌≡◌, ◌<◌, ◌≤◌};
 ghost use Rattle.ride_model.specs.Text.{IsOneOrTwo};
 ghost use Rattle.ride_model.specs.Limits.{most_batches};
-ghost use Rattle.board_core.specs.Kept.{ending_of, places_kept, none_yet, is_finished, all_ended, all_whole, is_whole_end, with_ending, with_opened, with_closed, with_given_up};
+ghost use Rattle.board_core.specs.inner.Kept.{ending_of, places_kept, none_yet, is_finished, all_ended, all_whole, is_whole_end, with_ending, with_opened, with_closed, with_given_up};
 
 use crate::numbered::Numbered;
 use ride_model::{Actor, Ending};

@@ -1,6 +1,6 @@
 //! Values of at most two that are numbered from 1.
 ghost use Rattle.std.specs.Prelude.{◌≡◌, ◌≤◌};
-ghost use Rattle.board_core.specs.Numbers.{at_number, with_number, count_in};
+ghost use Rattle.board_core.specs.inner.Numbers.{at_number, with_number, count_in};
 
 /// A value or none for each of two that are numbered 1 and 2.
 #[derive(Clone, Copy)]

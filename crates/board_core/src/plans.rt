@@ -2,14 +2,15 @@
 ghost use Rattle.std.specs.Prelude.{◌≡◌, ◌<◌, ◌≤◌, ◌+◌, ◌^◌, ◌++◌, [], ◌∷◌, List, length, map, All, MatchOption};
 ghost use Rattle.ride_model.specs.declared.vehicle.Stop.{Stop};
 ghost use Rattle.ride_model.specs.Road.{IsRoadMap, IsNode};
-ghost use Rattle.ride_model.specs.Vehicle.{IsLawful, IsLawfulSomewhere};
+ghost use Rattle.ride_model.specs.Vehicle.{IsLawful};
+ghost use Rattle.ride_model.specs.inner.Vehicle.{IsLawfulSomewhere};
 ghost use Rattle.ride_model.specs.Insertion.{without_ride, stops_without};
 ghost use Rattle.ride_model.specs.Step.{raised, served, served_reply};
 ghost use Rattle.ride_model.specs.Limits.{latest_ready, longest_dwell, most_stops};
-ghost use Rattle.stop_plans.specs.Change.{HasFirstStopAt};
-ghost use Rattle.stop_plans.specs.First.{IsFirst, is_visit};
-ghost use Rattle.stop_plans.specs.Legged.{relegged};
-ghost use Rattle.board_core.specs.Legs.{nodes_without, leg_along, HasWaiting};
+ghost use Rattle.stop_plans.specs.inner.Change.{HasFirstStopAt};
+ghost use Rattle.stop_plans.specs.inner.First.{IsFirst, is_visit};
+ghost use Rattle.stop_plans.specs.inner.Legged.{relegged};
+ghost use Rattle.board_core.specs.inner.Legs.{nodes_without, leg_along, HasWaiting};
 
 use crate::setup::Setup;
 use arrayvec::ArrayVec;

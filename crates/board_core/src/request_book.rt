@@ -4,8 +4,8 @@ ghost use Rattle.ride_model.specs.declared.reply.RequestState.TheVariants.{Waiti
 ghost use Rattle.ride_model.specs.Batch.{is_waiting};
 ghost use Rattle.ride_model.specs.State.{AcceptedRequest};
 ghost use Rattle.ride_model.specs.Limits.{most_requests};
-ghost use Rattle.board_core.specs.request_book.Book.{IsBook, request_of, with_state, waiting_of};
-ghost use Rattle.board_core.specs.request_book.Marked.{marked};
+ghost use Rattle.board_core.specs.inner.request_book.Book.{IsBook, request_of, with_state, waiting_of};
+ghost use Rattle.board_core.specs.inner.request_book.Marked.{marked};
 
 use indexmap::IndexMap;
 use ride_model::{NoMemory, RequestState, Ride};
@@ -35,7 +35,7 @@ impl Model for RequestBook {
 
     ghost Value = { List AcceptedRequest };
 
-    ghost use Rattle.board_core.specs.request_book.Kept.{requests_in, IsKept};
+    ghost use Rattle.board_core.specs.inner.request_book.Kept.{requests_in, IsKept};
 
     ghost view = { λ book. requests_in book.requests.entries };
 

@@ -5,9 +5,9 @@ ghost use Rattle.ride_model.specs.Seating.{vehicle_ids};
 ghost use Rattle.ride_model.specs.State.{State};
 ghost use Rattle.ride_model.specs.Step.{step, clock_step, ask_step};
 ghost use Rattle.ride_model.specs.Limits.{most_vehicles};
-ghost use Rattle.board_core.specs.Given.{Given};
-ghost use Rattle.board_core.specs.Opening.{IsRequest};
-ghost use Rattle.board_core.specs.Service.{state_at, answered_at, placed_in, IsInOrder};
+ghost use Rattle.board_core.specs.inner.Given.{Given};
+ghost use Rattle.board_core.specs.inner.Opening.{IsRequest};
+ghost use Rattle.board_core.specs.inner.Service.{state_at, answered_at, placed_in, IsInOrder};
 
 mod reports;
 mod requests;

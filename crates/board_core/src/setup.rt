@@ -19,7 +19,7 @@ pub(crate) struct Setup<'r> {
 }
 
 impl<'r> Model for Setup<'r> {
-    ghost use Rattle.board_core.specs.Given.{Given};
+    ghost use Rattle.board_core.specs.inner.Given.{Given};
 
     ghost Value = { Given };
 

@@ -6,9 +6,9 @@ use Rattle.ride_model.specs.History.{command_of}
 use Rattle.ride_model.specs.Legal.{replay, versions_of}
 use Rattle.model_laws.proofs.history_laws.Raised.{length-filter-le}
 use Rattle.board_core.specs.Recorded.{Recorded}
-use Rattle.turn_lock.specs.History.{items_of}
-use Rattle.fleet_board.specs.Passes.{Known, IsPoint, commands_in, maker_of, root_of}
-use Rattle.idle_moves.specs.Watch.{Watched, Watches}
+use Rattle.turn_lock.specs.inner.History.{items_of}
+use Rattle.fleet_board.specs.inner.Passes.{Known, IsPoint, commands_in, maker_of, root_of}
+use Rattle.idle_moves.specs.inner.Watch.{Watched, Watches}
 
 -- a feed has given no more commands than it has seen entries
 pub given-le : (k : Known) → IsPoint k → length (commands_in k.own) ≤ length k.seen

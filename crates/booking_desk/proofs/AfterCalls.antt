@@ -5,7 +5,8 @@ use Rattle.std.specs.List.{AllByRecursion}
 use Rattle.std.proofs.lemmas.List.{length-map, map-append}
 use Rattle.std.proofs.Math.Bool.{and-false}
 use Rattle.ride_model.specs.declared.command.Command.{Command}
-use Rattle.booking_desk.specs.Desk.{Booking, DeskState, after_book, after_unbook, is_booked, put_in, request_id, without}
+use Rattle.booking_desk.specs.Desk.{Booking, DeskState, is_booked, put_in, request_id}
+use Rattle.booking_desk.specs.inner.Desk.{after_book, after_unbook, without}
 use Rattle.booking_desk.specs.Released.{DeskCall, book, unbook, clock, call_id, clock_of, desk_after, made_of, released_at, sorted, standing}
 use Rattle.model_laws.proofs.plain.Filters.{filter-and, filter-filter, filter-same}
 use Rattle.booking_desk.proofs.BookingOrder.{all_put_in-push, filter-put_in, later-put_in, order-filter, order-sorted, sorted-without, split-time}

@@ -8,15 +8,16 @@ use Rattle.line_text.specs.Fields.{begins_with, fields_of, is_over_long}
 use Rattle.line_text.specs.Lines.{ended_after, ended_lines}
 use Rattle.ride_model.specs.declared.command.Command.{Command}
 use Rattle.ride_model.specs.Text.{IsSpelledCommand}
-use Rattle.line_text.specs.text_page.Output.{HasPut}
+use Rattle.line_text.specs.inner.text_page.Output.{HasPut}
 use Rattle.line_text.proofs.text_page.OutputLemmas.{put-nothing, put-two}
 use Rattle.booking_desk.specs.declared.replies.BookReply.{BookReply}
 use Rattle.booking_desk.specs.declared.replies.BookReply.TheVariants.{Held, Now, Refused}
 use Rattle.booking_desk.specs.BookLines.{call_of, call_of_fields, calls_in}
 use Rattle.booking_desk.specs.BookText.{asked_text, over_long_line, part_of, parts_after, refusal_line, released_text, reply_text, request_line, text_of_lines, with_lf}
-use Rattle.booking_desk.specs.Desk.{Booking, DeskState, IsRequest, after_book, after_reply, after_unbook, is_before, is_held, reply_to_book, most_bookings}
+use Rattle.booking_desk.specs.Desk.{Booking, DeskState, is_before, is_held, reply_to_book, most_bookings}
+use Rattle.booking_desk.specs.inner.Desk.{IsRequest, after_book, after_reply, after_unbook}
 use Rattle.booking_desk.specs.declared.feed_desk.FeedDesk.{FeedDesk}
-use Rattle.booking_desk.specs.FeedDesk.{AreSpelled, HasBooked, IsNew, IsSpelledBooking}
+use Rattle.booking_desk.specs.inner.FeedDesk.{AreSpelled, HasBooked, IsNew, IsSpelledBooking}
 use Rattle.booking_desk.specs.Released.{DeskCall, book, unbook, clock, desk_after, released_at}
 use Rattle.booking_desk.proofs.AfterCalls.{booked-is, unbooked-is}
 use Rattle.model_laws.proofs.plain.Each.{each-append, each-filter}

@@ -6,8 +6,9 @@ use Rattle.std.specs.declared.cmp.Ordering.TheVariants.{Less, Equal, Greater}
 use Rattle.std.specs.List.{AllByRecursion}
 use Rattle.std.specs.Ordering.{is_lt}
 use Rattle.std.proofs.lemmas.List.Elements.{filter-append}
-use Rattle.booking_desk.specs.Desk.{Booking, id_of, is_before, put_in, without}
-use Rattle.booking_desk.specs.Kept.{key_cmp}
+use Rattle.booking_desk.specs.Desk.{Booking, id_of, is_before, put_in}
+use Rattle.booking_desk.specs.inner.Desk.{without}
+use Rattle.booking_desk.specs.inner.Kept.{key_cmp}
 use Rattle.booking_desk.specs.Released.{all_put_in, sorted}
 use Rattle.booking_desk.proofs.Keys.{key_total, Equal-ids, Less-releases, early-Less}
 use Rattle.model_laws.proofs.plain.Filters.{filter-filter, filter-all, filter-none}

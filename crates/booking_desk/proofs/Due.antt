@@ -3,8 +3,9 @@ use Rattle.std.proofs.Common.{◌≡◌, true, leb, List, [], ◌∷◌, ◌++�
 use Rattle.std.specs.Prelude.{option_map, IfSome}
 use Rattle.std.specs.Option.{option_map_or}
 use Rattle.ride_model.specs.declared.command.Command.{Command}
-use Rattle.booking_desk.specs.Desk.{Booking, DeskState, after_take, after_unbook, due_of, id_of, most_bookings}
-use Rattle.booking_desk.specs.FeedDesk.{AreDue, with_due}
+use Rattle.booking_desk.specs.Desk.{Booking, DeskState, id_of, most_bookings}
+use Rattle.booking_desk.specs.inner.Desk.{after_take, after_unbook, due_of}
+use Rattle.booking_desk.specs.inner.FeedDesk.{AreDue, with_due}
 use Rattle.booking_desk.specs.Released.{DeskCall, clock_of, desk_after}
 use Rattle.booking_desk.proofs.Moments.{due-first, none-else}
 

@@ -9,8 +9,9 @@ use Rattle.std.specs.Map.{keys_of, lookup}
 use Rattle.std.specs.BTreeMap.{insert_entry, is_at}
 use Rattle.std.proofs.lemmas.List.{map-append, length-append}
 use Rattle.std.proofs.Math.Seq.{take-append_seam}
-use Rattle.booking_desk.specs.Desk.{Booking, is_due, request_id, without}
-use Rattle.booking_desk.specs.Kept.{booking_in, bookings_in, key_cmp, IsHeldEntry}
+use Rattle.booking_desk.specs.Desk.{Booking, request_id}
+use Rattle.booking_desk.specs.inner.Desk.{is_due, without}
+use Rattle.booking_desk.specs.inner.Kept.{booking_in, bookings_in, key_cmp, IsHeldEntry}
 use Rattle.booking_desk.proofs.Keys.{Entry, IsKeyed}
 use Rattle.booking_desk.proofs.HeldEntries.{HaveOtherIds, later-others, none-due, not-at, others-stay}
 

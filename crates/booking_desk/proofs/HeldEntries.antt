@@ -9,8 +9,9 @@ use Rattle.std.specs.Map.{keys_of, lookup, remove_entry}
 use Rattle.std.specs.BTreeMap.{insert_entry, is_at}
 use Rattle.std.specs.Ordering.{is_lt, is_eq}
 use Rattle.std.proofs.lemmas.Bool.{eqb-true, false_from_ne_true}
-use Rattle.booking_desk.specs.Desk.{is_before, is_due, is_held, put_in, request_id, without}
-use Rattle.booking_desk.specs.Kept.{booking_in, bookings_in, key_cmp, IsHeldEntry}
+use Rattle.booking_desk.specs.Desk.{is_before, is_held, put_in, request_id}
+use Rattle.booking_desk.specs.inner.Desk.{is_due, without}
+use Rattle.booking_desk.specs.inner.Kept.{booking_in, bookings_in, key_cmp, IsHeldEntry}
 use Rattle.booking_desk.proofs.Keys.{Entry, IsKeyed, key_total, key_cmp-same, Equal-ids, Less-releases, before-keys}
 
 -- no entry has the id

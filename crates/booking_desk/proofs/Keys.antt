@@ -6,7 +6,7 @@ use Rattle.std.specs.Ordering.{is_lt, nat_cmp, ordering_then}
 use Rattle.std.specs.Cmp.{IsTotalOrder, then_total, on_total, nat_cmp_total}
 use Rattle.ride_model.specs.declared.command.Command.{Command}
 use Rattle.booking_desk.specs.Desk.{is_before, request_id}
-use Rattle.booking_desk.specs.Kept.{booking_in, key_cmp}
+use Rattle.booking_desk.specs.inner.Kept.{booking_in, key_cmp}
 
 pub key_total : IsTotalOrder key_cmp
 key_total = then_total (on_total (λ (key : ℕ × ℕ). key.0) nat_cmp_total) (on_total (λ (key : ℕ × ℕ). key.1) nat_cmp_total)

@@ -4,9 +4,11 @@ use Rattle.std.specs.Prelude.{find, map, ◌&&◌}
 use Rattle.std.specs.List.{AllByRecursion}
 use Rattle.std.specs.Option.{option_map_or}
 use Rattle.std.proofs.lemmas.List.{append_assoc, append-nil}
-use Rattle.booking_desk.specs.Desk.{Booking, DeskState, after_take, after_unbook, due_of, id_of, is_due, new_desk, without}
-use Rattle.booking_desk.specs.Released.{DeskCall, book, unbook, clock, call_id, clock_of, desk_after, made_of, released_after, released_at, released_of, sorted, standing}
-use Rattle.booking_desk.specs.Steps.{DeskStep, call, take_due, after_call, after_steps, before, calls_of, taken_by, TakesAllDue}
+use Rattle.booking_desk.specs.Desk.{Booking, DeskState, id_of}
+use Rattle.booking_desk.specs.inner.Desk.{after_take, after_unbook, due_of, is_due, new_desk, without}
+use Rattle.booking_desk.specs.Released.{DeskCall, book, unbook, clock, call_id, clock_of, desk_after, made_of, released_at, sorted, standing}
+use Rattle.booking_desk.specs.inner.Released.{released_after, released_of}
+use Rattle.booking_desk.specs.inner.Steps.{DeskStep, call, take_due, after_call, after_steps, before, calls_of, taken_by, TakesAllDue}
 use Rattle.booking_desk.proofs.AfterCalls.{booked-is, clock-is, held-is, ids-are, unbooked-is}
 use Rattle.model_laws.proofs.plain.Each.{each-weaker}
 use Rattle.booking_desk.proofs.BookingOrder.{passing}

@@ -7,9 +7,10 @@ use Rattle.std.proofs.lemmas.List.Elements.{Contains-append_left, Contains-push,
 use Rattle.ride_model.specs.declared.command.Command.{Command}
 use Rattle.booking_desk.specs.declared.replies.BookReply.{BookReply}
 use Rattle.booking_desk.specs.declared.replies.BookReply.TheVariants.{Held, Now, Refused}
-use Rattle.booking_desk.specs.Desk.{Booking, DeskState, after_book, after_take, after_unbook, due_of, id_of, is_before, is_booked, is_due, is_held, new_desk, put_in, reply_to_book, request_id}
+use Rattle.booking_desk.specs.Desk.{Booking, DeskState, id_of, is_before, is_booked, is_held, put_in, reply_to_book, request_id}
+use Rattle.booking_desk.specs.inner.Desk.{after_book, after_take, after_unbook, due_of, is_due, new_desk}
 use Rattle.booking_desk.specs.Released.{DeskCall, book, unbook, clock, clock_of, greatest_clock}
-use Rattle.booking_desk.specs.Steps.{DeskStep, call, take_due, after_call, after_steps, calls_of, taken_by}
+use Rattle.booking_desk.specs.inner.Steps.{DeskStep, call, take_due, after_call, after_steps, calls_of, taken_by}
 use Rattle.model_laws.proofs.plain.Filters.{any-append}
 use Rattle.model_laws.proofs.plain.Each.{each-append, each-filter, each-weaker, IfSome-find}
 use Rattle.booking_desk.proofs.Sound.{IsSound, found-times, held-new, sound-call, sound-new, times, times-filter, times-put_in, times-without}

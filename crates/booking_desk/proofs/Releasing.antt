@@ -11,9 +11,10 @@ use Rattle.ride_model.specs.declared.entry.Event.TheVariants.{Fed}
 use Rattle.ride_model.specs.declared.reply.Reply.{Reply}
 use Rattle.ride_model.specs.History.{command_of}
 use Rattle.ride_model.specs.Text.{IsSpelledCommand}
-use Rattle.fleet_board.specs.Passes.{Known, AddsEntry, AddsNone, commands_in, root_of}
-use Rattle.booking_desk.specs.Desk.{Booking, DeskState, after_take, due_of, is_due}
-use Rattle.booking_desk.specs.Releases.{HasSubmitted, IsAnswerTo, all_due}
+use Rattle.fleet_board.specs.inner.Passes.{Known, AddsEntry, AddsNone, commands_in, root_of}
+use Rattle.booking_desk.specs.Desk.{Booking, DeskState}
+use Rattle.booking_desk.specs.inner.Desk.{after_take, due_of, is_due}
+use Rattle.booking_desk.specs.inner.Releases.{HasSubmitted, IsAnswerTo, all_due}
 use Rattle.booking_desk.proofs.Due.{taken-rest}
 use Rattle.model_laws.proofs.plain.Filters.{filter-all}
 use Rattle.model_laws.proofs.plain.Each.{each-append}

@@ -10,8 +10,9 @@ use Rattle.std.proofs.lemmas.List.{length-map}
 use Rattle.std.proofs.lemmas.List.Elements.{recursion_from_All, All-from_recursion, All-map, All-weaker}
 use Rattle.std.proofs.lemmas.List.Kept.{AllPairs-cons}
 use Rattle.std.proofs.lemmas.Map.Views.{Contains-keys_from_lookup, exact_unsigned_eq}
-use Rattle.booking_desk.specs.Desk.{Booking, IsDesk, IsRequest, id_of, is_before, request_id}
-use Rattle.booking_desk.specs.Kept.{booking_in, bookings_in, key_cmp, IsHeldEntry, IsKept}
+use Rattle.booking_desk.specs.Desk.{Booking, id_of, is_before, request_id}
+use Rattle.booking_desk.specs.inner.Desk.{IsDesk, IsRequest}
+use Rattle.booking_desk.specs.inner.Kept.{booking_in, bookings_in, key_cmp, IsHeldEntry, IsKept}
 use Rattle.booking_desk.proofs.Keys.{Entry, IsKeyed, before-keys}
 use Rattle.booking_desk.proofs.HeldEntries.{HaveOtherIds, later-others}
 use Rattle.booking_desk.proofs.Entered.{keyed-from_kept}

@@ -5,9 +5,10 @@ use Rattle.std.proofs.lemmas.Bool.{eqb-true}
 use Rattle.ride_model.specs.declared.command.Command.{Command}
 use Rattle.booking_desk.specs.declared.replies.BookReply.{BookReply}
 use Rattle.booking_desk.specs.declared.replies.BookReply.TheVariants.{Held, Now, Refused}
-use Rattle.booking_desk.specs.Desk.{Booking, DeskState, after_book, after_take, due_of, id_of, is_before, is_booked, new_desk, put_in, reply_to_book, request_id, without}
+use Rattle.booking_desk.specs.Desk.{Booking, DeskState, id_of, is_before, is_booked, put_in, reply_to_book, request_id}
+use Rattle.booking_desk.specs.inner.Desk.{after_book, after_take, due_of, new_desk, without}
 use Rattle.booking_desk.specs.Released.{DeskCall, book, unbook, clock}
-use Rattle.booking_desk.specs.Steps.{after_call}
+use Rattle.booking_desk.specs.inner.Steps.{after_call}
 use Rattle.model_laws.proofs.plain.Filters.{any-append}
 use Rattle.model_laws.proofs.plain.Numbers.{eqb-flip}
 use Rattle.booking_desk.proofs.BookingOrder.{before-not_after}

@@ -7,7 +7,8 @@ use Rattle.std.proofs.lemmas.List.Elements.{filter-append}
 use Rattle.std.proofs.Math.Seq.{drop-append_seam}
 use Rattle.std.proofs.Math.Bool.{or-false}
 use Rattle.ride_model.specs.declared.command.Command.{Command}
-use Rattle.booking_desk.specs.Desk.{is_booked, request_id, without}
+use Rattle.booking_desk.specs.Desk.{is_booked, request_id}
+use Rattle.booking_desk.specs.inner.Desk.{without}
 use Rattle.booking_desk.specs.Released.{DeskCall, book, unbook, clock, BookCall, book_calls, call_id, first_of_each_id, is_unbook, is_unbooked, made_of, standing}
 use Rattle.model_laws.proofs.plain.Filters.{any-append, filter-same}
 use Rattle.model_laws.proofs.plain.Each.{each-weaker}

@@ -1,10 +1,6 @@
 pub mod Desk
-pub mod Kept
 pub mod Released
-pub mod Steps
-pub mod Releases
 pub mod BookLines
 pub mod BookText
 pub mod Booked
-pub mod Asked
-pub mod FeedDesk
+pub mod inner

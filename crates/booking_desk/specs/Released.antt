@@ -1,5 +1,5 @@
 -- Which bookings are released at which moment, said over the list of calls alone, by a filter and a sort for each moment.
-use Rattle.std.specs.Prelude.{ℕ, ◌+◌, ◌==◌, ◌&&◌, not, nat_lt, nat_le, max, Bool, false, if◌then◌else◌, List, [], ◌∷◌, ◌++◌, filter, map, take, drop}
+use Rattle.std.specs.Prelude.{ℕ, ◌+◌, ◌==◌, ◌&&◌, not, nat_lt, nat_le, max, Bool, false, if◌then◌else◌, List, [], ◌∷◌, filter, map, take, drop}
 use Rattle.std.specs.List.{list_any}
 use Rattle.ride_model.specs.declared.command.Command.{Command}
 use Rattle.ride_model.specs.Limits.{latest_time}
@@ -76,17 +76,6 @@ abbrev pub released_at : ℕ → List DeskCall → ℕ → List Booking
 released_at most calls time =
     filter (λ (booking : Booking). nat_lt (clock_of calls) booking.release && nat_le booking.release (max (clock_of calls) time))
     (sorted (standing most calls))
-
--- what is released by calls that follow others, moment by moment
-abbrev pub released_after : ℕ → List DeskCall → List DeskCall → List Booking
-released_after most before [] = []
-released_after most before (clock time ∷ calls) = released_at most before time ++ released_after most (before ++ clock time ∷ []) calls
-released_after most before (book release request ∷ calls) = released_after most (before ++ book release request ∷ []) calls
-released_after most before (unbook id ∷ calls) = released_after most (before ++ unbook id ∷ []) calls
-
--- what is released by calls of a new desk
-abbrev pub released_of : ℕ → List DeskCall → List Booking
-released_of most calls = released_after most [] calls
 
 -- a desk after these calls, where all that were due were taken after each
 abbrev pub desk_after : ℕ → List DeskCall → DeskState

@@ -2,7 +2,7 @@
 ghost use Rattle.std.specs.Prelude.{◌≡◌, ◌∷◌, ℕ, List, IfSome, option_and_then, option_map};
 ghost use Rattle.line_text.specs.Fields.{fields_of, numbers_of};
 ghost use Rattle.ride_model.specs.Text.{IsSpelled, IsSpelledCommand};
-ghost use Rattle.booking_desk.specs.Asked.{IsSpelledAsked, as_call};
+ghost use Rattle.booking_desk.specs.inner.Asked.{IsSpelledAsked, as_call};
 ghost use Rattle.booking_desk.specs.BookLines.{booking_of, call_of_fields, moment_of, unbooking_of};
 
 use line_text::Fields;

@@ -1,6 +1,7 @@
 //! The booking desk.
 ghost use Rattle.std.specs.Prelude.{◌≡◌, ◌≤◌, ◌∷◌, IsSome, IfOk, IfSome, OnErr, length, option_map};
-ghost use Rattle.booking_desk.specs.Desk.{Booking, IsDesk, IsRequest, after_book, after_clock, after_take, after_unbook, due_of, is_held, most_bookings, new_desk, reply_to_book, request_id};
+ghost use Rattle.booking_desk.specs.Desk.{Booking, is_held, most_bookings, reply_to_book, request_id};
+ghost use Rattle.booking_desk.specs.inner.Desk.{IsDesk, IsRequest, after_book, after_clock, after_take, after_unbook, due_of, new_desk};
 
 use crate::{BookReply, NoMemory};
 use indexmap::IndexMap;
@@ -36,7 +37,7 @@ impl Model for BookingDesk {
     ghost Value = { DeskState };
 
     ghost use Rattle.std.specs.Map.{keys_of};
-    ghost use Rattle.booking_desk.specs.Kept.{IsKept, bookings_in};
+    ghost use Rattle.booking_desk.specs.inner.Kept.{IsKept, bookings_in};
 
     ghost view = { λ desk. record { most = desk.most; clock = desk.clock; booked = keys_of desk.booked.entries; held = bookings_in desk.held.entries } };
 

@@ -2,11 +2,12 @@
 ghost use Rattle.std.specs.Prelude.{◌≡◌, ◌<◌, ◌∷◌, ◌++◌, ℕ, [], false, true, List, Option, IfOk, MatchResult, if◌then◌else◌, length, take};
 ghost use Rattle.line_text.specs.Fields.{begins_with, is_over_long};
 ghost use Rattle.ride_model.specs.Text.{IsSpelledCommand};
-ghost use Rattle.line_text.specs.text_page.Output.{HasPut};
+ghost use Rattle.line_text.specs.inner.text_page.Output.{HasPut};
 ghost use Rattle.command_lines.specs.Limits.{most_lines};
 ghost use Rattle.booking_desk.specs.BookText.{held_line, over_long_line, refusal_line, released_text, reply_text, text_of_lines};
-ghost use Rattle.booking_desk.specs.Desk.{after_book, after_unbook, is_held, IsRequest, most_bookings, reply_to_book};
-ghost use Rattle.booking_desk.specs.FeedDesk.{AreDue, AreSpelled, HasBooked, IsNew, with_due};
+ghost use Rattle.booking_desk.specs.Desk.{is_held, most_bookings, reply_to_book};
+ghost use Rattle.booking_desk.specs.inner.Desk.{after_book, after_unbook, IsRequest};
+ghost use Rattle.booking_desk.specs.inner.FeedDesk.{AreDue, AreSpelled, HasBooked, IsNew, with_due};
 ghost use Rattle.booking_desk.specs.Released.{DeskCall, clock, clock_of, desk_after, released_at};
 ghost use Rattle.booking_desk.specs.Desk.{Booking};
 

@@ -1,9 +1,11 @@
 //! Laws of desks: what is true of every list of steps from a new desk.
 ghost use Rattle.std.specs.Prelude.{◌≡◌, ◌≤◌, ℕ, List, Contains, IfSome, map, false, nat_eq, true};
 ghost use Rattle.std.specs.List.{IsDistinct};
-ghost use Rattle.booking_desk.specs.Desk.{Booking, after_unbook, due_of, id_of, is_booked, is_held, new_desk};
-ghost use Rattle.booking_desk.specs.Released.{book, clock_of, desk_after, released_of};
-ghost use Rattle.booking_desk.specs.Steps.{DeskStep, TakesAllDue, after_steps, calls_of, taken_by};
+ghost use Rattle.booking_desk.specs.Desk.{Booking, id_of, is_booked, is_held};
+ghost use Rattle.booking_desk.specs.inner.Desk.{after_unbook, due_of, new_desk};
+ghost use Rattle.booking_desk.specs.Released.{book, clock_of, desk_after};
+ghost use Rattle.booking_desk.specs.inner.Released.{released_of};
+ghost use Rattle.booking_desk.specs.inner.Steps.{DeskStep, TakesAllDue, after_steps, calls_of, taken_by};
 
 /// Each booking is taken at most once, never before its release and never after it was unbooked.
 pub fn bookings_are_taken_once()

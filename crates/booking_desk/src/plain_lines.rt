@@ -2,9 +2,9 @@
 ghost use Rattle.std.specs.Prelude.{◌≡◌, true};
 ghost use Rattle.ride_model.specs.Text.{IsSpelledCommand};
 ghost use Rattle.command_lines.specs.Commands.{spelling_of};
-ghost use Rattle.line_text.specs.text_page.Output.{Puts};
+ghost use Rattle.line_text.specs.inner.text_page.Output.{Puts};
 ghost use Rattle.booking_desk.specs.BookText.{held_line, refusal_line, request_line, spelled_for, with_lf};
-ghost use Rattle.booking_desk.specs.Desk.{IsRequest};
+ghost use Rattle.booking_desk.specs.inner.Desk.{IsRequest};
 
 use crate::spelling::print_request;
 use line_text::put_number;

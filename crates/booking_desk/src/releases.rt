@@ -1,12 +1,12 @@
 //! Bookings that become requests of a shared board.
 ghost use Rattle.std.specs.Prelude.{◌≡◌, ◌≤◌, ◌++◌, List, length, All, MatchResult};
 ghost use Rattle.ride_model.specs.Text.{IsSpelledCommand};
-ghost use Rattle.ride_model.specs.Limits.{most_earlier_commands};
+ghost use Rattle.ride_model.specs.inner.Limits.{most_earlier_commands};
 ghost use Rattle.turn_lock.specs.Passes.{knowledge};
-ghost use Rattle.fleet_board.specs.Passes.{commands_in, root_of};
+ghost use Rattle.fleet_board.specs.inner.Passes.{commands_in, root_of};
 ghost use Rattle.fleet_board.specs.Roles.{MayFeed};
 ghost use Rattle.booking_desk.specs.Desk.{Booking};
-ghost use Rattle.booking_desk.specs.Releases.{HasSubmitted, all_due};
+ghost use Rattle.booking_desk.specs.inner.Releases.{HasSubmitted, all_due};
 
 use crate::{BookingDesk, NoMemory};
 use fleet_board::{ActorPass, SharedBoard};

@@ -6,7 +6,7 @@ ghost use Rattle.ride_model.specs.declared.command.Command.TheVariants.{Bad};
 ghost use Rattle.ride_model.specs.Text.{IsOneOrTwo, IsSpelledCommand};
 ghost use Rattle.command_lines.specs.Commands.{spelling_of};
 ghost use Rattle.booking_desk.specs.BookText.{spelled_for};
-ghost use Rattle.booking_desk.specs.Desk.{IsRequest};
+ghost use Rattle.booking_desk.specs.inner.Desk.{IsRequest};
 
 use command_lines::print_command;
 use ride_model::Command;

@@ -20,7 +20,7 @@ use Rattle.ride_model.specs.Vehicle.{IsRide}
 use Rattle.model_laws.proofs.plain.Among.{Among, contains_from_among}
 use Rattle.model_laws.proofs.PlanStops.{stop-of-ride}
 use Rattle.model_laws.proofs.TravelTimes.{travel-same}
-use Rattle.city_maker.specs.Reports.{IsOnTime, DrivesInTheDay}
+use Rattle.city_maker.specs.inner.Reports.{IsOnTime, DrivesInTheDay}
 
 abbrev id_of : Vehicle → ℕ
 id_of v = v.id

@@ -7,7 +7,7 @@ use Rattle.std.proofs.lemmas.List.Concat.{flat_map-append}
 use Rattle.city_maker.specs.declared.roads.Roads.{Roads}
 use Rattle.city_maker.specs.Draws.{state_after, draw_at}
 use Rattle.city_maker.specs.Roads.{node_at, arc, arcs_between, arcs_of, pairs_at, pairs_in_row, pairs_in_rows}
-use Rattle.city_maker.specs.Growth.{HasJoined}
+use Rattle.city_maker.specs.inner.Growth.{HasJoined}
 use Rattle.city_maker.proofs.ListsOfRanges.{flat_map-range_more, enumerate_from-push}
 
 pub arcs_of-push : (seed : ℕ) (pairs : List (ℕ × ℕ)) (pair : ℕ × ℕ)

@@ -11,10 +11,11 @@ use Rattle.ride_model.specs.declared.command.Command.TheVariants.{Clock, Ask}
 use Rattle.ride_model.specs.Text.{IsSpelledCommand}
 use Rattle.city_maker.specs.declared.plan.CityPlan.{CityPlan}
 use Rattle.city_maker.specs.Draws.{draw_at}
-use Rattle.city_maker.specs.Plan.{IsPlan, nodes_of}
+use Rattle.city_maker.specs.Plan.{nodes_of}
+use Rattle.city_maker.specs.inner.Plan.{IsPlan}
 use Rattle.city_maker.specs.Roads.{network_of}
 use Rattle.city_maker.specs.Feed.{apart, clock_of, commands_of, draws_before, from_of, group_of, groups_of, request_of, requests_in, seats_of, to_of}
-use Rattle.city_maker.specs.Cities.{IsOnMap}
+use Rattle.city_maker.specs.inner.Cities.{IsOnMap}
 use Rattle.city_maker.proofs.AllOfPieces.{All-map_range, All-flat_map_range}
 use Rattle.city_maker.proofs.DrawLemmas.{draw_at-below}
 use Rattle.city_maker.proofs.RequestLemmas.{apart-same, apart-other}

@@ -3,7 +3,7 @@ use Rattle.std.proofs.Common.{◌≡◌, ◌<◌, ◌≤◌, List, length, get_o
 use Rattle.std.proofs.lemmas.List.Elements.{All-get_or, All-same}
 use Rattle.ride_model.specs.declared.vehicle.Stop.{Stop}
 use Rattle.ride_model.specs.declared.vehicle.Vehicle.{Vehicle}
-use Rattle.ride_model.specs.Vehicle.{IsRoutedSomewhere}
+use Rattle.ride_model.specs.inner.Vehicle.{IsRoutedSomewhere}
 use Rattle.stop_plans.proofs.Legs.{legs_are_bounded}
 
 pub first-leg-le : (v : Vehicle) (stops : List Stop) (first : Stop) → IsRoutedSomewhere v → stops ≡ v.stops.items → 0 < length stops

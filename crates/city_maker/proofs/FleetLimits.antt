@@ -12,7 +12,8 @@ use Rattle.ride_model.specs.Fleet.{IsFleet}
 use Rattle.ride_model.specs.Vehicle.{IsLawful}
 use Rattle.city_maker.specs.declared.plan.CityPlan.{CityPlan}
 use Rattle.city_maker.specs.Draws.{draw_at}
-use Rattle.city_maker.specs.Plan.{IsPlan, nodes_of}
+use Rattle.city_maker.specs.Plan.{nodes_of}
+use Rattle.city_maker.specs.inner.Plan.{IsPlan}
 use Rattle.city_maker.specs.Roads.{network_of}
 use Rattle.city_maker.specs.Fleets.{fleet_of, road_draws, vehicle_of}
 use Rattle.city_maker.proofs.AllOfPieces.{All-map_range}

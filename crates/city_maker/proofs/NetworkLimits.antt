@@ -10,7 +10,8 @@ use Rattle.ride_model.specs.declared.network.RoadArc.{RoadArc}
 use Rattle.ride_model.specs.Road.{RoadMap, IsRoadMap, IsArc}
 use Rattle.city_maker.specs.declared.plan.CityPlan.{CityPlan}
 use Rattle.city_maker.specs.Draws.{draw_at}
-use Rattle.city_maker.specs.Plan.{IsPlan, nodes_of}
+use Rattle.city_maker.specs.Plan.{nodes_of}
+use Rattle.city_maker.specs.inner.Plan.{IsPlan}
 use Rattle.city_maker.specs.Roads.{node_at, arc, arcs_between, arcs_of, neighbour_pairs, network_of, pairs_at, pairs_in_row, pairs_in_rows, right_pair, lower_pair}
 use Rattle.city_maker.proofs.AllOfPieces.{All-flat_map, All-flat_map_range, All-enumerate, length-flat_map_range_le}
 use Rattle.city_maker.proofs.DrawLemmas.{draw_at-below}

@@ -1,5 +1,5 @@
 -- What feed 1 of a drill gives.
-use Rattle.std.specs.Prelude.{ℕ, Bool, true, false, ◌+◌, ◌-◌, ◌*◌, ◌/◌, ◌%◌, min, ◌==◌, if◌then◌else◌, List, [], ◌∷◌, ◌++◌, map}
+use Rattle.std.specs.Prelude.{ℕ, ◌+◌, ◌-◌, ◌*◌, ◌/◌, ◌%◌, min, ◌==◌, if◌then◌else◌, List, [], ◌∷◌, ◌++◌, map}
 use Rattle.std.specs.List.{flat_map, range_with_len}
 use Rattle.ride_model.specs.declared.command.Command.{Command}
 use Rattle.ride_model.specs.declared.command.Command.TheVariants.{Request, Clock, Ask}
@@ -54,8 +54,3 @@ groups_of plan = (plan.requests + 7) / 8
 -- the commands of feed 1
 unfoldable pub commands_of : CityPlan → List Command
 commands_of plan = flat_map (group_of plan) (range_with_len 0 (groups_of plan)) ++ Clock latest_time ∷ []
-
--- whether a command is a request
-abbrev pub is_request : Command → Bool
-is_request (Request _ _ _ _ _ _ _) = true
-is_request _ = false

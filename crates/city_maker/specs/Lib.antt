@@ -3,7 +3,5 @@ pub mod Plan
 pub mod Roads
 pub mod Fleets
 pub mod Feed
-pub mod Cities
 pub mod Steps
-pub mod Growth
-pub mod Reports
+pub mod inner

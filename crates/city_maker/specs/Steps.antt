@@ -1,6 +1,6 @@
 -- The steps of a drill.
-use Rattle.std.specs.Prelude.{ℕ, List, [], ◌∷◌, ◌++◌, map, Option, Some, None}
-use Rattle.std.specs.List.{flat_map, filter_map, range_with_len}
+use Rattle.std.specs.Prelude.{ℕ, List, [], ◌∷◌, ◌++◌, map}
+use Rattle.std.specs.List.{flat_map, range_with_len}
 use Rattle.ride_model.specs.declared.command.Actor.TheVariants.{Feed, Desk}
 use Rattle.ride_model.specs.declared.command.Command.{Command}
 use Rattle.ride_model.specs.declared.command.Command.TheVariants.{Clock}
@@ -32,12 +32,3 @@ start_of plan = start_state (network_of plan) default_settings (fleet_of plan)
 -- a history of the drill of a city
 abbrev pub Drilled : CityPlan → List Entry → Type 0
 Drilled plan entries = IsDrilled (start_of plan) (steps_of plan) entries
-
--- the command that a step gives
-abbrev pub given : DrillStep → Option Command
-given (give command) = Some command
-given _ = None
-
--- the commands that steps give, in order
-abbrev pub given_in : List DrillStep → List Command
-given_in steps = filter_map given steps

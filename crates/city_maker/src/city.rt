@@ -2,11 +2,11 @@
 ghost use Rattle.std.specs.Prelude.{◌≡◌, All, IfOk};
 ghost use Rattle.ride_model.specs.Fleet.{MayStart};
 ghost use Rattle.ride_model.specs.Text.{IsSpelledCommand};
-ghost use Rattle.city_maker.specs.Plan.{IsPlan};
+ghost use Rattle.city_maker.specs.inner.Plan.{IsPlan};
 ghost use Rattle.city_maker.specs.Roads.{network_of};
 ghost use Rattle.city_maker.specs.Fleets.{default_settings, fleet_of};
 ghost use Rattle.city_maker.specs.Feed.{commands_of};
-ghost use Rattle.city_maker.specs.Cities.{IsOnMap};
+ghost use Rattle.city_maker.specs.inner.Cities.{IsOnMap};
 
 use crate::CityPlan;
 use crate::feed::commands;

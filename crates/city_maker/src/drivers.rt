@@ -1,7 +1,7 @@
 //! What the drivers of a city report.
 ghost use Rattle.std.specs.Prelude.{◌≡◌};
 ghost use Rattle.ride_model.specs.Drill.{next_report};
-ghost use Rattle.ride_model.specs.Vehicle.{IsRoutedSomewhere};
+ghost use Rattle.ride_model.specs.inner.Vehicle.{IsRoutedSomewhere};
 
 use ride_model::{Command, Vehicle};
 

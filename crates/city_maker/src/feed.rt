@@ -1,7 +1,7 @@
 //! The commands of a city's feed.
 ghost use Rattle.std.specs.Prelude.{◌≡◌, ◌+◌, ◌*◌, ◌<◌, ◌++◌, min, OnOk, IfOk};
 ghost use Rattle.city_maker.specs.Draws.{state_after};
-ghost use Rattle.city_maker.specs.Plan.{IsPlan};
+ghost use Rattle.city_maker.specs.inner.Plan.{IsPlan};
 ghost use Rattle.city_maker.specs.Feed.{commands_of, draws_before, group_of, groups_of, request_of, requests_in};
 
 use crate::CityPlan;

@@ -1,7 +1,7 @@
 //! The fleet of a city.
 ghost use Rattle.std.specs.Prelude.{◌≡◌, ◌+◌, ◌<◌, OnOk, IfOk};
 ghost use Rattle.city_maker.specs.Draws.{state_after};
-ghost use Rattle.city_maker.specs.Plan.{IsPlan};
+ghost use Rattle.city_maker.specs.inner.Plan.{IsPlan};
 ghost use Rattle.city_maker.specs.Fleets.{fleet_of, road_draws, vehicle_of};
 
 use crate::CityPlan;

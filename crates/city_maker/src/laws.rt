@@ -8,9 +8,11 @@ ghost use Rattle.ride_model.specs.State.{State};
 ghost use Rattle.ride_model.specs.Step.{step};
 ghost use Rattle.city_maker.specs.declared.plan.CityPlan.{CityPlan};
 ghost use Rattle.city_maker.specs.Draws.{draw_at};
-ghost use Rattle.city_maker.specs.Feed.{commands_of, is_request, request_of};
-ghost use Rattle.city_maker.specs.Reports.{IsOnTime, DrivesInTheDay};
-ghost use Rattle.city_maker.specs.Steps.{steps_of, given_in};
+ghost use Rattle.city_maker.specs.Feed.{commands_of, request_of};
+ghost use Rattle.city_maker.specs.inner.Feed.{is_request};
+ghost use Rattle.city_maker.specs.inner.Reports.{IsOnTime, DrivesInTheDay};
+ghost use Rattle.city_maker.specs.Steps.{steps_of};
+ghost use Rattle.city_maker.specs.inner.Steps.{given_in};
 
 /// The first draws of seed 1, below a bound that cuts nothing off.
 pub fn seed_1_draws_known_numbers()

@@ -1,7 +1,7 @@
 //! The roads of a city.
 ghost use Rattle.std.specs.Prelude.{◌≡◌, ◌<◌, ◌≤◌, ◌*◌, ℕ, List, [], ◌∷◌, ◌++◌, length, OnOk, IfOk};
 ghost use Rattle.city_maker.specs.Roads.{neighbour_pairs, pairs_at, pairs_in_row, pairs_in_rows};
-ghost use Rattle.city_maker.specs.Growth.{HasJoined};
+ghost use Rattle.city_maker.specs.inner.Growth.{HasJoined};
 
 use crate::draws::Draws;
 use ride_model::{NoMemory, RoadArc};

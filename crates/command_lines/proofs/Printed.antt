@@ -13,7 +13,8 @@ use Rattle.ride_model.specs.declared.command.Command.TheVariants.{Request, Cance
 use Rattle.ride_model.specs.Text.{IsOneOrTwo, IsSpelled, IsSpelledCommand}
 use Rattle.command_lines.specs.declared.verbs.Verb.{Verb}
 use Rattle.command_lines.specs.declared.verbs.Verb.TheVariants.{Request as ToRequest, Cancel as ToCancel, At as ToBeAt, Done as ToBeDone, On as ToBeOn, Off as ToBeOff, Clock as ToClock, Batch as ToBatch}
-use Rattle.command_lines.specs.Commands.{verb_of, command_from, command_of, spelling_of}
+use Rattle.command_lines.specs.Commands.{verb_of, command_from, spelling_of}
+use Rattle.command_lines.specs.inner.Commands.{command_of}
 
 abbrev AreSpelled : List ℕ → Type 0
 AreSpelled ns = AllByRecursion (λ n. n < 10 ^ 18) ns

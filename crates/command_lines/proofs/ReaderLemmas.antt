@@ -8,12 +8,14 @@ use Rattle.line_text.proofs.LineLemmas.{last_line-some}
 use Rattle.line_text.specs.declared.line_reader.answers.ReadStop.{ReadStop}
 use Rattle.line_text.specs.declared.line_reader.limits.Limits.{Limits}
 use Rattle.line_text.specs.line_reader.Limits.{IsWithinLimits, lines_within}
-use Rattle.line_text.specs.line_reader.Reader.{ReaderState, StopsAt, IsAtEnd, IsNextLine, HasGiven as HasGivenLines, IsStopped as IsStoppedText}
+use Rattle.line_text.specs.inner.line_reader.Reader.{ReaderState, StopsAt, IsAtEnd, IsNextLine, HasGiven as HasGivenLines, IsStopped as IsStoppedText}
 use Rattle.line_text.proofs.line_reader.FeedLines.{lines-at_end}
 use Rattle.command_lines.specs.Commands.{before, commands_from, commands_of, said_by}
-use Rattle.command_lines.specs.Feeds.{FeedState, HasCut, HasGiven, IsStopped, IsWhole}
+use Rattle.command_lines.specs.Feeds.{IsWhole}
+use Rattle.command_lines.specs.inner.Feeds.{FeedState, HasCut, HasGiven, IsStopped}
 use Rattle.command_lines.specs.declared.forms.FeedForm.{FeedForm}
-use Rattle.command_lines.specs.Limits.{AreFirst, IsForm, ended_commands, limits_of}
+use Rattle.command_lines.specs.Limits.{AreFirst, ended_commands, limits_of}
+use Rattle.command_lines.specs.inner.Limits.{IsForm}
 use Rattle.command_lines.proofs.LineCommands.{commands_from-append, commands_from-one, ended-first, length-commands_from-le}
 
 -- what a reader that goes on has given

@@ -2,7 +2,7 @@
 use Rattle.std.specs.Prelude.{ℕ, ◌+◌, ◌==◌, if◌then◌else◌, List, [], ◌∷◌, Option, Some, None, option_and_then, unwrap_or, codes}
 use Rattle.std.specs.List.{join_with_byte}
 use Rattle.std.specs.Str.{bytes_eq}
-use Rattle.line_text.specs.Fields.{fields_of, is_over_long, numbers_of, words_of}
+use Rattle.line_text.specs.Fields.{numbers_of, words_of}
 use Rattle.line_text.specs.Lines.{lines_of}
 use Rattle.ride_model.specs.declared.command.Command.{Command}
 use Rattle.ride_model.specs.declared.command.Command.TheVariants.{Request, Cancel, At, Done, On, Off, Clock, Ask, Bad}
@@ -42,10 +42,6 @@ abbrev pub command_of_fields : ℕ → List (List ℕ) → Option Command
 command_of_fields log [] = None
 command_of_fields log (word ∷ fields) =
     option_and_then (λ verb. option_and_then (command_from log verb) (numbers_of fields)) (verb_of word)
-
--- the command that a line spells. A line of more than 200 bytes spells none
-abbrev pub command_of : ℕ → List ℕ → Option Command
-command_of log line = if is_over_long line then None else command_of_fields log (fields_of line)
 
 -- what a line of a feed says by its words: nothing where it is blank or a comment, else a command or that it is bad
 abbrev pub said_by_words : ℕ → ℕ → Option (List (List ℕ)) → Option Command

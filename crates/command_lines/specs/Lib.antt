@@ -1,3 +1,4 @@
 pub mod Commands
 pub mod Limits
 pub mod Feeds
+pub mod inner

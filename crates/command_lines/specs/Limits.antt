@@ -1,7 +1,6 @@
 -- How a feed is read, its limits, and the commands that count of one that passes them.
-use Rattle.std.specs.Prelude.{◌≡◌, ℕ, ◌≤◌, List, ◌++◌}
+use Rattle.std.specs.Prelude.{◌≡◌, ℕ, List, ◌++◌}
 use Rattle.ride_model.specs.declared.command.Command.{Command}
-use Rattle.ride_model.specs.Text.{IsOneOrTwo}
 use Rattle.line_text.specs.declared.line_reader.limits.Limits.{Limits}
 use Rattle.line_text.specs.line_reader.Limits.{lines_within}
 use Rattle.command_lines.specs.Commands.{commands_from}
@@ -25,11 +24,6 @@ feed_limits = limits_of most_lines
 -- a feed that begins, by a version of the log
 abbrev pub new_feed : ℕ → FeedForm
 new_feed log = record { log = log; lines = most_lines }
-
--- a form has a version of the log, and no more lines than a feed that begins
-pub record IsForm (form : FeedForm) : Type 0 where
-  pub log_fits : IsOneOrTwo form.log
-  pub few_lines : form.lines ≤ most_lines
 
 -- the commands of the lines that an LF ends within the limits
 abbrev pub ended_commands : FeedForm → List ℕ → List Command

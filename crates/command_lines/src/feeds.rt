@@ -4,10 +4,11 @@ ghost use Rattle.ride_model.specs.declared.command.Command.{Command};
 ghost use Rattle.ride_model.specs.Text.{IsOneOrTwo, IsSpelledCommand};
 ghost use Rattle.ride_ports.specs.Bytes.{Reads};
 ghost use Rattle.ride_ports.specs.Count.{KeepsCount};
-ghost use Rattle.line_text.specs.line_reader.Reader.{IsShown, is_fault};
+ghost use Rattle.line_text.specs.inner.line_reader.Reader.{IsShown, is_fault};
 ghost use Rattle.command_lines.specs.Commands.{before, said_by};
-ghost use Rattle.command_lines.specs.Limits.{IsForm};
-ghost use Rattle.command_lines.specs.Feeds.{HasCut, HasGiven, IsStopped, IsWhole, begins_with_letter, is_ready, lines_ahead};
+ghost use Rattle.command_lines.specs.inner.Limits.{IsForm};
+ghost use Rattle.command_lines.specs.Feeds.{IsWhole};
+ghost use Rattle.command_lines.specs.inner.Feeds.{HasCut, HasGiven, IsStopped, begins_with_letter, is_ready, lines_ahead};
 
 use crate::forms::FeedForm;
 use crate::limits::FEED_LIMITS;
@@ -29,7 +30,7 @@ pub struct FeedReader {
 }
 
 impl Model for FeedReader {
-    ghost use Rattle.command_lines.specs.Feeds.{FeedState};
+    ghost use Rattle.command_lines.specs.inner.Feeds.{FeedState};
 
     ghost Value = { FeedState };
 

@@ -3,7 +3,8 @@ ghost use Rattle.std.specs.Prelude.{◌≡◌, ◌≢◌, ℕ, Some};
 ghost use Rattle.ride_model.specs.declared.command.Command.{Command};
 ghost use Rattle.ride_model.specs.declared.command.Command.TheVariants.{Bad};
 ghost use Rattle.ride_model.specs.Text.{IsOneOrTwo, IsSpelledCommand};
-ghost use Rattle.command_lines.specs.Commands.{command_of, spelling_of};
+ghost use Rattle.command_lines.specs.Commands.{spelling_of};
+ghost use Rattle.command_lines.specs.inner.Commands.{command_of};
 
 /// The canonical spelling of a command spells it.
 pub fn printed_commands_read_back()

@@ -3,7 +3,8 @@ ghost use Rattle.std.specs.Prelude.{◌≡◌, ◌≢◌, ◌∷◌, ℕ, List, 
 ghost use Rattle.line_text.specs.Fields.{is_over_long};
 ghost use Rattle.ride_model.specs.declared.command.Command.TheVariants.{Bad};
 ghost use Rattle.ride_model.specs.Text.{IsOneOrTwo, IsSpelledCommand};
-ghost use Rattle.command_lines.specs.Commands.{command_from, command_of, command_of_fields, said_by};
+ghost use Rattle.command_lines.specs.Commands.{command_from, command_of_fields, said_by};
+ghost use Rattle.command_lines.specs.inner.Commands.{command_of};
 
 use crate::verbs::{Verb, verb_of};
 use line_text::{Fields, MOST_LINE, words_of};

@@ -3,15 +3,16 @@ use Rattle.std.proofs.Common.{◌≡◌, ℕ, ◌+◌, ◌<◌, List, [], ◌∷
 use Rattle.std.specs.Prelude.{IfSome}
 use Rattle.line_text.specs.Texts.{Format}
 use Rattle.ride_ports.specs.Bytes.{Reads}
-use Rattle.ride_ports.specs.Contents.{Contents, GivenBack, IsContentOf, bytes_at}
+use Rattle.ride_ports.specs.Contents.{Contents, GivenBack, bytes_at}
+use Rattle.ride_ports.specs.inner.Contents.{IsContentOf}
 use Rattle.ride_ports.specs.Count.{Rose}
 use Rattle.ride_model.specs.Road.{RoadMap}
 use Rattle.ride_model.specs.declared.settings.Settings.{Settings}
 use Rattle.ride_model.specs.declared.vehicle.Vehicle.{Vehicle}
 use Rattle.dispatcher.specs.Formats.{FailsIn}
-use Rattle.dispatcher.specs.Readings.{AsksOnce, IsReadBy}
+use Rattle.dispatcher.specs.inner.Readings.{AsksOnce, IsReadBy}
 use Rattle.dispatcher.specs.Shelves.{AreBytesOf, IsLeftOf, Shelved, told_bytes}
-use Rattle.dispatcher.specs.Stops.{ReadsFleet, ReadsMap}
+use Rattle.dispatcher.specs.inner.Stops.{ReadsFleet, ReadsMap}
 use Rattle.dispatcher.specs.declared.stop.Stop.{Stop}
 use Rattle.dispatcher.specs.declared.stop.Stop.TheVariants.{NoMemory, ShelfFault, LimitPassed, MapRefused, FleetRefused}
 

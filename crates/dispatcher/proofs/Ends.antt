@@ -12,7 +12,7 @@ use Rattle.ride_model.specs.declared.entry.Event.TheVariants.{Fed, Finish, Opene
 use Rattle.ride_model.specs.History.{entries_of, ended_whole, is_whole}
 use Rattle.ride_model.specs.Legal.{replay}
 use Rattle.ride_model.specs.State.{State}
-use Rattle.model_laws.specs.history_laws.Finishing.{is_whole_end, has_whole_end}
+use Rattle.model_laws.specs.inner.history_laws.Finishing.{is_whole_end, has_whole_end}
 use Rattle.model_laws.specs.history_laws.Start.{IsStart, is_fed}
 use Rattle.model_laws.proofs.history_laws.Finished.{whole-after}
 use Rattle.board_core.specs.Recorded.{end_entry}

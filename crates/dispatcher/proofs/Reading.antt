@@ -10,7 +10,8 @@ use Rattle.ride_ports.specs.Count.{Rose}
 use Rattle.run_words.specs.Words.{File, name_of}
 use Rattle.dispatcher.specs.Formats.{FailsAt, FailsIn}
 use Rattle.dispatcher.specs.Meanings.{Meaning, Means, StopsAt}
-use Rattle.dispatcher.specs.Readings.{AreRead, AsksOnce, IsReadAs, StopsReading}
+use Rattle.dispatcher.specs.Readings.{StopsReading}
+use Rattle.dispatcher.specs.inner.Readings.{AreRead, AsksOnce, IsReadAs}
 use Rattle.dispatcher.specs.Shelves.{AreGivenBack, IsFresh, IsLeftOf, IsSpent, Shelved, bytes_of, told_bytes}
 use Rattle.dispatcher.specs.declared.stop.Stop.{Stop}
 use Rattle.dispatcher.specs.declared.stop.Stop.TheVariants.{NoMemory, ShelfFault}

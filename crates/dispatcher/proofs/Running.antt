@@ -10,10 +10,11 @@ use Rattle.gr_reader.specs.MapText.{map_format}
 use Rattle.run_words.specs.Words.{Asked, File, files_of, name_of}
 use Rattle.dispatcher.specs.Formats.{FailsAt}
 use Rattle.dispatcher.specs.Meanings.{Meaning, Means, said_of, status_of}
-use Rattle.dispatcher.specs.Readings.{AreRead, StopsReading}
+use Rattle.dispatcher.specs.Readings.{StopsReading}
+use Rattle.dispatcher.specs.inner.Readings.{AreRead}
 use Rattle.dispatcher.specs.Runs.{Does, HasStopped, HasWorked, IsOver, IsRun, IsUnread}
 use Rattle.dispatcher.specs.Shelves.{AreGivenBack, IsBackOf, IsFresh, IsLeftOf, IsSpent, IsUntouched, SaysTo, Shelved, Sunk, bytes_of, told_bytes}
-use Rattle.dispatcher.specs.Sources.{Did, DoesWork, HandsBack}
+use Rattle.dispatcher.specs.inner.Sources.{Did, DoesWork, HandsBack}
 use Rattle.dispatcher.specs.declared.sources.Work.{Work}
 use Rattle.dispatcher.specs.declared.stop.Stop.{Stop}
 use Rattle.dispatcher.specs.declared.stop.Stop.TheVariants.{ShelfFault}

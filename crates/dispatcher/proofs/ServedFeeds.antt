@@ -11,7 +11,8 @@ use Rattle.ride_model.specs.Legal.{replay}
 use Rattle.ride_model.specs.declared.command.Actor.TheVariants.{Feed}
 use Rattle.ride_model.specs.declared.entry.Ending.TheVariants.{Whole}
 use Rattle.ride_model.specs.declared.entry.Entry.{Entry}
-use Rattle.live_sessions.specs.Serving.{FeedRun, HasNotServed, HasServed, IsServed}
+use Rattle.live_sessions.specs.Serving.{FeedRun, HasNotServed, HasServed}
+use Rattle.live_sessions.specs.inner.Serving.{IsServed}
 use Rattle.dispatcher.specs.Meanings.{Meaning, start_of}
 use Rattle.dispatcher.specs.Services.{HasAnswered}
 use Rattle.dispatcher.specs.Shelves.{Sunk}

@@ -8,8 +8,8 @@ use Rattle.ride_ports.specs.Contents.{Contents, GivenBack}
 use Rattle.ride_ports.specs.Count.{Rose}
 use Rattle.run_words.specs.Words.{File, a_service, feed_file, fleet_file, map_file, name_of}
 use Rattle.dispatcher.specs.Meanings.{Meaning, Means}
-use Rattle.dispatcher.specs.Pairs.{BringsOne, HandsBoth, ServesFeeds}
-use Rattle.dispatcher.specs.Readings.{AreRead}
+use Rattle.dispatcher.specs.inner.Pairs.{BringsOne, HandsBoth, ServesFeeds}
+use Rattle.dispatcher.specs.inner.Readings.{AreRead}
 use Rattle.dispatcher.specs.Runs.{HasStopped, IsRun}
 use Rattle.dispatcher.specs.Shelves.{AreGivenBack, IsBackOf, IsLeftOf, IsSpent, Shelved, Sunk, bytes_of, told_bytes}
 use Rattle.dispatcher.specs.declared.stop.Stop.TheVariants.{ShelfFault}

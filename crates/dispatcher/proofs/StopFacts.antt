@@ -1,6 +1,6 @@
 -- What stopped a reading.
 use Rattle.std.proofs.Common.{◌≡◌, Some, Result, Ok, Err}
-use Rattle.dispatcher.specs.Readings.{stop_in}
+use Rattle.dispatcher.specs.inner.Readings.{stop_in}
 use Rattle.dispatcher.specs.declared.stop.Stop.{Stop}
 use Rattle.dispatcher.specs.declared.stop.Stop.TheVariants.{ShelfFault}
 

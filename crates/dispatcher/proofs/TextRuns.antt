@@ -9,9 +9,10 @@ use Rattle.gr_reader.specs.MapText.{map_format, map_text}
 use Rattle.fleet_file.specs.FleetText.{fleet_format, fleet_text}
 use Rattle.run_words.specs.Words.{map_file, fleet_file, second_fleet_file}
 use Rattle.dispatcher.specs.Meanings.{Meaning, StopsAt}
-use Rattle.dispatcher.specs.Readings.{AreRead, AsksOnce, StopsReading, text_files}
+use Rattle.dispatcher.specs.Readings.{StopsReading}
+use Rattle.dispatcher.specs.inner.Readings.{AreRead, AsksOnce, text_files}
 use Rattle.dispatcher.specs.Shelves.{IsFresh, Shelved, told_bytes}
-use Rattle.dispatcher.specs.Stops.{BringsSecond, StopsFleet, StopsMap}
+use Rattle.dispatcher.specs.inner.Stops.{BringsSecond, StopsFleet, StopsMap}
 use Rattle.dispatcher.specs.declared.stop.Stop.{Stop}
 use Rattle.dispatcher.specs.declared.stop.Stop.TheVariants.{NoMemory, ShelfFault, LimitPassed, MapRefused, FleetRefused}
 use Rattle.dispatcher.proofs.Reading.{none-read, one-more, one-stops, then-stops}

@@ -12,7 +12,7 @@ use Rattle.board_core.specs.declared.board.totals.Totals.{Totals}
 use Rattle.log_audit.specs.Audit.{is_read_fault}
 use Rattle.live_sessions.specs.Serving.{FeedRun}
 use Rattle.dispatcher.specs.Shelves.{Sunk}
-use Rattle.dispatcher.specs.Sources.{Did, WorksOver}
+use Rattle.dispatcher.specs.inner.Sources.{Did, WorksOver}
 use Rattle.dispatcher.specs.Verdicts.{EndsBy}
 use Rattle.dispatcher.specs.declared.sources.Work.{Work}
 use Rattle.dispatcher.proofs.Statuses.{NoneWanting, sink-status, source-status, whole-status}

@@ -1,15 +1,12 @@
-pub mod Statuses
 pub mod Refusals
 pub mod Shelves
 pub mod Meanings
 pub mod Formats
 pub mod Readings
-pub mod Stops
 pub mod Works
 pub mod Verdicts
-pub mod Sources
-pub mod Pairs
 pub mod Services
 pub mod Runs
 pub mod Whole
 pub mod Mission
+pub mod inner

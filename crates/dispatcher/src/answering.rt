@@ -2,7 +2,7 @@
 ghost use Rattle.std.specs.Prelude.{◌≡◌, ◌⊎◌};
 ghost use Rattle.dispatcher.specs.Meanings.{said_of, status_of};
 ghost use Rattle.dispatcher.specs.Shelves.{sunk, IsUntouched, SaysTo};
-ghost use Rattle.dispatcher.specs.Statuses.{code_of};
+ghost use Rattle.dispatcher.specs.inner.Statuses.{code_of};
 
 use crate::refusals::line_of_stop;
 use crate::status::Status;

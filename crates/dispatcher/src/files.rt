@@ -6,9 +6,9 @@ ghost use Rattle.ride_model.specs.Settings.{IsSettings};
 ghost use Rattle.ride_ports.specs.Contents.{given_back};
 ghost use Rattle.gr_reader.specs.MapText.{map_format};
 ghost use Rattle.fleet_file.specs.FleetText.{fleet_format};
-ghost use Rattle.dispatcher.specs.Readings.{stop_in, text_files, AsksOnce, IsReadBy, MayBegin, ReadsTexts};
+ghost use Rattle.dispatcher.specs.inner.Readings.{stop_in, text_files, AsksOnce, IsReadBy, MayBegin, ReadsTexts};
 ghost use Rattle.dispatcher.specs.Shelves.{shelved, told_bytes, IsFresh};
-ghost use Rattle.dispatcher.specs.Stops.{stop_of_fleet, stop_of_map, BringsSecond, ReadsFleet, ReadsMap};
+ghost use Rattle.dispatcher.specs.inner.Stops.{stop_of_fleet, stop_of_map, BringsSecond, ReadsFleet, ReadsMap};
 
 use crate::stop::Stop;
 use adaptive_roads::Roads;

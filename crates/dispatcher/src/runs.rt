@@ -1,6 +1,6 @@
 //! A call for each word. None but `serve` waits.
 ghost use Rattle.std.specs.Prelude.{◌≤◌, string_bytes};
-ghost use Rattle.city_maker.specs.Plan.{IsPlan};
+ghost use Rattle.city_maker.specs.inner.Plan.{IsPlan};
 ghost use Rattle.ride_model.specs.Limits.{longest_reach, most_workers};
 ghost use Rattle.ride_model.specs.Text.{IsOneOrTwo};
 ghost use Rattle.run_words.specs.Words.{a_booking, a_drill, a_league, a_replay, a_service, an_ahead, an_audit};

@@ -2,8 +2,8 @@
 ghost use Rattle.std.specs.Prelude.{◌<◌, ◌≤◌, length, string_bytes};
 ghost use Rattle.ride_model.specs.Limits.{most_workers};
 ghost use Rattle.ride_model.specs.Text.{IsOneOrTwo};
-ghost use Rattle.dispatcher.specs.Pairs.{ServesFeeds};
-ghost use Rattle.dispatcher.specs.Readings.{MayBegin, meaning_of};
+ghost use Rattle.dispatcher.specs.inner.Pairs.{ServesFeeds};
+ghost use Rattle.dispatcher.specs.inner.Readings.{MayBegin, meaning_of};
 ghost use Rattle.dispatcher.specs.Shelves.{shelved, sunk};
 
 use crate::files::Texts;

@@ -1,10 +1,10 @@
 //! What is done over one source, which is brought by its name and given back.
 ghost use Rattle.std.specs.Prelude.{◌<◌, ◌≤◌, length, string_bytes};
 ghost use Rattle.ride_model.specs.Limits.{longest_reach};
-ghost use Rattle.live_sessions.specs.Serving.{feed_run};
+ghost use Rattle.live_sessions.specs.inner.Serving.{feed_run};
 ghost use Rattle.dispatcher.specs.Shelves.{shelved, sunk};
-ghost use Rattle.dispatcher.specs.Readings.{MayBegin};
-ghost use Rattle.dispatcher.specs.Sources.{DoesWork, OfReach, OfTexts, WorksOver};
+ghost use Rattle.dispatcher.specs.inner.Readings.{MayBegin};
+ghost use Rattle.dispatcher.specs.inner.Sources.{DoesWork, OfReach, OfTexts, WorksOver};
 
 use crate::files::Texts;
 use crate::status::Status;

@@ -1,6 +1,6 @@
 //! The exit statuses.
 ghost use Rattle.std.specs.Prelude.{◌≡◌};
-ghost use Rattle.dispatcher.specs.Statuses.{code_of};
+ghost use Rattle.dispatcher.specs.inner.Statuses.{code_of};
 
 /// How a run ended.
 #[derive(Clone, Copy)]

@@ -3,7 +3,7 @@ ghost use Rattle.std.specs.Prelude.{◌≡◌, map, None, string_bytes, IfSome};
 ghost use Rattle.dispatcher.specs.Mission.{ServesWell};
 ghost use Rattle.dispatcher.specs.Runs.{IsRun, RefusesWords};
 ghost use Rattle.dispatcher.specs.Shelves.{shelved, sunk, IsFresh};
-ghost use Rattle.run_words.specs.Asks.{asked_by, IsInRange};
+ghost use Rattle.run_words.specs.inner.Asks.{asked_by, IsInRange};
 ghost use Rattle.run_words.specs.Words.{ask_of};
 
 use crate::files::TextNames;

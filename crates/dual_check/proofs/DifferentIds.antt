@@ -10,7 +10,7 @@ use Rattle.std.proofs.lemmas.Map.Keys.{IsDistinct-head, IsDistinct-tail, IsDisti
 use Rattle.std.proofs.lemmas.Option.{slice_get-get_or}
 use Rattle.model_laws.proofs.plain.Each.{each-filter}
 use Rattle.model_laws.proofs.plain.Lists.{distinct-filter}
-use Rattle.batch_commit.specs.Answer.{place_of}
+use Rattle.batch_commit.specs.inner.Answer.{place_of}
 
 -- different ids have different places
 pub same-place : (ids : List ℕ) (i j : ℕ) → IsDistinct eqb ids → i < length ids → j < length ids

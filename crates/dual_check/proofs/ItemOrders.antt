@@ -8,7 +8,7 @@ use Rattle.std.proofs.lemmas.List.{length_push, append_assoc, append-nil, drop_m
 use Rattle.model_laws.proofs.plain.Each.{each-filter, each-weaker}
 use Rattle.model_laws.proofs.plain.Numbers.{eqb-flip}
 use Rattle.model_laws.proofs.plain.Filters.{filter-same}
-use Rattle.dual_check.specs.Orders.{item_of, has_item, StandsInOrder, first_if_of}
+use Rattle.dual_check.specs.inner.Orders.{item_of, has_item, StandsInOrder, first_if_of}
 
 -- two functions that agree at each element have the same images
 pub map-agree : {A B : Type 0} (f g : A → B) (xs : List A) → AllByRecursion (λ x. f x ≡ g x) xs → map f xs ≡ map g xs

@@ -13,8 +13,8 @@ use Rattle.ride_model.specs.Seating.{BatchCopy, vehicle_ids, find_ride, find_veh
 use Rattle.model_laws.proofs.plain.Among.{Among}
 use Rattle.model_laws.proofs.plain.Each.{each-among}
 use Rattle.model_laws.proofs.Certificates.{certified_is_least}
-use Rattle.batch_commit.specs.Table.{Table, IsTableOf, IsLeastOffer, cell_at as offer_at}
-use Rattle.batch_commit.specs.Answer.{place_of, cell_cost, cells_cost, CertifiesOverCells}
+use Rattle.batch_commit.specs.inner.Table.{Table, IsTableOf, IsLeastOffer, cell_at as offer_at}
+use Rattle.batch_commit.specs.inner.Answer.{place_of, cell_cost, cells_cost, CertifiesOverCells}
 use Rattle.dual_check.proofs.DifferentIds.{find-id, element}
 use Rattle.dual_check.proofs.SeatPlaces.{cost_in_cell, AreSeats, places-of}
 use Rattle.dual_check.proofs.SeatCosts.{sum_by-agree}

@@ -8,7 +8,7 @@ use Rattle.std.proofs.lemmas.List.Sums.{sum-map}
 use Rattle.std.proofs.lemmas.List.FromFn.{sum_by-map-range_with_len_more}
 use Rattle.dual_check.specs.Cells.{GridCells, cell_at}
 use Rattle.dual_check.specs.Grid.{column_of, IsPairing}
-use Rattle.dual_check.specs.Parts.{StandsInCells, HasColumnsOnce}
+use Rattle.dual_check.specs.inner.Parts.{StandsInCells, HasColumnsOnce}
 
 -- what decides a fact decides one that holds where it holds
 pub decided-like : {P Q : Type 0} (b : Bool) → (P → Q) → (Q → P) → MatchBool b P (P → ⊥) → MatchBool b Q (Q → ⊥)

@@ -17,11 +17,11 @@ use Rattle.model_laws.proofs.Certificates.{sum-amounts, sum-amounts-le}
 use Rattle.model_laws.proofs.plain.Sums.{sum_by-map}
 use Rattle.model_laws.proofs.plain.Each.{each-among}
 use Rattle.model_laws.proofs.plain.Lists.{distinct-filter}
-use Rattle.batch_commit.specs.Table.{Table}
-use Rattle.batch_commit.specs.Answer.{place_of, cell_cost, cells_cost}
+use Rattle.batch_commit.specs.inner.Table.{Table}
+use Rattle.batch_commit.specs.inner.Answer.{place_of, cell_cost, cells_cost}
 use Rattle.dual_check.specs.Cells.{GridCells, cell_at}
 use Rattle.dual_check.specs.Grid.{column_of, row_cost, pairing_cost}
-use Rattle.dual_check.specs.Costs.{cost_grid, seat_place, seat_columns, amounts_over}
+use Rattle.dual_check.specs.inner.Costs.{cost_grid, seat_place, seat_columns, amounts_over}
 use Rattle.dual_check.proofs.DifferentIds.{place-of-id, not-found}
 use Rattle.dual_check.proofs.SeatPlaces.{cost-cell, AreSeats, seat-of-request}
 use Rattle.dual_check.proofs.CertifiedPairings.{each-range, each-kept, sum_by-times}

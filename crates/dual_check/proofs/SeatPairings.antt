@@ -16,11 +16,11 @@ use Rattle.ride_model.specs.Batch.{seat_of}
 use Rattle.ride_model.specs.Seating.{BatchCopy, vehicle_ids, has_seat, amount_ids, amount_of, has_amount}
 use Rattle.model_laws.proofs.plain.Among.{Among, among_from_contains, contains_from_among}
 use Rattle.model_laws.proofs.plain.Lists.{distinct-filter}
-use Rattle.batch_commit.specs.Table.{Table, cell_at as offer_at}
-use Rattle.batch_commit.specs.Answer.{place_of, CertifiesOverCells}
+use Rattle.batch_commit.specs.inner.Table.{Table, cell_at as offer_at}
+use Rattle.batch_commit.specs.inner.Answer.{place_of, CertifiesOverCells}
 use Rattle.dual_check.specs.Cells.{cell_at}
 use Rattle.dual_check.specs.Grid.{IsPairing, CertifiesPairing, price_at}
-use Rattle.dual_check.specs.Costs.{cost_grid, seat_place, seat_columns, amounts_over}
+use Rattle.dual_check.specs.inner.Costs.{cost_grid, seat_place, seat_columns, amounts_over}
 use Rattle.dual_check.proofs.DifferentIds.{same-place, find-id, element}
 use Rattle.dual_check.proofs.SeatPlaces.{cost_in_cell, cost-cell, AreSeats, places-of, seat-of-row, column-of-seat}
 use Rattle.dual_check.proofs.SeatCosts.{sum-amounts-over, cost-of-seats}

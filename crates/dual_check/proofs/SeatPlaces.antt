@@ -14,11 +14,11 @@ use Rattle.ride_model.specs.Vehicle.{ride_ids}
 use Rattle.ride_model.specs.Batch.{seat_of}
 use Rattle.ride_model.specs.Seating.{BatchCopy, vehicle_ids}
 use Rattle.model_laws.proofs.plain.Among.{Among, contains_from_among, found_among}
-use Rattle.batch_commit.specs.Table.{Table, FitsBatch, cell_at as offer_at}
-use Rattle.batch_commit.specs.Answer.{IsSeatAt, place_of}
+use Rattle.batch_commit.specs.inner.Table.{Table, FitsBatch, cell_at as offer_at}
+use Rattle.batch_commit.specs.inner.Answer.{IsSeatAt, place_of}
 use Rattle.dual_check.specs.Cells.{cell_at}
 use Rattle.dual_check.specs.Grid.{column_of}
-use Rattle.dual_check.specs.Costs.{cost_grid, seat_place, seat_columns}
+use Rattle.dual_check.specs.inner.Costs.{cost_grid, seat_place, seat_columns}
 use Rattle.dual_check.proofs.PairingParts.{row-of-column}
 use Rattle.dual_check.proofs.DifferentIds.{place-of-id, find-id, id-at}
 

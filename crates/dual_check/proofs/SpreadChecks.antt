@@ -10,11 +10,11 @@ use Rattle.model_laws.proofs.plain.Filters.{filter-all}
 use Rattle.ride_model.specs.declared.offer.Seat.{Seat}
 use Rattle.ride_model.specs.Vehicle.{ride_ids}
 use Rattle.ride_model.specs.Seating.{BatchCopy, vehicle_ids}
-use Rattle.batch_commit.specs.Table.{Table, FitsBatch}
-use Rattle.batch_commit.specs.Answer.{IsSeatAt, CertifiesOverCells}
+use Rattle.batch_commit.specs.inner.Table.{Table, FitsBatch}
+use Rattle.batch_commit.specs.inner.Answer.{IsSeatAt, CertifiesOverCells}
 use Rattle.dual_check.specs.Grid.{CertifiesPairing}
-use Rattle.dual_check.specs.Orders.{has_item, StandsInOrder}
-use Rattle.dual_check.specs.Costs.{cost_grid, seat_columns, amounts_over}
+use Rattle.dual_check.specs.inner.Orders.{has_item, StandsInOrder}
+use Rattle.dual_check.specs.inner.Costs.{cost_grid, seat_columns, amounts_over}
 use Rattle.dual_check.proofs.PairingParts.{decided-like}
 use Rattle.dual_check.proofs.SeatPlaces.{AreSeats}
 use Rattle.dual_check.proofs.SeatPairings.{certified-from-pairing, pairing-from-certified}

@@ -1,6 +1,3 @@
-pub mod Stored
 pub mod Cells
 pub mod Grid
-pub mod Parts
-pub mod Orders
-pub mod Costs
+pub mod inner

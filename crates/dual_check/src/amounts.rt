@@ -1,8 +1,8 @@
 //! Tables of amounts.
 ghost use Rattle.std.specs.Prelude.{◌≡◌, ◌+◌, ◌<◌, ◌≤◌, length, IfSome, MatchBool};
 ghost use Rattle.dual_check.specs.Cells.{GridCells, cell_at, widest_grid};
-ghost use Rattle.dual_check.specs.Parts.{CoversCells, CoversRow};
-ghost use Rattle.dual_check.specs.Costs.{cost_grid};
+ghost use Rattle.dual_check.specs.inner.Parts.{CoversCells, CoversRow};
+ghost use Rattle.dual_check.specs.inner.Costs.{cost_grid};
 
 use crate::{Cell, Grid};
 use batch_commit::PriceTable;

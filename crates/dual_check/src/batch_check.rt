@@ -5,8 +5,8 @@ ghost use Rattle.ride_model.specs.Road.{RoadMap};
 ghost use Rattle.ride_model.specs.Vehicle.{ride_ids};
 ghost use Rattle.ride_model.specs.Seating.{vehicle_ids, Certifies};
 ghost use Rattle.ride_model.specs.Limits.{largest_batch, most_vehicles};
-ghost use Rattle.batch_commit.specs.Table.{FitsBatch, IsTableOf, HasSmallCosts};
-ghost use Rattle.batch_commit.specs.Answer.{IsSeatAt, CertifiesOverCells};
+ghost use Rattle.batch_commit.specs.inner.Table.{FitsBatch, IsTableOf, HasSmallCosts};
+ghost use Rattle.batch_commit.specs.inner.Answer.{IsSeatAt, CertifiesOverCells};
 
 use crate::certificates::certifies_pairing;
 use crate::orders::ids_of;

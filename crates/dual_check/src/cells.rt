@@ -14,7 +14,7 @@ pub struct Cell {
 
 impl Model for Cell {
     ghost use Rattle.std.specs.Prelude.{ℕ, Option};
-    ghost use Rattle.dual_check.specs.Stored.{amount_in, stored};
+    ghost use Rattle.dual_check.specs.inner.Stored.{amount_in, stored};
 
     ghost Value = { Option ℕ };
 

@@ -3,7 +3,7 @@ ghost use Rattle.std.specs.Prelude.{◌≡◌, ◌+◌, ◌≤◌, length, sum, 
 ghost use Rattle.ride_model.specs.Limits.{largest_batch};
 ghost use Rattle.dual_check.specs.Cells.{widest_grid};
 ghost use Rattle.dual_check.specs.Grid.{IsPairing, CertifiesPairing, pairing_cost};
-ghost use Rattle.dual_check.specs.Parts.{CoversGrid};
+ghost use Rattle.dual_check.specs.inner.Parts.{CoversGrid};
 
 use crate::amounts::Amounts;
 use crate::pairings::{cost_of, is_pairing};

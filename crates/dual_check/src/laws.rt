@@ -1,8 +1,8 @@
 //! Weak duality: what prices certify costs least.
 ghost use Rattle.ride_model.specs.Road.{RoadMap};
 ghost use Rattle.ride_model.specs.Seating.{IsLeastSeating};
-ghost use Rattle.batch_commit.specs.Table.{FitsBatch, IsTableOf, HasSmallCosts};
-ghost use Rattle.batch_commit.specs.Answer.{CertifiesOverCells};
+ghost use Rattle.batch_commit.specs.inner.Table.{FitsBatch, IsTableOf, HasSmallCosts};
+ghost use Rattle.batch_commit.specs.inner.Answer.{CertifiesOverCells};
 ghost use Rattle.dual_check.specs.Grid.{IsLeastPairing, CertifiesPairing};
 
 use crate::{Grid, Paired};

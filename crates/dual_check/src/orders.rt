@@ -1,7 +1,7 @@
 //! Items with ids, and lists of ids in whose order they stand.
 ghost use Rattle.std.specs.Prelude.{◌≡◌, ◌≤◌, ℕ, length, map, drop, nat_eq, MatchOption};
 ghost use Rattle.std.specs.List.{IsDistinct};
-ghost use Rattle.dual_check.specs.Orders.{item_of, StandsInOrder, first_if_of};
+ghost use Rattle.dual_check.specs.inner.Orders.{item_of, StandsInOrder, first_if_of};
 
 use arrayvec::ArrayVec;
 use ride_model::{Ride, Seat, Vehicle};

@@ -2,7 +2,7 @@
 ghost use Rattle.std.specs.Prelude.{◌≡◌, ◌<◌, ◌≤◌, ◌*◌, ◌^◌, ℕ, length, IfSome, MatchBool, Some};
 ghost use Rattle.ride_model.specs.Limits.{largest_batch};
 ghost use Rattle.dual_check.specs.Grid.{column_of, IsPairing, row_cost, pairing_cost};
-ghost use Rattle.dual_check.specs.Parts.{StandsInCell, StandsInCells, IsFree, HasColumnsOnce};
+ghost use Rattle.dual_check.specs.inner.Parts.{StandsInCell, StandsInCells, IsFree, HasColumnsOnce};
 
 use crate::amounts::Amounts;
 

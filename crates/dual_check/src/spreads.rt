@@ -3,9 +3,9 @@ ghost use Rattle.std.specs.Prelude.{◌≡◌, ◌≤◌, ◌<◌, ℕ, length, 
 ghost use Rattle.std.specs.List.{IsDistinct};
 ghost use Rattle.ride_model.specs.declared.offer.Seat.{Seat};
 ghost use Rattle.ride_model.specs.Limits.{largest_batch, most_vehicles};
-ghost use Rattle.batch_commit.specs.Answer.{place_of};
-ghost use Rattle.dual_check.specs.Orders.{StandsInOrder};
-ghost use Rattle.dual_check.specs.Costs.{seat_place, seat_columns, amount_alone, amounts_over};
+ghost use Rattle.batch_commit.specs.inner.Answer.{place_of};
+ghost use Rattle.dual_check.specs.inner.Orders.{StandsInOrder};
+ghost use Rattle.dual_check.specs.inner.Costs.{seat_place, seat_columns, amount_alone, amounts_over};
 
 use crate::orders::items_by_id;
 use arrayvec::ArrayVec;

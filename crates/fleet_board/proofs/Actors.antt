@@ -16,9 +16,9 @@ use Rattle.model_laws.proofs.history_laws.Effects.{ends_in}
 use Rattle.model_laws.proofs.history_laws.Others.{ended-same, ended-others, found-others, open_batch-others}
 use Rattle.model_laws.proofs.history_laws.HistoryTexts.{one_or_two}
 use Rattle.board_core.specs.Recorded.{Recorded, state_of}
-use Rattle.turn_lock.specs.History.{items_of}
-use Rattle.fleet_board.specs.Passes.{Known, maker_of, commands_in, root_of, seen_state, desk_of, IsPoint, IsFeed, IsDesk}
-use Rattle.fleet_board.specs.Turns.{Finds}
+use Rattle.turn_lock.specs.inner.History.{items_of}
+use Rattle.fleet_board.specs.inner.Passes.{Known, maker_of, commands_in, root_of, seen_state, desk_of, IsPoint, IsFeed, IsDesk}
+use Rattle.fleet_board.specs.inner.Turns.{Finds}
 use Rattle.fleet_board.proofs.Parts.{nothing_behind, items-feed, items-desk}
 use Rattle.fleet_board.proofs.Points.{Added, Looked, state-added, state-looked, found-state}
 

@@ -9,11 +9,11 @@ use Rattle.ride_model.specs.Text.{IsOneOrTwo, HasLine}
 use Rattle.model_laws.proofs.plain.Among.{Among}
 use Rattle.model_laws.proofs.plain.Each.{of_all, all_of}
 use Rattle.turn_lock.specs.declared.rule.Ended.{Ended}
-use Rattle.turn_lock.specs.History.{items_of, EndedStand}
+use Rattle.turn_lock.specs.inner.History.{items_of, EndedStand}
 use Rattle.turn_lock.specs.Knowledge.{after_join}
 use Rattle.turn_lock.proofs.Lists.{prefix_trans}
-use Rattle.fleet_board.specs.Passes.{Known, maker_of}
-use Rattle.fleet_board.specs.Sets.{IsPartOf}
+use Rattle.fleet_board.specs.inner.Passes.{Known, maker_of}
+use Rattle.fleet_board.specs.inner.Sets.{IsPartOf}
 use Rattle.fleet_board.proofs.Parts.{items-feed, items-desk}
 
 -- what is among the first part is among the whole, and so the last

@@ -14,9 +14,9 @@ use Rattle.model_laws.proofs.history_laws.Others.{NoneToCome, none_to_come}
 use Rattle.model_laws.proofs.history_laws.HistoryTexts.{one_or_two}
 use Rattle.board_core.specs.declared.opening.Opening.TheVariants.{Batch, Idle, Ended}
 use Rattle.board_core.specs.Recorded.{Recorded, state_of}
-use Rattle.fleet_board.specs.Openings.{OpensNone}
-use Rattle.fleet_board.specs.Passes.{Known, pass_number, actor_of, root_of, seen_state, desk_of, IsPoint, IsFeed, IsDesk}
-use Rattle.fleet_board.specs.Turns.{Finds}
+use Rattle.fleet_board.specs.inner.Openings.{OpensNone}
+use Rattle.fleet_board.specs.inner.Passes.{Known, pass_number, actor_of, root_of, seen_state, desk_of, IsPoint, IsFeed, IsDesk}
+use Rattle.fleet_board.specs.inner.Turns.{Finds}
 use Rattle.fleet_board.proofs.Actors.{feed-found, desk-found}
 use Rattle.fleet_board.proofs.Points.{found-state}
 

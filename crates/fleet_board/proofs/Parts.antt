@@ -10,8 +10,8 @@ use Rattle.ride_model.specs.declared.entry.Entry.{Entry}
 use Rattle.ride_model.specs.History.{entries_of}
 use Rattle.ride_model.specs.State.{is_actor}
 use Rattle.ride_model.specs.Text.{IsOneOrTwo, IsSpelledActor, HasLine}
-use Rattle.turn_lock.specs.History.{items_of}
-use Rattle.fleet_board.specs.Passes.{pass_number, maker_of}
+use Rattle.turn_lock.specs.inner.History.{items_of}
+use Rattle.fleet_board.specs.inner.Passes.{pass_number, maker_of}
 
 -- what stands behind a list that is the whole
 pub nothing_behind : {X : Type 0} (xs ys : List X) → xs ++ ys ≡ xs → ys ≡ []

@@ -9,11 +9,11 @@ use Rattle.ride_model.specs.Legal.{after_entry, replay, IsLegal}
 use Rattle.ride_model.specs.Text.{HasText}
 use Rattle.model_laws.proofs.Histories.{replay-append, replay-push}
 use Rattle.board_core.specs.Recorded.{Recorded, state_of}
-use Rattle.turn_lock.specs.History.{items_of, GrowsByOne}
+use Rattle.turn_lock.specs.inner.History.{items_of, GrowsByOne}
 use Rattle.turn_lock.specs.Knowledge.{after_enter, after_leave, after_note}
 use Rattle.turn_lock.proofs.Lists.{items_more}
-use Rattle.fleet_board.specs.Passes.{Known, maker_of, root_of, seen_state, state_before, IsPoint, AddsNone, AddsEntry}
-use Rattle.fleet_board.specs.Turns.{IsTold, Finds, as_began}
+use Rattle.fleet_board.specs.inner.Passes.{Known, maker_of, root_of, seen_state, state_before, IsPoint, AddsNone, AddsEntry}
+use Rattle.fleet_board.specs.inner.Turns.{IsTold, Finds, as_began}
 use Rattle.fleet_board.proofs.Parts.{nothing_behind}
 
 -- a turn finds the pass's board, gone on by entries of others

@@ -7,9 +7,9 @@ use Rattle.ride_model.specs.Legal.{IsNumbered}
 use Rattle.ride_model.specs.Seating.{BatchCopy}
 use Rattle.ride_model.specs.State.{has_ended, open_batch_numbered}
 use Rattle.board_core.specs.Recorded.{Recorded, state_of}
-use Rattle.fleet_board.specs.Openings.{HasOpen}
-use Rattle.fleet_board.specs.Passes.{Known, IsDesk, IsFeed}
-use Rattle.fleet_board.specs.Sets.{newcomer}
+use Rattle.fleet_board.specs.inner.Openings.{HasOpen}
+use Rattle.fleet_board.specs.inner.Passes.{Known, IsDesk, IsFeed}
+use Rattle.fleet_board.specs.inner.Sets.{newcomer}
 
 module _ (board : Recorded) (n : ℕ) (k : Known) (new : k ≡ newcomer board n) where
   -- a feed that has not ended

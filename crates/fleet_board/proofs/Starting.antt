@@ -11,12 +11,12 @@ use Rattle.ride_model.specs.Legal.{replay, IsNumbered}
 use Rattle.ride_model.specs.Seating.{BatchCopy}
 use Rattle.ride_model.specs.State.{State, is_actor, has_ended}
 use Rattle.board_core.specs.Recorded.{Recorded}
-use Rattle.turn_lock.specs.History.{items_of, longer}
+use Rattle.turn_lock.specs.inner.History.{items_of, longer}
 use Rattle.turn_lock.specs.Knowledge.{at_start, after_split, split_off, after_join}
-use Rattle.fleet_board.specs.Openings.{HasNoneOpen}
-use Rattle.fleet_board.specs.Passes.{Known, IsPoint, IsFeed, IsDesk, maker_of}
-use Rattle.fleet_board.specs.Sets.{newcomer, one_if_some}
-use Rattle.fleet_board.specs.Turns.{IsTold, as_began}
+use Rattle.fleet_board.specs.inner.Openings.{HasNoneOpen}
+use Rattle.fleet_board.specs.inner.Passes.{Known, IsPoint, IsFeed, IsDesk, maker_of}
+use Rattle.fleet_board.specs.inner.Sets.{newcomer, one_if_some}
+use Rattle.fleet_board.specs.inner.Turns.{IsTold, as_began}
 
 -- a pass that has seen the history as it stands, and has its number's entries in it, stands at its end
 pub point-of : (board : Recorded) → IsTold board → (k : Known) → k.root ≡ as_began board ∷ [] → k.seen ≡ board.history

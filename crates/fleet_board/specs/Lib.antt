@@ -1,7 +1,3 @@
-pub mod Passes
-pub mod Openings
-pub mod Commits
-pub mod Turns
 pub mod Sharing
-pub mod Sets
 pub mod Roles
+pub mod inner

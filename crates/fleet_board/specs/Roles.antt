@@ -7,8 +7,8 @@ use Rattle.turn_lock.specs.declared.lock.Pass.{Pass}
 use Rattle.turn_lock.specs.Passes.{knowledge}
 use Rattle.fleet_board.specs.declared.shared.Kept.{Kept}
 use Rattle.fleet_board.specs.declared.shared.SharedBoard.{SharedBoard}
-use Rattle.fleet_board.specs.Openings.{HasNoneOpen, HasOpen}
-use Rattle.fleet_board.specs.Passes.{IsPoint, IsFeed, IsDesk}
+use Rattle.fleet_board.specs.inner.Openings.{HasNoneOpen, HasOpen}
+use Rattle.fleet_board.specs.inner.Passes.{IsPoint, IsFeed, IsDesk}
 use Rattle.fleet_board.specs.Sharing.{MayUse}
 
 module _ {g : Ghosts Kept Recorded Entry} where

@@ -1,11 +1,11 @@
 //! What desks do: they open batches, commit them and give them up.
 ghost use Rattle.std.specs.Prelude.{IfOk, OnErr};
-ghost use Rattle.batch_commit.specs.Table.{IsTableOf};
-ghost use Rattle.board_core.specs.Recorded.{committed_entry, abandoned_entry};
+ghost use Rattle.batch_commit.specs.inner.Table.{IsTableOf};
+ghost use Rattle.board_core.specs.inner.Recorded.{committed_entry, abandoned_entry};
 ghost use Rattle.turn_lock.specs.Passes.{knowledge};
-ghost use Rattle.fleet_board.specs.Passes.{IsPoint, IsDesk, AddsNone, AddsEntry, root_of, seen_state, state_before};
-ghost use Rattle.fleet_board.specs.Openings.{HasNoneOpen, HasOpen, Opens};
-ghost use Rattle.fleet_board.specs.Commits.{CommitsSolved, ChangesOnlyStanding};
+ghost use Rattle.fleet_board.specs.inner.Passes.{IsPoint, IsDesk, AddsNone, AddsEntry, root_of, seen_state, state_before};
+ghost use Rattle.fleet_board.specs.inner.Openings.{HasNoneOpen, HasOpen, Opens};
+ghost use Rattle.fleet_board.specs.inner.Commits.{CommitsSolved, ChangesOnlyStanding};
 ghost use Rattle.fleet_board.specs.Sharing.{MayUse};
 
 use crate::{ActorPass, SharedBoard};

@@ -4,7 +4,7 @@ ghost use Rattle.ride_model.specs.declared.entry.Event.TheVariants.{Finish};
 ghost use Rattle.ride_model.specs.Legal.{IsLegalEvent};
 ghost use Rattle.board_core.specs.Recorded.{end_entry};
 ghost use Rattle.turn_lock.specs.Passes.{knowledge};
-ghost use Rattle.fleet_board.specs.Passes.{IsPoint, AddsEntry, actor_of, root_of, seen_state};
+ghost use Rattle.fleet_board.specs.inner.Passes.{IsPoint, AddsEntry, actor_of, root_of, seen_state};
 ghost use Rattle.fleet_board.specs.Sharing.{MayUse};
 
 use crate::{ActorPass, SharedBoard};

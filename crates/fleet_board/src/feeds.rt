@@ -4,9 +4,9 @@ ghost use Rattle.ride_model.specs.declared.command.Actor.TheVariants.{Feed};
 ghost use Rattle.ride_model.specs.declared.entry.Event.TheVariants.{Fed};
 ghost use Rattle.ride_model.specs.Step.{step};
 ghost use Rattle.ride_model.specs.Text.{IsSpelledCommand};
-ghost use Rattle.ride_model.specs.Limits.{most_commands};
+ghost use Rattle.ride_model.specs.inner.Limits.{most_commands};
 ghost use Rattle.turn_lock.specs.Passes.{knowledge};
-ghost use Rattle.fleet_board.specs.Passes.{IsPoint, IsFeed, AddsNone, AddsEntry, commands_in, root_of, state_before};
+ghost use Rattle.fleet_board.specs.inner.Passes.{IsPoint, IsFeed, AddsNone, AddsEntry, commands_in, root_of, state_before};
 ghost use Rattle.fleet_board.specs.Sharing.{MayUse};
 
 use crate::{ActorPass, SharedBoard};

@@ -2,7 +2,7 @@
 ghost use Rattle.std.specs.Prelude.{◌≡◌, take, drop, IfOk};
 ghost use Rattle.board_core.specs.Recorded.{state_of};
 ghost use Rattle.turn_lock.specs.Passes.{knowledge};
-ghost use Rattle.fleet_board.specs.Passes.{IsPoint, AddsNone, root_of, seen_state, all_ended};
+ghost use Rattle.fleet_board.specs.inner.Passes.{IsPoint, AddsNone, root_of, seen_state, all_ended};
 ghost use Rattle.fleet_board.specs.Sharing.{MayUse};
 
 use crate::{ActorPass, SharedBoard};

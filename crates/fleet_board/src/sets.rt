@@ -7,9 +7,9 @@ ghost use Rattle.ride_model.specs.Text.{HasText};
 ghost use Rattle.model_laws.specs.history_laws.Start.{IsStart};
 ghost use Rattle.turn_lock.specs.Knowledge.{after_join};
 ghost use Rattle.turn_lock.specs.Passes.{MayEnter, knowledge};
-ghost use Rattle.fleet_board.specs.Passes.{IsPoint};
-ghost use Rattle.fleet_board.specs.Turns.{as_began};
-ghost use Rattle.fleet_board.specs.Sets.{IsNewPass, IsNewFeed, IsNewDesk, IsBack, IsBackTo, IsPartOf, one_if_some};
+ghost use Rattle.fleet_board.specs.inner.Passes.{IsPoint};
+ghost use Rattle.fleet_board.specs.inner.Turns.{as_began};
+ghost use Rattle.fleet_board.specs.inner.Sets.{IsNewPass, IsNewFeed, IsNewDesk, IsBack, IsBackTo, IsPartOf, one_if_some};
 
 use crate::{ActorPass, Kept, SharedBoard};
 use board_core::Board;

@@ -1,6 +1,6 @@
 //! A board that keeps its history for a turn lock.
 ghost use Rattle.std.specs.Prelude.{[]};
-ghost use Rattle.fleet_board.specs.Passes.{maker_of};
+ghost use Rattle.fleet_board.specs.inner.Passes.{maker_of};
 
 use board_core::Board;
 use ride_model::Entry;

@@ -1,11 +1,11 @@
 //! A turn: what it finds, and how it is handed on.
 ghost use Rattle.std.specs.Prelude.{◌≡◌, [], ◌∷◌, ◌++◌};
 ghost use Rattle.ride_model.specs.declared.entry.Entry.{Entry};
-ghost use Rattle.turn_lock.specs.History.{GrowsByOne};
+ghost use Rattle.turn_lock.specs.inner.History.{GrowsByOne};
 ghost use Rattle.turn_lock.specs.Knowledge.{after_enter, after_leave, after_note};
 ghost use Rattle.turn_lock.specs.Passes.{MayEnter, MayLeave, HasRoot, knowledge};
-ghost use Rattle.fleet_board.specs.Passes.{IsPoint, maker_of};
-ghost use Rattle.fleet_board.specs.Turns.{IsTold, Finds, as_began};
+ghost use Rattle.fleet_board.specs.inner.Passes.{IsPoint, maker_of};
+ghost use Rattle.fleet_board.specs.inner.Turns.{IsTold, Finds, as_began};
 
 use crate::{ActorPass, Kept, SharedBoard};
 use std::sync::Wait;

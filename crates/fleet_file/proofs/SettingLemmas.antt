@@ -2,7 +2,7 @@
 use Rattle.std.proofs.Common.{zero, suc, None, refl, arith}
 use Rattle.std.specs.Prelude.{map}
 use Rattle.fleet_file.specs.FleetText.{Setting, all_settings}
-use Rattle.fleet_file.specs.Reading.{AreInRange}
+use Rattle.fleet_file.specs.inner.Reading.{AreInRange}
 
 -- where no line sets them
 pub defaults-in_range : AreInRange (map (λ (s : Setting). None) all_settings)

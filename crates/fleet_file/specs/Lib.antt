@@ -1,2 +1,2 @@
 pub mod FleetText
-pub mod Reading
+pub mod inner

@@ -21,7 +21,7 @@ pub struct FleetLines {
 impl FleetLines {
     ghost use Rattle.line_text.specs.Fields.{numbers_of};
     ghost use Rattle.fleet_file.specs.FleetText.{after_words, nothing_said, setting_line, vehicle_from, vehicle_line};
-    ghost use Rattle.fleet_file.specs.Reading.{Gives, IsWithin, said};
+    ghost use Rattle.fleet_file.specs.inner.Reading.{Gives, IsWithin, said};
 
     /// No lines, over a map of so many nodes.
     pub fn new(alloc: Global, nodes: u32) -> FleetLines
@@ -114,7 +114,7 @@ impl FleetLines {
 impl LineReader for FleetLines {
     type Refusal = FleetError;
 
-    ghost use Rattle.fleet_file.specs.Reading.{HasTaken, Refuses};
+    ghost use Rattle.fleet_file.specs.inner.Reading.{HasTaken, Refuses};
 
     ghost takes = { λ first lines now. HasTaken first lines now };
 

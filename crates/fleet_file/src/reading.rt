@@ -6,7 +6,7 @@ ghost use Rattle.ride_ports.specs.Bytes.{Reads};
 ghost use Rattle.ride_ports.specs.Count.{KeepsCount};
 ghost use Rattle.fleet_file.specs.declared.errors.FleetError.TheVariants.{NoMemory, ReadFault};
 ghost use Rattle.fleet_file.specs.FleetText.{fleet_format, fleet_text};
-ghost use Rattle.fleet_file.specs.Reading.{is_read_fault};
+ghost use Rattle.fleet_file.specs.inner.Reading.{is_read_fault};
 
 use crate::FleetError;
 use crate::lines::FleetLines;

@@ -3,7 +3,7 @@ ghost use Rattle.std.specs.Prelude.{◌≡◌, ◌<◌, IfSome, position};
 ghost use Rattle.std.specs.Str.{bytes_eq};
 ghost use Rattle.fleet_file.specs.declared.settings.Setting.{Setting};
 ghost use Rattle.fleet_file.specs.FleetText.{is_out, place_of, settings_of, value_at};
-ghost use Rattle.fleet_file.specs.Reading.{AreInRange};
+ghost use Rattle.fleet_file.specs.inner.Reading.{AreInRange};
 ghost use Rattle.ride_model.specs.Settings.{IsSettings};
 
 use ride_model::Settings;

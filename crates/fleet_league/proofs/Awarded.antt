@@ -24,10 +24,10 @@ use Rattle.ride_model.specs.Road.{RoadMap}
 use Rattle.ride_model.specs.Seating.{BatchCopy, Certifies, vehicle_ids, seat_offer, seating_cost}
 use Rattle.ride_model.specs.State.{State, is_actor, open_batch_numbered}
 use Rattle.ride_model.specs.Step.{step}
-use Rattle.batch_commit.specs.Answer.{CertifiesOverCells}
-use Rattle.batch_commit.specs.Solved.{SolvedBatch}
-use Rattle.batch_commit.specs.Table.{Table, IsTableOf}
-use Rattle.model_laws.specs.Requests.{is_of}
+use Rattle.batch_commit.specs.inner.Answer.{CertifiesOverCells}
+use Rattle.batch_commit.specs.inner.Solved.{SolvedBatch}
+use Rattle.batch_commit.specs.inner.Table.{Table, IsTableOf}
+use Rattle.model_laws.specs.inner.Requests.{is_of}
 use Rattle.model_laws.proofs.Histories.{replay-append}
 use Rattle.model_laws.proofs.plain.Among.{Among, among_map, among_map_back}
 use Rattle.model_laws.proofs.plain.Sums.{sum_by-map}
@@ -40,17 +40,19 @@ use Rattle.dual_check.proofs.SeatCosts.{sum-amounts-over}
 use Rattle.dual_check.proofs.SeatPlaces.{AreSeats}
 use Rattle.board_core.specs.declared.opening.Opening.{Opening}
 use Rattle.board_core.specs.declared.opening.Opening.TheVariants.{Batch, Idle, Ended}
-use Rattle.board_core.specs.Opening.{opening_at}
-use Rattle.board_core.specs.Recorded.{Recorded, state_of, opened_entry, committed_entry, abandoned_entry}
+use Rattle.board_core.specs.inner.Opening.{opening_at}
+use Rattle.board_core.specs.Recorded.{Recorded, state_of, opened_entry}
+use Rattle.board_core.specs.inner.Recorded.{committed_entry, abandoned_entry}
 use Rattle.board_core.proofs.FedEntries.{fed_commands-append}
 use Rattle.board_core.proofs.OpenBatches.{state-push, same_batch}
 use Rattle.fleet_league.specs.declared.briefs.Brief.{Brief}
 use Rattle.fleet_league.specs.declared.briefs.Win.{Win}
 use Rattle.fleet_league.specs.Prices.{prices_by, prices_of}
-use Rattle.fleet_league.specs.Companies.{is_report, report_count, IsIdle}
-use Rattle.fleet_league.specs.Awards.{won_rides, won_columns, price_list, request_of, request_entries, asking_entries, opening_entry, confirming_entry, giving_up_entry, AreSeatsOf, AddsAward, AddsPart, IsCertifiedBy}
-use Rattle.fleet_league.specs.Awarding.{MayConfirm, IsWonBatch, asked_state, won_batch, requests_of}
-use Rattle.fleet_league.specs.Quoting.{quoting_batch}
+use Rattle.fleet_league.specs.inner.Companies.{is_report, report_count, IsIdle}
+use Rattle.fleet_league.specs.Awards.{won_rides, won_columns, price_list, request_of, request_entries, asking_entries, opening_entry, confirming_entry, AreSeatsOf, AddsAward}
+use Rattle.fleet_league.specs.inner.Awards.{giving_up_entry, AddsPart, IsCertifiedBy}
+use Rattle.fleet_league.specs.inner.Awarding.{MayConfirm, IsWonBatch, asked_state, won_batch, requests_of}
+use Rattle.fleet_league.specs.inner.Quoting.{quoting_batch}
 use Rattle.fleet_league.proofs.AllConfirmed.{seat-of-win, outcome-confirmed, outcomes-are, all-confirmed}
 use Rattle.fleet_league.proofs.BatchOpened.{opened-none}
 use Rattle.fleet_league.proofs.Legality.{IsLegalBoard, board-fleet, board-roads}

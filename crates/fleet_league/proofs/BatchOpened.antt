@@ -7,7 +7,7 @@ use Rattle.ride_model.specs.declared.reply.RequestState.TheVariants.{InBatch}
 use Rattle.ride_model.specs.Batch.{is_waiting, waiting_rides, after_opening}
 use Rattle.ride_model.specs.Seating.{BatchCopy}
 use Rattle.ride_model.specs.State.{State, AcceptedRequest}
-use Rattle.model_laws.specs.Requests.{is_of}
+use Rattle.model_laws.specs.inner.Requests.{is_of}
 use Rattle.model_laws.proofs.plain.Among.{Among, among_map, among_filter}
 use Rattle.model_laws.proofs.RequestStates.{marked, opening-is}
 use Rattle.model_laws.proofs.history_laws.Opening.{is_of-among}

@@ -19,21 +19,22 @@ use Rattle.ride_model.specs.Offers.{price}
 use Rattle.ride_model.specs.Road.{RoadMap}
 use Rattle.ride_model.specs.Seating.{BatchCopy, amount_ids, amount_of, has_amount, vehicle_ids}
 use Rattle.ride_model.specs.Vehicle.{ride_ids}
-use Rattle.batch_commit.specs.Answer.{CertifiesOverCells}
-use Rattle.batch_commit.specs.Table.{Table, IsTableOf, cell_at as offer_at}
+use Rattle.batch_commit.specs.inner.Answer.{CertifiesOverCells}
+use Rattle.batch_commit.specs.inner.Table.{Table, IsTableOf, cell_at as offer_at}
 use Rattle.model_laws.proofs.plain.Among.{Among, among_from_contains, contains_from_among, among_map_back}
 use Rattle.dual_check.specs.Cells.{GridCells, cell_at}
-use Rattle.dual_check.specs.Costs.{amounts_over}
+use Rattle.dual_check.specs.inner.Costs.{amounts_over}
 use Rattle.dual_check.specs.Grid.{column_of, CertifiesPairing}
 use Rattle.dual_check.proofs.DifferentIds.{element, not-found}
-use Rattle.hungarian.specs.Costs.{cost_of, HasCosts}
-use Rattle.hungarian.specs.Seats.{seat_at, seats_by, pay_at, pays_by, prices_by as amounts_by}
+use Rattle.hungarian.specs.inner.Costs.{cost_of, HasCosts}
+use Rattle.hungarian.specs.Seats.{pay_at, pays_by, prices_by as amounts_by}
+use Rattle.hungarian.specs.inner.Seats.{seat_at, seats_by}
 use Rattle.hungarian.proofs.BatchCertificates.{solved-certified}
 use Rattle.fleet_league.specs.declared.briefs.Brief.{Brief}
 use Rattle.fleet_league.specs.declared.briefs.Win.{Win}
 use Rattle.fleet_league.specs.Prices.{prices_by}
 use Rattle.fleet_league.specs.Awards.{won_rides, won_column, won_columns, price_list, AreSeatsOf}
-use Rattle.fleet_league.specs.Awarding.{IsWonBatch}
+use Rattle.fleet_league.specs.inner.Awarding.{IsWonBatch}
 use Rattle.fleet_league.proofs.PricedRows.{cost-is}
 
 -- pieces of one length

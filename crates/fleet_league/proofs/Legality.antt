@@ -2,8 +2,9 @@
 use Rattle.std.proofs.Common.{◌≡◌, ◌+◌}
 use Rattle.ride_model.specs.Fleet.{IsFleet}
 use Rattle.ride_model.specs.Legal.{IsLegal}
-use Rattle.model_laws.specs.history_laws.Start.{IsStart, fed_total}
-use Rattle.model_laws.specs.history_laws.Consistent.{IsConsistent}
+use Rattle.model_laws.specs.history_laws.Start.{IsStart}
+use Rattle.model_laws.specs.inner.history_laws.Start.{fed_total}
+use Rattle.model_laws.specs.inner.history_laws.Consistent.{IsConsistent}
 use Rattle.model_laws.proofs.history_laws.EveryState.{any_id, consistent, legal_goes}
 use Rattle.model_laws.proofs.history_laws.Invariant.{fleet_of}
 use Rattle.board_core.specs.Recorded.{Recorded, state_of}

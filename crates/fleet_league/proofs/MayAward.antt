@@ -14,11 +14,12 @@ use Rattle.board_core.specs.Recorded.{Recorded, state_of}
 use Rattle.fleet_league.specs.declared.briefs.Brief.{Brief}
 use Rattle.fleet_league.specs.declared.briefs.Win.{Win}
 use Rattle.fleet_league.specs.declared.quotes.Quote.{Quote}
-use Rattle.fleet_league.specs.Prices.{IsNewRide}
-use Rattle.fleet_league.specs.Companies.{CompanyState, IsCompany, IsIdle}
-use Rattle.fleet_league.specs.Awards.{won_rides, request_of, AreOfOneState, HasRoomFor}
-use Rattle.fleet_league.specs.Awarding.{MayConfirm}
-use Rattle.fleet_league.specs.Winning.{MayWin}
+use Rattle.fleet_league.specs.inner.Prices.{IsNewRide}
+use Rattle.fleet_league.specs.inner.Companies.{CompanyState, IsCompany, IsIdle}
+use Rattle.fleet_league.specs.Awards.{won_rides, request_of}
+use Rattle.fleet_league.specs.inner.Awards.{AreOfOneState, HasRoomFor}
+use Rattle.fleet_league.specs.inner.Awarding.{MayConfirm}
+use Rattle.fleet_league.specs.inner.Winning.{MayWin}
 use Rattle.fleet_league.proofs.Legality.{IsLegalBoard, board-roads, board-settings}
 use Rattle.fleet_league.proofs.QuotedState.{Stands, certified-now}
 use Rattle.fleet_league.proofs.Reports.{few-fed}

@@ -9,14 +9,15 @@ use Rattle.ride_model.specs.declared.vehicle.Vehicle.{Vehicle}
 use Rattle.ride_model.specs.Fleet.{IsFleet}
 use Rattle.ride_model.specs.Offers.{price}
 use Rattle.ride_model.specs.Road.{RoadMap, IsRoadMap}
-use Rattle.ride_model.specs.Seating.{BatchCopy, IsBatchOver}
-use Rattle.batch_commit.specs.Table.{Table, cell_at, IsLeastOffer, IsTableOf}
+use Rattle.ride_model.specs.Seating.{BatchCopy}
+use Rattle.ride_model.specs.inner.Seating.{IsBatchOver}
+use Rattle.batch_commit.specs.inner.Table.{Table, cell_at, IsLeastOffer, IsTableOf}
 use Rattle.model_laws.proofs.plain.Among.{Among, among_map_back, contains_from_among}
 use Rattle.model_laws.proofs.plain.Each.{all_of}
 use Rattle.dual_check.specs.Cells.{IsSmall}
 use Rattle.pricing_workers.proofs.SmallCosts.{small-costs}
 use Rattle.fleet_league.specs.Prices.{prices_by}
-use Rattle.fleet_league.specs.Round.{IsPriced}
+use Rattle.fleet_league.specs.inner.Round.{IsPriced}
 use Rattle.fleet_league.proofs.CertifiedWins.{flat-length}
 
 -- what is in one of two lists' pieces

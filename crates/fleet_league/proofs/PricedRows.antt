@@ -13,10 +13,10 @@ use Rattle.ride_model.specs.declared.vehicle.Vehicle.{Vehicle}
 use Rattle.ride_model.specs.Offers.{price}
 use Rattle.ride_model.specs.Road.{RoadMap}
 use Rattle.ride_model.specs.Seating.{BatchCopy}
-use Rattle.batch_commit.specs.Table.{Table, cell_at, IsLeastOffer, IsTableOf}
+use Rattle.batch_commit.specs.inner.Table.{Table, cell_at, IsLeastOffer, IsTableOf}
 use Rattle.dual_check.proofs.CertifiedPairings.{each-range, sum_by-times}
 use Rattle.dual_check.proofs.DifferentIds.{element}
-use Rattle.fleet_league.specs.Quoting.{cost_in, cost_row}
+use Rattle.fleet_league.specs.inner.Quoting.{cost_in, cost_row}
 
 -- pieces by places are pieces by elements
 flat-range : {X A : Type 0} (f : ℕ → List A) (g : X → List A) (xs : List X) (a : ℕ)

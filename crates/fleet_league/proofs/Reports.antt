@@ -29,10 +29,11 @@ use Rattle.model_laws.proofs.history_laws.EveryState.{consistent}
 use Rattle.model_laws.proofs.history_laws.Invariant.{find_request}
 use Rattle.model_laws.proofs.history_laws.Others.{keeps_none}
 use Rattle.model_laws.proofs.history_laws.Untouched.{leaves-step}
-use Rattle.board_core.specs.Recorded.{Recorded, state_of, fed_entry}
+use Rattle.board_core.specs.Recorded.{Recorded, state_of}
+use Rattle.board_core.specs.inner.Recorded.{fed_entry}
 use Rattle.board_core.proofs.FedEntries.{fed_commands-append}
 use Rattle.board_core.proofs.OpenBatches.{state-push}
-use Rattle.fleet_league.specs.Companies.{is_report, report_count, most_reports, IsIdle, IsCompany}
+use Rattle.fleet_league.specs.inner.Companies.{is_report, report_count, most_reports, IsIdle, IsCompany}
 use Rattle.fleet_league.proofs.Legality.{IsLegalBoard}
 
 -- none of these requests waits

@@ -19,9 +19,9 @@ use Rattle.ride_model.specs.Vehicle.{ride_ids}
 use Rattle.model_laws.proofs.plain.Among.{Among, among_map}
 use Rattle.model_laws.proofs.plain.Each.{of_all, all_of}
 use Rattle.fleet_league.specs.declared.briefs.Win.{Win}
-use Rattle.fleet_league.specs.Prices.{IsNewRide}
+use Rattle.fleet_league.specs.inner.Prices.{IsNewRide}
 use Rattle.fleet_league.specs.Awards.{won_rides, request_of, request_entries}
-use Rattle.fleet_league.specs.Awarding.{AreNew, requests_of, requested_state}
+use Rattle.fleet_league.specs.inner.Awarding.{AreNew, requests_of, requested_state}
 
 -- tests that a ride of the map passes
 node-test : (roads : RoadMap) (x : ℕ) → IsNode roads x → is_node roads x ≡ true

@@ -13,7 +13,7 @@ use Rattle.dual_check.proofs.DifferentIds.{same-place}
 use Rattle.dual_check.proofs.PairingParts.{row-of-column}
 use Rattle.dual_check.specs.Cells.{GridCells, cell_at}
 use Rattle.dual_check.specs.Grid.{column_of, row_cost, pairing_cost, price_at, IsPairing, CertifiesPairing}
-use Rattle.fleet_league.specs.Restriction.{is_chosen, chosen_columns, rows_into, IsPart, KeepsColumns, IsRestrictedTo}
+use Rattle.fleet_league.specs.inner.Restriction.{is_chosen, chosen_columns, rows_into, IsPart, KeepsColumns, IsRestrictedTo}
 use Rattle.fleet_league.proofs.ChosenSums.{weight_at, weights_of, sum-weights, covered-rows, sum-same, by-place, distinct-kept, kept-below}
 
 -- a row's price is at most its cell and what its column pays

@@ -8,7 +8,7 @@ use Rattle.std.proofs.lemmas.Nat.{same_from_place}
 use Rattle.std.proofs.lemmas.Option.{get_or_from_slice_get, slice_get-get_or, slice_get-map, slice_get_within}
 use Rattle.model_laws.proofs.plain.Sums.{sum_by-map}
 use Rattle.dual_check.specs.Cells.{GridCells, IsGrid, cell_at}
-use Rattle.fleet_league.specs.Filling.{ChangesOnly}
+use Rattle.fleet_league.specs.inner.Filling.{ChangesOnly}
 use Rattle.fleet_league.specs.declared.quotes.Quote.{Quote}
 use Rattle.fleet_league.specs.Round.{IsUnion, StandsFrom, columns_before, company_prices}
 

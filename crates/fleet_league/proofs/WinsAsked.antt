@@ -21,12 +21,13 @@ use Rattle.ride_model.specs.Legal.{after_entry, replay}
 use Rattle.ride_model.specs.State.{State, has_ended, is_actor, open_batch_of}
 use Rattle.ride_model.specs.Step.{Answered, with_accepted, ask_step, step}
 use Rattle.model_laws.proofs.Histories.{replay-append, replay-push}
-use Rattle.board_core.specs.Recorded.{Recorded, state_of, fed_entry}
+use Rattle.board_core.specs.Recorded.{Recorded, state_of}
+use Rattle.board_core.specs.inner.Recorded.{fed_entry}
 use Rattle.board_core.proofs.FedEntries.{fed_commands-append}
 use Rattle.board_core.proofs.OpenBatches.{state-push}
 use Rattle.fleet_league.specs.declared.briefs.Win.{Win}
 use Rattle.fleet_league.specs.Awards.{won_rides, request_of, request_entries, asking_entries}
-use Rattle.fleet_league.specs.Awarding.{AreNew, MayAsk, requested_state, asked_state}
+use Rattle.fleet_league.specs.inner.Awarding.{AreNew, MayAsk, requested_state, asked_state}
 use Rattle.fleet_league.proofs.Reports.{fed-push}
 use Rattle.fleet_league.proofs.Requested.{new-first, new-room, new-rest, request-taken, requested}
 

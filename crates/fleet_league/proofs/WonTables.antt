@@ -16,12 +16,12 @@ use Rattle.ride_model.specs.Road.{RoadMap}
 use Rattle.ride_model.specs.Seating.{BatchCopy}
 use Rattle.ride_model.specs.State.{State}
 use Rattle.ride_model.specs.Vehicle.{ride_ids}
-use Rattle.batch_commit.specs.Table.{Table, cell_at, IsLeastOffer, IsTableOf}
+use Rattle.batch_commit.specs.inner.Table.{Table, cell_at, IsLeastOffer, IsTableOf}
 use Rattle.dual_check.proofs.DifferentIds.{element, same-place}
 use Rattle.fleet_league.specs.declared.briefs.Win.{Win}
-use Rattle.fleet_league.specs.Awarding.{won_batch}
+use Rattle.fleet_league.specs.inner.Awarding.{won_batch}
 use Rattle.fleet_league.specs.Awards.{won_rides}
-use Rattle.fleet_league.specs.Quoting.{offer_row, place_of, quoting_batch}
+use Rattle.fleet_league.specs.inner.Quoting.{offer_row, place_of, quoting_batch}
 use Rattle.fleet_league.proofs.CertifiedWins.{flat-length}
 
 -- a ride's place among rides of different ids

@@ -1,5 +1,5 @@
 -- What a company quotes.
-use Rattle.std.specs.Prelude.{◌≡◌, ℕ, List, length, map, None}
+use Rattle.std.specs.Prelude.{ℕ, List, length, map}
 use Rattle.std.specs.List.{flat_map}
 use Rattle.ride_model.specs.declared.settings.Settings.{Settings}
 use Rattle.ride_model.specs.declared.vehicle.Ride.{Ride}
@@ -7,8 +7,7 @@ use Rattle.ride_model.specs.declared.vehicle.Vehicle.{Vehicle}
 use Rattle.ride_model.specs.Legal.{versions_of}
 use Rattle.ride_model.specs.Offers.{price}
 use Rattle.ride_model.specs.Road.{RoadMap}
-use Rattle.ride_model.specs.State.{State, accepted_request}
-use Rattle.ride_model.specs.Vehicle.{IsRide}
+use Rattle.ride_model.specs.State.{State}
 use Rattle.dual_check.specs.Cells.{GridCells}
 use Rattle.fleet_league.specs.declared.quotes.Quote.{Quote}
 
@@ -27,9 +26,3 @@ prices_of s rides = prices_by s.roads s.settings s.clock s.vehicles rides
 -- what is quoted of a state for rides: its clock, its vehicles' versions in fleet order, and their prices
 abbrev pub quote_of : State → List Ride → Quote
 quote_of s rides = record { time = s.clock; plans = versions_of s.vehicles; prices = prices_of s rides }
-
--- a ride that a state has not accepted, and that fits its map and waits
-pub record IsNewRide (s : State) (ride : Ride) : Type 0 where
-  pub fits : IsRide s.roads ride
-  pub waits : ride.picked ≡ None
-  pub not_accepted : accepted_request s ride.id ≡ None

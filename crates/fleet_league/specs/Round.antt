@@ -1,15 +1,9 @@
 -- Rounds of a league: the union of several companies' prices, and a least pairing of it.
-use Rattle.std.specs.Prelude.{◌≡◌, ℕ, ◌+◌, ◌<◌, ◌≤◌, List, map, take, slice_get, sum_by, All, Some}
-use Rattle.ride_model.specs.Limits.{most_vehicles}
+use Rattle.std.specs.Prelude.{◌≡◌, ℕ, ◌+◌, ◌<◌, List, map, take, slice_get, sum_by, All, Some}
 use Rattle.dual_check.specs.Cells.{GridCells, IsGrid, cell_at}
 use Rattle.dual_check.specs.Grid.{IsLeastPairing, CertifiesPairing}
 use Rattle.dual_check.specs.declared.paired.Paired.{Paired}
 use Rattle.fleet_league.specs.declared.quotes.Quote.{Quote}
-
--- the prices of a company's vehicles, a row for each ride: at most 128 rides and 1,000 vehicles, prices below 2^42
-pub record IsPriced (prices : GridCells) : Type 0 where
-  pub grid : IsGrid prices
-  pub few_vehicles : prices.columns ≤ most_vehicles
 
 -- the prices of all companies
 abbrev pub company_prices : List Quote → List GridCells

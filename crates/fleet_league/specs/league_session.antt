@@ -2,6 +2,4 @@ pub mod Feed
 pub mod LeagueTexts
 pub mod RoundParts
 pub mod League
-pub mod LeagueBoards
 pub mod Leagued
-pub mod LeagueRuns

@@ -3,7 +3,7 @@ ghost use Rattle.std.specs.Prelude.{◌≡◌, ◌+◌, ◌≤◌, ◌++◌, ℕ
 ghost use Rattle.board_core.specs.Recorded.{state_of};
 ghost use Rattle.ride_model.specs.Limits.{most_batches};
 ghost use Rattle.fleet_league.specs.Awards.{won_rides, request_of, request_entries, asking_entries};
-ghost use Rattle.fleet_league.specs.Awarding.{MayAsk};
+ghost use Rattle.fleet_league.specs.inner.Awarding.{MayAsk};
 
 use crate::Win;
 use board_core::Board;

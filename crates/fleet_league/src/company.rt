@@ -4,8 +4,9 @@ ghost use Rattle.ride_model.specs.Fleet.{MayStart};
 ghost use Rattle.ride_model.specs.State.{start_state};
 ghost use Rattle.ride_model.specs.Step.{step};
 ghost use Rattle.ride_model.specs.Text.{IsSpelledCommand};
-ghost use Rattle.board_core.specs.Recorded.{state_of, fed_entry};
-ghost use Rattle.fleet_league.specs.Companies.{is_report, report_count, most_reports};
+ghost use Rattle.board_core.specs.Recorded.{state_of};
+ghost use Rattle.board_core.specs.inner.Recorded.{fed_entry};
+ghost use Rattle.fleet_league.specs.inner.Companies.{is_report, report_count, most_reports};
 
 use adaptive_roads::Roads;
 use board_core::Board;
@@ -24,7 +25,7 @@ pub struct Company<'r> {
 }
 
 impl<'r> Model for Company<'r> {
-    ghost use Rattle.fleet_league.specs.Companies.{CompanyState, IsCompany};
+    ghost use Rattle.fleet_league.specs.inner.Companies.{CompanyState, IsCompany};
 
     ghost Value = { CompanyState };
 

@@ -1,11 +1,12 @@
 //! The wins of an award as one batch, which is asked for, opened and committed.
 ghost use Rattle.std.specs.Prelude.{◌≡◌, [], OnOk, OnErr};
-ghost use Rattle.batch_commit.specs.Table.{IsTableOf};
+ghost use Rattle.batch_commit.specs.inner.Table.{IsTableOf};
 ghost use Rattle.board_core.specs.Recorded.{state_of};
-ghost use Rattle.fleet_league.specs.Companies.{IsIdle};
-ghost use Rattle.fleet_league.specs.Awards.{won_rides, AddsAward, AddsPart};
-ghost use Rattle.fleet_league.specs.Awarding.{MayConfirm};
-ghost use Rattle.fleet_league.specs.Quoting.{quoting_batch};
+ghost use Rattle.fleet_league.specs.inner.Companies.{IsIdle};
+ghost use Rattle.fleet_league.specs.Awards.{won_rides, AddsAward};
+ghost use Rattle.fleet_league.specs.inner.Awards.{AddsPart};
+ghost use Rattle.fleet_league.specs.inner.Awarding.{MayConfirm};
+ghost use Rattle.fleet_league.specs.inner.Quoting.{quoting_batch};
 
 use crate::Brief;
 use crate::asking::ask;

@@ -1,7 +1,7 @@
 //! What a certified pairing says of some of its columns.
 ghost use Rattle.std.specs.Prelude.{◌≡◌, ◌≤◌, length};
 ghost use Rattle.dual_check.specs.Grid.{CertifiesPairing};
-ghost use Rattle.fleet_league.specs.Restriction.{IsPart, IsRestrictedTo, chosen_columns, rows_into};
+ghost use Rattle.fleet_league.specs.inner.Restriction.{IsPart, IsRestrictedTo, chosen_columns, rows_into};
 
 use dual_check::{Grid, Paired};
 

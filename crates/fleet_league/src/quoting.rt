@@ -5,12 +5,13 @@ ghost use Rattle.ride_model.specs.Legal.{versions_of};
 ghost use Rattle.ride_model.specs.Road.{RoadMap};
 ghost use Rattle.ride_model.specs.Vehicle.{ride_ids};
 ghost use Rattle.ride_model.specs.Limits.{largest_batch};
-ghost use Rattle.batch_commit.specs.Table.{cell_at, FitsBatch, IsPriceable, IsTableOf};
+ghost use Rattle.batch_commit.specs.inner.Table.{cell_at, FitsBatch, IsPriceable, IsTableOf};
 ghost use Rattle.board_core.specs.Recorded.{state_of};
 ghost use Rattle.fleet_league.specs.Awards.{won_rides};
-ghost use Rattle.fleet_league.specs.Prices.{prices_by, prices_of, IsNewRide};
-ghost use Rattle.fleet_league.specs.Quoting.{quoting_batch, cost_in, cost_row};
-ghost use Rattle.fleet_league.specs.Round.{IsPriced};
+ghost use Rattle.fleet_league.specs.Prices.{prices_by, prices_of};
+ghost use Rattle.fleet_league.specs.inner.Prices.{IsNewRide};
+ghost use Rattle.fleet_league.specs.inner.Quoting.{quoting_batch, cost_in, cost_row};
+ghost use Rattle.fleet_league.specs.inner.Round.{IsPriced};
 
 use crate::{Company, PriceRows, Quote, Win};
 use batch_commit::{Batch, PriceTable};

@@ -2,7 +2,8 @@
 ghost use Rattle.std.specs.Prelude.{◌≡◌, ℕ, ◌≤◌, length, All, IfOk};
 ghost use Rattle.ride_model.specs.Limits.{greatest_penalty};
 ghost use Rattle.fleet_league.specs.declared.quotes.Quote.{Quote};
-ghost use Rattle.fleet_league.specs.Round.{IsPriced, IsRound, company_prices};
+ghost use Rattle.fleet_league.specs.Round.{IsRound, company_prices};
+ghost use Rattle.fleet_league.specs.inner.Round.{IsPriced};
 
 use crate::unions::union_of;
 use crate::{NoMemory, Quote};

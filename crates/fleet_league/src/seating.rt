@@ -5,11 +5,11 @@ ghost use Rattle.ride_model.specs.Road.{RoadMap};
 ghost use Rattle.ride_model.specs.Seating.{vehicle_ids};
 ghost use Rattle.ride_model.specs.Vehicle.{ride_ids};
 ghost use Rattle.ride_model.specs.Limits.{largest_batch, most_vehicles};
-ghost use Rattle.batch_commit.specs.Answer.{CertifiesOverCells, undecided};
-ghost use Rattle.batch_commit.specs.Table.{FitsBatch, IsTableOf};
-ghost use Rattle.hungarian.specs.Seats.{seat_at, seats_by};
+ghost use Rattle.batch_commit.specs.inner.Answer.{CertifiesOverCells, undecided};
+ghost use Rattle.batch_commit.specs.inner.Table.{FitsBatch, IsTableOf};
+ghost use Rattle.hungarian.specs.inner.Seats.{seat_at, seats_by};
 ghost use Rattle.fleet_league.specs.Awards.{won_rides, won_column, won_columns, price_list, AreSeatsOf};
-ghost use Rattle.fleet_league.specs.Awarding.{IsWonBatch};
+ghost use Rattle.fleet_league.specs.inner.Awarding.{IsWonBatch};
 
 use crate::{Brief, Win};
 use batch_commit::{Answer, Batch, PriceTable, Solved};

@@ -2,8 +2,9 @@
 ghost use Rattle.std.specs.Prelude.{◌≡◌, ℕ, ◌+◌, ◌<◌, ◌≤◌, ◌^◌, length, sum_by, All, IfOk, IfSome, None};
 ghost use Rattle.dual_check.specs.Cells.{cell_at, widest_grid};
 ghost use Rattle.fleet_league.specs.declared.quotes.Quote.{Quote};
-ghost use Rattle.fleet_league.specs.Filling.{ChangesOnly};
-ghost use Rattle.fleet_league.specs.Round.{IsPriced, IsUnion, StandsFrom, company_prices};
+ghost use Rattle.fleet_league.specs.inner.Filling.{ChangesOnly};
+ghost use Rattle.fleet_league.specs.Round.{IsUnion, StandsFrom, company_prices};
+ghost use Rattle.fleet_league.specs.inner.Round.{IsPriced};
 
 use crate::{NoMemory, PriceRows, Quote};
 use dual_check::Grid;

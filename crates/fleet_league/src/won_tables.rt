@@ -6,9 +6,9 @@ ghost use Rattle.ride_model.specs.Road.{RoadMap};
 ghost use Rattle.ride_model.specs.State.{State};
 ghost use Rattle.ride_model.specs.Vehicle.{ride_ids};
 ghost use Rattle.ride_model.specs.Limits.{largest_batch};
-ghost use Rattle.batch_commit.specs.Table.{IsTableOf};
+ghost use Rattle.batch_commit.specs.inner.Table.{IsTableOf};
 ghost use Rattle.fleet_league.specs.Awards.{won_rides};
-ghost use Rattle.fleet_league.specs.Quoting.{offer_row, place_of, quoting_batch};
+ghost use Rattle.fleet_league.specs.inner.Quoting.{offer_row, place_of, quoting_batch};
 
 use crate::Win;
 use batch_commit::PriceTable;

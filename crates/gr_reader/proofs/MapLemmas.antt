@@ -11,7 +11,7 @@ use Rattle.gr_reader.specs.declared.errors.MapError.TheVariants.{NoMemory}
 use Rattle.gr_reader.specs.declared.lines.MapLines.{MapLines}
 use Rattle.gr_reader.specs.declared.lines.Problem.{Problem}
 use Rattle.gr_reader.specs.MapText.{MapSoFar, problem_line, arc_line, problem_of, arc_from, checked_problem, checked_arc}
-use Rattle.gr_reader.specs.Reading.{IsProblem, IsArcAmong, IsSoFar, Holds, Gives, said}
+use Rattle.gr_reader.specs.inner.Reading.{IsProblem, IsArcAmong, IsSoFar, Holds, Gives, said}
 
 -- no arcs are said before the problem
 no-arcs : (so_far : MapSoFar) → so_far.problem ≡ None → IsSoFar so_far → so_far.arcs ≡ []

@@ -1,2 +1,2 @@
 pub mod MapText
-pub mod Reading
+pub mod inner

@@ -2,7 +2,7 @@
 ghost use Rattle.std.specs.Prelude.{◌≡◌, ◌<◌, ◌+◌, ◌-◌, ◌^◌, ◌++◌, ◌∷◌, [], ℕ, List, length, take, min, nat_lt, if◌then◌else◌, option_map, Some, None, IfOk, IfErr, OnOk};
 ghost use Rattle.line_text.specs.Fields.{is_over_long, numbers_of, words_of};
 ghost use Rattle.gr_reader.specs.MapText.{arc_from, checked_arc, checked_problem, is_out, problem_of};
-ghost use Rattle.gr_reader.specs.Reading.{IsArcAmong, IsProblem};
+ghost use Rattle.gr_reader.specs.inner.Reading.{IsArcAmong, IsProblem};
 
 use crate::MapError;
 use line_text::{Fields, LineReader, words_of};
@@ -30,7 +30,7 @@ impl MapLines {
     ghost use Rattle.ride_model.specs.Road.{IsRoadMap};
     ghost use Rattle.gr_reader.specs.declared.errors.MapError.TheVariants.{NoMemory};
     ghost use Rattle.gr_reader.specs.MapText.{MapSoFar, after_words, arc_line, map_of, problem_line};
-    ghost use Rattle.gr_reader.specs.Reading.{Gives, Holds};
+    ghost use Rattle.gr_reader.specs.inner.Reading.{Gives, Holds};
 
     /// No lines.
     pub fn new(alloc: Global) -> MapLines
@@ -133,7 +133,7 @@ impl MapLines {
 impl LineReader for MapLines {
     type Refusal = MapError;
 
-    ghost use Rattle.gr_reader.specs.Reading.{HasTaken, Refuses};
+    ghost use Rattle.gr_reader.specs.inner.Reading.{HasTaken, Refuses};
 
     ghost takes = { λ _ lines now. HasTaken lines now };
 

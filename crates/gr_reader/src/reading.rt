@@ -5,7 +5,7 @@ ghost use Rattle.ride_ports.specs.Bytes.{Reads};
 ghost use Rattle.ride_ports.specs.Count.{KeepsCount};
 ghost use Rattle.gr_reader.specs.declared.errors.MapError.TheVariants.{NoMemory, ReadFault};
 ghost use Rattle.gr_reader.specs.MapText.{map_format, map_text};
-ghost use Rattle.gr_reader.specs.Reading.{is_read_fault};
+ghost use Rattle.gr_reader.specs.inner.Reading.{is_read_fault};
 
 use crate::MapError;
 use crate::lines::MapLines;

@@ -12,11 +12,11 @@ use Rattle.hungarian.specs.declared.search.Search.{Search}
 use Rattle.hungarian.specs.declared.search.Path.{Path}
 use Rattle.hungarian.specs.declared.search.Exit.{Exit}
 use Rattle.hungarian.specs.declared.search.Exit.TheVariants.{Column, Row}
-use Rattle.hungarian.specs.Mates.{mate}
-use Rattle.hungarian.specs.Labels.{distance_at, source_at, rank_at, IsReached, IsExit, IsPath}
-use Rattle.hungarian.specs.Rises.{column_rise, mate_rise, AreRaisable, IsRaised}
-use Rattle.hungarian.specs.Turned.{IsEnd, IsReady, IsTurned, IsLeft}
-use Rattle.hungarian.specs.Partial.{IsTight, IsPartial}
+use Rattle.hungarian.specs.inner.Mates.{mate}
+use Rattle.hungarian.specs.inner.Labels.{distance_at, source_at, rank_at, IsReached, IsExit, IsPath}
+use Rattle.hungarian.specs.inner.Rises.{column_rise, mate_rise, AreRaisable, IsRaised}
+use Rattle.hungarian.specs.inner.Turned.{IsEnd, IsReady, IsTurned, IsLeft}
+use Rattle.hungarian.specs.inner.Partial.{IsTight, IsPartial}
 use Rattle.hungarian.proofs.Mated.{mate-in, cases_mate}
 use Rattle.hungarian.proofs.Raising.{rise-settled, rise-unsettled}
 use Rattle.hungarian.proofs.Reaching.{settled-in, reached-in}

@@ -14,12 +14,12 @@ use Rattle.ride_model.specs.Road.{RoadMap}
 use Rattle.ride_model.specs.Vehicle.{ride_ids}
 use Rattle.ride_model.specs.Batch.{seat_of}
 use Rattle.ride_model.specs.Seating.{BatchCopy, vehicle_ids, amount_ids, IsLeastSeating}
-use Rattle.batch_commit.specs.Table.{Table, FitsBatch, IsTableOf, cell_at as offer_at}
-use Rattle.batch_commit.specs.Answer.{IsSeatAt, CertifiesOverCells}
+use Rattle.batch_commit.specs.inner.Table.{Table, FitsBatch, IsTableOf, cell_at as offer_at}
+use Rattle.batch_commit.specs.inner.Answer.{IsSeatAt, CertifiesOverCells}
 use Rattle.dual_check.specs.Cells.{GridCells, cell_at}
 use Rattle.dual_check.specs.Grid.{column_of, IsPairing, row_cost, pairing_cost, price_at, CertifiesPairing}
-use Rattle.dual_check.specs.Orders.{item_of, StandsInOrder}
-use Rattle.dual_check.specs.Costs.{cost_grid, seat_place, seat_columns, amount_alone, amounts_over}
+use Rattle.dual_check.specs.inner.Orders.{item_of, StandsInOrder}
+use Rattle.dual_check.specs.inner.Costs.{cost_grid, seat_place, seat_columns, amount_alone, amounts_over}
 use Rattle.dual_check.proofs.PairingParts.{row-of-column}
 use Rattle.dual_check.proofs.CertifiedPairings.{each-range}
 use Rattle.dual_check.proofs.ItemOrders.{map-map}
@@ -28,8 +28,9 @@ use Rattle.dual_check.proofs.SeatCosts.{sum_by-agree}
 use Rattle.dual_check.proofs.SeatPlaces.{cost-cell, AreSeats}
 use Rattle.dual_check.proofs.SeatPairings.{certified-from-pairing}
 use Rattle.dual_check.proofs.OverMaps.{least-over-map}
-use Rattle.hungarian.specs.Costs.{cost_of, HasCosts}
-use Rattle.hungarian.specs.Seats.{seat_at, seats_by, pay_at, pays_by, prices_by}
+use Rattle.hungarian.specs.inner.Costs.{cost_of, HasCosts}
+use Rattle.hungarian.specs.Seats.{pay_at, pays_by, prices_by}
+use Rattle.hungarian.specs.inner.Seats.{seat_at, seats_by}
 use Rattle.hungarian.proofs.Mated.{cases_mate}
 use Rattle.hungarian.proofs.Gathering.{each-gathered, gathered-all, gathered-in_order}
 

@@ -12,8 +12,8 @@ use Rattle.dual_check.specs.Grid.{IsPairing, row_cost, price_at, CertifiesPairin
 use Rattle.dual_check.proofs.PairingParts.{sum_by-range-more}
 use Rattle.hungarian.specs.declared.matches.Matches.{Matches}
 use Rattle.hungarian.specs.declared.duals.Duals.{Duals}
-use Rattle.hungarian.specs.Mates.{mate}
-use Rattle.hungarian.specs.Partial.{IsPartial}
+use Rattle.hungarian.specs.inner.Mates.{mate}
+use Rattle.hungarian.specs.inner.Partial.{IsPartial}
 use Rattle.hungarian.proofs.Mated.{mate-in, cases_mate}
 use Rattle.hungarian.proofs.Paths.{if-some}
 

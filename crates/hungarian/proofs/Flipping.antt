@@ -6,9 +6,9 @@ use Rattle.std.proofs.lemmas.Option.{same_Some}
 use Rattle.hungarian.specs.declared.matches.Matches.{Matches}
 use Rattle.hungarian.specs.declared.search.Search.{Search}
 use Rattle.hungarian.specs.declared.search.Exit.TheVariants.{Column, Row}
-use Rattle.hungarian.specs.Mates.{mate, AreMates, AreMatesBut}
-use Rattle.hungarian.specs.Labels.{source_at, rank_at}
-use Rattle.hungarian.specs.Turned.{IsTurned, IsFlippable, IsReady, IsLeft}
+use Rattle.hungarian.specs.inner.Mates.{mate, AreMates, AreMatesBut}
+use Rattle.hungarian.specs.inner.Labels.{source_at, rank_at}
+use Rattle.hungarian.specs.inner.Turned.{IsTurned, IsFlippable, IsReady, IsLeft}
 use Rattle.hungarian.proofs.Mated.{mate-in, mate-set, mates-last, mates-next}
 
 -- up to an open column the way back was taken over

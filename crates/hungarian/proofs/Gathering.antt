@@ -10,7 +10,7 @@ use Rattle.std.proofs.lemmas.Map.Keys.{IsDistinct-head, IsDistinct-tail}
 use Rattle.model_laws.proofs.plain.Each.{each-filter, each-weaker}
 use Rattle.model_laws.proofs.plain.Options.{none_from_not_some}
 use Rattle.model_laws.proofs.plain.Filters.{filter-same}
-use Rattle.dual_check.specs.Orders.{item_of, has_item, StandsInOrder}
+use Rattle.dual_check.specs.inner.Orders.{item_of, has_item, StandsInOrder}
 use Rattle.dual_check.proofs.ItemOrders.{map-agree}
 
 -- the places below one more

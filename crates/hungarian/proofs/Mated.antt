@@ -4,7 +4,7 @@ use Rattle.std.specs.Prelude.{Option, Some, None}
 use Rattle.std.proofs.lemmas.Bool.{cases_eq}
 use Rattle.std.proofs.lemmas.List.{get_or-set_same, get_or-set_other}
 use Rattle.std.proofs.lemmas.Option.{same_Some}
-use Rattle.hungarian.specs.Mates.{mate, AreMates, AreMatesBut}
+use Rattle.hungarian.specs.inner.Mates.{mate, AreMates, AreMatesBut}
 
 -- one number is there
 

@@ -13,11 +13,11 @@ use Rattle.hungarian.specs.declared.relaxing.Reach.{Reach}
 use Rattle.hungarian.specs.declared.search.Search.{Search}
 use Rattle.hungarian.specs.declared.search.Path.{Path}
 use Rattle.hungarian.specs.declared.search.Exit.TheVariants.{Column, Row}
-use Rattle.hungarian.specs.Mates.{mate}
-use Rattle.hungarian.specs.Ways.{IsShortened, IsRelaxable}
-use Rattle.hungarian.specs.Labels.{distance_at, source_at, rank_at, IsReached, IsSized, IsNext, IsSearch, IsLeaving, IsExit, IsPath, sooner_path}
-use Rattle.hungarian.specs.Searching.{IsSearching}
-use Rattle.hungarian.specs.Partial.{IsPartial}
+use Rattle.hungarian.specs.inner.Mates.{mate}
+use Rattle.hungarian.specs.inner.Ways.{IsShortened, IsRelaxable}
+use Rattle.hungarian.specs.inner.Labels.{distance_at, source_at, rank_at, IsReached, IsSized, IsNext, IsSearch, IsLeaving, IsExit, IsPath, sooner_path}
+use Rattle.hungarian.specs.inner.Searching.{IsSearching}
+use Rattle.hungarian.specs.inner.Partial.{IsPartial}
 use Rattle.hungarian.proofs.Mated.{cases_mate}
 use Rattle.hungarian.proofs.Reaching.{zero-at, reached-in, Keeps, reached-kept}
 use Rattle.hungarian.proofs.Steps.{search-begun, search-relaxed, search-settled}

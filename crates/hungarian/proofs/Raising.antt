@@ -8,9 +8,9 @@ use Rattle.dual_check.specs.Grid.{price_at}
 use Rattle.hungarian.specs.declared.matches.Matches.{Matches}
 use Rattle.hungarian.specs.declared.duals.Duals.{Duals}
 use Rattle.hungarian.specs.declared.search.Search.{Search}
-use Rattle.hungarian.specs.Mates.{mate}
-use Rattle.hungarian.specs.Labels.{distance_at, rank_at}
-use Rattle.hungarian.specs.Rises.{column_rise, mate_rise, rise_from, IsRaisable, IsColumnRaised}
+use Rattle.hungarian.specs.inner.Mates.{mate}
+use Rattle.hungarian.specs.inner.Labels.{distance_at, rank_at}
+use Rattle.hungarian.specs.inner.Rises.{column_rise, mate_rise, rise_from, IsRaisable, IsColumnRaised}
 use Rattle.hungarian.proofs.Mated.{mate-in, cases_mate}
 
 -- how far a row with this column was raised, once the columns before a place were

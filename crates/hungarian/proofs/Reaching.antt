@@ -10,9 +10,9 @@ use Rattle.dual_check.specs.Cells.{GridCells}
 use Rattle.hungarian.specs.declared.matches.Matches.{Matches}
 use Rattle.hungarian.specs.declared.duals.Duals.{Duals}
 use Rattle.hungarian.specs.declared.search.Search.{Search}
-use Rattle.hungarian.specs.Mates.{mate}
-use Rattle.hungarian.specs.Labels.{distance_at, rank_at, IsReached, IsSized}
-use Rattle.hungarian.specs.Partial.{IsPartial}
+use Rattle.hungarian.specs.inner.Mates.{mate}
+use Rattle.hungarian.specs.inner.Labels.{distance_at, rank_at, IsReached, IsSized}
+use Rattle.hungarian.specs.inner.Partial.{IsPartial}
 use Rattle.hungarian.proofs.Mated.{mate-in}
 
 -- a place of a number above 0 is within the list

@@ -9,10 +9,10 @@ use Rattle.hungarian.specs.declared.matches.Matches.{Matches}
 use Rattle.hungarian.specs.declared.duals.Duals.{Duals}
 use Rattle.hungarian.specs.declared.relaxing.Reach.{Reach}
 use Rattle.hungarian.specs.declared.search.Search.{Search}
-use Rattle.hungarian.specs.Mates.{mate}
-use Rattle.hungarian.specs.Ways.{IsShortened}
-use Rattle.hungarian.specs.Labels.{distance_at, source_at, rank_at, IsReached, IsTraced, IsSized, IsSearch}
-use Rattle.hungarian.specs.Partial.{IsPartial}
+use Rattle.hungarian.specs.inner.Mates.{mate}
+use Rattle.hungarian.specs.inner.Ways.{IsShortened}
+use Rattle.hungarian.specs.inner.Labels.{distance_at, source_at, rank_at, IsReached, IsTraced, IsSized, IsSearch}
+use Rattle.hungarian.specs.inner.Partial.{IsPartial}
 use Rattle.hungarian.proofs.Reaching.{zero-at, settled-in, reached-in, reached-once, Keeps, reached-kept, sized-begun, sized-settled}
 
 -- a search begins at its root, with all columns open

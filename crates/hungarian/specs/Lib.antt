@@ -1,9 +1,2 @@
-pub mod Mates
-pub mod Ways
-pub mod Labels
-pub mod Searching
-pub mod Rises
-pub mod Partial
-pub mod Turned
-pub mod Costs
 pub mod Seats
+pub mod inner

@@ -2,8 +2,8 @@
 ghost use Rattle.std.specs.Prelude.{◌≡◌, IfOk};
 ghost use Rattle.ride_model.specs.Road.{RoadMap};
 ghost use Rattle.ride_model.specs.Seating.{IsLeastSeating};
-ghost use Rattle.batch_commit.specs.Table.{FitsBatch, HasSmallCosts, IsTableOf};
-ghost use Rattle.batch_commit.specs.Answer.{CertifiesOverCells, undecided};
+ghost use Rattle.batch_commit.specs.inner.Table.{FitsBatch, HasSmallCosts, IsTableOf};
+ghost use Rattle.batch_commit.specs.inner.Answer.{CertifiesOverCells, undecided};
 
 use crate::costs::cost_grid;
 use crate::seating::{pays_by, prices_by, seats_by};

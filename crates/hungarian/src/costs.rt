@@ -1,9 +1,9 @@
 //! The costs of a price table as a grid.
 ghost use Rattle.std.specs.Prelude.{◌≡◌, ◌≢◌, ℕ, ◌+◌, ◌*◌, ◌<◌, ◌≤◌, length, IfOk, None};
-ghost use Rattle.batch_commit.specs.Table.{HasSmallCosts, cell_at as offer_at};
+ghost use Rattle.batch_commit.specs.inner.Table.{HasSmallCosts, cell_at as offer_at};
 ghost use Rattle.dual_check.specs.Cells.{cell_at};
 ghost use Rattle.ride_model.specs.Limits.{largest_batch, most_vehicles};
-ghost use Rattle.hungarian.specs.Costs.{cost_of, HasCosts};
+ghost use Rattle.hungarian.specs.inner.Costs.{cost_of, HasCosts};
 
 use batch_commit::PriceTable;
 use dual_check::Grid;

@@ -1,9 +1,9 @@
 //! The rows' prices and the columns' payments.
 ghost use Rattle.std.specs.Prelude.{◌≡◌, ℕ, ◌<◌, ◌≤◌, length, replicate, Some, None, IfOk};
 ghost use Rattle.dual_check.specs.Grid.{price_at};
-ghost use Rattle.hungarian.specs.Mates.{mate, AreMates};
-ghost use Rattle.hungarian.specs.Labels.{distance_at, rank_at};
-ghost use Rattle.hungarian.specs.Rises.{IsRaised, IsColumnRaised, AreRaisable, IsRaisable};
+ghost use Rattle.hungarian.specs.inner.Mates.{mate, AreMates};
+ghost use Rattle.hungarian.specs.inner.Labels.{distance_at, rank_at};
+ghost use Rattle.hungarian.specs.inner.Rises.{IsRaised, IsColumnRaised, AreRaisable, IsRaisable};
 
 use crate::matches::Matches;
 use crate::search::Search;

@@ -1,8 +1,8 @@
 //! Which column each row has.
 ghost use Rattle.std.specs.Prelude.{◌≡◌, ℕ, ◌<◌, length, slice_set, replicate, Some, None, IfOk};
-ghost use Rattle.hungarian.specs.Mates.{mate, AreMates};
-ghost use Rattle.hungarian.specs.Labels.{rank_at};
-ghost use Rattle.hungarian.specs.Turned.{IsTurned, IsFlippable, IsLeft, IsReady};
+ghost use Rattle.hungarian.specs.inner.Mates.{mate, AreMates};
+ghost use Rattle.hungarian.specs.inner.Labels.{rank_at};
+ghost use Rattle.hungarian.specs.inner.Turned.{IsTurned, IsFlippable, IsLeft, IsReady};
 
 use crate::search::{Exit, Search};
 use ride_model::NoMemory;

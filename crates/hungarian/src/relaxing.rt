@@ -1,7 +1,7 @@
 //! The columns as they are seen from a row.
 ghost use Rattle.std.specs.Prelude.{◌≡◌, ℕ, ◌+◌, ◌<◌, ◌≤◌, ◌^◌, length, slice_index, slice_index_or, Some, None};
 ghost use Rattle.dual_check.specs.Cells.{widest_grid};
-ghost use Rattle.hungarian.specs.Ways.{IsShortened, IsNearest, IsRelaxable, IsDistanceBy, nearest_of};
+ghost use Rattle.hungarian.specs.inner.Ways.{IsShortened, IsNearest, IsRelaxable, IsDistanceBy, nearest_of};
 
 use dual_check::Cell;
 

@@ -2,11 +2,11 @@
 ghost use Rattle.std.specs.Prelude.{◌≡◌, ℕ, ◌+◌, ◌-◌, ◌<◌, ◌≤◌, length, slice_set, slice_index_or, replicate, Some, None, IfOk};
 ghost use Rattle.ride_model.specs.Limits.{greatest_penalty};
 ghost use Rattle.dual_check.specs.Grid.{price_at};
-ghost use Rattle.hungarian.specs.Mates.{mate};
-ghost use Rattle.hungarian.specs.Ways.{IsShortened, IsNearest, IsRelaxable};
-ghost use Rattle.hungarian.specs.Labels.{distance_at, source_at, rank_at, IsSized, IsNext, IsPath, sooner_path};
+ghost use Rattle.hungarian.specs.inner.Mates.{mate};
+ghost use Rattle.hungarian.specs.inner.Ways.{IsShortened, IsNearest, IsRelaxable};
+ghost use Rattle.hungarian.specs.inner.Labels.{distance_at, source_at, rank_at, IsSized, IsNext, IsPath, sooner_path};
 ghost use Rattle.dual_check.specs.Cells.{cell_at, IsGrid, widest_grid};
-ghost use Rattle.hungarian.specs.Partial.{IsPartial};
+ghost use Rattle.hungarian.specs.inner.Partial.{IsPartial};
 
 use crate::duals::Duals;
 use crate::matches::Matches;

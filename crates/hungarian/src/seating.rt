@@ -4,7 +4,8 @@ ghost use Rattle.ride_model.specs.Vehicle.{ride_ids};
 ghost use Rattle.ride_model.specs.Seating.{vehicle_ids};
 ghost use Rattle.ride_model.specs.Limits.{largest_batch};
 ghost use Rattle.dual_check.specs.Grid.{column_of};
-ghost use Rattle.hungarian.specs.Seats.{seat_at, seats_by, pay_at, pays_by, prices_by};
+ghost use Rattle.hungarian.specs.Seats.{pay_at, pays_by, prices_by};
+ghost use Rattle.hungarian.specs.inner.Seats.{seat_at, seats_by};
 
 use batch_commit::PriceTable;
 use ride_model::{AmountList, NoMemory, Ride, Seat, SeatList, Vehicle};

@@ -3,8 +3,8 @@ ghost use Rattle.std.specs.Prelude.{◌+◌, ◌<◌, ◌≤◌, IfOk};
 ghost use Rattle.ride_model.specs.Limits.{greatest_penalty};
 ghost use Rattle.dual_check.specs.Cells.{IsGrid};
 ghost use Rattle.dual_check.specs.Grid.{CertifiesPairing, IsLeastPairing};
-ghost use Rattle.hungarian.specs.Labels.{IsSized};
-ghost use Rattle.hungarian.specs.Partial.{IsPartial};
+ghost use Rattle.hungarian.specs.inner.Labels.{IsSized};
+ghost use Rattle.hungarian.specs.inner.Partial.{IsPartial};
 
 use crate::duals::Duals;
 use crate::matches::Matches;

@@ -16,7 +16,7 @@ use Rattle.ride_model.specs.Seating.{BatchCopy, vehicle_ids}
 use Rattle.ride_model.specs.State.{State, placed_vehicle}
 use Rattle.ride_model.specs.Step.{raised as raised_vehicle}
 use Rattle.ride_model.specs.Vehicle.{ride_ids}
-use Rattle.idle_moves.specs.Raises.{after_outcomes as versions_after, raised, raised_if, vehicle_confirmed}
+use Rattle.idle_moves.specs.inner.Raises.{after_outcomes as versions_after, raised, raised_if, vehicle_confirmed}
 use Rattle.idle_moves.proofs.Raising.{ids-after, versions-none, versions-set}
 
 -- a vehicle with a confirmed ride keeps its id, and its version is one higher

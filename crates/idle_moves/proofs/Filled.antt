@@ -7,7 +7,7 @@ use Rattle.std.proofs.lemmas.List.{append-nil, length-map, length-take-le, map_m
 use Rattle.std.proofs.lemmas.Grind.{flat_map-append}
 use Rattle.std.proofs.lemmas.Nat.{mul-add-lt}
 use Rattle.dual_check.specs.Cells.{GridCells}
-use Rattle.idle_moves.specs.Filling.{BeginsWith, with_cell}
+use Rattle.idle_moves.specs.inner.Filling.{BeginsWith, with_cell}
 use Rattle.idle_moves.specs.Sheet.{within}
 
 -- the next cell is empty, and is written or left so

@@ -21,12 +21,13 @@ use Rattle.ride_model.specs.State.{State, open_batch_numbered}
 use Rattle.ride_model.specs.Vehicle.{ride_ids}
 use Rattle.model_laws.proofs.Histories.{IsLegal-parts, replay-push}
 use Rattle.model_laws.proofs.RequestStates.{abandon-is, opening-is}
-use Rattle.model_laws.specs.history_laws.Start.{IsStart, fed_total, is_fed}
-use Rattle.model_laws.specs.history_laws.Consistent.{IsConsistent, IsOpenBatch}
+use Rattle.model_laws.specs.history_laws.Start.{IsStart, is_fed}
+use Rattle.model_laws.specs.inner.history_laws.Start.{fed_total}
+use Rattle.model_laws.specs.inner.history_laws.Consistent.{IsConsistent, IsOpenBatch}
 use Rattle.model_laws.proofs.history_laws.EveryState.{consistent}
 use Rattle.model_laws.proofs.history_laws.Leaving.{open_batch}
 use Rattle.model_laws.proofs.history_laws.Unmoved.{vehicles_differ}
-use Rattle.idle_moves.specs.Raises.{HasRoom, after_entries, after_event, after_outcomes, raised_if, raises_in, vehicle_changed}
+use Rattle.idle_moves.specs.inner.Raises.{HasRoom, after_entries, after_event, after_outcomes, raised_if, raises_in, vehicle_changed}
 use Rattle.idle_moves.proofs.Commits.{commit-rises}
 use Rattle.idle_moves.proofs.Steps.{step-rises}
 

@@ -13,7 +13,7 @@ use Rattle.indexmap.specs.IndexMap.{insert_entry, set_value_at}
 use Rattle.ride_model.specs.declared.vehicle.Vehicle.{Vehicle}
 use Rattle.ride_model.specs.Legal.{versions_of}
 use Rattle.ride_model.specs.Seating.{amount_of, vehicle_ids}
-use Rattle.idle_moves.specs.Raises.{HasRoom, raised}
+use Rattle.idle_moves.specs.inner.Raises.{HasRoom, raised}
 
 -- nothing rises under an id that is no key
 pub raised-absent : (id : ℕ) (entries : List (ℕ × ℕ)) → lookup (eqb id) entries ≡ None → entries ≡ raised id entries

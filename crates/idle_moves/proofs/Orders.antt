@@ -11,7 +11,7 @@ use Rattle.dual_check.specs.Cells.{GridCells, cell_at}
 use Rattle.idle_moves.specs.declared.moves.Move.{Move}
 use Rattle.idle_moves.specs.declared.standby.Standby.{Standby}
 use Rattle.idle_moves.specs.Sheet.{order_at}
-use Rattle.idle_moves.specs.Standby.{AreStandbys, standby_of}
+use Rattle.idle_moves.specs.inner.Standby.{AreStandbys, standby_of}
 
 -- what is read of a vehicle that stands by is what the fleet has at its place
 module _ (standbys : List Standby) (fleet : List Vehicle) (are : AreStandbys standbys fleet) where

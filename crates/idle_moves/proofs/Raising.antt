@@ -16,7 +16,7 @@ use Rattle.ride_model.specs.Seating.{find_vehicle, vehicle_ids}
 use Rattle.ride_model.specs.State.{State, placed_vehicle, with_vehicle}
 use Rattle.model_laws.proofs.plain.Among.{Among, found_among}
 use Rattle.model_laws.proofs.history_laws.Lookups.{found_by, put, placed_is}
-use Rattle.idle_moves.specs.Raises.{HasRoom, after_entries, after_event, after_outcomes, raised, raised_if, vehicle_changed, vehicle_confirmed}
+use Rattle.idle_moves.specs.inner.Raises.{HasRoom, after_entries, after_event, after_outcomes, raised, raised_if, vehicle_changed, vehicle_confirmed}
 
 -- an item, whose version rises where it is of the vehicle
 abbrev pub lifted : ℕ → ℕ × ℕ → ℕ × ℕ

@@ -2,7 +2,7 @@
 use Rattle.std.proofs.Common.{◌≡◌, ℕ, List, [], ◌∷◌, ◌++◌, map, ap, sym, ◌∙◌, append_assoc}
 use Rattle.std.specs.Prelude.{codes, decimal}
 use Rattle.ride_model.specs.Text.{amount_field}
-use Rattle.trip_log.specs.Prints.{fields_then, listed}
+use Rattle.trip_log.specs.inner.Prints.{fields_then, listed}
 use Rattle.trip_log.proofs.PrintsLemmas.{fields_then-append, fields_then-map, fields_then-more, line-fields}
 use Rattle.idle_moves.specs.declared.moves.Move.{Move}
 use Rattle.idle_moves.specs.declared.moves.MoveSheet.{MoveSheet}

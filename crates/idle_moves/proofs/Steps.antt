@@ -18,7 +18,7 @@ use Rattle.ride_model.specs.Road.{travel}
 use Rattle.ride_model.specs.Seating.{vehicle_ids}
 use Rattle.ride_model.specs.State.{State, AcceptedRequest, accepted_request, placed_vehicle, with_vehicle}
 use Rattle.ride_model.specs.Step.{Answered, raised as raised_vehicle, cancel_by_state, cancel_found, cancel_step, freed, reported, report, report_driving, at_found, at_step, served, served_reply, done_at_stop, done_found, done_step, duty_found, duty_step, clock_step, ask_step, request_step, is_node, step}
-use Rattle.idle_moves.specs.Raises.{raised, raised_if, vehicle_changed}
+use Rattle.idle_moves.specs.inner.Raises.{raised, raised_if, vehicle_changed}
 use Rattle.idle_moves.proofs.Raising.{versions-set}
 
 -- the versions rise as the reply tells

@@ -8,9 +8,9 @@ use Rattle.ride_model.specs.Legal.{IsLegal, replay, versions_of}
 use Rattle.ride_model.specs.State.{State}
 use Rattle.model_laws.proofs.Histories.{IsLegal-parts}
 use Rattle.board_core.specs.Recorded.{Recorded}
-use Rattle.fleet_board.specs.Passes.{AddsNone, IsPoint, Known, root_of}
-use Rattle.idle_moves.specs.Raises.{HasRoom, HasRoomFor, after_entries, raises_in}
-use Rattle.idle_moves.specs.Watch.{Watched, Watches}
+use Rattle.fleet_board.specs.inner.Passes.{AddsNone, IsPoint, Known, root_of}
+use Rattle.idle_moves.specs.inner.Raises.{HasRoom, HasRoomFor, after_entries, raises_in}
+use Rattle.idle_moves.specs.inner.Watch.{Watched, Watches}
 use Rattle.idle_moves.proofs.Following.{room-next, versions-follow}
 
 -- what a watch knew is so of all that a pass has seen since

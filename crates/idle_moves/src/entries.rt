@@ -4,7 +4,7 @@ ghost use Rattle.std.specs.List.{IsDistinct};
 ghost use Rattle.ride_model.specs.Batch.{seat_of};
 ghost use Rattle.ride_model.specs.Legal.{versions_of};
 ghost use Rattle.ride_model.specs.Seating.{vehicle_ids};
-ghost use Rattle.idle_moves.specs.Raises.{HasRoom, HasRoomFor, after_entries, after_event, after_outcomes, raised, raised_if, raises_in, vehicle_changed, vehicle_confirmed, vehicle_reported};
+ghost use Rattle.idle_moves.specs.inner.Raises.{HasRoom, HasRoomFor, after_entries, after_event, after_outcomes, raised, raised_if, raises_in, vehicle_changed, vehicle_confirmed, vehicle_reported};
 
 use indexmap::IndexMap;
 use ride_model::{Command, Entry, Event, NoMemory, Outcome, Reply, Seat, Vehicle};

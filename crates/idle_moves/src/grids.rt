@@ -5,8 +5,8 @@ ghost use Rattle.ride_model.specs.declared.vehicle.Ride.{Ride};
 ghost use Rattle.ride_model.specs.Road.{IsNode};
 ghost use Rattle.ride_model.specs.Limits.{largest_batch, longest_reach, most_vehicles};
 ghost use Rattle.idle_moves.specs.Sheet.{within};
-ghost use Rattle.idle_moves.specs.Standby.{cells_of};
-ghost use Rattle.idle_moves.specs.Filling.{BeginsWith, with_cell};
+ghost use Rattle.idle_moves.specs.inner.Standby.{cells_of};
+ghost use Rattle.idle_moves.specs.inner.Filling.{BeginsWith, with_cell};
 
 use adaptive_roads::{BatchRoads, TravelTimes};
 use dual_check::Grid;

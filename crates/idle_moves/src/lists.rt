@@ -7,7 +7,7 @@ ghost use Rattle.ride_model.specs.Limits.{largest_batch};
 ghost use Rattle.dual_check.specs.Grid.{column_of};
 ghost use Rattle.hungarian.specs.Seats.{pays_by};
 ghost use Rattle.idle_moves.specs.Sheet.{order_at, orders_by};
-ghost use Rattle.idle_moves.specs.Standby.{AreStandbys};
+ghost use Rattle.idle_moves.specs.inner.Standby.{AreStandbys};
 
 use crate::standby::Standby;
 use crate::{Move, MoveList};

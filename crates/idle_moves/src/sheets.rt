@@ -7,7 +7,7 @@ ghost use Rattle.ride_model.specs.Limits.{largest_batch, longest_reach, most_veh
 ghost use Rattle.dual_check.specs.Grid.{CertifiesPairing};
 ghost use Rattle.idle_moves.specs.declared.standby.Standby.{Standby};
 ghost use Rattle.idle_moves.specs.Sheet.{IsSheet, IsSheetOver, Shows};
-ghost use Rattle.idle_moves.specs.Standby.{AreStandbys};
+ghost use Rattle.idle_moves.specs.inner.Standby.{AreStandbys};
 
 use crate::MoveSheet;
 use crate::grids::times_grid;

@@ -4,7 +4,7 @@ ghost use Rattle.ride_model.specs.declared.vehicle.Ride.{Ride};
 ghost use Rattle.ride_model.specs.Seating.{has_seat};
 ghost use Rattle.idle_moves.specs.declared.standby.Standby.{Standby};
 ghost use Rattle.idle_moves.specs.Sheet.{is_seated, stands_by};
-ghost use Rattle.idle_moves.specs.Standby.{standby_of};
+ghost use Rattle.idle_moves.specs.inner.Standby.{standby_of};
 
 use ride_model::{NoMemory, Ride, Seat, Vehicle};
 use std::alloc::Global;

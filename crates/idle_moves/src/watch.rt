@@ -2,9 +2,9 @@
 ghost use Rattle.std.specs.Prelude.{◌≡◌, ◌≤◌, ◌<◌, ◌+◌, ◌↔◌, length, take, drop, true, Contains, IfErr, IfOk, IsOk, IsTrue, OnErr};
 ghost use Rattle.ride_model.specs.Legal.{versions_of};
 ghost use Rattle.turn_lock.specs.Passes.{knowledge};
-ghost use Rattle.fleet_board.specs.Passes.{AddsNone, IsPoint};
+ghost use Rattle.fleet_board.specs.inner.Passes.{AddsNone, IsPoint};
 ghost use Rattle.fleet_board.specs.Sharing.{MayUse};
-ghost use Rattle.idle_moves.specs.Watch.{Watches, version_in, watched_ids};
+ghost use Rattle.idle_moves.specs.inner.Watch.{Watches, version_in, watched_ids};
 
 use crate::Move;
 use crate::entries::{take_entries, versions_of};
@@ -30,7 +30,7 @@ pub struct VersionWatch {
 }
 
 impl Model for VersionWatch {
-    ghost use Rattle.idle_moves.specs.Watch.{Watched};
+    ghost use Rattle.idle_moves.specs.inner.Watch.{Watched};
 
     ghost Value = { Watched };
 

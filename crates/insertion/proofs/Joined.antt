@@ -10,7 +10,7 @@ use Rattle.ride_model.specs.Insertion.{routed, pickup_of, dropoff_of, stops_with
 use Rattle.ride_model.specs.Offers.{leg_at}
 use Rattle.model_laws.proofs.Routes.{with_leg, routed-own}
 use Rattle.insertion.specs.declared.near.NearStop.{NearStop}
-use Rattle.insertion.specs.Joined.{leg_before, leg_after, four_legs}
+use Rattle.insertion.specs.inner.Joined.{leg_before, leg_after, four_legs}
 
 -- the travel time from the node before a place, and that to the stop at a place, 0 where none is there
 abbrev pub before_place : RoadMap → ℕ → ℕ → List Stop → ℕ → Option ℕ

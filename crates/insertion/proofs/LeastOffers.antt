@@ -9,7 +9,7 @@ use Rattle.ride_model.specs.declared.vehicle.Vehicle.{Vehicle}
 use Rattle.ride_model.specs.Road.{RoadMap, lesser, least_of}
 use Rattle.ride_model.specs.Offers.{offer_of, price}
 use Rattle.model_laws.proofs.Costs.{offer_plan}
-use Rattle.insertion.specs.Least.{cost_if_any, least_with_pickup, least_from}
+use Rattle.insertion.specs.inner.Least.{cost_if_any, least_with_pickup, least_from}
 
 pub lesser-assoc : (a b c : Option ℕ) → lesser (lesser a b) c ≡ lesser a (lesser b c)
 lesser-assoc None b c = refl

@@ -16,12 +16,12 @@ use Rattle.ride_model.specs.Times.{times_from, times_of, drive_of}
 use Rattle.ride_model.specs.Keeps.{keeps}
 use Rattle.ride_model.specs.Insertion.{pickup_of, dropoff_of}
 use Rattle.ride_model.specs.Offers.{is_open, start_of, leg_at, cost_of, offer_of, offer_of_plan}
-use Rattle.stop_plans.specs.Change.{InsertsInto}
-use Rattle.stop_plans.specs.Legged.{with_leg, with_stop}
+use Rattle.stop_plans.specs.inner.Change.{InsertsInto}
+use Rattle.stop_plans.specs.inner.Legged.{with_leg, with_stop}
 use Rattle.stop_plans.proofs.InsertedLegs.{inserts-into}
 use Rattle.stop_plans.proofs.Legs.{legs_are_bounded}
-use Rattle.insertion.specs.Arrivals.{leave_at}
-use Rattle.insertion.specs.Drawn.{stands_more, drives_more, AreShort, IsDrawn}
+use Rattle.insertion.specs.inner.Arrivals.{leave_at}
+use Rattle.insertion.specs.inner.Drawn.{stands_more, drives_more, AreShort, IsDrawn}
 use Rattle.insertion.proofs.OfferLaws.{length-inserted, new-routed, of-plan, plan-broken, plan-kept}
 use Rattle.insertion.proofs.PlanTimes.{last_time, drive-last}
 

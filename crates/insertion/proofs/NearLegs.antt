@@ -3,7 +3,7 @@ use Rattle.std.proofs.Common.{◌≡◌, ℕ, zero, suc, ◌-◌, ◌<◌, ◌�
 use Rattle.std.specs.Prelude.{Option, Some}
 use Rattle.model_laws.proofs.plain.Numbers.{suc-less_one}
 use Rattle.insertion.specs.declared.near.NearStop.{NearStop}
-use Rattle.insertion.specs.Joined.{leg_before, leg_after}
+use Rattle.insertion.specs.inner.Joined.{leg_before, leg_after}
 
 -- the leg from the stop before a place that is not the first
 pub before-read : (first : Option ℕ) (time_of : NearStop → Option ℕ) (stops : List NearStop) (place : ℕ) (d : NearStop) → (0 < place) → place ≤ length stops

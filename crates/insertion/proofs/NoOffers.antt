@@ -18,15 +18,15 @@ use Rattle.ride_model.specs.Offers.{is_open, start_of, offer_of, offer_of_plan, 
 use Rattle.model_laws.proofs.AboardLoads.{filter-kept, filter-skipped}
 use Rattle.model_laws.proofs.Insertions.{inserted_facts, plan-fresh}
 use Rattle.model_laws.proofs.TravelTimes.{travel-le}
-use Rattle.stop_plans.specs.Legged.{with_leg}
+use Rattle.stop_plans.specs.inner.Legged.{with_leg}
 use Rattle.stop_plans.proofs.InsertedLegs.{route_head}
 use Rattle.promises.proofs.Visits.{visits_along}
 use Rattle.insertion.specs.declared.near.Near.{Near}
 use Rattle.insertion.specs.declared.near.NearStop.{NearStop}
-use Rattle.insertion.specs.Arrivals.{plan_of, leave_at, pickup_at, is_by}
-use Rattle.insertion.specs.Asked.{near_stop, HoldsTimes, IsAsked}
-use Rattle.insertion.specs.Joined.{leg_before, to_pickup_of, after_pickup_of, to_dropoff_of, after_dropoff_of, four_legs}
-use Rattle.insertion.specs.Least.{cost_if_any, least_with_pickup}
+use Rattle.insertion.specs.inner.Arrivals.{plan_of, leave_at, pickup_at, is_by}
+use Rattle.insertion.specs.inner.Asked.{near_stop, HoldsTimes, IsAsked}
+use Rattle.insertion.specs.inner.Joined.{leg_before, to_pickup_of, after_pickup_of, to_dropoff_of, after_dropoff_of, four_legs}
+use Rattle.insertion.specs.inner.Least.{cost_if_any, least_with_pickup}
 use Rattle.insertion.proofs.Joined.{before_place, before-noted}
 use Rattle.insertion.proofs.OfferLaws.{ArePlaces, are-places, at-places, no-places, no-room, no-legs, plan-broken}
 use Rattle.insertion.proofs.LeastOffers.{price-least}

@@ -16,14 +16,15 @@ use Rattle.ride_model.specs.Loads.{is_pickup, is_aboard_from, is_aboard_after, l
 use Rattle.ride_model.specs.Keeps.{keeps, keeps_ride}
 use Rattle.ride_model.specs.Insertion.{pickup_of, dropoff_of, stops_with, with_plan, inserted}
 use Rattle.ride_model.specs.Offers.{is_open, start_of, offer_of, offer_of_plan}
-use Rattle.ride_model.specs.Vehicle.{IsFresh, IsLawful, ride_ids}
+use Rattle.ride_model.specs.Vehicle.{IsLawful, ride_ids}
+use Rattle.ride_model.specs.inner.Vehicle.{IsFresh}
 use Rattle.model_laws.proofs.AboardLoads.{fits_throughout, length-same, load-agrees, load-same}
 use Rattle.model_laws.proofs.PlanStops.{unlegged-routed}
 use Rattle.model_laws.proofs.Insertions.{inserted_facts, length-stops_with, plan-fresh}
 use Rattle.insertion.specs.declared.near.Near.{Near}
-use Rattle.insertion.specs.Asked.{IsAsked}
-use Rattle.insertion.specs.Least.{cost_if_any, least_with_pickup}
-use Rattle.insertion.specs.Rooms.{load_beside, fits_beside, rooms_of}
+use Rattle.insertion.specs.inner.Asked.{IsAsked}
+use Rattle.insertion.specs.inner.Least.{cost_if_any, least_with_pickup}
+use Rattle.insertion.specs.inner.Rooms.{load_beside, fits_beside, rooms_of}
 use Rattle.insertion.proofs.OfferLaws.{are-places, at-places, no-places, plan-broken}
 
 -- the first stops of a plan with a stop more

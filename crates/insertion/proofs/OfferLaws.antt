@@ -21,11 +21,11 @@ use Rattle.ride_model.specs.Offers.{is_open, leg_at, joins_of, cost_of, start_of
 use Rattle.model_laws.proofs.PlanStops.{unlegged-routed}
 use Rattle.model_laws.proofs.AboardLoads.{length-same}
 use Rattle.model_laws.proofs.Insertions.{inserted_facts, length-stops_with, routed-with}
-use Rattle.stop_plans.specs.Change.{InsertsInto}
+use Rattle.stop_plans.specs.inner.Change.{InsertsInto}
 use Rattle.insertion.specs.declared.near.Near.{Near}
 use Rattle.insertion.specs.declared.near.NearStop.{NearStop}
-use Rattle.insertion.specs.Asked.{near_stop, HoldsTimes, IsAsked}
-use Rattle.insertion.specs.Joined.{leg_before, leg_after, four_legs, to_pickup_of, after_pickup_of, to_dropoff_of, after_dropoff_of, joins_near}
+use Rattle.insertion.specs.inner.Asked.{near_stop, HoldsTimes, IsAsked}
+use Rattle.insertion.specs.inner.Joined.{leg_before, leg_after, four_legs, to_pickup_of, after_pickup_of, to_dropoff_of, after_dropoff_of, joins_near}
 use Rattle.insertion.proofs.Joined.{before_place, after_place, before-noted, after-noted, legs_of_two, two-joined-together, two-joined-apart}
 use Rattle.model_laws.proofs.FewRides.{few-rides}
 

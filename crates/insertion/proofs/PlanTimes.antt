@@ -6,7 +6,7 @@ use Rattle.model_laws.proofs.plain.Numbers.{suc-less_one}
 use Rattle.ride_model.specs.declared.vehicle.Vehicle.{Vehicle}
 use Rattle.ride_model.specs.Times.{times_of, drive_of}
 use Rattle.ride_model.specs.Offers.{start_of}
-use Rattle.insertion.specs.Arrivals.{leave_at}
+use Rattle.insertion.specs.inner.Arrivals.{leave_at}
 
 -- the arrival before a place that is not the first
 pub leave-read : (start dwell : ℕ) (times : List ℕ) (place d : ℕ) → 0 < place → place ≤ length times

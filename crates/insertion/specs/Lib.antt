@@ -1,6 +1,1 @@
-pub mod Asked
-pub mod Joined
-pub mod Arrivals
-pub mod Drawn
-pub mod Least
-pub mod Rooms
+pub mod inner

@@ -4,11 +4,11 @@ ghost use Rattle.ride_model.specs.declared.offer.Offer.{Offer};
 ghost use Rattle.ride_model.specs.Road.{RoadMap, lesser};
 ghost use Rattle.ride_model.specs.Offers.{offer_of, price};
 ghost use Rattle.ride_model.specs.Limits.{longest_dwell};
-ghost use Rattle.insertion.specs.Arrivals.{plan_of, is_by};
-ghost use Rattle.insertion.specs.Asked.{IsAsked};
-ghost use Rattle.insertion.specs.Drawn.{IsDrawnFor};
-ghost use Rattle.insertion.specs.Least.{cost_if_any, least_with_pickup};
-ghost use Rattle.insertion.specs.Rooms.{rooms_of};
+ghost use Rattle.insertion.specs.inner.Arrivals.{plan_of, is_by};
+ghost use Rattle.insertion.specs.inner.Asked.{IsAsked};
+ghost use Rattle.insertion.specs.inner.Drawn.{IsDrawnFor};
+ghost use Rattle.insertion.specs.inner.Least.{cost_if_any, least_with_pickup};
+ghost use Rattle.insertion.specs.inner.Rooms.{rooms_of};
 
 use crate::near::Near;
 use crate::offer::{drawn_at, kept};

@@ -2,7 +2,7 @@
 ghost use Rattle.std.specs.Prelude.{◌≡◌, ◌≤◌};
 ghost use Rattle.ride_model.specs.Offers.{leg_at};
 ghost use Rattle.ride_model.specs.Limits.{longest_dwell};
-ghost use Rattle.insertion.specs.Drawn.{stands_more, drives_more, AreShort};
+ghost use Rattle.insertion.specs.inner.Drawn.{stands_more, drives_more, AreShort};
 
 use ride_model::{Joins, Stop};
 

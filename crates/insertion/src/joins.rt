@@ -1,7 +1,7 @@
 //! The legs into and out of two new stops.
 ghost use Rattle.std.specs.Prelude.{◌≡◌, ◌≤◌, ◌==◌, length, if◌then◌else◌};
 ghost use Rattle.insertion.specs.declared.near.NearStop.{NearStop};
-ghost use Rattle.insertion.specs.Joined.{leg_before, leg_after, four_legs, joins_near};
+ghost use Rattle.insertion.specs.inner.Joined.{leg_before, leg_after, four_legs, joins_near};
 
 use crate::near::{Near, NearStop};
 use ride_model::Joins;

@@ -7,9 +7,9 @@ ghost use Rattle.ride_model.specs.Road.{RoadMap};
 ghost use Rattle.ride_model.specs.Offers.{offer_of};
 ghost use Rattle.ride_model.specs.Settings.{IsSettings};
 ghost use Rattle.ride_model.specs.Limits.{latest_ready, longest_dwell};
-ghost use Rattle.insertion.specs.Arrivals.{plan_of, leave_at};
-ghost use Rattle.insertion.specs.Asked.{IsAsked};
-ghost use Rattle.insertion.specs.Drawn.{drives_more, IsDrawn, IsDrawnFor, AreShort};
+ghost use Rattle.insertion.specs.inner.Arrivals.{plan_of, leave_at};
+ghost use Rattle.insertion.specs.inner.Asked.{IsAsked};
+ghost use Rattle.insertion.specs.inner.Drawn.{drives_more, IsDrawn, IsDrawnFor, AreShort};
 
 use crate::drives::drives_more;
 use crate::joins::joins_at;

@@ -1,9 +1,9 @@
 //! A vehicle's plan for a batch, and when it comes to which place.
 ghost use Rattle.std.specs.Prelude.{◌≡◌, ◌≤◌, length, All, IfSome};
-ghost use Rattle.ride_model.specs.Vehicle.{IsRoutedSomewhere};
+ghost use Rattle.ride_model.specs.inner.Vehicle.{IsRoutedSomewhere};
 ghost use Rattle.ride_model.specs.Limits.{latest_time, longest_dwell, longest_lead};
-ghost use Rattle.insertion.specs.Arrivals.{plan_of, leave_at, pickup_at};
-ghost use Rattle.insertion.specs.Joined.{to_pickup_of};
+ghost use Rattle.insertion.specs.inner.Arrivals.{plan_of, leave_at, pickup_at};
+ghost use Rattle.insertion.specs.inner.Joined.{to_pickup_of};
 
 use crate::joins::to_pickup;
 use crate::near::Near;

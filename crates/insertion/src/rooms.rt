@@ -1,7 +1,7 @@
 //! Where a ride more fits beside what is aboard.
 ghost use Rattle.std.specs.Prelude.{◌≡◌};
-ghost use Rattle.ride_model.specs.Vehicle.{IsRoutedSomewhere};
-ghost use Rattle.insertion.specs.Rooms.{fits_beside, rooms_of};
+ghost use Rattle.ride_model.specs.inner.Vehicle.{IsRoutedSomewhere};
+ghost use Rattle.insertion.specs.inner.Rooms.{fits_beside, rooms_of};
 
 use arrayvec::ArrayVec;
 use ride_model::{Load, Ride, Vehicle};

@@ -9,13 +9,14 @@ use Rattle.ride_model.specs.declared.entry.Entry.{Entry}
 use Rattle.ride_model.specs.declared.vehicle.Ride.{Ride}
 use Rattle.ride_model.specs.Legal.{IsLegal, replay}
 use Rattle.ride_model.specs.State.{State, AcceptedRequest, accepted_request}
-use Rattle.model_laws.specs.history_laws.Consistent.{request_ids}
+use Rattle.model_laws.specs.inner.history_laws.Consistent.{request_ids}
 use Rattle.model_laws.specs.history_laws.Start.{IsStart}
 use Rattle.model_laws.proofs.history_laws.EveryState.{consistent}
-use Rattle.board_core.specs.Recorded.{Recorded, fed_entry, state_of}
+use Rattle.board_core.specs.Recorded.{Recorded, state_of}
+use Rattle.board_core.specs.inner.Recorded.{fed_entry}
 use Rattle.board_core.proofs.OpenBatches.{state-push}
 use Rattle.fleet_league.specs.Awards.{AddsAward, asking_entries, confirming_entry, opening_entry}
-use Rattle.fleet_league.specs.Companies.{CompanyState, is_report}
+use Rattle.fleet_league.specs.inner.Companies.{CompanyState, is_report}
 use Rattle.fleet_league.specs.declared.briefs.Brief.{Brief}
 use Rattle.fleet_league.proofs.Reports.{quiet-step}
 use Rattle.fleet_league.proofs.WonOnly.{won-only}

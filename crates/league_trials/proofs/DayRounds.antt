@@ -7,10 +7,10 @@ use Rattle.board_core.specs.Recorded.{state_of}
 use Rattle.city_maker.specs.Fleets.{default_settings}
 use Rattle.fleet_league.specs.declared.briefs.Brief.{Brief}
 use Rattle.fleet_league.specs.declared.quotes.Quote.{Quote}
-use Rattle.fleet_league.specs.Companies.{CompanyState}
+use Rattle.fleet_league.specs.inner.Companies.{CompanyState}
 use Rattle.fleet_league.specs.league_session.League.{IsRoundOf, quotes_of, round_columns, round_rows}
-use Rattle.fleet_league.specs.Winning.{MayPlay, MayWin}
-use Rattle.fleet_league.specs.league_session.LeagueBoards.{IsSound}
+use Rattle.fleet_league.specs.inner.Winning.{MayPlay, MayWin}
+use Rattle.fleet_league.specs.inner.league_session.LeagueBoards.{IsSound}
 use Rattle.fleet_league.specs.league_session.RoundParts.{sheet_of}
 use Rattle.fleet_league.proofs.league_session.PlayedRounds.{AreMet, first-wins, second-wins}
 use Rattle.league_trials.specs.Sides.{AreParts}

@@ -13,16 +13,17 @@ use Rattle.ride_model.specs.History.{fed_commands}
 use Rattle.ride_model.specs.Road.{IsRoadMap}
 use Rattle.ride_model.specs.State.{State, AcceptedRequest, accepted_request, request_state}
 use Rattle.ride_model.specs.Text.{IsSpelledCommand}
-use Rattle.ride_model.specs.Vehicle.{IsLawful, IsRoutedSomewhere, ride_ids}
+use Rattle.ride_model.specs.Vehicle.{IsLawful, ride_ids}
+use Rattle.ride_model.specs.inner.Vehicle.{IsRoutedSomewhere}
 use Rattle.model_laws.proofs.plain.Among.{Among}
 use Rattle.model_laws.proofs.plain.Each.{of_all, all_of}
 use Rattle.board_core.specs.Recorded.{Recorded, state_of}
 use Rattle.board_core.proofs.OpenBatches.{fed-le}
 use Rattle.city_maker.specs.Fleets.{default_settings}
 use Rattle.fleet_league.specs.Awards.{request_of}
-use Rattle.fleet_league.specs.Companies.{CompanyState, is_report, report_count}
-use Rattle.fleet_league.specs.Winning.{MayPlay}
-use Rattle.fleet_league.specs.Prices.{IsNewRide}
+use Rattle.fleet_league.specs.inner.Companies.{CompanyState, is_report, report_count}
+use Rattle.fleet_league.specs.inner.Winning.{MayPlay}
+use Rattle.fleet_league.specs.inner.Prices.{IsNewRide}
 use Rattle.fleet_league.proofs.Legality.{IsLegalBoard, board-roads, sure}
 use Rattle.fleet_league.proofs.MayAward.{ride-spelled}
 use Rattle.league_trials.specs.Sides.{IsFreshRide}

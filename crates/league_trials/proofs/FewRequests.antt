@@ -20,7 +20,7 @@ use Rattle.ride_model.specs.Legal.{after_event, replay}
 use Rattle.ride_model.specs.Seating.{BatchCopy}
 use Rattle.ride_model.specs.State.{State, AcceptedRequest, accepted_request, open_batch_numbered, placed_vehicle}
 use Rattle.ride_model.specs.Step.{Answered, ask_step, is_node, request_step, step, with_accepted}
-use Rattle.model_laws.specs.Requests.{is_of}
+use Rattle.model_laws.specs.inner.Requests.{is_of}
 use Rattle.model_laws.proofs.RequestStates.{abandon-is, marked, opening-is}
 use Rattle.fleet_league.proofs.Reports.{quiet-step}
 

@@ -10,14 +10,15 @@ use Rattle.ride_model.specs.Road.{RoadMap}
 use Rattle.ride_model.specs.Seating.{has_amount, vehicle_ids}
 use Rattle.ride_model.specs.State.{State}
 use Rattle.dual_check.specs.Cells.{GridCells}
-use Rattle.dual_check.specs.Costs.{amounts_over}
+use Rattle.dual_check.specs.inner.Costs.{amounts_over}
 use Rattle.dual_check.specs.Grid.{column_of}
 use Rattle.model_laws.specs.history_laws.Start.{IsStart}
 use Rattle.model_laws.proofs.history_laws.EveryState.{consistent}
 use Rattle.board_core.specs.Recorded.{Recorded, state_of}
-use Rattle.fleet_league.specs.Awards.{AreOfOneState, IsCertifiedOver}
+use Rattle.fleet_league.specs.inner.Awards.{AreOfOneState, IsCertifiedOver}
 use Rattle.fleet_league.specs.declared.quotes.Quote.{Quote}
-use Rattle.fleet_league.specs.Prices.{IsNewRide, prices_of}
+use Rattle.fleet_league.specs.Prices.{prices_of}
+use Rattle.fleet_league.specs.inner.Prices.{IsNewRide}
 use Rattle.league_trials.specs.OneVehicle.{IsOneVehicle, IsQuoteOf, IsTownRide, won_none}
 use Rattle.league_trials.proofs.OneVehicle.{IsClear, new-ride, one-column}
 

@@ -16,12 +16,14 @@ use Rattle.ride_model.specs.Vehicle.{IsLawful, ride_ids}
 use Rattle.dual_check.specs.Cells.{GridCells, cell_at}
 use Rattle.dual_check.specs.Grid.{CertifiesPairing, IsPairing, column_of, price_at}
 use Rattle.board_core.specs.Recorded.{Recorded, state_of}
-use Rattle.fleet_league.specs.Awards.{AreOfOneState, HasRoomFor, IsCertifiedBy, IsCertifiedOver, won_rides}
-use Rattle.fleet_league.specs.Companies.{CompanyState, most_reports, report_count}
+use Rattle.fleet_league.specs.Awards.{won_rides}
+use Rattle.fleet_league.specs.inner.Awards.{AreOfOneState, HasRoomFor, IsCertifiedBy, IsCertifiedOver}
+use Rattle.fleet_league.specs.inner.Companies.{CompanyState, most_reports, report_count}
 use Rattle.fleet_league.specs.declared.briefs.Brief.{Brief}
 use Rattle.fleet_league.specs.declared.briefs.Win.{Win}
 use Rattle.fleet_league.specs.declared.quotes.Quote.{Quote}
-use Rattle.fleet_league.specs.Prices.{IsNewRide, prices_of}
+use Rattle.fleet_league.specs.Prices.{prices_of}
+use Rattle.fleet_league.specs.inner.Prices.{IsNewRide}
 use Rattle.plan_trials.proofs.trial_town.IdleVehicle.{may-start}
 use Rattle.league_trials.specs.OneVehicle.{IsNewCompany, IsOneVehicle, IsOneVehicleFleet, IsQuoteOf, IsTownNode, IsTownRide, one_price, won_alone}
 

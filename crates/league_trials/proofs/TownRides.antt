@@ -11,10 +11,11 @@ use Rattle.ride_model.specs.State.{State}
 use Rattle.ride_model.specs.Vehicle.{ride_ids}
 use Rattle.dual_check.specs.Cells.{GridCells}
 use Rattle.board_core.specs.Recorded.{state_of}
-use Rattle.fleet_league.specs.Companies.{CompanyState}
+use Rattle.fleet_league.specs.inner.Companies.{CompanyState}
 use Rattle.fleet_league.specs.declared.quotes.Quote.{Quote}
-use Rattle.fleet_league.specs.Prices.{IsNewRide, prices_of}
-use Rattle.fleet_league.specs.Round.{IsPriced}
+use Rattle.fleet_league.specs.Prices.{prices_of}
+use Rattle.fleet_league.specs.inner.Prices.{IsNewRide}
+use Rattle.fleet_league.specs.inner.Round.{IsPriced}
 use Rattle.league_trials.specs.OneVehicle.{AreTownRides, IsNewCompany, IsQuoteOfTwo, IsTownRide}
 use Rattle.league_trials.proofs.OneVehicle.{begun, new-rides, one-column, one-ride}
 

@@ -3,7 +3,7 @@ use Rattle.std.proofs.Common.{◌≡◌, ℕ, zero, suc, ◌<◌, [], ◌∷◌,
 use Rattle.std.specs.Prelude.{slice_index}
 use Rattle.dual_check.specs.Cells.{cell_at}
 use Rattle.dual_check.specs.Grid.{column_of}
-use Rattle.fleet_league.specs.Restriction.{IsPart, IsRestrictedTo, chosen_columns, rows_into}
+use Rattle.fleet_league.specs.inner.Restriction.{IsPart, IsRestrictedTo, chosen_columns, rows_into}
 use Rattle.league_trials.specs.TwoCompanies.{union, round, first_company, part, own}
 
 pub part-is : IsPart union (rows_into first_company round.columns) (chosen_columns first_company) part

@@ -11,11 +11,11 @@ use Rattle.ride_model.specs.State.{State}
 use Rattle.ride_model.specs.Settings.{IsSettings}
 use Rattle.dual_check.specs.Cells.{GridCells}
 use Rattle.fleet_league.specs.Awards.{AddsAward}
-use Rattle.fleet_league.specs.Companies.{CompanyState}
+use Rattle.fleet_league.specs.inner.Companies.{CompanyState}
 use Rattle.fleet_league.specs.declared.briefs.Brief.{Brief}
 use Rattle.fleet_league.specs.declared.quotes.Quote.{Quote}
 use Rattle.fleet_league.specs.Prices.{prices_of}
-use Rattle.fleet_league.specs.Round.{IsPriced}
+use Rattle.fleet_league.specs.inner.Round.{IsPriced}
 use Rattle.league_trials.specs.Sides.{IsRideOf}
 
 -- a node of the town

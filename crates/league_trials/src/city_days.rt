@@ -6,7 +6,7 @@ ghost use Rattle.ride_model.specs.Road.{RoadMap};
 ghost use Rattle.ride_model.specs.Text.{HasLine};
 ghost use Rattle.city_maker.specs.Fleets.{default_settings};
 ghost use Rattle.fleet_league.specs.declared.quotes.Quote.{Quote};
-ghost use Rattle.fleet_league.specs.Round.{IsPriced};
+ghost use Rattle.fleet_league.specs.inner.Round.{IsPriced};
 ghost use Rattle.league_trials.specs.Sides.{AreParts};
 
 use super::sides::Side;

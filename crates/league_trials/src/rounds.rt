@@ -1,6 +1,6 @@
 //! Rounds of two companies with one vehicle each.
 ghost use Rattle.std.specs.Prelude.{◌≡◌, ◌<◌, ◌^◌, IfOk, IfSome};
-ghost use Rattle.fleet_league.specs.Round.{IsPriced};
+ghost use Rattle.fleet_league.specs.inner.Round.{IsPriced};
 
 use dual_check::{Grid, Paired, certifies_grid};
 use fleet_league::{NoMemory, PriceRows, Quote, settle};

@@ -6,11 +6,11 @@ ghost use Rattle.ride_model.specs.Text.{IsSpelledCommand};
 ghost use Rattle.ride_model.specs.Vehicle.{ride_ids};
 ghost use Rattle.board_core.specs.Recorded.{state_of};
 ghost use Rattle.city_maker.specs.Fleets.{default_settings};
-ghost use Rattle.fleet_league.specs.Companies.{is_report, report_count};
-ghost use Rattle.fleet_league.specs.Winning.{MayPlay, MayWin};
-ghost use Rattle.fleet_league.specs.league_session.LeagueBoards.{IsSound};
+ghost use Rattle.fleet_league.specs.inner.Companies.{is_report, report_count};
+ghost use Rattle.fleet_league.specs.inner.Winning.{MayPlay, MayWin};
+ghost use Rattle.fleet_league.specs.inner.league_session.LeagueBoards.{IsSound};
 ghost use Rattle.fleet_league.specs.Prices.{quote_of};
-ghost use Rattle.fleet_league.specs.Round.{IsPriced};
+ghost use Rattle.fleet_league.specs.inner.Round.{IsPriced};
 ghost use Rattle.league_trials.specs.Sides.{IsFreshRide, IsRideOf};
 
 use adaptive_roads::Roads;
@@ -43,7 +43,7 @@ pub(crate) struct Side<'r> {
 impl<'r> Model for Side<'r> {
     ghost use Rattle.std.specs.Prelude.{◌≡◌};
     ghost use Rattle.city_maker.specs.Fleets.{default_settings};
-    ghost use Rattle.fleet_league.specs.Companies.{CompanyState};
+    ghost use Rattle.fleet_league.specs.inner.Companies.{CompanyState};
 
     ghost Value = { CompanyState };
 

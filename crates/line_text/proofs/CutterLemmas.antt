@@ -6,8 +6,9 @@ use Rattle.std.proofs.Math.Seq.{take-append-add}
 use Rattle.std.proofs.Math.Bool.{and-true, and-false}
 use Rattle.std.proofs.lemmas.Bool.Decides.{nat_tests}
 use Rattle.std.specs.List.{list_any}
-use Rattle.line_text.specs.Lines.{ended_after, rest_after, first_line, ended_lines, rest_of}
-use Rattle.line_text.specs.Cutter.{CutterState, Shows, ShowsRest, HasTaken, EndsLine, Continues, begun, kept, taken, taken_len}
+use Rattle.line_text.specs.Lines.{ended_after, rest_after, ended_lines, rest_of}
+use Rattle.line_text.specs.inner.Lines.{first_line}
+use Rattle.line_text.specs.inner.Cutter.{CutterState, Shows, ShowsRest, HasTaken, EndsLine, Continues, begun, kept, taken, taken_len}
 use Rattle.line_text.proofs.LineLemmas.{HasNoEnd, line_end, first_line-no_end, take-first_line, ended_lines-part, rest_of-part, ended_after-append, rest_after-append}
 
 take-nil : (n : ℕ) → ◌≡◌ {A = List ℕ} (take {A = ℕ} n []) []

@@ -4,10 +4,10 @@ use Rattle.std.proofs.lemmas.List.{take_rest}
 use Rattle.std.proofs.Math.Seq.{take-add, take-append-add}
 use Rattle.ride_ports.specs.Bytes.{Reads}
 use Rattle.ride_ports.proofs.ByteLemmas.{Reads-to_end, Reads-told}
-use Rattle.line_text.specs.Cutter.{CutterState, HasTaken, EndsLine, ShowsRest}
+use Rattle.line_text.specs.inner.Cutter.{CutterState, HasTaken, EndsLine, ShowsRest}
 use Rattle.line_text.specs.Fields.{is_over_long}
 use Rattle.line_text.specs.Lines.{ended_after, ended_lines, last_line, lines_of, rest_of}
-use Rattle.line_text.specs.Reading.{AreFirst, GoesOn, HasRead, IsRefused, counted_lines}
+use Rattle.line_text.specs.inner.Reading.{AreFirst, GoesOn, HasRead, IsRefused, counted_lines}
 use Rattle.line_text.proofs.LineLemmas.{ended_lines-append, length-ended_after-le, last_line-some}
 
 -- the number of a line of a text whose bytes can be counted

@@ -2,7 +2,7 @@
 use Rattle.std.proofs.Common.{◌≡◌, ◌≢◌, ℕ, ◌+◌, ◌<◌, ◌≤◌, suc, nat_lt, true, false, cond, List, [], ◌∷◌, ◌++◌, length, take, Result, Ok, Err, refl, ap, ◌∙◌, length-append, arith, lt-ltb, le-ltb}
 use Rattle.std.proofs.lemmas.List.{take_at}
 use Rattle.line_text.specs.Lines.{ended_lines, lines_of}
-use Rattle.line_text.specs.Reading.{AreFirst, counted_lines}
+use Rattle.line_text.specs.inner.Reading.{AreFirst, counted_lines}
 use Rattle.line_text.specs.Texts.{Format, and_then, after_lines, after_ended, text_value}
 
 -- a refusal decides, whatever lines follow

@@ -27,8 +27,3 @@ last_line (b ∷ bytes) = (b ∷ bytes) ∷ []
 -- the lines of a text
 abbrev pub lines_of : List ℕ → List (List ℕ)
 lines_of bytes = ended_lines bytes ++ last_line (rest_of bytes)
-
--- the bytes before the first LF, or all where there is none
-unfoldable pub first_line : List ℕ → List ℕ
-first_line [] = []
-first_line (b ∷ bytes) = if b == 10 then [] else b ∷ first_line bytes

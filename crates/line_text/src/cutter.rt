@@ -1,8 +1,9 @@
 //! The cutter of lines.
 ghost use Rattle.std.specs.Prelude.{◌≡◌, ◌≢◌, ◌==◌, ◌≤◌, ◌<◌, ◌+◌, ◌++◌, ◌||◌, ◌∷◌, ℕ, List, [], length, take, nat_lt, min, false, true, if◌then◌else◌, IfOk, IsTrue, MatchBool};
 ghost use Rattle.std.specs.List.{list_any};
-ghost use Rattle.line_text.specs.Cutter.{begun, kept, taken, taken_len, Continues, EndsLine, HasTaken, ShowsRest};
-ghost use Rattle.line_text.specs.Lines.{ended_lines, first_line, rest_of};
+ghost use Rattle.line_text.specs.inner.Cutter.{begun, kept, taken, taken_len, Continues, EndsLine, HasTaken, ShowsRest};
+ghost use Rattle.line_text.specs.Lines.{ended_lines, rest_of};
+ghost use Rattle.line_text.specs.inner.Lines.{first_line};
 
 use crate::NoMemory;
 use memchr::memchr;
@@ -31,7 +32,7 @@ pub struct LineCutter {
 
 impl Model for LineCutter {
     ghost use Rattle.std.specs.Prelude.{◌≤◌, take, vec_len};
-    ghost use Rattle.line_text.specs.Cutter.{CutterState};
+    ghost use Rattle.line_text.specs.inner.Cutter.{CutterState};
 
     ghost Value = { CutterState };
 

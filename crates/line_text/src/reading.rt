@@ -5,7 +5,7 @@ ghost use Rattle.ride_ports.specs.Count.{KeepsCount};
 ghost use Rattle.line_text.specs.declared.reading.ReadError.TheVariants.{NoMemory, Refused, TooLong, ReadFault};
 ghost use Rattle.line_text.specs.Fields.{is_over_long};
 ghost use Rattle.line_text.specs.Lines.{ended_lines, lines_of};
-ghost use Rattle.line_text.specs.Reading.{AreFirst, GoesOn, HasRead, IsRefused, counted_lines, is_read_fault};
+ghost use Rattle.line_text.specs.inner.Reading.{AreFirst, GoesOn, HasRead, IsRefused, counted_lines, is_read_fault};
 
 use crate::{LineCutter, MOST_LINE};
 use ride_ports::Source;

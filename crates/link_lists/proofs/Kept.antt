@@ -9,8 +9,8 @@ use Rattle.std.proofs.lemmas.List.FromFn.{fill_by_all}
 use Rattle.std.proofs.lemmas.List.Elements.{Contains-push_cases, Contains-append_left, Contains-push}
 use Rattle.std.proofs.lemmas.Map.Steps.{length-le_from_distinct_below}
 use Rattle.link_lists.specs.declared.circles.Link.{Link}
-use Rattle.link_lists.specs.Family.{Family, list_at, IsHeld, IsFamily, without, with_behind}
-use Rattle.link_lists.specs.Circles.{next_of, before_of, IsInserted, IsTakenOut, IsPath, circle_of, family_of, IsAlone, Keeps}
+use Rattle.link_lists.specs.inner.Family.{Family, list_at, IsHeld, IsFamily, without, with_behind}
+use Rattle.link_lists.specs.inner.Circles.{next_of, before_of, IsInserted, IsTakenOut, IsPath, circle_of, family_of, IsAlone, Keeps}
 use Rattle.link_lists.proofs.Members.{Contains-here, Contains-there, Contains-cons_cases, Contains-nil, ByRecursion-from, IsDistinct-nil, IsDistinct-push, IsDistinct-more, IsDistinct-without, Contains-without, Contains-left, Contains-with_behind, Contains-behind_kept, Contains-behind_new, IsDistinct-with_behind}
 use Rattle.link_lists.proofs.Steps.{CanInsert, CanTake, path-kept, path-kept_to, path-at_start, path-at_end, path-with_behind, path-without, path-first, path-next, path-moves, nodes_from-path}
 

@@ -4,8 +4,8 @@ use Rattle.std.specs.Prelude.{Some, None, slice_get, if◌then◌else◌, nat_lt
 use Rattle.std.specs.List.{Contains, IsDistinct, AllByRecursion}
 use Rattle.std.proofs.lemmas.Bool.{cases_eq, lt-ltb, le-ltb}
 use Rattle.link_lists.specs.declared.circles.Link.{Link}
-use Rattle.link_lists.specs.Family.{without, with_behind}
-use Rattle.link_lists.specs.Circles.{next_of, before_of, IsInserted, IsTakenOut, IsStep, IsPath, nodes_from}
+use Rattle.link_lists.specs.inner.Family.{without, with_behind}
+use Rattle.link_lists.specs.inner.Circles.{next_of, before_of, IsInserted, IsTakenOut, IsStep, IsPath, nodes_from}
 use Rattle.link_lists.proofs.Members.{Contains-here, Contains-there, Contains-cons_cases, Contains-nil, ByRecursion-from, IsDistinct-first, IsDistinct-rest, without-same, without-other, without-absent, with_behind-here, with_behind-other}
 
 -- ---- what a path tells

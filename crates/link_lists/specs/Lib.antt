@@ -1,2 +1,1 @@
-pub mod Family
-pub mod Circles
+pub mod inner

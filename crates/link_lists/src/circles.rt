@@ -1,6 +1,6 @@
 // The table of links: which place follows which.
 ghost use Rattle.std.specs.Prelude.{◌≡◌, ◌≢◌, ℕ, ◌<◌, length, IfOk};
-ghost use Rattle.link_lists.specs.Circles.{next_of, before_of, IsAlone, IsJoined, IsInserted, IsTakenOut};
+ghost use Rattle.link_lists.specs.inner.Circles.{next_of, before_of, IsAlone, IsJoined, IsInserted, IsTakenOut};
 
 use std::alloc::{AllocError, Global};
 
@@ -12,7 +12,7 @@ pub(crate) struct Link {
 }
 
 /// A table in which each place is a circle of its own.
-#[tactic(auto, unfolding(crate::specs::Circles::next_of))]
+#[tactic(auto, unfolding(crate::specs::inner::Circles::next_of))]
 pub(crate) fn alone(alloc: Global, places: u32) -> Result<Vec<Link>, AllocError>
     ensures places { IfOk result (λ table. length table.items ≡ places) }
     ensures alone { IfOk result (λ table. (place : ℕ) → place < places
@@ -29,7 +29,7 @@ pub(crate) fn alone(alloc: Global, places: u32) -> Result<Vec<Link>, AllocError>
 }
 
 /// Lets `to` follow `from`.
-#[tactic(auto, unfolding(crate::specs::Circles::next_of, crate::specs::Circles::before_of))]
+#[tactic(auto, unfolding(crate::specs::inner::Circles::next_of, crate::specs::inner::Circles::before_of))]
 fn join(table: &mut [Link], from: u32, to: u32)
     requires from_in { from < length table.old }
     requires to_in { to < length table.old }
@@ -40,7 +40,7 @@ fn join(table: &mut [Link], from: u32, to: u32)
 }
 
 /// The place that follows.
-#[tactic(auto, unfolding(crate::specs::Circles::next_of))]
+#[tactic(auto, unfolding(crate::specs::inner::Circles::next_of))]
 pub(crate) fn next(table: &[Link], place: u32) -> u32
     requires { place < length table.now }
     ensures { result ≡ next_of table.now place }
@@ -49,7 +49,7 @@ pub(crate) fn next(table: &[Link], place: u32) -> u32
 }
 
 /// The place that comes before.
-#[tactic(auto, unfolding(crate::specs::Circles::before_of))]
+#[tactic(auto, unfolding(crate::specs::inner::Circles::before_of))]
 pub(crate) fn before(table: &[Link], place: u32) -> u32
     requires { place < length table.now }
     ensures { result ≡ before_of table.now place }

@@ -4,7 +4,7 @@
 #![tactic(auto)]
 
 ghost use Rattle.std.specs.Prelude.{◌≡◌, ◌≢◌, ℕ, ◌+◌, ◌<◌, ◌++◌, [], ◌∷◌, ◌↔◌, length, slice_get, replicate, IsTrue, IfOk, IfSome, nat_lt, if◌then◌else◌};
-ghost use Rattle.link_lists.specs.Family.{Family, list_at, IsHeld, IsFamily, IsSameSize, without, with_behind};
+ghost use Rattle.link_lists.specs.inner.Family.{Family, list_at, IsHeld, IsFamily, IsSameSize, without, with_behind};
 
 use std::alloc::{AllocError, Global};
 use std::marker::Model;
@@ -27,11 +27,11 @@ pub struct Links {
 }
 
 impl Model for Links {
-    ghost use Rattle.link_lists.specs.Family.{Family};
+    ghost use Rattle.link_lists.specs.inner.Family.{Family};
 
     ghost Value = { Family };
 
-    ghost use Rattle.link_lists.specs.Circles.{family_of, Keeps};
+    ghost use Rattle.link_lists.specs.inner.Circles.{family_of, Keeps};
 
     ghost view = { λ links. family_of links.table.items links.nodes };
 

@@ -14,7 +14,7 @@ use Rattle.ride_model.specs.declared.entry.Event.TheVariants.{Fed, Finish, Opene
 use Rattle.ride_model.specs.History.{entries_of, is_abandoned}
 use Rattle.ride_model.specs.Legal.{after_entry, replay, IsLegal, IsLegalEvent, IsNumbered}
 use Rattle.ride_model.specs.State.{State, has_ended, is_actor}
-use Rattle.model_laws.specs.history_laws.Finishing.{gives_up, has_whole_end, is_whole_end}
+use Rattle.model_laws.specs.inner.history_laws.Finishing.{gives_up, has_whole_end, is_whole_end}
 use Rattle.model_laws.proofs.history_laws.Effects.{effect, ends_in}
 use Rattle.live_sessions.specs.Resuming.{breaks_off, is_broken_off}
 

@@ -19,16 +19,17 @@ use Rattle.ride_ports.specs.declared.outcome.Ran.{Ran}
 use Rattle.model_laws.proofs.plain.Among.{Among}
 use Rattle.model_laws.proofs.plain.Each.{of_all}
 use Rattle.model_laws.proofs.Histories.{IsLegal-parts}
-use Rattle.model_laws.specs.history_laws.Consistent.{IsConsistent, IsOpenBatch}
-use Rattle.model_laws.specs.history_laws.Finishing.{gives_up, has_whole_end, is_whole_end}
-use Rattle.model_laws.specs.history_laws.Start.{IsStart, fed_total}
+use Rattle.model_laws.specs.inner.history_laws.Consistent.{IsConsistent, IsOpenBatch}
+use Rattle.model_laws.specs.inner.history_laws.Finishing.{gives_up, has_whole_end, is_whole_end}
+use Rattle.model_laws.specs.history_laws.Start.{IsStart}
+use Rattle.model_laws.specs.inner.history_laws.Start.{fed_total}
 use Rattle.model_laws.proofs.history_laws.Effects.{effect, ends_in}
 use Rattle.model_laws.proofs.history_laws.EveryState.{consistent}
 use Rattle.model_laws.proofs.history_laws.Leaving.{open_batch}
 use Rattle.board_core.specs.Recorded.{end_entry}
-use Rattle.fleet_board.specs.Passes.{Known, actor_of}
-use Rattle.fleet_board.specs.Sets.{IsPartOf}
-use Rattle.session_loops.specs.Loops.{RunsDesk}
+use Rattle.fleet_board.specs.inner.Passes.{Known, actor_of}
+use Rattle.fleet_board.specs.inner.Sets.{IsPartOf}
+use Rattle.session_loops.specs.inner.Loops.{RunsDesk}
 use Rattle.live_sessions.proofs.FeedParts.{ends-whole}
 
 -- a desk ended whole and gave no batch up

@@ -21,11 +21,11 @@ use Rattle.command_lines.specs.Feeds.{IsWhole}
 use Rattle.line_text.specs.line_reader.Limits.{IsTooLong}
 use Rattle.command_lines.specs.declared.forms.FeedForm.{FeedForm}
 use Rattle.command_lines.specs.Limits.{ended_commands, limits_of}
-use Rattle.model_laws.specs.history_laws.Finishing.{has_whole_end, is_whole_end}
+use Rattle.model_laws.specs.inner.history_laws.Finishing.{has_whole_end, is_whole_end}
 use Rattle.board_core.specs.Recorded.{end_entry}
-use Rattle.fleet_board.specs.Passes.{Known, actor_of, commands_in}
-use Rattle.fleet_board.specs.Sets.{IsPartOf}
-use Rattle.session_loops.specs.Loops.{HasFed, RunsFeed}
+use Rattle.fleet_board.specs.inner.Passes.{Known, actor_of, commands_in}
+use Rattle.fleet_board.specs.inner.Sets.{IsPartOf}
+use Rattle.session_loops.specs.inner.Loops.{HasFed, RunsFeed}
 use Rattle.line_text.specs.line_reader.FeedRuns.{IsReadWhole}
 use Rattle.session_loops.specs.Stops.{AreFirstOf}
 use Rattle.live_sessions.specs.Serving.{FeedRun, IsFeedOf}

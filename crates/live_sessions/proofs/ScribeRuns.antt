@@ -9,8 +9,8 @@ use Rattle.ride_ports.specs.Count.{KeepsCount}
 use Rattle.ride_ports.specs.declared.sources.Failed.{Failed}
 use Rattle.line_text.proofs.text_page.OutputLemmas.{put-failed, put-line, put-line_failed}
 use Rattle.session_loops.specs.declared.scribes.Scribed.{Scribed}
-use Rattle.live_sessions.specs.Actors.{HasToldSome, bare}
-use Rattle.session_loops.specs.Loops.{HasScribed, HasScribedSome}
+use Rattle.live_sessions.specs.inner.Actors.{HasToldSome, bare}
+use Rattle.session_loops.specs.inner.Loops.{HasScribed, HasScribedSome}
 
 -- so many entries were logged, and whether the sink took the head
 pub record Told (log : ℕ) (head_failed : Bool) (before after : Option (List ℕ)) (faults m : ℕ) (scribed : Result Scribed Failed) (seen : List Entry)

@@ -13,17 +13,17 @@ use Rattle.command_lines.specs.Limits.{limits_of}
 use Rattle.model_laws.specs.history_laws.Start.{IsStart}
 use Rattle.board_core.specs.Recorded.{Recorded}
 use Rattle.turn_lock.specs.Passes.{knowledge}
-use Rattle.fleet_board.specs.Passes.{root_of}
-use Rattle.fleet_board.specs.Turns.{as_began}
-use Rattle.line_text.specs.text_page.Output.{HasPut, OutputState}
+use Rattle.fleet_board.specs.inner.Passes.{root_of}
+use Rattle.fleet_board.specs.inner.Turns.{as_began}
+use Rattle.line_text.specs.inner.text_page.Output.{HasPut, OutputState}
 use Rattle.session_loops.specs.declared.scribes.Scribed.{Scribed}
 use Rattle.live_sessions.specs.declared.actors.Actors.{Actors}
 use Rattle.live_sessions.specs.declared.actors.Answers.{Answers}
 use Rattle.live_sessions.specs.declared.stages.Stage.{Stage}
-use Rattle.live_sessions.specs.Actors.{bare}
+use Rattle.live_sessions.specs.inner.Actors.{bare}
 use Rattle.live_sessions.specs.Resuming.{IsResumed, form_after, is_broken_off, still_feeds}
 use Rattle.live_sessions.specs.Serving.{FeedRun, HasServed, IsWrittenOut}
-use Rattle.live_sessions.specs.Stages.{IsClosed, IsReady, LeavesActors, board_of, is_cut_short, ran_of}
+use Rattle.live_sessions.specs.inner.Stages.{IsClosed, IsReady, LeavesActors, board_of, is_cut_short, ran_of}
 use Rattle.live_sessions.proofs.Sessions.{served, text-joined, written-out}
 use Rattle.live_sessions.proofs.StageLemmas.{FeederOf, began, desks-whole, drivers-of, drivers-sink, feeder-sink, feeds-whole, goes_on, riders-of}
 

@@ -10,11 +10,11 @@ use Rattle.ride_model.specs.Legal.{IsLegal, IsNumbered}
 use Rattle.ride_model.specs.State.{State}
 use Rattle.ride_model.specs.Text.{HasText, entry_lines, head_line, text_of}
 use Rattle.ride_ports.specs.declared.outcome.Ran.{Ran}
-use Rattle.model_laws.specs.history_laws.Finishing.{has_whole_end}
+use Rattle.model_laws.specs.inner.history_laws.Finishing.{has_whole_end}
 use Rattle.model_laws.specs.history_laws.Start.{IsStart}
 use Rattle.model_laws.proofs.history_laws.Finished.{whole-finished}
 use Rattle.model_laws.proofs.history_laws.KeptHistory.{keeps_promises}
-use Rattle.line_text.specs.text_page.Output.{HasPut, OutputState}
+use Rattle.line_text.specs.inner.text_page.Output.{HasPut, OutputState}
 use Rattle.line_text.proofs.text_page.OutputLemmas.{written-prefix, written-whole}
 use Rattle.line_text.specs.line_reader.FeedRuns.{IsReadWhole}
 use Rattle.live_sessions.specs.Serving.{HasServed, IsWrittenOut}

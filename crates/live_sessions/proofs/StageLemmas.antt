@@ -20,25 +20,25 @@ use Rattle.line_text.specs.line_reader.Limits.{IsTooLong}
 use Rattle.command_lines.specs.declared.forms.FeedForm.{FeedForm}
 use Rattle.command_lines.specs.Limits.{limits_of}
 use Rattle.model_laws.proofs.Histories.{IsLegal-parts}
-use Rattle.model_laws.specs.history_laws.Finishing.{gives_up, has_whole_end, is_whole_end}
+use Rattle.model_laws.specs.inner.history_laws.Finishing.{gives_up, has_whole_end, is_whole_end}
 use Rattle.board_core.specs.Recorded.{Recorded, state_of}
 use Rattle.turn_lock.specs.Passes.{knowledge}
 use Rattle.fleet_board.specs.declared.shared.SharedBoard.{SharedBoard}
-use Rattle.fleet_board.specs.Passes.{Known, root_of}
-use Rattle.fleet_board.specs.Sets.{IsPartOf, one_if_some}
-use Rattle.fleet_board.specs.Turns.{as_began}
+use Rattle.fleet_board.specs.inner.Passes.{Known, root_of}
+use Rattle.fleet_board.specs.inner.Sets.{IsPartOf, one_if_some}
+use Rattle.fleet_board.specs.inner.Turns.{as_began}
 use Rattle.fleet_board.proofs.Looking.{root-stays}
-use Rattle.session_loops.specs.Loops.{RunsFeed}
+use Rattle.session_loops.specs.inner.Loops.{RunsFeed}
 use Rattle.live_sessions.specs.declared.actors.Actors.{Actors}
 use Rattle.live_sessions.specs.declared.actors.Answers.{Answers}
 use Rattle.live_sessions.specs.declared.desk_pairs.Desk.{Desk}
 use Rattle.live_sessions.specs.declared.feed_pairs.Feeder.{Feeder}
 use Rattle.live_sessions.specs.declared.living.FeedStart.{FeedStart}
 use Rattle.live_sessions.specs.declared.stages.Stage.{Stage}
-use Rattle.live_sessions.specs.Actors.{IsIdle, LeavesDesk, LeavesFeeder}
+use Rattle.live_sessions.specs.inner.Actors.{IsIdle, LeavesDesk, LeavesFeeder}
 use Rattle.live_sessions.specs.Resuming.{IsFeedAfter, form_after, is_broken_off, still_feeds}
 use Rattle.live_sessions.specs.Serving.{FeedRun}
-use Rattle.live_sessions.specs.Stages.{IsClosed, IsDeskOf, IsEquipped, IsFeederOf, IsReady, IsFeedStart, LeavesActors, board_of}
+use Rattle.live_sessions.specs.inner.Stages.{IsClosed, IsDeskOf, IsEquipped, IsFeederOf, IsReady, IsFeedStart, LeavesActors, board_of}
 use Rattle.live_sessions.proofs.BrokenOff.{ended-whole, no-feed, none-broken}
 use Rattle.live_sessions.proofs.DeskParts.{DeskWhole, desk-of, desk-over}
 use Rattle.live_sessions.proofs.FeedParts.{entries-append, feed-of, part-after}

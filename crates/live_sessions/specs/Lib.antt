@@ -1,4 +1,3 @@
 pub mod Serving
 pub mod Resuming
-pub mod Actors
-pub mod Stages
+pub mod inner

@@ -6,25 +6,15 @@ use Rattle.ride_model.specs.declared.entry.Entry.{Entry}
 use Rattle.ride_model.specs.declared.entry.Event.{Event}
 use Rattle.ride_model.specs.declared.entry.Event.TheVariants.{Abandoned, Finish}
 use Rattle.ride_model.specs.History.{entries_of, fed_commands, is_whole}
-use Rattle.ride_model.specs.Limits.{most_earlier_commands}
-use Rattle.ride_model.specs.Road.{RoadMap}
-use Rattle.ride_model.specs.State.{State, has_ended, open_batch_of}
+use Rattle.ride_model.specs.State.{State, has_ended}
 use Rattle.ride_model.specs.Legal.{IsNumbered, replay}
 use Rattle.ride_model.specs.Text.{text_of}
 use Rattle.ride_ports.specs.declared.outcome.Ran.{Ran}
 use Rattle.line_text.specs.line_reader.Limits.{IsTooLong}
 use Rattle.command_lines.specs.declared.forms.FeedForm.{FeedForm}
 use Rattle.command_lines.specs.Limits.{limits_of, most_lines}
-use Rattle.board_core.specs.Recorded.{Recorded, state_of}
-use Rattle.live_sessions.specs.declared.resuming.Interrupted.{Interrupted}
+use Rattle.board_core.specs.Recorded.{Recorded}
 use Rattle.live_sessions.specs.Serving.{FeedRun, HasServed, IsFeedOf, IsWrittenOut}
-
--- a session may go on from a board over this map, with the batches that its desks have open, whose feeds gave few commands
-pub record MayGoOn (roads : RoadMap) (interrupted : Interrupted) : Type 0 where
-  pub roads_are : interrupted.board.start.roads ≡ roads
-  pub first_is : interrupted.first ≡ open_batch_of (state_of interrupted.board) 1
-  pub second_is : interrupted.second ≡ open_batch_of (state_of interrupted.board) 2
-  pub few : (feed : ℕ) → length (fed_commands feed interrupted.board.history) ≤ most_earlier_commands
 
 -- an event cuts its actor off, or gives a batch up; and one of these entries does
 abbrev pub breaks_off : Event → Bool

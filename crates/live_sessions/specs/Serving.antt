@@ -9,14 +9,14 @@ use Rattle.ride_model.specs.History.{ended_whole, entries_of, fed_commands, is_a
 use Rattle.ride_model.specs.Legal.{IsLegal, IsNumbered, replay}
 use Rattle.ride_model.specs.Promises.{KeepsPromises}
 use Rattle.ride_model.specs.State.{State}
-use Rattle.ride_model.specs.Text.{HasText, text_of}
+use Rattle.ride_model.specs.Text.{HasText}
 use Rattle.ride_ports.specs.declared.outcome.Ran.{Ran}
 use Rattle.ride_ports.specs.Bytes.{Reads, Writes, WritesPrefix}
 use Rattle.ride_ports.specs.Count.{Rose}
 use Rattle.command_lines.specs.Feeds.{IsWhole}
 use Rattle.line_text.specs.line_reader.Limits.{IsTooLong}
 use Rattle.command_lines.specs.declared.forms.FeedForm.{FeedForm}
-use Rattle.command_lines.specs.Limits.{ended_commands, feed_limits, limits_of, new_feed}
+use Rattle.command_lines.specs.Limits.{ended_commands, limits_of}
 use Rattle.model_laws.specs.history_laws.Start.{IsStart}
 use Rattle.board_core.specs.Recorded.{end_entry}
 use Rattle.session_loops.specs.Loops.{AreFed}
@@ -29,15 +29,6 @@ pub record FeedRun : Type 0 where
   pub left : Option (List ℕ)
   pub faults_before : ℕ
   pub faults_after : ℕ
-
--- that of a source, by what a source has left and what it counts
-abbrev pub feed_run : {S : Type 0} → (S → Option (List ℕ)) → (S → ℕ) → S → S → FeedRun
-feed_run left faults before after = record {
-  bytes = left before;
-  left = left after;
-  faults_before = faults before;
-  faults_after = faults after;
-}
 
 -- a session counts the faults of two sources: it says that one failed only where a count rose, neither rose where it does not say so, and
 -- no count falls
@@ -88,13 +79,3 @@ pub record HasNotServed (riders drivers : FeedRun) (ran : Ran) (before after : O
   pub nothing_written : after ≡ before
   pub nothing_read_of_riders : riders.left ≡ riders.bytes
   pub nothing_read_of_drivers : drivers.left ≡ drivers.bytes
-
--- a session was served: its history answers both feeds, and its text is the log
-abbrev pub IsServed : State → ℕ → FeedRun → FeedRun → Ran → Option (List ℕ) → Option (List ℕ) → Type 0
-IsServed start desks riders drivers ran before after =
-    (riders_taken drivers_taken : List ℕ) × (entries : List Entry)
-    × HasServed start 2 desks ran entries
-    × IsFeedOf (new_feed start.settings.log) 1 riders ran riders_taken entries
-    × IsFeedOf (new_feed start.settings.log) 2 drivers ran drivers_taken entries
-    × (ran.too_long ≡ true → IsTooLong feed_limits riders_taken ⊎ IsTooLong feed_limits drivers_taken)
-    × IsWrittenOut ran before after (text_of start.settings.log 2 desks entries)

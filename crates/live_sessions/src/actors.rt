@@ -3,9 +3,9 @@
 //! Where a thread cannot be made its loop runs after those beside it. So the feeds come first, then the desks, which end once
 //! the feeds have, and then the scribe.
 ghost use Rattle.std.specs.Thread.{IsSync};
-ghost use Rattle.live_sessions.specs.Actors.{LeavesScribe, MayScribe};
-ghost use Rattle.live_sessions.specs.Serving.{feed_run};
-ghost use Rattle.live_sessions.specs.Stages.{LeavesActors, LeavesDesks, LeavesFeeds, MayRunActors, MayRunDesks, MayRunFeeds};
+ghost use Rattle.live_sessions.specs.inner.Actors.{LeavesScribe, MayScribe};
+ghost use Rattle.live_sessions.specs.inner.Serving.{feed_run};
+ghost use Rattle.live_sessions.specs.inner.Stages.{LeavesActors, LeavesDesks, LeavesFeeds, MayRunActors, MayRunDesks, MayRunFeeds};
 
 use crate::desk_pairs::{Desks, run_desks};
 use crate::feed_pairs::{Feeders, run_feeds};

@@ -1,7 +1,7 @@
 //! One desk, or two beside one another.
 ghost use Rattle.std.specs.Thread.{IsSync};
-ghost use Rattle.live_sessions.specs.Actors.{LeavesDesk, MayRunDesk};
-ghost use Rattle.live_sessions.specs.Stages.{LeavesDesks, MayRunDesks};
+ghost use Rattle.live_sessions.specs.inner.Actors.{LeavesDesk, MayRunDesk};
+ghost use Rattle.live_sessions.specs.inner.Stages.{LeavesDesks, MayRunDesks};
 
 use crate::outcomes::{either, nothing_wanting};
 use crate::shared::Shared;

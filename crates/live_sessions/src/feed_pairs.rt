@@ -1,7 +1,7 @@
 //! The feeds of riders and of drivers beside one another.
-ghost use Rattle.live_sessions.specs.Actors.{LeavesFeeder, MayRunFeeder};
-ghost use Rattle.live_sessions.specs.Serving.{feed_run};
-ghost use Rattle.live_sessions.specs.Stages.{LeavesFeeds, MayRunFeeds};
+ghost use Rattle.live_sessions.specs.inner.Actors.{LeavesFeeder, MayRunFeeder};
+ghost use Rattle.live_sessions.specs.inner.Serving.{feed_run};
+ghost use Rattle.live_sessions.specs.inner.Stages.{LeavesFeeds, MayRunFeeds};
 
 use crate::living::FeedStart;
 use crate::outcomes::nothing_wanting;

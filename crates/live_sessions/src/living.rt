@@ -8,7 +8,7 @@ ghost use Rattle.ride_model.specs.State.{is_actor};
 ghost use Rattle.command_lines.specs.Limits.{most_lines};
 ghost use Rattle.model_laws.specs.history_laws.Start.{is_fed};
 ghost use Rattle.live_sessions.specs.Resuming.{HaveFewCommands, breaks_off, is_broken_off};
-ghost use Rattle.live_sessions.specs.Stages.{AreLiving, IsFeedStart};
+ghost use Rattle.live_sessions.specs.inner.Stages.{AreLiving, IsFeedStart};
 
 use board_core::Board;
 use command_lines::{FEED_LIMITS, FeedForm};

@@ -1,7 +1,7 @@
 //! What kept a session's loops from running whole.
 ghost use Rattle.std.specs.Prelude.{◌≡◌};
-ghost use Rattle.live_sessions.specs.Actors.{either, nothing_wanting};
-ghost use Rattle.live_sessions.specs.Stages.{is_cut_short, ran_of};
+ghost use Rattle.live_sessions.specs.inner.Actors.{either, nothing_wanting};
+ghost use Rattle.live_sessions.specs.inner.Stages.{is_cut_short, ran_of};
 
 use crate::actors::Answers;
 use ride_ports::{Failed, Ran};

@@ -5,7 +5,8 @@ ghost use Rattle.ride_model.specs.State.{start_state};
 ghost use Rattle.ride_model.specs.Text.{IsOneOrTwo};
 ghost use Rattle.ride_model.specs.Limits.{most_workers};
 ghost use Rattle.ride_ports.specs.Count.{KeepsCount, most_count};
-ghost use Rattle.live_sessions.specs.Serving.{CountsFeeds, HasNotServed, IsServed, feed_run};
+ghost use Rattle.live_sessions.specs.Serving.{CountsFeeds, HasNotServed};
+ghost use Rattle.live_sessions.specs.inner.Serving.{IsServed, feed_run};
 
 use crate::resuming::{Interrupted, resume};
 use adaptive_roads::Roads;

@@ -1,7 +1,8 @@
 //! A session from before its actors run to after they did.
 ghost use Rattle.std.specs.Prelude.{◌≡◌, ◌≤◌, IfOk, IsSome, MatchOption, None, Some};
-ghost use Rattle.live_sessions.specs.Resuming.{MayGoOn, is_broken_off};
-ghost use Rattle.live_sessions.specs.Stages.{IsClosed, IsEquipped, IsReady, MayClose, MayRunActors, board_of};
+ghost use Rattle.live_sessions.specs.Resuming.{is_broken_off};
+ghost use Rattle.live_sessions.specs.inner.Resuming.{MayGoOn};
+ghost use Rattle.live_sessions.specs.inner.Stages.{IsClosed, IsEquipped, IsReady, MayClose, MayRunActors, board_of};
 
 use crate::actors::Actors;
 use crate::desk_pairs::{Desk, Desks};

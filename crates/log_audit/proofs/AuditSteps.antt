@@ -18,7 +18,8 @@ use Rattle.trip_log.proofs.ReadLemmas.{for_one_or_two}
 use Rattle.trip_log.proofs.TextLemmas.{texts-same}
 use Rattle.line_text.specs.declared.line_reader.answers.NextLine.{NextLine}
 use Rattle.line_text.specs.declared.line_reader.answers.NextLine.TheVariants.{Line, Unfinished, End}
-use Rattle.line_text.specs.line_reader.Reader.{HasNoLf, ReaderState}
+use Rattle.line_text.specs.inner.line_reader.Reader.{ReaderState}
+use Rattle.line_text.specs.line_reader.Reader.{HasNoLf}
 use Rattle.log_audit.specs.declared.verdict.AuditFault.{AuditFault}
 use Rattle.log_audit.specs.declared.verdict.AuditFault.TheVariants.{ReadFault, TooLong, NoMemory}
 use Rattle.log_audit.specs.declared.verdict.Verdict.{Verdict}
@@ -26,11 +27,12 @@ use Rattle.log_audit.specs.declared.verdict.Verdict.TheVariants.{No}
 use Rattle.log_audit.specs.declared.verdict.Why.{Why}
 use Rattle.log_audit.specs.declared.verdict.Why.TheVariants.{Spelling}
 use Rattle.log_audit.specs.Audit.{HasNoHead, IsAnswer, IsLogOf, IsWrongLine}
-use Rattle.log_audit.specs.Audited.{FailsAfter, HasReadHead, HasReadNoHead, IsWrongLineAfter, text_so_far}
-use Rattle.log_audit.specs.Auditing.{IsAuditing, IsJudged, IsLineOf, LeavesDue}
+use Rattle.log_audit.specs.Audited.{FailsAfter}
+use Rattle.log_audit.specs.inner.Audited.{HasReadHead, HasReadNoHead, IsWrongLineAfter, text_so_far}
+use Rattle.log_audit.specs.inner.Auditing.{IsAuditing, IsJudged, IsLineOf, LeavesDue}
 use Rattle.log_audit.specs.Limits.{Counts, IsTooLong, lines_within, most_line, most_lines}
-use Rattle.log_audit.specs.LogLines.{HasRead, IsAtEnd, IsNext, IsNextLine, IsStop}
-use Rattle.log_audit.specs.Reading.{StopsReading}
+use Rattle.log_audit.specs.inner.LogLines.{HasRead, IsAtEnd, IsNext, IsNextLine, IsStop}
+use Rattle.log_audit.specs.inner.Reading.{StopsReading}
 use Rattle.log_audit.specs.Words.{IsFault}
 use Rattle.log_audit.proofs.Ends.{all-read, count-text, counts-front, ends-fault, ends-too_long, one-line-more, wrong-next}
 use Rattle.log_audit.proofs.LogParts.{few-bytes, lines-counted, told-by}

@@ -15,10 +15,10 @@ use Rattle.log_audit.specs.declared.verdict.Verdict.TheVariants.{No}
 use Rattle.log_audit.specs.declared.verdict.Why.{Why}
 use Rattle.log_audit.specs.declared.verdict.Why.TheVariants.{Spelling, Actor as ToActor, Reply as ToReply, Batch as ToBatch, Seating as ToSeating, Prices as ToPrices, Outcomes as ToOutcomes}
 use Rattle.log_audit.specs.Audit.{IsAnswer, IsLogOf}
-use Rattle.log_audit.specs.Audited.{text_so_far}
-use Rattle.log_audit.specs.Auditing.{GoesOn, HasGrown, IsUncommitted, LeavesDue}
-use Rattle.log_audit.specs.Due.{IsDue, IsDueOf, has_due}
-use Rattle.log_audit.specs.Reading.{HasReadAll, HasReadWrong}
+use Rattle.log_audit.specs.inner.Audited.{text_so_far}
+use Rattle.log_audit.specs.inner.Auditing.{GoesOn, HasGrown, IsUncommitted, LeavesDue}
+use Rattle.log_audit.specs.inner.Due.{IsDue, IsDueOf, has_due}
+use Rattle.log_audit.specs.inner.Reading.{HasReadAll, HasReadWrong}
 use Rattle.log_audit.proofs.Ends.{IsWrongAfter, all-read, ends-wrong-entry}
 use Rattle.log_audit.proofs.Judged.{last-line}
 

@@ -13,9 +13,10 @@ use Rattle.ride_model.specs.State.{State}
 use Rattle.ride_model.specs.Legal.{replay}
 use Rattle.ride_model.specs.Text.{entry_line}
 use Rattle.model_laws.specs.history_laws.Start.{IsStart}
-use Rattle.trip_log.specs.Cuts.{front_of}
+use Rattle.trip_log.specs.inner.Cuts.{front_of}
 use Rattle.trip_log.proofs.TextLemmas.{cut-text, rest-text}
-use Rattle.line_text.specs.line_reader.Reader.{HasNoLf, ReaderState}
+use Rattle.line_text.specs.inner.line_reader.Reader.{ReaderState}
+use Rattle.line_text.specs.line_reader.Reader.{HasNoLf}
 use Rattle.log_audit.specs.declared.verdict.AuditFault.TheVariants.{ReadFault, TooLong}
 use Rattle.board_core.specs.declared.board.totals.Totals.{Totals}
 use Rattle.log_audit.specs.declared.verdict.Verdict.TheVariants.{Yes, No}
@@ -24,7 +25,7 @@ use Rattle.log_audit.specs.declared.verdict.Why.TheVariants.{Spelling, Actor as 
 use Rattle.log_audit.specs.Audit.{Tells, IsLogOf, IsWrongEntry, IsWrongNext, IsAnswer}
 use Rattle.log_audit.specs.Audited.{FailsAfter}
 use Rattle.log_audit.specs.Limits.{most_bytes, most_lines, IsTooLong, lines_within, Counts}
-use Rattle.log_audit.specs.LogLines.{IsAtEnd, IsNextLine, IsStop}
+use Rattle.log_audit.specs.inner.LogLines.{IsAtEnd, IsNextLine, IsStop}
 use Rattle.board_core.specs.Totals.{AreTotalsOf}
 use Rattle.log_audit.specs.Words.{IsFault}
 use Rattle.log_audit.proofs.LogParts.{few-bytes, lines-counted, told-by}

@@ -12,8 +12,8 @@ use Rattle.board_core.specs.Recorded.{Recorded, state_of}
 use Rattle.log_audit.specs.declared.auditor.Auditor.{Auditor}
 use Rattle.log_audit.specs.declared.fault.Fault.{Fault}
 use Rattle.log_audit.specs.declared.verdict.Why.{Why}
-use Rattle.log_audit.specs.Auditing.{GoesOn, IsAuditing, IsJudged, IsLineOf, LeavesDue}
-use Rattle.log_audit.specs.OpenBatches.{AreOpen}
+use Rattle.log_audit.specs.inner.Auditing.{GoesOn, IsAuditing, IsJudged, IsLineOf, LeavesDue}
+use Rattle.log_audit.specs.inner.OpenBatches.{AreOpen}
 use Rattle.log_audit.specs.Words.{IsFault}
 
 -- an audit goes on where its board has the same start, and the same batches are open

@@ -12,11 +12,12 @@ use Rattle.line_text.specs.declared.line_reader.answers.NextLine.TheVariants.{Li
 use Rattle.line_text.specs.declared.line_reader.answers.ReadStop.TheVariants.{SourceFailed as ReadFailed, TooLong as ReadTooLong}
 use Rattle.line_text.specs.declared.line_reader.limits.Limits.{Limits}
 use Rattle.line_text.specs.line_reader.Limits.{IsWithinLimits, lines_within as lines_in}
-use Rattle.line_text.specs.line_reader.Reader.{ReaderState, IsNext as IsNextText, IsAtEnd as IsAtEndText, IsStopped}
+use Rattle.line_text.specs.inner.line_reader.Reader.{ReaderState, IsNext as IsNextText, IsAtEnd as IsAtEndText, IsStopped}
 use Rattle.line_text.proofs.line_reader.LineParts.{lines-within}
 use Rattle.log_audit.specs.declared.verdict.AuditFault.TheVariants.{ReadFault, TooLong}
 use Rattle.log_audit.specs.Limits.{most_bytes, most_lines, IsTooLong, lines_within, log_limits}
-use Rattle.log_audit.specs.LogLines.{HasRead, IsAtEnd, IsNext, IsStop, TakesSome}
+use Rattle.log_audit.specs.LogLines.{TakesSome}
+use Rattle.log_audit.specs.inner.LogLines.{HasRead, IsAtEnd, IsNext, IsStop}
 
 -- what the bytes begin that are told
 pub told-by : (before left : Option (List ℕ)) (read : List ℕ) (P : List ℕ → Type 0) → Reads before left read

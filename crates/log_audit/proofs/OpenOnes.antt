@@ -14,8 +14,8 @@ use Rattle.ride_model.specs.Legal.{after_entry, replay, IsLegal}
 use Rattle.ride_model.specs.Seating.{BatchCopy}
 use Rattle.ride_model.specs.State.{State, has_ended, is_batch, open_batch_of, open_batch_numbered}
 use Rattle.ride_model.specs.Text.{IsOneOrTwo}
-use Rattle.batch_commit.specs.Solved.{SolvedBatch}
-use Rattle.batch_commit.specs.Table.{IsPriceable}
+use Rattle.batch_commit.specs.inner.Solved.{SolvedBatch}
+use Rattle.batch_commit.specs.inner.Table.{IsPriceable}
 use Rattle.model_laws.proofs.plain.Among.{Among, found_among}
 use Rattle.model_laws.proofs.RequestStates.{others-opening, abandon-is}
 use Rattle.model_laws.proofs.history_laws.Untouched.{leaves-step, stays-outcomes}
@@ -23,12 +23,13 @@ use Rattle.model_laws.specs.history_laws.Start.{IsStart}
 use Rattle.model_laws.proofs.history_laws.EveryState.{consistent}
 use Rattle.model_laws.proofs.history_laws.Lookups.{found_by}
 use Rattle.trip_log.proofs.ReadLemmas.{for_one_or_two}
-use Rattle.board_core.specs.Recorded.{Recorded, state_of, fed_entry, end_entry, opened_entry, committed_entry, abandoned_entry}
+use Rattle.board_core.specs.Recorded.{Recorded, state_of, end_entry, opened_entry}
+use Rattle.board_core.specs.inner.Recorded.{fed_entry, committed_entry, abandoned_entry}
 use Rattle.board_core.proofs.Closed.{find-without}
 use Rattle.board_core.proofs.Opened.{open-with}
 use Rattle.board_core.proofs.OpenBatches.{state-push, none-numbered, open-priceable}
 use Rattle.log_audit.specs.declared.open_batches.OpenBatches.{OpenBatches}
-use Rattle.log_audit.specs.OpenBatches.{batch_of, with_batch, AreOpen}
+use Rattle.log_audit.specs.inner.OpenBatches.{batch_of, with_batch, AreOpen}
 
 -- the batch of a desk after that of one was put in or taken out
 pub batch-with : (desk other : ℕ) (batch : Option BatchCopy) (batches : OpenBatches) → IsOneOrTwo desk → IsOneOrTwo other

@@ -17,11 +17,11 @@ use Rattle.ride_model.specs.Vehicle.{ride_ids}
 use Rattle.ride_model.specs.Seating.{BatchCopy, Certifies, IsSeating, find_ride, find_vehicle, seat_cost, seat_offer, vehicle_ids}
 use Rattle.model_laws.proofs.Costs.{offer_plan}
 use Rattle.model_laws.proofs.OfferPrices.{price-le-cost}
-use Rattle.batch_commit.specs.Answer.{IsSeatAt}
-use Rattle.batch_commit.specs.Table.{Table, cell_at, IsLeastOffer, IsTableOf}
+use Rattle.batch_commit.specs.inner.Answer.{IsSeatAt}
+use Rattle.batch_commit.specs.inner.Table.{Table, cell_at, IsLeastOffer, IsTableOf}
 use Rattle.dual_check.proofs.DifferentIds.{element, find-id, same-place}
 use Rattle.log_audit.specs.declared.seating.Placed.{Placed}
-use Rattle.log_audit.specs.Seated.{IsPlaced, ArePlaced}
+use Rattle.log_audit.specs.inner.Seated.{IsPlaced, ArePlaced}
 use Rattle.log_audit.proofs.DearSeats.{pair_price, seats-at-price}
 
 -- the request and the vehicle of a seat that has its places

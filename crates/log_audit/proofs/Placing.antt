@@ -17,7 +17,7 @@ use Rattle.ride_model.specs.Seating.{BatchCopy, find_ride, find_vehicle, seat_of
 use Rattle.ride_model.specs.Vehicle.{ride_ids}
 use Rattle.dual_check.proofs.DifferentIds.{element, find-id}
 use Rattle.log_audit.specs.declared.seating.Placed.{Placed}
-use Rattle.log_audit.specs.Seated.{IsPlaced}
+use Rattle.log_audit.specs.inner.Seated.{IsPlaced}
 
 -- what has no place is not found
 not-found : {X : Type 0} (p : X → Bool) (xs : List X) → position p xs ≡ None → find p xs ≡ None

@@ -9,8 +9,8 @@ use Rattle.log_audit.specs.declared.fault.Fault.{Fault}
 use Rattle.log_audit.specs.declared.verdict.Verdict.TheVariants.{Yes, No}
 use Rattle.log_audit.specs.declared.verdict.Why.TheVariants.{Spelling}
 use Rattle.log_audit.specs.Audit.{IsAnswer}
-use Rattle.log_audit.specs.Audited.{text_so_far}
-use Rattle.log_audit.specs.Reading.{HasReadAll, HasReadWrong}
+use Rattle.log_audit.specs.inner.Audited.{text_so_far}
+use Rattle.log_audit.specs.inner.Reading.{HasReadAll, HasReadWrong}
 use Rattle.log_audit.proofs.Ends.{ends-unfinished, ends-wrong, ends-yes}
 
 module _ (before left : Option (List ℕ)) (start : State) where

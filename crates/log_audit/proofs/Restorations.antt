@@ -19,8 +19,8 @@ use Rattle.log_audit.specs.declared.verdict.Verdict.TheVariants.{No as NoVerdict
 use Rattle.log_audit.specs.declared.verdict.Why.{Why}
 use Rattle.log_audit.specs.declared.verdict.Why.TheVariants.{Spelling}
 use Rattle.log_audit.specs.Audit.{IsAnswer, IsLogOf, IsWrongLine}
-use Rattle.log_audit.specs.Audited.{HasReadNoHead, text_so_far}
-use Rattle.log_audit.specs.Reading.{HasReadAll, HasReadWrong}
+use Rattle.log_audit.specs.inner.Audited.{HasReadNoHead, text_so_far}
+use Rattle.log_audit.specs.inner.Reading.{HasReadAll, HasReadWrong}
 use Rattle.log_audit.specs.Restored.{IsBoardOf, IsHeadOrEnded, IsRestoration, IsSameButRoom, StandsAt}
 use Rattle.log_audit.proofs.AuditSteps.{no-head-answer}
 use Rattle.log_audit.proofs.Ends.{all-read, count-text, ended-rest, whole-text, wrong-ended}

@@ -11,13 +11,14 @@ use Rattle.ride_model.specs.Road.{RoadMap}
 use Rattle.ride_model.specs.Seating.{BatchCopy, Certifies, seating_cost}
 use Rattle.ride_model.specs.State.{State, open_batch_numbered}
 use Rattle.batch_commit.specs.declared.answers.Answer.{Answer}
-use Rattle.batch_commit.specs.Answer.{CertifiesOverCells, undecided}
-use Rattle.batch_commit.specs.Solved.{SolvedBatch}
-use Rattle.batch_commit.specs.Table.{IsTableOf, Table}
-use Rattle.board_core.specs.Recorded.{Recorded, state_of, committed_entry}
+use Rattle.batch_commit.specs.inner.Answer.{CertifiesOverCells, undecided}
+use Rattle.batch_commit.specs.inner.Solved.{SolvedBatch}
+use Rattle.batch_commit.specs.inner.Table.{IsTableOf, Table}
+use Rattle.board_core.specs.Recorded.{Recorded, state_of}
+use Rattle.board_core.specs.inner.Recorded.{committed_entry}
 use Rattle.log_audit.specs.declared.seating.Placed.{Placed}
 use Rattle.log_audit.specs.declared.verdict.Why.TheVariants.{Seating, Prices, Outcomes}
-use Rattle.log_audit.specs.Seated.{ArePlaced, IsSeatedAt}
+use Rattle.log_audit.specs.inner.Seated.{ArePlaced, IsSeatedAt}
 use Rattle.log_audit.specs.Words.{IsFault}
 use Rattle.log_audit.proofs.Legality.{fault-seating, fault-prices, fault-outcomes}
 

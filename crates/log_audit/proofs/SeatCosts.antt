@@ -11,7 +11,7 @@ use Rattle.ride_model.specs.Seating.{BatchCopy, has_seat, seat_cost, seat_offer,
 use Rattle.ride_model.specs.Vehicle.{ride_ids}
 use Rattle.model_laws.proofs.history_laws.Raised.{length-filter-le}
 use Rattle.log_audit.specs.declared.seating.Placed.{Placed}
-use Rattle.log_audit.specs.Seated.{IsPlaced, ArePlaced}
+use Rattle.log_audit.specs.inner.Seated.{IsPlaced, ArePlaced}
 use Rattle.log_audit.proofs.OwnCells.{of-seat, cost-of-seat, no_place}
 
 -- they cost what their offers cost

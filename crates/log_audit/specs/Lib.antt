@@ -1,11 +1,7 @@
 pub mod Limits
 pub mod LogLines
-pub mod OpenBatches
 pub mod Words
-pub mod Seated
 pub mod Audit
-pub mod Auditing
 pub mod Audited
-pub mod Reading
-pub mod Due
 pub mod Restored
+pub mod inner

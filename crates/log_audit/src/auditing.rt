@@ -12,7 +12,7 @@ ghost use Rattle.log_audit.specs.declared.verdict.Verdict.TheVariants.{Yes};
 ghost use Rattle.log_audit.specs.Audit.{IsAnswer, is_read_fault};
 ghost use Rattle.log_audit.specs.Audited.{FailsAfter};
 ghost use Rattle.log_audit.specs.LogLines.{TakesSome};
-ghost use Rattle.log_audit.specs.Reading.{HasReadLog};
+ghost use Rattle.log_audit.specs.inner.Reading.{HasReadLog};
 
 use crate::reading::{Ended, Reading, read_log};
 use crate::{AuditFault, Verdict, Why};

@@ -4,7 +4,7 @@ ghost use Rattle.ride_model.specs.Fleet.{MayStart};
 ghost use Rattle.ride_model.specs.declared.entry.Entry.{Entry};
 ghost use Rattle.ride_model.specs.State.{start_state};
 ghost use Rattle.ride_model.specs.Text.{IsOneOrTwo, entry_line};
-ghost use Rattle.log_audit.specs.Auditing.{IsAuditing, IsJudged, IsLineOf};
+ghost use Rattle.log_audit.specs.inner.Auditing.{IsAuditing, IsJudged, IsLineOf};
 ghost use Rattle.log_audit.specs.Limits.{most_lines};
 
 use crate::Why;

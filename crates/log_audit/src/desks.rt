@@ -7,8 +7,8 @@ ghost use Rattle.ride_model.specs.Legal.{IsNumbered, MayEnd, all_feeds_ended};
 ghost use Rattle.ride_model.specs.State.{has_ended, open_batch_numbered};
 ghost use Rattle.ride_model.specs.Text.{IsOneOrTwo};
 ghost use Rattle.board_core.specs.Recorded.{state_of};
-ghost use Rattle.log_audit.specs.Auditing.{IsAuditing, IsJudged, IsLineOf};
-ghost use Rattle.log_audit.specs.OpenBatches.{with_batch};
+ghost use Rattle.log_audit.specs.inner.Auditing.{IsAuditing, IsJudged, IsLineOf};
+ghost use Rattle.log_audit.specs.inner.OpenBatches.{with_batch};
 
 use crate::Why;
 use crate::auditor::Auditor;

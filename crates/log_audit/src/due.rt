@@ -10,10 +10,10 @@ ghost use Rattle.log_audit.specs.declared.auditor.Auditor.{Auditor};
 ghost use Rattle.log_audit.specs.declared.verdict.AuditFault.TheVariants.{NoMemory, ReadFault};
 ghost use Rattle.log_audit.specs.Audit.{is_read_fault};
 ghost use Rattle.log_audit.specs.Audited.{FailsAfter};
-ghost use Rattle.log_audit.specs.Auditing.{HasGrown, IsAuditing, LeavesDue};
-ghost use Rattle.log_audit.specs.Due.{IsDueOf, has_due};
+ghost use Rattle.log_audit.specs.inner.Auditing.{HasGrown, IsAuditing, LeavesDue};
+ghost use Rattle.log_audit.specs.inner.Due.{IsDueOf, has_due};
 ghost use Rattle.log_audit.specs.LogLines.{TakesSome};
-ghost use Rattle.log_audit.specs.Reading.{HasReadLog, HasReadWrong};
+ghost use Rattle.log_audit.specs.inner.Reading.{HasReadLog, HasReadWrong};
 
 use crate::auditor::Auditor;
 use crate::fault::Fault;

@@ -6,7 +6,7 @@ ghost use Rattle.ride_model.specs.declared.reply.Reply.{Reply};
 ghost use Rattle.ride_model.specs.Legal.{IsNumbered, IsLegalEvent};
 ghost use Rattle.ride_model.specs.State.{has_ended};
 ghost use Rattle.board_core.specs.Recorded.{state_of, end_entry};
-ghost use Rattle.log_audit.specs.Auditing.{IsAuditing, IsJudged, IsLineOf};
+ghost use Rattle.log_audit.specs.inner.Auditing.{IsAuditing, IsJudged, IsLineOf};
 ghost use Rattle.log_audit.specs.Limits.{most_lines};
 
 use crate::Why;

@@ -2,7 +2,8 @@
 ghost use Rattle.std.specs.Prelude.{ℕ, [], List, Option, IfOk, MatchResult};
 ghost use Rattle.ride_ports.specs.Count.{KeepsCount};
 ghost use Rattle.log_audit.specs.Audit.{is_read_fault};
-ghost use Rattle.log_audit.specs.LogLines.{HasRead, IsNext, IsStop, TakesSome};
+ghost use Rattle.log_audit.specs.LogLines.{TakesSome};
+ghost use Rattle.log_audit.specs.inner.LogLines.{HasRead, IsNext, IsStop};
 
 use crate::AuditFault;
 use line_text::line_reader::{Limits, LineReader, NextLine, ReadStop};

@@ -1,7 +1,7 @@
 //! The open batches of a log's desks.
 ghost use Rattle.std.specs.Prelude.{◌≡◌, None, Some};
 ghost use Rattle.ride_model.specs.Text.{IsOneOrTwo};
-ghost use Rattle.log_audit.specs.OpenBatches.{batch_of, with_batch};
+ghost use Rattle.log_audit.specs.inner.OpenBatches.{batch_of, with_batch};
 
 use batch_commit::Batch;
 

@@ -7,11 +7,12 @@ ghost use Rattle.ride_model.specs.State.{start_state};
 ghost use Rattle.ride_model.specs.Text.{IsOneOrTwo, head_line};
 ghost use Rattle.ride_ports.specs.Count.{KeepsCount};
 ghost use Rattle.log_audit.specs.Audit.{is_read_fault};
-ghost use Rattle.log_audit.specs.Audited.{HasReadHead, HasReadNoHead, IsWrongLineAfter, text_so_far};
-ghost use Rattle.log_audit.specs.Auditing.{IsAuditing, LeavesDue};
+ghost use Rattle.log_audit.specs.inner.Audited.{HasReadHead, HasReadNoHead, IsWrongLineAfter, text_so_far};
+ghost use Rattle.log_audit.specs.inner.Auditing.{IsAuditing, LeavesDue};
 ghost use Rattle.log_audit.specs.Limits.{most_line, most_lines};
-ghost use Rattle.log_audit.specs.LogLines.{HasRead, IsStop, TakesSome};
-ghost use Rattle.log_audit.specs.Reading.{HasEnded, HasReadLog, StopsReading};
+ghost use Rattle.log_audit.specs.LogLines.{TakesSome};
+ghost use Rattle.log_audit.specs.inner.LogLines.{HasRead, IsStop};
+ghost use Rattle.log_audit.specs.inner.Reading.{HasEnded, HasReadLog, StopsReading};
 
 use crate::auditor::Auditor;
 use crate::fault::Fault;

@@ -12,7 +12,7 @@ ghost use Rattle.log_audit.specs.declared.verdict.AuditFault.TheVariants.{NoMemo
 ghost use Rattle.log_audit.specs.Audit.{is_read_fault};
 ghost use Rattle.log_audit.specs.Audited.{FailsAfter};
 ghost use Rattle.log_audit.specs.LogLines.{TakesSome};
-ghost use Rattle.log_audit.specs.Reading.{HasReadLog};
+ghost use Rattle.log_audit.specs.inner.Reading.{HasReadLog};
 ghost use Rattle.log_audit.specs.Restored.{IsBoardOf, IsRestoration, IsSameButRoom};
 
 use crate::auditor::Auditor;

@@ -7,10 +7,10 @@ ghost use Rattle.ride_model.specs.declared.vehicle.Vehicle.{Vehicle};
 ghost use Rattle.ride_model.specs.Seating.{has_seat, seat_offer};
 ghost use Rattle.ride_model.specs.Vehicle.{ride_ids};
 ghost use Rattle.ride_model.specs.Limits.{largest_batch};
-ghost use Rattle.batch_commit.specs.Table.{IsPriceable, IsTableOf};
-ghost use Rattle.pricing_workers.specs.Seats.{IsOfferOf, IsWithin};
+ghost use Rattle.batch_commit.specs.inner.Table.{IsPriceable, IsTableOf};
+ghost use Rattle.pricing_workers.specs.inner.Seats.{IsOfferOf, IsWithin};
 ghost use Rattle.log_audit.specs.declared.seating.Placed.{Placed};
-ghost use Rattle.log_audit.specs.Seated.{ArePlaced, IsPlaced, IsSeatedAt};
+ghost use Rattle.log_audit.specs.inner.Seated.{ArePlaced, IsPlaced, IsSeatedAt};
 
 use batch_commit::{Batch, PriceTable};
 use pricing_workers::{Pricer, SeatPlaces, offer_of_seat};

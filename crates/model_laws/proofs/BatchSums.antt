@@ -10,8 +10,10 @@ use Rattle.ride_model.specs.declared.offer.Seat.{Seat}
 use Rattle.ride_model.specs.declared.vehicle.Ride.{Ride}
 use Rattle.ride_model.specs.declared.vehicle.Vehicle.{Vehicle}
 use Rattle.ride_model.specs.Road.{RoadMap, IsRoadMap}
-use Rattle.ride_model.specs.Vehicle.{IsRide, IsRouted, IsFresh, ride_ids}
-use Rattle.ride_model.specs.Seating.{BatchCopy, IsBatchOver, seat_offer, has_seat, IsSeating, seat_cost, seating_cost}
+use Rattle.ride_model.specs.Vehicle.{IsRide, IsRouted, ride_ids}
+use Rattle.ride_model.specs.inner.Vehicle.{IsFresh}
+use Rattle.ride_model.specs.Seating.{BatchCopy, seat_offer, has_seat, IsSeating, seat_cost, seating_cost}
+use Rattle.ride_model.specs.inner.Seating.{IsBatchOver}
 use Rattle.model_laws.proofs.plain.Among.{contains_from_among}
 use Rattle.model_laws.proofs.Certificates.{seat_facts}
 use Rattle.model_laws.proofs.Costs.{cost-lt}

@@ -12,14 +12,15 @@ use Rattle.ride_model.specs.declared.vehicle.Stop.{Stop}
 use Rattle.ride_model.specs.declared.vehicle.Vehicle.{Vehicle}
 use Rattle.ride_model.specs.Road.{RoadMap, IsRoadMap, travel}
 use Rattle.ride_model.specs.Settings.{IsSettings}
-use Rattle.ride_model.specs.Vehicle.{IsRide, ride_ids, IsFresh, IsRouted}
+use Rattle.ride_model.specs.Vehicle.{IsRide, ride_ids, IsRouted}
+use Rattle.ride_model.specs.inner.Vehicle.{IsFresh}
 use Rattle.ride_model.specs.Times.{times_from, times_of, drive_of, visits_of}
 use Rattle.ride_model.specs.Loads.{loads_fit}
 use Rattle.ride_model.specs.Keeps.{is_pickup_at, is_dropoff_at, keeps_visits, keeps_ride, keeps}
 use Rattle.ride_model.specs.Insertion.{routed, stops_with, stops_without, inserted}
 use Rattle.ride_model.specs.Offers.{start_of, is_open, cost_of, joins_of, offer_of_plan, offer_of}
 use Rattle.model_laws.proofs.plain.Among.{Among, among_from_contains, contains_from_among, among_filter, among_filter_back, among_map_back}
-use Rattle.model_laws.specs.Sooner.{AllSooner}
+use Rattle.model_laws.specs.inner.Sooner.{AllSooner}
 use Rattle.model_laws.proofs.Routes.{with_leg, routed-own, of_ride, visits_from}
 use Rattle.model_laws.proofs.PlanStops.{unlegged, unlegged-routed}
 use Rattle.model_laws.proofs.Removal.{is_other, route_without}

@@ -9,7 +9,8 @@ use Rattle.ride_model.specs.declared.vehicle.Ride.{Ride}
 use Rattle.ride_model.specs.declared.vehicle.Stop.{Stop}
 use Rattle.ride_model.specs.declared.vehicle.Vehicle.{Vehicle}
 use Rattle.ride_model.specs.Road.{RoadMap}
-use Rattle.ride_model.specs.Vehicle.{IsRide, visits_due, visit_of, stops_of, ride_ids, IsFresh, IsPlanFor, IsRouted}
+use Rattle.ride_model.specs.Vehicle.{IsRide, visits_due, visit_of, stops_of, ride_ids, IsPlanFor, IsRouted}
+use Rattle.ride_model.specs.inner.Vehicle.{IsFresh}
 use Rattle.ride_model.specs.Insertion.{routed, pickup_of, dropoff_of, stops_with, with_plan, inserted, stops_without}
 use Rattle.model_laws.proofs.plain.Among.{Among, among_from_contains, contains_from_among}
 use Rattle.model_laws.proofs.plain.Each.{each-append, each-take, each-drop}

@@ -14,7 +14,7 @@ use Rattle.ride_model.specs.Times.{visits_of}
 use Rattle.ride_model.specs.Keeps.{is_pickup_at, is_dropoff_at, keeps_visits, keeps_ride, breaks_visits, breaks_ride}
 use Rattle.ride_model.specs.Insertion.{routed, with_plan, stops_without, rides_without, without_ride}
 use Rattle.model_laws.proofs.TravelTimes.{travel-same}
-use Rattle.model_laws.specs.Sooner.{AllSooner}
+use Rattle.model_laws.specs.inner.Sooner.{AllSooner}
 use Rattle.model_laws.proofs.Routes.{routed-has_legs, of_ride, sooner-filter, visits_from, ShorterRoute, shorter_route}
 use Rattle.model_laws.proofs.PlanStops.{unlegged-routed, plan-same, plan-without}
 use Rattle.model_laws.proofs.AboardLoads.{fits_throughout, loads_fit-throughout, fits-without, filter-skipped}

@@ -10,7 +10,7 @@ use Rattle.ride_model.specs.declared.reply.RequestState.TheVariants.{Waiting, In
 use Rattle.ride_model.specs.declared.vehicle.Ride.{Ride}
 use Rattle.ride_model.specs.Seating.{BatchCopy}
 use Rattle.ride_model.specs.State.{State, AcceptedRequest, request_state, with_request_state, is_batch}
-use Rattle.model_laws.specs.Requests.{is_of, is_in}
+use Rattle.model_laws.specs.inner.Requests.{is_of, is_in}
 use Rattle.ride_model.specs.Batch.{with_request_states, after_opening, standing_rides, without_batch, after_abandon}
 
 -- a request in a state, where its id passes

@@ -8,7 +8,7 @@ use Rattle.ride_model.specs.Road.{RoadMap, IsRoadMap, travel}
 use Rattle.ride_model.specs.Vehicle.{HasLegs}
 use Rattle.ride_model.specs.Times.{times_from}
 use Rattle.ride_model.specs.Insertion.{routed}
-use Rattle.model_laws.specs.Sooner.{AllSooner}
+use Rattle.model_laws.specs.inner.Sooner.{AllSooner}
 use Rattle.model_laws.proofs.TravelTimes.{travel-same, triangle}
 
 -- a stop with another leg

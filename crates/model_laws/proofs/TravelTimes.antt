@@ -11,7 +11,8 @@ use Rattle.std.proofs.lemmas.Map.Steps.{length-le_from_distinct_below}
 use Rattle.std.proofs.lemmas.Map.Keys.{IsDistinct-cons, IsDistinct-tail}
 use Rattle.std.proofs.lemmas.Option.{same_Some}
 use Rattle.ride_model.specs.declared.network.RoadArc.{RoadArc}
-use Rattle.ride_model.specs.Road.{RoadMap, IsArc, IsRoadMap, IsWalk, IsLeastWeight, IsTravel, weight_of, travel, travel_within}
+use Rattle.ride_model.specs.Road.{RoadMap, IsArc, IsRoadMap, travel, travel_within}
+use Rattle.ride_model.specs.inner.Road.{IsWalk, IsLeastWeight, IsTravel, weight_of}
 use Rattle.model_laws.proofs.Walks.{weight-cons, within-same, within_is_walked, within_is_least, walk-append}
 
 -- the nodes that a walk leaves

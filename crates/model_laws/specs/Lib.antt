@@ -1,3 +1,2 @@
-pub mod Sooner
-pub mod Requests
 pub mod history_laws
+pub mod inner

@@ -1,4 +1,1 @@
 pub mod Start
-pub mod Consistent
-pub mod Closing
-pub mod Finishing

@@ -4,7 +4,7 @@ ghost use Rattle.ride_model.specs.declared.reply.RequestState.TheVariants.{Waiti
 ghost use Rattle.ride_model.specs.Seating.{BatchCopy};
 ghost use Rattle.ride_model.specs.State.{State, AcceptedRequest, request_state};
 ghost use Rattle.ride_model.specs.Batch.{waiting_rides, next_batch, after_opening, after_abandon};
-ghost use Rattle.model_laws.specs.Requests.{is_of, is_in};
+ghost use Rattle.model_laws.specs.inner.Requests.{is_of, is_in};
 
 /// A batch takes the first waiting requests, in order of acceptance, and copies of all vehicles.
 pub fn opening_takes_the_first_waiting()

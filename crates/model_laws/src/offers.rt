@@ -7,11 +7,13 @@ ghost use Rattle.ride_model.specs.declared.vehicle.Ride.{Ride};
 ghost use Rattle.ride_model.specs.declared.vehicle.Vehicle.{Vehicle};
 ghost use Rattle.ride_model.specs.Road.{RoadMap, IsRoadMap};
 ghost use Rattle.ride_model.specs.Settings.{IsSettings};
-ghost use Rattle.ride_model.specs.Vehicle.{IsRide, IsFresh, IsRouted};
+ghost use Rattle.ride_model.specs.Vehicle.{IsRide, IsRouted};
+ghost use Rattle.ride_model.specs.inner.Vehicle.{IsFresh};
 ghost use Rattle.ride_model.specs.Times.{drive_of};
 ghost use Rattle.ride_model.specs.Insertion.{inserted};
 ghost use Rattle.ride_model.specs.Offers.{offer_of, price};
-ghost use Rattle.ride_model.specs.Seating.{BatchCopy, IsBatchOver, IsSeating, seating_cost};
+ghost use Rattle.ride_model.specs.Seating.{BatchCopy, IsSeating, seating_cost};
+ghost use Rattle.ride_model.specs.inner.Seating.{IsBatchOver};
 
 /// A plan with a ride more drives no less, so that no cost is cut off at 0.
 pub fn insertion_drives_no_less()

@@ -3,11 +3,12 @@ ghost use Rattle.std.specs.Prelude.{◌≡◌, ◌≤◌, ◌+◌, ℕ, List, le
 ghost use Rattle.ride_model.specs.declared.vehicle.Ride.{Ride};
 ghost use Rattle.ride_model.specs.declared.vehicle.Vehicle.{Vehicle};
 ghost use Rattle.ride_model.specs.Road.{RoadMap, IsRoadMap};
-ghost use Rattle.ride_model.specs.Vehicle.{IsRide, IsFresh, IsPlanFor, IsRouted, IsLawful};
+ghost use Rattle.ride_model.specs.Vehicle.{IsRide, IsPlanFor, IsRouted, IsLawful};
+ghost use Rattle.ride_model.specs.inner.Vehicle.{IsFresh};
 ghost use Rattle.ride_model.specs.Times.{visits_of};
 ghost use Rattle.ride_model.specs.Keeps.{keeps_ride, breaks_ride};
 ghost use Rattle.ride_model.specs.Insertion.{stops_with, stops_without, inserted, without_ride};
-ghost use Rattle.model_laws.specs.Sooner.{AllSooner};
+ghost use Rattle.model_laws.specs.inner.Sooner.{AllSooner};
 
 /// With a ride more the other stops keep their order.
 pub fn insertion_keeps_the_other_stops()

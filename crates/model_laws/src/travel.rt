@@ -1,6 +1,7 @@
 //! Travel times are the least weights of walks.
 ghost use Rattle.std.specs.Prelude.{◌≡◌, ◌≤◌, ◌+◌, ℕ, Option, Some, IsSomeAnd};
-ghost use Rattle.ride_model.specs.Road.{RoadMap, IsRoadMap, IsTravel, travel};
+ghost use Rattle.ride_model.specs.Road.{RoadMap, IsRoadMap, travel};
+ghost use Rattle.ride_model.specs.inner.Road.{IsTravel};
 
 /// The travel time is the least weight of a walk, and absent exactly where there is no walk.
 pub fn travel_is_least_weight()

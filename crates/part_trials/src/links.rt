@@ -1,6 +1,6 @@
 //! Short lists over six nodes, walked from their first nodes.
 ghost use Rattle.std.specs.Prelude.{◌≡◌, ◌<◌, length};
-ghost use Rattle.link_lists.specs.Family.{IsSameSize};
+ghost use Rattle.link_lists.specs.inner.Family.{IsSameSize};
 
 use link_lists::*;
 use std::alloc::Global;

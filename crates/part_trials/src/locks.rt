@@ -1,7 +1,7 @@
 //! A lock whose passes write numbers at the same time.
 ghost use Rattle.std.specs.Prelude.{◌≡◌, ◌<◌, ◌≤◌, ◌^◌, [], length, OnOk};
 ghost use Rattle.std.specs.Thread.{IsSync};
-ghost use Rattle.turn_lock.specs.History.{GrowsByOne};
+ghost use Rattle.turn_lock.specs.inner.History.{GrowsByOne};
 ghost use Rattle.turn_lock.specs.Passes.{MayEnter, HasRoot, knowledge};
 
 use std::alloc::{AllocError, Global};

@@ -1,7 +1,7 @@
 //! Requests 5, 7 and 3, accepted in this order, and what becomes of them.
 ghost use Rattle.std.specs.Prelude.{◌≡◌, ◌∷◌, [], ◌++◌, None, length, ◌<◌};
 ghost use Rattle.ride_model.specs.declared.reply.RequestState.TheVariants.{Waiting};
-ghost use Rattle.board_core.specs.request_book.Book.{request_of};
+ghost use Rattle.board_core.specs.inner.request_book.Book.{request_of};
 ghost use Rattle.part_trials.specs.SmallRequests.{row_ride, row_request};
 
 use board_core::request_book::RequestBook;

@@ -14,17 +14,18 @@ use Rattle.ride_model.specs.Loads.{loads_fit}
 use Rattle.ride_model.specs.Insertion.{inserted}
 use Rattle.ride_model.specs.Offers.{start_of, is_open, cost_of, joins_of, offer_of_plan, offer_of}
 use Rattle.ride_model.specs.Road.{RoadMap, IsNode}
-use Rattle.ride_model.specs.Vehicle.{IsRide, IsFresh, IsLawful, HasLegs, ride_ids}
+use Rattle.ride_model.specs.Vehicle.{IsRide, IsLawful, HasLegs, ride_ids}
+use Rattle.ride_model.specs.inner.Vehicle.{IsFresh}
 use Rattle.model_laws.proofs.plain.Among.{Among, among_from_contains, among_map_back}
 use Rattle.model_laws.proofs.plain.Each.{of_each, of_all}
 use Rattle.model_laws.proofs.Insertions.{inserted_facts}
 use Rattle.model_laws.proofs.PlanStops.{stop-of-ride, stop-at-node}
-use Rattle.stop_plans.specs.Change.{InsertsInto}
+use Rattle.stop_plans.specs.inner.Change.{InsertsInto}
 use Rattle.plan_trials.specs.SmallPlans.{four_nodes}
 use Rattle.plan_trials.proofs.SmallPlans.{map_fits}
 use Rattle.plan_trials.specs.LineRoad.{is_ride}
 use Rattle.plan_trials.proofs.LineRoad.{travel-in-line, a_ride}
-use Rattle.insertion.specs.Asked.{near_stop, IsAsked}
+use Rattle.insertion.specs.inner.Asked.{near_stop, IsAsked}
 use Rattle.plan_trials.specs.NearInLine.{near_stop_in_line, near_in_line, are_settings}
 use Rattle.model_laws.proofs.FewRides.{few-rides}
 use Rattle.insertion.proofs.OfferLaws.{ArePlaces, are-places, length-inserted, new-routed, goes-into}

@@ -10,9 +10,10 @@ use Rattle.ride_model.specs.declared.vehicle.Ride.{Ride}
 use Rattle.ride_model.specs.declared.vehicle.Stop.{Stop}
 use Rattle.ride_model.specs.declared.vehicle.Vehicle.{Vehicle}
 use Rattle.ride_model.specs.Road.{IsNode, travel, travel_within}
-use Rattle.ride_model.specs.Vehicle.{IsRide, IsRouted, IsLawful, IsLawfulSomewhere, IsRoutedSomewhere, HasLegs, visits_due, visit_of, stops_of, ride_ids}
+use Rattle.ride_model.specs.Vehicle.{IsRide, IsRouted, IsLawful, HasLegs, visits_due, visit_of, stops_of, ride_ids}
+use Rattle.ride_model.specs.inner.Vehicle.{IsLawfulSomewhere, IsRoutedSomewhere}
 use Rattle.ride_model.specs.Loads.{loads_fit}
-use Rattle.stop_plans.specs.First.{is_kind}
+use Rattle.stop_plans.specs.inner.First.{is_kind}
 use Rattle.plan_trials.specs.SmallPlans.{four_nodes}
 use Rattle.plan_trials.proofs.SmallPlans.{map_fits}
 use Rattle.plan_trials.specs.LineRoad.{seconds_between, is_node, is_ride, picked_by, is_new, all_new, same_visits, has_legs, is_routed, is_lawful}

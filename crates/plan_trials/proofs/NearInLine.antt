@@ -14,7 +14,7 @@ use Rattle.plan_trials.specs.SmallPlans.{four_nodes}
 use Rattle.plan_trials.proofs.SmallPlans.{map_fits}
 use Rattle.plan_trials.specs.LineRoad.{seconds_between, is_node, is_ride, is_new, has_legs, is_lawful}
 use Rattle.plan_trials.proofs.LineRoad.{travel-in-line, a_node, a_ride, fresh, lawful, legs-tested}
-use Rattle.insertion.specs.Asked.{near_stop, IsAsked}
+use Rattle.insertion.specs.inner.Asked.{near_stop, IsAsked}
 use Rattle.plan_trials.specs.NearInLine.{near_stop_in_line, near_in_line, are_settings, may_be_asked}
 
 near_stops : (ride : Ride) (at : ℕ) (stops : List Stop) → IsNode four_nodes ride.from → IsNode four_nodes ride.to → has_legs at stops ≡ true

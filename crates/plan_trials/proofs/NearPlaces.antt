@@ -2,10 +2,10 @@
 use Rattle.std.proofs.Common.{ℕ, zero, suc, ◌≤◌, refl, arith}
 use Rattle.std.specs.Prelude.{None}
 use Rattle.ride_model.specs.Road.{travel, travel_within}
-use Rattle.ride_model.specs.Vehicle.{IsFresh}
+use Rattle.ride_model.specs.inner.Vehicle.{IsFresh}
 use Rattle.plan_trials.specs.SmallPlans.{four_nodes, ride_of, promised}
 use Rattle.plan_trials.proofs.SmallPlans.{map_fits, promised_is_lawful, ride_9}
-use Rattle.insertion.specs.Asked.{IsAsked}
+use Rattle.insertion.specs.inner.Asked.{IsAsked}
 use Rattle.plan_trials.specs.NearPlaces.{settings_of, near_3_to_4}
 
 pub asked : (wait dwell : ℕ) → wait ≤ 1000 → dwell ≤ 3600

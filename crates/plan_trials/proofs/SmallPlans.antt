@@ -7,8 +7,9 @@ use Rattle.ride_model.specs.declared.vehicle.Ride.{Ride}
 use Rattle.ride_model.specs.declared.vehicle.Stop.{Stop}
 use Rattle.ride_model.specs.declared.vehicle.Vehicle.{Vehicle}
 use Rattle.ride_model.specs.Road.{IsRoadMap, IsArc, travel, travel_within}
-use Rattle.ride_model.specs.Vehicle.{IsRide, IsLawful, IsLawfulSomewhere, visit_of, visits_due, stops_of, ride_ids, IsFresh}
-use Rattle.stop_plans.specs.Change.{InsertsInto, RemovesFrom}
+use Rattle.ride_model.specs.Vehicle.{IsRide, IsLawful, visit_of, visits_due, stops_of, ride_ids}
+use Rattle.ride_model.specs.inner.Vehicle.{IsLawfulSomewhere, IsFresh}
+use Rattle.stop_plans.specs.inner.Change.{InsertsInto, RemovesFrom}
 use Rattle.plan_trials.specs.SmallPlans.{arc, four_nodes, ride_of, pickup_at, dropoff_at, promised, pooled, arrived, carrying, pooling}
 
 fits : (tail head : ℕ) → 1 ≤ tail → tail ≤ 4 → 1 ≤ head → head ≤ 4 → IsArc four_nodes (arc tail head)

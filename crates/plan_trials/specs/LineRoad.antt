@@ -8,7 +8,7 @@ use Rattle.ride_model.specs.declared.vehicle.Stop.{Stop}
 use Rattle.ride_model.specs.declared.vehicle.Vehicle.{Vehicle}
 use Rattle.ride_model.specs.Loads.{loads_fit}
 use Rattle.ride_model.specs.Vehicle.{visits_due, visit_of, stops_of, ride_ids}
-use Rattle.stop_plans.specs.First.{is_kind}
+use Rattle.stop_plans.specs.inner.First.{is_kind}
 
 -- the seconds between two nodes
 abbrev pub seconds_between : ℕ → ℕ → ℕ

@@ -1,6 +1,6 @@
 // One ride on a road of four nodes, a minute between neighbours.
 ghost use Rattle.std.specs.Prelude.{◌≡◌, ◌≤◌, length, true, IsTrue};
-ghost use Rattle.ride_model.specs.Vehicle.{IsRoutedSomewhere, IsLawfulSomewhere};
+ghost use Rattle.ride_model.specs.inner.Vehicle.{IsRoutedSomewhere, IsLawfulSomewhere};
 ghost use Rattle.plan_trials.specs.OneRide.{on_the_way, with_rider};
 ghost use Rattle.plan_trials.specs.LineRoad.{vehicle_with, is_routed, is_lawful};
 

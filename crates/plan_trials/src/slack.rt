@@ -3,7 +3,7 @@ ghost use Rattle.std.specs.Prelude.{◌≡◌, ◌≤◌, length, IfSome, IsTrue
 ghost use Rattle.ride_model.specs.declared.offer.Offer.{Offer};
 ghost use Rattle.ride_model.specs.Offers.{offer_of};
 ghost use Rattle.plan_trials.specs.SmallPlans.{four_nodes};
-ghost use Rattle.insertion.specs.Asked.{IsAsked};
+ghost use Rattle.insertion.specs.inner.Asked.{IsAsked};
 ghost use Rattle.plan_trials.specs.LineRoad.{is_lawful, vehicle_with};
 ghost use Rattle.plan_trials.specs.NearInLine.{near_in_line, may_be_asked};
 

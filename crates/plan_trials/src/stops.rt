@@ -1,6 +1,6 @@
 // Plans of a vehicle on a road of four nodes, a minute between neighbours.
 ghost use Rattle.std.specs.Prelude.{◌≡◌, ◌≤◌, length};
-ghost use Rattle.ride_model.specs.Vehicle.{IsRoutedSomewhere, IsLawfulSomewhere};
+ghost use Rattle.ride_model.specs.inner.Vehicle.{IsRoutedSomewhere, IsLawfulSomewhere};
 ghost use Rattle.plan_trials.specs.SmallPlans.{ride_of, pickup_at, dropoff_at, vehicle_of, promised, pooled, arrived, carrying};
 
 use super::line_road::{copy_of_rides, copy_of_stops};

@@ -8,8 +8,8 @@ use Rattle.ride_model.specs.declared.offer.Offer.{Offer}
 use Rattle.ride_model.specs.declared.vehicle.Ride.{Ride}
 use Rattle.ride_model.specs.Road.{RoadMap}
 use Rattle.ride_model.specs.Seating.{BatchCopy}
-use Rattle.batch_commit.specs.Table.{Table, IsTableOf}
-use Rattle.pricing_workers.specs.Cells.{IsCellOf, AreRowsOf}
+use Rattle.batch_commit.specs.inner.Table.{Table, IsTableOf}
+use Rattle.pricing_workers.specs.inner.Cells.{IsCellOf, AreRowsOf}
 
 -- rows after rows
 pub rows-append : (roads : RoadMap) (batch : BatchCopy) (xs ys : List Ride) (cs ds : List (Option Offer))

@@ -6,7 +6,7 @@ use Rattle.std.proofs.lemmas.List.{get_or_append_left, get_or-append-add, get_or
 use Rattle.ride_model.specs.declared.vehicle.Ride.{Ride}
 use Rattle.ride_model.specs.Road.{RoadMap}
 use Rattle.pricing_workers.specs.declared.times.Times.{Times}
-use Rattle.pricing_workers.specs.Rows.{HasRows, HoldsRows, HoldTimes}
+use Rattle.pricing_workers.specs.inner.Rows.{HasRows, HoldsRows, HoldTimes}
 use Rattle.pricing_workers.proofs.RowTimes.{rows-room}
 
 -- times of some rides and then of others

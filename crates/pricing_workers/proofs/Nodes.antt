@@ -9,7 +9,7 @@ use Rattle.ride_model.specs.Road.{RoadMap, IsNode}
 use Rattle.ride_model.specs.Vehicle.{IsLawful}
 use Rattle.model_laws.proofs.plain.Each.{each-among}
 use Rattle.model_laws.proofs.PlanStops.{stop-at-node}
-use Rattle.pricing_workers.specs.Wanted.{nodes_of, all_nodes}
+use Rattle.pricing_workers.specs.inner.Wanted.{nodes_of, all_nodes}
 
 -- the nodes of a lawful vehicle
 nodes-of-on-map : (roads : RoadMap) (v : Vehicle) → IsLawful roads v → All (IsNode roads) (nodes_of v)

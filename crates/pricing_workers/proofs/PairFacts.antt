@@ -8,18 +8,19 @@ use Rattle.ride_model.specs.declared.vehicle.Vehicle.{Vehicle}
 use Rattle.ride_model.specs.Offers.{start_of, offer_of, price}
 use Rattle.ride_model.specs.Road.{RoadMap}
 use Rattle.ride_model.specs.Seating.{BatchCopy}
-use Rattle.ride_model.specs.Vehicle.{IsFresh, IsLawful}
+use Rattle.ride_model.specs.Vehicle.{IsLawful}
+use Rattle.ride_model.specs.inner.Vehicle.{IsFresh}
 use Rattle.insertion.specs.declared.near.Near.{Near}
-use Rattle.insertion.specs.Asked.{HoldsTimes, IsAsked}
-use Rattle.insertion.specs.Least.{cost_if_any}
-use Rattle.slack_tables.specs.SlackOf.{slack_of}
+use Rattle.insertion.specs.inner.Asked.{HoldsTimes, IsAsked}
+use Rattle.insertion.specs.inner.Least.{cost_if_any}
+use Rattle.slack_tables.specs.inner.SlackOf.{slack_of}
 use Rattle.pricing_workers.specs.declared.times.Times.{Times}
 use Rattle.pricing_workers.specs.declared.wanted.Plan.{Plan}
 use Rattle.pricing_workers.specs.declared.wanted.Wanted.{Wanted}
-use Rattle.pricing_workers.specs.Cells.{IsCellOf}
-use Rattle.pricing_workers.specs.Pairs.{MayPrice}
-use Rattle.pricing_workers.specs.Rows.{HoldsAt, HoldsRows, IsWide}
-use Rattle.pricing_workers.specs.Wanted.{all_nodes, plan_at}
+use Rattle.pricing_workers.specs.inner.Cells.{IsCellOf}
+use Rattle.pricing_workers.specs.inner.Pairs.{MayPrice}
+use Rattle.pricing_workers.specs.inner.Rows.{HoldsAt, HoldsRows, IsWide}
+use Rattle.pricing_workers.specs.inner.Wanted.{all_nodes, plan_at}
 use Rattle.pricing_workers.proofs.RowTimes.{nodes-fit, rows-wide, holds-at}
 
 -- the rows hold the vehicle's times from its first node on, and its tables are those of the batch

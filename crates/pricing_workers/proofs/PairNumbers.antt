@@ -13,9 +13,9 @@ use Rattle.ride_model.specs.Road.{RoadMap}
 use Rattle.ride_model.specs.Seating.{BatchCopy}
 use Rattle.pricing_workers.specs.declared.times.Times.{Times}
 use Rattle.pricing_workers.specs.declared.wanted.Wanted.{Wanted}
-use Rattle.pricing_workers.specs.Cells.{IsCellOf, ArePairsOf, AreRowsOf}
-use Rattle.pricing_workers.specs.Pairs.{IsRequest, MayPrice, MayPriceAll}
-use Rattle.pricing_workers.specs.Rows.{HoldsRows}
+use Rattle.pricing_workers.specs.inner.Cells.{IsCellOf, ArePairsOf, AreRowsOf}
+use Rattle.pricing_workers.specs.inner.Pairs.{IsRequest, MayPrice, MayPriceAll}
+use Rattle.pricing_workers.specs.inner.Rows.{HoldsRows}
 
 some-columns : (pair columns rows : ℕ) → pair < rows * columns → 0 < columns
 some-columns pair zero rows low = omega (arith, low)

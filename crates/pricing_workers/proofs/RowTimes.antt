@@ -10,10 +10,10 @@ use Rattle.ride_model.specs.declared.vehicle.Ride.{Ride}
 use Rattle.ride_model.specs.declared.vehicle.Stop.{Stop}
 use Rattle.ride_model.specs.declared.vehicle.Vehicle.{Vehicle}
 use Rattle.ride_model.specs.Road.{RoadMap, travel}
-use Rattle.insertion.specs.Asked.{near_stop}
+use Rattle.insertion.specs.inner.Asked.{near_stop}
 use Rattle.pricing_workers.specs.declared.times.Times.{Times}
-use Rattle.pricing_workers.specs.Rows.{HasRows, HoldsRows, HoldsAt, IsWide, near_at, near_node}
-use Rattle.pricing_workers.specs.Wanted.{nodes_of, all_nodes}
+use Rattle.pricing_workers.specs.inner.Rows.{HasRows, HoldsRows, HoldsAt, IsWide, near_at, near_node}
+use Rattle.pricing_workers.specs.inner.Wanted.{nodes_of, all_nodes}
 
 -- a row's time at a place is that of the node there
 row-at : (f : ℕ → Option ℕ) (nodes : List ℕ) (row : List (Option ℕ)) (k : ℕ) → row ≡ map f nodes → k < length nodes

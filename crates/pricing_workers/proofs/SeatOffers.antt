@@ -6,13 +6,15 @@ use Rattle.std.proofs.lemmas.List.Elements.{All-get_or, All-from_recursion}
 use Rattle.ride_model.specs.declared.vehicle.Ride.{Ride}
 use Rattle.ride_model.specs.declared.vehicle.Vehicle.{Vehicle}
 use Rattle.ride_model.specs.Road.{RoadMap, IsRoadMap, IsNode}
-use Rattle.ride_model.specs.Seating.{BatchCopy, IsBatchOver}
-use Rattle.ride_model.specs.Vehicle.{IsFresh, IsLawful, IsRide}
+use Rattle.ride_model.specs.Seating.{BatchCopy}
+use Rattle.ride_model.specs.inner.Seating.{IsBatchOver}
+use Rattle.ride_model.specs.Vehicle.{IsLawful, IsRide}
+use Rattle.ride_model.specs.inner.Vehicle.{IsFresh}
 use Rattle.insertion.specs.declared.near.Near.{Near}
-use Rattle.insertion.specs.Asked.{HoldsTimes, IsAsked}
+use Rattle.insertion.specs.inner.Asked.{HoldsTimes, IsAsked}
 use Rattle.pricing_workers.specs.declared.times.Times.{Times}
-use Rattle.pricing_workers.specs.Rows.{HoldsAt, HoldsRows}
-use Rattle.pricing_workers.specs.Wanted.{nodes_of, all_nodes}
+use Rattle.pricing_workers.specs.inner.Rows.{HoldsAt, HoldsRows}
+use Rattle.pricing_workers.specs.inner.Wanted.{nodes_of, all_nodes}
 use Rattle.pricing_workers.proofs.Nodes.{nodes-on-map}
 use Rattle.pricing_workers.proofs.RowTimes.{holds-at}
 

@@ -7,9 +7,11 @@ use Rattle.ride_model.specs.declared.vehicle.Ride.{Ride}
 use Rattle.ride_model.specs.declared.vehicle.Vehicle.{Vehicle}
 use Rattle.ride_model.specs.Offers.{price}
 use Rattle.ride_model.specs.Road.{RoadMap, IsRoadMap}
-use Rattle.ride_model.specs.Seating.{BatchCopy, IsBatchOver}
-use Rattle.ride_model.specs.Vehicle.{IsRide, IsFresh, IsRouted}
-use Rattle.batch_commit.specs.Table.{Table, cell_at, HasSmallCosts, IsLeastOffer, IsTableOf}
+use Rattle.ride_model.specs.Seating.{BatchCopy}
+use Rattle.ride_model.specs.inner.Seating.{IsBatchOver}
+use Rattle.ride_model.specs.Vehicle.{IsRide, IsRouted}
+use Rattle.ride_model.specs.inner.Vehicle.{IsFresh}
+use Rattle.batch_commit.specs.inner.Table.{Table, cell_at, HasSmallCosts, IsLeastOffer, IsTableOf}
 use Rattle.model_laws.proofs.Costs.{cost-lt}
 
 -- an element of a list that has one

@@ -7,10 +7,10 @@ use Rattle.std.proofs.Math.Seq.{get_or-append_seam, take-append_seam}
 use Rattle.ride_model.specs.declared.settings.Settings.{Settings}
 use Rattle.ride_model.specs.declared.vehicle.Vehicle.{Vehicle}
 use Rattle.ride_model.specs.Offers.{start_of}
-use Rattle.slack_tables.specs.SlackOf.{slack_of}
+use Rattle.slack_tables.specs.inner.SlackOf.{slack_of}
 use Rattle.pricing_workers.specs.declared.wanted.Plan.{Plan}
 use Rattle.pricing_workers.specs.declared.wanted.Wanted.{Wanted}
-use Rattle.pricing_workers.specs.Wanted.{IsWanted, all_nodes, nodes_of, plan_at}
+use Rattle.pricing_workers.specs.inner.Wanted.{IsWanted, all_nodes, nodes_of, plan_at}
 
 -- one vehicle more: its nodes are added, and its plan follows those before it
 pub wanted-more : (settings : Settings) (time : ℕ) (vehicles : List Vehicle) (vehicle : Vehicle) (old new : Wanted)

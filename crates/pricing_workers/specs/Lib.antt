@@ -1,5 +1,1 @@
-pub mod Cells
-pub mod Pairs
-pub mod Rows
-pub mod Seats
-pub mod Wanted
+pub mod inner

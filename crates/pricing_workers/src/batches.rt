@@ -2,8 +2,8 @@
 ghost use Rattle.std.specs.Prelude.{◌≡◌, All, IfOk};
 ghost use Rattle.std.specs.Result.{OnOk};
 ghost use Rattle.ride_model.specs.Road.{IsNode, IsRoadMap};
-ghost use Rattle.batch_commit.specs.Table.{HasSmallCosts, IsPriceable, IsTableOf};
-ghost use Rattle.pricing_workers.specs.Pairs.{MayFill};
+ghost use Rattle.batch_commit.specs.inner.Table.{HasSmallCosts, IsPriceable, IsTableOf};
+ghost use Rattle.pricing_workers.specs.inner.Pairs.{MayFill};
 
 use crate::cells::{Job, table_of};
 use crate::pairs::Search;

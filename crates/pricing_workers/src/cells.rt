@@ -1,11 +1,11 @@
 //! The cells of a batch, some requests at a time.
 ghost use Rattle.std.specs.Prelude.{◌≡◌, ◌+◌, ◌*◌, ◌^◌, ◌<◌, ◌≤◌, length, All, IfOk};
 ghost use Rattle.ride_model.specs.Limits.{largest_batch};
-ghost use Rattle.ride_model.specs.Seating.{IsBatchOver};
-ghost use Rattle.batch_commit.specs.Table.{IsTableOf};
-ghost use Rattle.pricing_workers.specs.Cells.{ArePairsOf, AreRowsOf};
-ghost use Rattle.pricing_workers.specs.Pairs.{IsRequest, MayFill, MayPriceAll};
-ghost use Rattle.pricing_workers.specs.Rows.{HasRows};
+ghost use Rattle.ride_model.specs.inner.Seating.{IsBatchOver};
+ghost use Rattle.batch_commit.specs.inner.Table.{IsTableOf};
+ghost use Rattle.pricing_workers.specs.inner.Cells.{ArePairsOf, AreRowsOf};
+ghost use Rattle.pricing_workers.specs.inner.Pairs.{IsRequest, MayFill, MayPriceAll};
+ghost use Rattle.pricing_workers.specs.inner.Rows.{HasRows};
 
 use crate::pairs::{Search, price_pair};
 use crate::rows::fill_times;

@@ -6,12 +6,12 @@ ghost use Rattle.ride_model.specs.declared.vehicle.Vehicle.{Vehicle};
 ghost use Rattle.ride_model.specs.Offers.{offer_of, price, start_of};
 ghost use Rattle.ride_model.specs.Road.{RoadMap};
 ghost use Rattle.ride_model.specs.Limits.{most_stops};
-ghost use Rattle.insertion.specs.Asked.{HoldsTimes, IsAsked};
-ghost use Rattle.insertion.specs.Least.{cost_if_any};
-ghost use Rattle.slack_tables.specs.SlackOf.{slack_of};
-ghost use Rattle.pricing_workers.specs.Cells.{IsCellOf};
-ghost use Rattle.pricing_workers.specs.Rows.{HoldsAt, near_at, IsWide};
-ghost use Rattle.pricing_workers.specs.Pairs.{MayPrice};
+ghost use Rattle.insertion.specs.inner.Asked.{HoldsTimes, IsAsked};
+ghost use Rattle.insertion.specs.inner.Least.{cost_if_any};
+ghost use Rattle.slack_tables.specs.inner.SlackOf.{slack_of};
+ghost use Rattle.pricing_workers.specs.inner.Cells.{IsCellOf};
+ghost use Rattle.pricing_workers.specs.inner.Rows.{HoldsAt, near_at, IsWide};
+ghost use Rattle.pricing_workers.specs.inner.Pairs.{MayPrice};
 
 use crate::times::Times;
 use crate::wanted::Wanted;

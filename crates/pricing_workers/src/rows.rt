@@ -2,7 +2,7 @@
 ghost use Rattle.std.specs.Prelude.{◌≡◌, ◌≤◌, length, All};
 ghost use Rattle.ride_model.specs.Limits.{largest_batch};
 ghost use Rattle.ride_model.specs.Vehicle.{IsRide};
-ghost use Rattle.pricing_workers.specs.Rows.{HasRows, HoldTimes};
+ghost use Rattle.pricing_workers.specs.inner.Rows.{HasRows, HoldTimes};
 
 use crate::times::Times;
 use adaptive_roads::{BatchRoads, Scratch};

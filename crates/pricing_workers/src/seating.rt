@@ -1,7 +1,7 @@
 //! Batches that are priced and seated.
 ghost use Rattle.std.specs.Prelude.{◌≡◌, IfOk, IfErr};
-ghost use Rattle.batch_commit.specs.Table.{IsPriceable, IsTableOf};
-ghost use Rattle.batch_commit.specs.Answer.{CertifiesOverCells, undecided};
+ghost use Rattle.batch_commit.specs.inner.Table.{IsPriceable, IsTableOf};
+ghost use Rattle.batch_commit.specs.inner.Answer.{CertifiesOverCells, undecided};
 
 use crate::batches::price_batch_by;
 use crate::pairs::Search;

@@ -3,10 +3,10 @@ ghost use Rattle.std.specs.Prelude.{◌≡◌, IfOk};
 ghost use Rattle.std.specs.Result.{OnOk};
 ghost use Rattle.ride_model.specs.Road.{IsRoadMap};
 ghost use Rattle.ride_model.specs.Vehicle.{IsLawful, IsRide};
-ghost use Rattle.batch_commit.specs.Table.{IsPriceable};
-ghost use Rattle.insertion.specs.Asked.{HoldsTimes};
-ghost use Rattle.pricing_workers.specs.Seats.{IsOfferOf, IsWithin};
-ghost use Rattle.pricing_workers.specs.Wanted.{nodes_of};
+ghost use Rattle.batch_commit.specs.inner.Table.{IsPriceable};
+ghost use Rattle.insertion.specs.inner.Asked.{HoldsTimes};
+ghost use Rattle.pricing_workers.specs.inner.Seats.{IsOfferOf, IsWithin};
+ghost use Rattle.pricing_workers.specs.inner.Wanted.{nodes_of};
 
 use crate::pairs::near;
 use crate::pricer::Pricer;

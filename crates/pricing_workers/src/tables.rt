@@ -1,8 +1,8 @@
 //! The tables of a vehicle's plan, kept until what they were made of changes.
 ghost use Rattle.std.specs.Prelude.{◌≡◌, ◌≤◌, ◌↔◌, IsTrue};
-ghost use Rattle.ride_model.specs.Vehicle.{IsLawfulSomewhere};
+ghost use Rattle.ride_model.specs.inner.Vehicle.{IsLawfulSomewhere};
 ghost use Rattle.ride_model.specs.Limits.{latest_ready, longest_dwell};
-ghost use Rattle.slack_tables.specs.SlackOf.{slack_of};
+ghost use Rattle.slack_tables.specs.inner.SlackOf.{slack_of};
 
 use ride_model::{Ride, Stop, Vehicle};
 use slack_tables::Slack;
@@ -18,12 +18,12 @@ pub(crate) struct PlanTables {
 }
 
 impl Model for PlanTables {
-    ghost use Rattle.slack_tables.specs.Tables.{PlanSlack};
+    ghost use Rattle.slack_tables.specs.inner.Tables.{PlanSlack};
 
     ghost Value = { PlanSlack };
 
     ghost use Rattle.std.specs.Prelude.{◌≡◌};
-    ghost use Rattle.slack_tables.specs.SlackOf.{slack_of};
+    ghost use Rattle.slack_tables.specs.inner.SlackOf.{slack_of};
 
     ghost view = { λ t. t.slack };
 

@@ -2,7 +2,7 @@
 ghost use Rattle.std.specs.Prelude.{◌≡◌, ◌+◌, ◌≤◌, ◌<◌, length, map, take, All, IfOk};
 ghost use Rattle.std.specs.Result.{OnOk};
 ghost use Rattle.ride_model.specs.Road.{IsRoadMap, IsNode};
-ghost use Rattle.pricing_workers.specs.Rows.{HasRows, HoldsRows, near_at};
+ghost use Rattle.pricing_workers.specs.inner.Rows.{HasRows, HoldsRows, near_at};
 
 use adaptive_roads::{BatchRoads, Scratch};
 use insertion::NearStop;

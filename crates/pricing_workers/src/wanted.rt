@@ -4,10 +4,10 @@ ghost use Rattle.std.specs.Result.{OnOk};
 ghost use Rattle.ride_model.specs.declared.vehicle.Stop.{Stop};
 ghost use Rattle.ride_model.specs.Offers.{start_of};
 ghost use Rattle.ride_model.specs.Settings.{IsSettings};
-ghost use Rattle.ride_model.specs.Vehicle.{IsLawfulSomewhere};
+ghost use Rattle.ride_model.specs.inner.Vehicle.{IsLawfulSomewhere};
 ghost use Rattle.ride_model.specs.Limits.{latest_ready, latest_time, longest_dwell};
-ghost use Rattle.slack_tables.specs.SlackOf.{slack_of};
-ghost use Rattle.pricing_workers.specs.Wanted.{IsWanted, nodes_of};
+ghost use Rattle.slack_tables.specs.inner.SlackOf.{slack_of};
+ghost use Rattle.pricing_workers.specs.inner.Wanted.{IsWanted, nodes_of};
 
 use crate::tables::PlanTables;
 use batch_commit::Batch;

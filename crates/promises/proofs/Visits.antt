@@ -12,11 +12,12 @@ use Rattle.ride_model.specs.declared.vehicle.Stop.{Stop}
 use Rattle.ride_model.specs.declared.vehicle.Vehicle.{Vehicle}
 use Rattle.ride_model.specs.Loads.{loads_fit}
 use Rattle.ride_model.specs.Times.{times_from, times_of}
-use Rattle.ride_model.specs.Vehicle.{IsRoutedSomewhere, visits_due, visit_of, stops_of, ride_ids}
+use Rattle.ride_model.specs.Vehicle.{visits_due, visit_of, stops_of, ride_ids}
+use Rattle.ride_model.specs.inner.Vehicle.{IsRoutedSomewhere}
 use Rattle.ride_model.specs.Keeps.{keeps_visits, keeps_ride, keeps, breaks_visits, broken_of}
-use Rattle.stop_plans.specs.First.{is_kind, is_visit}
+use Rattle.stop_plans.specs.inner.First.{is_kind, is_visit}
 use Rattle.stop_plans.proofs.Legs.{legs_are_bounded}
-use Rattle.promises.specs.Arrivals.{arrival_of, boarding_of, breaks_trip, breaks_along}
+use Rattle.promises.specs.inner.Arrivals.{arrival_of, boarding_of, breaks_trip, breaks_along}
 
 -- a ride's stops with their arrivals
 abbrev pub visits_along : ℕ → List Stop → List ℕ → List (Stop × ℕ)

@@ -1,8 +1,8 @@
 //! Arrivals at a ride's visits, and whether they break a limit.
 ghost use Rattle.std.specs.Prelude.{◌≡◌, ◌≤◌, length, All, IfSome};
-ghost use Rattle.stop_plans.specs.First.{is_visit};
+ghost use Rattle.stop_plans.specs.inner.First.{is_visit};
 ghost use Rattle.ride_model.specs.Limits.{longest_ride};
-ghost use Rattle.promises.specs.Arrivals.{arrival_of, boarding_of, breaks_between, breaks_along, IsLimited};
+ghost use Rattle.promises.specs.inner.Arrivals.{arrival_of, boarding_of, breaks_between, breaks_along, IsLimited};
 
 use ride_model::{Kind, Ride, Stop};
 

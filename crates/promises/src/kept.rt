@@ -3,9 +3,9 @@ ghost use Rattle.std.specs.Prelude.{◌≡◌, ◌≤◌, length, not, All};
 ghost use Rattle.std.specs.List.{list_all};
 ghost use Rattle.ride_model.specs.declared.vehicle.Ride.{Ride};
 ghost use Rattle.ride_model.specs.Keeps.{keeps};
-ghost use Rattle.ride_model.specs.Vehicle.{IsRoutedSomewhere};
+ghost use Rattle.ride_model.specs.inner.Vehicle.{IsRoutedSomewhere};
 ghost use Rattle.ride_model.specs.Limits.{latest_ready, longest_dwell};
-ghost use Rattle.promises.specs.Arrivals.{breaks_along, IsLimited};
+ghost use Rattle.promises.specs.inner.Arrivals.{breaks_along, IsLimited};
 
 use crate::arrivals::breaks_limit;
 use crate::room::has_room;

@@ -1,9 +1,10 @@
 //! Promises broken.
 ghost use Rattle.std.specs.Prelude.{◌≡◌, ◌≤◌, length, filter, All};
 ghost use Rattle.ride_model.specs.Keeps.{broken_of};
-ghost use Rattle.ride_model.specs.Vehicle.{IsLawfulSomewhere, ride_ids};
+ghost use Rattle.ride_model.specs.Vehicle.{ride_ids};
+ghost use Rattle.ride_model.specs.inner.Vehicle.{IsLawfulSomewhere};
 ghost use Rattle.ride_model.specs.Limits.{longest_dwell, most_rides};
-ghost use Rattle.promises.specs.Arrivals.{breaks_along, IsLimited};
+ghost use Rattle.promises.specs.inner.Arrivals.{breaks_along, IsLimited};
 
 use crate::arrivals::breaks_limit;
 use ride_model::{Ids, Ride, Stop, Vehicle};

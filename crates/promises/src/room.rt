@@ -2,7 +2,7 @@
 ghost use Rattle.std.specs.Prelude.{◌≡◌};
 ghost use Rattle.std.specs.List.{list_all};
 ghost use Rattle.ride_model.specs.Loads.{fits_load, loads_fit};
-ghost use Rattle.ride_model.specs.Vehicle.{IsRoutedSomewhere};
+ghost use Rattle.ride_model.specs.inner.Vehicle.{IsRoutedSomewhere};
 
 use ride_model::{Load, Vehicle};
 use stop_plans::{load_at_start, loads};

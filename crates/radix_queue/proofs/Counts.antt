@@ -2,7 +2,7 @@
 use Rattle.std.proofs.Common.{◌≡◌, ℕ, zero, suc, ◌<◌, List, [], ◌∷◌, length, set, refl, ap, arith}
 use Rattle.std.specs.Prelude.{Option, Some, None, replicate, sum_by}
 use Rattle.std.proofs.lemmas.List.Sums.{sum_by-set}
-use Rattle.radix_queue.specs.Buckets.{key_in}
+use Rattle.radix_queue.specs.inner.Buckets.{key_in}
 
 abbrev pub one_if_some : Option ℕ → ℕ
 one_if_some None = 0

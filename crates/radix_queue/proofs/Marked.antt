@@ -5,10 +5,10 @@ use Rattle.std.specs.Int.{bit_at}
 use Rattle.std.proofs.lemmas.Bool.{cases_eq, cases_lt, true≢false}
 use Rattle.std.proofs.lemmas.List.{get_or_past}
 use Rattle.std.proofs.lemmas.Nat.Bits.{bit_at-zero}
-use Rattle.link_lists.specs.Family.{Family, list_at, IsFamily, without}
+use Rattle.link_lists.specs.inner.Family.{Family, list_at, IsFamily, without}
 use Rattle.link_lists.proofs.Kept.{Contains-from_get}
 use Rattle.link_lists.proofs.Members.{Contains-nil, without-absent}
-use Rattle.radix_queue.specs.Buckets.{IsMarked, IsLowest}
+use Rattle.radix_queue.specs.inner.Buckets.{IsMarked, IsLowest}
 
 pub nil-from_first : (xs : List ℕ) → slice_get xs 0 ≡ None → xs ≡ []
 nil-from_first [] e = refl

@@ -7,7 +7,7 @@ use Rattle.std.specs.Int.Count.{leading_of_zero}
 use Rattle.std.proofs.lemmas.Nat.{pow-add, le-div, leading_top}
 use Rattle.std.proofs.lemmas.Nat.Bits.{bit_at_xor, bit_at-lt, bit_at_above, same_from_bits}
 use Rattle.std.proofs.lemmas.Bool.{cases_lt}
-use Rattle.radix_queue.specs.Buckets.{IsBucket}
+use Rattle.radix_queue.specs.inner.Buckets.{IsBucket}
 
 pub div-more : (a i d : ℕ) → a / 2 ^ (i + d) ≡ a / 2 ^ i / 2 ^ d
 div-more a i d = ap (λ k. a / k) (pow-add 2 i d) ∙ sym (div-div-eq-div-mul a (2 ^ i) (2 ^ d))

@@ -6,7 +6,7 @@ use Rattle.std.proofs.lemmas.Bool.{cases_lt, cases_eq}
 use Rattle.std.proofs.lemmas.Option.{slice_get_within, slice_get-get_or}
 use Rattle.link_lists.proofs.Kept.{Contains-from_get}
 use Rattle.link_lists.proofs.Walks.{nodes_left, nodes_left-at}
-use Rattle.radix_queue.specs.Buckets.{key_in}
+use Rattle.radix_queue.specs.inner.Buckets.{key_in}
 
 -- of the nodes before the current one, `node` has the least key
 pub record IsWalked (nodes : List ℕ) (keys : List (Option ℕ)) (current : Option ℕ) (node key : ℕ) : Type 0 where

@@ -1,7 +1,7 @@
 // The 65 buckets of a radix queue, and which of them have a node.
 ghost use Rattle.std.specs.Prelude.{◌≡◌, ◌≢◌, ℕ, ◌+◌, ◌<◌, [], ◌∷◌, length, slice_get, Contains, IfOk, IfSome, IfNone, Some};
-ghost use Rattle.link_lists.specs.Family.{list_at, IsHeld, IsFamily, IsSameSize, without};
-ghost use Rattle.radix_queue.specs.Buckets.{IsLowest};
+ghost use Rattle.link_lists.specs.inner.Family.{list_at, IsHeld, IsFamily, IsSameSize, without};
+ghost use Rattle.radix_queue.specs.inner.Buckets.{IsLowest};
 
 use crate::marks::{lowest_marked, marked, unmarked};
 use link_lists::Links;
@@ -19,11 +19,11 @@ pub(crate) struct Buckets {
 }
 
 impl Model for Buckets {
-    ghost use Rattle.link_lists.specs.Family.{Family};
+    ghost use Rattle.link_lists.specs.inner.Family.{Family};
 
     ghost Value = { Family };
 
-    ghost use Rattle.radix_queue.specs.Buckets.{AreBuckets};
+    ghost use Rattle.radix_queue.specs.inner.Buckets.{AreBuckets};
 
     ghost view = { λ buckets. buckets.links };
 

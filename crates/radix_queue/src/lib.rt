@@ -7,7 +7,7 @@
 #![tactic(auto)]
 
 ghost use Rattle.std.specs.Prelude.{◌≡◌, ◌≢◌, ℕ, ◌<◌, ◌≤◌, ◌↔◌, length, replicate, None, Some, IsNone, IfOk, IfSome, IfNone};
-ghost use Rattle.radix_queue.specs.Queue.{key_of, lesser_key, IsEmpty, IsAboveFloor, IsLeast};
+ghost use Rattle.radix_queue.specs.inner.Queue.{key_of, lesser_key, IsEmpty, IsAboveFloor, IsLeast};
 
 use std::alloc::{AllocError, Global};
 use std::marker::Model;
@@ -32,11 +32,11 @@ pub struct RadixQueue {
 
 impl Model for RadixQueue {
     ghost use Rattle.std.specs.Prelude.{length};
-    ghost use Rattle.radix_queue.specs.Queue.{Queue};
+    ghost use Rattle.radix_queue.specs.inner.Queue.{Queue};
 
     ghost Value = { Queue };
 
-    ghost use Rattle.radix_queue.specs.Buckets.{IsPlaced};
+    ghost use Rattle.radix_queue.specs.inner.Buckets.{IsPlaced};
 
     ghost view = { λ queue. record { floor = queue.floor; keys = queue.keys.items } };
 

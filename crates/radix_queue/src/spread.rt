@@ -1,7 +1,7 @@
 // The buckets beside the keys of their nodes.
 ghost use Rattle.std.specs.Prelude.{◌≡◌, ℕ, ◌<◌, ◌≤◌, [], length, slice_get, replicate, Contains, None, Some, IsSome, IfSome, IfNone};
-ghost use Rattle.link_lists.specs.Family.{list_at, IsHeld, IsFamily, IsSameSize};
-ghost use Rattle.radix_queue.specs.Buckets.{IsBucket, IsPlaced, IsLeastPlaced, key_in, opened_by};
+ghost use Rattle.link_lists.specs.inner.Family.{list_at, IsHeld, IsFamily, IsSameSize};
+ghost use Rattle.radix_queue.specs.inner.Buckets.{IsBucket, IsPlaced, IsLeastPlaced, key_in, opened_by};
 
 use crate::buckets::{Buckets, Lowest};
 

@@ -11,7 +11,7 @@ use Rattle.ride_model.specs.declared.settings.Settings.{Settings}
 use Rattle.ride_model.specs.declared.vehicle.Vehicle.{Vehicle}
 use Rattle.log_audit.specs.Restored.{IsBoardOf}
 use Rattle.log_audit.specs.declared.restoring.Restored.{Restored}
-use Rattle.live_sessions.specs.Resuming.{MayGoOn}
+use Rattle.live_sessions.specs.inner.Resuming.{MayGoOn}
 use Rattle.live_sessions.specs.declared.resuming.Interrupted.{Interrupted}
 
 -- a history has no more commands of a feed than entries

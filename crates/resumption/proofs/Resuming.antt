@@ -15,17 +15,18 @@ use Rattle.live_sessions.specs.Serving.{FeedRun}
 use Rattle.run_words.specs.Resumptions.{GoingOn, resumption_files}
 use Rattle.run_words.specs.Words.{File, feed_file, fleet_file, log_file, map_file}
 use Rattle.dispatcher.specs.Meanings.{Meaning, Means, said_of, start_of, status_of}
-use Rattle.dispatcher.specs.Readings.{AreRead, AsksOnce, StopsReading}
+use Rattle.dispatcher.specs.Readings.{StopsReading}
+use Rattle.dispatcher.specs.inner.Readings.{AreRead, AsksOnce}
 use Rattle.dispatcher.specs.Runs.{HasStopped}
 use Rattle.dispatcher.specs.Shelves.{AreGivenBack, IsBackOf, IsFresh, IsLeftOf, IsSpent, IsUntouched, SaysTo, Shelved, Sunk, bytes_of, told_bytes}
 use Rattle.dispatcher.specs.declared.stop.Stop.{Stop}
 use Rattle.dispatcher.proofs.Reading.{back-next, back-one, one-more, stops-longer}
 use Rattle.dispatcher.proofs.Running.{any-text, missed}
 use Rattle.dispatcher.proofs.ServiceRuns.{one-missed}
-use Rattle.resumption.specs.Goings.{GoesOnOver, HandsBothOn}
-use Rattle.resumption.specs.Logs.{HandsLogBack}
+use Rattle.resumption.specs.inner.Goings.{GoesOnOver, HandsBothOn}
+use Rattle.resumption.specs.inner.Logs.{HandsLogBack}
 use Rattle.resumption.specs.Resumptions.{HasGoneOn, HasRefusedLog, IsResumption, files_to_log}
-use Rattle.resumption.specs.Steps.{RefusesLog, ResumesOver}
+use Rattle.resumption.specs.inner.Steps.{RefusesLog, ResumesOver}
 use Rattle.resumption.proofs.Endings.{resumption-of}
 use Rattle.resumption.proofs.LogFaults.{told-fault, told-five}
 

@@ -1,5 +1,5 @@
 pub mod Logs
 pub mod Goings
-pub mod Steps
 pub mod Resumptions
 pub mod Mission
+pub mod inner

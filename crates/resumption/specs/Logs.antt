@@ -1,7 +1,6 @@
 -- What the log of what was before gives back, and how it is said where it gives no board.
-use Rattle.std.specs.Prelude.{◌≡◌, ◌≢◌, ℕ, ◌+◌, List, [], ◌∷◌, ◌++◌, Option, Some, None, Result, Ok, Err, IfSome}
-use Rattle.ride_ports.specs.Contents.{GivenBack}
-use Rattle.ride_ports.specs.Count.{KeepsCount, Rose}
+use Rattle.std.specs.Prelude.{◌≡◌, ◌≢◌, ℕ, [], Result, Ok, Err, IfSome}
+use Rattle.ride_ports.specs.Count.{KeepsCount}
 use Rattle.ride_model.specs.State.{State}
 use Rattle.log_audit.specs.declared.restoring.Restored.{Restored}
 use Rattle.log_audit.specs.declared.restoring.Restoration.{Restoration}
@@ -15,7 +14,7 @@ use Rattle.log_audit.specs.LogLines.{TakesSome}
 use Rattle.log_audit.specs.Restored.{IsBoardOf, IsRestoration, IsSameButRoom}
 use Rattle.live_sessions.specs.Resuming.{HaveFewCommands}
 use Rattle.live_sessions.specs.Serving.{FeedRun}
-use Rattle.dispatcher.specs.Shelves.{IsBackOf, Shelved, Sunk, told_bytes}
+use Rattle.dispatcher.specs.Shelves.{Sunk}
 use Rattle.dispatcher.specs.Verdicts.{EndsBy}
 
 -- a log over a start was read, and this is what it gave back: what its bytes are decides, and they are nothing else; a board stands at the
@@ -36,28 +35,3 @@ abbrev pub EndsLog : Result Restoration AuditFault → ℕ → Sunk → Type 0
 EndsLog (Ok (Standing restored)) status out = (HaveFewCommands restored.board.feeds restored.board.history → ⊥) × EndsBy (Err TooLong) status out
 EndsLog (Ok (No line why)) status out = EndsBy (Ok (NoVerdict line why)) status out
 EndsLog (Err fault) status out = EndsBy (Err fault) status out
-
--- a name was asked for and not brought
-pub record AsksInVain (name : List ℕ) (old new : Shelved) : Type 0 where
-  pub told : new.told ≡ old.told
-  pub asked : new.asked ≡ old.asked ++ name ∷ []
-  pub brought : new.brought ≡ old.brought
-  pub back : new.back ≡ old.back
-  pub rose : Rose old.faults new.faults
-
--- the source of a log was brought, read and given back
-pub record HandsLogBack (start : State) (name : List ℕ) (old new : Shelved) (found : Result Restoration AuditFault) : Type 0 where
-  pub told : new.told ≡ old.told
-  pub asked : new.asked ≡ old.asked ++ name ∷ []
-  pub brought : new.brought ≡ old.brought + 1
-  pub log : FeedRun
-  pub source : GivenBack
-  pub back : new.back ≡ old.back ++ source ∷ []
-  pub of_file : IsBackOf (told_bytes old.told name) source log
-  pub reads : ReadsLog start log found
-  pub sound : found ≢ Err ReadFault → new.faults ≡ old.faults
-  pub fault : found ≡ Err ReadFault → Rose old.faults new.faults
-
-abbrev pub BringsLog : State → List ℕ → Shelved → Shelved → Option (Result Restoration AuditFault) → Type 0
-BringsLog start name old new None = AsksInVain name old new
-BringsLog start name old new (Some found) = HandsLogBack start name old new found

@@ -1,9 +1,9 @@
 //! The feeds of a session that goes on, which are brought by their names and given back.
 ghost use Rattle.std.specs.Prelude.{◌<◌, ◌≤◌, length, string_bytes};
 ghost use Rattle.ride_model.specs.Limits.{most_workers};
-ghost use Rattle.live_sessions.specs.Resuming.{MayGoOn};
+ghost use Rattle.live_sessions.specs.inner.Resuming.{MayGoOn};
 ghost use Rattle.dispatcher.specs.Shelves.{shelved, sunk};
-ghost use Rattle.resumption.specs.Goings.{GoesOnOver};
+ghost use Rattle.resumption.specs.inner.Goings.{GoesOnOver};
 
 use adaptive_roads::Roads;
 use dispatcher::{Feeds, Status};

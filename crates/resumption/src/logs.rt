@@ -2,9 +2,10 @@
 ghost use Rattle.std.specs.Prelude.{◌<◌, length, string_bytes};
 ghost use Rattle.ride_model.specs.Fleet.{MayStart};
 ghost use Rattle.ride_model.specs.State.{start_state};
-ghost use Rattle.live_sessions.specs.Serving.{feed_run};
+ghost use Rattle.live_sessions.specs.inner.Serving.{feed_run};
 ghost use Rattle.dispatcher.specs.Shelves.{shelved};
-ghost use Rattle.resumption.specs.Logs.{BringsLog, ReadsLog};
+ghost use Rattle.resumption.specs.Logs.{ReadsLog};
+ghost use Rattle.resumption.specs.inner.Logs.{BringsLog};
 
 use adaptive_roads::Roads;
 use log_audit::{AuditFault, Restoration, restore};

@@ -1,13 +1,14 @@
 //! The top call of a session that goes on.
 ghost use Rattle.std.specs.Prelude.{◌≡◌, ◌<◌, ◌≤◌, map, length, None, string_bytes, IfSome};
 ghost use Rattle.ride_model.specs.Limits.{most_workers};
-ghost use Rattle.run_words.specs.Resumptions.{asked_by_resumption, resumption_of};
-ghost use Rattle.dispatcher.specs.Readings.{MayBegin, meaning_of};
+ghost use Rattle.run_words.specs.Resumptions.{resumption_of};
+ghost use Rattle.run_words.specs.inner.Resumptions.{asked_by_resumption};
+ghost use Rattle.dispatcher.specs.inner.Readings.{MayBegin, meaning_of};
 ghost use Rattle.dispatcher.specs.Runs.{RefusesWords};
 ghost use Rattle.dispatcher.specs.Shelves.{shelved, sunk, IsFresh};
 ghost use Rattle.resumption.specs.Mission.{ResumesWell};
 ghost use Rattle.resumption.specs.Resumptions.{IsResumption};
-ghost use Rattle.resumption.specs.Steps.{ResumesOver};
+ghost use Rattle.resumption.specs.inner.Steps.{ResumesOver};
 
 use crate::feeds::go_on;
 use crate::logs::bring_log;

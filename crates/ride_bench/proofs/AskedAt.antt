@@ -8,11 +8,11 @@ use Rattle.ride_model.specs.Road.{RoadMap}
 use Rattle.ride_model.specs.Offers.{is_idle, start_of}
 use Rattle.plan_trials.specs.SmallPlans.{four_nodes}
 use Rattle.insertion.specs.declared.near.Near.{Near}
-use Rattle.insertion.specs.Asked.{IsAsked}
+use Rattle.insertion.specs.inner.Asked.{IsAsked}
 use Rattle.plan_trials.specs.NearInLine.{near_in_line, may_be_asked}
 use Rattle.plan_trials.proofs.NearInLine.{asked}
-use Rattle.slack_tables.specs.Tables.{PlanSlack}
-use Rattle.slack_tables.specs.SlackOf.{slack_of}
+use Rattle.slack_tables.specs.inner.Tables.{PlanSlack}
+use Rattle.slack_tables.specs.inner.SlackOf.{slack_of}
 
 pub asked_at : (v : Vehicle) (ride : Ride) (settings : Settings) (near : Near) (time : ℕ) → IsTrue (may_be_asked v ride settings)
     → near ≡ near_in_line v ride → time ≤ 1000000000 → (roads : RoadMap) × IsAsked roads v ride time settings near

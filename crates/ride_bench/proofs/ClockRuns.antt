@@ -16,8 +16,9 @@ use Rattle.ride_model.specs.Step.{step}
 use Rattle.model_laws.proofs.Histories.{replay-push}
 use Rattle.model_laws.specs.history_laws.Start.{IsStart}
 use Rattle.model_laws.proofs.history_laws.Others.{ended-same}
-use Rattle.board_core.specs.Recorded.{Recorded, state_of, fed_entry, end_entry}
-use Rattle.fleet_board.specs.Passes.{commands_in}
+use Rattle.board_core.specs.Recorded.{Recorded, state_of, end_entry}
+use Rattle.board_core.specs.inner.Recorded.{fed_entry}
+use Rattle.fleet_board.specs.inner.Passes.{commands_in}
 
 commands-append : (own more : List Entry) → commands_in (own ++ more) ≡ commands_in own ++ commands_in more
 commands-append own more = filter_map-append (λ (entry : Entry). command_of entry.event) own more

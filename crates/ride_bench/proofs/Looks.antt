@@ -3,7 +3,7 @@ use Rattle.std.proofs.Common.{◌≡◌, ℕ, ◌+◌, ◌-◌, ◌≤◌, List,
 use Rattle.std.specs.Prelude.{min}
 use Rattle.std.proofs.lemmas.List.{length-take}
 use Rattle.ride_model.specs.declared.entry.Entry.{Entry}
-use Rattle.fleet_board.specs.Passes.{AddsNone, Known}
+use Rattle.fleet_board.specs.inner.Passes.{AddsNone, Known}
 use Rattle.fleet_board.proofs.Looking.{seen-grows}
 
 -- the place behind the entries of a look was seen

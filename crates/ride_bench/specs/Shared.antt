@@ -7,7 +7,7 @@ use Rattle.turn_lock.specs.declared.lock.Pass.{Pass}
 use Rattle.turn_lock.specs.Passes.{knowledge}
 use Rattle.fleet_board.specs.declared.shared.Kept.{Kept}
 use Rattle.fleet_board.specs.declared.shared.SharedBoard.{SharedBoard}
-use Rattle.fleet_board.specs.Passes.{IsPoint}
+use Rattle.fleet_board.specs.inner.Passes.{IsPoint}
 use Rattle.fleet_board.specs.Roles.{MayFeed}
 use Rattle.fleet_board.specs.Sharing.{MayUse}
 

@@ -1,6 +1,6 @@
 //! A day of bookings.
 ghost use Rattle.std.specs.Prelude.{◌≤◌};
-ghost use Rattle.booking_desk.specs.Desk.{IsRequest};
+ghost use Rattle.booking_desk.specs.inner.Desk.{IsRequest};
 
 use crate::stopwatch::Stopwatch;
 use booking_desk::BookingDesk;

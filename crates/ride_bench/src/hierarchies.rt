@@ -1,6 +1,6 @@
 //! Rows of travel times by sweeps of a hierarchy, and by searches: the same sums, and how long they take.
 ghost use Rattle.std.specs.Prelude.{◌≡◌, ◌≤◌, ◌<◌, ◌*◌, length, All, IfOk, IfSome};
-ghost use Rattle.adaptive_roads.specs.road_hierarchy.Selection.{IsSelectionOf};
+ghost use Rattle.adaptive_roads.specs.inner.road_hierarchy.Selection.{IsSelectionOf};
 ghost use Rattle.ride_bench.specs.Sources.{AreSources};
 ghost use Rattle.plan_trials.specs.trial_town.Streets.{IsPlace};
 

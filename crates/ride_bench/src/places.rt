@@ -4,7 +4,7 @@ ghost use Rattle.ride_model.specs.Offers.{is_idle};
 ghost use Rattle.plan_trials.specs.LineRoad.{vehicle_with};
 ghost use Rattle.plan_trials.specs.NearInLine.{near_in_line, may_be_asked};
 ghost use Rattle.ride_bench.specs.Places.{settings};
-ghost use Rattle.slack_tables.specs.SlackOf.{slack_of};
+ghost use Rattle.slack_tables.specs.inner.SlackOf.{slack_of};
 
 use crate::stopwatch::Stopwatch;
 use insertion::{Near, best_place};

@@ -2,7 +2,7 @@
 ghost use Rattle.std.specs.Prelude.{◌≡◌, ◌≤◌, ◌+◌, [], length, Some, IsSome, IfOk, OnOk};
 ghost use Rattle.std.specs.Thread.{IsSync};
 ghost use Rattle.turn_lock.specs.Passes.{knowledge};
-ghost use Rattle.fleet_board.specs.Passes.{commands_in};
+ghost use Rattle.fleet_board.specs.inner.Passes.{commands_in};
 ghost use Rattle.fleet_board.specs.Roles.{MayFeed};
 ghost use Rattle.ride_bench.specs.Shared.{MayBegin, MayLook};
 

@@ -1,5 +1,5 @@
 -- Parts and forms of a history.
-use Rattle.std.specs.Prelude.{◌≡◌, ℕ, ◌==◌, ◌&&◌, if◌then◌else◌, fold, option_and_then, Bool, true, false, List, [], ◌∷◌, ◌++◌, filter, filter_map, count_by, sum_by, Option, Some, None, IsTrue, IsFalse}
+use Rattle.std.specs.Prelude.{◌≡◌, ℕ, ◌==◌, ◌&&◌, if◌then◌else◌, fold, option_and_then, Bool, true, false, List, [], filter, filter_map, count_by, sum_by, Option, Some, None, IsTrue, IsFalse}
 use Rattle.std.specs.List.{list_all, list_any, range_with_len}
 use Rattle.ride_model.specs.declared.command.Actor.{Actor}
 use Rattle.ride_model.specs.declared.command.Actor.TheVariants.{Feed, Desk}
@@ -109,18 +109,3 @@ picked_total entries = count_by (λ (entry : Entry). is_picked entry.event) entr
 
 abbrev pub dropped_total : List Entry → ℕ
 dropped_total entries = count_by (λ (entry : Entry). is_dropped entry.event) entries
-
--- what a pass of an actor knows: the part of the one history that it has seen, and its actor's entries in it
-pub record Pass : Type 0 where
-  pub seen : List Entry
-  pub own : List Entry
-
--- a call that appends nothing stands at a point after what the pass had seen, and it has now seen up to that point
-pub record Sees (old new : Pass) : Type 0 where
-  pub goes_on : (between : List Entry) × (new.seen ≡ old.seen ++ between)
-  pub own_stays : new.own ≡ old.own
-
--- a call that appends an entry stands at a point after what the pass had seen, and it has now seen up to and with it
-pub record Appends (old new : Pass) (entry : Entry) : Type 0 where
-  pub goes_on : (between : List Entry) × (new.seen ≡ old.seen ++ between ++ entry ∷ [])
-  pub own_grows : new.own ≡ old.own ++ entry ∷ []

@@ -18,3 +18,4 @@ pub mod Text
 pub mod Promises
 pub mod History
 pub mod Drill
+pub mod inner

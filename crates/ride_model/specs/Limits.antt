@@ -59,14 +59,6 @@ largest_batch = 128
 abbrev pub most_batches : ℕ
 most_batches = 2000
 
--- more commands than a feed has lines
-abbrev pub most_commands : ℕ
-most_commands = 1000000000
-
--- the most commands of a pass before its feed is read: with those of the lines they stay below most_commands
-abbrev pub most_earlier_commands : ℕ
-most_earlier_commands = 900000000
-
 -- the most workers of a desk
 abbrev pub most_workers : ℕ
 most_workers = 16

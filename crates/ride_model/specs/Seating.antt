@@ -1,5 +1,5 @@
 -- Batches, their seatings, and prices that prove one least.
-use Rattle.std.specs.Prelude.{◌≡◌, ℕ, ◌+◌, ◌-◌, ◌*◌, ◌≤◌, ◌==◌, Bool, List, length, map, filter, find, sum_by, All, Option, None, option_map, option_and_then, unwrap_or, IsSome, IfSome, nat_eq}
+use Rattle.std.specs.Prelude.{◌≡◌, ℕ, ◌+◌, ◌-◌, ◌*◌, ◌≤◌, ◌==◌, Bool, List, length, map, filter, find, sum_by, All, Option, option_map, option_and_then, unwrap_or, IsSome, IfSome, nat_eq}
 use Rattle.std.specs.List.{list_any, IsDistinct}
 use Rattle.ride_model.specs.declared.offer.Offer.{Offer}
 use Rattle.ride_model.specs.declared.offer.Seat.{Seat}
@@ -7,10 +7,8 @@ use Rattle.ride_model.specs.declared.settings.Settings.{Settings}
 use Rattle.ride_model.specs.declared.vehicle.Ride.{Ride}
 use Rattle.ride_model.specs.declared.vehicle.Vehicle.{Vehicle}
 use Rattle.ride_model.specs.Road.{RoadMap}
-use Rattle.ride_model.specs.Settings.{IsSettings}
-use Rattle.ride_model.specs.Vehicle.{IsRide, IsFresh, IsRouted, ride_ids}
+use Rattle.ride_model.specs.Vehicle.{ride_ids}
 use Rattle.ride_model.specs.Offers.{offer_of, price}
-use Rattle.ride_model.specs.Limits.{largest_batch}
 
 -- a batch: its number, the desk that opened it, its time, the settings, its requests in order of acceptance, and copies
 -- of all vehicles in fleet order
@@ -21,15 +19,6 @@ pub record BatchCopy : Type 0 where
   pub settings : Settings
   pub requests : List Ride
   pub vehicles : List Vehicle
-
--- a batch whose vehicles are in order, and whose requests fit the map, wait, and are in no vehicle
-pub record IsBatchOver (roads : RoadMap) (batch : BatchCopy) : Type 0 where
-  pub settings_fit : IsSettings batch.settings
-  pub few : length batch.requests ≤ largest_batch
-  pub vehicles_fit : All (IsRouted roads) batch.vehicles
-  pub rides_fit : All (IsRide roads) batch.requests
-  pub rides_wait : All (λ (ride : Ride). ride.picked ≡ None) batch.requests
-  pub rides_fresh : All (λ (ride : Ride). All (λ (v : Vehicle). IsFresh v.rides.items ride.id) batch.vehicles) batch.requests
 
 -- the ids of vehicles
 abbrev pub vehicle_ids : List Vehicle → List ℕ

@@ -6,7 +6,7 @@ use Rattle.ride_model.specs.declared.vehicle.Kind.TheVariants.{Pickup, Dropoff}
 use Rattle.ride_model.specs.declared.vehicle.Ride.{Ride}
 use Rattle.ride_model.specs.declared.vehicle.Stop.{Stop}
 use Rattle.ride_model.specs.declared.vehicle.Vehicle.{Vehicle}
-use Rattle.ride_model.specs.Road.{RoadMap, IsRoadMap, IsNode, travel}
+use Rattle.ride_model.specs.Road.{RoadMap, IsNode, travel}
 use Rattle.ride_model.specs.Loads.{loads_fit}
 use Rattle.ride_model.specs.Limits.{latest_ready, latest_time, longest_ride, most_chairs, most_seats, most_vehicle_seats, most_vehicle_chairs}
 
@@ -39,10 +39,6 @@ stops_of id stops = filter (λ (stop : Stop). stop.ride == id) stops
 abbrev pub ride_ids : List Ride → List ℕ
 ride_ids rides = map (λ (ride : Ride). ride.id) rides
 
--- an id that no ride has
-abbrev pub IsFresh : List Ride → ℕ → Type 0
-IsFresh rides id = Contains (ride_ids rides) id → ⊥
-
 -- the stops are exactly those that the rides need, each once
 pub record IsPlanFor (rides : List Ride) (stops : List Stop) : Type 0 where
   pub ids_differ : IsDistinct nat_eq (ride_ids rides)
@@ -70,11 +66,3 @@ pub record IsRouted (map : RoadMap) (v : Vehicle) : Type 0 where
 pub record IsLawful (map : RoadMap) (v : Vehicle) : Type 0 where
   pub routed : IsRouted map v
   pub loads : IsTrue (loads_fit v)
-
--- a vehicle that is lawful over some map
-abbrev pub IsLawfulSomewhere : Vehicle → Type 0
-IsLawfulSomewhere v = (map : RoadMap) × IsRoadMap map × IsLawful map v
-
--- a vehicle whose record is in order over some map
-abbrev pub IsRoutedSomewhere : Vehicle → Type 0
-IsRoutedSomewhere v = (map : RoadMap) × IsRoadMap map × IsRouted map v

@@ -2,10 +2,10 @@
 use Rattle.std.proofs.Common.{◌≡◌, ℕ, List, [], Option, None, Some, refl, ap, sym, ◌∙◌, map, find, bytes_eq}
 use Rattle.std.specs.Option.{option_map, option_or}
 use Rattle.ride_ports.specs.Contents.{bytes_at, StoredFile}
-use Rattle.ride_ports.specs.Memory.{FileState, file_named}
-use Rattle.ride_ports.specs.MemFile.{file_state}
-use Rattle.ride_ports.specs.Sure.{with_empty_others}
-use Rattle.ride_ports.specs.SureFile.{stored_file}
+use Rattle.ride_ports.specs.inner.Memory.{FileState, file_named}
+use Rattle.ride_ports.specs.inner.MemFile.{file_state}
+use Rattle.ride_ports.specs.inner.Sure.{with_empty_others}
+use Rattle.ride_ports.specs.inner.SureFile.{stored_file}
 use Rattle.ride_ports.specs.declared.mem_shelf.MemFile.{MemFile}
 use Rattle.ride_ports.specs.declared.sure.SureFile.{SureFile}
 use Rattle.ride_ports.proofs.ShelfLemmas.{find-map}

@@ -1,5 +1,5 @@
 -- What a shelf holds, and what was given back to it.
-use Rattle.std.specs.Prelude.{◌≡◌, ℕ, List, Option, IsSome, IfSome, find, bytes_eq}
+use Rattle.std.specs.Prelude.{ℕ, List, Option, find, bytes_eq}
 use Rattle.std.specs.Option.{option_or, option_map}
 
 -- a file by its name and its bytes
@@ -17,10 +17,6 @@ abbrev pub bytes_at : Contents → List ℕ → Option (List ℕ)
 bytes_at contents name =
     let file = find (λ (f : StoredFile). bytes_eq f.name name) contents.files
     in option_or (option_map (λ (f : StoredFile). f.bytes) file) contents.other
-
--- where the contents are told, the name has bytes, and these are left
-abbrev pub IsContentOf : Option Contents → List ℕ → Option (List ℕ) → Type 0
-IsContentOf told name left = IfSome told (λ contents. IsSome left × (left ≡ bytes_at contents name))
 
 -- what is kept of a source that was given back: its count, and the bytes that it had left
 pub record GivenBack : Type 0 where

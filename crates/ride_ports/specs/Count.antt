@@ -1,13 +1,9 @@
 -- The counts of faults that sources, sinks and shelves keep.
-use Rattle.std.specs.Prelude.{◌≡◌, ◌≢◌, ℕ, Bool, false, ◌+◌, ◌-◌, ◌^◌, ◌<◌, ◌≤◌, min, IsTrue}
+use Rattle.std.specs.Prelude.{◌≡◌, ◌≢◌, ℕ, Bool, false, ◌-◌, ◌^◌, ◌<◌, ◌≤◌, IsTrue}
 
 -- where a count stands still, the greatest number of 64 bits
 abbrev pub most_count : ℕ
 most_count = 2 ^ 64 - 1
-
--- the count after one more
-abbrev pub raised : ℕ → ℕ
-raised count = min (count + 1) most_count
 
 -- a count rose where it is above what it was before, or was at its end before
 abbrev pub Rose : ℕ → ℕ → Type 0

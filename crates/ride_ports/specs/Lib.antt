@@ -1,11 +1,5 @@
 pub mod Bytes
-pub mod Calls
 pub mod Contents
 pub mod Count
-pub mod Ledger
-pub mod Memory
-pub mod Returned
-pub mod MemFile
-pub mod Sure
-pub mod SureFile
 pub mod Status
+pub mod inner

@@ -1,7 +1,8 @@
 //! The numbered calls of a form over memory.
 ghost use Rattle.std.specs.Prelude.{◌≡◌, ◌<◌, ◌≤◌, IfOk, is_err};
-ghost use Rattle.ride_ports.specs.Calls.{after_call, ArePieces, fails_next, most_bytes, most_bytes_at, no_call};
-ghost use Rattle.ride_ports.specs.Count.{most_count, raised};
+ghost use Rattle.ride_ports.specs.inner.Calls.{after_call, ArePieces, fails_next, most_bytes, most_bytes_at, no_call};
+ghost use Rattle.ride_ports.specs.Count.{most_count};
+ghost use Rattle.ride_ports.specs.inner.Count.{raised};
 
 use crate::sources::Failed;
 use std::marker::Model;
@@ -17,7 +18,7 @@ pub(crate) struct Calls<'a> {
 
 impl<'a> Model for Calls<'a> {
     ghost use Rattle.std.specs.Prelude.{◌≤◌};
-    ghost use Rattle.ride_ports.specs.Calls.{ArePieces, CallState};
+    ghost use Rattle.ride_ports.specs.inner.Calls.{ArePieces, CallState};
     ghost use Rattle.ride_ports.specs.Count.{most_count};
 
     ghost Value = { CallState };

@@ -72,7 +72,7 @@ pub struct FileShelf<'a, R> {
 }
 
 impl<'a, R> Model for FileShelf<'a, R> {
-    ghost use Rattle.ride_ports.specs.Ledger.{LedgerState};
+    ghost use Rattle.ride_ports.specs.inner.Ledger.{LedgerState};
 
     ghost Value = { LedgerState };
 
@@ -80,7 +80,7 @@ impl<'a, R> Model for FileShelf<'a, R> {
 }
 
 impl<'a, R: Files + AllocGlobal> FileShelf<'a, R> {
-    ghost use Rattle.ride_ports.specs.Ledger.{no_entry};
+    ghost use Rattle.ride_ports.specs.inner.Ledger.{no_entry};
 
     /// The allocator is that of the names; nothing is taken from it here.
     pub fn new(rt: &'a R) -> FileShelf<'a, R>

@@ -2,8 +2,9 @@
 ghost use Rattle.std.specs.Prelude.{◌≡◌, ◌<◌, ◌≤◌, ◌+◌, length, map, string_bytes};
 ghost use Rattle.std.specs.Option.{option_copied};
 ghost use Rattle.ride_ports.specs.Contents.{given_back};
-ghost use Rattle.ride_ports.specs.Count.{most_count, raised};
-ghost use Rattle.ride_ports.specs.Ledger.{after_asking, after_return, no_entry};
+ghost use Rattle.ride_ports.specs.Count.{most_count};
+ghost use Rattle.ride_ports.specs.inner.Count.{raised};
+ghost use Rattle.ride_ports.specs.inner.Ledger.{after_asking, after_return, no_entry};
 
 use crate::sources::Failed;
 use arrayvec::ArrayVec;
@@ -31,11 +32,11 @@ impl<'a> Model for Ledger<'a> {
     ghost use Rattle.std.specs.Prelude.{◌≤◌, map, string_bytes};
     ghost use Rattle.arrayvec.specs.ArrayVec.{array_vec_len};
     ghost use Rattle.ride_ports.specs.Count.{most_count};
-    ghost use Rattle.ride_ports.specs.Ledger.{LedgerState};
+    ghost use Rattle.ride_ports.specs.inner.Ledger.{LedgerState};
 
     ghost Value = { LedgerState };
 
-    ghost use Rattle.ride_ports.specs.Returned.{returned_state};
+    ghost use Rattle.ride_ports.specs.inner.Returned.{returned_state};
 
     ghost view = { λ l.
         record {

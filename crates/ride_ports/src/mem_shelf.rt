@@ -1,9 +1,9 @@
 //! A shelf of files in memory.
 ghost use Rattle.std.specs.Prelude.{◌≡◌, ◌<◌, ◌≤◌, ◌+◌, ◌++◌, ◌∷◌, [], length, map, find, bytes_eq, Some, IfOk, IfSome, OnOk, OnErr, is_err, string_bytes};
 ghost use Rattle.std.specs.Option.{option_copied, option_map};
-ghost use Rattle.ride_ports.specs.Calls.{ArePieces};
-ghost use Rattle.ride_ports.specs.Memory.{file_named, source_of};
-ghost use Rattle.ride_ports.specs.MemFile.{file_state, HaveDistinctNames, HavePieces};
+ghost use Rattle.ride_ports.specs.inner.Calls.{ArePieces};
+ghost use Rattle.ride_ports.specs.inner.Memory.{file_named, source_of};
+ghost use Rattle.ride_ports.specs.inner.MemFile.{file_state, HaveDistinctNames, HavePieces};
 
 use crate::ledger::Ledger;
 use crate::mem_source::MemSource;
@@ -32,11 +32,11 @@ pub struct MemShelf<'a> {
 
 impl<'a> Model for MemShelf<'a> {
     ghost use Rattle.std.specs.Prelude.{map};
-    ghost use Rattle.ride_ports.specs.Memory.{ShelfState};
+    ghost use Rattle.ride_ports.specs.inner.Memory.{ShelfState};
 
     ghost Value = { ShelfState };
 
-    ghost use Rattle.ride_ports.specs.MemFile.{file_state, HavePieces};
+    ghost use Rattle.ride_ports.specs.inner.MemFile.{file_state, HavePieces};
 
     ghost view = { λ s.
         record { files = map file_state s.files.now; failing = s.failing.now; ledger = s.ledger } };
@@ -45,7 +45,7 @@ impl<'a> Model for MemShelf<'a> {
 }
 
 impl<'a> MemShelf<'a> {
-    ghost use Rattle.ride_ports.specs.Ledger.{no_entry};
+    ghost use Rattle.ride_ports.specs.inner.Ledger.{no_entry};
 
     /// Call k of `bring`, numbered from 1, fails where k stands in `failing` or no file has the
     /// name. The allocator is that of the names; nothing is taken from it.
@@ -71,10 +71,12 @@ impl<'a> MemShelf<'a> {
 }
 
 impl<'a> Shelf for MemShelf<'a> {
-    ghost use Rattle.ride_ports.specs.Contents.{IsContentOf, given_back};
-    ghost use Rattle.ride_ports.specs.Count.{raised, Rose};
-    ghost use Rattle.ride_ports.specs.Ledger.{after_return};
-    ghost use Rattle.ride_ports.specs.Memory.{contents_of, refuses};
+    ghost use Rattle.ride_ports.specs.Contents.{given_back};
+    ghost use Rattle.ride_ports.specs.inner.Contents.{IsContentOf};
+    ghost use Rattle.ride_ports.specs.Count.{Rose};
+    ghost use Rattle.ride_ports.specs.inner.Count.{raised};
+    ghost use Rattle.ride_ports.specs.inner.Ledger.{after_return};
+    ghost use Rattle.ride_ports.specs.inner.Memory.{contents_of, refuses};
 
     type Src = MemSource<'a>;
 

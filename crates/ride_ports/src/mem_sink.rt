@@ -1,9 +1,9 @@
 //! A sink into memory.
 ghost use Rattle.std.specs.Prelude.{◌≡◌, ◌<◌, ◌≤◌, ◌-◌, ◌++◌, [], length, min, take, Some, IfOk, OnOk, OnErr, is_err};
 ghost use Rattle.ride_ports.specs.Bytes.{Writes};
-ghost use Rattle.ride_ports.specs.Calls.{after_call, ArePieces, most_bytes, no_call};
+ghost use Rattle.ride_ports.specs.inner.Calls.{after_call, ArePieces, most_bytes, no_call};
 ghost use Rattle.ride_ports.specs.Count.{Rose};
-ghost use Rattle.ride_ports.specs.Memory.{refuses_next};
+ghost use Rattle.ride_ports.specs.inner.Memory.{refuses_next};
 
 use crate::NoMemory;
 use crate::calls::Calls;
@@ -23,7 +23,7 @@ pub struct MemSink<'a> {
 
 impl<'a> Model for MemSink<'a> {
     ghost use Rattle.std.specs.Prelude.{◌≤◌, vec_capacity, length};
-    ghost use Rattle.ride_ports.specs.Memory.{SinkState};
+    ghost use Rattle.ride_ports.specs.inner.Memory.{SinkState};
 
     ghost Value = { SinkState };
 

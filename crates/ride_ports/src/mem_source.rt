@@ -1,7 +1,7 @@
 //! A source over bytes in memory.
 ghost use Rattle.std.specs.Prelude.{◌≡◌, ◌↔◌, ◌<◌, ◌≤◌, [], length, min, take, Some, IfOk, OnOk, OnErr, is_err};
 ghost use Rattle.ride_ports.specs.Bytes.{Reads};
-ghost use Rattle.ride_ports.specs.Calls.{after_call, ArePieces, fails_next, most_bytes, no_call};
+ghost use Rattle.ride_ports.specs.inner.Calls.{after_call, ArePieces, fails_next, most_bytes, no_call};
 ghost use Rattle.ride_ports.specs.Count.{Rose};
 
 use crate::calls::Calls;
@@ -16,7 +16,7 @@ pub struct MemSource<'a> {
 }
 
 impl<'a> Model for MemSource<'a> {
-    ghost use Rattle.ride_ports.specs.Memory.{SourceState};
+    ghost use Rattle.ride_ports.specs.inner.Memory.{SourceState};
 
     ghost Value = { SourceState };
 

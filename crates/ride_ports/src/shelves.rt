@@ -1,7 +1,8 @@
 //! What gives sources by their names.
 ghost use Rattle.std.specs.Prelude.{◌≡◌, ◌<◌, ◌≤◌, ◌+◌, ◌++◌, ◌∷◌, [], ℕ, List, length, Option, IfOk, OnOk, OnErr, string_bytes};
 ghost use Rattle.ride_ports.specs.Count.{Rose};
-ghost use Rattle.ride_ports.specs.Contents.{Contents, GivenBack, IsContentOf, given_back};
+ghost use Rattle.ride_ports.specs.Contents.{Contents, GivenBack, given_back};
+ghost use Rattle.ride_ports.specs.inner.Contents.{IsContentOf};
 
 use crate::sources::{Failed, Source};
 

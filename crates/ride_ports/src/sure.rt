@@ -1,8 +1,8 @@
 //! Forms that never fail: their count of faults is the constant 0.
 ghost use Rattle.std.specs.Prelude.{◌≡◌, map, None, Some, find, bytes_eq};
 ghost use Rattle.ride_ports.specs.Contents.{bytes_at};
-ghost use Rattle.ride_ports.specs.Sure.{with_empty_others};
-ghost use Rattle.ride_ports.specs.SureFile.{stored_file, HaveDistinctNames};
+ghost use Rattle.ride_ports.specs.inner.Sure.{with_empty_others};
+ghost use Rattle.ride_ports.specs.inner.SureFile.{stored_file, HaveDistinctNames};
 ghost use Rattle.std.specs.Option.{option_copied};
 
 use crate::ledger::Ledger;
@@ -84,17 +84,17 @@ pub struct SureShelf<'a> {
 
 impl<'a> Model for SureShelf<'a> {
     ghost use Rattle.std.specs.Prelude.{map};
-    ghost use Rattle.ride_ports.specs.Sure.{SureShelfState};
+    ghost use Rattle.ride_ports.specs.inner.Sure.{SureShelfState};
 
     ghost Value = { SureShelfState };
 
-    ghost use Rattle.ride_ports.specs.SureFile.{stored_file};
+    ghost use Rattle.ride_ports.specs.inner.SureFile.{stored_file};
 
     ghost view = { λ s. record { files = map stored_file s.files.now; ledger = s.ledger } };
 }
 
 impl<'a> SureShelf<'a> {
-    ghost use Rattle.ride_ports.specs.Ledger.{no_entry};
+    ghost use Rattle.ride_ports.specs.inner.Ledger.{no_entry};
 
     /// The allocator is that of the names; nothing is taken from it.
     pub fn new(alloc: Global, files: &'a [SureFile<'a>]) -> SureShelf<'a>

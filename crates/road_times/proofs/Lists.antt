@@ -5,7 +5,7 @@ use Rattle.std.proofs.lemmas.Bool.{cases_eq}
 use Rattle.std.proofs.lemmas.List.{get_or-set_same, get_or-set_other, length-set}
 use Rattle.std.proofs.lemmas.List.Sums.{sum_by-cons, sum_by-set, count_by-le-length}
 use Rattle.model_laws.proofs.plain.Options.{none_from_is_some}
-use Rattle.road_times.specs.Search.{label_of, IsListed}
+use Rattle.road_times.specs.inner.Search.{label_of, IsListed}
 
 -- a write at a place, seen from any place
 pub set_cases : (labels : List (Option ℕ)) (node other : ℕ) (value : Option ℕ) → node < length labels

@@ -5,12 +5,13 @@ use Rattle.std.proofs.lemmas.List.{map-id, length-map, get_or-map}
 use Rattle.std.proofs.lemmas.List.Elements.{All-map}
 use Rattle.std.proofs.lemmas.List.Sums.{sum_by-append}
 use Rattle.ride_model.specs.declared.network.RoadArc.{RoadArc}
-use Rattle.ride_model.specs.Road.{RoadMap, IsArc, IsRoadMap, IsWalk, IsTravel, weight_of, travel}
+use Rattle.ride_model.specs.Road.{RoadMap, IsArc, IsRoadMap, travel}
+use Rattle.ride_model.specs.inner.Road.{IsWalk, IsTravel, weight_of}
 use Rattle.model_laws.proofs.Walks.{weight-cons, walk-append}
 use Rattle.model_laws.proofs.TravelTimes.{travel-is_travel, travel_is_least}
 use Rattle.road_times.specs.declared.side.Side.{Side}
 use Rattle.road_times.specs.declared.side.Side.TheVariants.{Out, Back}
-use Rattle.road_times.specs.Turned.{turned_arc, turned_map, travel_by}
+use Rattle.road_times.specs.inner.Turned.{turned_arc, turned_map, travel_by}
 
 -- the arc the other way round
 abbrev pub flipped : RoadArc → RoadArc

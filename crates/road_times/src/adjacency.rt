@@ -1,9 +1,9 @@
 // Adjacency arrays: the arcs of a map, packed by the node that they leave.
 ghost use Rattle.std.specs.Prelude.{◌≡◌, ℕ, ◌≤◌, length, IfOk};
 ghost use Rattle.ride_model.specs.Road.{RoadMap};
-ghost use Rattle.road_times.specs.Turned.{turned_map};
-ghost use Rattle.road_times.specs.Adjacency.{IsAdjacency, neighbors_at};
-ghost use Rattle.road_times.specs.Sorting.{tails_of, ArePlaced};
+ghost use Rattle.road_times.specs.inner.Turned.{turned_map};
+ghost use Rattle.road_times.specs.inner.Adjacency.{IsAdjacency, neighbors_at};
+ghost use Rattle.road_times.specs.inner.Sorting.{tails_of, ArePlaced};
 
 use crate::side::Side;
 use crate::sorting::{pack, starts};

@@ -3,7 +3,7 @@
 
 ghost use Rattle.std.specs.Prelude.{◌≡◌, ◌+◌, ◌≤◌, length, map, All, IfOk};
 ghost use Rattle.ride_model.specs.Road.{IsRoadMap, IsNode, travel};
-ghost use Rattle.road_times.specs.Turned.{travel_by};
+ghost use Rattle.road_times.specs.inner.Turned.{travel_by};
 
 use ride_model::Network;
 use std::alloc::{AllocError, Global};
@@ -42,7 +42,7 @@ impl Model for Roads {
 
     ghost Value = { RoadMap };
 
-    ghost use Rattle.road_times.specs.Stored.{stored_map, AreRoads};
+    ghost use Rattle.road_times.specs.inner.Stored.{stored_map, AreRoads};
 
     ghost view = { λ roads. stored_map roads.nodes roads.tails.items roads.forward };
 
@@ -71,11 +71,11 @@ pub struct Scratch {
 
 impl Model for Scratch {
     ghost use Rattle.std.specs.Prelude.{◌-◌, ◌≤◌, length};
-    ghost use Rattle.road_times.specs.Room.{Room};
+    ghost use Rattle.road_times.specs.inner.Room.{Room};
 
     ghost Value = { Room };
 
-    ghost use Rattle.road_times.specs.Search.{IsReady};
+    ghost use Rattle.road_times.specs.inner.Search.{IsReady};
 
     ghost view = { λ scratch. record { nodes = length scratch.search.labels.items - 1 } };
 

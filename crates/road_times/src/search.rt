@@ -2,11 +2,11 @@
 // can be stopped at a node and taken up again, so that a row costs no more than its farthest node.
 ghost use Rattle.std.specs.Prelude.{◌≡◌, ◌≢◌, ℕ, ◌+◌, ◌<◌, ◌≤◌, length, slice_get, slice_set, replicate, Some, None, map, All, IfOk, IsTrue, IsFalse};
 ghost use Rattle.ride_model.specs.Road.{RoadMap, IsRoadMap, IsNode, travel};
-ghost use Rattle.radix_queue.specs.Queue.{IsAboveFloor, IsEmpty};
+ghost use Rattle.radix_queue.specs.inner.Queue.{IsAboveFloor, IsEmpty};
 ghost use Rattle.road_times.specs.declared.adjacency.Neighbor.{Neighbor};
 ghost use Rattle.road_times.specs.declared.adjacency.Adjacency.{Adjacency};
-ghost use Rattle.road_times.specs.Adjacency.{IsAdjacency};
-ghost use Rattle.road_times.specs.Search.{label_of, IsRelaxed, IsReady, IsOver};
+ghost use Rattle.road_times.specs.inner.Adjacency.{IsAdjacency};
+ghost use Rattle.road_times.specs.inner.Search.{label_of, IsRelaxed, IsReady, IsOver};
 
 use crate::adjacency::{Adjacency, Neighbor};
 use radix_queue::RadixQueue;

@@ -1,7 +1,7 @@
 //! The top call over memory: tables of cases, each given to one driver.
 ghost use Rattle.std.specs.Prelude.{◌≡◌};
-ghost use Rattle.ride_ports.specs.Calls.{ArePieces};
-ghost use Rattle.ride_ports.specs.MemFile.{HaveDistinctNames, HavePieces};
+ghost use Rattle.ride_ports.specs.inner.Calls.{ArePieces};
+ghost use Rattle.ride_ports.specs.inner.MemFile.{HaveDistinctNames, HavePieces};
 
 /// A file that one read gives whole, or that is given by reads of these lengths, of which some fail.
 macro_rules! text {

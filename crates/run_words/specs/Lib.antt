@@ -1,3 +1,3 @@
 pub mod Words
-pub mod Asks
 pub mod Resumptions
+pub mod inner

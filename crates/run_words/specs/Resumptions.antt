@@ -1,10 +1,7 @@
 -- What the words of a session that goes on from its log ask for.
-use Rattle.std.specs.Prelude.{◌≡◌, ℕ, List, [], ◌∷◌, codes, Option, Some, None, option_and_then, option_map, Result, MatchResult, string_bytes}
+use Rattle.std.specs.Prelude.{ℕ, List, [], ◌∷◌, codes, Option, option_and_then, option_map}
 use Rattle.clap.specs.Simple.{App}
 use Rattle.ride_model.specs.Limits.{most_workers}
-use Rattle.run_words.specs.declared.WordsError.{WordsError}
-use Rattle.run_words.specs.declared.WordsError.TheVariants.{Refused}
-use Rattle.run_words.specs.declared.resuming.Resumption.{Resumption}
 use Rattle.run_words.specs.Words.{File, feed_file, fleet_file, log_file, map_file, number_within, over_map_and_fleet, value_of, with_option}
 
 -- what is asked for, by the names of its files: that the session of a log over a map and a fleet file goes on with riders and drivers, by
@@ -38,15 +35,6 @@ resumption_asked value =
 -- what words ask for; nothing where they are not in order
 abbrev pub resumption_of : List (List ℕ) → Option GoingOn
 resumption_of words = resumption_asked (value_of resumption_command words)
-
--- the words of a resumption
-abbrev pub asked_by_resumption : Resumption → GoingOn
-asked_by_resumption r =
-    going_on (string_bytes r.map) (string_bytes r.fleet) (string_bytes r.log) (string_bytes r.riders) (string_bytes r.drivers) r.workers
-
--- words were read that ask for this, or for nothing: it was found, or they were refused; or memory was wanting
-abbrev pub IsResumptionOf : Option GoingOn → Result Resumption WordsError → Type 0
-IsResumptionOf asked outcome = MatchResult outcome (λ r. asked ≡ Some (asked_by_resumption r)) (λ error. error ≡ Refused → asked ≡ None)
 
 -- its files, in the order in which they are brought
 abbrev pub resumption_files : GoingOn → List File

@@ -1,5 +1,5 @@
 -- What the words of the program ask for.
-use Rattle.std.specs.Prelude.{ℕ, ◌&&◌, nat_le, if◌then◌else◌, true, List, [], ◌∷◌, slice_index_or, codes, bytes_eq, Option, Some, None, option_and_then, option_map, ⊤}
+use Rattle.std.specs.Prelude.{ℕ, ◌&&◌, nat_le, if◌then◌else◌, true, List, [], ◌∷◌, slice_index_or, codes, bytes_eq, Option, Some, None, option_and_then, option_map}
 use Rattle.line_text.specs.Numbers.{number_of}
 use Rattle.ride_model.specs.Limits.{longest_reach, most_workers, most_vehicles}
 use Rattle.clap.specs.Walk.{Rule, first_of}
@@ -144,8 +144,3 @@ files_of (a_service map fleet riders drivers workers desks) =
 files_of (a_drill plan) = []
 files_of (a_booking feed) = feed_file feed ∷ []
 files_of (a_league map fleet second feed) = map_file map ∷ fleet_file fleet ∷ second_fleet_file second ∷ feed_file feed ∷ []
-
--- an audit is asked for
-abbrev pub IsAudit : Asked → Type 0
-IsAudit (an_audit map fleet log) = ⊤
-IsAudit _ = ⊥

@@ -4,7 +4,7 @@
 ghost use Rattle.std.specs.Prelude.{◌≡◌, codes, map, string_bytes, IfOk};
 ghost use Rattle.clap.specs.Matches.{first_value, found_of};
 ghost use Rattle.run_words.specs.declared.words.Word.TheVariants.{Ahead, Audit, Book, Drill, League, Replay, Serve};
-ghost use Rattle.run_words.specs.Asks.{IsAskOf, IsInRange};
+ghost use Rattle.run_words.specs.inner.Asks.{IsAskOf, IsInRange};
 ghost use Rattle.run_words.specs.Words.{ask_of, asked_by_word, first_word, word_of};
 
 mod commands;

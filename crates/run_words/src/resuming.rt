@@ -2,7 +2,8 @@
 ghost use Rattle.std.specs.Prelude.{◌≤◌, map, string_bytes, IfOk};
 ghost use Rattle.clap.specs.Matches.{first_value, found_of};
 ghost use Rattle.ride_model.specs.Limits.{most_workers};
-ghost use Rattle.run_words.specs.Resumptions.{resumption_asked, resumption_of, IsResumptionOf};
+ghost use Rattle.run_words.specs.Resumptions.{resumption_asked, resumption_of};
+ghost use Rattle.run_words.specs.inner.Resumptions.{IsResumptionOf};
 
 use crate::WordsError;
 use crate::commands::resumption_command;

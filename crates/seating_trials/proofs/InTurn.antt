@@ -8,8 +8,10 @@ use Rattle.ride_model.specs.declared.vehicle.Ride.{Ride}
 use Rattle.ride_model.specs.declared.vehicle.Vehicle.{Vehicle}
 use Rattle.ride_model.specs.Fleet.{IsFleet}
 use Rattle.ride_model.specs.Limits.{latest_time}
-use Rattle.ride_model.specs.Seating.{BatchCopy, IsBatchOver}
-use Rattle.ride_model.specs.Vehicle.{IsFresh, IsLawful, IsRide, ride_ids}
+use Rattle.ride_model.specs.Seating.{BatchCopy}
+use Rattle.ride_model.specs.inner.Seating.{IsBatchOver}
+use Rattle.ride_model.specs.Vehicle.{IsLawful, IsRide, ride_ids}
+use Rattle.ride_model.specs.inner.Vehicle.{IsFresh}
 use Rattle.model_laws.proofs.plain.Among.{among_from_contains}
 use Rattle.plan_trials.specs.SmallPlans.{four_nodes, ride_of}
 use Rattle.plan_trials.specs.LineRoad.{is_lawful, is_new}

@@ -9,8 +9,8 @@ use Rattle.ride_model.specs.declared.offer.Seat.{Seat}
 use Rattle.ride_model.specs.declared.vehicle.Ride.{Ride}
 use Rattle.ride_model.specs.declared.vehicle.Vehicle.{Vehicle}
 use Rattle.ride_model.specs.Seating.{BatchCopy, amount_of}
-use Rattle.batch_commit.specs.Table.{Table, cell_at}
-use Rattle.batch_commit.specs.Answer.{IsSeatAt, CertifiesOverCells}
+use Rattle.batch_commit.specs.inner.Table.{Table, cell_at}
+use Rattle.batch_commit.specs.inner.Answer.{IsSeatAt, CertifiesOverCells}
 use Rattle.seating_trials.specs.OneRequest.{batch_of_one, IsBatchOfOne}
 
 -- a table of one cell

@@ -7,8 +7,9 @@ use Rattle.std.proofs.lemmas.Bool.{not-true, and_parts}
 use Rattle.ride_model.specs.declared.vehicle.Ride.{Ride}
 use Rattle.ride_model.specs.declared.vehicle.Vehicle.{Vehicle}
 use Rattle.ride_model.specs.Fleet.{IsFleet}
-use Rattle.ride_model.specs.Seating.{IsBatchOver}
-use Rattle.ride_model.specs.Vehicle.{IsRide, IsFresh, IsLawful, IsRouted}
+use Rattle.ride_model.specs.inner.Seating.{IsBatchOver}
+use Rattle.ride_model.specs.Vehicle.{IsRide, IsLawful, IsRouted}
+use Rattle.ride_model.specs.inner.Vehicle.{IsFresh}
 use Rattle.model_laws.proofs.plain.Among.{among_from_contains}
 use Rattle.model_laws.proofs.plain.Options.{none_from_is_none}
 use Rattle.plan_trials.specs.SmallPlans.{four_nodes}

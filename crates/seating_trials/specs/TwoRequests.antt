@@ -4,7 +4,7 @@ use Rattle.ride_model.specs.declared.settings.Settings.{Settings}
 use Rattle.ride_model.specs.declared.vehicle.Ride.{Ride}
 use Rattle.ride_model.specs.declared.vehicle.Vehicle.{Vehicle}
 use Rattle.ride_model.specs.Seating.{BatchCopy}
-use Rattle.batch_commit.specs.Table.{IsPriceable}
+use Rattle.batch_commit.specs.inner.Table.{IsPriceable}
 use Rattle.plan_trials.specs.LineRoad.{is_ride}
 use Rattle.plan_trials.specs.SmallPlans.{four_nodes}
 

@@ -1,7 +1,7 @@
 //! Certificates of a batch of two requests and two vehicles, each broken in one number.
 ghost use Rattle.std.specs.Prelude.{◌≡◌, ℕ, All, IfSome};
-ghost use Rattle.batch_commit.specs.Table.{FitsBatch, HasSmallCosts};
-ghost use Rattle.batch_commit.specs.Answer.{IsSeatAt};
+ghost use Rattle.batch_commit.specs.inner.Table.{FitsBatch, HasSmallCosts};
+ghost use Rattle.batch_commit.specs.inner.Answer.{IsSeatAt};
 
 use super::small_batches::{batch, table};
 use batch_commit::{Batch, PriceTable};

@@ -1,7 +1,7 @@
 //! Two requests and two idle vehicles on a road of four nodes in a line, a minute between neighbours.
 ghost use Rattle.std.specs.Prelude.{◌≡◌, ◌≤◌, ◌<◌, true, [], ◌∷◌, IsTrue};
 ghost use Rattle.plan_trials.specs.SmallPlans.{arc, four_nodes};
-ghost use Rattle.batch_commit.specs.Table.{FitsBatch};
+ghost use Rattle.batch_commit.specs.inner.Table.{FitsBatch};
 ghost use Rattle.seating_trials.specs.TwoRequests.{idle, batch_of, may_ask, IsOverLine};
 
 use adaptive_roads::Roads;

@@ -1,6 +1,6 @@
 //! Batches of two requests over two idle vehicles, and tables of their costs.
 ghost use Rattle.std.specs.Prelude.{◌≡◌, ◌≤◌, ◌+◌, ◌<◌, ◌^◌, length};
-ghost use Rattle.batch_commit.specs.Table.{HasSmallCosts};
+ghost use Rattle.batch_commit.specs.inner.Table.{HasSmallCosts};
 
 use arrayvec::ArrayVec;
 use batch_commit::{Batch, PriceTable};

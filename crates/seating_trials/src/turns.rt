@@ -1,7 +1,7 @@
 //! Batches that a pricer prices in turn, whatever has changed between them.
 ghost use Rattle.std.specs.Prelude.{◌≡◌, ◌≤◌, length, IsTrue};
 ghost use Rattle.ride_model.specs.Limits.{latest_time};
-ghost use Rattle.batch_commit.specs.Table.{FitsBatch};
+ghost use Rattle.batch_commit.specs.inner.Table.{FitsBatch};
 ghost use Rattle.plan_trials.specs.LineRoad.{vehicle_with};
 ghost use Rattle.plan_trials.specs.SmallPlans.{four_nodes};
 ghost use Rattle.seating_trials.specs.InTurn.{count_of, fleet_of, may_drive, turn_of};

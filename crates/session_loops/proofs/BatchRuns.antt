@@ -9,12 +9,12 @@ use Rattle.ride_model.specs.declared.entry.Entry.{Entry}
 use Rattle.ride_model.specs.History.{is_abandoned}
 use Rattle.ride_model.specs.Seating.{BatchCopy}
 use Rattle.ride_ports.specs.declared.outcome.Ran.{Ran}
-use Rattle.model_laws.specs.history_laws.Finishing.{gives_up}
+use Rattle.model_laws.specs.inner.history_laws.Finishing.{gives_up}
 use Rattle.board_core.specs.Recorded.{opened_entry, end_entry}
-use Rattle.fleet_board.specs.Openings.{OpensBatch}
-use Rattle.fleet_board.specs.Passes.{Known, AddsEntry, AddsNone, actor_of}
-use Rattle.session_loops.specs.Loops.{AreBatches, AreClosing, Closes, RunsDesk}
-use Rattle.session_loops.specs.Making.{ClosesBatch, ClosesFirst, HasMade, HasRunBatches}
+use Rattle.fleet_board.specs.inner.Openings.{OpensBatch}
+use Rattle.fleet_board.specs.inner.Passes.{Known, AddsEntry, AddsNone, actor_of}
+use Rattle.session_loops.specs.inner.Loops.{AreBatches, AreClosing, Closes, RunsDesk}
+use Rattle.session_loops.specs.inner.Making.{ClosesBatch, ClosesFirst, HasMade, HasRunBatches}
 use Rattle.session_loops.proofs.MadeEntries.{made-none, made-first, made-then, made-same, made-end}
 
 -- one batch more

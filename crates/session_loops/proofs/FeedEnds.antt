@@ -14,22 +14,26 @@ use Rattle.ride_ports.specs.Count.{KeepsCount}
 use Rattle.ride_ports.proofs.ByteLemmas.{Reads-none, Reads-then}
 use Rattle.line_text.specs.declared.line_reader.answers.ReadStop.{ReadStop}
 use Rattle.line_text.specs.declared.line_reader.answers.ReadStop.TheVariants.{SourceFailed, TooLong}
-use Rattle.line_text.specs.line_reader.Reader.{is_fault}
+use Rattle.line_text.specs.inner.line_reader.Reader.{is_fault}
 use Rattle.command_lines.specs.Commands.{commands_of}
-use Rattle.command_lines.specs.Feeds.{FeedState, HasGiven, IsWhole}
+use Rattle.command_lines.specs.Feeds.{IsWhole}
+use Rattle.command_lines.specs.inner.Feeds.{FeedState, HasGiven}
 use Rattle.line_text.specs.line_reader.Limits.{IsTooLong, IsWithinLimits}
 use Rattle.command_lines.specs.declared.forms.FeedForm.{FeedForm}
 use Rattle.command_lines.specs.Limits.{AreFirst, ended_commands, limits_of}
 use Rattle.command_lines.proofs.ReaderLemmas.{given-few}
 use Rattle.model_laws.specs.history_laws.Start.{is_fed}
 use Rattle.board_core.specs.Recorded.{end_entry}
-use Rattle.fleet_board.specs.Passes.{Known, AddsEntry, AddsNone, actor_of, commands_in}
+use Rattle.fleet_board.specs.inner.Passes.{Known, AddsEntry, AddsNone, actor_of, commands_in}
 use Rattle.line_text.specs.declared.line_reader.stops.Stop.{Stop}
 use Rattle.line_text.specs.declared.line_reader.stops.Stop.TheVariants.{NoMemory, OfFeed}
-use Rattle.session_loops.specs.Loops.{AreFed, HasFed, RunsFeed}
-use Rattle.session_loops.specs.Making.{AddsAnswer, HasMade, HasSubmitted, IsStoppedBy}
-use Rattle.line_text.specs.line_reader.FeedRuns.{IsReadWhole, is_no_memory, is_source_failed, is_too_long, ran_of}
-use Rattle.session_loops.specs.Stops.{AreFirstOf, ending_of}
+use Rattle.session_loops.specs.Loops.{AreFed}
+use Rattle.session_loops.specs.inner.Loops.{HasFed, RunsFeed}
+use Rattle.session_loops.specs.inner.Making.{AddsAnswer, HasMade, HasSubmitted, IsStoppedBy}
+use Rattle.line_text.specs.inner.line_reader.FeedRuns.{is_no_memory, is_source_failed, is_too_long, ran_of}
+use Rattle.line_text.specs.line_reader.FeedRuns.{IsReadWhole}
+use Rattle.session_loops.specs.Stops.{AreFirstOf}
+use Rattle.session_loops.specs.inner.Stops.{ending_of}
 use Rattle.session_loops.proofs.MadeEntries.{made-none, made-then, made-same, made-end}
 
 -- the entries of a feed's pass that answer these commands

@@ -6,7 +6,8 @@ use Rattle.ride_ports.specs.Bytes.{Reads}
 use Rattle.ride_ports.proofs.ByteLemmas.{Reads-told}
 use Rattle.line_text.specs.declared.line_reader.answers.ReadStop.{ReadStop}
 use Rattle.command_lines.specs.Commands.{commands_of}
-use Rattle.command_lines.specs.Feeds.{FeedState, HasGiven, IsStopped, IsWhole}
+use Rattle.command_lines.specs.Feeds.{IsWhole}
+use Rattle.command_lines.specs.inner.Feeds.{FeedState, HasGiven, IsStopped}
 use Rattle.command_lines.specs.declared.forms.FeedForm.{FeedForm}
 use Rattle.command_lines.specs.Limits.{AreFirst, ended_commands}
 use Rattle.command_lines.proofs.LineCommands.{ended_commands-first, first-then}

@@ -5,9 +5,9 @@ use Rattle.ride_model.specs.declared.entry.Ending.{Ending}
 use Rattle.ride_model.specs.declared.entry.Entry.{Entry}
 use Rattle.board_core.specs.Recorded.{end_entry}
 use Rattle.turn_lock.proofs.Lists.{prefix_self, prefix_trans}
-use Rattle.fleet_board.specs.Passes.{Known, AddsEntry, AddsNone, actor_of, root_of}
-use Rattle.session_loops.specs.Loops.{EndsWith}
-use Rattle.session_loops.specs.Making.{HasMade}
+use Rattle.fleet_board.specs.inner.Passes.{Known, AddsEntry, AddsNone, actor_of, root_of}
+use Rattle.session_loops.specs.inner.Loops.{EndsWith}
+use Rattle.session_loops.specs.inner.Making.{HasMade}
 
 -- none at first
 pub made-none : (k : Known) → HasMade k k []

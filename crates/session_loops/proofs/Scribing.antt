@@ -8,13 +8,13 @@ use Rattle.ride_model.specs.declared.entry.Entry.{Entry}
 use Rattle.ride_model.specs.Text.{HasLine, entry_lines}
 use Rattle.ride_ports.specs.Count.{KeepsCount}
 use Rattle.board_core.specs.Recorded.{Recorded}
-use Rattle.fleet_board.specs.Passes.{AddsNone, IsPoint, Known, root_of}
+use Rattle.fleet_board.specs.inner.Passes.{AddsNone, IsPoint, Known, root_of}
 use Rattle.fleet_board.proofs.Looking.{adds_none-then, root-stays, first-stay, seen-grows}
 use Rattle.ride_ports.specs.declared.sources.Failed.{Failed}
-use Rattle.line_text.specs.text_page.Output.{HasPut, IsFresh, OutputState}
+use Rattle.line_text.specs.inner.text_page.Output.{HasPut, IsFresh, OutputState}
 use Rattle.line_text.proofs.text_page.OutputLemmas.{written-prefix, written-whole}
 use Rattle.session_loops.specs.declared.scribes.Scribed.{Scribed}
-use Rattle.session_loops.specs.Loops.{HasScribed, HasScribedSome}
+use Rattle.session_loops.specs.inner.Loops.{HasScribed, HasScribedSome}
 use Rattle.session_loops.proofs.LogLemmas.{entry_lines-append}
 
 -- the entries that a look gives, and the place behind them

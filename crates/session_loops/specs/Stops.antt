@@ -1,12 +1,9 @@
 -- What a loop has taken of a feed, and how a feed ends.
-use Rattle.std.specs.Prelude.{ℕ, ◌≤◌, List, length, Option, Some, None, IfSome}
+use Rattle.std.specs.Prelude.{ℕ, ◌≤◌, List, length, Option, IfSome}
 use Rattle.ride_model.specs.declared.command.Command.{Command}
-use Rattle.ride_model.specs.declared.entry.Ending.{Ending}
-use Rattle.ride_model.specs.declared.entry.Ending.TheVariants.{Whole, Cut}
 use Rattle.command_lines.specs.Commands.{commands_of}
 use Rattle.command_lines.specs.declared.forms.FeedForm.{FeedForm}
 use Rattle.command_lines.specs.Limits.{AreFirst}
-use Rattle.line_text.specs.declared.line_reader.stops.Stop.{Stop}
 
 -- these commands are the first that a feed gives of the bytes that were taken, and of all its bytes, where they are told; and they
 -- are no more than it may have lines
@@ -14,8 +11,3 @@ pub record AreFirstOf (form : FeedForm) (feed : Option (List ℕ)) (taken : List
   pub of_taken : AreFirst commands (commands_of form.log taken)
   pub of_feed : IfSome feed (λ bytes. AreFirst commands (commands_of form.log bytes))
   pub few : length commands ≤ form.lines
-
--- how a feed ends that was stopped, or was not
-abbrev pub ending_of : Option Stop → Ending
-ending_of None = Whole
-ending_of (Some stop) = Cut

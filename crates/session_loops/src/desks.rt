@@ -4,12 +4,12 @@ ghost use Rattle.ride_model.specs.declared.entry.Ending.TheVariants.{Whole};
 ghost use Rattle.ride_model.specs.declared.entry.Event.TheVariants.{Finish};
 ghost use Rattle.ride_model.specs.Legal.{IsLegalEvent};
 ghost use Rattle.turn_lock.specs.Passes.{knowledge};
-ghost use Rattle.batch_commit.specs.Table.{IsPriceable};
-ghost use Rattle.fleet_board.specs.Passes.{IsPoint, actor_of, root_of, seen_state};
+ghost use Rattle.batch_commit.specs.inner.Table.{IsPriceable};
+ghost use Rattle.fleet_board.specs.inner.Passes.{IsPoint, actor_of, root_of, seen_state};
 ghost use Rattle.fleet_board.specs.Roles.{MayCommit, MayOpen};
 ghost use Rattle.fleet_board.specs.Sharing.{MayUse};
-ghost use Rattle.session_loops.specs.Loops.{RunsDesk};
-ghost use Rattle.session_loops.specs.Making.{ClosesBatch, ClosesFirst, HasRunBatches};
+ghost use Rattle.session_loops.specs.inner.Loops.{RunsDesk};
+ghost use Rattle.session_loops.specs.inner.Making.{ClosesBatch, ClosesFirst, HasRunBatches};
 
 use batch_commit::Batch;
 use board_core::Opening;

@@ -1,17 +1,17 @@
 //! The loop of a feed.
 ghost use Rattle.std.specs.Prelude.{◌≡◌, ◌<◌, ◌≤◌, [], length, false, OnErr, OnOk};
 ghost use Rattle.ride_model.specs.Text.{IsSpelledCommand};
-ghost use Rattle.ride_model.specs.Limits.{most_commands, most_earlier_commands};
+ghost use Rattle.ride_model.specs.inner.Limits.{most_commands, most_earlier_commands};
 ghost use Rattle.ride_ports.specs.Count.{KeepsCount};
-ghost use Rattle.command_lines.specs.Feeds.{HasGiven};
-ghost use Rattle.command_lines.specs.Limits.{IsForm};
+ghost use Rattle.command_lines.specs.inner.Feeds.{HasGiven};
+ghost use Rattle.command_lines.specs.inner.Limits.{IsForm};
 ghost use Rattle.turn_lock.specs.Passes.{knowledge};
-ghost use Rattle.fleet_board.specs.Passes.{AddsNone, IsPoint, commands_in, root_of};
+ghost use Rattle.fleet_board.specs.inner.Passes.{AddsNone, IsPoint, commands_in, root_of};
 ghost use Rattle.fleet_board.specs.Roles.{MayFeed};
 ghost use Rattle.fleet_board.specs.Sharing.{MayUse};
-ghost use Rattle.session_loops.specs.Loops.{RunsFeed};
-ghost use Rattle.session_loops.specs.Making.{AddsAnswer, HasSubmitted};
-ghost use Rattle.line_text.specs.line_reader.FeedRuns.{is_source_failed};
+ghost use Rattle.session_loops.specs.inner.Loops.{RunsFeed};
+ghost use Rattle.session_loops.specs.inner.Making.{AddsAnswer, HasSubmitted};
+ghost use Rattle.line_text.specs.inner.line_reader.FeedRuns.{is_source_failed};
 
 use crate::stops::ending_of;
 use command_lines::{FeedForm, FeedReader};

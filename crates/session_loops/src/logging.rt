@@ -1,7 +1,7 @@
 //! What is written of a session's log.
 ghost use Rattle.std.specs.Prelude.{◌≡◌, [], All};
 ghost use Rattle.ride_model.specs.Text.{HasLine, IsOneOrTwo, entry_line, entry_lines, head_line};
-ghost use Rattle.line_text.specs.text_page.Output.{HasPut, IsFresh, Puts};
+ghost use Rattle.line_text.specs.inner.text_page.Output.{HasPut, IsFresh, Puts};
 
 use ride_model::Entry;
 use ride_ports::Sink;

@@ -3,10 +3,10 @@ ghost use Rattle.std.specs.Prelude.{◌≡◌, ℕ, ◌+◌, ◌<◌, [], false,
 ghost use Rattle.ride_model.specs.Text.{HasLine, IsOneOrTwo, entry_lines};
 ghost use Rattle.ride_ports.specs.Count.{KeepsCount};
 ghost use Rattle.turn_lock.specs.Passes.{knowledge};
-ghost use Rattle.fleet_board.specs.Passes.{AddsNone, IsPoint, all_ended, root_of, seen_state};
+ghost use Rattle.fleet_board.specs.inner.Passes.{AddsNone, IsPoint, all_ended, root_of, seen_state};
 ghost use Rattle.fleet_board.specs.Sharing.{MayUse};
-ghost use Rattle.line_text.specs.text_page.Output.{HasPut, IsFresh, Puts};
-ghost use Rattle.session_loops.specs.Loops.{HasScribed, HasScribedSome, HasSeenAll};
+ghost use Rattle.line_text.specs.inner.text_page.Output.{HasPut, IsFresh, Puts};
+ghost use Rattle.session_loops.specs.inner.Loops.{HasScribed, HasScribedSome, HasSeenAll};
 
 use crate::logging::put_all;
 use fleet_board::{ActorPass, SharedBoard, Tail};

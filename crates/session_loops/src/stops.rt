@@ -1,6 +1,6 @@
 //! How a feed ends.
 ghost use Rattle.std.specs.Prelude.{◌≡◌, Option};
-ghost use Rattle.session_loops.specs.Stops.{ending_of};
+ghost use Rattle.session_loops.specs.inner.Stops.{ending_of};
 
 use line_text::line_reader::Stop;
 use ride_model::Ending;

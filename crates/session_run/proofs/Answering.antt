@@ -12,9 +12,11 @@ use Rattle.ride_model.specs.History.Awaited.{any, opening}
 use Rattle.ride_model.specs.State.{State}
 use Rattle.ride_model.specs.Step.{step}
 use Rattle.command_lines.specs.Limits.{AreFirst}
-use Rattle.board_core.specs.Recorded.{Recorded, state_of, fed_entry}
+use Rattle.board_core.specs.Recorded.{Recorded, state_of}
+use Rattle.board_core.specs.inner.Recorded.{fed_entry}
 use Rattle.board_core.proofs.OpenBatches.{state-push}
-use Rattle.session_run.specs.Running.{GoesOn, IsSession, IsAsked, RunsBatch, Answers, Stops, gave_up}
+use Rattle.session_run.specs.Running.{gave_up}
+use Rattle.session_run.specs.inner.Running.{GoesOn, IsSession, IsAsked, RunsBatch, Answers, Stops}
 use Rattle.session_run.proofs.OneMoreEntry.{settled-push, awaited-push, gave_up-push, fed-feed, fed-other, goes-then}
 use Rattle.model_laws.proofs.history_laws.Untouched.{is_asked, leaves-step}
 

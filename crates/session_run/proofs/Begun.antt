@@ -6,7 +6,8 @@ use Rattle.ride_model.specs.Legal.{replay}
 use Rattle.ride_model.specs.Road.{RoadMap}
 use Rattle.ride_model.specs.State.{State, start_state}
 use Rattle.board_core.specs.Recorded.{Recorded, state_of}
-use Rattle.session_run.specs.Running.{IsRunning, IsPrompt}
+use Rattle.session_run.specs.Running.{IsPrompt}
+use Rattle.session_run.specs.inner.Running.{IsRunning}
 use Rattle.session_run.specs.Settled.{IsSettled}
 
 -- a board before anything happened is between two commands

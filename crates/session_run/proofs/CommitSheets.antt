@@ -9,14 +9,15 @@ use Rattle.ride_model.specs.Batch.{next_batch}
 use Rattle.ride_model.specs.Legal.{replay}
 use Rattle.ride_model.specs.Seating.{BatchCopy}
 use Rattle.ride_model.specs.State.{State}
-use Rattle.batch_commit.specs.Solved.{SolvedBatch}
-use Rattle.board_core.specs.Recorded.{Recorded, state_of, opened_entry, committed_entry, end_entry}
+use Rattle.batch_commit.specs.inner.Solved.{SolvedBatch}
+use Rattle.board_core.specs.Recorded.{Recorded, state_of, opened_entry, end_entry}
+use Rattle.board_core.specs.inner.Recorded.{committed_entry}
 use Rattle.idle_moves.specs.declared.moves.MoveSheet.{MoveSheet}
 use Rattle.idle_moves.specs.HistorySheets.{ArePaired, Commit, IsSheetOf, commit_by, commits_after, commits_of}
 use Rattle.idle_moves.specs.Sheet.{IsSheet}
 use Rattle.session_run.specs.declared.batches.Answered.{Answered}
 use Rattle.session_run.specs.declared.batches.Answered.TheVariants.{Whole, Wanting}
-use Rattle.session_run.specs.Planning.{AddsSheets, CommitsPlanned, IsPlanned, is_whole, sheets_in}
+use Rattle.session_run.specs.inner.Planning.{AddsSheets, CommitsPlanned, IsPlanned, is_whole, sheets_in}
 
 cons_option-append : {A : Type 0} (o : Option A) (xs ys : List A) → cons_option o (xs ++ ys) ≡ cons_option o xs ++ ys
 cons_option-append None xs ys = refl

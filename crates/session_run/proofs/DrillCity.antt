@@ -11,7 +11,7 @@ use Rattle.ride_model.specs.State.{State}
 use Rattle.ride_ports.specs.Bytes.{Writes, WritesPrefix}
 use Rattle.city_maker.specs.declared.plan.CityPlan.{CityPlan}
 use Rattle.city_maker.specs.Feed.{commands_of, group_of, groups_of, request_of, requests_in}
-use Rattle.city_maker.specs.Plan.{IsPlan}
+use Rattle.city_maker.specs.inner.Plan.{IsPlan}
 use Rattle.city_maker.specs.Steps.{Drilled, last_steps, start_of, steps_of, steps_with}
 use Rattle.session_run.specs.Logged.{IsLogged}
 use Rattle.city_maker.proofs.AllOfPieces.{length-flat_map_range_le}

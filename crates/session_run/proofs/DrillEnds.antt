@@ -17,7 +17,7 @@ use Rattle.model_laws.specs.history_laws.Start.{IsStart}
 use Rattle.board_core.specs.Recorded.{Recorded, end_entry, state_of}
 use Rattle.board_core.proofs.OpenBatches.{state-push}
 use Rattle.city_maker.specs.Steps.{last_steps}
-use Rattle.session_run.specs.Drills.{IsDrilling}
+use Rattle.session_run.specs.inner.Drills.{IsDrilling}
 use Rattle.session_run.specs.Running.{IsPrompt}
 use Rattle.session_run.specs.Settled.{IsSettled}
 use Rattle.session_run.proofs.DrillSteps.{follows-then}

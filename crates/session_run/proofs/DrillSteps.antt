@@ -18,11 +18,12 @@ use Rattle.ride_model.specs.History.{fed_commands}
 use Rattle.ride_model.specs.Legal.{after_entry, replay}
 use Rattle.ride_model.specs.State.{State}
 use Rattle.ride_model.specs.Step.{step}
-use Rattle.board_core.specs.Recorded.{Recorded, state_of, fed_entry}
+use Rattle.board_core.specs.Recorded.{Recorded, state_of}
+use Rattle.board_core.specs.inner.Recorded.{fed_entry}
 use Rattle.board_core.proofs.OpenBatches.{state-push}
 use Rattle.city_maker.specs.Steps.{steps_with}
-use Rattle.session_run.specs.Drills.{GoesBy, IsDrilling, IsReporting}
-use Rattle.session_run.specs.Running.{AddsAnswer, Answers, AreOfABatch, IsCommit, IsOpening}
+use Rattle.session_run.specs.inner.Drills.{GoesBy, IsDrilling, IsReporting}
+use Rattle.session_run.specs.inner.Running.{AddsAnswer, Answers, AreOfABatch, IsCommit, IsOpening}
 use Rattle.model_laws.proofs.history_laws.Untouched.{is_asked}
 use Rattle.session_run.proofs.Answering.{applied-asked, applied-awaited, applied-none_given_up, applied-others, applied-session}
 

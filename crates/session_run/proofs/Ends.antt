@@ -13,7 +13,8 @@ use Rattle.ride_model.specs.Seating.{BatchCopy}
 use Rattle.ride_model.specs.State.{State, has_ended, is_actor}
 use Rattle.board_core.specs.Recorded.{Recorded, state_of, end_entry}
 use Rattle.board_core.proofs.OpenBatches.{state-push}
-use Rattle.session_run.specs.Running.{IsPrompt, IsSession}
+use Rattle.session_run.specs.Running.{IsPrompt}
+use Rattle.session_run.specs.inner.Running.{IsSession}
 use Rattle.session_run.proofs.OneMoreEntry.{awaited-push, gave_up-push}
 
 -- the ends of the feed and the desk leave a history prompt

@@ -5,8 +5,8 @@ use Rattle.line_text.specs.declared.line_reader.answers.ReadStop.TheVariants.{So
 use Rattle.board_core.specs.Recorded.{Recorded}
 use Rattle.line_text.specs.declared.line_reader.stops.Stop.{Stop}
 use Rattle.line_text.specs.declared.line_reader.stops.Stop.TheVariants.{NoMemory, OfFeed}
-use Rattle.line_text.specs.line_reader.FeedRuns.{is_source_failed, is_too_long}
-use Rattle.session_run.specs.Reading.{HasEnded}
+use Rattle.line_text.specs.inner.line_reader.FeedRuns.{is_source_failed, is_too_long}
+use Rattle.session_run.specs.inner.Reading.{HasEnded}
 
 -- where neither memory nor the source was wanting, and the feed was not too long, nothing is left of it
 pub nothing-left : (log : ℕ) (left : Option (List ℕ)) (stop : Option Stop) (board : Recorded) (no_memory : Bool) (taken : List ℕ) → no_memory ≡ false

@@ -13,7 +13,8 @@ use Rattle.ride_model.specs.History.Awaited.{any}
 use Rattle.ride_model.specs.State.{is_actor}
 use Rattle.board_core.specs.Recorded.{Recorded}
 use Rattle.board_core.proofs.FedEntries.{fed_commands-append}
-use Rattle.session_run.specs.Running.{GoesOn, gave_up}
+use Rattle.session_run.specs.Running.{gave_up}
+use Rattle.session_run.specs.inner.Running.{GoesOn}
 use Rattle.session_run.specs.Settled.{settles, IsSettled}
 
 -- no outcome of one more entry is stale

@@ -11,17 +11,18 @@ use Rattle.ride_model.specs.History.Awaited.{any}
 use Rattle.ride_model.specs.Legal.{all_feeds_ended, replay, IsLegal, IsLegalEntry, CommitsBatch}
 use Rattle.ride_model.specs.Seating.{BatchCopy, seat_offer, seating_cost}
 use Rattle.ride_model.specs.State.{State, open_batch_numbered}
-use Rattle.batch_commit.specs.Solved.{SolvedBatch}
+use Rattle.batch_commit.specs.inner.Solved.{SolvedBatch}
 use Rattle.model_laws.proofs.plain.Each.{of_all, all_of}
 use Rattle.model_laws.proofs.Histories.{IsLegal-parts}
 use Rattle.model_laws.proofs.RequestStates.{others-opening, abandon-is}
-use Rattle.model_laws.specs.history_laws.Consistent.{IsOpenBatch}
+use Rattle.model_laws.specs.inner.history_laws.Consistent.{IsOpenBatch}
 use Rattle.board_core.specs.declared.opening.Opening.{Opening}
 use Rattle.board_core.specs.declared.opening.Opening.TheVariants.{Batch, Idle, Ended}
-use Rattle.board_core.specs.Opening.{opening_at}
-use Rattle.board_core.specs.Recorded.{Recorded, state_of, opened_entry, committed_entry, abandoned_entry}
+use Rattle.board_core.specs.inner.Opening.{opening_at}
+use Rattle.board_core.specs.Recorded.{Recorded, state_of, opened_entry}
+use Rattle.board_core.specs.inner.Recorded.{committed_entry, abandoned_entry}
 use Rattle.board_core.proofs.OpenBatches.{state-push, same_batch}
-use Rattle.session_run.specs.Running.{IsAsked, IsOpened, RunsBatch, Closes}
+use Rattle.session_run.specs.inner.Running.{IsAsked, IsOpened, RunsBatch, Closes}
 use Rattle.session_run.specs.Settled.{settles}
 use Rattle.session_run.proofs.OneMoreEntry.{settled-push, awaited-push, gave_up-push, fed-desk, goes-then}
 use Rattle.model_laws.proofs.history_laws.Untouched.{stays-outcomes}

@@ -28,16 +28,19 @@ use Rattle.model_laws.proofs.history_laws.KeptHistory.{keeps_promises}
 use Rattle.board_core.specs.Recorded.{Recorded, state_of, end_entry}
 use Rattle.board_core.proofs.OpenBatches.{state-push}
 use Rattle.board_core.proofs.FedEntries.{fed_commands-append}
-use Rattle.line_text.specs.text_page.Output.{HasPut, OutputState}
+use Rattle.line_text.specs.inner.text_page.Output.{HasPut, OutputState}
 use Rattle.line_text.proofs.text_page.OutputLemmas.{written-prefix, written-whole}
 use Rattle.line_text.specs.declared.line_reader.stops.Stop.{Stop}
 use Rattle.line_text.specs.declared.line_reader.stops.Stop.TheVariants.{NoMemory, OfFeed}
 use Rattle.session_run.specs.Logged.{IsLogged}
-use Rattle.line_text.specs.line_reader.FeedRuns.{IsReadWhole, is_source_failed, is_too_long}
-use Rattle.session_loops.specs.Stops.{AreFirstOf, ending_of}
-use Rattle.session_run.specs.Reading.{HasEnded}
+use Rattle.line_text.specs.inner.line_reader.FeedRuns.{is_source_failed, is_too_long}
+use Rattle.line_text.specs.line_reader.FeedRuns.{IsReadWhole}
+use Rattle.session_loops.specs.Stops.{AreFirstOf}
+use Rattle.session_loops.specs.inner.Stops.{ending_of}
+use Rattle.session_run.specs.inner.Reading.{HasEnded}
 use Rattle.session_run.specs.Replay.{IsReplay}
-use Rattle.session_run.specs.Running.{IsPrompt, IsSession, IsRunning}
+use Rattle.session_run.specs.Running.{IsPrompt}
+use Rattle.session_run.specs.inner.Running.{IsSession, IsRunning}
 use Rattle.session_run.specs.Settled.{IsSettled}
 use Rattle.session_run.proofs.Ends.{ends-prompt}
 use Rattle.session_run.proofs.OneMoreEntry.{settled-push}

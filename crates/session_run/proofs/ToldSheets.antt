@@ -11,14 +11,15 @@ use Rattle.board_core.specs.Recorded.{Recorded, end_entry}
 use Rattle.idle_moves.specs.declared.moves.MoveSheet.{MoveSheet}
 use Rattle.idle_moves.specs.AheadText.{ahead_text, head_line, last_line, sheet_line, sheet_lines}
 use Rattle.idle_moves.specs.HistorySheets.{AreSheetsOf}
-use Rattle.line_text.specs.text_page.Output.{HasPut, OutputState}
+use Rattle.line_text.specs.inner.text_page.Output.{HasPut, OutputState}
 use Rattle.session_run.specs.declared.batches.Answered.{Answered}
 use Rattle.session_run.specs.Ahead.{sheets_text}
-use Rattle.session_run.specs.SessionState.{SessionState}
-use Rattle.session_run.specs.Planning.{is_whole, sheets_in}
-use Rattle.session_run.specs.Reading.{HasToldAllBy, HasToldBy, IsTold, TellsSheets}
-use Rattle.session_run.specs.Running.{GoesOn, IsPrompt}
-use Rattle.session_run.specs.Telling.{GoesOnTo, GoesOnWith}
+use Rattle.session_run.specs.inner.SessionState.{SessionState}
+use Rattle.session_run.specs.inner.Planning.{is_whole, sheets_in}
+use Rattle.session_run.specs.inner.Reading.{HasToldAllBy, HasToldBy, IsTold, TellsSheets}
+use Rattle.session_run.specs.Running.{IsPrompt}
+use Rattle.session_run.specs.inner.Running.{GoesOn}
+use Rattle.session_run.specs.inner.Telling.{GoesOnTo, GoesOnWith}
 use Rattle.session_run.proofs.CommitSheets.{adds-ends}
 use Rattle.session_run.proofs.Ends.{ends-prompt}
 

@@ -11,15 +11,15 @@ use Rattle.board_core.specs.Recorded.{Recorded}
 use Rattle.idle_moves.specs.declared.moves.MoveSheet.{MoveSheet}
 use Rattle.idle_moves.specs.AheadText.{ahead_text}
 use Rattle.idle_moves.specs.HistorySheets.{AreSheetsOf}
-use Rattle.line_text.specs.text_page.Output.{HasPut}
+use Rattle.line_text.specs.inner.text_page.Output.{HasPut}
 use Rattle.line_text.specs.declared.line_reader.stops.Stop.{Stop}
 use Rattle.line_text.specs.declared.line_reader.stops.Stop.TheVariants.{NoMemory, OfFeed}
 use Rattle.session_run.specs.Ahead.{IsWrittenBy, feed_ending, sheets_text}
 use Rattle.session_run.specs.Logged.{IsLogged}
-use Rattle.session_run.specs.SessionState.{SessionState}
-use Rattle.line_text.specs.line_reader.FeedRuns.{is_source_failed, is_too_long}
-use Rattle.session_loops.specs.Stops.{ending_of}
-use Rattle.session_run.specs.Reading.{HasEnded, HasToldAll, HasToldAllBy}
+use Rattle.session_run.specs.inner.SessionState.{SessionState}
+use Rattle.line_text.specs.inner.line_reader.FeedRuns.{is_source_failed, is_too_long}
+use Rattle.session_loops.specs.inner.Stops.{ending_of}
+use Rattle.session_run.specs.inner.Reading.{HasEnded, HasToldAll, HasToldAllBy}
 use Rattle.session_run.proofs.Replays.{is-logged}
 
 -- how a feed ended, by what stopped it

@@ -1,11 +1,7 @@
 pub mod Settled
 pub mod Replay
 pub mod Logged
-pub mod SessionState
-pub mod Writing
 pub mod Running
-pub mod Planning
 pub mod Ahead
-pub mod Reading
-pub mod Telling
 pub mod Drills
+pub mod inner

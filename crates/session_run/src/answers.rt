@@ -3,10 +3,11 @@ ghost use Rattle.std.specs.Prelude.{◌≡◌, ◌<◌, ◌≤◌, ℕ, length, 
 ghost use Rattle.std.specs.Option.{ForSome};
 ghost use Rattle.ride_model.specs.History.{fed_commands};
 ghost use Rattle.ride_model.specs.Text.{IsSpelledCommand};
-ghost use Rattle.ride_model.specs.Limits.{longest_reach, most_commands};
+ghost use Rattle.ride_model.specs.Limits.{longest_reach};
+ghost use Rattle.ride_model.specs.inner.Limits.{most_commands};
 ghost use Rattle.board_core.specs.Recorded.{state_of};
-ghost use Rattle.session_run.specs.Planning.{AddsSheets, is_whole, sheets_in};
-ghost use Rattle.session_run.specs.Running.{Answers, IsSession, Stops};
+ghost use Rattle.session_run.specs.inner.Planning.{AddsSheets, is_whole, sheets_in};
+ghost use Rattle.session_run.specs.inner.Running.{Answers, IsSession, Stops};
 
 use crate::batches::{Answered, run_batch};
 use crate::tools::Tools;

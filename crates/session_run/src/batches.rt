@@ -2,10 +2,11 @@
 ghost use Rattle.std.specs.Prelude.{◌≡◌, ◌≤◌, ◌++◌, ◌∷◌, [], ℕ, true, Some, IfOk, MatchOption, OnErr};
 ghost use Rattle.std.specs.Option.{ForSome};
 ghost use Rattle.ride_model.specs.Limits.{longest_reach};
-ghost use Rattle.batch_commit.specs.Table.{IsPriceable, IsTableOf};
-ghost use Rattle.board_core.specs.Recorded.{committed_entry, state_of};
-ghost use Rattle.session_run.specs.Planning.{AddsSheets, CommitsPlanned, IsPlanned, is_whole, sheets_in};
-ghost use Rattle.session_run.specs.Running.{Closes, IsAsked, IsOpened, RunsBatch};
+ghost use Rattle.batch_commit.specs.inner.Table.{IsPriceable, IsTableOf};
+ghost use Rattle.board_core.specs.Recorded.{state_of};
+ghost use Rattle.board_core.specs.inner.Recorded.{committed_entry};
+ghost use Rattle.session_run.specs.inner.Planning.{AddsSheets, CommitsPlanned, IsPlanned, is_whole, sheets_in};
+ghost use Rattle.session_run.specs.inner.Running.{Closes, IsAsked, IsOpened, RunsBatch};
 
 use crate::tools::Tools;
 use batch_commit::{Batch, Solved};

@@ -8,15 +8,16 @@ ghost use Rattle.ride_model.specs.History.{fed_commands};
 ghost use Rattle.ride_model.specs.Legal.{IsLegal};
 ghost use Rattle.ride_model.specs.State.{start_state};
 ghost use Rattle.ride_model.specs.Text.{HasText, IsSpelledCommand, text_of};
-ghost use Rattle.ride_model.specs.Limits.{longest_reach, most_commands};
+ghost use Rattle.ride_model.specs.Limits.{longest_reach};
+ghost use Rattle.ride_model.specs.inner.Limits.{most_commands};
 ghost use Rattle.board_core.specs.Recorded.{Recorded, end_entry, state_of};
 ghost use Rattle.idle_moves.specs.AheadText.{last_line, sheet_lines};
-ghost use Rattle.line_text.specs.text_page.Output.{HasPut, IsFresh};
-ghost use Rattle.session_run.specs.Planning.{is_whole, sheets_in};
-ghost use Rattle.session_run.specs.Reading.{HasTold, HasToldAll, IsTold};
-ghost use Rattle.session_run.specs.Telling.{GoesOnTo, GoesOnWith};
-ghost use Rattle.session_run.specs.Running.{IsRunning, IsSession, Stops};
-ghost use Rattle.session_run.specs.Writing.{reach_of};
+ghost use Rattle.line_text.specs.inner.text_page.Output.{HasPut, IsFresh};
+ghost use Rattle.session_run.specs.inner.Planning.{is_whole, sheets_in};
+ghost use Rattle.session_run.specs.inner.Reading.{HasTold, HasToldAll, IsTold};
+ghost use Rattle.session_run.specs.inner.Telling.{GoesOnTo, GoesOnWith};
+ghost use Rattle.session_run.specs.inner.Running.{IsRunning, IsSession, Stops};
+ghost use Rattle.session_run.specs.inner.Writing.{reach_of};
 
 use crate::answers::answer;
 use crate::batches::Answered;
@@ -45,8 +46,8 @@ pub(crate) struct Session<'r> {
 impl<'r> Model for Session<'r> {
     ghost use Rattle.std.specs.Prelude.{◌≡◌, ◌≤◌};
     ghost use Rattle.std.specs.Option.{ForSome};
-    ghost use Rattle.session_run.specs.SessionState.{SessionState};
-    ghost use Rattle.session_run.specs.Writing.{reach_of};
+    ghost use Rattle.session_run.specs.inner.SessionState.{SessionState};
+    ghost use Rattle.session_run.specs.inner.Writing.{reach_of};
 
     ghost Value = { SessionState };
 

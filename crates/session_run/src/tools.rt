@@ -1,7 +1,7 @@
 //! What the desk of a session of one feed works with.
 ghost use Rattle.std.specs.Prelude.{◌≡◌, ◌≤◌, IfOk, IfErr};
 ghost use Rattle.ride_model.specs.Limits.{longest_reach};
-ghost use Rattle.batch_commit.specs.Table.{IsPriceable, IsTableOf};
+ghost use Rattle.batch_commit.specs.inner.Table.{IsPriceable, IsTableOf};
 ghost use Rattle.idle_moves.specs.Sheet.{IsSheet};
 
 use adaptive_roads::{Roads, TravelTimes};

@@ -1,6 +1,6 @@
 //! What a session writes.
 ghost use Rattle.std.specs.Prelude.{◌≡◌};
-ghost use Rattle.session_run.specs.Writing.{reach_of};
+ghost use Rattle.session_run.specs.inner.Writing.{reach_of};
 
 /// What a session writes: its log, or the sheets of its batches.
 #[derive(Clone, Copy)]

@@ -19,17 +19,17 @@ use Rattle.model_laws.proofs.Costs.{offer_plan}
 use Rattle.stop_plans.proofs.InsertedLegs.{inserts-into}
 use Rattle.promises.proofs.Visits.{length-times, keeps-vehicle}
 use Rattle.insertion.specs.declared.near.Near.{Near}
-use Rattle.insertion.specs.Asked.{IsAsked}
-use Rattle.insertion.specs.Joined.{joins_near}
-use Rattle.insertion.specs.Least.{cost_if_any, least_with_pickup}
+use Rattle.insertion.specs.inner.Asked.{IsAsked}
+use Rattle.insertion.specs.inner.Joined.{joins_near}
+use Rattle.insertion.specs.inner.Least.{cost_if_any, least_with_pickup}
 use Rattle.insertion.proofs.OfferLaws.{joins-law, no-places, no-room, no-legs, inserts, of-plan, new-routed}
 use Rattle.insertion.proofs.LeastOffers.{price-least}
 use Rattle.slack_tables.specs.declared.found.Found.{Found}
 use Rattle.slack_tables.specs.declared.terms.Terms.{Terms}
-use Rattle.slack_tables.specs.Tables.{PlanSlack}
-use Rattle.slack_tables.specs.Offered.{offer_with}
-use Rattle.slack_tables.specs.SlackOf.{slack_of}
-use Rattle.slack_tables.specs.Search.{terms_of, cost_at, least_at, least_from, IsFound, IsSearch}
+use Rattle.slack_tables.specs.inner.Tables.{PlanSlack}
+use Rattle.slack_tables.specs.inner.Offered.{offer_with}
+use Rattle.slack_tables.specs.inner.SlackOf.{slack_of}
+use Rattle.slack_tables.specs.inner.Search.{terms_of, cost_at, least_at, least_from, IsFound, IsSearch}
 use Rattle.slack_tables.proofs.NearTimes.{is_search}
 use Rattle.slack_tables.proofs.Ranges.{least-same, least-none}
 use Rattle.slack_tables.proofs.WithRide.{with_ride, IsWith, kept_fits}

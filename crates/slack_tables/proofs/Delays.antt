@@ -4,8 +4,8 @@ use Rattle.std.specs.Prelude.{insert}
 use Rattle.model_laws.proofs.plain.Numbers.{swap-last}
 use Rattle.ride_model.specs.declared.vehicle.Stop.{Stop}
 use Rattle.ride_model.specs.Times.{times_from}
-use Rattle.stop_plans.specs.Legged.{relegged, with_stop}
-use Rattle.slack_tables.specs.Search.{leave_at, last_time}
+use Rattle.stop_plans.specs.inner.Legged.{relegged, with_stop}
+use Rattle.slack_tables.specs.inner.Search.{leave_at, last_time}
 
 -- arrivals of which those from a place on are later by d
 abbrev pub delayed : ℕ → ℕ → List ℕ → List ℕ

@@ -8,7 +8,7 @@ use Rattle.ride_model.specs.Vehicle.{HasLegs}
 use Rattle.ride_model.specs.Times.{times_from}
 use Rattle.model_laws.proofs.TravelTimes.{triangle}
 use Rattle.insertion.proofs.Joined.{before_place, after_place}
-use Rattle.slack_tables.specs.Search.{leave_at}
+use Rattle.slack_tables.specs.inner.Search.{leave_at}
 
 -- a direct way is no longer than one of two legs
 direct-le : (roads : RoadMap) (x y z a b leg : ℕ) → IsRoadMap roads → travel roads x y ≡ Some a → travel roads y z ≡ Some b

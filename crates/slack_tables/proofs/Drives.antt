@@ -6,7 +6,7 @@ use Rattle.insertion.proofs.PlanTimes.{last-is}
 use Rattle.ride_model.specs.declared.vehicle.Stop.{Stop}
 use Rattle.ride_model.specs.declared.vehicle.Vehicle.{Vehicle}
 use Rattle.ride_model.specs.Times.{times_from, times_of, drive_of}
-use Rattle.slack_tables.specs.Search.{last_time}
+use Rattle.slack_tables.specs.inner.Search.{last_time}
 use Rattle.slack_tables.proofs.Delays.{delayed, length-delayed, length-insert, last-insert, last-inserted, last-delayed}
 use Rattle.slack_tables.proofs.RideRooms.{twice_delayed}
 use Rattle.slack_tables.proofs.WithRide.{arrivals_with}

@@ -17,20 +17,20 @@ use Rattle.ride_model.specs.Keeps.{keeps}
 use Rattle.ride_model.specs.Insertion.{pickup_of, dropoff_of}
 use Rattle.ride_model.specs.Offers.{is_open, start_of, offer_of, offer_of_plan}
 use Rattle.model_laws.proofs.TravelTimes.{travel-le}
-use Rattle.stop_plans.specs.Legged.{with_leg}
+use Rattle.stop_plans.specs.inner.Legged.{with_leg}
 use Rattle.stop_plans.proofs.InsertedLegs.{inserts-into}
 use Rattle.promises.proofs.Visits.{length-times, times-soon}
 use Rattle.insertion.specs.declared.near.Near.{Near}
 use Rattle.insertion.specs.declared.near.NearStop.{NearStop}
-use Rattle.insertion.specs.Asked.{IsAsked}
-use Rattle.insertion.specs.Joined.{leg_before, leg_after, four_legs, joins_near}
-use Rattle.insertion.specs.Least.{cost_if_any}
+use Rattle.insertion.specs.inner.Asked.{IsAsked}
+use Rattle.insertion.specs.inner.Joined.{leg_before, leg_after, four_legs, joins_near}
+use Rattle.insertion.specs.inner.Least.{cost_if_any}
 use Rattle.insertion.proofs.OfferLaws.{no-legs, inserts, of-plan, new-routed}
 use Rattle.insertion.proofs.PlanTimes.{start-le}
 use Rattle.slack_tables.specs.declared.terms.Terms.{Terms}
-use Rattle.slack_tables.specs.Tables.{PlanSlack}
-use Rattle.slack_tables.specs.SlackOf.{slack_of}
-use Rattle.slack_tables.specs.Search.{terms_of, leave_at, cost_at}
+use Rattle.slack_tables.specs.inner.Tables.{PlanSlack}
+use Rattle.slack_tables.specs.inner.SlackOf.{slack_of}
+use Rattle.slack_tables.specs.inner.Search.{terms_of, leave_at, cost_at}
 use Rattle.slack_tables.proofs.Delays.{delayed, length-delayed, index-insert, with-two}
 use Rattle.slack_tables.proofs.WithRide.{with_ride, arrivals_with, arrivals-two, IsWith}
 use Rattle.slack_tables.proofs.Detours.{detour-one, detour-two, leave-le}

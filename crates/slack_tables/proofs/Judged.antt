@@ -6,12 +6,12 @@ use Rattle.std.proofs.lemmas.Option.{same_Some}
 use Rattle.model_laws.proofs.plain.Numbers.{eqb-less, less_if_differs}
 use Rattle.insertion.specs.declared.near.Near.{Near}
 use Rattle.insertion.specs.declared.near.NearStop.{NearStop}
-use Rattle.insertion.specs.Joined.{leg_before, leg_after, four_legs, joins_near, to_pickup_of, after_pickup_of, to_dropoff_of, after_dropoff_of}
+use Rattle.insertion.specs.inner.Joined.{leg_before, leg_after, four_legs, joins_near, to_pickup_of, after_pickup_of, to_dropoff_of, after_dropoff_of}
 use Rattle.insertion.proofs.NearLegs.{after-none}
 use Rattle.ride_model.specs.declared.offer.Joins.{Joins}
 use Rattle.slack_tables.specs.declared.terms.Terms.{Terms}
-use Rattle.slack_tables.specs.Tables.{PlanSlack, room_at}
-use Rattle.slack_tables.specs.Search.{leave_at, last_time, has_room_between, at_most, pickup_at, lateness, within_rooms, added, cost_of, cost_of_dropoff, cost_together, cost_apart, cost_at}
+use Rattle.slack_tables.specs.inner.Tables.{PlanSlack, room_at}
+use Rattle.slack_tables.specs.inner.Search.{leave_at, last_time, has_room_between, at_most, pickup_at, lateness, within_rooms, added, cost_of, cost_of_dropoff, cost_together, cost_apart, cost_at}
 
 -- what a pair of places must be to have a cost, with these times of the two new stops and these delays
 pub record Judged (terms : Terms) (slack : PlanSlack) (i j pickup late dropoff delay : ℕ) : Type 0 where

@@ -15,12 +15,12 @@ use Rattle.model_laws.proofs.TravelTimes.{travel-le}
 use Rattle.promises.proofs.Visits.{length-times}
 use Rattle.insertion.specs.declared.near.Near.{Near}
 use Rattle.insertion.specs.declared.near.NearStop.{NearStop}
-use Rattle.insertion.specs.Asked.{near_stop, HoldsTimes, IsAsked}
-use Rattle.insertion.specs.Joined.{leg_before, leg_after}
+use Rattle.insertion.specs.inner.Asked.{near_stop, HoldsTimes, IsAsked}
+use Rattle.insertion.specs.inner.Joined.{leg_before, leg_after}
 use Rattle.insertion.proofs.Joined.{before_place, after_place, before-noted, after-noted}
 use Rattle.insertion.proofs.PlanTimes.{start-le}
-use Rattle.slack_tables.specs.SlackOf.{slack_of}
-use Rattle.slack_tables.specs.Search.{terms_of, IsShort, IsNearStop, IsSearch}
+use Rattle.slack_tables.specs.inner.SlackOf.{slack_of}
+use Rattle.slack_tables.specs.inner.Search.{terms_of, IsShort, IsNearStop, IsSearch}
 use Rattle.slack_tables.proofs.TableLaws.{are_tables}
 
 -- the legs near a ride are travel times

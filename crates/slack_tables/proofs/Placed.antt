@@ -14,14 +14,14 @@ use Rattle.ride_model.specs.Times.{times_of, drive_of}
 use Rattle.ride_model.specs.Keeps.{keeps}
 use Rattle.ride_model.specs.Offers.{start_of, joins_of, offer_of_plan, cost_of as plan_cost}
 use Rattle.model_laws.proofs.AboardLoads.{range_passes, passes_range}
-use Rattle.promises.specs.Arrivals.{breaks_along}
+use Rattle.promises.specs.inner.Arrivals.{breaks_along}
 use Rattle.promises.proofs.Visits.{length-times, keeps-vehicle}
 use Rattle.insertion.specs.declared.near.Near.{Near}
-use Rattle.insertion.specs.Least.{cost_if_any}
+use Rattle.insertion.specs.inner.Least.{cost_if_any}
 use Rattle.slack_tables.specs.declared.terms.Terms.{Terms}
-use Rattle.slack_tables.specs.Tables.{PlanSlack, load_at}
-use Rattle.slack_tables.specs.SlackOf.{slack_of}
-use Rattle.slack_tables.specs.Search.{terms_of, last_time, has_room, cost_of, cost_at}
+use Rattle.slack_tables.specs.inner.Tables.{PlanSlack, load_at}
+use Rattle.slack_tables.specs.inner.SlackOf.{slack_of}
+use Rattle.slack_tables.specs.inner.Search.{terms_of, last_time, has_room, cost_of, cost_at}
 use Rattle.slack_tables.proofs.WithRide.{with_ride, arrivals_with, IsWith, Fits, kept_fits, fits_kept}
 use Rattle.slack_tables.proofs.TableLaws.{room-is, load-is}
 use Rattle.slack_tables.proofs.Drives.{drive-last, last-before, last-at-end, pickup-index}

@@ -7,11 +7,11 @@ use Rattle.ride_model.specs.declared.vehicle.Kind.TheVariants.{Pickup, Dropoff}
 use Rattle.ride_model.specs.declared.vehicle.Ride.{Ride}
 use Rattle.ride_model.specs.declared.vehicle.Stop.{Stop}
 use Rattle.ride_model.specs.Vehicle.{visits_due, visit_of, stops_of}
-use Rattle.promises.specs.Arrivals.{arrival_of, boarding_of, breaks_between, breaks_trip, breaks_along}
+use Rattle.promises.specs.inner.Arrivals.{arrival_of, boarding_of, breaks_between, breaks_trip, breaks_along}
 use Rattle.promises.proofs.Visits.{HasVisits}
 use Rattle.slack_tables.specs.declared.trips.Trip.{Trip}
 use Rattle.slack_tables.specs.declared.trips.Visit.{Visit}
-use Rattle.slack_tables.specs.Trips.{first_visit, boarding_visit, trip_between, trip_of, no_limit, room_of}
+use Rattle.slack_tables.specs.inner.Trips.{first_visit, boarding_visit, trip_between, trip_of, no_limit, room_of}
 use Rattle.slack_tables.proofs.Delays.{delayed}
 use Rattle.slack_tables.proofs.Visits.{arrival-visit, postponed, visit-delayed, visit-place, one-visit, two-visits}
 use Rattle.slack_tables.proofs.TripRooms.{limits_kept, kept_limits, Shift, Trips, limits_to_rooms, rooms_to_limits}

@@ -9,8 +9,8 @@ use Rattle.insertion.specs.declared.near.Near.{Near}
 use Rattle.insertion.proofs.LeastOffers.{least-on}
 use Rattle.slack_tables.specs.declared.found.Found.{Found}
 use Rattle.slack_tables.specs.declared.terms.Terms.{Terms}
-use Rattle.slack_tables.specs.Tables.{PlanSlack, load_at}
-use Rattle.slack_tables.specs.Search.{has_room, has_room_between, pickup_at, lateness, cost_together, cost_apart, cost_at, least_at, cost_found, IsFound}
+use Rattle.slack_tables.specs.inner.Tables.{PlanSlack, load_at}
+use Rattle.slack_tables.specs.inner.Search.{has_room, has_room_between, pickup_at, lateness, cost_together, cost_apart, cost_at, least_at, cost_found, IsFound}
 use Rattle.slack_tables.proofs.Ranges.{least-none}
 
 -- the ride's load fits from a place on up to another

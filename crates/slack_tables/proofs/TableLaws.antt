@@ -14,9 +14,9 @@ use Rattle.std.proofs.Common.{leb, leb-true, true}
 use Rattle.std.proofs.lemmas.Bool.{and_parts}
 use Rattle.promises.proofs.Visits.{length-times, times-soon}
 use Rattle.slack_tables.specs.declared.trips.Trip.{Trip}
-use Rattle.slack_tables.specs.Trips.{room_of}
-use Rattle.slack_tables.specs.Tables.{load_at, room_at}
-use Rattle.slack_tables.specs.SlackOf.{trips_of, rooms_of, slack_of, AreTables}
+use Rattle.slack_tables.specs.inner.Trips.{room_of}
+use Rattle.slack_tables.specs.inner.Tables.{load_at, room_at}
+use Rattle.slack_tables.specs.inner.SlackOf.{trips_of, rooms_of, slack_of, AreTables}
 
 -- a row
 pub row-is : (trips : List Trip) (stops change : ℕ) → change ≤ stops

@@ -4,7 +4,7 @@ use Rattle.std.proofs.lemmas.Bool.Decides.{nat_tests}
 use Rattle.std.proofs.lemmas.Bool.{and_parts}
 use Rattle.model_laws.proofs.plain.Numbers.{le_or_lt}
 use Rattle.slack_tables.specs.declared.trips.Trip.{Trip}
-use Rattle.slack_tables.specs.Trips.{no_limit, room_in}
+use Rattle.slack_tables.specs.inner.Trips.{no_limit, room_in}
 
 -- the limits of a ride, of one that waits also that of the pickup
 pub record InLimits (waits : Bool) (latest longest boarding dropoff : ℕ) : Type 0 where

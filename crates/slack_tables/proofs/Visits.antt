@@ -8,11 +8,11 @@ use Rattle.ride_model.specs.declared.vehicle.Kind.{Kind}
 use Rattle.ride_model.specs.declared.vehicle.Kind.TheVariants.{Pickup, Dropoff}
 use Rattle.ride_model.specs.declared.vehicle.Stop.{Stop}
 use Rattle.ride_model.specs.Vehicle.{visit_of, stops_of}
-use Rattle.stop_plans.specs.First.{is_kind, is_visit}
-use Rattle.stop_plans.specs.Legged.{relegged, with_stop}
-use Rattle.promises.specs.Arrivals.{arrival_of}
+use Rattle.stop_plans.specs.inner.First.{is_kind, is_visit}
+use Rattle.stop_plans.specs.inner.Legged.{relegged, with_stop}
+use Rattle.promises.specs.inner.Arrivals.{arrival_of}
 use Rattle.slack_tables.specs.declared.trips.Visit.{Visit}
-use Rattle.slack_tables.specs.Trips.{first_visit}
+use Rattle.slack_tables.specs.inner.Trips.{first_visit}
 use Rattle.slack_tables.proofs.Delays.{delayed}
 
 -- a stop that is not the visit

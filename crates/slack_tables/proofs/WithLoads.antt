@@ -7,7 +7,7 @@ use Rattle.ride_model.specs.declared.vehicle.Load.{Load}
 use Rattle.ride_model.specs.declared.vehicle.Ride.{Ride}
 use Rattle.ride_model.specs.declared.vehicle.Stop.{Stop}
 use Rattle.ride_model.specs.Loads.{is_pickup, is_aboard_from, is_aboard_after, load_after}
-use Rattle.stop_plans.specs.Legged.{relegged, with_stop}
+use Rattle.stop_plans.specs.inner.Legged.{relegged, with_stop}
 
 -- legs do not matter
 aboard-relegged : (aboard : Bool) (id place leg k : ℕ) (stops : List Stop)

@@ -13,21 +13,22 @@ use Rattle.ride_model.specs.declared.vehicle.Ride.{Ride}
 use Rattle.ride_model.specs.declared.vehicle.Stop.{Stop}
 use Rattle.ride_model.specs.declared.vehicle.Vehicle.{Vehicle}
 use Rattle.ride_model.specs.Road.{RoadMap, IsRoadMap}
-use Rattle.ride_model.specs.Vehicle.{IsFresh, IsRouted, IsLawful}
+use Rattle.ride_model.specs.Vehicle.{IsRouted, IsLawful}
+use Rattle.ride_model.specs.inner.Vehicle.{IsFresh}
 use Rattle.ride_model.specs.Loads.{is_aboard_from, is_aboard_after, load_after, fits_load, loads_fit}
 use Rattle.ride_model.specs.Times.{times_from, times_of}
 use Rattle.ride_model.specs.Keeps.{keeps}
 use Rattle.ride_model.specs.Insertion.{pickup_of, dropoff_of, with_plan}
 use Rattle.model_laws.proofs.AboardLoads.{FitsThroughout, fits_throughout, loads_fit-throughout, load-agrees}
 use Rattle.model_laws.proofs.Insertions.{plan-fresh}
-use Rattle.stop_plans.specs.First.{is_kind, is_visit}
-use Rattle.stop_plans.specs.Legged.{with_leg, with_stop}
+use Rattle.stop_plans.specs.inner.First.{is_kind, is_visit}
+use Rattle.stop_plans.specs.inner.Legged.{with_leg, with_stop}
 use Rattle.stop_plans.proofs.InsertedLegs.{length-with_stop}
-use Rattle.promises.specs.Arrivals.{arrival_of, boarding_of, breaks_trip, breaks_along}
+use Rattle.promises.specs.inner.Arrivals.{arrival_of, boarding_of, breaks_trip, breaks_along}
 use Rattle.promises.proofs.Visits.{HasVisits, length-times, keeps-vehicle}
-use Rattle.slack_tables.specs.Trips.{no_limit}
-use Rattle.slack_tables.specs.SlackOf.{trips_of}
-use Rattle.slack_tables.specs.Search.{leave_at}
+use Rattle.slack_tables.specs.inner.Trips.{no_limit}
+use Rattle.slack_tables.specs.inner.SlackOf.{trips_of}
+use Rattle.slack_tables.specs.inner.Search.{leave_at}
 use Rattle.slack_tables.proofs.Delays.{delayed, times-with, length-delayed, delayed-insert, leave-insert, length-insert}
 use Rattle.slack_tables.proofs.Visits.{arrival-skip, arrival-here, arrival-none}
 use Rattle.slack_tables.proofs.TripRooms.{limits_kept, kept_limits}

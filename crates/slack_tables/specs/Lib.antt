@@ -1,5 +1,1 @@
-pub mod Tables
-pub mod Trips
-pub mod SlackOf
-pub mod Search
-pub mod Offered
+pub mod inner

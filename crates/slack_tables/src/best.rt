@@ -4,11 +4,11 @@ ghost use Rattle.ride_model.specs.declared.offer.Offer.{Offer};
 ghost use Rattle.ride_model.specs.Road.{RoadMap};
 ghost use Rattle.ride_model.specs.Offers.{start_of, is_open, offer_of, price};
 ghost use Rattle.ride_model.specs.Limits.{latest_time};
-ghost use Rattle.insertion.specs.Asked.{IsAsked};
-ghost use Rattle.insertion.specs.Least.{cost_if_any};
-ghost use Rattle.slack_tables.specs.Tables.{load_at};
-ghost use Rattle.slack_tables.specs.SlackOf.{slack_of};
-ghost use Rattle.slack_tables.specs.Search.{has_room, pickup_at, lateness, least_at, least_from, cost_found, IsFound, IsSearch};
+ghost use Rattle.insertion.specs.inner.Asked.{IsAsked};
+ghost use Rattle.insertion.specs.inner.Least.{cost_if_any};
+ghost use Rattle.slack_tables.specs.inner.Tables.{load_at};
+ghost use Rattle.slack_tables.specs.inner.SlackOf.{slack_of};
+ghost use Rattle.slack_tables.specs.inner.Search.{has_room, pickup_at, lateness, least_at, least_from, cost_found, IsFound, IsSearch};
 
 use crate::found::{Found, cheaper, found_at};
 use crate::offered::offered;

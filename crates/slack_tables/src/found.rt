@@ -2,7 +2,7 @@
 ghost use Rattle.std.specs.Prelude.{◌≡◌, ◌⊎◌, option_map};
 ghost use Rattle.ride_model.specs.Road.{lesser};
 ghost use Rattle.slack_tables.specs.declared.found.Found.{Found};
-ghost use Rattle.slack_tables.specs.Search.{cost_found};
+ghost use Rattle.slack_tables.specs.inner.Search.{cost_found};
 
 /// A pair of places and what it costs.
 #[derive(Clone, Copy, PartialEq, Eq, Default)]

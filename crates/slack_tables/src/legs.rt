@@ -1,8 +1,8 @@
 //! Legs, read from the times near a ride.
 ghost use Rattle.std.specs.Prelude.{◌≡◌, ◌≤◌, ◌<◌, length, All};
 ghost use Rattle.insertion.specs.declared.near.NearStop.{NearStop};
-ghost use Rattle.insertion.specs.Joined.{leg_before, leg_after};
-ghost use Rattle.slack_tables.specs.Search.{IsShort, IsNearStop};
+ghost use Rattle.insertion.specs.inner.Joined.{leg_before, leg_after};
+ghost use Rattle.slack_tables.specs.inner.Search.{IsShort, IsNearStop};
 
 use insertion::NearStop;
 

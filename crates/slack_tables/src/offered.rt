@@ -1,7 +1,7 @@
 //! The offer at a pair of places that was found.
 ghost use Rattle.std.specs.Prelude.{◌≡◌, ◌≤◌, length, option_map};
-ghost use Rattle.insertion.specs.Joined.{joins_near};
-ghost use Rattle.slack_tables.specs.Offered.{offer_with};
+ghost use Rattle.insertion.specs.inner.Joined.{joins_near};
+ghost use Rattle.slack_tables.specs.inner.Offered.{offer_with};
 
 use crate::found::Found;
 use insertion::Near;

@@ -1,9 +1,9 @@
 //! What a ride costs at a pair of places, by the tables of the plan.
 ghost use Rattle.std.specs.Prelude.{◌≡◌, ◌≤◌, ◌<◌, ◌+◌, ◌-◌, length, slice_index, IfSome};
 ghost use Rattle.ride_model.specs.Limits.{latest_time};
-ghost use Rattle.slack_tables.specs.SlackOf.{AreTables};
-ghost use Rattle.slack_tables.specs.Tables.{load_at};
-ghost use Rattle.slack_tables.specs.Search.{leave_at, last_time, has_room, at_most, pickup_at, lateness, within_rooms, added, cost_of, cost_of_dropoff, cost_together, cost_apart, IsShort, AreTerms, IsSearch};
+ghost use Rattle.slack_tables.specs.inner.SlackOf.{AreTables};
+ghost use Rattle.slack_tables.specs.inner.Tables.{load_at};
+ghost use Rattle.slack_tables.specs.inner.Search.{leave_at, last_time, has_room, at_most, pickup_at, lateness, within_rooms, added, cost_of, cost_of_dropoff, cost_together, cost_apart, IsShort, AreTerms, IsSearch};
 
 use crate::legs::{leg_from_dropoff, leg_from_pickup, leg_to_dropoff, leg_to_pickup};
 use crate::slack::Slack;

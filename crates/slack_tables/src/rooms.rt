@@ -2,9 +2,9 @@
 ghost use Rattle.std.specs.Prelude.{◌≡◌, ◌≤◌, ◌+◌, ◌-◌, map};
 ghost use Rattle.std.specs.List.{range_with_len};
 ghost use Rattle.ride_model.specs.Limits.{most_stops};
-ghost use Rattle.slack_tables.specs.SlackOf.{rooms_of};
-ghost use Rattle.slack_tables.specs.Tables.{rows_of};
-ghost use Rattle.slack_tables.specs.Trips.{room_in, room_of};
+ghost use Rattle.slack_tables.specs.inner.SlackOf.{rooms_of};
+ghost use Rattle.slack_tables.specs.inner.Tables.{rows_of};
+ghost use Rattle.slack_tables.specs.inner.Trips.{room_in, room_of};
 
 use crate::trips::Trip;
 use arrayvec::ArrayVec;

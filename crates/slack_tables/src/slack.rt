@@ -1,9 +1,9 @@
 //! The tables of a plan.
 ghost use Rattle.std.specs.Prelude.{◌≡◌, ◌≤◌, ◌<◌, ◌+◌, ◌-◌, ◌∷◌, length, slice_index, slice_index_or, []};
-ghost use Rattle.ride_model.specs.Vehicle.{IsLawfulSomewhere};
+ghost use Rattle.ride_model.specs.inner.Vehicle.{IsLawfulSomewhere};
 ghost use Rattle.ride_model.specs.Limits.{latest_ready, longest_dwell, most_stops};
-ghost use Rattle.slack_tables.specs.Tables.{PlanSlack, load_at, room_at};
-ghost use Rattle.slack_tables.specs.SlackOf.{slack_of};
+ghost use Rattle.slack_tables.specs.inner.Tables.{PlanSlack, load_at, room_at};
+ghost use Rattle.slack_tables.specs.inner.SlackOf.{slack_of};
 
 use crate::rooms::{Row, rows};
 use crate::trips::trips_of;
@@ -23,7 +23,7 @@ pub struct Slack {
 }
 
 impl Model for Slack {
-    ghost use Rattle.slack_tables.specs.Tables.{PlanSlack, rows_of};
+    ghost use Rattle.slack_tables.specs.inner.Tables.{PlanSlack, rows_of};
 
     ghost Value = { PlanSlack };
 

@@ -1,6 +1,6 @@
 //! What a search for places goes by, besides the plan and the times near the ride.
 ghost use Rattle.std.specs.Prelude.{◌≡◌};
-ghost use Rattle.slack_tables.specs.Search.{terms_of};
+ghost use Rattle.slack_tables.specs.inner.Search.{terms_of};
 
 use ride_model::{Load, Ride, Settings, Vehicle};
 

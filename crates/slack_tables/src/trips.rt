@@ -3,9 +3,9 @@ ghost use Rattle.std.specs.Prelude.{◌≡◌, ◌≤◌, length, All, IfSome};
 ghost use Rattle.std.specs.List.{filter_map};
 ghost use Rattle.ride_model.specs.declared.vehicle.Ride.{Ride};
 ghost use Rattle.ride_model.specs.Limits.{most_rides};
-ghost use Rattle.stop_plans.specs.First.{is_visit};
-ghost use Rattle.promises.specs.Arrivals.{IsLimited};
-ghost use Rattle.slack_tables.specs.Trips.{first_visit, boarding_visit, trip_of};
+ghost use Rattle.stop_plans.specs.inner.First.{is_visit};
+ghost use Rattle.promises.specs.inner.Arrivals.{IsLimited};
+ghost use Rattle.slack_tables.specs.inner.Trips.{first_visit, boarding_visit, trip_of};
 ghost use Rattle.slack_tables.specs.declared.trips.Visit.{Visit};
 
 use arrayvec::ArrayVec;

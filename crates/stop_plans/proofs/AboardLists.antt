@@ -8,7 +8,7 @@ use Rattle.ride_model.specs.declared.vehicle.Ride.{Ride}
 use Rattle.ride_model.specs.declared.vehicle.Vehicle.{Vehicle}
 use Rattle.ride_model.specs.declared.vehicle.Stop.{Stop}
 use Rattle.ride_model.specs.Loads.{is_pickup, is_aboard_from, is_aboard_after, load_after, loads_of}
-use Rattle.stop_plans.specs.Aboard.{boarded, seats_aboard, chairs_aboard, load_aboard, loads_behind, IsSmall}
+use Rattle.stop_plans.specs.inner.Aboard.{boarded, seats_aboard, chairs_aboard, load_aboard, loads_behind, IsSmall}
 
 zero_plus : 0 + 1 ≡ 1
 zero_plus = refl

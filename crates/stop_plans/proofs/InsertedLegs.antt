@@ -13,8 +13,8 @@ use Rattle.ride_model.specs.Insertion.{routed, pickup_of, dropoff_of, stops_with
 use Rattle.ride_model.specs.Offers.{leg_at, joins_of}
 use Rattle.model_laws.proofs.Routes.{routed-own}
 use Rattle.model_laws.proofs.Insertions.{inserted_facts}
-use Rattle.stop_plans.specs.Change.{InsertsInto}
-use Rattle.stop_plans.specs.Legged.{with_leg, relegged, with_stop}
+use Rattle.stop_plans.specs.inner.Change.{InsertsInto}
+use Rattle.stop_plans.specs.inner.Legged.{with_leg, relegged, with_stop}
 
 -- the first stop of a route and the route after it
 pub record RouteHead (roads : RoadMap) (at : ℕ) (stop : Stop) (stops out : List Stop) : Type 0 where

@@ -6,7 +6,8 @@ use Rattle.std.proofs.lemmas.List.Elements.{All-from_recursion}
 use Rattle.ride_model.specs.declared.vehicle.Stop.{Stop}
 use Rattle.ride_model.specs.declared.vehicle.Vehicle.{Vehicle}
 use Rattle.ride_model.specs.Road.{RoadMap, IsRoadMap}
-use Rattle.ride_model.specs.Vehicle.{HasLegs, IsRoutedSomewhere}
+use Rattle.ride_model.specs.Vehicle.{HasLegs}
+use Rattle.ride_model.specs.inner.Vehicle.{IsRoutedSomewhere}
 use Rattle.model_laws.proofs.TravelTimes.{travel-le}
 
 each_leg : (roads : RoadMap) (at : ℕ) (stops : List Stop) → IsRoadMap roads → HasLegs roads at stops

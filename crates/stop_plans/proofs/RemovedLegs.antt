@@ -19,9 +19,9 @@ use Rattle.model_laws.proofs.plain.Among.{Among, among_from_contains, contains_f
 use Rattle.model_laws.proofs.AboardLoads.{filter-kept, filter-skipped}
 use Rattle.model_laws.proofs.Insertions.{all-kept}
 use Rattle.model_laws.proofs.Removal.{route_without, without_ride-is}
-use Rattle.stop_plans.specs.Change.{RemovesFrom}
-use Rattle.stop_plans.specs.First.{is_kind, is_visit, IsFirst}
-use Rattle.stop_plans.specs.Legged.{with_leg, relegged}
+use Rattle.stop_plans.specs.inner.Change.{RemovesFrom}
+use Rattle.stop_plans.specs.inner.First.{is_kind, is_visit, IsFirst}
+use Rattle.stop_plans.specs.inner.Legged.{with_leg, relegged}
 use Rattle.stop_plans.proofs.InsertedLegs.{route_head, behind-new}
 
 -- one stop out of a list, by its place

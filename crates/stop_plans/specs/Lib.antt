@@ -1,4 +1,1 @@
-pub mod Change
-pub mod Aboard
-pub mod Legged
-pub mod First
+pub mod inner

@@ -3,8 +3,8 @@ ghost use Rattle.std.specs.Prelude.{◌≡◌, ◌<◌, ◌≤◌, length};
 ghost use Rattle.ride_model.specs.declared.vehicle.Vehicle.{Vehicle};
 ghost use Rattle.ride_model.specs.Road.{RoadMap};
 ghost use Rattle.ride_model.specs.Limits.{most_stops};
-ghost use Rattle.stop_plans.specs.Change.{InsertsInto};
-ghost use Rattle.stop_plans.specs.Legged.{relegged, with_stop};
+ghost use Rattle.stop_plans.specs.inner.Change.{InsertsInto};
+ghost use Rattle.stop_plans.specs.inner.Legged.{relegged, with_stop};
 
 use arrayvec::ArrayVec;
 use ride_model::{Kind, Offer, Ride, Stop, Vehicle};

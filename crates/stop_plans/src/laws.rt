@@ -4,8 +4,8 @@ ghost use Rattle.ride_model.specs.Road.{RoadMap};
 ghost use Rattle.ride_model.specs.Vehicle.{IsLawful};
 ghost use Rattle.ride_model.specs.Times.{visits_of};
 ghost use Rattle.ride_model.specs.Insertion.{without_ride};
-ghost use Rattle.model_laws.specs.Sooner.{AllSooner};
-ghost use Rattle.stop_plans.specs.Change.{RemovesFrom};
+ghost use Rattle.model_laws.specs.inner.Sooner.{AllSooner};
+ghost use Rattle.stop_plans.specs.inner.Change.{RemovesFrom};
 
 use crate::remove::remove_ride;
 use ride_model::Vehicle;

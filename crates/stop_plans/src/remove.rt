@@ -3,9 +3,9 @@ ghost use Rattle.std.specs.Prelude.{◌≡◌, ◌<◌, ◌≤◌, ◌-◌, ◌&
 ghost use Rattle.ride_model.specs.declared.vehicle.Vehicle.{Vehicle};
 ghost use Rattle.ride_model.specs.Road.{RoadMap};
 ghost use Rattle.ride_model.specs.Insertion.{without_ride, rides_without};
-ghost use Rattle.stop_plans.specs.Change.{RemovesFrom};
-ghost use Rattle.stop_plans.specs.Legged.{relegged};
-ghost use Rattle.stop_plans.specs.First.{IsFirst, is_visit};
+ghost use Rattle.stop_plans.specs.inner.Change.{RemovesFrom};
+ghost use Rattle.stop_plans.specs.inner.Legged.{relegged};
+ghost use Rattle.stop_plans.specs.inner.First.{IsFirst, is_visit};
 
 use crate::insert::set_leg;
 use arrayvec::ArrayVec;

@@ -3,9 +3,9 @@ ghost use Rattle.std.specs.Prelude.{◌≡◌, ◌+◌, ◌≤◌, ◌==◌, ◌
 ghost use Rattle.ride_model.specs.declared.vehicle.Stop.{Stop};
 ghost use Rattle.ride_model.specs.Insertion.{rides_without};
 ghost use Rattle.ride_model.specs.Step.{rides_with_picked, served, served_reply};
-ghost use Rattle.ride_model.specs.Vehicle.{IsLawfulSomewhere};
+ghost use Rattle.ride_model.specs.inner.Vehicle.{IsLawfulSomewhere};
 ghost use Rattle.ride_model.specs.Limits.{latest_ready, longest_dwell};
-ghost use Rattle.stop_plans.specs.Change.{HasFirstStopAt};
+ghost use Rattle.stop_plans.specs.inner.Change.{HasFirstStopAt};
 
 use crate::remove::drop_ride;
 use ride_model::{Kind, Reply, Ride, Vehicle};

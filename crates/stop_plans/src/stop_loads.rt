@@ -2,9 +2,9 @@
 ghost use Rattle.std.specs.Prelude.{◌≡◌, ◌≤◌, ◌+◌, [], length, map, All, is_some, if◌then◌else◌};
 ghost use Rattle.ride_model.specs.declared.vehicle.Ride.{Ride};
 ghost use Rattle.ride_model.specs.Loads.{is_pickup, load_after, loads_of};
-ghost use Rattle.ride_model.specs.Vehicle.{IsRoutedSomewhere};
+ghost use Rattle.ride_model.specs.inner.Vehicle.{IsRoutedSomewhere};
 ghost use Rattle.ride_model.specs.Limits.{most_rides, most_stops};
-ghost use Rattle.stop_plans.specs.Aboard.{boarded, load_aboard, loads_behind, IsSmall};
+ghost use Rattle.stop_plans.specs.inner.Aboard.{boarded, load_aboard, loads_behind, IsSmall};
 
 use arrayvec::ArrayVec;
 use ride_model::{Kind, Load, Ride, Stop, Vehicle};

@@ -2,7 +2,7 @@
 ghost use Rattle.std.specs.Prelude.{◌≡◌, ◌≤◌, length, All};
 ghost use Rattle.ride_model.specs.declared.vehicle.Stop.{Stop};
 ghost use Rattle.ride_model.specs.Times.{times_from, times_of};
-ghost use Rattle.ride_model.specs.Vehicle.{IsRoutedSomewhere};
+ghost use Rattle.ride_model.specs.inner.Vehicle.{IsRoutedSomewhere};
 ghost use Rattle.ride_model.specs.Limits.{latest_ready, longest_dwell, most_stops};
 
 use arrayvec::ArrayVec;

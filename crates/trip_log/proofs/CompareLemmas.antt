@@ -8,7 +8,7 @@ use Rattle.std.proofs.lemmas.List.{append_cancel_left, take-take}
 use Rattle.ride_ports.specs.Bytes.{Writes, WritesPrefix}
 use Rattle.ride_ports.specs.Count.{Rose}
 use Rattle.ride_ports.proofs.CountLemmas.{Rose-from_zero}
-use Rattle.trip_log.specs.Compares.{Compared, as_bytes, seen_bytes, taken_bytes, whole_line}
+use Rattle.trip_log.specs.inner.Compares.{Compared, as_bytes, seen_bytes, taken_bytes, whole_line}
 
 -- so many more bytes were as awaited
 pub taken-same : (line : List ℕ) (place : ℕ) (other : Option ℕ) (same : ℕ) (piece awaited : List ℕ) → is_some other ≡ false

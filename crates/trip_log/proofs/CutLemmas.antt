@@ -5,7 +5,7 @@ use Rattle.std.specs.List.{list_all, join_with_byte, AllByRecursion}
 use Rattle.std.proofs.Math.Seq.{take-append_seam}
 use Rattle.std.proofs.lemmas.Bool.{eq-eqb, ne_eqb, and_parts, and_from, not-true}
 use Rattle.std.proofs.lemmas.List.Folds.{list_all-append}
-use Rattle.trip_log.specs.Cuts.{cut_at, front_of}
+use Rattle.trip_log.specs.inner.Cuts.{cut_at, front_of}
 
 -- where the byte first stands
 pub cut_at-place : (byte : ℕ) (bytes : List ℕ) (i : ℕ) → i < length bytes → ((k : ℕ) → k < i → get_or bytes k 0 ≢ byte)

@@ -5,7 +5,7 @@ use Rattle.std.specs.List.{join_with_byte}
 use Rattle.std.proofs.lemmas.Fmt.{decimal_digit}
 use Rattle.std.proofs.lemmas.List.{append_cancel_right}
 use Rattle.ride_model.specs.Text.{head_line, IsOneOrTwo}
-use Rattle.trip_log.specs.Heads.{digit_of, digit_from}
+use Rattle.trip_log.specs.inner.Heads.{digit_of, digit_from}
 use Rattle.trip_log.proofs.ReadLemmas.{for_one_or_two}
 
 abbrev head_text : ℕ → ℕ → ℕ → List ℕ

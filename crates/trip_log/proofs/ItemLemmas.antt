@@ -9,8 +9,8 @@ use Rattle.ride_model.specs.declared.entry.Outcome.{Outcome}
 use Rattle.ride_model.specs.declared.entry.Outcome.TheVariants.{Confirmed, Away, Gone, Moved, Behind}
 use Rattle.ride_model.specs.declared.offer.Seat.{Seat}
 use Rattle.ride_model.specs.Text.{amount_field, outcome_field, plan_field, seat_field, IsSpelledOutcome, IsSpelledPair, IsSpelledSeat}
-use Rattle.trip_log.specs.Cuts.{cut_at}
-use Rattle.trip_log.specs.Items.{pair_from, place_from, places_from, seat_from, made_from, outcome_from, before_items, items_of}
+use Rattle.trip_log.specs.inner.Cuts.{cut_at}
+use Rattle.trip_log.specs.inner.Items.{pair_from, place_from, places_from, seat_from, made_from, outcome_from, before_items, items_of}
 use Rattle.trip_log.proofs.CutLemmas.{cut_at-first}
 use Rattle.trip_log.proofs.SolidLemmas.{avoids-decimal}
 

@@ -16,7 +16,7 @@ use Rattle.ride_model.specs.declared.reply.Reply.{Reply}
 use Rattle.ride_model.specs.Text.{line_of, event_fields, fed_fields, reply_fields, chairs_fields, broken_fields}
 use Rattle.ride_model.specs.Text.{plan_field, seat_field, amount_field, outcome_field}
 use Rattle.command_lines.specs.Commands.{spelling_of}
-use Rattle.trip_log.specs.Prints.{Prints, listed, fields_then, fields_end}
+use Rattle.trip_log.specs.inner.Prints.{Prints, listed, fields_then, fields_end}
 
 -- two printers in turn
 pub prints_then : {T U E : Type 0} {x : T} {outcome : Result U E} {a b c : Option (List ℕ)} {n m k : ℕ} {xs ys : List ℕ}

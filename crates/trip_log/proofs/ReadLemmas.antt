@@ -31,10 +31,10 @@ use Rattle.ride_model.specs.Text.{HasLine, IsNotedIfBad, IsOneOrTwo, IsSpelled, 
 use Rattle.ride_model.specs.Text.{IsSpelledEvent, IsSpelledOutcome, IsSpelledPair, IsSpelledSeat}
 use Rattle.command_lines.specs.Commands.{spelling_of}
 use Rattle.command_lines.proofs.Printed.{reads-back}
-use Rattle.trip_log.specs.Items.{pair_from, seat_from, outcome_from, items_of}
-use Rattle.trip_log.specs.Prints.{fields_then}
-use Rattle.trip_log.specs.Reads.{actor_from, broken_from, commit_from, entry_from, event_from, event_of_fields, event_of_word, fed_from}
-use Rattle.trip_log.specs.Reads.{kind_of, open_from, reply_from}
+use Rattle.trip_log.specs.inner.Items.{pair_from, seat_from, outcome_from, items_of}
+use Rattle.trip_log.specs.inner.Prints.{fields_then}
+use Rattle.trip_log.specs.inner.Reads.{actor_from, broken_from, commit_from, entry_from, event_from, event_of_fields, event_of_word, fed_from}
+use Rattle.trip_log.specs.inner.Reads.{kind_of, open_from, reply_from}
 use Rattle.trip_log.proofs.CutLemmas.{Avoids, all-joined, cut_at-first, front_of-push}
 use Rattle.trip_log.proofs.ItemLemmas.{amount-reads, items-read, items_of-nil, no_item, outcome-reads, plan-reads, seat-reads}
 use Rattle.trip_log.proofs.PrintsLemmas.{fields_then-append, joined-then}

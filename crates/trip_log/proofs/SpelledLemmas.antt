@@ -22,19 +22,20 @@ use Rattle.ride_model.specs.Text.{IsSpelledOutcome, IsSpelledPair, IsSpelledSeat
 use Rattle.command_lines.specs.declared.verbs.Verb.{Verb}
 use Rattle.command_lines.specs.declared.verbs.Verb.TheVariants.{Request as ToRequest, Cancel as ToCancel, At as ToBeAt, Done as ToBeDone}
 use Rattle.command_lines.specs.declared.verbs.Verb.TheVariants.{On as ToBeOn, Off as ToBeOff, Clock as ToClock, Batch as ToBatch}
-use Rattle.command_lines.specs.Commands.{command_from, command_of, command_of_fields, verb_of}
+use Rattle.command_lines.specs.Commands.{command_from, command_of_fields, verb_of}
+use Rattle.command_lines.specs.inner.Commands.{command_of}
 use Rattle.command_lines.proofs.Spelled.{spelled_fields}
 use Rattle.trip_log.specs.declared.kinds.Kind.{Kind}
 use Rattle.trip_log.specs.declared.kinds.Kind.TheVariants.{End as ToEnd, Cut as ToCut, Bad as ToBeBad, Open as ToOpen, Commit as ToCommit}
 use Rattle.trip_log.specs.declared.kinds.Kind.TheVariants.{Abandon as ToAbandon}
-use Rattle.trip_log.specs.Cuts.{cut_at, front_of}
-use Rattle.trip_log.specs.Items.{at_most, pair_from, place_from, places_from, seat_from, numbered_outcome, made_from, outcome_from}
-use Rattle.trip_log.specs.Items.{before_items, items_of}
-use Rattle.trip_log.specs.Items.{after_word, number_then, only_number, list_then, if_last, last_list}
-use Rattle.trip_log.specs.Reads.{actor_from, plain_reply, numbered_reply, few_ids, broken_from, late_from, short_reply, reply_from}
-use Rattle.trip_log.specs.Reads.{fed_from}
-use Rattle.trip_log.specs.Reads.{heading_then, opened_from, open_from, committed_from, commit_from, kind_of, event_of_kind, event_of_word}
-use Rattle.trip_log.specs.Reads.{event_of_fields, event_from, entry_from}
+use Rattle.trip_log.specs.inner.Cuts.{cut_at, front_of}
+use Rattle.trip_log.specs.inner.Items.{at_most, pair_from, place_from, places_from, seat_from, numbered_outcome, made_from, outcome_from}
+use Rattle.trip_log.specs.inner.Items.{before_items, items_of}
+use Rattle.trip_log.specs.inner.Items.{after_word, number_then, only_number, list_then, if_last, last_list}
+use Rattle.trip_log.specs.inner.Reads.{actor_from, plain_reply, numbered_reply, few_ids, broken_from, late_from, short_reply, reply_from}
+use Rattle.trip_log.specs.inner.Reads.{fed_from}
+use Rattle.trip_log.specs.inner.Reads.{heading_then, opened_from, open_from, committed_from, commit_from, kind_of, event_of_kind, event_of_word}
+use Rattle.trip_log.specs.inner.Reads.{event_of_fields, event_from, entry_from}
 
 -- what holds of what is made of each value holds of what is made of an option
 of-and_then : {A B : Type 0} (P : B → Type 0) (next : A → Option B) (o : Option A) → ((a : A) → o ≡ Some a → IfSome (next a) P)

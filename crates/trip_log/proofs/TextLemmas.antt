@@ -10,7 +10,7 @@ use Rattle.line_text.proofs.LineLemmas.{HasNoEnd, ended_after-no_end, rest_after
 use Rattle.ride_model.specs.declared.entry.Entry.{Entry}
 use Rattle.ride_model.specs.Text.{actor_field, entry_line, entry_lines, event_fields, head_line, line_of, text_of, HasLine, HasText}
 use Rattle.ride_model.specs.Text.{IsOneOrTwo}
-use Rattle.trip_log.specs.Cuts.{front_of}
+use Rattle.trip_log.specs.inner.Cuts.{front_of}
 use Rattle.trip_log.proofs.CutLemmas.{Avoids, all-joined, first-same, front_of-push}
 use Rattle.trip_log.proofs.LineLemmas.{heads-same}
 use Rattle.trip_log.proofs.ReadLemmas.{lines-same}

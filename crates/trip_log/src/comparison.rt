@@ -1,6 +1,6 @@
 //! Compares what is printed with a line.
 ghost use Rattle.std.specs.Prelude.{◌≡◌, ◌≢◌, ◌<◌, ◌≤◌, ◌++◌, ℕ, List, [], IsTrue, Some, None, length, take, drop, slice_index};
-ghost use Rattle.trip_log.specs.Compares.{seen_bytes, taken_bytes, whole_line};
+ghost use Rattle.trip_log.specs.inner.Compares.{seen_bytes, taken_bytes, whole_line};
 
 use ride_ports::{Failed, Sink};
 use std::marker::Model;
@@ -15,7 +15,7 @@ pub(crate) struct LineSink<'a> {
 }
 
 impl<'a> Model for LineSink<'a> {
-    ghost use Rattle.trip_log.specs.Compares.{Compared, IsComparison};
+    ghost use Rattle.trip_log.specs.inner.Compares.{Compared, IsComparison};
 
     ghost Value = { Compared };
 

@@ -1,6 +1,6 @@
 //! Bytes, cut at a byte.
 ghost use Rattle.std.specs.Prelude.{◌≡◌, MatchOption, None, Some};
-ghost use Rattle.trip_log.specs.Cuts.{cut_at, front_of};
+ghost use Rattle.trip_log.specs.inner.Cuts.{cut_at, front_of};
 
 /// The bytes before the first one that is this byte, and those after it.
 pub(crate) fn cut(bytes: &[u8], byte: u8) -> Option<(&[u8], &[u8])>

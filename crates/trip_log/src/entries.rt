@@ -2,9 +2,9 @@
 ghost use Rattle.std.specs.Prelude.{◌≡◌, None, Some, IfOk, MatchOption};
 ghost use Rattle.ride_model.specs.Text.{IsOneOrTwo};
 ghost use Rattle.ride_model.specs.declared.entry.Event.TheVariants.{Finish};
-ghost use Rattle.trip_log.specs.Items.{if_last};
-ghost use Rattle.trip_log.specs.Reads.{actor_from, entry_from, event_from, event_of_kind, fed_from};
-ghost use Rattle.trip_log.specs.Reads.{commit_from, committed_from, heading_then, open_from, opened_from};
+ghost use Rattle.trip_log.specs.inner.Items.{if_last};
+ghost use Rattle.trip_log.specs.inner.Reads.{actor_from, entry_from, event_from, event_of_kind, fed_from};
+ghost use Rattle.trip_log.specs.inner.Reads.{commit_from, committed_from, heading_then, open_from, opened_from};
 
 use crate::cutting::{cut, front};
 use crate::items::{

@@ -6,7 +6,8 @@ ghost use Rattle.ride_model.specs.Text.{actor_field, broken_fields, event_fields
 ghost use Rattle.ride_model.specs.Text.{amount_field, outcome_field, plan_field, seat_field};
 ghost use Rattle.ride_model.specs.Text.{IsOneOrTwo, IsSpelledCommand, IsSpelledEvent};
 ghost use Rattle.command_lines.specs.Commands.{spelling_of};
-ghost use Rattle.trip_log.specs.Prints.{Prints, ending_word, fields_end, fields_then, listed};
+ghost use Rattle.trip_log.specs.Prints.{ending_word};
+ghost use Rattle.trip_log.specs.inner.Prints.{Prints, fields_end, fields_then, listed};
 
 use crate::lists::{AmountText, IdText, OutcomeText, PlanText, SeatText, print_list};
 use crate::pieces::{Piece, print};

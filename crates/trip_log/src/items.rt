@@ -1,9 +1,9 @@
 //! The items of a line's lists, read from its fields.
 ghost use Rattle.std.specs.Prelude.{◌≡◌, ◌∷◌, ℕ, List, [], Option, None, Some, IfOk, MatchBool, MatchOption};
 ghost use Rattle.line_text.specs.Numbers.{number_of};
-ghost use Rattle.trip_log.specs.Items.{after_word, items_of, last_list, list_then, number_then, only_number};
-ghost use Rattle.trip_log.specs.Items.{made_from, numbered_outcome, outcome_from, pair_from, place_from, places_from};
-ghost use Rattle.trip_log.specs.Items.{seat_from, seated_from, told_from};
+ghost use Rattle.trip_log.specs.inner.Items.{after_word, items_of, last_list, list_then, number_then, only_number};
+ghost use Rattle.trip_log.specs.inner.Items.{made_from, numbered_outcome, outcome_from, pair_from, place_from, places_from};
+ghost use Rattle.trip_log.specs.inner.Items.{seat_from, seated_from, told_from};
 
 use crate::cutting::cut;
 use line_text::{Fields, read_number};

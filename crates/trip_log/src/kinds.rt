@@ -1,6 +1,6 @@
 //! The words that tell events.
 ghost use Rattle.std.specs.Prelude.{◌≡◌};
-ghost use Rattle.trip_log.specs.Reads.{kind_of};
+ghost use Rattle.trip_log.specs.inner.Reads.{kind_of};
 
 /// What the first word after the actor says.
 #[derive(Clone, Copy)]

@@ -3,7 +3,7 @@ ghost use Rattle.std.specs.Prelude.{◌≡◌, ◌++◌, ◌∷◌, [], ℕ, Lis
 ghost use Rattle.line_text.specs.Lines.{ended_lines, rest_of};
 ghost use Rattle.ride_model.specs.declared.entry.Entry.{Entry};
 ghost use Rattle.ride_model.specs.Text.{HasLine, HasText, IsOneOrTwo, entry_line, entry_lines, head_line, text_of};
-ghost use Rattle.trip_log.specs.Cuts.{front_of};
+ghost use Rattle.trip_log.specs.inner.Cuts.{front_of};
 
 /// Equal head lines have equal numbers.
 pub fn heads_differ()

@@ -1,7 +1,7 @@
 //! The lists of a line: a word, and items with a blank before each.
 ghost use Rattle.std.specs.Prelude.{◌≡◌, ◌++◌, ◌∷◌, ℕ, List, decimal};
 ghost use Rattle.ride_model.specs.Text.{amount_field, outcome_field, plan_field, seat_field};
-ghost use Rattle.trip_log.specs.Prints.{Prints, listed};
+ghost use Rattle.trip_log.specs.inner.Prints.{Prints, listed};
 
 use crate::pieces::{MOST_TEXT, Piece, put, text_of};
 use arrayvec::ArrayVec;

@@ -1,7 +1,7 @@
 //! Pieces of a line, put together before they are written.
 ghost use Rattle.std.specs.Prelude.{◌≡◌, ◌≤◌, ◌+◌, ◌++◌, length, decimal};
-ghost use Rattle.trip_log.specs.Pieces.{bytes_of, piece_bytes, piece_room, room_of};
-ghost use Rattle.trip_log.specs.Prints.{Prints};
+ghost use Rattle.trip_log.specs.inner.Pieces.{bytes_of, piece_bytes, piece_room, room_of};
+ghost use Rattle.trip_log.specs.inner.Prints.{Prints};
 
 use arrayvec::ArrayVec;
 use line_text::put_number;

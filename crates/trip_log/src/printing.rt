@@ -3,7 +3,7 @@ ghost use Rattle.std.specs.Prelude.{OnOk, OnErr, is_err};
 ghost use Rattle.ride_ports.specs.Bytes.{Writes, WritesPrefix};
 ghost use Rattle.ride_ports.specs.Count.{KeepsCount};
 ghost use Rattle.ride_model.specs.Text.{HasLine, IsOneOrTwo, entry_line, head_line};
-ghost use Rattle.trip_log.specs.Prints.{Prints};
+ghost use Rattle.trip_log.specs.inner.Prints.{Prints};
 
 use crate::events::print_event;
 use crate::pieces::{Piece, print};

@@ -2,7 +2,7 @@
 ghost use Rattle.std.specs.Prelude.{◌≡◌, ◌≢◌, ◌++◌, ◌∷◌, [], ℕ, IfOk, IfSome, IfNone, IsTrue};
 ghost use Rattle.ride_model.specs.declared.entry.Entry.{Entry};
 ghost use Rattle.ride_model.specs.Text.{HasLine, IsOneOrTwo, entry_line, head_line};
-ghost use Rattle.trip_log.specs.Heads.{digit_from};
+ghost use Rattle.trip_log.specs.inner.Heads.{digit_from};
 
 use crate::comparison::LineSink;
 use crate::entries::entry_of;

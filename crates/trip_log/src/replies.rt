@@ -1,7 +1,7 @@
 //! Replies, read from the fields of a line.
 ghost use Rattle.std.specs.Prelude.{◌≡◌, ◌≤◌, length};
 ghost use Rattle.ride_model.specs.Limits.{most_rides};
-ghost use Rattle.trip_log.specs.Reads.{broken_from, late_from, numbered_reply, plain_reply, reply_from, short_reply};
+ghost use Rattle.trip_log.specs.inner.Reads.{broken_from, late_from, numbered_reply, plain_reply, reply_from, short_reply};
 
 use crate::items::take_number;
 use line_text::{Fields, read_number};

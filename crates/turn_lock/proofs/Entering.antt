@@ -8,10 +8,10 @@ use prog.Atomic.{either}
 use Rattle.atomic_table.specs.Table.{State, Me, step, Act, keeps, takes, rest, carried_after, Valid, stepped, Allows, opening}
 use Rattle.atomic_table.proofs.Lists.{set_here, set_again}
 use Rattle.turn_lock.specs.declared.rule.View.{View}
-use Rattle.turn_lock.specs.History.{items_of, EndedStand}
-use Rattle.turn_lock.specs.Rule.{Spot, home, away, turn_of, homes_of, others_in, Stands, Leads, Fits, IsKept}
+use Rattle.turn_lock.specs.inner.History.{items_of, EndedStand}
+use Rattle.turn_lock.specs.inner.Rule.{Spot, home, away, turn_of, homes_of, others_in, Stands, Leads, Fits, IsKept}
 use Rattle.turn_lock.specs.Knowledge.{after_enter}
-use Rattle.turn_lock.specs.Steps.{with_knowledge, first_view, Continues, Grabs}
+use Rattle.turn_lock.specs.inner.Steps.{with_knowledge, first_view, Continues, Grabs}
 use Rattle.turn_lock.proofs.Lists.{prefix_self, prefix_nil, prefix_trans, others-push, weight, some_other}
 use Rattle.turn_lock.proofs.Views.{there_is, not_both, true_else, owner_with, owner_there, moved, one_owner, steps, unmoved}
 

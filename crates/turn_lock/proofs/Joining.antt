@@ -11,9 +11,9 @@ use Rattle.atomic_table.specs.Table.{State, Me, step, keeps, Allows, Splits, Joi
 use Rattle.atomic_table.proofs.Lists.{set_here, set_else, set_again, at_longer}
 use Rattle.turn_lock.specs.declared.rule.Ended.{Ended}
 use Rattle.turn_lock.specs.declared.rule.View.{View}
-use Rattle.turn_lock.specs.History.{items_of}
-use Rattle.turn_lock.specs.Rule.{Spot, home, away, others_in, Stands, Leads, Fits, IsKept}
-use Rattle.turn_lock.specs.Steps.{left_of, right_of, both_of, spent_view, IsJoined, Looks}
+use Rattle.turn_lock.specs.inner.History.{items_of}
+use Rattle.turn_lock.specs.inner.Rule.{Spot, home, away, others_in, Stands, Leads, Fits, IsKept}
+use Rattle.turn_lock.specs.inner.Steps.{left_of, right_of, both_of, spent_view, IsJoined, Looks}
 use Rattle.turn_lock.proofs.Lists.{prefix_self, prefix_nil, longer_is, at_push, others-set, others-push, weight, weight_other}
 use Rattle.turn_lock.proofs.Views.{there_is, none_else, true_else, owner_with, owner_here, owner_there, owner_none, each_set, moved, one_owner, stands_set, unmoved}
 

@@ -9,8 +9,8 @@ use mathlib.Core.List.{IsPrefix}
 use mathlib.Core.Option.{some, some-injective, some-ne-none}
 use lib.ListN.{get_elem?}
 use Rattle.turn_lock.specs.declared.rule.View.{View}
-use Rattle.turn_lock.specs.History.{items_of, longer}
-use Rattle.turn_lock.specs.Rule.{is_other, others_in}
+use Rattle.turn_lock.specs.inner.History.{items_of, longer}
+use Rattle.turn_lock.specs.inner.Rule.{is_other, others_in}
 
 module _ {A : Type 0} where
   pub prefix_self : (xs : List A) → IsPrefix xs xs

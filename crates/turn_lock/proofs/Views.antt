@@ -9,8 +9,8 @@ use lib.ListN.{get_elem?}
 use Rattle.atomic_table.specs.Table.{State}
 use Rattle.atomic_table.proofs.Lists.{at_set, set_else}
 use Rattle.turn_lock.specs.declared.rule.View.{View}
-use Rattle.turn_lock.specs.History.{items_of}
-use Rattle.turn_lock.specs.Rule.{Spot, home, away, turn_of, homes_of, is_other, others_in, Stands, Leads, Fits, IsKept}
+use Rattle.turn_lock.specs.inner.History.{items_of}
+use Rattle.turn_lock.specs.inner.Rule.{Spot, home, away, turn_of, homes_of, is_other, others_in, Stands, Leads, Fits, IsKept}
 use Rattle.turn_lock.proofs.Lists.{prefix_trans, others-set, weight}
 
 pub there_is : {A : Type 0} (l : List A) (i : ℕ) (a : A) → get_elem? l i ≡ some a → i < length l

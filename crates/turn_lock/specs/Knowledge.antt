@@ -1,7 +1,7 @@
 -- What a pass knows at the start and after each call.
 use Rattle.std.specs.Prelude.{ℕ, ◌+◌, ◌-◌, true, false, List, [], ◌∷◌, ◌++◌, length, drop}
 use Rattle.turn_lock.specs.declared.rule.Knowledge.{Knowledge}
-use Rattle.turn_lock.specs.History.{items_of, longer}
+use Rattle.turn_lock.specs.inner.History.{items_of, longer}
 
 module _ {R I : Type 0} where
   -- the pass of number 0 has seen the history as it stands

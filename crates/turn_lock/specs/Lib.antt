@@ -1,5 +1,3 @@
-pub mod History
 pub mod Knowledge
 pub mod Passes
-pub mod Rule
-pub mod Steps
+pub mod inner

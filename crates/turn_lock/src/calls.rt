@@ -1,9 +1,9 @@
 //! What the lock and its passes do.
 ghost use Rattle.std.specs.Prelude.{◌≡◌, ◌≢◌, ◌+◌, ◌<◌, ◌≤◌, ◌^◌, [], ◌∷◌, ◌++◌, length, IsOk, IfOk, IfSome, IfNone};
 ghost use mathlib.Core.List.{IsPrefix};
-ghost use Rattle.turn_lock.specs.History.{items_of, EndedStand, GrowsByOne};
+ghost use Rattle.turn_lock.specs.inner.History.{items_of, EndedStand, GrowsByOne};
 ghost use Rattle.turn_lock.specs.Knowledge.{at_start, after_enter, after_leave, after_note, after_split, split_off, after_join};
-ghost use Rattle.turn_lock.specs.Steps.{Continues};
+ghost use Rattle.turn_lock.specs.inner.Steps.{Continues};
 ghost use Rattle.turn_lock.specs.Passes.{IsPassOf, MayEnter, MayLeave, HasRoot, knowledge};
 
 use crate::chronicle::Chronicle;

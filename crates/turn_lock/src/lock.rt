@@ -1,6 +1,6 @@
 //! The lock and its passes.
 ghost use Rattle.std.specs.Prelude.{◌≡◌, true, length};
-ghost use Rattle.turn_lock.specs.Steps.{slots_of};
+ghost use Rattle.turn_lock.specs.inner.Steps.{slots_of};
 
 use crate::chronicle::Chronicle;
 use crate::rule::{Opening, Turns, View};

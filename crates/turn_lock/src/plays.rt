@@ -1,5 +1,5 @@
 //! What each step tells, and how views are cut and joined.
-ghost use Rattle.turn_lock.specs.Steps.{Grabs, Notes, HandsOn, Looks, left_of, right_of, both_of, spent_view};
+ghost use Rattle.turn_lock.specs.inner.Steps.{Grabs, Notes, HandsOn, Looks, left_of, right_of, both_of, spent_view};
 
 use crate::chronicle::Chronicle;
 use crate::rule::View;

@@ -1,8 +1,8 @@
 //! What the passes know, and the rule that ties it to the words and the value that they share.
 //! Word 0 is the length of the history, and word 1 is the turn: 0 where it is free and 1 where it is taken.
 //! The one slot holds the value, and is out with the seat that has the turn.
-ghost use Rattle.turn_lock.specs.Rule.{IsKept};
-ghost use Rattle.turn_lock.specs.Steps.{first_view};
+ghost use Rattle.turn_lock.specs.inner.Rule.{IsKept};
+ghost use Rattle.turn_lock.specs.inner.Steps.{first_view};
 
 use crate::chronicle::Chronicle;
 use atomic_table::TableRule;

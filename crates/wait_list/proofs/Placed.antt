@@ -3,10 +3,10 @@ use Rattle.std.proofs.Common.{◌≡◌, ℕ, ◌+◌, ◌<◌, ◌≤◌, List,
 use Rattle.std.specs.Prelude.{Option, Some, None, Contains, slice_get}
 use Rattle.std.specs.List.{AllByRecursion, IsDistinct}
 use Rattle.std.proofs.lemmas.List.Elements.{Contains-append_right}
-use Rattle.link_lists.specs.Family.{with_behind}
+use Rattle.link_lists.specs.inner.Family.{with_behind}
 use Rattle.link_lists.proofs.Kept.{Contains-from_get}
-use Rattle.wait_list.specs.Waiting.{places_below, places_above}
-use Rattle.wait_list.specs.Split.{Rises, IsSplit}
+use Rattle.wait_list.specs.inner.Waiting.{places_below, places_above}
+use Rattle.wait_list.specs.inner.Split.{Rises, IsSplit}
 use Rattle.wait_list.proofs.Rising.{each-weaker, each-append, below-split, above-split, strictly-above, rises-insert, with_behind-split, slice_get-behind, slice_get-next, split-at}
 
 -- ---- a place that does not wait

@@ -6,11 +6,11 @@ use Rattle.std.specs.List.Sorted.{IsStrictlyIncreasing}
 use Rattle.std.proofs.lemmas.Bool.{cases_eq, lt-ltb, le-ltb}
 use Rattle.std.proofs.lemmas.List.{append-nil}
 use Rattle.std.proofs.lemmas.List.Elements.{filter-append, All-from_recursion}
-use Rattle.link_lists.specs.Family.{Family, list_at, IsHeld, with_behind}
+use Rattle.link_lists.specs.inner.Family.{Family, list_at, IsHeld, with_behind}
 use Rattle.link_lists.proofs.Members.{Contains-here, Contains-there, Contains-nil, Contains-cons_cases, ByRecursion-from, ByRecursion-at, IsDistinct-first, IsDistinct-rest, with_behind-here, with_behind-other}
 use Rattle.link_lists.proofs.Kept.{held-list}
-use Rattle.wait_list.specs.Waiting.{IsRising, places_below, places_above}
-use Rattle.wait_list.specs.Split.{Rises, IsOneList, waiting_of}
+use Rattle.wait_list.specs.inner.Waiting.{IsRising, places_below, places_above}
+use Rattle.wait_list.specs.inner.Split.{Rises, IsOneList, waiting_of}
 
 -- ---- facts of each element
 

@@ -6,7 +6,7 @@ use Rattle.std.proofs.lemmas.Bool.{ltb-true, lt-ltb, true≢false, cases_Bool, c
 use Rattle.std.proofs.lemmas.List.Kept.{AllPairs-from_increasing, IsStrictlyIncreasing-filter}
 use Rattle.link_lists.proofs.Members.{Contains-here, Contains-there, Contains-nil, Contains-cons_cases}
 use Rattle.link_lists.proofs.Kept.{Contains-from_get}
-use Rattle.wait_list.specs.Waiting.{places_above}
+use Rattle.wait_list.specs.inner.Waiting.{places_above}
 
 -- what a filter keeps passes the test, and was there
 pub Contains-filter : (p : ℕ → Bool) (xs : List ℕ) (y : ℕ) → Contains (filter p xs) y → Contains xs y × (p y ≡ true)

@@ -3,7 +3,7 @@ use Rattle.std.proofs.Common.{◌≡◌, ℕ, suc, ◌+◌, ◌<◌, ◌≤◌, 
 use Rattle.std.specs.Prelude.{Option, Some, None, slice_get}
 use Rattle.std.specs.List.{AllByRecursion, IsDistinct}
 use Rattle.link_lists.proofs.Walks.{nodes_left, nodes_left-at}
-use Rattle.wait_list.specs.Split.{Rises, EndsWith, IsSplit}
+use Rattle.wait_list.specs.inner.Split.{Rises, EndsWith, IsSplit}
 use Rattle.wait_list.proofs.Rising.{each-append, each-weaker, rises-right, slice_get-behind, slice_get-next}
 
 -- the places before the current one are below the place, and `last` is the last of them

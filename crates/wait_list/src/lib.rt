@@ -2,9 +2,9 @@
 #![tactic(auto)]
 
 ghost use Rattle.std.specs.Prelude.{◌≡◌, ◌<◌, ◌++◌, [], ◌∷◌, All, Contains, slice_get, IfOk};
-ghost use Rattle.link_lists.specs.Family.{without};
-ghost use Rattle.wait_list.specs.Waiting.{IsRising, places_below, places_above};
-ghost use Rattle.wait_list.specs.Split.{IsSplit};
+ghost use Rattle.link_lists.specs.inner.Family.{without};
+ghost use Rattle.wait_list.specs.inner.Waiting.{IsRising, places_below, places_above};
+ghost use Rattle.wait_list.specs.inner.Split.{IsSplit};
 
 use link_lists::Links;
 use std::alloc::{AllocError, Global};
@@ -22,11 +22,11 @@ pub struct WaitList {
 }
 
 impl Model for WaitList {
-    ghost use Rattle.wait_list.specs.Waiting.{Waiting};
+    ghost use Rattle.wait_list.specs.inner.Waiting.{Waiting};
 
     ghost Value = { Waiting };
 
-    ghost use Rattle.wait_list.specs.Split.{waiting_of, IsOneList};
+    ghost use Rattle.wait_list.specs.inner.Split.{waiting_of, IsOneList};
 
     ghost view = { λ list. waiting_of list.links };
 

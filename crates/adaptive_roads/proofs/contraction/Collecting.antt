@@ -9,7 +9,7 @@ use Rattle.adaptive_roads.specs.declared.contraction.graph.Chain.{Chain}
 use Rattle.adaptive_roads.specs.declared.contraction.graph.Neighbor.{Neighbor}
 use Rattle.road_times.specs.declared.side.Side.TheVariants.{Out, Back}
 use Rattle.adaptive_roads.specs.declared.contraction.graph.Graph.{Graph}
-use Rattle.adaptive_roads.specs.contraction.Graph.{arc_at, next_of, chain_at, firsts_in, neighbor_of, IsOnward, AreChained, IsGraph}
+use Rattle.adaptive_roads.specs.inner.contraction.Graph.{arc_at, next_of, chain_at, firsts_in, neighbor_of, IsOnward, AreChained, IsGraph}
 
 -- the cursor names an arc of the node, or is the end of its chain
 abbrev pub IsCursor : Side → List RoadArc → ℕ → ℕ → Type 0

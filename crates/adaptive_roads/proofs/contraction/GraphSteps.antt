@@ -5,12 +5,12 @@ use Rattle.std.proofs.lemmas.List.{get_or-set_same, get_or-set_other, length-set
 use Rattle.ride_model.specs.declared.network.RoadArc.{RoadArc}
 use Rattle.road_times.specs.declared.side.Side.{Side}
 use Rattle.road_times.specs.declared.side.Side.TheVariants.{Out, Back}
-use Rattle.road_times.specs.Turned.{turned_arc}
-use Rattle.road_times.specs.Sorting.{no_arc}
+use Rattle.road_times.specs.inner.Turned.{turned_arc}
+use Rattle.road_times.specs.inner.Sorting.{no_arc}
 use Rattle.adaptive_roads.specs.declared.contraction.graph.Chain.{Chain}
-use Rattle.adaptive_roads.specs.contraction.Chains.{IsChained}
-use Rattle.adaptive_roads.specs.contraction.Graph.{no_chain, chain_at, arc_at, next_of, IsLive, AreChained, IsFit, IsGraphOf}
-use Rattle.adaptive_roads.specs.contraction.Levels.{level_in, IsOrdered}
+use Rattle.adaptive_roads.specs.inner.contraction.Chains.{IsChained}
+use Rattle.adaptive_roads.specs.inner.contraction.Graph.{no_chain, chain_at, arc_at, next_of, IsLive, AreChained, IsFit, IsGraphOf}
+use Rattle.adaptive_roads.specs.inner.contraction.Levels.{level_in, IsOrdered}
 use Rattle.adaptive_roads.proofs.contraction.ChainSteps.{chained-added, chained-fewer}
 
 -- the chains of one side after an arc was added

@@ -6,12 +6,12 @@ use Rattle.ride_model.specs.declared.network.RoadArc.{RoadArc}
 use Rattle.ride_model.specs.Road.{RoadMap}
 use Rattle.road_times.specs.declared.side.Side.{Side}
 use Rattle.road_times.specs.declared.side.Side.TheVariants.{Out, Back}
-use Rattle.adaptive_roads.specs.hierarchy_laws.Hierarchy.{IsHierarchyOf}
+use Rattle.adaptive_roads.specs.inner.hierarchy_laws.Hierarchy.{IsHierarchyOf}
 use Rattle.adaptive_roads.specs.declared.contraction.graph.Chain.{Chain}
 use Rattle.adaptive_roads.specs.declared.contraction.graph.Graph.{Graph}
-use Rattle.adaptive_roads.specs.contraction.Levels.{level_in}
-use Rattle.adaptive_roads.specs.contraction.Graph.{no_chain, chain_at, arc_at, next_of, relinked, IsLive, AreChained, IsGraphOf, IsSameGraph}
-use Rattle.adaptive_roads.specs.contraction.Growth.{IsHierarchyGraph}
+use Rattle.adaptive_roads.specs.inner.contraction.Levels.{level_in}
+use Rattle.adaptive_roads.specs.inner.contraction.Graph.{no_chain, chain_at, arc_at, next_of, relinked, IsLive, AreChained, IsGraphOf, IsSameGraph}
+use Rattle.adaptive_roads.specs.inner.contraction.Growth.{IsHierarchyGraph}
 use Rattle.adaptive_roads.proofs.contraction.ChainSteps.{chained-same, chained-skipped}
 
 -- a chain whose next was written, and its next on the other side

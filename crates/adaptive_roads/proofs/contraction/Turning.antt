@@ -5,9 +5,9 @@ use Rattle.std.proofs.lemmas.List.{get_or_default}
 use Rattle.ride_model.specs.declared.network.RoadArc.{RoadArc}
 use Rattle.road_times.specs.declared.side.Side.{Side}
 use Rattle.road_times.specs.declared.side.Side.TheVariants.{Out, Back}
-use Rattle.road_times.specs.Turned.{turned_arc}
-use Rattle.road_times.specs.Sorting.{no_arc}
-use Rattle.adaptive_roads.specs.contraction.Graph.{arc_at}
+use Rattle.road_times.specs.inner.Turned.{turned_arc}
+use Rattle.road_times.specs.inner.Sorting.{no_arc}
+use Rattle.adaptive_roads.specs.inner.contraction.Graph.{arc_at}
 
 pub turned-turned : (side : Side) (arc : RoadArc) → turned_arc side (turned_arc side arc) ≡ arc
 turned-turned Out arc = refl

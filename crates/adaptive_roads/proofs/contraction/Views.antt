@@ -3,14 +3,14 @@ use Rattle.std.proofs.Common.{◌≡◌, ℕ, inl, inr, Bool, false, length, sym
 use Rattle.std.specs.Prelude.{Contains, All}
 use Rattle.std.proofs.lemmas.List.Elements.{All-from_get_or}
 use Rattle.ride_model.specs.Road.{RoadMap, IsArc}
-use Rattle.road_times.specs.Sorting.{no_arc}
-use Rattle.adaptive_roads.specs.hierarchy_laws.Hierarchy.{IsHierarchyOf}
+use Rattle.road_times.specs.inner.Sorting.{no_arc}
+use Rattle.adaptive_roads.specs.inner.hierarchy_laws.Hierarchy.{IsHierarchyOf}
 use Rattle.adaptive_roads.proofs.hierarchy_laws.Growing.{hierarchy-none}
 use Rattle.adaptive_roads.specs.declared.contraction.graph.Graph.{Graph}
-use Rattle.adaptive_roads.specs.contraction.Levels.{level_in}
-use Rattle.adaptive_roads.specs.contraction.Graph.{IsGraph}
-use Rattle.adaptive_roads.specs.contraction.Contracted.{IsContractionOf, IsFitContraction}
-use Rattle.adaptive_roads.specs.contraction.View.{contracted_of}
+use Rattle.adaptive_roads.specs.inner.contraction.Levels.{level_in}
+use Rattle.adaptive_roads.specs.inner.contraction.Graph.{IsGraph}
+use Rattle.adaptive_roads.specs.inner.contraction.Contracted.{IsContractionOf, IsFitContraction}
+use Rattle.adaptive_roads.specs.inner.contraction.View.{contracted_of}
 
 -- while no node is contracted, each has the level of the core
 begun-level : (graph : Graph) → IsGraph graph → length graph.order.items ≡ 0 → (x : ℕ) → level_in graph.levels.items x ≡ 4294967295

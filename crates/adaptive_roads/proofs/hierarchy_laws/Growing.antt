@@ -2,8 +2,8 @@
 use Rattle.std.proofs.Common.{◌≡◌, ◌≢◌, ℕ, ◌+◌, ◌<◌, ◌≤◌, ◌⊎◌, inl, inr, sym, ◌∙◌, ap, subst, arith}
 use Rattle.std.proofs.lemmas.Bool.{cases_eq, cases_lt}
 use Rattle.ride_model.specs.declared.network.RoadArc.{RoadArc}
-use Rattle.adaptive_roads.specs.hierarchy_laws.Ways.{Reaches}
-use Rattle.adaptive_roads.specs.hierarchy_laws.Hierarchy.{IsRemaining, IsHierarchy, IsApart, IsBypassed, IsRaised, flipped}
+use Rattle.adaptive_roads.specs.inner.hierarchy_laws.Ways.{Reaches}
+use Rattle.adaptive_roads.specs.inner.hierarchy_laws.Hierarchy.{IsRemaining, IsHierarchy, IsApart, IsBypassed, IsRaised, flipped}
 use Rattle.adaptive_roads.proofs.hierarchy_laws.Ways.{reaches-arc, reaches-mapped, reaches-carried, reaches-flipped}
 
 -- a map is a hierarchy of itself, of which no node is contracted

@@ -3,10 +3,11 @@ use Rattle.std.proofs.Common.{◌≡◌, ℕ, ◌+◌, ◌≤◌, List, [], ◌�
 use Rattle.std.specs.Prelude.{Contains}
 use Rattle.std.proofs.lemmas.List.Sums.{sum_by-append}
 use Rattle.ride_model.specs.declared.network.RoadArc.{RoadArc}
-use Rattle.ride_model.specs.Road.{RoadMap, IsWalk, weight_of}
+use Rattle.ride_model.specs.Road.{RoadMap}
+use Rattle.ride_model.specs.inner.Road.{IsWalk, weight_of}
 use Rattle.model_laws.proofs.Walks.{weight-cons}
-use Rattle.adaptive_roads.specs.hierarchy_laws.Ways.{IsWay, Reaches}
-use Rattle.adaptive_roads.specs.hierarchy_laws.Hierarchy.{flipped}
+use Rattle.adaptive_roads.specs.inner.hierarchy_laws.Ways.{IsWay, Reaches}
+use Rattle.adaptive_roads.specs.inner.hierarchy_laws.Hierarchy.{flipped}
 
 -- one way after another
 pub way-append : (Kind : RoadArc → Type 0) (x y z : ℕ) (first second : List RoadArc) → IsWay Kind x y first → IsWay Kind y z second

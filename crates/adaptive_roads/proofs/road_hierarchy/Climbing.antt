@@ -4,23 +4,23 @@ use Rattle.std.specs.Prelude.{slice_range}
 use Rattle.std.proofs.lemmas.Bool.{cases_eq, cases_lt}
 use Rattle.std.proofs.lemmas.List.{get_or-set_same, get_or-set_other, length-set, get_or_past}
 use Rattle.ride_model.specs.declared.network.RoadArc.{RoadArc}
-use Rattle.ride_model.specs.Road.{weight_of}
+use Rattle.ride_model.specs.inner.Road.{weight_of}
 use Rattle.model_laws.proofs.Walks.{weight-cons}
 use Rattle.road_times.specs.declared.side.Side.{Side}
 use Rattle.road_times.specs.declared.side.Side.TheVariants.{Out, Back}
-use Rattle.adaptive_roads.specs.hierarchy_laws.Ways.{IsWay, Reaches}
-use Rattle.adaptive_roads.specs.hierarchy_laws.Hierarchy.{IsRising, IsFalling, flipped}
+use Rattle.adaptive_roads.specs.inner.hierarchy_laws.Ways.{IsWay, Reaches}
+use Rattle.adaptive_roads.specs.inner.hierarchy_laws.Hierarchy.{IsRising, IsFalling, flipped}
 use Rattle.adaptive_roads.proofs.hierarchy_laws.Ways.{reaches-same, reaches-behind}
-use Rattle.adaptive_roads.specs.contraction.Levels.{level_in}
-use Rattle.adaptive_roads.specs.contraction.Contracted.{Contracted, IsFitContraction}
+use Rattle.adaptive_roads.specs.inner.contraction.Levels.{level_in}
+use Rattle.adaptive_roads.specs.inner.contraction.Contracted.{Contracted, IsFitContraction}
 use Rattle.adaptive_roads.specs.declared.road_hierarchy.descents.Upper.{Upper}
-use Rattle.adaptive_roads.specs.road_hierarchy.Links.{IsLinkBy}
-use Rattle.adaptive_roads.specs.road_hierarchy.Parts.{start_at, IsIn, AreParts}
-use Rattle.adaptive_roads.specs.road_hierarchy.Marks.{node_at}
-use Rattle.adaptive_roads.specs.road_hierarchy.Descents.{no_upper, upper_at, AreDescents}
-use Rattle.adaptive_roads.specs.road_hierarchy.Packed.{IsWhole}
-use Rattle.adaptive_roads.specs.road_hierarchy.Sweep.{never}
-use Rattle.adaptive_roads.specs.road_hierarchy.Climb.{level_of, IsRelaxed, IsStep, IsClimb, opposite, AreClimbs}
+use Rattle.adaptive_roads.specs.inner.road_hierarchy.Links.{IsLinkBy}
+use Rattle.adaptive_roads.specs.inner.road_hierarchy.Parts.{start_at, IsIn, AreParts}
+use Rattle.adaptive_roads.specs.inner.road_hierarchy.Marks.{node_at}
+use Rattle.adaptive_roads.specs.inner.road_hierarchy.Descents.{no_upper, upper_at, AreDescents}
+use Rattle.adaptive_roads.specs.inner.road_hierarchy.Packed.{IsWhole}
+use Rattle.adaptive_roads.specs.inner.road_hierarchy.Sweep.{never}
+use Rattle.adaptive_roads.specs.inner.road_hierarchy.Climb.{level_of, IsRelaxed, IsStep, IsClimb, opposite, AreClimbs}
 use Rattle.adaptive_roads.proofs.road_hierarchy.Parts.{slice-at, length-slice}
 use Rattle.adaptive_roads.proofs.road_hierarchy.Marking.{node-of_level, link-inside, upper-higher}
 

@@ -4,10 +4,10 @@ use Rattle.std.specs.Prelude.{slice_range}
 use Rattle.std.proofs.lemmas.Bool.{cases_lt}
 use Rattle.std.proofs.lemmas.List.{get_or-set_same, get_or-set_other}
 use Rattle.adaptive_roads.specs.declared.road_hierarchy.selected.Step.{Step}
-use Rattle.adaptive_roads.specs.road_hierarchy.Parts.{start_at, IsIn, AreParts}
-use Rattle.adaptive_roads.specs.road_hierarchy.Marks.{node_at}
-use Rattle.adaptive_roads.specs.road_hierarchy.Selection.{no_step, step_at, ComeEarlier}
-use Rattle.adaptive_roads.specs.road_hierarchy.Sweep.{never, through, IsSwept}
+use Rattle.adaptive_roads.specs.inner.road_hierarchy.Parts.{start_at, IsIn, AreParts}
+use Rattle.adaptive_roads.specs.inner.road_hierarchy.Marks.{node_at}
+use Rattle.adaptive_roads.specs.inner.road_hierarchy.Selection.{no_step, step_at, ComeEarlier}
+use Rattle.adaptive_roads.specs.inner.road_hierarchy.Sweep.{never, through, IsSwept}
 use Rattle.adaptive_roads.proofs.road_hierarchy.Parts.{slice-at, length-slice}
 
 -- a write at a later place

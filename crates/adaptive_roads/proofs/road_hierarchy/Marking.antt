@@ -7,15 +7,15 @@ use Rattle.ride_model.specs.declared.network.RoadArc.{RoadArc}
 use Rattle.ride_model.specs.Road.{IsArc}
 use Rattle.road_times.specs.declared.side.Side.{Side}
 use Rattle.road_times.specs.declared.side.Side.TheVariants.{Out, Back}
-use Rattle.road_times.specs.Turned.{turned_arc}
-use Rattle.adaptive_roads.specs.hierarchy_laws.Hierarchy.{IsFalling}
-use Rattle.adaptive_roads.specs.contraction.Levels.{level_in, IsOrdered}
-use Rattle.adaptive_roads.specs.contraction.Contracted.{Contracted, IsFitContraction}
+use Rattle.road_times.specs.inner.Turned.{turned_arc}
+use Rattle.adaptive_roads.specs.inner.hierarchy_laws.Hierarchy.{IsFalling}
+use Rattle.adaptive_roads.specs.inner.contraction.Levels.{level_in, IsOrdered}
+use Rattle.adaptive_roads.specs.inner.contraction.Contracted.{Contracted, IsFitContraction}
 use Rattle.adaptive_roads.specs.declared.road_hierarchy.descents.Upper.{Upper}
-use Rattle.adaptive_roads.specs.road_hierarchy.Links.{IsLinkBy}
-use Rattle.adaptive_roads.specs.road_hierarchy.Parts.{start_at, IsIn, AreParts}
-use Rattle.adaptive_roads.specs.road_hierarchy.Descents.{no_upper, upper_at, AreDescents}
-use Rattle.adaptive_roads.specs.road_hierarchy.Marks.{IsMarked, node_at, AreClosedBelow, AreClosed}
+use Rattle.adaptive_roads.specs.inner.road_hierarchy.Links.{IsLinkBy}
+use Rattle.adaptive_roads.specs.inner.road_hierarchy.Parts.{start_at, IsIn, AreParts}
+use Rattle.adaptive_roads.specs.inner.road_hierarchy.Descents.{no_upper, upper_at, AreDescents}
+use Rattle.adaptive_roads.specs.inner.road_hierarchy.Marks.{IsMarked, node_at, AreClosedBelow, AreClosed}
 use Rattle.adaptive_roads.proofs.road_hierarchy.Parts.{slice-at, length-slice}
 use Rattle.adaptive_roads.proofs.road_hierarchy.LevelParts.{IsPart, part-of}
 

@@ -6,19 +6,19 @@ use Rattle.ride_model.specs.declared.network.RoadArc.{RoadArc}
 use Rattle.ride_model.specs.Road.{RoadMap, IsRoadMap, travel}
 use Rattle.model_laws.proofs.TravelTimes.{travel-le}
 use Rattle.road_times.specs.declared.side.Side.TheVariants.{Out, Back}
-use Rattle.adaptive_roads.specs.hierarchy_laws.Ways.{IsWay, Reaches}
-use Rattle.adaptive_roads.specs.hierarchy_laws.Hierarchy.{IsRising, IsFalling, flipped}
-use Rattle.adaptive_roads.specs.hierarchy_laws.Labels.{IsLabel, time_of}
+use Rattle.adaptive_roads.specs.inner.hierarchy_laws.Ways.{IsWay, Reaches}
+use Rattle.adaptive_roads.specs.inner.hierarchy_laws.Hierarchy.{IsRising, IsFalling, flipped}
+use Rattle.adaptive_roads.specs.inner.hierarchy_laws.Labels.{IsLabel, time_of}
 use Rattle.adaptive_roads.proofs.hierarchy_laws.Ways.{reaches-append, reaches-carried, reaches-mapped, reaches-flipped}
 use Rattle.adaptive_roads.proofs.hierarchy_laws.Climbing.{climbs}
-use Rattle.adaptive_roads.specs.contraction.Levels.{level_in}
-use Rattle.adaptive_roads.specs.contraction.Contracted.{Contracted, IsContractionOf, IsFitContraction}
-use Rattle.adaptive_roads.specs.road_hierarchy.Links.{IsLinkBy}
-use Rattle.adaptive_roads.specs.road_hierarchy.Marks.{node_at}
-use Rattle.adaptive_roads.specs.road_hierarchy.Packed.{IsWhole}
-use Rattle.adaptive_roads.specs.road_hierarchy.Sweep.{never, label_for}
-use Rattle.adaptive_roads.specs.road_hierarchy.Climb.{AreClimbs}
-use Rattle.adaptive_roads.specs.road_hierarchy.Meet.{IsMeeting}
+use Rattle.adaptive_roads.specs.inner.contraction.Levels.{level_in}
+use Rattle.adaptive_roads.specs.inner.contraction.Contracted.{Contracted, IsContractionOf, IsFitContraction}
+use Rattle.adaptive_roads.specs.inner.road_hierarchy.Links.{IsLinkBy}
+use Rattle.adaptive_roads.specs.inner.road_hierarchy.Marks.{node_at}
+use Rattle.adaptive_roads.specs.inner.road_hierarchy.Packed.{IsWhole}
+use Rattle.adaptive_roads.specs.inner.road_hierarchy.Sweep.{never, label_for}
+use Rattle.adaptive_roads.specs.inner.road_hierarchy.Climb.{AreClimbs}
+use Rattle.adaptive_roads.specs.inner.road_hierarchy.Meet.{IsMeeting}
 use Rattle.adaptive_roads.proofs.road_hierarchy.Marking.{link-inside}
 use Rattle.adaptive_roads.proofs.road_hierarchy.Sweeping.{label-unique, label-of_travel, label_for-le, time-of_label}
 

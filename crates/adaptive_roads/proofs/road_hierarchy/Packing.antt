@@ -12,20 +12,20 @@ use Rattle.ride_model.specs.declared.network.RoadArc.{RoadArc}
 use Rattle.ride_model.specs.Road.{RoadMap, IsArc}
 use Rattle.road_times.specs.declared.side.Side.{Side}
 use Rattle.road_times.specs.declared.side.Side.TheVariants.{Out, Back}
-use Rattle.road_times.specs.Turned.{turned_arc}
-use Rattle.road_times.specs.Sorting.{no_arc}
-use Rattle.adaptive_roads.specs.hierarchy_laws.Ways.{Reaches}
-use Rattle.adaptive_roads.specs.hierarchy_laws.Hierarchy.{IsFalling, IsRemaining, IsHierarchy}
+use Rattle.road_times.specs.inner.Turned.{turned_arc}
+use Rattle.road_times.specs.inner.Sorting.{no_arc}
+use Rattle.adaptive_roads.specs.inner.hierarchy_laws.Ways.{Reaches}
+use Rattle.adaptive_roads.specs.inner.hierarchy_laws.Hierarchy.{IsFalling, IsRemaining, IsHierarchy}
 use Rattle.adaptive_roads.proofs.hierarchy_laws.Ways.{reaches-same, reaches-arc, reaches-carried}
-use Rattle.adaptive_roads.specs.contraction.Levels.{level_in, IsOrdered}
-use Rattle.adaptive_roads.specs.contraction.Contracted.{Contracted, IsContractionOf, IsFitContraction}
+use Rattle.adaptive_roads.specs.inner.contraction.Levels.{level_in, IsOrdered}
+use Rattle.adaptive_roads.specs.inner.contraction.Contracted.{Contracted, IsContractionOf, IsFitContraction}
 use Rattle.adaptive_roads.specs.declared.road_hierarchy.descents.Upper.{Upper}
 use Rattle.adaptive_roads.specs.declared.road_hierarchy.descents.Descents.{Descents}
-use Rattle.adaptive_roads.specs.road_hierarchy.Links.{IsLinkBy, HaveLevels}
-use Rattle.adaptive_roads.specs.road_hierarchy.Parts.{start_at, IsIn}
-use Rattle.adaptive_roads.specs.road_hierarchy.Marks.{node_at}
-use Rattle.adaptive_roads.specs.road_hierarchy.Descents.{upper_of, no_upper, upper_at, AreDescents}
-use Rattle.adaptive_roads.specs.road_hierarchy.Packed.{arc_below, uppers_at, arcs_below, hierarchy_of, IsPacked, IsPackingOf}
+use Rattle.adaptive_roads.specs.inner.road_hierarchy.Links.{IsLinkBy, HaveLevels}
+use Rattle.adaptive_roads.specs.inner.road_hierarchy.Parts.{start_at, IsIn}
+use Rattle.adaptive_roads.specs.inner.road_hierarchy.Marks.{node_at}
+use Rattle.adaptive_roads.specs.inner.road_hierarchy.Descents.{upper_of, no_upper, upper_at, AreDescents}
+use Rattle.adaptive_roads.specs.inner.road_hierarchy.Packed.{arc_below, uppers_at, arcs_below, hierarchy_of, IsPacked, IsPackingOf}
 use Rattle.adaptive_roads.proofs.road_hierarchy.Parts.{slice-at, length-slice}
 use Rattle.adaptive_roads.proofs.contraction.Turning.{turned-turned}
 use Rattle.adaptive_roads.proofs.road_hierarchy.Marking.{falls-low, node-of_level}

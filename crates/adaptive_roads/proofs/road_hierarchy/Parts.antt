@@ -3,7 +3,7 @@ use Rattle.std.proofs.Common.{◌≡◌, ℕ, ◌+◌, ◌-◌, ◌<◌, ◌≤�
 use Rattle.std.specs.Prelude.{slice_range}
 use Rattle.std.proofs.lemmas.Bool.{cases_lt}
 use Rattle.std.proofs.lemmas.List.{get_or_append_left, get_or_push, length_push, get_or-take, get_or-drop, length-take, length-drop}
-use Rattle.adaptive_roads.specs.road_hierarchy.Parts.{start_at, IsIn, AreParts}
+use Rattle.adaptive_roads.specs.inner.road_hierarchy.Parts.{start_at, IsIn, AreParts}
 
 pub parts-none : AreParts 0 (0 ∷ []) 0
 parts-none = record {

@@ -8,11 +8,11 @@ use Rattle.std.proofs.lemmas.Map.Keys.{IsDistinct-from_apart}
 use Rattle.std.proofs.lemmas.Map.Steps.{length-le_from_distinct_below}
 use Rattle.std.proofs.lemmas.Map.Views.{Contains-from_any}
 use Rattle.ride_model.specs.declared.network.RoadArc.{RoadArc}
-use Rattle.adaptive_roads.specs.hierarchy_laws.Hierarchy.{IsFalling}
+use Rattle.adaptive_roads.specs.inner.hierarchy_laws.Hierarchy.{IsFalling}
 use Rattle.adaptive_roads.specs.declared.road_hierarchy.selected.Step.{Step}
-use Rattle.adaptive_roads.specs.road_hierarchy.Parts.{IsIn, AreParts}
-use Rattle.adaptive_roads.specs.road_hierarchy.Marks.{node_at}
-use Rattle.adaptive_roads.specs.road_hierarchy.Selection.{no_step, step_at, arc_of, IsFree, IsSelecting}
+use Rattle.adaptive_roads.specs.inner.road_hierarchy.Parts.{IsIn, AreParts}
+use Rattle.adaptive_roads.specs.inner.road_hierarchy.Marks.{node_at}
+use Rattle.adaptive_roads.specs.inner.road_hierarchy.Selection.{no_step, step_at, arc_of, IsFree, IsSelecting}
 use Rattle.adaptive_roads.proofs.road_hierarchy.Parts.{parts-added, in-before, in-after, in-last, last-in, in-within}
 
 -- the steps behind the first so many are the arcs that lead down to a node, from nodes that are selected

@@ -1,11 +1,11 @@
 // The arcs of a map and the shortcuts that were added, chained by the nodes that they leave and by those that they lead to.
 ghost use Rattle.std.specs.Prelude.{◌≡◌, suc, ◌≢◌, ℕ, ◌+◌, ◌^◌, ◌<◌, ◌≤◌, [], length, slice_index_or, Contains, IfOk, OnOk, OnErr, IsTrue, IsFalse, ◌↔◌};
 ghost use Rattle.ride_model.specs.declared.network.RoadArc.{RoadArc};
-ghost use Rattle.road_times.specs.Turned.{turned_arc};
+ghost use Rattle.road_times.specs.inner.Turned.{turned_arc};
 ghost use Rattle.adaptive_roads.specs.declared.contraction.graph.Chain.{Chain};
 ghost use Rattle.adaptive_roads.specs.declared.contraction.graph.Neighbor.{Neighbor};
-ghost use Rattle.adaptive_roads.specs.contraction.Graph.{next_of, firsts_in, chain_at, arc_at, IsFit, IsGraph, IsSameGraph, HasPushed, IsNeighbor, IsTakenOut, IsLive, relinked};
-ghost use Rattle.adaptive_roads.specs.contraction.Levels.{level_in};
+ghost use Rattle.adaptive_roads.specs.inner.contraction.Graph.{next_of, firsts_in, chain_at, arc_at, IsFit, IsGraph, IsSameGraph, HasPushed, IsNeighbor, IsTakenOut, IsLive, relinked};
+ghost use Rattle.adaptive_roads.specs.inner.contraction.Levels.{level_in};
 
 use ride_model::RoadArc;
 use road_times::Side;

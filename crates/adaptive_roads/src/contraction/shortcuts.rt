@@ -3,10 +3,10 @@ ghost use Rattle.std.specs.Prelude.{◌≡◌, ℕ, ◌+◌, ◌<◌, ◌≤◌,
 ghost use Rattle.ride_model.specs.Road.{RoadMap};
 ghost use Rattle.adaptive_roads.specs.declared.contraction.graph.Graph.{Graph};
 ghost use Rattle.adaptive_roads.specs.declared.contraction.graph.Neighbor.{Neighbor};
-ghost use Rattle.adaptive_roads.specs.contraction.Graph.{IsGraph, IsSameGraph};
-ghost use Rattle.adaptive_roads.specs.contraction.Levels.{level_in};
-ghost use Rattle.adaptive_roads.specs.contraction.Witness.{IsRoomy, IsWitness};
-ghost use Rattle.adaptive_roads.specs.contraction.Growth.{IsHierarchyGraph, HasShortcuts, IsIncoming, IsOutgoing, IsCovered};
+ghost use Rattle.adaptive_roads.specs.inner.contraction.Graph.{IsGraph, IsSameGraph};
+ghost use Rattle.adaptive_roads.specs.inner.contraction.Levels.{level_in};
+ghost use Rattle.adaptive_roads.specs.inner.contraction.Witness.{IsRoomy, IsWitness};
+ghost use Rattle.adaptive_roads.specs.inner.contraction.Growth.{IsHierarchyGraph, HasShortcuts, IsIncoming, IsOutgoing, IsCovered};
 
 use crate::contraction::graph::{Graph, MOST_LINKS, Neighbor};
 use crate::contraction::witness::Witness;

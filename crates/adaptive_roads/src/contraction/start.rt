@@ -1,6 +1,6 @@
 // A contraction begins: the graph of the map, and the nodes in the order of their degrees.
 ghost use Rattle.std.specs.Prelude.{◌≡◌, ℕ, ◌+◌, ◌≤◌, length, map, take, IfOk};
-ghost use Rattle.adaptive_roads.specs.contraction.Graph.{IsGraph};
+ghost use Rattle.adaptive_roads.specs.inner.contraction.Graph.{IsGraph};
 
 use crate::contraction::BIAS;
 use crate::contraction::graph::Graph;

@@ -2,9 +2,9 @@
 // ways is all that is promised, since a witness that is missed costs a shortcut and nothing else.
 ghost use Rattle.std.specs.Prelude.{◌≡◌, ◌≢◌, ℕ, ◌+◌, ◌^◌, ◌<◌, ◌≤◌, length, IfOk, IfSome, IsTrue};
 ghost use Rattle.adaptive_roads.specs.declared.contraction.graph.Graph.{Graph};
-ghost use Rattle.adaptive_roads.specs.contraction.Graph.{IsGraph};
-ghost use Rattle.adaptive_roads.specs.contraction.Levels.{level_in};
-ghost use Rattle.adaptive_roads.specs.contraction.Witness.{ReachesPast, IsFound, IsRoomy, IsWitness};
+ghost use Rattle.adaptive_roads.specs.inner.contraction.Graph.{IsGraph};
+ghost use Rattle.adaptive_roads.specs.inner.contraction.Levels.{level_in};
+ghost use Rattle.adaptive_roads.specs.inner.contraction.Witness.{ReachesPast, IsFound, IsRoomy, IsWitness};
 
 use crate::contraction::graph::{Graph, IN_CORE};
 use radix_queue::RadixQueue;

@@ -2,12 +2,12 @@
 //!
 //! Each arc leads to a higher level, so that the label of a level is final once the pass comes to it, and no queue is needed.
 ghost use Rattle.std.specs.Prelude.{◌≡◌, ℕ, ◌+◌, ◌<◌, ◌≤◌, ◌⊎◌, length};
-ghost use Rattle.adaptive_roads.specs.contraction.Levels.{level_in};
-ghost use Rattle.adaptive_roads.specs.road_hierarchy.Parts.{AreParts, IsIn};
-ghost use Rattle.adaptive_roads.specs.road_hierarchy.Descents.{upper_at};
-ghost use Rattle.adaptive_roads.specs.road_hierarchy.Marks.{node_at};
-ghost use Rattle.adaptive_roads.specs.road_hierarchy.Climb.{IsRelaxed, IsClimb};
-ghost use Rattle.adaptive_roads.specs.road_hierarchy.Sweep.{never};
+ghost use Rattle.adaptive_roads.specs.inner.contraction.Levels.{level_in};
+ghost use Rattle.adaptive_roads.specs.inner.road_hierarchy.Parts.{AreParts, IsIn};
+ghost use Rattle.adaptive_roads.specs.inner.road_hierarchy.Descents.{upper_at};
+ghost use Rattle.adaptive_roads.specs.inner.road_hierarchy.Marks.{node_at};
+ghost use Rattle.adaptive_roads.specs.inner.road_hierarchy.Climb.{IsRelaxed, IsClimb};
+ghost use Rattle.adaptive_roads.specs.inner.road_hierarchy.Sweep.{never};
 
 use crate::road_hierarchy::descents::{Descents, Upper};
 use crate::road_hierarchy::sweep::NEVER;

@@ -1,6 +1,6 @@
 //! Arcs as a search meets them.
 ghost use Rattle.std.specs.Prelude.{◌≡◌};
-ghost use Rattle.road_times.specs.Turned.{turned_arc};
+ghost use Rattle.road_times.specs.inner.Turned.{turned_arc};
 
 use ride_model::RoadArc;
 use road_times::Side;

@@ -1,10 +1,10 @@
 //! The nodes from which arcs lead down to a wanted node: marks of all nodes, in the order of their levels.
 ghost use Rattle.std.specs.Prelude.{◌≡◌, ℕ, ◌+◌, ◌<◌, ◌≤◌, ◌≢◌, length, All, IfOk};
-ghost use Rattle.adaptive_roads.specs.contraction.Levels.{level_in};
-ghost use Rattle.adaptive_roads.specs.road_hierarchy.Links.{IsLinkBy};
-ghost use Rattle.adaptive_roads.specs.road_hierarchy.Parts.{IsIn, AreParts};
-ghost use Rattle.adaptive_roads.specs.road_hierarchy.Descents.{upper_at};
-ghost use Rattle.adaptive_roads.specs.road_hierarchy.Marks.{IsMarked, AreClosed, AreClosedBelow, node_at};
+ghost use Rattle.adaptive_roads.specs.inner.contraction.Levels.{level_in};
+ghost use Rattle.adaptive_roads.specs.inner.road_hierarchy.Links.{IsLinkBy};
+ghost use Rattle.adaptive_roads.specs.inner.road_hierarchy.Parts.{IsIn, AreParts};
+ghost use Rattle.adaptive_roads.specs.inner.road_hierarchy.Descents.{upper_at};
+ghost use Rattle.adaptive_roads.specs.inner.road_hierarchy.Marks.{IsMarked, AreClosed, AreClosedBelow, node_at};
 
 use crate::road_hierarchy::Hierarchy;
 use crate::road_hierarchy::descents::{Descents, Upper};

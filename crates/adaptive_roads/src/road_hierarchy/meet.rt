@@ -3,9 +3,9 @@
 //! A least way from one node to another climbs to its highest node and descends from there. The climb from its beginning labels that
 //! node, and so does the climb from its end, against the arcs.
 ghost use Rattle.std.specs.Prelude.{◌≡◌, ℕ, ◌≤◌, length};
-ghost use Rattle.adaptive_roads.specs.road_hierarchy.Marks.{node_at};
-ghost use Rattle.adaptive_roads.specs.road_hierarchy.Sweep.{never};
-ghost use Rattle.adaptive_roads.specs.road_hierarchy.Meet.{IsMeeting};
+ghost use Rattle.adaptive_roads.specs.inner.road_hierarchy.Marks.{node_at};
+ghost use Rattle.adaptive_roads.specs.inner.road_hierarchy.Sweep.{never};
+ghost use Rattle.adaptive_roads.specs.inner.road_hierarchy.Meet.{IsMeeting};
 
 use crate::road_hierarchy::sweep::NEVER;
 

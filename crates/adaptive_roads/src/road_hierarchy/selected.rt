@@ -1,10 +1,10 @@
 //! The part of a hierarchy that rows to some wanted nodes need, selected once for many rows.
 ghost use Rattle.std.specs.Prelude.{◌≡◌, ℕ, ◌+◌, ◌^◌, ◌<◌, ◌≤◌, ◌++◌, [], ◌∷◌, length, map, All, IfOk, OnOk, slice_set};
-ghost use Rattle.adaptive_roads.specs.contraction.Levels.{level_in};
-ghost use Rattle.adaptive_roads.specs.road_hierarchy.Links.{IsLinkBy};
-ghost use Rattle.adaptive_roads.specs.road_hierarchy.Descents.{upper_at};
-ghost use Rattle.adaptive_roads.specs.road_hierarchy.Marks.{AreClosed, node_at};
-ghost use Rattle.adaptive_roads.specs.road_hierarchy.Selection.{IsSelectionOf, IsSelectingOf, IsFrom, step_from};
+ghost use Rattle.adaptive_roads.specs.inner.contraction.Levels.{level_in};
+ghost use Rattle.adaptive_roads.specs.inner.road_hierarchy.Links.{IsLinkBy};
+ghost use Rattle.adaptive_roads.specs.inner.road_hierarchy.Descents.{upper_at};
+ghost use Rattle.adaptive_roads.specs.inner.road_hierarchy.Marks.{AreClosed, node_at};
+ghost use Rattle.adaptive_roads.specs.inner.road_hierarchy.Selection.{IsSelectionOf, IsSelectingOf, IsFrom, step_from};
 
 use crate::road_hierarchy::Hierarchy;
 use crate::road_hierarchy::descents::Upper;
@@ -35,12 +35,12 @@ pub struct Selected {
 }
 
 impl Model for Selected {
-    ghost use Rattle.adaptive_roads.specs.road_hierarchy.Selection.{Selection};
+    ghost use Rattle.adaptive_roads.specs.inner.road_hierarchy.Selection.{Selection};
 
     ghost Value = { Selection };
 
     ghost use Rattle.std.specs.Prelude.{◌≡◌, length};
-    ghost use Rattle.adaptive_roads.specs.road_hierarchy.Selection.{selection_of, AreLaidOut};
+    ghost use Rattle.adaptive_roads.specs.inner.road_hierarchy.Selection.{selection_of, AreLaidOut};
 
     ghost view = { λ s. selection_of s.side s.nodes.items s.ranks.items s.starts.items s.steps.items s.places.items };
 

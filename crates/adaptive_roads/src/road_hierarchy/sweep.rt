@@ -1,10 +1,10 @@
 //! The sweep: one pass over the steps of a selection, from the highest node down.
 ghost use Rattle.std.specs.Prelude.{◌≡◌, ℕ, ◌+◌, ◌<◌, ◌≤◌, ◌⊎◌, length, map, All};
-ghost use Rattle.adaptive_roads.specs.hierarchy_laws.Labels.{time_of};
-ghost use Rattle.adaptive_roads.specs.road_hierarchy.Parts.{AreParts};
-ghost use Rattle.adaptive_roads.specs.road_hierarchy.Marks.{node_at};
-ghost use Rattle.adaptive_roads.specs.road_hierarchy.Selection.{step_at, ComeEarlier};
-ghost use Rattle.adaptive_roads.specs.road_hierarchy.Sweep.{never, climb_to, through, IsSwept};
+ghost use Rattle.adaptive_roads.specs.inner.hierarchy_laws.Labels.{time_of};
+ghost use Rattle.adaptive_roads.specs.inner.road_hierarchy.Parts.{AreParts};
+ghost use Rattle.adaptive_roads.specs.inner.road_hierarchy.Marks.{node_at};
+ghost use Rattle.adaptive_roads.specs.inner.road_hierarchy.Selection.{step_at, ComeEarlier};
+ghost use Rattle.adaptive_roads.specs.inner.road_hierarchy.Sweep.{never, climb_to, through, IsSwept};
 
 use crate::road_hierarchy::selected::Step;
 

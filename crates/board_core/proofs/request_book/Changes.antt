@@ -12,11 +12,11 @@ use Rattle.ride_model.specs.declared.reply.RequestState.TheVariants.{Waiting as 
 use Rattle.ride_model.specs.declared.vehicle.Ride.{Ride}
 use Rattle.ride_model.specs.State.{AcceptedRequest}
 use Rattle.ride_model.specs.Batch.{is_waiting}
-use Rattle.wait_list.specs.Waiting.{Waiting}
+use Rattle.wait_list.specs.inner.Waiting.{Waiting}
 use Rattle.board_core.specs.declared.request_book.Accepted.{Accepted}
-use Rattle.board_core.specs.request_book.Book.{IsBook, request_of, with_state}
-use Rattle.board_core.specs.request_book.Kept.{request_in, requests_in, waiting_places, IsKept}
-use Rattle.board_core.specs.request_book.Marked.{marked}
+use Rattle.board_core.specs.inner.request_book.Book.{IsBook, request_of, with_state}
+use Rattle.board_core.specs.inner.request_book.Kept.{request_in, requests_in, waiting_places, IsKept}
+use Rattle.board_core.specs.inner.request_book.Marked.{marked}
 use Rattle.board_core.proofs.request_book.Entries.{IsKeyed, request_by, distinct-push, set-at, requests-set, keyed-set, ids-with_state, length-with_state}
 use Rattle.board_core.proofs.request_book.Places.{places-push, places-marked}
 

@@ -10,8 +10,8 @@ use Rattle.ride_model.specs.declared.reply.RequestState.{RequestState}
 use Rattle.ride_model.specs.declared.vehicle.Ride.{Ride}
 use Rattle.ride_model.specs.State.{AcceptedRequest}
 use Rattle.board_core.specs.declared.request_book.Accepted.{Accepted}
-use Rattle.board_core.specs.request_book.Book.{request_of, with_state}
-use Rattle.board_core.specs.request_book.Kept.{request_in, requests_in}
+use Rattle.board_core.specs.inner.request_book.Book.{request_of, with_state}
+use Rattle.board_core.specs.inner.request_book.Kept.{request_in, requests_in}
 
 -- a key is the id of its ride
 abbrev pub IsKeyed : ℕ × Accepted → Type 0

@@ -3,14 +3,14 @@ use Rattle.std.proofs.Common.{◌≡◌, ℕ, ◌+◌, ◌<◌, ◌≤◌, zero,
 use Rattle.std.specs.Prelude.{slice_set, IsTrue, ◌↔◌}
 use Rattle.std.specs.List.{AllByRecursion}
 use Rattle.std.proofs.lemmas.Bool.{lt-ltb, le-ltb}
-use Rattle.link_lists.specs.Family.{without}
+use Rattle.link_lists.specs.inner.Family.{without}
 use Rattle.link_lists.proofs.Members.{Contains-here, Contains-there, Contains-cons_cases, ByRecursion-at, without-same, without-other, without-absent}
-use Rattle.wait_list.specs.Waiting.{places_below, places_above}
+use Rattle.wait_list.specs.inner.Waiting.{places_below, places_above}
 use Rattle.wait_list.proofs.Rising.{each-weaker, filter-all, filter-none}
 use Rattle.ride_model.specs.State.{AcceptedRequest}
 use Rattle.ride_model.specs.Batch.{is_waiting}
-use Rattle.board_core.specs.request_book.Kept.{waiting_places}
-use Rattle.board_core.specs.request_book.Marked.{marked}
+use Rattle.board_core.specs.inner.request_book.Kept.{waiting_places}
+use Rattle.board_core.specs.inner.request_book.Marked.{marked}
 
 -- no place is below the first
 pub places-from : (place : ℕ) (requests : List AcceptedRequest) → AllByRecursion (λ other. place ≤ other) (waiting_places place requests)

@@ -6,11 +6,12 @@ ghost use Rattle.ride_model.specs.State.{has_ended, open_batch_of, open_batch_nu
 ghost use Rattle.ride_model.specs.Seating.{BatchCopy};
 ghost use Rattle.ride_model.specs.Legal.{IsNumbered, versions_of};
 ghost use Rattle.ride_model.specs.Vehicle.{ride_ids};
-ghost use Rattle.batch_commit.specs.Table.{IsTableOf};
-ghost use Rattle.model_laws.specs.history_laws.Consistent.{IsOpenBatch};
-ghost use Rattle.board_core.specs.Opening.{opening_at};
-ghost use Rattle.board_core.specs.Recorded.{Recorded, state_of, opened_entry, committed_entry, abandoned_entry};
-ghost use Rattle.board_core.specs.Settling.{balance};
+ghost use Rattle.batch_commit.specs.inner.Table.{IsTableOf};
+ghost use Rattle.model_laws.specs.inner.history_laws.Consistent.{IsOpenBatch};
+ghost use Rattle.board_core.specs.inner.Opening.{opening_at};
+ghost use Rattle.board_core.specs.Recorded.{Recorded, state_of, opened_entry};
+ghost use Rattle.board_core.specs.inner.Recorded.{committed_entry, abandoned_entry};
+ghost use Rattle.board_core.specs.inner.Settling.{balance};
 
 use crate::board::feeds::append;
 use crate::service::copies_of;

@@ -7,9 +7,10 @@ ghost use Rattle.ride_model.specs.Step.{step};
 ghost use Rattle.ride_model.specs.Legal.{IsNumbered, IsLegalEvent};
 ghost use Rattle.ride_model.specs.History.{fed_commands};
 ghost use Rattle.ride_model.specs.Text.{IsSpelledCommand};
-ghost use Rattle.ride_model.specs.Limits.{most_commands};
-ghost use Rattle.board_core.specs.Opening.{IsRequest};
-ghost use Rattle.board_core.specs.Recorded.{Recorded, state_of, fed_entry, end_entry};
+ghost use Rattle.ride_model.specs.inner.Limits.{most_commands};
+ghost use Rattle.board_core.specs.inner.Opening.{IsRequest};
+ghost use Rattle.board_core.specs.Recorded.{Recorded, state_of, end_entry};
+ghost use Rattle.board_core.specs.inner.Recorded.{fed_entry};
 
 use crate::Board;
 use ride_model::{Actor, Command, Ending, Entry, Event, NoMemory, Reply};

@@ -4,11 +4,12 @@ ghost use Rattle.ride_model.specs.State.{State};
 ghost use Rattle.ride_model.specs.Step.{at_step, done_step, duty_step, served_state};
 ghost use Rattle.ride_model.specs.Road.{IsRoadMap, IsNode};
 ghost use Rattle.ride_model.specs.Settings.{IsSettings};
-ghost use Rattle.ride_model.specs.Vehicle.{IsLawful, IsLawfulSomewhere};
+ghost use Rattle.ride_model.specs.Vehicle.{IsLawful};
+ghost use Rattle.ride_model.specs.inner.Vehicle.{IsLawfulSomewhere};
 ghost use Rattle.ride_model.specs.Limits.{latest_time, longest_dwell};
-ghost use Rattle.board_core.specs.Given.{Given};
-ghost use Rattle.board_core.specs.Service.{state_at, answered_at, IsInOrder, HasRoomAbove};
-ghost use Rattle.board_core.specs.Reports.{lateness_of, IsMoved};
+ghost use Rattle.board_core.specs.inner.Given.{Given};
+ghost use Rattle.board_core.specs.inner.Service.{state_at, answered_at, IsInOrder, HasRoomAbove};
+ghost use Rattle.board_core.specs.inner.Reports.{lateness_of, IsMoved};
 
 use crate::plans::{first_stop, put_at, put_before, serve};
 use crate::service::Service;

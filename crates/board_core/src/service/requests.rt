@@ -6,10 +6,10 @@ ghost use Rattle.ride_model.specs.State.{State, request_state};
 ghost use Rattle.ride_model.specs.Step.{cancel_step, refused, with_accepted};
 ghost use Rattle.ride_model.specs.declared.reply.Reply.TheVariants.{Waiting};
 ghost use Rattle.ride_model.specs.Limits.{most_chairs, most_requests, most_seats};
-ghost use Rattle.board_core.specs.Given.{Given};
-ghost use Rattle.board_core.specs.Service.{state_at, answered_at, IsInOrder};
-ghost use Rattle.board_core.specs.Wishes.{ride_of, wish_step, joins_nodes, has_odd_load, has_odd_limits, MayBeAccepted};
-ghost use Rattle.board_core.specs.request_book.Book.{request_of};
+ghost use Rattle.board_core.specs.inner.Given.{Given};
+ghost use Rattle.board_core.specs.inner.Service.{state_at, answered_at, IsInOrder};
+ghost use Rattle.board_core.specs.inner.Wishes.{ride_of, wish_step, joins_nodes, has_odd_load, has_odd_limits, MayBeAccepted};
+ghost use Rattle.board_core.specs.inner.request_book.Book.{request_of};
 
 use crate::plans::free;
 use crate::service::Service;

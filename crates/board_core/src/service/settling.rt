@@ -8,10 +8,10 @@ ghost use Rattle.ride_model.specs.State.{State};
 ghost use Rattle.ride_model.specs.Step.{raised};
 ghost use Rattle.ride_model.specs.Batch.{seat_of, outcome_of, after_outcome, after_outcomes};
 ghost use Rattle.ride_model.specs.Seating.{vehicle_ids};
-ghost use Rattle.stop_plans.specs.Change.{InsertsInto};
-ghost use Rattle.board_core.specs.Given.{Given};
-ghost use Rattle.board_core.specs.Service.{state_at};
-ghost use Rattle.board_core.specs.Settling.{started, IsCommitted, IsSettledTo, IsToConfirm};
+ghost use Rattle.stop_plans.specs.inner.Change.{InsertsInto};
+ghost use Rattle.board_core.specs.inner.Given.{Given};
+ghost use Rattle.board_core.specs.inner.Service.{state_at};
+ghost use Rattle.board_core.specs.inner.Settling.{started, IsCommitted, IsSettledTo, IsToConfirm};
 
 use crate::places::Places;
 use crate::service::Service;

@@ -7,10 +7,10 @@ ghost use Rattle.ride_model.specs.Fleet.{IsFleet};
 ghost use Rattle.ride_model.specs.Settings.{IsSettings};
 ghost use Rattle.ride_model.specs.Vehicle.{ride_ids};
 ghost use Rattle.ride_model.specs.Limits.{largest_batch};
-ghost use Rattle.model_laws.specs.Requests.{is_in};
-ghost use Rattle.board_core.specs.Given.{Given};
-ghost use Rattle.board_core.specs.Marking.{marked_in, state_in, still_in};
-ghost use Rattle.board_core.specs.Service.{state_at, batch_at};
+ghost use Rattle.model_laws.specs.inner.Requests.{is_in};
+ghost use Rattle.board_core.specs.inner.Given.{Given};
+ghost use Rattle.board_core.specs.inner.Marking.{marked_in, state_in, still_in};
+ghost use Rattle.board_core.specs.inner.Service.{state_at, batch_at};
 
 use crate::service::{Service, copies_of};
 use crate::setup::Setup;

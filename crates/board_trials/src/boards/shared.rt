@@ -4,12 +4,12 @@ ghost use Rattle.std.specs.Prelude.{◌≡◌, ◌≤◌, ◌<◌, ℕ, [], ◌�
 ghost use Rattle.ride_model.specs.Legal.{versions_of};
 ghost use Rattle.ride_model.specs.Text.{IsSpelledCommand};
 ghost use Rattle.turn_lock.specs.Passes.{knowledge};
-ghost use Rattle.fleet_board.specs.Passes.{IsPoint, commands_in, root_of};
-ghost use Rattle.batch_commit.specs.Table.{IsPriceable};
+ghost use Rattle.fleet_board.specs.inner.Passes.{IsPoint, commands_in, root_of};
+ghost use Rattle.batch_commit.specs.inner.Table.{IsPriceable};
 ghost use Rattle.fleet_board.specs.Roles.{MayFeed, MayOpen, MayCommit};
 ghost use Rattle.fleet_board.specs.Sharing.{MayUse};
 ghost use Rattle.booking_desk.specs.Desk.{Booking};
-ghost use Rattle.idle_moves.specs.Watch.{Watches, watched_ids};
+ghost use Rattle.idle_moves.specs.inner.Watch.{Watches, watched_ids};
 
 use super::days::is_spelled;
 use super::{CANCEL, EIGHT, NINE, SEVEN, roads};

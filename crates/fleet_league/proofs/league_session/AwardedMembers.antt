@@ -13,11 +13,11 @@ use Rattle.board_core.specs.Recorded.{state_of}
 use Rattle.fleet_league.specs.declared.briefs.Brief.{Brief}
 use Rattle.fleet_league.specs.declared.briefs.Win.{Win}
 use Rattle.fleet_league.specs.Awards.{AddsAward, won_rides, asking_entries, confirming_entry, opening_entry, request_of}
-use Rattle.fleet_league.specs.Companies.{CompanyState, report_count}
-use Rattle.fleet_league.specs.league_session.LeagueBoards.{IsPlayed}
+use Rattle.fleet_league.specs.inner.Companies.{CompanyState, report_count}
+use Rattle.fleet_league.specs.inner.league_session.LeagueBoards.{IsPlayed}
 use Rattle.fleet_league.proofs.Awarded.{reports-award}
 use Rattle.fleet_league.proofs.WonOnly.{won-only}
-use Rattle.model_laws.specs.Requests.{is_of}
+use Rattle.model_laws.specs.inner.Requests.{is_of}
 use Rattle.model_laws.proofs.history_laws.Opening.{is_of-among, of_rides}
 use Rattle.fleet_league.specs.league_session.League.{IsAwarded}
 

@@ -20,22 +20,22 @@ use Rattle.ride_model.specs.State.{State, AcceptedRequest, accepted_request, req
 use Rattle.ride_model.specs.Step.{step}
 use Rattle.ride_model.specs.Text.{IsSpelledCommand}
 use Rattle.ride_model.specs.Vehicle.{IsRide, ride_ids}
-use Rattle.model_laws.specs.Requests.{is_of}
+use Rattle.model_laws.specs.inner.Requests.{is_of}
 use Rattle.model_laws.proofs.plain.Among.{Among, among_map_back}
 use Rattle.model_laws.proofs.plain.Numbers.{eqb-comm}
 use Rattle.model_laws.proofs.plain.Each.{of_each, of_all, all_of}
 use Rattle.model_laws.proofs.plain.Lists.{distinct-push}
 use Rattle.model_laws.proofs.RequestStates.{request_state-marked, state_if_there, state_in, with_request_states-is}
-use Rattle.model_laws.specs.history_laws.Consistent.{request_ids}
+use Rattle.model_laws.specs.inner.history_laws.Consistent.{request_ids}
 use Rattle.model_laws.proofs.history_laws.Lookups.{found_by}
 use Rattle.model_laws.proofs.history_laws.Opening.{of_rides, waits_in}
 use Rattle.board_core.specs.Recorded.{Recorded, state_of}
 use Rattle.fleet_league.specs.Awards.{request_of}
-use Rattle.fleet_league.specs.Companies.{CompanyState, is_report}
+use Rattle.fleet_league.specs.inner.Companies.{CompanyState, is_report}
 use Rattle.fleet_league.specs.league_session.League.{after_round}
-use Rattle.fleet_league.specs.Winning.{MayPlay}
-use Rattle.fleet_league.specs.league_session.LeagueBoards.{IsBeside, IsDesk, IsMember, IsPlayed, is_riders}
-use Rattle.fleet_league.specs.Prices.{IsNewRide}
+use Rattle.fleet_league.specs.inner.Winning.{MayPlay}
+use Rattle.fleet_league.specs.inner.league_session.LeagueBoards.{IsBeside, IsDesk, IsMember, IsPlayed, is_riders}
+use Rattle.fleet_league.specs.inner.Prices.{IsNewRide}
 use Rattle.fleet_league.proofs.league_session.Desks.{found-marked, tame-step}
 use Rattle.fleet_league.proofs.Legality.{IsLegalBoard, sure}
 use Rattle.fleet_league.proofs.PricedQuotes.{among_append_back}

@@ -21,9 +21,9 @@ use Rattle.model_laws.proofs.history_laws.Lookups.{distinct-filter_by}
 use Rattle.model_laws.proofs.history_laws.Raised.{length-filter-le}
 use Rattle.dual_check.specs.declared.paired.Paired.{Paired}
 use Rattle.dual_check.specs.Cells.{GridCells, cell_at}
-use Rattle.dual_check.specs.Costs.{amount_alone, amounts_over}
+use Rattle.dual_check.specs.inner.Costs.{amount_alone, amounts_over}
 use Rattle.dual_check.specs.Grid.{column_of, pairing_cost, price_at, row_cost, CertifiesPairing}
-use Rattle.dual_check.specs.Orders.{item_of, StandsInOrder}
+use Rattle.dual_check.specs.inner.Orders.{item_of, StandsInOrder}
 use Rattle.dual_check.proofs.DifferentIds.{element, same-place}
 use Rattle.dual_check.proofs.ItemOrders.{map-map}
 use Rattle.dual_check.proofs.PairingParts.{row-of-column}
@@ -33,10 +33,11 @@ use Rattle.hungarian.proofs.BatchCertificates.{pay-cases, pay-amount}
 use Rattle.fleet_league.specs.declared.briefs.Win.{Win}
 use Rattle.fleet_league.specs.declared.league_session.rows.RoundColumn.{RoundColumn}
 use Rattle.fleet_league.specs.declared.league_session.rows.RoundRow.{RoundRow}
-use Rattle.fleet_league.specs.Awards.{won_rides, won_column, won_columns, IsCertifiedOver}
-use Rattle.fleet_league.specs.league_session.League.{commit_cost}
+use Rattle.fleet_league.specs.Awards.{won_rides, won_column, won_columns}
+use Rattle.fleet_league.specs.inner.Awards.{IsCertifiedOver}
+use Rattle.fleet_league.specs.inner.league_session.League.{commit_cost}
 use Rattle.fleet_league.specs.Prices.{prices_of}
-use Rattle.fleet_league.specs.Restriction.{is_chosen, chosen_columns, rows_into, IsPart, KeepsColumns}
+use Rattle.fleet_league.specs.inner.Restriction.{is_chosen, chosen_columns, rows_into, IsPart, KeepsColumns}
 use Rattle.fleet_league.specs.Round.{StandsFrom}
 use Rattle.fleet_league.specs.league_session.RoundParts.{brief_of, column_in, own_pay_of, paid_columns, row_of, rows_of, win_of}
 use Rattle.fleet_league.proofs.CertifiedWins.{has-column, price-cell}

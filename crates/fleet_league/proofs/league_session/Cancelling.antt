@@ -15,12 +15,13 @@ use Rattle.ride_model.specs.Seating.{BatchCopy}
 use Rattle.ride_model.specs.State.{State, AcceptedRequest, is_batch, request_state, with_request_state}
 use Rattle.ride_model.specs.Step.{Answered, cancel_step, cancelled}
 use Rattle.ride_model.specs.Vehicle.{ride_ids}
-use Rattle.model_laws.specs.Requests.{is_in, is_of}
+use Rattle.model_laws.specs.inner.Requests.{is_in, is_of}
 use Rattle.model_laws.proofs.plain.Among.{Among, contains_from_among}
 use Rattle.model_laws.proofs.RequestStates.{abandon-is, marked, opening-is, request_state-marked, state_if_there, with_request_states-is}
 use Rattle.model_laws.proofs.history_laws.Opening.{is_of-among, of_rides}
 use Rattle.dual_check.proofs.DifferentIds.{same-place}
-use Rattle.board_core.specs.Recorded.{Recorded, state_of, fed_entry}
+use Rattle.board_core.specs.Recorded.{Recorded, state_of}
+use Rattle.board_core.specs.inner.Recorded.{fed_entry}
 use Rattle.board_core.proofs.OpenBatches.{state-push}
 use Rattle.board_core.proofs.Steps.{cancel-by_state}
 use Rattle.fleet_league.proofs.Reports.{fed-push}

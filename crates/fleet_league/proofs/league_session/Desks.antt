@@ -26,10 +26,11 @@ use Rattle.model_laws.proofs.plain.Among.{among_map_back}
 use Rattle.model_laws.proofs.plain.Each.{of_all, all_of}
 use Rattle.model_laws.proofs.RequestStates.{marked, request_state-marked, state_if_there, state_in}
 use Rattle.model_laws.proofs.history_laws.Untouched.{leaves-step}
-use Rattle.board_core.specs.Recorded.{Recorded, state_of, fed_entry}
+use Rattle.board_core.specs.Recorded.{Recorded, state_of}
+use Rattle.board_core.specs.inner.Recorded.{fed_entry}
 use Rattle.board_core.proofs.OpenBatches.{state-push}
 use Rattle.fleet_league.specs.Awards.{request_of}
-use Rattle.fleet_league.specs.league_session.LeagueBoards.{IsDesk, is_riders}
+use Rattle.fleet_league.specs.inner.league_session.LeagueBoards.{IsDesk, is_riders}
 use Rattle.fleet_league.proofs.PricedQuotes.{among_append_back}
 use Rattle.fleet_league.proofs.Reports.{fed-push}
 

@@ -15,9 +15,10 @@ use Rattle.board_core.specs.Recorded.{state_of}
 use Rattle.fleet_league.specs.declared.briefs.Brief.{Brief}
 use Rattle.fleet_league.specs.declared.league_session.rows.RoundColumn.{RoundColumn}
 use Rattle.fleet_league.specs.declared.quotes.Quote.{Quote}
-use Rattle.fleet_league.specs.Companies.{CompanyState}
-use Rattle.fleet_league.specs.league_session.League.{commit_cost, quotes_of, round_columns, round_rows}
-use Rattle.fleet_league.specs.Restriction.{is_chosen}
+use Rattle.fleet_league.specs.inner.Companies.{CompanyState}
+use Rattle.fleet_league.specs.inner.league_session.League.{commit_cost}
+use Rattle.fleet_league.specs.league_session.League.{quotes_of, round_columns, round_rows}
+use Rattle.fleet_league.specs.inner.Restriction.{is_chosen}
 use Rattle.fleet_league.specs.Round.{IsRound, company_prices}
 use Rattle.fleet_league.specs.league_session.RoundParts.{brief_of, union_columns}
 use Rattle.fleet_league.proofs.league_session.BriefCertified.{brief-cost, chosen-at, no_column, pairing_each, won-each}

@@ -5,8 +5,8 @@ use Rattle.line_text.specs.declared.line_reader.stops.Stop.TheVariants.{NoMemory
 use Rattle.line_text.specs.declared.line_reader.answers.NextLine.{NextLine}
 use Rattle.line_text.specs.declared.line_reader.answers.ReadStop.{ReadStop}
 use Rattle.line_text.specs.declared.line_reader.answers.ReadStop.TheVariants.{SourceFailed, TooLong}
-use Rattle.line_text.specs.line_reader.FeedRuns.{HasRun, is_source_failed, ran_of}
-use Rattle.line_text.specs.line_reader.Reader.{is_fault}
+use Rattle.line_text.specs.inner.line_reader.FeedRuns.{HasRun, is_source_failed, ran_of}
+use Rattle.line_text.specs.inner.line_reader.Reader.{is_fault}
 use Rattle.ride_ports.specs.Count.{KeepsCount}
 use Rattle.line_text.proofs.line_reader.FeedLines.{are-taken}
 use Rattle.ride_model.specs.declared.entry.Ending.{Ending}
@@ -17,10 +17,10 @@ use Rattle.ride_model.specs.Road.{RoadMap}
 use Rattle.ride_ports.specs.Bytes.{Writes, WritesPrefix}
 use Rattle.ride_ports.proofs.ByteLemmas.{WritesPrefix-of_first}
 use Rattle.command_lines.specs.Limits.{feed_limits}
-use Rattle.line_text.specs.text_page.Output.{HasPut, OutputState}
+use Rattle.line_text.specs.inner.text_page.Output.{HasPut, OutputState}
 use Rattle.line_text.proofs.text_page.OutputLemmas.{written-prefix, written-whole}
 use Rattle.fleet_league.specs.league_session.Leagued.{IsLeagued, IsTextOf}
-use Rattle.fleet_league.specs.league_session.LeagueRuns.{ended_text, ending_of, with_ending}
+use Rattle.fleet_league.specs.inner.league_session.LeagueRuns.{ended_text, ending_of, with_ending}
 use Rattle.fleet_league.specs.league_session.LeagueTexts.{last_line}
 
 -- a stop of the source is a fault of it

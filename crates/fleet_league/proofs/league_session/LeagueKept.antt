@@ -13,10 +13,10 @@ use Rattle.ride_model.specs.State.{State, accepted_request, start_state}
 use Rattle.ride_model.specs.Step.{step}
 use Rattle.ride_model.specs.Text.{IsSpelledCommand}
 use Rattle.board_core.specs.Recorded.{Recorded, state_of}
-use Rattle.fleet_league.specs.Companies.{CompanyState, is_report, report_count}
+use Rattle.fleet_league.specs.inner.Companies.{CompanyState, is_report, report_count}
 use Rattle.fleet_league.specs.league_session.Feed.{is_driver_report}
 use Rattle.fleet_league.specs.league_session.League.{after_round, league_start}
-use Rattle.fleet_league.specs.league_session.LeagueBoards.{IsBeside, IsDesk, IsLeague, IsMember, IsPlayed, IsReported, LeagueBoards, is_riders, league_of}
+use Rattle.fleet_league.specs.inner.league_session.LeagueBoards.{IsBeside, IsDesk, IsLeague, IsMember, IsPlayed, IsReported, LeagueBoards, is_riders, league_of}
 use Rattle.fleet_league.proofs.league_session.Beside.{AreWaiting, beside-answered, beside-played, beside-reported}
 
 -- a driver's report is a report

@@ -18,22 +18,23 @@ use Rattle.ride_model.specs.Seating.{BatchCopy}
 use Rattle.ride_model.specs.State.{State, AcceptedRequest, open_batch_numbered, request_state}
 use Rattle.ride_model.specs.Step.{Answered}
 use Rattle.ride_model.specs.Text.{IsSpelled, IsSpelledCommand}
-use Rattle.model_laws.specs.Requests.{is_of}
+use Rattle.model_laws.specs.inner.Requests.{is_of}
 use Rattle.model_laws.proofs.plain.Among.{among_filter_back, among_map_back}
 use Rattle.model_laws.proofs.plain.Each.{of_all, all_of}
 use Rattle.model_laws.proofs.RequestStates.{marked, others-opening, request_state-opening, with_request_states-is}
-use Rattle.model_laws.specs.history_laws.Consistent.{IsInBatch, IsOpenBatch}
+use Rattle.model_laws.specs.inner.history_laws.Consistent.{IsInBatch, IsOpenBatch}
 use Rattle.model_laws.proofs.history_laws.Lookups.{among_take}
 use Rattle.model_laws.proofs.history_laws.Opening.{is_of-among}
 use Rattle.model_laws.proofs.history_laws.OpenedBatches.{none-left, abandoned-state, open-found}
 use Rattle.board_core.specs.declared.opening.Opening.TheVariants.{Batch, Ended, Idle}
-use Rattle.board_core.specs.Opening.{opening_at}
-use Rattle.board_core.specs.Recorded.{Recorded, state_of, abandoned_entry, fed_entry, opened_entry}
+use Rattle.board_core.specs.inner.Opening.{opening_at}
+use Rattle.board_core.specs.Recorded.{Recorded, state_of, opened_entry}
+use Rattle.board_core.specs.inner.Recorded.{abandoned_entry, fed_entry}
 use Rattle.board_core.proofs.FedEntries.{fed_commands-append}
 use Rattle.board_core.proofs.OpenBatches.{state-push}
 use Rattle.fleet_league.specs.Awards.{request_of}
 use Rattle.fleet_league.specs.league_session.League.{after_round}
-use Rattle.fleet_league.specs.league_session.LeagueBoards.{HasOpened, IsDesk}
+use Rattle.fleet_league.specs.inner.league_session.LeagueBoards.{HasOpened, IsDesk}
 use Rattle.fleet_league.proofs.league_session.AwardedMembers.{id-spelled}
 use Rattle.fleet_league.proofs.league_session.Cancelling.{closed-state}
 use Rattle.fleet_league.proofs.league_session.Desks.{AreSpelled, spelled-marked}

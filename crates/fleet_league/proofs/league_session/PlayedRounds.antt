@@ -15,10 +15,10 @@ use Rattle.fleet_league.specs.declared.briefs.Brief.{Brief}
 use Rattle.fleet_league.specs.declared.league_session.rows.RoundColumn.{RoundColumn}
 use Rattle.fleet_league.specs.declared.league_session.sheets.RoundSheet.{RoundSheet}
 use Rattle.fleet_league.specs.declared.quotes.Quote.{Quote}
-use Rattle.fleet_league.specs.Companies.{CompanyState}
+use Rattle.fleet_league.specs.inner.Companies.{CompanyState}
 use Rattle.fleet_league.specs.league_session.League.{IsRoundOf, quotes_of}
-use Rattle.fleet_league.specs.Winning.{MayPlay, MayWin}
-use Rattle.fleet_league.specs.league_session.LeagueBoards.{IsSound}
+use Rattle.fleet_league.specs.inner.Winning.{MayPlay, MayWin}
+use Rattle.fleet_league.specs.inner.league_session.LeagueBoards.{IsSound}
 use Rattle.fleet_league.specs.Prices.{prices_of}
 use Rattle.fleet_league.specs.Round.{IsRound, company_prices}
 use Rattle.fleet_league.specs.league_session.RoundParts.{column_of_plan, union_columns}

@@ -3,7 +3,7 @@ use Rattle.std.proofs.Common.{◌≡◌, ℕ, List, [], ◌∷◌, ◌++◌, map
 use Rattle.std.specs.Prelude.{codes, decimal}
 use Rattle.ride_model.specs.declared.entry.Outcome.{Outcome}
 use Rattle.ride_model.specs.Text.{amount_field, outcome_field}
-use Rattle.trip_log.specs.Prints.{fields_then, listed}
+use Rattle.trip_log.specs.inner.Prints.{fields_then, listed}
 use Rattle.trip_log.proofs.PrintsLemmas.{fields_then-append, fields_then-map, fields_then-more, line-fields}
 use Rattle.fleet_league.specs.declared.league_session.sheets.RoundAward.{RoundAward}
 use Rattle.fleet_league.specs.declared.league_session.sheets.RoundPay.{RoundPay}

@@ -15,8 +15,8 @@ use Rattle.fleet_league.specs.declared.league_session.lines.FeedLine.TheVariants
 use Rattle.fleet_league.specs.declared.league_session.sheets.RoundSheet.{RoundSheet}
 use Rattle.fleet_league.specs.declared.league_session.sheets.Told.TheVariants.{Round}
 use Rattle.fleet_league.specs.league_session.League.{PlaysRound, TakesLine, after_round}
-use Rattle.fleet_league.specs.Winning.{MayPlay}
-use Rattle.fleet_league.specs.league_session.LeagueBoards.{IsDesk, IsLeague, IsPlayed, LeagueBoards, league_of}
+use Rattle.fleet_league.specs.inner.Winning.{MayPlay}
+use Rattle.fleet_league.specs.inner.league_session.LeagueBoards.{IsDesk, IsLeague, IsPlayed, LeagueBoards, league_of}
 use Rattle.fleet_league.proofs.league_session.Beside.{AreWaiting, first-waiting, may-play}
 use Rattle.fleet_league.proofs.league_session.LeagueKept.{member-played}
 use Rattle.fleet_league.proofs.Legality.{IsLegalBoard, board-settings}

@@ -1,11 +1,10 @@
 -- What the lines of a league's feed say.
-use Rattle.std.specs.Prelude.{ℕ, ◌+◌, if◌then◌else◌, Bool, true, false, List, [], ◌∷◌, Option, Some, None, option_and_then, option_map, unwrap_or, codes, IsTrue}
+use Rattle.std.specs.Prelude.{ℕ, ◌+◌, if◌then◌else◌, Bool, true, false, List, [], ◌∷◌, Option, Some, None, option_and_then, option_map, unwrap_or, codes}
 use Rattle.std.specs.Str.{bytes_eq}
 use Rattle.line_text.specs.Fields.{words_of}
 use Rattle.line_text.specs.Numbers.{number_of}
 use Rattle.ride_model.specs.declared.command.Command.{Command}
 use Rattle.ride_model.specs.declared.command.Command.TheVariants.{Request, Cancel, At, Done, On, Off, Clock, Ask, Bad}
-use Rattle.ride_model.specs.Text.{IsSpelled, IsSpelledCommand}
 use Rattle.command_lines.specs.Commands.{command_of_fields}
 use Rattle.fleet_league.specs.declared.league_session.lines.FeedLine.{FeedLine}
 use Rattle.fleet_league.specs.declared.league_session.lines.FeedLine.TheVariants.{League, Company}
@@ -74,8 +73,3 @@ said_from log number (line ∷ lines) = before (said_by log number line) (said_f
 -- what the lines of a feed say that are neither blank nor comments, in order
 abbrev pub said_in : ℕ → List (List ℕ) → List FeedLine
 said_in log lines = said_from log 1 lines
-
--- a line whose numbers have a text, with a driver's report to a company
-abbrev pub IsSpelledLine : ℕ → FeedLine → Type 0
-IsSpelledLine log (League command) = IsSpelledCommand log command
-IsSpelledLine log (Company company command) = IsSpelled company × IsSpelledCommand log command × IsTrue (is_driver_report command)

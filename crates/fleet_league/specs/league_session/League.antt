@@ -27,11 +27,9 @@ use Rattle.fleet_league.specs.declared.league_session.sheets.RoundSheet.{RoundSh
 use Rattle.fleet_league.specs.declared.league_session.sheets.Told.{Told}
 use Rattle.fleet_league.specs.declared.league_session.sheets.Told.TheVariants.{Answer, Round}
 use Rattle.fleet_league.specs.declared.quotes.Quote.{Quote}
-use Rattle.fleet_league.specs.Awards.{AddsAward, won_columns, won_rides}
-use Rattle.board_core.specs.Recorded.{state_of}
-use Rattle.fleet_league.specs.Companies.{CompanyState}
+use Rattle.fleet_league.specs.Awards.{AddsAward}
 use Rattle.fleet_league.specs.league_session.LeagueTexts.{told_line}
-use Rattle.fleet_league.specs.Prices.{prices_of, quote_of}
+use Rattle.fleet_league.specs.Prices.{quote_of}
 use Rattle.fleet_league.specs.Round.{IsRound, company_prices}
 use Rattle.fleet_league.specs.league_session.RoundParts.{brief_of, paid_columns, rows_of, sheet_of, union_columns}
 
@@ -123,20 +121,6 @@ round_rows quotes rides round = rows_of (union_columns quotes) rides round
 
 abbrev pub round_columns : List Quote → Paired → List (RoundColumn × ℕ)
 round_columns quotes round = paid_columns (union_columns quotes) round
-
--- a round of rides between two companies, as their boards stand, and the part of the company of a number
-abbrev pub IsRoundBetween : CompanyState → CompanyState → List Ride → ℕ → Paired → Type 0
-IsRoundBetween first second rides penalty round =
-    IsRound penalty (company_prices (quotes_of (state_of first.board) (state_of second.board) rides)) round
-
-abbrev pub part_between : ℕ → CompanyState → CompanyState → List Ride → Paired → Brief
-part_between company first second rides round =
-    let quotes = quotes_of (state_of first.board) (state_of second.board) rides in
-    brief_of company (round_rows quotes rides round) (round_columns quotes round)
-
--- what the commit of a company's part costs
-abbrev pub commit_cost : State → Brief → ℕ
-commit_cost s brief = pairing_cost (prices_of s (won_rides brief.wins)) s.settings.penalty (won_columns s.vehicles brief.wins)
 
 -- the desk after a round of rides
 abbrev pub after_round : State → List Ride → State

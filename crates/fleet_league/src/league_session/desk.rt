@@ -11,11 +11,12 @@ ghost use Rattle.ride_model.specs.State.{State, request_state, start_state};
 ghost use Rattle.ride_model.specs.Step.{step};
 ghost use Rattle.ride_model.specs.Text.{IsSpelled, IsSpelledCommand};
 ghost use Rattle.ride_model.specs.Vehicle.{ride_ids};
-ghost use Rattle.ride_model.specs.Limits.{most_batches, most_commands, largest_batch};
-ghost use Rattle.model_laws.specs.history_laws.Consistent.{IsOpenBatch};
+ghost use Rattle.ride_model.specs.Limits.{most_batches, largest_batch};
+ghost use Rattle.ride_model.specs.inner.Limits.{most_commands};
+ghost use Rattle.model_laws.specs.inner.history_laws.Consistent.{IsOpenBatch};
 ghost use Rattle.board_core.specs.Recorded.{state_of};
 ghost use Rattle.fleet_league.specs.league_session.League.{after_round};
-ghost use Rattle.fleet_league.specs.league_session.LeagueBoards.{HasOpened, IsDesk, is_riders};
+ghost use Rattle.fleet_league.specs.inner.league_session.LeagueBoards.{HasOpened, IsDesk, is_riders};
 
 use adaptive_roads::Roads;
 use batch_commit::Batch;

@@ -2,7 +2,7 @@
 ghost use Rattle.std.specs.Prelude.{◌≡◌, ◌+◌, ◌*◌, length};
 ghost use Rattle.dual_check.specs.Grid.{pairing_cost};
 ghost use Rattle.board_core.specs.Recorded.{state_of};
-ghost use Rattle.fleet_league.specs.league_session.League.{IsRoundBetween, commit_cost, part_between};
+ghost use Rattle.fleet_league.specs.inner.league_session.League.{IsRoundBetween, commit_cost, part_between};
 
 use dual_check::Paired;
 use crate::{Brief, Company};

@@ -4,15 +4,15 @@ ghost use Rattle.ride_model.specs.Fleet.{MayStart};
 ghost use Rattle.ride_model.specs.State.{start_state};
 ghost use Rattle.ride_model.specs.Step.{step};
 ghost use Rattle.ride_model.specs.Text.{IsSpelledCommand};
-ghost use Rattle.batch_commit.specs.Table.{IsTableOf};
+ghost use Rattle.batch_commit.specs.inner.Table.{IsTableOf};
 ghost use Rattle.board_core.specs.Recorded.{state_of};
-ghost use Rattle.fleet_league.specs.Companies.{is_report, most_reports, report_count};
+ghost use Rattle.fleet_league.specs.inner.Companies.{is_report, most_reports, report_count};
 ghost use Rattle.fleet_league.specs.league_session.League.{IsAwarded, is_with};
-ghost use Rattle.fleet_league.specs.Winning.{MayPlay, MayWin};
-ghost use Rattle.fleet_league.specs.league_session.LeagueBoards.{IsPlayed, IsReported, IsSound};
+ghost use Rattle.fleet_league.specs.inner.Winning.{MayPlay, MayWin};
+ghost use Rattle.fleet_league.specs.inner.league_session.LeagueBoards.{IsPlayed, IsReported, IsSound};
 ghost use Rattle.fleet_league.specs.Prices.{quote_of};
-ghost use Rattle.fleet_league.specs.Quoting.{quoting_batch};
-ghost use Rattle.fleet_league.specs.Round.{IsPriced};
+ghost use Rattle.fleet_league.specs.inner.Quoting.{quoting_batch};
+ghost use Rattle.fleet_league.specs.inner.Round.{IsPriced};
 
 use adaptive_roads::Roads;
 use batch_commit::PriceTable;
@@ -33,7 +33,7 @@ pub(crate) struct Member<'r> {
 
 impl<'r> Model for Member<'r> {
     ghost use Rattle.std.specs.Prelude.{◌≡◌};
-    ghost use Rattle.fleet_league.specs.Companies.{CompanyState};
+    ghost use Rattle.fleet_league.specs.inner.Companies.{CompanyState};
 
     ghost Value = { CompanyState };
 

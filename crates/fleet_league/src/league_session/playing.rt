@@ -1,15 +1,15 @@
 //! Rounds, played by two companies.
 ghost use Rattle.std.specs.Prelude.{◌≡◌, All, IfOk, OnOk};
 ghost use Rattle.std.specs.Thread.{IsSync};
-ghost use Rattle.batch_commit.specs.Table.{IsTableOf};
+ghost use Rattle.batch_commit.specs.inner.Table.{IsTableOf};
 ghost use Rattle.board_core.specs.Recorded.{state_of};
 ghost use Rattle.fleet_league.specs.declared.quotes.Quote.{Quote};
 ghost use Rattle.fleet_league.specs.league_session.League.{PlaysRound, quotes_of};
-ghost use Rattle.fleet_league.specs.Winning.{MayPlay};
-ghost use Rattle.fleet_league.specs.league_session.LeagueBoards.{IsPlayed, IsSound};
+ghost use Rattle.fleet_league.specs.inner.Winning.{MayPlay};
+ghost use Rattle.fleet_league.specs.inner.league_session.LeagueBoards.{IsPlayed, IsSound};
 ghost use Rattle.fleet_league.specs.Prices.{quote_of};
-ghost use Rattle.fleet_league.specs.Quoting.{quoting_batch};
-ghost use Rattle.fleet_league.specs.Round.{IsPriced};
+ghost use Rattle.fleet_league.specs.inner.Quoting.{quoting_batch};
+ghost use Rattle.fleet_league.specs.inner.Round.{IsPriced};
 
 use crate::league_session::members::Member;
 use crate::league_session::settling::parts_of;

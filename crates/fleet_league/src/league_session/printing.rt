@@ -1,8 +1,8 @@
 //! The lines of a league's text.
 ghost use Rattle.std.specs.Prelude.{◌≡◌, ◌++◌, ◌∷◌, [], codes, decimal};
 ghost use Rattle.ride_model.specs.Text.{IsOneOrTwo};
-ghost use Rattle.trip_log.specs.Prints.{Prints, fields_then};
-ghost use Rattle.fleet_league.specs.league_session.Feed.{IsSpelledLine};
+ghost use Rattle.trip_log.specs.inner.Prints.{Prints, fields_then};
+ghost use Rattle.fleet_league.specs.inner.league_session.Feed.{IsSpelledLine};
 ghost use Rattle.fleet_league.specs.league_session.LeagueTexts.{answer_line, award_field, head_line, last_line, pay_field, round_line, told_line};
 
 use crate::league_session::lines::FeedLine;

@@ -3,7 +3,8 @@ ghost use Rattle.std.specs.Prelude.{◌≡◌, ◌≤◌, ◌∷◌, ℕ, List, 
 ghost use Rattle.line_text.specs.Fields.{is_over_long};
 ghost use Rattle.ride_model.specs.Text.{IsOneOrTwo};
 ghost use Rattle.command_lines.specs.Limits.{most_lines};
-ghost use Rattle.fleet_league.specs.league_session.Feed.{IsSpelledLine, company_line_of, is_driver_report, is_league_command, league_line_of, line_of_fields, said_by};
+ghost use Rattle.fleet_league.specs.inner.league_session.Feed.{IsSpelledLine};
+ghost use Rattle.fleet_league.specs.league_session.Feed.{company_line_of, is_driver_report, is_league_command, league_line_of, line_of_fields, said_by};
 
 use crate::league_session::lines::FeedLine;
 use command_lines::read_fields;

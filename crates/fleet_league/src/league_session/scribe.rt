@@ -3,12 +3,12 @@ ghost use Rattle.std.specs.Prelude.{◌≡◌, ◌<◌, ◌++◌, ◌∷◌, ℕ
 ghost use Rattle.ride_model.specs.Fleet.{MayStart};
 ghost use Rattle.line_text.specs.Fields.{is_over_long};
 ghost use Rattle.ride_model.specs.Text.{IsOneOrTwo};
-ghost use Rattle.line_text.specs.text_page.Output.{HasPut, OutputState, Puts};
+ghost use Rattle.line_text.specs.inner.text_page.Output.{HasPut, OutputState, Puts};
 ghost use Rattle.command_lines.specs.Limits.{most_lines};
-ghost use Rattle.fleet_league.specs.league_session.Feed.{IsSpelledLine};
+ghost use Rattle.fleet_league.specs.inner.league_session.Feed.{IsSpelledLine};
 ghost use Rattle.fleet_league.specs.league_session.League.{LeagueState, league_start};
-ghost use Rattle.fleet_league.specs.league_session.LeagueBoards.{league_of};
-ghost use Rattle.fleet_league.specs.league_session.LeagueRuns.{HasTold, IsNew, IsScribe, PutsText, ended_text};
+ghost use Rattle.fleet_league.specs.inner.league_session.LeagueBoards.{league_of};
+ghost use Rattle.fleet_league.specs.inner.league_session.LeagueRuns.{HasTold, IsNew, IsScribe, PutsText, ended_text};
 ghost use Rattle.fleet_league.specs.league_session.LeagueTexts.{head_line, told_line};
 
 use crate::league_session::lines::FeedLine;

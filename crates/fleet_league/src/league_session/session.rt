@@ -4,14 +4,15 @@ ghost use Rattle.std.specs.Prelude.{◌≡◌, ◌==◌, ℕ, [], false, List, O
 ghost use Rattle.ride_model.specs.Fleet.{MayStart};
 ghost use Rattle.ride_ports.specs.Bytes.{Reads};
 ghost use Rattle.ride_ports.specs.Count.{KeepsCount};
-ghost use Rattle.line_text.specs.line_reader.FeedRuns.{HasRun, IsReadWhole, IsUnhindered, is_source_failed};
+ghost use Rattle.line_text.specs.inner.line_reader.FeedRuns.{HasRun, is_source_failed};
+ghost use Rattle.line_text.specs.line_reader.FeedRuns.{IsReadWhole, IsUnhindered};
 ghost use Rattle.line_text.specs.line_reader.Limits.{IsWithinLimits};
-ghost use Rattle.line_text.specs.line_reader.Reader.{HasGiven};
+ghost use Rattle.line_text.specs.inner.line_reader.Reader.{HasGiven};
 ghost use Rattle.command_lines.specs.Limits.{feed_limits};
-ghost use Rattle.line_text.specs.text_page.Output.{HasPut};
+ghost use Rattle.line_text.specs.inner.text_page.Output.{HasPut};
 ghost use Rattle.fleet_league.specs.league_session.League.{league_start};
-ghost use Rattle.fleet_league.specs.league_session.LeagueBoards.{league_of};
-ghost use Rattle.fleet_league.specs.league_session.LeagueRuns.{IsNew, IsScribe, PutsText, ended_text};
+ghost use Rattle.fleet_league.specs.inner.league_session.LeagueBoards.{league_of};
+ghost use Rattle.fleet_league.specs.inner.league_session.LeagueRuns.{IsNew, IsScribe, PutsText, ended_text};
 ghost use Rattle.fleet_league.specs.league_session.Leagued.{IsLeagueText, IsLeagued};
 
 use crate::league_session::scribe::Scribe;

@@ -5,7 +5,7 @@ ghost use Rattle.dual_check.specs.Grid.{CertifiesPairing, pairing_cost};
 ghost use Rattle.ride_model.specs.Limits.{largest_batch, greatest_penalty};
 ghost use Rattle.fleet_league.specs.declared.quotes.Quote.{Quote};
 ghost use Rattle.fleet_league.specs.league_session.League.{IsRoundOf, round_columns, round_rows};
-ghost use Rattle.fleet_league.specs.Round.{IsPriced};
+ghost use Rattle.fleet_league.specs.inner.Round.{IsPriced};
 ghost use Rattle.fleet_league.specs.league_session.RoundParts.{brief_of};
 
 use crate::league_session::parts::{brief_of, sheet_of};

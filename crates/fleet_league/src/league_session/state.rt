@@ -6,9 +6,10 @@ ghost use Rattle.ride_model.specs.State.{start_state};
 ghost use Rattle.ride_model.specs.Text.{IsSpelled, IsSpelledCommand};
 ghost use Rattle.command_lines.specs.Limits.{most_lines};
 ghost use Rattle.fleet_league.specs.declared.league_session.lines.FeedLine.TheVariants.{League as OfLeague};
-ghost use Rattle.fleet_league.specs.league_session.Feed.{IsSpelledLine, is_driver_report};
+ghost use Rattle.fleet_league.specs.inner.league_session.Feed.{IsSpelledLine};
+ghost use Rattle.fleet_league.specs.league_session.Feed.{is_driver_report};
 ghost use Rattle.fleet_league.specs.league_session.League.{TakesLine, cancel_answer, clock_answer, league_answer, league_start, report_answer};
-ghost use Rattle.fleet_league.specs.league_session.LeagueBoards.{HasAnswered, IsLeague, league_of};
+ghost use Rattle.fleet_league.specs.inner.league_session.LeagueBoards.{HasAnswered, IsLeague, league_of};
 
 use crate::league_session::desk::RequestDesk;
 use crate::league_session::lines::FeedLine;
@@ -52,7 +53,7 @@ impl Drop for League<'_> {
 
 impl<'r> Model for League<'r> {
     ghost use Rattle.std.specs.Prelude.{◌≡◌};
-    ghost use Rattle.fleet_league.specs.league_session.LeagueBoards.{LeagueBoards};
+    ghost use Rattle.fleet_league.specs.inner.league_session.LeagueBoards.{LeagueBoards};
 
     ghost Value = { LeagueBoards };
 

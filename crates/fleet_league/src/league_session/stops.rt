@@ -1,6 +1,6 @@
 //! How a league's feed ends.
 ghost use Rattle.std.specs.Prelude.{◌≡◌, Option};
-ghost use Rattle.fleet_league.specs.league_session.LeagueRuns.{ending_of};
+ghost use Rattle.fleet_league.specs.inner.league_session.LeagueRuns.{ending_of};
 
 use line_text::line_reader::Stop;
 use ride_model::Ending;

@@ -15,9 +15,10 @@ use Rattle.line_text.specs.declared.line_reader.answers.ReadStop.TheVariants.{So
 use Rattle.line_text.specs.declared.line_reader.limits.Limits.{Limits}
 use Rattle.line_text.specs.declared.line_reader.stops.Stop.{Stop}
 use Rattle.line_text.specs.declared.line_reader.stops.Stop.TheVariants.{NoMemory, OfFeed}
-use Rattle.line_text.specs.line_reader.FeedRuns.{AreFirstLines, HasRun, IsBetween, IsEnded, IsReadWhole, IsUnhindered, ran_of}
+use Rattle.line_text.specs.inner.line_reader.FeedRuns.{HasRun, IsBetween, IsEnded, ran_of}
+use Rattle.line_text.specs.line_reader.FeedRuns.{AreFirstLines, IsReadWhole, IsUnhindered}
 use Rattle.line_text.specs.line_reader.Limits.{IsTooLong, IsWithinLimits, lines_within}
-use Rattle.line_text.specs.line_reader.Reader.{HasGiven, ReaderState, IsAtEnd, IsNext, IsNextLine, IsShown, IsStopped}
+use Rattle.line_text.specs.inner.line_reader.Reader.{HasGiven, ReaderState, IsAtEnd, IsNext, IsNextLine, IsShown, IsStopped}
 use Rattle.line_text.proofs.line_reader.LineParts.{ended-after_whole, first-within}
 
 -- whole lines are the first lines of them and more bytes

@@ -7,7 +7,7 @@ use Rattle.std.proofs.lemmas.Bool.{eqb-true, eqb-false}
 use Rattle.std.proofs.lemmas.Grind.{flat_map-append}
 use Rattle.std.proofs.lemmas.List.{append_cancel_left, take-append-drop}
 use Rattle.line_text.proofs.TextLemmas.{some_bytes}
-use Rattle.line_text.specs.Cutter.{CutterState, HasTaken, EndsLine, Continues}
+use Rattle.line_text.specs.inner.Cutter.{CutterState, HasTaken, EndsLine, Continues}
 use Rattle.line_text.specs.Lines.{ended_after, rest_after, ended_lines, rest_of, last_line, lines_of}
 use Rattle.line_text.proofs.LineLemmas.{ended_lines-append, lines-grow, rest_after-append, some-line}
 use Rattle.line_text.specs.declared.line_reader.answers.NextLine.{NextLine}
@@ -16,7 +16,8 @@ use Rattle.line_text.specs.declared.line_reader.answers.ReadStop.{ReadStop}
 use Rattle.line_text.specs.declared.line_reader.answers.ReadStop.TheVariants.{SourceFailed, TooLong}
 use Rattle.line_text.specs.declared.line_reader.limits.Limits.{Limits}
 use Rattle.line_text.specs.line_reader.Limits.{IsTooLong, IsWithinLimits, lines_within}
-use Rattle.line_text.specs.line_reader.Reader.{ReaderState, HasNoLf, HasRead, HasGiven, IsAtEnd, IsNextLine, IsNext, IsShown, IsStopped, IsLast, IsFilled, IsCutOff}
+use Rattle.line_text.specs.inner.line_reader.Reader.{ReaderState, HasRead, HasGiven, IsAtEnd, IsNextLine, IsNext, IsShown, IsStopped, IsLast, IsFilled, IsCutOff}
+use Rattle.line_text.specs.line_reader.Reader.{HasNoLf}
 
 -- nothing is read at first
 pub read-nothing : (reader : ReaderState) → HasTaken reader.cutter [] → reader.cutter.most ≡ reader.limits.line

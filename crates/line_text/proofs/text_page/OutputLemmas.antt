@@ -5,7 +5,7 @@ use Rattle.ride_ports.specs.Bytes.{Writes, WritesPrefix}
 use Rattle.ride_ports.specs.Count.{KeepsCount}
 use Rattle.ride_ports.proofs.ByteLemmas.{Writes-none, Writes-then, WritesPrefix-of_first, WritesPrefix-of_second}
 use Rattle.ride_ports.proofs.Counts.{KeepsCount-none, KeepsCount-then}
-use Rattle.line_text.specs.text_page.Output.{HasPut, IsFresh, OutputState, Puts}
+use Rattle.line_text.specs.inner.text_page.Output.{HasPut, IsFresh, OutputState, Puts}
 
 -- what was put, where the sink has not failed
 record Standing (before now : Option (List ℕ)) (faults n : ℕ) (page text : List ℕ) : Type 0 where

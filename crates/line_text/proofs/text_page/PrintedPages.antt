@@ -4,7 +4,7 @@ use Rattle.std.specs.Prelude.{OnErr, OnOk, is_err, is_ok}
 use Rattle.ride_ports.specs.Bytes.{Writes, WritesPrefix}
 use Rattle.ride_ports.specs.Count.{KeepsCount}
 use Rattle.ride_ports.proofs.ByteLemmas.{Writes-told}
-use Rattle.line_text.specs.text_page.Output.{HasPut, OutputState, told_page}
+use Rattle.line_text.specs.inner.text_page.Output.{HasPut, OutputState, told_page}
 use Rattle.line_text.proofs.text_page.OutputLemmas.{put-printed}
 
 -- an output whose sink has not failed tells its page, and one that tells a page has not failed

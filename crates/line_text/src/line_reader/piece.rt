@@ -3,7 +3,7 @@ ghost use Rattle.std.specs.Prelude.{◌≡◌, ◌<◌, ◌≤◌, [], drop, len
 ghost use Rattle.ride_ports.specs.Bytes.{Reads};
 ghost use Rattle.ride_ports.specs.Count.{KeepsCount};
 ghost use Rattle.line_text.specs.declared.line_reader.answers.ReadStop.TheVariants.{SourceFailed};
-ghost use Rattle.line_text.specs.line_reader.Reader.{is_fault};
+ghost use Rattle.line_text.specs.inner.line_reader.Reader.{is_fault};
 
 use crate::line_reader::{NoMemory, ReadStop};
 use ride_ports::Source;

@@ -3,10 +3,10 @@ ghost use Rattle.std.specs.List.{list_any};
 ghost use Rattle.std.specs.Prelude.{◌≡◌, ◌≢◌, ◌==◌, ℕ, ◌+◌, ◌<◌, ◌++◌, ◌∷◌, ◌≤◌, [], List, Ok, Err, false, length, IfOk, IfSome, MatchBool, MatchResult};
 ghost use Rattle.ride_ports.specs.Bytes.{Reads};
 ghost use Rattle.ride_ports.specs.Count.{KeepsCount};
-ghost use Rattle.line_text.specs.Cutter.{Continues, EndsLine};
+ghost use Rattle.line_text.specs.inner.Cutter.{Continues, EndsLine};
 ghost use Rattle.line_text.specs.declared.line_reader.answers.NextLine.TheVariants.{Line};
 ghost use Rattle.line_text.specs.declared.line_reader.answers.ReadStop.TheVariants.{SourceFailed, TooLong};
-ghost use Rattle.line_text.specs.line_reader.Reader.{HasGiven, HasRead, IsCutOff, IsFilled, IsLast, IsNext, IsStopped, is_fault};
+ghost use Rattle.line_text.specs.inner.line_reader.Reader.{HasGiven, HasRead, IsCutOff, IsFilled, IsLast, IsNext, IsStopped, is_fault};
 
 use crate::line_reader::piece::Piece;
 use crate::line_reader::{Limits, NextLine, NoMemory, ReadStop};
@@ -29,7 +29,7 @@ pub struct LineReader {
 }
 
 impl Model for LineReader {
-    ghost use Rattle.line_text.specs.line_reader.Reader.{ReaderState};
+    ghost use Rattle.line_text.specs.inner.line_reader.Reader.{ReaderState};
 
     ghost Value = { ReaderState };
 

@@ -1,6 +1,6 @@
 //! What stops the reading of a feed.
 ghost use Rattle.std.specs.Prelude.{◌≡◌};
-ghost use Rattle.line_text.specs.line_reader.FeedRuns.{is_no_memory, is_source_failed, is_too_long, ran_of};
+ghost use Rattle.line_text.specs.inner.line_reader.FeedRuns.{is_no_memory, is_source_failed, is_too_long, ran_of};
 
 use crate::line_reader::ReadStop;
 use ride_ports::Ran;

@@ -1,6 +1,6 @@
 //! Text on its way to a sink.
 ghost use Rattle.std.specs.Prelude.{◌≡◌, ◌++◌, ℕ, [], false, true, length, take, is_err, IfOk, List, Option};
-ghost use Rattle.line_text.specs.text_page.Output.{HasPut, IsFresh, Puts};
+ghost use Rattle.line_text.specs.inner.text_page.Output.{HasPut, IsFresh, Puts};
 
 use crate::text_page::NoMemory;
 use crate::text_page::page::Page;
@@ -19,7 +19,7 @@ pub struct Output {
 }
 
 impl Model for Output {
-    ghost use Rattle.line_text.specs.text_page.Output.{OutputState};
+    ghost use Rattle.line_text.specs.inner.text_page.Output.{OutputState};
 
     ghost Value = { OutputState };
 
@@ -105,7 +105,7 @@ impl Output {
 }
 
 impl Sink for Output {
-    ghost use Rattle.line_text.specs.text_page.Output.{told_page};
+    ghost use Rattle.line_text.specs.inner.text_page.Output.{told_page};
 
     ghost written = { λ o. told_page o };
 

@@ -1,7 +1,8 @@
 //! The page on which text is put before it is written.
 ghost use Rattle.std.specs.Prelude.{◌≡◌, ◌≤◌, ◌++◌, [], length, take, MatchBool, OnOk, OnErr, IfOk, is_err};
 ghost use Rattle.ride_ports.specs.Bytes.{Writes, WritesPrefix};
-ghost use Rattle.ride_ports.specs.Count.{KeepsCount, most_count, raised};
+ghost use Rattle.ride_ports.specs.Count.{KeepsCount, most_count};
+ghost use Rattle.ride_ports.specs.inner.Count.{raised};
 
 use crate::text_page::NoMemory;
 use ride_ports::{Failed, Sink, write_all};
@@ -21,7 +22,7 @@ pub(crate) struct Page {
 impl Model for Page {
     ghost use Rattle.std.specs.Prelude.{◌≤◌, vec_capacity, length};
     ghost use Rattle.ride_ports.specs.Count.{most_count};
-    ghost use Rattle.line_text.specs.text_page.Output.{PageState};
+    ghost use Rattle.line_text.specs.inner.text_page.Output.{PageState};
 
     ghost Value = { PageState };
 

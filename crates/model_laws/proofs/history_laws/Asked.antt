@@ -15,7 +15,7 @@ use Rattle.ride_model.specs.State.{State, AcceptedRequest, accepted_request, pla
 use Rattle.ride_model.specs.Step.{is_node, with_accepted, request_step, cancel_step, at_step, done_step, duty_step, clock_step, ask_step, step}
 use Rattle.ride_model.specs.Vehicle.{IsRide, ride_ids}
 use Rattle.model_laws.specs.history_laws.Start.{IsStart}
-use Rattle.model_laws.specs.history_laws.Consistent.{request_ids, promised_as, vehicle_of_request}
+use Rattle.model_laws.specs.inner.history_laws.Consistent.{request_ids, promised_as, vehicle_of_request}
 use Rattle.model_laws.proofs.plain.Among.{Among, among_push_back}
 use Rattle.model_laws.proofs.plain.Lists.{distinct-push}
 use Rattle.model_laws.proofs.history_laws.Lookups.{fresh_by}

@@ -22,7 +22,7 @@ use Rattle.ride_model.specs.State.{State, AcceptedRequest, has_ended, open_batch
 use Rattle.ride_model.specs.Text.{IsSpelled, IsSpelledSeat, IsSpelledPair, IsSpelledOutcome}
 use Rattle.ride_model.specs.Vehicle.{IsLawful, ride_ids}
 use Rattle.model_laws.specs.history_laws.Start.{IsStart}
-use Rattle.model_laws.specs.history_laws.Consistent.{IsInBatch, IsOpenBatch}
+use Rattle.model_laws.specs.inner.history_laws.Consistent.{IsInBatch, IsOpenBatch}
 use Rattle.model_laws.proofs.plain.Among.{Among, among_map, among_map_back, among_filter_back, found_among}
 use Rattle.model_laws.proofs.AboardLoads.{length-same}
 use Rattle.model_laws.proofs.BatchSums.{seating_cost-lt}

@@ -7,11 +7,12 @@ use Rattle.ride_model.specs.declared.reply.RequestState.{RequestState}
 use Rattle.ride_model.specs.declared.vehicle.Ride.{Ride}
 use Rattle.ride_model.specs.declared.vehicle.Vehicle.{Vehicle}
 use Rattle.ride_model.specs.Batch.{is_in_batch, is_cancelled}
-use Rattle.ride_model.specs.Seating.{BatchCopy, IsBatchOver, find_vehicle}
+use Rattle.ride_model.specs.Seating.{BatchCopy, find_vehicle}
+use Rattle.ride_model.specs.inner.Seating.{IsBatchOver}
 use Rattle.ride_model.specs.State.{State, AcceptedRequest}
 use Rattle.ride_model.specs.Vehicle.{IsRide, IsLawful, ride_ids}
-use Rattle.model_laws.specs.history_laws.Closing.{is_closed}
-use Rattle.model_laws.specs.history_laws.Consistent.{promised_as, vehicle_of_request, IsInBatch, IsEarlier, AreEarlier, IsOpenBatch}
+use Rattle.model_laws.specs.inner.history_laws.Closing.{is_closed}
+use Rattle.model_laws.specs.inner.history_laws.Consistent.{promised_as, vehicle_of_request, IsInBatch, IsEarlier, AreEarlier, IsOpenBatch}
 use Rattle.model_laws.proofs.plain.Among.{Among, among_map_back, found_among}
 use Rattle.model_laws.proofs.plain.Each.{of_all, all_of}
 use Rattle.model_laws.proofs.history_laws.Lookups.{find-map, ids-map}

@@ -35,8 +35,8 @@ use Rattle.ride_model.specs.State.{State, AcceptedRequest, accepted_request, pla
 use Rattle.ride_model.specs.Step.{Answered, is_node, raised, freed, cancel_by_state, cancel_found, cancel_step, reported, report, report_driving, at_found, at_step, served, served_reply, served_state, done_at_stop, done_found, done_step, duty_found, duty_step, clock_step, ask_step, request_step, step}
 use Rattle.ride_model.specs.Vehicle.{ride_ids}
 use Rattle.model_laws.specs.history_laws.Start.{IsStart}
-use Rattle.model_laws.specs.history_laws.Closing.{is_closed, closings_in, closings_of}
-use Rattle.model_laws.specs.history_laws.Consistent.{promised_as, IsInBatch}
+use Rattle.model_laws.specs.inner.history_laws.Closing.{is_closed, closings_in, closings_of}
+use Rattle.model_laws.specs.inner.history_laws.Consistent.{promised_as, IsInBatch}
 use Rattle.model_laws.proofs.plain.Among.{Among, among_map_back}
 use Rattle.model_laws.proofs.plain.Each.{of_all}
 use Rattle.model_laws.proofs.history_laws.Invariant.{find_request, Inv, Goes}

@@ -17,10 +17,11 @@ use Rattle.ride_model.specs.State.{State, AcceptedRequest, placed_vehicle, with_
 use Rattle.ride_model.specs.Insertion.{with_plan}
 use Rattle.ride_model.specs.Offers.{start_of, offer_of}
 use Rattle.ride_model.specs.Step.{raised}
-use Rattle.ride_model.specs.Vehicle.{IsRide, IsFresh, ride_ids}
+use Rattle.ride_model.specs.Vehicle.{IsRide, ride_ids}
+use Rattle.ride_model.specs.inner.Vehicle.{IsFresh}
 use Rattle.model_laws.specs.history_laws.Start.{IsStart}
-use Rattle.model_laws.specs.history_laws.Closing.{is_closed}
-use Rattle.model_laws.specs.history_laws.Consistent.{promised_state, promised_as, vehicle_of_request, IsInBatch, IsOpenBatch}
+use Rattle.model_laws.specs.inner.history_laws.Closing.{is_closed}
+use Rattle.model_laws.specs.inner.history_laws.Consistent.{promised_state, promised_as, vehicle_of_request, IsInBatch, IsOpenBatch}
 use Rattle.model_laws.proofs.plain.Among.{Among, among_map, contains_from_among, among_push_back, found_among}
 use Rattle.model_laws.proofs.plain.Numbers.{eqb-comm}
 use Rattle.model_laws.proofs.plain.Each.{of_each, of_all}

@@ -21,7 +21,8 @@ use Rattle.ride_model.specs.Seating.{BatchCopy, find_vehicle}
 use Rattle.ride_model.specs.Settings.{IsSettings}
 use Rattle.ride_model.specs.State.{State}
 use Rattle.ride_model.specs.Step.{raised}
-use Rattle.ride_model.specs.Vehicle.{IsRide, IsFresh, IsRouted, IsLawful}
+use Rattle.ride_model.specs.Vehicle.{IsRide, IsRouted, IsLawful}
+use Rattle.ride_model.specs.inner.Vehicle.{IsFresh}
 use Rattle.model_laws.proofs.plain.Among.{Among}
 use Rattle.model_laws.proofs.Costs.{offer_plan}
 use Rattle.model_laws.proofs.Insertions.{routed-with, inserted_facts}

@@ -4,7 +4,7 @@ use Rattle.std.specs.Prelude.{map, Some}
 use Rattle.std.proofs.lemmas.Option.{same_Some}
 use Rattle.ride_model.specs.declared.vehicle.Vehicle.{Vehicle}
 use Rattle.ride_model.specs.Seating.{find_vehicle}
-use Rattle.model_laws.specs.history_laws.Consistent.{IsEarlier, AreEarlier}
+use Rattle.model_laws.specs.inner.history_laws.Consistent.{IsEarlier, AreEarlier}
 use Rattle.model_laws.proofs.plain.Among.{Among}
 
 -- a record is an earlier one of itself

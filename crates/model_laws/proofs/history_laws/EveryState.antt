@@ -12,8 +12,9 @@ use Rattle.ride_model.specs.declared.vehicle.Vehicle.{Vehicle}
 use Rattle.ride_model.specs.Legal.{IsLegal, after_entry, replay}
 use Rattle.ride_model.specs.Seating.{find_vehicle}
 use Rattle.ride_model.specs.State.{State}
-use Rattle.model_laws.specs.history_laws.Start.{IsStart, fed_total}
-use Rattle.model_laws.specs.history_laws.Consistent.{IsConsistent}
+use Rattle.model_laws.specs.history_laws.Start.{IsStart}
+use Rattle.model_laws.specs.inner.history_laws.Start.{fed_total}
+use Rattle.model_laws.specs.inner.history_laws.Consistent.{IsConsistent}
 use Rattle.model_laws.proofs.plain.Among.{among_from_contains}
 use Rattle.model_laws.proofs.plain.Each.{all_of}
 use Rattle.model_laws.proofs.Histories.{replay-append, IsLegal-parts}

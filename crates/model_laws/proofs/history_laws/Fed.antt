@@ -16,8 +16,8 @@ use Rattle.ride_model.specs.State.{State, AcceptedRequest, accepted_request, pla
 use Rattle.ride_model.specs.Step.{Answered, is_node, raised, cancelled, freed, cancel_by_state, cancel_found, reported, report, report_driving, at_found, rides_with_picked, served, served_state, done_at_stop, done_found, duty_found}
 use Rattle.ride_model.specs.Vehicle.{IsPlanFor, ride_ids}
 use Rattle.model_laws.specs.history_laws.Start.{IsStart}
-use Rattle.model_laws.specs.history_laws.Closing.{is_closed}
-use Rattle.model_laws.specs.history_laws.Consistent.{promised_state, promised_as, vehicle_of_request}
+use Rattle.model_laws.specs.inner.history_laws.Closing.{is_closed}
+use Rattle.model_laws.specs.inner.history_laws.Consistent.{promised_state, promised_as, vehicle_of_request}
 use Rattle.model_laws.proofs.plain.Among.{Among, among_from_contains, among_map, among_map_back, among_filter, among_filter_back, found_among}
 use Rattle.model_laws.proofs.plain.Each.{of_all}
 use Rattle.model_laws.proofs.PlanStops.{ids-without}

@@ -19,9 +19,10 @@ use Rattle.ride_model.specs.State.{State, is_actor, has_ended, open_batch_of, op
 use Rattle.model_laws.proofs.plain.Among.{Among, among_filter}
 use Rattle.model_laws.proofs.plain.Each.{of_all}
 use Rattle.model_laws.proofs.Histories.{IsLegal-parts}
-use Rattle.model_laws.specs.history_laws.Consistent.{IsOpenBatch, IsConsistent}
-use Rattle.model_laws.specs.history_laws.Finishing.{is_whole_end, has_whole_end, gives_up, AllWhole}
-use Rattle.model_laws.specs.history_laws.Start.{IsStart, fed_total}
+use Rattle.model_laws.specs.inner.history_laws.Consistent.{IsOpenBatch, IsConsistent}
+use Rattle.model_laws.specs.inner.history_laws.Finishing.{is_whole_end, has_whole_end, gives_up, AllWhole}
+use Rattle.model_laws.specs.history_laws.Start.{IsStart}
+use Rattle.model_laws.specs.inner.history_laws.Start.{fed_total}
 use Rattle.model_laws.proofs.history_laws.EveryState.{consistent}
 use Rattle.model_laws.proofs.history_laws.Effects.{ends_in, is_opened, effect}
 use Rattle.model_laws.proofs.history_laws.Leaving.{open_batch}

@@ -18,7 +18,8 @@ use Rattle.ride_model.specs.Legal.{IsNumbered, CommitsBatch, IsLegalEvent, IsLeg
 use Rattle.ride_model.specs.Seating.{BatchCopy}
 use Rattle.ride_model.specs.State.{State, is_actor, open_batch_numbered}
 use Rattle.ride_model.specs.Text.{IsSpelled, IsOneOrTwo, IsSpelledActor, IsSpelledReply, IsNotedIfBad, IsSpelledEvent, HasLine, HasText}
-use Rattle.model_laws.specs.history_laws.Start.{IsStart, is_fed, fed_total, IsFedSpelled, IsFedWithin}
+use Rattle.model_laws.specs.history_laws.Start.{IsStart, is_fed}
+use Rattle.model_laws.specs.inner.history_laws.Start.{fed_total, IsFedSpelled, IsFedWithin}
 use Rattle.model_laws.proofs.history_laws.Invariant.{Inv}
 use Rattle.model_laws.proofs.history_laws.Leaving.{open_batch}
 use Rattle.model_laws.proofs.history_laws.Entries.{start_inv, IsFineEvent, fed_in, event_goes}

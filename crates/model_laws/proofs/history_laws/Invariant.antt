@@ -12,8 +12,8 @@ use Rattle.ride_model.specs.Settings.{IsSettings}
 use Rattle.ride_model.specs.State.{State, AcceptedRequest}
 use Rattle.ride_model.specs.Vehicle.{IsRide, IsLawful, ride_ids}
 use Rattle.model_laws.specs.history_laws.Start.{IsStart}
-use Rattle.model_laws.specs.history_laws.Closing.{is_closed}
-use Rattle.model_laws.specs.history_laws.Consistent.{request_ids, promised_as, vehicle_of_request, IsWithVehicle, AreEarlier, IsOpenBatch, IsConsistent}
+use Rattle.model_laws.specs.inner.history_laws.Closing.{is_closed}
+use Rattle.model_laws.specs.inner.history_laws.Consistent.{request_ids, promised_as, vehicle_of_request, IsWithVehicle, AreEarlier, IsOpenBatch, IsConsistent}
 use Rattle.model_laws.proofs.plain.Among.{Among, contains_from_among, among_map, among_map_back}
 use Rattle.model_laws.proofs.plain.Each.{of_all, all_of}
 

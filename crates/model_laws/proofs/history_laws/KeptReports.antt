@@ -15,7 +15,7 @@ use Rattle.ride_model.specs.Insertion.{routed}
 use Rattle.ride_model.specs.State.{State, placed_vehicle}
 use Rattle.ride_model.specs.Step.{Answered, is_node, raised, reported, report, report_driving, at_found}
 use Rattle.model_laws.specs.history_laws.Start.{IsStart}
-use Rattle.model_laws.specs.Sooner.{AllSooner}
+use Rattle.model_laws.specs.inner.Sooner.{AllSooner}
 use Rattle.model_laws.proofs.plain.Among.{Among}
 use Rattle.model_laws.proofs.Routes.{with_leg, sooner-filter, visits_from}
 use Rattle.model_laws.proofs.Removal.{breaks-sooner}

@@ -10,9 +10,9 @@ use Rattle.ride_model.specs.declared.vehicle.Ride.{Ride}
 use Rattle.ride_model.specs.Batch.{is_in_batch, standing_rides, without_batch, after_abandon}
 use Rattle.ride_model.specs.Seating.{BatchCopy}
 use Rattle.ride_model.specs.State.{State, AcceptedRequest, is_batch, request_state, open_batch_numbered}
-use Rattle.model_laws.specs.history_laws.Closing.{is_closed}
-use Rattle.model_laws.specs.history_laws.Consistent.{vehicle_of_request}
-use Rattle.model_laws.specs.Requests.{is_of, is_in}
+use Rattle.model_laws.specs.inner.history_laws.Closing.{is_closed}
+use Rattle.model_laws.specs.inner.history_laws.Consistent.{vehicle_of_request}
+use Rattle.model_laws.specs.inner.Requests.{is_of, is_in}
 use Rattle.model_laws.proofs.plain.Among.{Among, among_filter_back, found_among}
 use Rattle.model_laws.proofs.AboardLoads.{filter-skipped}
 use Rattle.model_laws.proofs.RequestStates.{abandon-is}

@@ -9,8 +9,8 @@ use Rattle.ride_model.specs.declared.vehicle.Vehicle.{Vehicle}
 use Rattle.ride_model.specs.Seating.{BatchCopy, find_vehicle}
 use Rattle.ride_model.specs.State.{State, AcceptedRequest, with_vehicle}
 use Rattle.ride_model.specs.Vehicle.{IsLawful, ride_ids}
-use Rattle.model_laws.specs.history_laws.Closing.{is_closed}
-use Rattle.model_laws.specs.history_laws.Consistent.{IsEarlier, promised_state, promised_as, vehicle_of_request}
+use Rattle.model_laws.specs.inner.history_laws.Closing.{is_closed}
+use Rattle.model_laws.specs.inner.history_laws.Consistent.{IsEarlier, promised_state, promised_as, vehicle_of_request}
 use Rattle.model_laws.specs.history_laws.Start.{IsStart}
 use Rattle.model_laws.proofs.plain.Among.{Among, found_among}
 use Rattle.model_laws.proofs.RequestStates.{marked, marked-ride}

@@ -12,13 +12,15 @@ use Rattle.ride_model.specs.declared.vehicle.Ride.{Ride}
 use Rattle.ride_model.specs.declared.vehicle.Vehicle.{Vehicle}
 use Rattle.ride_model.specs.Batch.{is_waiting, waiting_rides, may_open, next_batch, after_opening}
 use Rattle.ride_model.specs.Legal.{IsNumbered}
-use Rattle.ride_model.specs.Seating.{BatchCopy, IsBatchOver}
+use Rattle.ride_model.specs.Seating.{BatchCopy}
+use Rattle.ride_model.specs.inner.Seating.{IsBatchOver}
 use Rattle.ride_model.specs.State.{State, AcceptedRequest, has_ended, open_batch_of}
-use Rattle.ride_model.specs.Vehicle.{IsRide, IsFresh, IsRouted, IsLawful, ride_ids}
+use Rattle.ride_model.specs.Vehicle.{IsRide, IsRouted, IsLawful, ride_ids}
+use Rattle.ride_model.specs.inner.Vehicle.{IsFresh}
 use Rattle.model_laws.specs.history_laws.Start.{IsStart}
-use Rattle.model_laws.specs.history_laws.Closing.{is_closed}
-use Rattle.model_laws.specs.history_laws.Consistent.{promised_as, vehicle_of_request, IsInBatch, IsOpenBatch}
-use Rattle.model_laws.specs.Requests.{is_of}
+use Rattle.model_laws.specs.inner.history_laws.Closing.{is_closed}
+use Rattle.model_laws.specs.inner.history_laws.Consistent.{promised_as, vehicle_of_request, IsInBatch, IsOpenBatch}
+use Rattle.model_laws.specs.inner.Requests.{is_of}
 use Rattle.model_laws.proofs.plain.Among.{Among, among_from_contains, among_map_back, among_filter_back, among_push_back}
 use Rattle.model_laws.proofs.plain.Each.{all_of}
 use Rattle.model_laws.proofs.plain.Lists.{distinct-push}

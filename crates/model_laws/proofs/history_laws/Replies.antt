@@ -25,7 +25,7 @@ use Rattle.model_laws.proofs.plain.Each.{of_all, all_of}
 use Rattle.model_laws.proofs.TravelTimes.{travel-le}
 use Rattle.model_laws.proofs.FewRides.{few-rides}
 use Rattle.model_laws.proofs.history_laws.Invariant.{Inv, map_of, fleet_of}
-use Rattle.model_laws.specs.history_laws.Consistent.{promised_as}
+use Rattle.model_laws.specs.inner.history_laws.Consistent.{promised_as}
 use Rattle.model_laws.proofs.history_laws.Fed.{answer_by, found_at, stop_ride}
 use Rattle.model_laws.proofs.history_laws.Raised.{length-filter-le}
 

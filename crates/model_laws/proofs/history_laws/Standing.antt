@@ -16,9 +16,10 @@ use Rattle.ride_model.specs.Legal.{CommitsBatch, IsLegal, replay}
 use Rattle.ride_model.specs.Seating.{BatchCopy, find_vehicle, seat_offer, has_seat}
 use Rattle.ride_model.specs.State.{State, AcceptedRequest, request_state, open_batch_numbered}
 use Rattle.ride_model.specs.Vehicle.{ride_ids}
-use Rattle.model_laws.specs.history_laws.Start.{IsStart, fed_total}
-use Rattle.model_laws.specs.history_laws.Closing.{is_closed}
-use Rattle.model_laws.specs.history_laws.Consistent.{IsOpenBatch}
+use Rattle.model_laws.specs.history_laws.Start.{IsStart}
+use Rattle.model_laws.specs.inner.history_laws.Start.{fed_total}
+use Rattle.model_laws.specs.inner.history_laws.Closing.{is_closed}
+use Rattle.model_laws.specs.inner.history_laws.Consistent.{IsOpenBatch}
 use Rattle.model_laws.proofs.history_laws.Entries.{IsFineEvent}
 use Rattle.model_laws.proofs.plain.Among.{Among, among_from_contains, among_map_back}
 use Rattle.model_laws.proofs.plain.Each.{of_all, all_of}

@@ -12,7 +12,7 @@ ghost use Rattle.ride_model.specs.Seating.{BatchCopy, find_vehicle};
 ghost use Rattle.ride_model.specs.State.{State, request_state, open_batch_numbered};
 ghost use Rattle.ride_model.specs.Legal.{IsLegal, replay};
 ghost use Rattle.model_laws.specs.history_laws.Start.{IsStart};
-ghost use Rattle.model_laws.specs.history_laws.Closing.{is_closed, closings_of};
+ghost use Rattle.model_laws.specs.inner.history_laws.Closing.{is_closed, closings_of};
 
 /// A request that is closed stays as it is.
 pub fn closed_requests_stay_closed()

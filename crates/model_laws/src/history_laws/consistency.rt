@@ -5,8 +5,9 @@ ghost use Rattle.ride_model.specs.declared.vehicle.Vehicle.{Vehicle};
 ghost use Rattle.ride_model.specs.State.{State};
 ghost use Rattle.ride_model.specs.Legal.{IsLegal, replay};
 ghost use Rattle.ride_model.specs.Limits.{most_stops};
-ghost use Rattle.model_laws.specs.history_laws.Start.{IsStart, fed_total};
-ghost use Rattle.model_laws.specs.history_laws.Consistent.{IsConsistent};
+ghost use Rattle.model_laws.specs.history_laws.Start.{IsStart};
+ghost use Rattle.model_laws.specs.inner.history_laws.Start.{fed_total};
+ghost use Rattle.model_laws.specs.inner.history_laws.Consistent.{IsConsistent};
 
 /// Each vehicle is lawful and has just the rides of the requests that it has promised or carries; each open batch is in
 /// order; numbers are within their limits.

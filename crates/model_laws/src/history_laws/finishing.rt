@@ -5,7 +5,7 @@ ghost use Rattle.ride_model.specs.State.{State};
 ghost use Rattle.ride_model.specs.History.{IsFinished};
 ghost use Rattle.ride_model.specs.Legal.{IsLegal};
 ghost use Rattle.model_laws.specs.history_laws.Start.{IsStart};
-ghost use Rattle.model_laws.specs.history_laws.Finishing.{AllWhole};
+ghost use Rattle.model_laws.specs.inner.history_laws.Finishing.{AllWhole};
 
 /// Where every actor ended whole and none gave a batch up, each batch that was asked for was opened, and none is open.
 pub fn whole_histories_are_finished()

@@ -1,6 +1,6 @@
 // Entries of the log, worked by hand: their lines say them, and are what is printed of them.
 ghost use Rattle.ride_model.specs.Text.{HasLine, IsOneOrTwo};
-ghost use Rattle.ride_ports.specs.Calls.{ArePieces};
+ghost use Rattle.ride_ports.specs.inner.Calls.{ArePieces};
 
 use ride_model::{Actor, Command, Ending, Entry, Event, Outcome, Reply, Seat};
 use ride_ports::MemSink;

@@ -1,5 +1,5 @@
 //! Fleet files and what is none.
-ghost use Rattle.ride_ports.specs.Calls.{ArePieces};
+ghost use Rattle.ride_ports.specs.inner.Calls.{ArePieces};
 
 use fleet_file::{FleetError, a_text_has_one_answer, read_fleet};
 use ride_model::{Fleet, Network, Settings, Vehicle};

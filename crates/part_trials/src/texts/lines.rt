@@ -1,6 +1,6 @@
 //! Odd spellings of lines, fields and numbers.
 ghost use Rattle.std.specs.Prelude.{◌≡◌, length};
-ghost use Rattle.ride_ports.specs.Calls.{ArePieces};
+ghost use Rattle.ride_ports.specs.inner.Calls.{ArePieces};
 
 use super::pieces::expect_pieces;
 use arrayvec::ArrayVec;

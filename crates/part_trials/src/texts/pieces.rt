@@ -1,5 +1,5 @@
 //! The lengths of pieces, as tables of trials have them.
-ghost use Rattle.ride_ports.specs.Calls.{ArePieces};
+ghost use Rattle.ride_ports.specs.inner.Calls.{ArePieces};
 
 use std::process::Abort;
 

@@ -1,7 +1,7 @@
 //! Lines of texts that come in pieces, and of texts at their limits.
 ghost use Rattle.std.specs.Prelude.{[]};
-ghost use Rattle.line_text.specs.line_reader.Reader.{HasGiven};
-ghost use Rattle.ride_ports.specs.Calls.{ArePieces};
+ghost use Rattle.line_text.specs.inner.line_reader.Reader.{HasGiven};
+ghost use Rattle.ride_ports.specs.inner.Calls.{ArePieces};
 
 use super::pieces::expect_pieces;
 use arrayvec::ArrayVec;

@@ -1,7 +1,7 @@
 //! Small maps, contracted to the last node: rows by sweeps, and times by two climbs.
 ghost use Rattle.std.specs.Prelude.{◌≡◌, ◌+◌, ◌≤◌, length, IfSome};
-ghost use Rattle.adaptive_roads.specs.contraction.Contracted.{IsContractionOf};
-ghost use Rattle.adaptive_roads.specs.road_hierarchy.Selection.{IsSelectionOf};
+ghost use Rattle.adaptive_roads.specs.inner.contraction.Contracted.{IsContractionOf};
+ghost use Rattle.adaptive_roads.specs.inner.road_hierarchy.Selection.{IsSelectionOf};
 
 use super::maps::{MAPS, SmallMap, all_nodes, contraction_of, expect_line, network};
 use adaptive_roads::{Roads, TravelTimes};

@@ -1,6 +1,6 @@
 //! Maps that are hard to contract: rows by sweeps are rows by searches, and a contraction that grows too much ends.
 ghost use Rattle.std.specs.Prelude.{◌≡◌, ◌+◌, ◌≤◌, length, IfSome};
-ghost use Rattle.adaptive_roads.specs.road_hierarchy.Selection.{IsSelectionOf};
+ghost use Rattle.adaptive_roads.specs.inner.road_hierarchy.Selection.{IsSelectionOf};
 ghost use Rattle.ride_model.specs.declared.network.RoadArc.{RoadArc};
 ghost use Rattle.plan_trials.specs.roads.Hostile.{IsHostile};
 

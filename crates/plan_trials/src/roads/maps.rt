@@ -1,6 +1,6 @@
 //! Small maps, whose travel times were computed outside by Floyd's and Warshall's method.
 ghost use Rattle.std.specs.Prelude.{◌≡◌, ◌≤◌, length, All};
-ghost use Rattle.adaptive_roads.specs.contraction.Contracted.{IsContractionOf};
+ghost use Rattle.adaptive_roads.specs.inner.contraction.Contracted.{IsContractionOf};
 
 use adaptive_roads::contraction::Contraction;
 use ride_model::{Network, RoadArc};

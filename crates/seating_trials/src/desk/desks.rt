@@ -1,5 +1,5 @@
 //! Days of a desk, as lists of what is done and of what comes of it, and a plain desk that looks at all ids.
-ghost use Rattle.booking_desk.specs.Desk.{IsRequest};
+ghost use Rattle.booking_desk.specs.inner.Desk.{IsRequest};
 
 use booking_desk::{BookReply, BookingDesk};
 use ride_model::Command;

@@ -5,9 +5,9 @@ ghost use Rattle.ride_model.specs.declared.vehicle.Vehicle.{Vehicle};
 ghost use Rattle.ride_model.specs.Drill.{drive, next_report};
 ghost use Rattle.ride_model.specs.History.{fed_commands};
 ghost use Rattle.ride_model.specs.Text.{IsSpelledCommand};
-ghost use Rattle.ride_model.specs.Limits.{most_commands};
+ghost use Rattle.ride_model.specs.inner.Limits.{most_commands};
 ghost use Rattle.board_core.specs.Recorded.{state_of};
-ghost use Rattle.session_run.specs.Drills.{GoesBy, IsDrilling};
+ghost use Rattle.session_run.specs.inner.Drills.{GoesBy, IsDrilling};
 
 use board_core::Board;
 use city_maker::next_report;

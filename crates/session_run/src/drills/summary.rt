@@ -1,6 +1,6 @@
 //! The line of a drill.
 ghost use Rattle.std.specs.Prelude.{◌≡◌, ◌++◌, decimal, length, IfOk, OnOk};
-ghost use Rattle.city_maker.specs.Plan.{IsPlan};
+ghost use Rattle.city_maker.specs.inner.Plan.{IsPlan};
 ghost use Rattle.city_maker.specs.Roads.{network_of};
 ghost use Rattle.city_maker.specs.Steps.{start_of};
 ghost use Rattle.session_run.specs.Drills.{summary_line};

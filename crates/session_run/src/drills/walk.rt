@@ -4,9 +4,9 @@ ghost use Rattle.std.specs.List.{flat_map};
 ghost use Rattle.ride_model.specs.Drill.{DrillStep, Follows, IsDrilled, give};
 ghost use Rattle.ride_model.specs.History.{fed_commands};
 ghost use Rattle.ride_model.specs.Text.{IsSpelledCommand};
-ghost use Rattle.ride_model.specs.Limits.{most_commands};
+ghost use Rattle.ride_model.specs.inner.Limits.{most_commands};
 ghost use Rattle.city_maker.specs.Steps.{last_steps, steps_with};
-ghost use Rattle.session_run.specs.Drills.{GoesBy, IsDrilling};
+ghost use Rattle.session_run.specs.inner.Drills.{GoesBy, IsDrilling};
 
 use super::reports::drive_all;
 use crate::answers::answer;

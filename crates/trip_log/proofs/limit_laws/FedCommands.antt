@@ -13,7 +13,7 @@ use Rattle.ride_model.specs.History.{entries_of, command_of, fed_commands}
 use Rattle.ride_model.specs.Legal.{IsLegal, IsLegalEvent, IsNumbered, after_entry}
 use Rattle.ride_model.specs.State.{State, is_actor}
 use Rattle.ride_model.specs.Text.{IsOneOrTwo}
-use Rattle.model_laws.specs.history_laws.Start.{fed_total}
+use Rattle.model_laws.specs.inner.history_laws.Start.{fed_total}
 use Rattle.model_laws.proofs.history_laws.Entries.{fed_in}
 
 -- how many commands of a feed an event answers

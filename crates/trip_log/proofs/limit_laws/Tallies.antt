@@ -19,7 +19,8 @@ use Rattle.ride_model.specs.Seating.{BatchCopy}
 use Rattle.ride_model.specs.State.{State, has_ended, is_actor, is_batch, open_batch_numbered}
 use Rattle.ride_model.specs.Text.{IsOneOrTwo}
 use Rattle.model_laws.proofs.RequestStates.{others-opening, abandon-is}
-use Rattle.model_laws.specs.history_laws.Start.{IsStart, fed_total}
+use Rattle.model_laws.specs.history_laws.Start.{IsStart}
+use Rattle.model_laws.specs.inner.history_laws.Start.{fed_total}
 use Rattle.model_laws.proofs.history_laws.Effects.{effect}
 use Rattle.model_laws.proofs.history_laws.Entries.{fed_in}
 use Rattle.model_laws.proofs.history_laws.EveryState.{consistent}

@@ -10,7 +10,7 @@ use Rattle.ride_model.specs.Legal.{IsLegal}
 use Rattle.ride_model.specs.State.{State}
 use Rattle.ride_model.specs.Text.{HasText, entry_line, head_line, text_of}
 use Rattle.model_laws.specs.history_laws.Start.{IsStart}
-use Rattle.trip_log.specs.Cuts.{front_of}
+use Rattle.trip_log.specs.inner.Cuts.{front_of}
 use Rattle.trip_log.proofs.TextLemmas.{cut-text, rest-text}
 use Rattle.trip_log.proofs.limit_laws.Texts.{head-le, short-lines}
 

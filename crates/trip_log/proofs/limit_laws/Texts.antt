@@ -15,7 +15,8 @@ use Rattle.ride_model.specs.Legal.{CommitsBatch, IsLegal, IsLegalEntry, IsLegalE
 use Rattle.ride_model.specs.Seating.{BatchCopy}
 use Rattle.ride_model.specs.State.{State, open_batch_numbered}
 use Rattle.ride_model.specs.Text.{HasLine, HasText, IsOneOrTwo, IsSpelledEvent, IsSpelledReply, actor_field, entry_line, entry_lines, event_fields, fed_fields, head_line, text_of}
-use Rattle.model_laws.specs.history_laws.Start.{IsStart, fed_total}
+use Rattle.model_laws.specs.history_laws.Start.{IsStart}
+use Rattle.model_laws.specs.inner.history_laws.Start.{fed_total}
 use Rattle.model_laws.proofs.history_laws.Entries.{event_goes, fed_in, start_inv}
 use Rattle.model_laws.proofs.history_laws.EveryState.{any_fine, any_id, legal_goes}
 use Rattle.model_laws.proofs.history_laws.Invariant.{Inv, fleet_of, settings_of}

@@ -7,8 +7,9 @@ ghost use Rattle.ride_model.specs.Legal.{IsLegal};
 ghost use Rattle.ride_model.specs.Limits.{most_batches};
 ghost use Rattle.ride_model.specs.State.{State};
 ghost use Rattle.ride_model.specs.Text.{HasText, IsOneOrTwo, entry_line, text_of};
-ghost use Rattle.model_laws.specs.history_laws.Start.{IsStart, fed_total};
-ghost use Rattle.trip_log.specs.limit_laws.Longest.{longest_batch, longest_end, longest_fed, longest_head, longest_line, most_ends};
+ghost use Rattle.model_laws.specs.history_laws.Start.{IsStart};
+ghost use Rattle.model_laws.specs.inner.history_laws.Start.{fed_total};
+ghost use Rattle.trip_log.specs.inner.limit_laws.Longest.{longest_batch, longest_end, longest_fed, longest_head, longest_line, most_ends};
 
 /// The commands of a legal history are those of its feeds.
 pub fn commands_come_from_feeds()

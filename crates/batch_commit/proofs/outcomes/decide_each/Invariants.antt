@@ -3,7 +3,7 @@ use Rattle.ride_model.specs.declared.entry.Outcome.{Outcome}
 use Rattle.ride_model.specs.State.{State}
 use Rattle.ride_model.specs.Vehicle.{ride_ids}
 use Rattle.ride_model.specs.Batch.{outcomes_of}
-use Rattle.batch_commit.specs.Solved.{StandsSo}
+use Rattle.batch_commit.specs.inner.Solved.{StandsSo}
 use Rattle.batch_commit.proofs.outcomes.decide_each.Given as goal
 
 -- those so far are decided

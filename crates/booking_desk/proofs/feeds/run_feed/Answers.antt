@@ -1,7 +1,7 @@
 use Rattle.std.proofs.Common.{◌++◌, length, None, subst}
 use Rattle.line_text.proofs.line_reader.FeedLines.{run-still}
 use Rattle.command_lines.specs.Limits.{feed_limits}
-use Rattle.line_text.specs.text_page.Output.{HasPut}
+use Rattle.line_text.specs.inner.text_page.Output.{HasPut}
 use Rattle.booking_desk.specs.BookText.{held_line, text_of_lines}
 use Rattle.booking_desk.specs.Desk.{DeskState}
 use Rattle.booking_desk.proofs.feeds.run_feed.Goals as goal

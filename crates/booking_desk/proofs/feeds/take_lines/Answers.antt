@@ -4,7 +4,7 @@ use Rattle.line_text.specs.declared.line_reader.answers.NextLine.TheVariants.{Li
 use Rattle.line_text.proofs.line_reader.FeedLines.{between-none, follows, run-sink_failed}
 use Rattle.command_lines.specs.Limits.{feed_limits}
 use Rattle.booking_desk.specs.Desk.{DeskState}
-use Rattle.booking_desk.specs.FeedDesk.{AreSpelled}
+use Rattle.booking_desk.specs.inner.FeedDesk.{AreSpelled}
 use Rattle.booking_desk.proofs.BookedLines.{booked-nothing}
 use Rattle.booking_desk.proofs.FeedRuns.{booked-written}
 use Rattle.booking_desk.proofs.feeds.take_lines.Goals as goal

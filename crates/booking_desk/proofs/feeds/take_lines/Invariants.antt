@@ -1,8 +1,8 @@
 use Rattle.std.proofs.Common.{◌≡◌, ℕ, List}
 use Rattle.line_text.specs.Lines.{ended_lines}
-use Rattle.line_text.specs.line_reader.FeedRuns.{IsBetween}
+use Rattle.line_text.specs.inner.line_reader.FeedRuns.{IsBetween}
 use Rattle.command_lines.specs.Limits.{feed_limits}
-use Rattle.booking_desk.specs.FeedDesk.{AreSpelled, HasBooked}
+use Rattle.booking_desk.specs.inner.FeedDesk.{AreSpelled, HasBooked}
 use Rattle.booking_desk.proofs.feeds.take_lines.Given as goal
 
 -- the lines so far were booked

@@ -1,5 +1,5 @@
 use Rattle.std.proofs.Common.{◌≡◌, List, ℕ, false, sym, ap, ◌∙◌}
-use Rattle.line_text.specs.text_page.Output.{OutputState}
+use Rattle.line_text.specs.inner.text_page.Output.{OutputState}
 use Rattle.line_text.proofs.text_page.OutputLemmas.{put-failed, put-printed}
 use Rattle.line_text.proofs.text_page.PrintedPages.{printed-back}
 use Rattle.command_lines.specs.Commands.{spelling_of}

@@ -9,7 +9,7 @@ use Rattle.ride_model.specs.declared.vehicle.Vehicle.{Vehicle}
 use Rattle.city_maker.specs.Draws.{state_after}
 use Rattle.city_maker.specs.Feed.{draws_before}
 use Rattle.city_maker.specs.Fleets.{fleet_of, road_draws}
-use Rattle.city_maker.specs.Cities.{IsOnMap}
+use Rattle.city_maker.specs.inner.Cities.{IsOnMap}
 use Rattle.city_maker.specs.Plan.{nodes_of}
 use Rattle.city_maker.specs.Roads.{network_of}
 use Rattle.city_maker.proofs.NetworkLimits.{network-fits, network-is}

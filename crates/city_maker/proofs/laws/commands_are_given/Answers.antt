@@ -6,7 +6,8 @@ use Rattle.ride_model.specs.declared.command.Command.{Command}
 use Rattle.ride_model.specs.declared.command.Command.TheVariants.{Request, Cancel, At, Done, On, Off, Clock, Ask, Bad}
 use Rattle.ride_model.specs.Drill.{drive}
 use Rattle.city_maker.specs.Feed.{commands_of}
-use Rattle.city_maker.specs.Steps.{steps_with, last_steps, steps_of, given, given_in}
+use Rattle.city_maker.specs.Steps.{steps_with, last_steps, steps_of}
+use Rattle.city_maker.specs.inner.Steps.{given, given_in}
 use Rattle.city_maker.proofs.laws.commands_are_given.Goals as goal
 
 -- drives give nothing

@@ -6,7 +6,8 @@ use Rattle.std.proofs.lemmas.List.{append-nil, map-append}
 use Rattle.std.proofs.lemmas.List.Elements.{filter-append}
 use Rattle.ride_model.specs.declared.command.Command.TheVariants.{Clock, Ask}
 use Rattle.city_maker.specs.declared.plan.CityPlan.{CityPlan}
-use Rattle.city_maker.specs.Feed.{commands_of, group_of, groups_of, is_request, request_of, requests_in}
+use Rattle.city_maker.specs.Feed.{commands_of, group_of, groups_of, request_of, requests_in}
+use Rattle.city_maker.specs.inner.Feed.{is_request}
 use Rattle.city_maker.proofs.ListsOfRanges.{flat_map-range_more}
 use Rattle.city_maker.proofs.laws.requests_are_given_in_order.Goals as goal
 

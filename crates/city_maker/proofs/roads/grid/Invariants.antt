@@ -1,4 +1,4 @@
-use Rattle.city_maker.specs.Growth.{HasJoined}
+use Rattle.city_maker.specs.inner.Growth.{HasJoined}
 use Rattle.city_maker.specs.Roads.{pairs_in_rows}
 use Rattle.city_maker.proofs.roads.grid.Given as goal
 

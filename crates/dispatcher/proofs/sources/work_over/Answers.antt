@@ -2,7 +2,7 @@ use Rattle.std.proofs.Common.{ℕ, inl, inr, ◌∷◌, ◌++◌, [], refl, ap, 
 use Rattle.std.specs.Prelude.{string_bytes}
 use Rattle.ride_ports.specs.Contents.{given_back}
 use Rattle.ride_ports.specs.Count.{Rose}
-use Rattle.live_sessions.specs.Serving.{feed_run}
+use Rattle.live_sessions.specs.inner.Serving.{feed_run}
 use Rattle.dispatcher.proofs.Bringing.{bytes-of, left-of, left-of-content}
 use Rattle.dispatcher.proofs.Working.{rose-above}
 use Rattle.dispatcher.proofs.sources.work_over.Goals as goal

@@ -1,4 +1,4 @@
-use Rattle.run_words.specs.Asks.{asked_by}
+use Rattle.run_words.specs.inner.Asks.{asked_by}
 use Rattle.dispatcher.proofs.Mission.{served-some, serves-well}
 use Rattle.dispatcher.proofs.top.run.Goals as goal
 

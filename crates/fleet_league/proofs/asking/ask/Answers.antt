@@ -8,7 +8,7 @@ use Rattle.ride_model.specs.declared.reply.Reply.TheVariants.{Asked}
 use Rattle.ride_model.specs.State.{State}
 use Rattle.board_core.specs.Recorded.{Recorded, state_of}
 use Rattle.fleet_league.specs.Awards.{request_entries}
-use Rattle.fleet_league.specs.Awarding.{requested_state}
+use Rattle.fleet_league.specs.inner.Awarding.{requested_state}
 use Rattle.fleet_league.proofs.Outcomes.{on_err}
 use Rattle.fleet_league.proofs.WinsAsked.{none-ended, cut-longer, fed-requested, requested-board, asking-are}
 use Rattle.fleet_league.proofs.asking.ask.Goals as goal

@@ -4,10 +4,11 @@ use Rattle.ride_model.specs.declared.command.Actor.TheVariants.{Desk}
 use Rattle.ride_model.specs.Road.{RoadMap}
 use Rattle.ride_model.specs.Seating.{BatchCopy}
 use Rattle.ride_model.specs.State.{State}
-use Rattle.batch_commit.specs.Table.{IsTableOf}
-use Rattle.board_core.specs.Recorded.{Recorded, state_of, abandoned_entry}
+use Rattle.batch_commit.specs.inner.Table.{IsTableOf}
+use Rattle.board_core.specs.Recorded.{Recorded, state_of}
+use Rattle.board_core.specs.inner.Recorded.{abandoned_entry}
 use Rattle.fleet_league.specs.Awards.{asking_entries}
-use Rattle.fleet_league.specs.Awarding.{won_batch}
+use Rattle.fleet_league.specs.inner.Awarding.{won_batch}
 use Rattle.fleet_league.proofs.Awarded.{IsOpened, opened-award, opens-some, asked-facts, cut-none_open, award-table, award-won, award-open, IsCommitOf, commit-adds, commit-idle, gives-up}
 use Rattle.fleet_league.proofs.Legality.{IsLegalBoard}
 use Rattle.fleet_league.proofs.Outcomes.{on_err}

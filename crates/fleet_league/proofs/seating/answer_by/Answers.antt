@@ -4,7 +4,7 @@ use Rattle.ride_model.specs.declared.vehicle.Vehicle.{Vehicle}
 use Rattle.ride_model.specs.Seating.{vehicle_ids}
 use Rattle.ride_model.specs.Vehicle.{ride_ids}
 use Rattle.batch_commit.specs.declared.answers.Answer.{Answer}
-use Rattle.hungarian.specs.Seats.{seats_by}
+use Rattle.hungarian.specs.inner.Seats.{seats_by}
 use Rattle.fleet_league.specs.declared.briefs.Win.{Win}
 use Rattle.fleet_league.specs.Awards.{won_rides, won_columns}
 use Rattle.fleet_league.proofs.seating.answer_by.Goals as goal

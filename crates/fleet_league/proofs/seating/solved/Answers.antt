@@ -1,6 +1,6 @@
 use Rattle.std.proofs.Common.{subst, sym}
 use Rattle.ride_model.specs.Fleet.{IsFleet}
-use Rattle.batch_commit.specs.Solved.{SolvedBatch}
+use Rattle.batch_commit.specs.inner.Solved.{SolvedBatch}
 use Rattle.fleet_league.specs.Awards.{AreSeatsOf}
 use Rattle.fleet_league.proofs.CertifiedWins.{IsPriced, certified-wins, seats-are}
 use Rattle.fleet_league.proofs.seating.solved.Goals as goal

@@ -1,8 +1,8 @@
 use Rattle.std.proofs.Common.{◌≡◌, ℕ, ◌*◌, ◌<◌, ◌≤◌, length}
 use Rattle.std.specs.Prelude.{None}
-use Rattle.batch_commit.specs.Table.{cell_at as offer_at}
+use Rattle.batch_commit.specs.inner.Table.{cell_at as offer_at}
 use Rattle.dual_check.specs.Cells.{cell_at}
-use Rattle.hungarian.specs.Costs.{cost_of}
+use Rattle.hungarian.specs.inner.Costs.{cost_of}
 use Rattle.hungarian.proofs.costs.cost_grid.Given as goal
 
 -- the rows so far were written

@@ -5,7 +5,7 @@ use Rattle.ride_model.specs.declared.offer.Seat.{Seat}
 use Rattle.ride_model.specs.Vehicle.{ride_ids}
 use Rattle.ride_model.specs.Seating.{vehicle_ids}
 use Rattle.dual_check.specs.Grid.{column_of}
-use Rattle.hungarian.specs.Seats.{seat_at}
+use Rattle.hungarian.specs.inner.Seats.{seat_at}
 use Rattle.hungarian.proofs.Gathering.{gathered-some, gathered-none}
 use Rattle.hungarian.proofs.seating.seats_by.Goals as goal
 use Rattle.hungarian.proofs.seating.seats_by.Goals.{in-Some+in_ok-push, in_default}

@@ -1,7 +1,7 @@
 use Rattle.std.proofs.Common.{◌≡◌}
 use Rattle.ride_model.specs.Vehicle.{ride_ids}
 use Rattle.ride_model.specs.Seating.{vehicle_ids}
-use Rattle.hungarian.specs.Seats.{seats_by}
+use Rattle.hungarian.specs.inner.Seats.{seats_by}
 use Rattle.hungarian.proofs.seating.seats_by.Given as goal
 
 -- the seats of the rows so far

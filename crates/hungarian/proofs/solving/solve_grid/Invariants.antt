@@ -1,5 +1,5 @@
-use Rattle.hungarian.specs.Labels.{IsSized}
-use Rattle.hungarian.specs.Partial.{IsPartial}
+use Rattle.hungarian.specs.inner.Labels.{IsSized}
+use Rattle.hungarian.specs.inner.Partial.{IsPartial}
 use Rattle.hungarian.proofs.solving.solve_grid.Given as goal
 
 -- the rows so far are paired

@@ -1,5 +1,5 @@
 use Rattle.std.proofs.Common.{◌≡◌, ◌-◌, length, take}
-use Rattle.idle_moves.specs.Raises.{HasRoom, after_outcomes}
+use Rattle.idle_moves.specs.inner.Raises.{HasRoom, after_outcomes}
 use Rattle.idle_moves.proofs.entries.raise_confirmed.Given as goal
 
 -- the versions after the outcomes so far, and room for the others

@@ -2,7 +2,7 @@ use Rattle.std.proofs.Common.{◌≡◌, ◌+◌, ◌*◌, ◌++◌, map, take, 
 use Rattle.std.specs.Prelude.{None}
 use Rattle.std.proofs.lemmas.List.{take_all}
 use Rattle.dual_check.specs.Cells.{GridCells}
-use Rattle.idle_moves.specs.Filling.{BeginsWith, with_cell}
+use Rattle.idle_moves.specs.inner.Filling.{BeginsWith, with_cell}
 use Rattle.idle_moves.specs.Sheet.{within}
 use Rattle.idle_moves.proofs.Filled.{cell-written, same-columns, same-rows}
 use Rattle.idle_moves.proofs.grids.fill_row.Goals as goal

@@ -1,6 +1,6 @@
 use Rattle.std.proofs.Common.{◌≡◌, ℕ, ◌*◌, ◌++◌, List, length, map, take}
 use Rattle.std.specs.Prelude.{Option}
-use Rattle.idle_moves.specs.Filling.{BeginsWith}
+use Rattle.idle_moves.specs.inner.Filling.{BeginsWith}
 use Rattle.idle_moves.specs.Sheet.{within}
 use Rattle.idle_moves.proofs.grids.fill_row.Given as goal
 

@@ -6,7 +6,7 @@ use Rattle.ride_model.specs.Road.{IsNode}
 use Rattle.ride_model.specs.Seating.{has_seat}
 use Rattle.model_laws.proofs.history_laws.Raised.{length-filter-le}
 use Rattle.idle_moves.specs.Sheet.{IsSheetOver, left_out, stands_by, standing_by}
-use Rattle.idle_moves.specs.Standby.{standby_of}
+use Rattle.idle_moves.specs.inner.Standby.{standby_of}
 use Rattle.idle_moves.proofs.OverGrids.{left-found, of-batch, stand-at, stand-few, standing-found}
 use Rattle.idle_moves.proofs.sheets.plan_moves.Goals as goal
 

@@ -4,8 +4,8 @@ use Rattle.ride_model.specs.declared.offer.Offer.{Offer}
 use Rattle.ride_model.specs.Road.{RoadMap, lesser}
 use Rattle.ride_model.specs.Offers.{offer_of}
 use Rattle.insertion.specs.declared.plan.Plan.{Plan}
-use Rattle.insertion.specs.Asked.{IsAsked}
-use Rattle.insertion.specs.Least.{cost_if_any, least_with_pickup, least_from}
+use Rattle.insertion.specs.inner.Asked.{IsAsked}
+use Rattle.insertion.specs.inner.Least.{cost_if_any, least_with_pickup, least_from}
 use Rattle.insertion.proofs.LeastOffers.{least-on, least-over, price-least}
 use Rattle.insertion.proofs.NoOffers.{not-open, full, no-price}
 use Rattle.insertion.proofs.best.best_place.Goals as goal

@@ -5,8 +5,8 @@ use Rattle.ride_model.specs.Road.{lesser}
 use Rattle.ride_model.specs.Offers.{start_of, offer_of}
 use Rattle.promises.proofs.Visits.{length-times, times-soon}
 use Rattle.insertion.specs.declared.plan.Plan.{Plan}
-use Rattle.insertion.specs.Arrivals.{pickup_at, is_by}
-use Rattle.insertion.specs.Least.{cost_if_any, least_with_pickup}
+use Rattle.insertion.specs.inner.Arrivals.{pickup_at, is_by}
+use Rattle.insertion.specs.inner.Least.{cost_if_any, least_with_pickup}
 use Rattle.insertion.proofs.LeastOffers.{least-on, least-over, lesser-none, if-offered, one-of}
 use Rattle.insertion.proofs.NoOffers.{pickup-short, late-pickup, no-least}
 use Rattle.insertion.proofs.NoRoom.{length-rooms, no-least-behind}

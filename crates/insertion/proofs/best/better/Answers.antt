@@ -5,9 +5,9 @@ use Rattle.ride_model.specs.declared.vehicle.Ride.{Ride}
 use Rattle.ride_model.specs.declared.vehicle.Vehicle.{Vehicle}
 use Rattle.ride_model.specs.Road.{RoadMap, lesser}
 use Rattle.ride_model.specs.Keeps.{keeps}
-use Rattle.insertion.specs.Arrivals.{is_by}
-use Rattle.insertion.specs.Drawn.{IsDrawn, IsDrawnFor}
-use Rattle.insertion.specs.Least.{cost_if_any}
+use Rattle.insertion.specs.inner.Arrivals.{is_by}
+use Rattle.insertion.specs.inner.Drawn.{IsDrawn, IsDrawnFor}
+use Rattle.insertion.specs.inner.Least.{cost_if_any}
 use Rattle.insertion.proofs.LeastOffers.{lesser-none}
 use Rattle.insertion.proofs.best.better.Goals as goal
 

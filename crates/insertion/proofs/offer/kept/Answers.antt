@@ -6,7 +6,7 @@ use Rattle.ride_model.specs.declared.vehicle.Vehicle.{Vehicle}
 use Rattle.ride_model.specs.Road.{RoadMap}
 use Rattle.ride_model.specs.Vehicle.{IsRouted}
 use Rattle.ride_model.specs.Keeps.{keeps}
-use Rattle.stop_plans.specs.Change.{InsertsInto}
+use Rattle.stop_plans.specs.inner.Change.{InsertsInto}
 use Rattle.insertion.proofs.OfferLaws.{new-routed}
 use Rattle.insertion.proofs.offer.kept.Goals as goal
 

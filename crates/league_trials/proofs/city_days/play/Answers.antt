@@ -3,11 +3,11 @@ use Rattle.std.proofs.lemmas.List.Elements.{All-from_recursion}
 use Rattle.ride_model.specs.declared.vehicle.Ride.{Ride}
 use Rattle.board_core.specs.Recorded.{state_of}
 use Rattle.fleet_league.specs.declared.quotes.Quote.{Quote}
-use Rattle.fleet_league.specs.Companies.{CompanyState}
+use Rattle.fleet_league.specs.inner.Companies.{CompanyState}
 use Rattle.fleet_league.specs.league_session.League.{quotes_of}
-use Rattle.fleet_league.specs.Winning.{MayWin}
+use Rattle.fleet_league.specs.inner.Winning.{MayWin}
 use Rattle.fleet_league.specs.Prices.{quote_of}
-use Rattle.fleet_league.specs.Round.{IsPriced}
+use Rattle.fleet_league.specs.inner.Round.{IsPriced}
 use Rattle.fleet_league.proofs.league_session.PlayedRounds.{AreMet}
 use Rattle.league_trials.proofs.DayRounds.{companies-meet, first-may, second-may}
 use Rattle.league_trials.proofs.city_days.play.Goals as goal

@@ -3,7 +3,7 @@ use Rattle.ride_model.specs.declared.command.Command.TheVariants.{At}
 use Rattle.ride_model.specs.Legal.{IsLegal}
 use Rattle.model_laws.specs.history_laws.Start.{IsStart}
 use Rattle.board_core.specs.Recorded.{Recorded}
-use Rattle.fleet_league.specs.Companies.{CompanyState}
+use Rattle.fleet_league.specs.inner.Companies.{CompanyState}
 use Rattle.league_trials.proofs.AfterAwards.{clear-reported, start-stays}
 use Rattle.league_trials.proofs.OneVehicle.{MayAward, may-award, no-reports}
 use Rattle.league_trials.proofs.companies.award_late.Given as given

@@ -1,5 +1,5 @@
 use Rattle.std.proofs.Common.{sym, subst, arith}
-use Rattle.fleet_league.specs.Awards.{AreOfOneState}
+use Rattle.fleet_league.specs.inner.Awards.{AreOfOneState}
 use Rattle.fleet_league.specs.declared.briefs.Brief.{Brief}
 use Rattle.league_trials.proofs.NoWins.{none-differ, nothing-of_one_state}
 use Rattle.league_trials.proofs.OneVehicle.{clear-new}

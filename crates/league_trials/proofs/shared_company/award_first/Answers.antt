@@ -1,5 +1,5 @@
 use Rattle.std.proofs.Common.{Ok, refl, sym, ap, ◌∙◌, arith}
-use Rattle.fleet_league.specs.Companies.{CompanyState}
+use Rattle.fleet_league.specs.inner.Companies.{CompanyState}
 use Rattle.fleet_league.specs.declared.briefs.Brief.{Brief}
 use Rattle.league_trials.proofs.AfterAwards.{has-won, start-stays}
 use Rattle.league_trials.proofs.OneVehicle.{MayAward, clear-new, may-award}

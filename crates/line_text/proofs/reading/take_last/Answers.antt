@@ -1,5 +1,5 @@
 use Rattle.std.proofs.Common.{◌≡◌, ◌≢◌, [], Bool, MatchBool, subst, ◌∙◌, ap}
-use Rattle.line_text.specs.Cutter.{CutterState, ShowsRest}
+use Rattle.line_text.specs.inner.Cutter.{CutterState, ShowsRest}
 use Rattle.line_text.specs.Lines.{rest_of}
 use Rattle.line_text.proofs.ReadingLemmas.{read-last}
 use Rattle.line_text.proofs.reading.take_last.Goals as goal

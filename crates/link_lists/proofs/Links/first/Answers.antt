@@ -1,6 +1,6 @@
 use Rattle.std.proofs.Common.{◌≡◌, ◌+◌, ap, ◌∙◌}
 use Rattle.std.specs.Prelude.{Some, None, if◌then◌else◌, nat_lt}
-use Rattle.link_lists.specs.Circles.{next_of}
+use Rattle.link_lists.specs.inner.Circles.{next_of}
 use Rattle.link_lists.proofs.Kept.{first-read, held-read}
 use Rattle.link_lists.proofs.Views.{shows-before}
 use Rattle.link_lists.proofs.Links.first.Goals as goal

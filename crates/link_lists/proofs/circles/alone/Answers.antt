@@ -2,7 +2,7 @@ use Rattle.std.proofs.Common.{◌≡◌, ℕ, ◌+◌, ◌<◌, List, [], ◌∷
 use Rattle.std.proofs.lemmas.Bool.{cases_eq}
 use Rattle.std.proofs.lemmas.List.{get_or_append_left, get_or_push, length_push}
 use Rattle.link_lists.specs.declared.circles.Link.{Link}
-use Rattle.link_lists.specs.Circles.{next_of, before_of, IsAlone}
+use Rattle.link_lists.specs.inner.Circles.{next_of, before_of, IsAlone}
 use Rattle.link_lists.proofs.circles.alone.Goals as goal
 
 alone-push : (xs : List Link) (n : ℕ) → length xs ≡ n → ((p : ℕ) → p < n → IsAlone xs p) → (p : ℕ) → p < n + 1 → IsAlone (xs ++ record { next = n; before = n } ∷ []) p

@@ -1,5 +1,5 @@
 use Rattle.std.proofs.Common.{◌≡◌, ℕ, ◌<◌, length}
-use Rattle.link_lists.specs.Circles.{IsAlone}
+use Rattle.link_lists.specs.inner.Circles.{IsAlone}
 use Rattle.link_lists.proofs.circles.alone.Given as goal
 
 abbrev pub invariant-loop-place : goal.invariant-loop-place

@@ -4,10 +4,10 @@ use Rattle.std.specs.Prelude.{is_err, Result, IfOk}
 use Rattle.ride_model.specs.declared.entry.Entry.{Entry}
 use Rattle.ride_model.specs.Text.{entry_lines}
 use Rattle.ride_ports.specs.declared.sources.Failed.{Failed}
-use Rattle.line_text.specs.text_page.Output.{HasPut, IsFresh}
+use Rattle.line_text.specs.inner.text_page.Output.{HasPut, IsFresh}
 use Rattle.line_text.proofs.text_page.OutputLemmas.{put-same}
 use Rattle.session_loops.specs.declared.scribes.Scribed.{Scribed}
-use Rattle.live_sessions.specs.Actors.{bare}
+use Rattle.live_sessions.specs.inner.Actors.{bare}
 use Rattle.live_sessions.proofs.resuming.put_rest.Goals as goal
 
 pub returns-in-Ok-clause-logged : goal.returns-in-Ok-clause-logged

@@ -4,13 +4,13 @@ use Rattle.ride_model.specs.declared.entry.Entry.{Entry}
 use Rattle.ride_model.specs.Text.{entry_lines, head_line, text_of}
 use Rattle.ride_ports.specs.declared.outcome.Ran.{Ran}
 use Rattle.ride_ports.specs.Count.{KeepsCount}
-use Rattle.line_text.specs.text_page.Output.{HasPut}
+use Rattle.line_text.specs.inner.text_page.Output.{HasPut}
 use Rattle.line_text.proofs.text_page.OutputLemmas.{put-same}
 use Rattle.session_loops.specs.declared.scribes.Scribed.{Scribed}
-use Rattle.live_sessions.specs.Actors.{bare}
+use Rattle.live_sessions.specs.inner.Actors.{bare}
 use Rattle.live_sessions.specs.Resuming.{IsResumed}
-use Rattle.live_sessions.specs.Serving.{feed_run}
-use Rattle.live_sessions.specs.Stages.{board_of, ran_of}
+use Rattle.live_sessions.specs.inner.Serving.{feed_run}
+use Rattle.live_sessions.specs.inner.Stages.{board_of, ran_of}
 use Rattle.live_sessions.proofs.Served.{is-resumed, logged-all, sink-is, source-failed, sources-sound}
 use Rattle.live_sessions.proofs.StageLemmas.{drivers-faults, drivers-sink, feeder-faults, feeder-sink}
 use Rattle.live_sessions.proofs.resuming.run.Given as given

@@ -6,7 +6,7 @@ use Rattle.log_audit.specs.declared.verdict.AuditFault.{AuditFault}
 use Rattle.log_audit.specs.declared.verdict.AuditFault.TheVariants.{NoMemory, ReadFault}
 use Rattle.log_audit.specs.declared.verdict.Verdict.{Verdict}
 use Rattle.log_audit.specs.Audit.{IsAnswer}
-use Rattle.log_audit.specs.Reading.{StopsReading}
+use Rattle.log_audit.specs.inner.Reading.{StopsReading}
 use Rattle.log_audit.proofs.AuditSteps.{only-answer, stopped-fault, stopped-long}
 use Rattle.log_audit.proofs.auditing.audit.Goals as goal
 

@@ -4,8 +4,8 @@ use Rattle.std.proofs.lemmas.Result.{err_from_is_err_and}
 use Rattle.ride_model.specs.State.{State, start_state}
 use Rattle.log_audit.specs.declared.verdict.AuditFault.{AuditFault}
 use Rattle.log_audit.specs.declared.verdict.AuditFault.TheVariants.{NoMemory, ReadFault}
-use Rattle.log_audit.specs.Due.{IsDueOf}
-use Rattle.log_audit.specs.Reading.{StopsReading}
+use Rattle.log_audit.specs.inner.Due.{IsDueOf}
+use Rattle.log_audit.specs.inner.Reading.{StopsReading}
 use Rattle.log_audit.proofs.AuditSteps.{stopped-fault, stopped-long}
 use Rattle.log_audit.proofs.due.due_line.Goals as goal
 

@@ -4,9 +4,9 @@ use Rattle.std.proofs.lemmas.Result.{err_from_is_err_and}
 use Rattle.ride_model.specs.State.{State, start_state}
 use Rattle.ride_ports.proofs.Counts.{KeepsCount-then}
 use Rattle.trip_log.specs.declared.reading.Head.{Head}
-use Rattle.log_audit.specs.Audited.{HasReadNoHead}
-use Rattle.log_audit.specs.LogLines.{HasRead}
-use Rattle.log_audit.specs.Reading.{HasEnded, StopsReading}
+use Rattle.log_audit.specs.inner.Audited.{HasReadNoHead}
+use Rattle.log_audit.specs.inner.LogLines.{HasRead}
+use Rattle.log_audit.specs.inner.Reading.{HasEnded, StopsReading}
 use Rattle.log_audit.proofs.AuditSteps.{board-nothing, stops-head}
 use Rattle.log_audit.proofs.LogParts.{takes-then}
 use Rattle.log_audit.proofs.reading.read_log.Goals as goal

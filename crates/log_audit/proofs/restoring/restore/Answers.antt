@@ -6,7 +6,7 @@ use Rattle.log_audit.specs.declared.verdict.AuditFault.{AuditFault}
 use Rattle.log_audit.specs.declared.verdict.AuditFault.TheVariants.{NoMemory, ReadFault}
 use Rattle.log_audit.specs.declared.restoring.Restoration.{Restoration}
 use Rattle.log_audit.specs.Restored.{IsRestoration}
-use Rattle.log_audit.specs.Reading.{StopsReading}
+use Rattle.log_audit.specs.inner.Reading.{StopsReading}
 use Rattle.log_audit.proofs.AuditSteps.{stopped-fault, stopped-long}
 use Rattle.log_audit.proofs.Restorations.{only-restoration}
 use Rattle.log_audit.proofs.restoring.restore.Goals as goal

@@ -6,7 +6,7 @@ use Rattle.ride_model.specs.declared.vehicle.Vehicle.{Vehicle}
 use Rattle.ride_model.specs.Offers.{offer_of, price}
 use Rattle.ride_model.specs.Road.{RoadMap}
 use Rattle.ride_model.specs.Seating.{BatchCopy}
-use Rattle.batch_commit.specs.Table.{IsLeastOffer}
+use Rattle.batch_commit.specs.inner.Table.{IsLeastOffer}
 use Rattle.log_audit.proofs.seating.offer_at.Goals as goal
 
 -- a cell with an offer has that of its places

@@ -6,7 +6,7 @@ use Rattle.ride_model.specs.declared.offer.Seat.{Seat}
 use Rattle.ride_model.specs.Road.{RoadMap}
 use Rattle.ride_model.specs.Seating.{BatchCopy, seat_offer}
 use Rattle.log_audit.specs.declared.seating.Placed.{Placed}
-use Rattle.log_audit.specs.Seated.{IsPlaced}
+use Rattle.log_audit.specs.inner.Seated.{IsPlaced}
 use Rattle.log_audit.proofs.Placing.{placed-more}
 use Rattle.log_audit.proofs.seating.placed_of.Goals as goal
 

@@ -1,5 +1,5 @@
 use Rattle.std.specs.Prelude.{IfSome}
-use Rattle.link_lists.specs.Family.{IsHeld}
+use Rattle.link_lists.specs.inner.Family.{IsHeld}
 use Rattle.part_trials.proofs.links.has_nodes.Given as goal
 
 abbrev pub invariant-loop-wanted : goal.invariant-loop-wanted

@@ -1,5 +1,5 @@
 use Rattle.std.proofs.Common.{sym, subst}
-use Rattle.ride_model.specs.Vehicle.{IsRoutedSomewhere}
+use Rattle.ride_model.specs.inner.Vehicle.{IsRoutedSomewhere}
 use Rattle.plan_trials.specs.SmallPlans.{four_nodes}
 use Rattle.plan_trials.proofs.SmallPlans.{map_fits, promised_is_lawful, arrived_is_lawful}
 use Rattle.plan_trials.proofs.cities.drivers_report_where_they_are_by_the_clock.Goals as goal

@@ -1,5 +1,5 @@
 use Rattle.std.proofs.Common.{sym, subst}
-use Rattle.ride_model.specs.Vehicle.{IsRoutedSomewhere}
+use Rattle.ride_model.specs.inner.Vehicle.{IsRoutedSomewhere}
 use Rattle.plan_trials.specs.LineRoad.{vehicle_with}
 use Rattle.plan_trials.proofs.LineRoad.{routed_somewhere}
 use Rattle.plan_trials.proofs.limits.all_kept.Goals as goal

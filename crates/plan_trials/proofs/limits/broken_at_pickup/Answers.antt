@@ -1,5 +1,5 @@
 use Rattle.std.proofs.Common.{sym, subst, arith}
-use Rattle.ride_model.specs.Vehicle.{IsLawfulSomewhere}
+use Rattle.ride_model.specs.inner.Vehicle.{IsLawfulSomewhere}
 use Rattle.plan_trials.specs.SmallPlans.{four_nodes}
 use Rattle.plan_trials.proofs.SmallPlans.{map_fits}
 use Rattle.plan_trials.proofs.OneRide.{on_the_way_is_lawful, from_node_2}

@@ -1,7 +1,7 @@
 use Rattle.std.proofs.Common.{sym, subst}
 use Rattle.std.specs.Prelude.{None}
 use Rattle.plan_trials.specs.SmallPlans.{four_nodes, ride_of, promised}
-use Rattle.insertion.specs.Asked.{IsAsked}
+use Rattle.insertion.specs.inner.Asked.{IsAsked}
 use Rattle.plan_trials.specs.NearPlaces.{settings_of, near_3_to_4}
 use Rattle.plan_trials.proofs.NearPlaces.{asked}
 use Rattle.plan_trials.proofs.offers.offer.Goals as goal

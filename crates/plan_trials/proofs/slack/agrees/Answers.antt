@@ -1,6 +1,6 @@
 use Rattle.std.proofs.Common.{sym, subst}
 use Rattle.plan_trials.specs.SmallPlans.{four_nodes}
-use Rattle.insertion.specs.Asked.{IsAsked}
+use Rattle.insertion.specs.inner.Asked.{IsAsked}
 use Rattle.plan_trials.proofs.slack.agrees.Goals as goal
 
 pub best_place-slow-requires : goal.best_place-slow-requires

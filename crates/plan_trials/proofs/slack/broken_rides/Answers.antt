@@ -1,5 +1,5 @@
 use Rattle.std.proofs.Common.{sym, subst}
-use Rattle.ride_model.specs.Vehicle.{IsLawfulSomewhere}
+use Rattle.ride_model.specs.inner.Vehicle.{IsLawfulSomewhere}
 use Rattle.plan_trials.specs.LineRoad.{vehicle_with}
 use Rattle.plan_trials.proofs.LineRoad.{lawful_somewhere}
 use Rattle.plan_trials.proofs.slack.broken_rides.Goals as goal

@@ -2,7 +2,7 @@ use Rattle.std.proofs.Common.{sym, subst}
 use Rattle.ride_model.specs.declared.vehicle.Vehicle.{Vehicle}
 use Rattle.plan_trials.specs.LineRoad.{vehicle_with}
 use Rattle.plan_trials.specs.SmallPlans.{four_nodes}
-use Rattle.insertion.specs.Asked.{IsAsked}
+use Rattle.insertion.specs.inner.Asked.{IsAsked}
 use Rattle.plan_trials.specs.NearInLine.{near_in_line}
 use Rattle.plan_trials.proofs.NearInLine.{asked}
 use Rattle.plan_trials.proofs.slack.cost.Goals as goal

@@ -1,8 +1,8 @@
 use Rattle.std.proofs.Common.{sym, ◌∙◌, ap, subst, arith}
 use Rattle.plan_trials.specs.SmallPlans.{four_nodes}
-use Rattle.insertion.specs.Asked.{IsAsked}
+use Rattle.insertion.specs.inner.Asked.{IsAsked}
 use Rattle.insertion.proofs.PlanTimes.{start-le}
-use Rattle.slack_tables.specs.SlackOf.{slack_of}
+use Rattle.slack_tables.specs.inner.SlackOf.{slack_of}
 use Rattle.plan_trials.proofs.slack.fast.Goals as goal
 
 pub start_of-start-requires-clause-lead_limit : goal.start_of-start-requires-clause-lead_limit

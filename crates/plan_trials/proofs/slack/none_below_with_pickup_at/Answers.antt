@@ -1,6 +1,6 @@
 use Rattle.std.proofs.Common.{sym, subst}
 use Rattle.plan_trials.specs.SmallPlans.{four_nodes}
-use Rattle.insertion.specs.Asked.{IsAsked}
+use Rattle.insertion.specs.inner.Asked.{IsAsked}
 use Rattle.plan_trials.proofs.slack.none_below_with_pickup_at.Goals as goal
 
 pub offer_at-requires : goal.offer_at-requires

@@ -1,6 +1,6 @@
 use Rattle.std.proofs.Common.{[], ◌∷◌, refl, sym, subst}
-use Rattle.ride_model.specs.Vehicle.{IsLawfulSomewhere}
-use Rattle.stop_plans.specs.Change.{HasFirstStopAt}
+use Rattle.ride_model.specs.inner.Vehicle.{IsLawfulSomewhere}
+use Rattle.stop_plans.specs.inner.Change.{HasFirstStopAt}
 use Rattle.plan_trials.specs.SmallPlans.{four_nodes, pickup_at, dropoff_at}
 use Rattle.plan_trials.proofs.SmallPlans.{map_fits, arrived_is_lawful}
 use Rattle.plan_trials.proofs.stops.pickup_is_served.Goals as goal

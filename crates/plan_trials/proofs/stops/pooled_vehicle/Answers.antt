@@ -1,5 +1,5 @@
 use Rattle.std.proofs.Common.{[], ◌∷◌, sym, ◌∙◌, subst}
-use Rattle.ride_model.specs.Vehicle.{IsRoutedSomewhere}
+use Rattle.ride_model.specs.inner.Vehicle.{IsRoutedSomewhere}
 use Rattle.plan_trials.specs.SmallPlans.{four_nodes, vehicle_of, pooled}
 use Rattle.plan_trials.proofs.SmallPlans.{map_fits, pooled_is_lawful}
 use Rattle.plan_trials.proofs.stops.pooled_vehicle.Goals as goal

@@ -1,5 +1,5 @@
 use Rattle.std.proofs.Common.{sym, subst}
-use Rattle.stop_plans.specs.Change.{InsertsInto}
+use Rattle.stop_plans.specs.inner.Change.{InsertsInto}
 use Rattle.plan_trials.specs.SmallPlans.{four_nodes, promised, pooled, pooling}
 use Rattle.plan_trials.proofs.SmallPlans.{pooling_inserts}
 use Rattle.plan_trials.proofs.stops.ride_goes_in.Goals as goal

@@ -1,5 +1,5 @@
 use Rattle.std.proofs.Common.{sym, subst}
-use Rattle.stop_plans.specs.Change.{RemovesFrom}
+use Rattle.stop_plans.specs.inner.Change.{RemovesFrom}
 use Rattle.plan_trials.specs.SmallPlans.{four_nodes}
 use Rattle.plan_trials.proofs.SmallPlans.{pooling_is_undone}
 use Rattle.plan_trials.proofs.stops.ride_goes_out.Goals as goal

@@ -5,7 +5,7 @@ use Rattle.ride_model.specs.declared.vehicle.Ride.{Ride}
 use Rattle.ride_model.specs.declared.vehicle.Stop.{Stop}
 use Rattle.ride_model.specs.Loads.{loads_fit}
 use Rattle.ride_model.specs.Times.{times_of}
-use Rattle.promises.specs.Arrivals.{breaks_along}
+use Rattle.promises.specs.inner.Arrivals.{breaks_along}
 use Rattle.promises.proofs.Visits.{length-times, times-soon, keeps-vehicle}
 use Rattle.promises.proofs.kept.keeps.Goals as goal
 

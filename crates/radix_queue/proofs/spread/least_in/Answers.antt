@@ -1,6 +1,6 @@
 use Rattle.std.proofs.Common.{◌≡◌, ◌<◌, ◌+◌, sym, ◌∙◌, subst, arith}
 use Rattle.std.specs.Prelude.{slice_get}
-use Rattle.link_lists.specs.Family.{list_at}
+use Rattle.link_lists.specs.inner.Family.{list_at}
 use Rattle.link_lists.proofs.Kept.{Contains-from_get}
 use Rattle.link_lists.proofs.Walks.{nodes_left}
 use Rattle.radix_queue.proofs.Walked.{IsWalked, walked-start, walked-more, walked-falls, walked-all}

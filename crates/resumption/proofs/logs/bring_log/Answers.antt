@@ -5,7 +5,7 @@ use Rattle.ride_ports.specs.Count.{Rose}
 use Rattle.log_audit.specs.declared.restoring.Restoration.{Restoration}
 use Rattle.log_audit.specs.declared.verdict.AuditFault.{AuditFault}
 use Rattle.log_audit.specs.Audit.{is_read_fault}
-use Rattle.live_sessions.specs.Serving.{feed_run}
+use Rattle.live_sessions.specs.inner.Serving.{feed_run}
 use Rattle.dispatcher.proofs.Bringing.{bytes-of}
 use Rattle.dispatcher.proofs.Working.{rose-above}
 use Rattle.resumption.proofs.LogFaults.{no-fault}

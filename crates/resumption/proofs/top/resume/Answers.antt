@@ -1,4 +1,4 @@
-use Rattle.run_words.specs.Resumptions.{asked_by_resumption}
+use Rattle.run_words.specs.inner.Resumptions.{asked_by_resumption}
 use Rattle.dispatcher.specs.Shelves.{sunk}
 use Rattle.resumption.proofs.Keeping.{resumed-some, resumes-well}
 use Rattle.resumption.proofs.top.resume.Goals as goal

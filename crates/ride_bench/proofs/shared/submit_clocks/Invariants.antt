@@ -1,6 +1,6 @@
 use Rattle.std.proofs.Common.{◌≡◌, length}
 use Rattle.turn_lock.specs.Passes.{knowledge}
-use Rattle.fleet_board.specs.Passes.{commands_in}
+use Rattle.fleet_board.specs.inner.Passes.{commands_in}
 use Rattle.fleet_board.specs.Roles.{MayFeed}
 use Rattle.ride_bench.proofs.shared.submit_clocks.Given as goal
 

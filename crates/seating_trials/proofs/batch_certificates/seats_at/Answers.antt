@@ -1,6 +1,6 @@
 use Rattle.std.proofs.Common.{◌≡◌, ℕ, [], ◌∷◌, ◌++◌, All, sym, subst, ap, ◌∙◌}
 use Rattle.std.proofs.lemmas.List.Elements.{All-push}
-use Rattle.batch_commit.specs.Answer.{IsSeatAt}
+use Rattle.batch_commit.specs.inner.Answer.{IsSeatAt}
 use Rattle.seating_trials.proofs.batch_certificates.seats_at.Goals as goal
 use Rattle.seating_trials.proofs.batch_certificates.seats_at.Goals.{in-Some, in_default}
 

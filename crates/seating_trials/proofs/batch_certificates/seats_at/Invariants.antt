@@ -1,5 +1,5 @@
 use Rattle.std.proofs.Common.{ℕ, All}
-use Rattle.batch_commit.specs.Answer.{IsSeatAt}
+use Rattle.batch_commit.specs.inner.Answer.{IsSeatAt}
 use Rattle.seating_trials.proofs.batch_certificates.seats_at.Given as goal
 
 -- each seat so far stands in its cell

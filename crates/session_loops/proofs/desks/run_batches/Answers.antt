@@ -2,8 +2,8 @@ use Rattle.std.proofs.Common.{◌≡◌, ap, sym, ◌∙◌}
 use Rattle.board_core.specs.Recorded.{Recorded}
 use Rattle.turn_lock.specs.Passes.{knowledge}
 use Rattle.board_core.specs.declared.opening.Opening.TheVariants.{Idle}
-use Rattle.fleet_board.specs.Openings.{OpensBatch, OpensNone}
-use Rattle.fleet_board.specs.Passes.{Known}
+use Rattle.fleet_board.specs.inner.Openings.{OpensBatch, OpensNone}
+use Rattle.fleet_board.specs.inner.Passes.{Known}
 use Rattle.fleet_board.proofs.MayEnd.{desk-may_end}
 use Rattle.fleet_board.proofs.Looking.{root-stays}
 use Rattle.session_loops.proofs.BatchRuns.{batches-none, batch-then, batches-same, batches-wanting}

@@ -1,6 +1,6 @@
 use Rattle.std.proofs.Common.{take}
 use Rattle.ride_model.specs.Text.{entry_lines}
-use Rattle.line_text.specs.text_page.Output.{Puts}
+use Rattle.line_text.specs.inner.text_page.Output.{Puts}
 use Rattle.session_loops.proofs.logging.put_all.Given as goal
 
 -- the lines of the entries so far were put

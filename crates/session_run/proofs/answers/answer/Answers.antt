@@ -1,8 +1,9 @@
 use Rattle.std.proofs.Common.{◌≡◌, ℕ, true, false, [], Some, refl, ap, sym, subst, ◌∙◌, arith}
 use Rattle.std.proofs.lemmas.Result.{IfOk-weaker, on_err_weaker}
-use Rattle.board_core.specs.Recorded.{Recorded, fed_entry, state_of}
-use Rattle.session_run.specs.Planning.{AddsSheets, is_whole, sheets_in}
-use Rattle.session_run.specs.Running.{RunsBatch, Answers, Stops}
+use Rattle.board_core.specs.Recorded.{Recorded, state_of}
+use Rattle.board_core.specs.inner.Recorded.{fed_entry}
+use Rattle.session_run.specs.inner.Planning.{AddsSheets, is_whole, sheets_in}
+use Rattle.session_run.specs.inner.Running.{RunsBatch, Answers, Stops}
 use Rattle.session_run.proofs.CommitSheets.{adds-none, adds-then}
 use Rattle.session_run.proofs.Answering.{answers-others, asks, asks-stops, answers-ask, not_asked}
 use Rattle.model_laws.proofs.history_laws.Untouched.{is_asked}

@@ -5,7 +5,8 @@ use Rattle.ride_ports.proofs.ByteLemmas.{Reads-none, Reads-then}
 use Rattle.ride_ports.proofs.Counts.{KeepsCount-none, KeepsCount-then}
 use Rattle.command_lines.specs.declared.forms.FeedForm.{FeedForm}
 use Rattle.command_lines.specs.Limits.{new_feed}
-use Rattle.command_lines.specs.Feeds.{HasGiven, IsStopped, IsWhole}
+use Rattle.command_lines.specs.Feeds.{IsWhole}
+use Rattle.command_lines.specs.inner.Feeds.{HasGiven, IsStopped}
 use Rattle.command_lines.proofs.ReaderLemmas.{given-few}
 use Rattle.session_loops.proofs.FeedEnds.{fault-stops}
 use Rattle.session_loops.proofs.FeedRuns.{fewer-first, given-first-of, stopped-first-of, whole-first-of}

@@ -2,10 +2,10 @@ use Rattle.std.proofs.Common.{◌≡◌, ℕ, ◌-◌, false, List, Option, leng
 use Rattle.ride_model.specs.History.{fed_commands}
 use Rattle.ride_ports.specs.Bytes.{Reads}
 use Rattle.ride_ports.specs.Count.{KeepsCount}
-use Rattle.command_lines.specs.Feeds.{HasGiven}
+use Rattle.command_lines.specs.inner.Feeds.{HasGiven}
 use Rattle.command_lines.specs.Limits.{new_feed}
-use Rattle.session_run.specs.Reading.{HasTold}
-use Rattle.session_run.specs.Running.{IsRunning}
+use Rattle.session_run.specs.inner.Reading.{HasTold}
+use Rattle.session_run.specs.inner.Running.{IsRunning}
 use Rattle.session_run.proofs.one_feed.run_feed.Given as goal
 
 -- the commands so far were answered

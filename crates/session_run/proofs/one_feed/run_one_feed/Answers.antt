@@ -12,11 +12,12 @@ use Rattle.ride_ports.specs.Count.{KeepsCount}
 use Rattle.ride_ports.proofs.Counts.{KeepsCount-none}
 use Rattle.line_text.specs.declared.line_reader.stops.Stop.{Stop}
 use Rattle.command_lines.specs.Limits.{new_feed}
-use Rattle.command_lines.specs.Feeds.{HasGiven}
-use Rattle.session_run.specs.SessionState.{SessionState}
-use Rattle.session_run.specs.Writing.{reach_of}
-use Rattle.session_loops.specs.Stops.{AreFirstOf, ending_of}
-use Rattle.session_run.specs.Reading.{HasEnded}
+use Rattle.command_lines.specs.inner.Feeds.{HasGiven}
+use Rattle.session_run.specs.inner.SessionState.{SessionState}
+use Rattle.session_run.specs.inner.Writing.{reach_of}
+use Rattle.session_loops.specs.Stops.{AreFirstOf}
+use Rattle.session_loops.specs.inner.Stops.{ending_of}
+use Rattle.session_run.specs.inner.Reading.{HasEnded}
 use Rattle.ride_ports.proofs.ByteLemmas.{Reads-none}
 use Rattle.session_run.proofs.Replays.{is-start, is-replay, no-replay}
 use Rattle.session_run.proofs.WrittenSessions.{feed-ends, logged-some, none-written, written-by}

@@ -2,8 +2,8 @@ use Rattle.std.proofs.Common.{ℕ, ◌+◌, ◌-◌, ◌++◌, ◌∷◌, [], Li
 use Rattle.std.specs.Prelude.{map}
 use Rattle.std.specs.List.{range_with_len}
 use Rattle.arrayvec.specs.ArrayVec.{ArrayVec}
-use Rattle.slack_tables.specs.Tables.{rows_of}
-use Rattle.slack_tables.specs.Trips.{room_of}
+use Rattle.slack_tables.specs.inner.Tables.{rows_of}
+use Rattle.slack_tables.specs.inner.Trips.{room_of}
 use Rattle.slack_tables.proofs.Ranges.{made-on}
 use Rattle.slack_tables.proofs.rooms.rows.Goals as goal
 

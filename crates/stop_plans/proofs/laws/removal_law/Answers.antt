@@ -1,7 +1,7 @@
 use Rattle.std.proofs.Common.{sym, subst}
 use Rattle.ride_model.specs.Vehicle.{IsLawful}
 use Rattle.ride_model.specs.Times.{visits_of}
-use Rattle.model_laws.specs.Sooner.{AllSooner}
+use Rattle.model_laws.specs.inner.Sooner.{AllSooner}
 use Rattle.model_laws.proofs.Removal.{lawful-without, visits-sooner}
 use Rattle.stop_plans.proofs.laws.removal_law.Goals as goal
 

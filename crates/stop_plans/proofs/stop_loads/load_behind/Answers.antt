@@ -5,7 +5,7 @@ use Rattle.std.proofs.lemmas.Bool.Decides.{eqb_tells}
 use Rattle.std.proofs.lemmas.List.Elements.{recursion_from_All}
 use Rattle.ride_model.specs.declared.vehicle.Load.{Load}
 use Rattle.ride_model.specs.declared.vehicle.Ride.{Ride}
-use Rattle.stop_plans.specs.Aboard.{seats_aboard, chairs_aboard, load_aboard, IsSmall}
+use Rattle.stop_plans.specs.inner.Aboard.{seats_aboard, chairs_aboard, load_aboard, IsSmall}
 use Rattle.stop_plans.proofs.AboardLists.{one-more-boarded, one-more-stays, all-boarded, seats-set, chairs-set, seats-part, chairs-part, seats-few, chairs-few, if_at_most}
 use Rattle.stop_plans.proofs.stop_loads.load_behind.Goals as goal
 

@@ -1,5 +1,5 @@
 use Rattle.std.proofs.Common.{◌≡◌, ◌≤◌, length, take}
-use Rattle.trip_log.specs.Pieces.{bytes_of, room_of}
+use Rattle.trip_log.specs.inner.Pieces.{bytes_of, room_of}
 use Rattle.trip_log.proofs.pieces.text_of.Given as goal
 
 abbrev pub invariant-loop-piece : goal.invariant-loop-piece

@@ -2,8 +2,8 @@ use Rattle.std.proofs.Common.{◌<◌, [], sym, ◌∙◌, subst}
 use Rattle.std.specs.Prelude.{All}
 use Rattle.std.proofs.lemmas.List.{append-nil}
 use Rattle.std.proofs.lemmas.List.Elements.{recursion_from_All}
-use Rattle.link_lists.specs.Family.{list_at}
-use Rattle.wait_list.specs.Split.{Rises, IsOneList}
+use Rattle.link_lists.specs.inner.Family.{list_at}
+use Rattle.wait_list.specs.inner.Split.{Rises, IsOneList}
 use Rattle.wait_list.proofs.Rising.{rises-insert, rising-from_one}
 use Rattle.wait_list.proofs.WaitList.add.Goals as goal
 

@@ -1,6 +1,6 @@
 use Rattle.std.proofs.Common.{ℕ, ◌<◌, ◌≢◌}
-use Rattle.adaptive_roads.specs.road_hierarchy.Descents.{upper_at}
-use Rattle.adaptive_roads.specs.road_hierarchy.Marks.{IsMarked}
+use Rattle.adaptive_roads.specs.inner.road_hierarchy.Descents.{upper_at}
+use Rattle.adaptive_roads.specs.inner.road_hierarchy.Marks.{IsMarked}
 use Rattle.adaptive_roads.proofs.road_hierarchy.marks.mark_uppers.Given as goal
 
 abbrev pub invariant-loop-upper : goal.invariant-loop-upper

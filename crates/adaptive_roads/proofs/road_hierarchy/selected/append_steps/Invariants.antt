@@ -1,6 +1,6 @@
 use Rattle.std.proofs.Common.{◌≡◌, ◌++◌, take}
 use Rattle.std.specs.Prelude.{map}
-use Rattle.adaptive_roads.specs.road_hierarchy.Selection.{step_from}
+use Rattle.adaptive_roads.specs.inner.road_hierarchy.Selection.{step_from}
 use Rattle.adaptive_roads.proofs.road_hierarchy.selected.append_steps.Given as goal
 
 abbrev pub invariant-loop-upper : goal.invariant-loop-upper

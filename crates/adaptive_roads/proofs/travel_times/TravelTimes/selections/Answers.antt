@@ -1,7 +1,7 @@
 use Rattle.std.proofs.Common.{ap, arith, subst}
 use Rattle.ride_model.specs.Road.{RoadMap}
-use Rattle.adaptive_roads.specs.Made.{IsMadeOf}
-use Rattle.adaptive_roads.specs.Seen.{IsSeenOf}
+use Rattle.adaptive_roads.specs.inner.Made.{IsMadeOf}
+use Rattle.adaptive_roads.specs.inner.Seen.{IsSeenOf}
 use Rattle.adaptive_roads.proofs.travel_times.TravelTimes.selections.Goals as goal
 
 pub of-requires : goal.of-requires

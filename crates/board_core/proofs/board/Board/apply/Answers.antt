@@ -8,8 +8,8 @@ use Rattle.ride_model.specs.History.{fed_commands}
 use Rattle.ride_model.specs.Legal.{IsNumbered}
 use Rattle.ride_model.specs.State.{start_state, has_ended}
 use Rattle.ride_model.specs.Text.{IsSpelledCommand}
-use Rattle.board_core.specs.Given.{Given}
-use Rattle.board_core.specs.Kept.{places_kept, IsBoard}
+use Rattle.board_core.specs.inner.Given.{Given}
+use Rattle.board_core.specs.inner.Kept.{places_kept, IsBoard}
 use Rattle.board_core.specs.Recorded.{Recorded, state_of}
 use Rattle.board_core.proofs.Boards.{board-in_order, board-fed}
 use Rattle.board_core.proofs.board.Board.apply.Goals as goal

@@ -10,12 +10,13 @@ use Rattle.ride_model.specs.Batch.{was_cancelled, outcomes_of, after_outcomes}
 use Rattle.ride_model.specs.Seating.{BatchCopy, vehicle_ids}
 use Rattle.ride_model.specs.State.{State, start_state, open_batch_numbered}
 use Rattle.ride_model.specs.Vehicle.{ride_ids}
-use Rattle.batch_commit.specs.Solved.{SolvedBatch, StandsSo}
-use Rattle.batch_commit.specs.Table.{IsTableOf}
-use Rattle.board_core.specs.Kept.{IsBoard, with_closed}
-use Rattle.board_core.specs.Recorded.{Recorded, state_of, committed_entry}
-use Rattle.board_core.specs.Service.{state_at}
-use Rattle.board_core.specs.Settling.{IsCommitted, balance}
+use Rattle.batch_commit.specs.inner.Solved.{SolvedBatch, StandsSo}
+use Rattle.batch_commit.specs.inner.Table.{IsTableOf}
+use Rattle.board_core.specs.inner.Kept.{IsBoard, with_closed}
+use Rattle.board_core.specs.Recorded.{Recorded, state_of}
+use Rattle.board_core.specs.inner.Recorded.{committed_entry}
+use Rattle.board_core.specs.inner.Service.{state_at}
+use Rattle.board_core.specs.inner.Settling.{IsCommitted, balance}
 use Rattle.board_core.proofs.Boards.{board-in_order}
 use Rattle.board_core.proofs.Closed.{open-facts, place-kept, board-committed}
 use Rattle.board_core.proofs.Committed.{is-committed, none-settled, commits}

@@ -3,8 +3,8 @@ use Rattle.std.specs.Prelude.{vec_capacity}
 use Rattle.ride_model.specs.declared.entry.Entry.{Entry}
 use Rattle.ride_model.specs.Seating.{vehicle_ids}
 use Rattle.ride_model.specs.State.{start_state}
-use Rattle.board_core.specs.Given.{Given}
-use Rattle.board_core.specs.Kept.{IsBoard, none_yet, places_kept}
+use Rattle.board_core.specs.inner.Given.{Given}
+use Rattle.board_core.specs.inner.Kept.{IsBoard, none_yet, places_kept}
 use Rattle.board_core.specs.Recorded.{Recorded}
 use Rattle.board_core.proofs.Boards.{board-new}
 use Rattle.board_core.proofs.board.Board.new.Goals as goal

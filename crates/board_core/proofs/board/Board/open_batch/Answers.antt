@@ -8,12 +8,12 @@ use Rattle.ride_model.specs.Legal.{IsNumbered, versions_of}
 use Rattle.ride_model.specs.Seating.{BatchCopy}
 use Rattle.ride_model.specs.State.{start_state, has_ended, open_batch_of}
 use Rattle.ride_model.specs.Vehicle.{ride_ids}
-use Rattle.model_laws.specs.history_laws.Consistent.{IsOpenBatch}
-use Rattle.board_core.specs.Given.{Given}
-use Rattle.board_core.specs.Kept.{IsBoard, with_opened}
-use Rattle.board_core.specs.Marking.{marked_in}
+use Rattle.model_laws.specs.inner.history_laws.Consistent.{IsOpenBatch}
+use Rattle.board_core.specs.inner.Given.{Given}
+use Rattle.board_core.specs.inner.Kept.{IsBoard, with_opened}
+use Rattle.board_core.specs.inner.Marking.{marked_in}
 use Rattle.board_core.specs.Recorded.{Recorded, state_of, opened_entry}
-use Rattle.board_core.specs.Service.{batch_at}
+use Rattle.board_core.specs.inner.Service.{batch_at}
 use Rattle.board_core.proofs.Boards.{board-in_order, few-opened}
 use Rattle.board_core.proofs.Opened.{Opens, board-opened}
 use Rattle.board_core.proofs.board.Board.open_batch.Goals as goal

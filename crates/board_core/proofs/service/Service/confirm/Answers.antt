@@ -6,11 +6,11 @@ use Rattle.ride_model.specs.declared.entry.Outcome.TheVariants.{Confirmed}
 use Rattle.ride_model.specs.Batch.{seat_of, after_outcome, confirm}
 use Rattle.ride_model.specs.State.{State}
 use Rattle.batch_commit.specs.declared.answers.Answer.{Answer}
-use Rattle.batch_commit.specs.Table.{Table, cell_at}
+use Rattle.batch_commit.specs.inner.Table.{Table, cell_at}
 use Rattle.dual_check.proofs.DifferentIds.{element}
-use Rattle.board_core.specs.Given.{Given}
-use Rattle.board_core.specs.Service.{state_at, placed_in}
-use Rattle.board_core.specs.Settling.{IsToConfirm}
+use Rattle.board_core.specs.inner.Given.{Given}
+use Rattle.board_core.specs.inner.Service.{state_at, placed_in}
+use Rattle.board_core.specs.inner.Settling.{IsToConfirm}
 use Rattle.board_core.proofs.Placed.{placed-at}
 use Rattle.board_core.proofs.Settled.{Seated, seated, Stands, stands, some-vehicle, some-offer, as-many, Confirms, confirms, settled-confirmed}
 use Rattle.board_core.proofs.service.Service.confirm.Goals as goal

@@ -3,7 +3,7 @@ use Rattle.std.specs.Prelude.{Some, slice_set}
 use Rattle.ride_model.specs.declared.reply.Reply.TheVariants.{Freed}
 use Rattle.ride_model.specs.declared.reply.RequestState.TheVariants.{Confirmed}
 use Rattle.ride_model.specs.State.{State, start_state}
-use Rattle.board_core.specs.Service.{state_at, placed_in}
+use Rattle.board_core.specs.inner.Service.{state_at, placed_in}
 use Rattle.board_core.proofs.Placed.{placed-at}
 use Rattle.board_core.proofs.Promised.{confirmed-waits}
 use Rattle.board_core.proofs.Steps.{cancel-by_state, cancel-freed}

@@ -5,9 +5,9 @@ use Rattle.ride_model.specs.declared.settings.Settings.{Settings}
 use Rattle.ride_model.specs.declared.vehicle.Stop.{Stop}
 use Rattle.ride_model.specs.declared.vehicle.Vehicle.{Vehicle}
 use Rattle.ride_model.specs.State.{State}
-use Rattle.board_core.specs.request_book.Book.{with_state}
+use Rattle.board_core.specs.inner.request_book.Book.{with_state}
 use Rattle.ride_model.specs.Step.{raised, served, served_state}
-use Rattle.board_core.specs.Service.{state_at, placed_in}
+use Rattle.board_core.specs.inner.Service.{state_at, placed_in}
 use Rattle.board_core.proofs.Placed.{placed-at, same-read}
 use Rattle.board_core.proofs.Steps.{done-none, done-idle, done-elsewhere, done-after_all, done-served}
 use Rattle.board_core.proofs.service.Service.serve.Goals as goal

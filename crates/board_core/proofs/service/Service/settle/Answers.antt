@@ -3,7 +3,7 @@ use Rattle.std.specs.Prelude.{None}
 use Rattle.ride_model.specs.declared.vehicle.Ride.{Ride}
 use Rattle.ride_model.specs.Batch.{after_outcomes}
 use Rattle.ride_model.specs.Seating.{BatchCopy}
-use Rattle.board_core.specs.Service.{state_at}
+use Rattle.board_core.specs.inner.Service.{state_at}
 use Rattle.board_core.proofs.Settled.{settle-step}
 use Rattle.board_core.proofs.service.Service.settle.Goals as goal
 

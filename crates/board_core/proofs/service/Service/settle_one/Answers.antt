@@ -4,8 +4,8 @@ use Rattle.ride_model.specs.declared.reply.RequestState.TheVariants.{Away as Awa
 use Rattle.ride_model.specs.Batch.{seat_of, outcome_of, after_outcome}
 use Rattle.ride_model.specs.Seating.{BatchCopy}
 use Rattle.ride_model.specs.State.{State}
-use Rattle.board_core.specs.request_book.Book.{with_state}
-use Rattle.board_core.specs.Service.{state_at}
+use Rattle.board_core.specs.inner.request_book.Book.{with_state}
+use Rattle.board_core.specs.inner.Service.{state_at}
 use Rattle.board_core.proofs.Settled.{settled-same, outcome-is}
 use Rattle.board_core.proofs.service.Service.settle_one.Goals as goal
 

@@ -1,7 +1,7 @@
 use Rattle.std.proofs.Common.{ap, sym, subst, ◌∙◌}
 use Rattle.ride_model.specs.Road.{RoadMap}
 use Rattle.ride_model.specs.Seating.{BatchCopy}
-use Rattle.batch_commit.specs.Table.{IsPriceable}
+use Rattle.batch_commit.specs.inner.Table.{IsPriceable}
 use Rattle.board_core.specs.Recorded.{Recorded, state_of}
 use Rattle.board_core.proofs.OpenBatches.{IsOpen, open-priceable, open-committed, open-abandoned}
 use Rattle.board_trials.proofs.boards.days.close.Goals as goal

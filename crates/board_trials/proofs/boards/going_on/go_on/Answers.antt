@@ -1,5 +1,5 @@
 use Rattle.std.proofs.Common.{sym, subst}
-use Rattle.batch_commit.specs.Table.{IsPriceable}
+use Rattle.batch_commit.specs.inner.Table.{IsPriceable}
 use Rattle.board_core.proofs.OpenBatches.{open-priceable}
 use Rattle.board_trials.proofs.boards.going_on.go_on.Goals as goal
 

@@ -1,6 +1,6 @@
 use Rattle.std.proofs.Common.{sym, subst, ◌∙◌}
 use Rattle.ride_model.specs.Road.{RoadMap}
-use Rattle.batch_commit.specs.Table.{IsPriceable}
+use Rattle.batch_commit.specs.inner.Table.{IsPriceable}
 use Rattle.board_core.proofs.OpenBatches.{open-priceable}
 use Rattle.board_trials.proofs.boards.searches.table_of.Goals as goal
 

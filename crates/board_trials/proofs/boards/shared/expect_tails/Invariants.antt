@@ -1,5 +1,5 @@
 use Rattle.turn_lock.specs.Passes.{knowledge}
-use Rattle.fleet_board.specs.Passes.{IsPoint}
+use Rattle.fleet_board.specs.inner.Passes.{IsPoint}
 use Rattle.fleet_board.specs.Sharing.{MayUse}
 use Rattle.board_trials.proofs.boards.shared.expect_tails.Given as goal
 

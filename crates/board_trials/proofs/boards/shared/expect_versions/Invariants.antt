@@ -1,8 +1,8 @@
 use Rattle.std.proofs.Common.{◌≡◌, [], ◌∷◌}
 use Rattle.turn_lock.specs.Passes.{knowledge}
-use Rattle.fleet_board.specs.Passes.{IsPoint}
+use Rattle.fleet_board.specs.inner.Passes.{IsPoint}
 use Rattle.fleet_board.specs.Sharing.{MayUse}
-use Rattle.idle_moves.specs.Watch.{Watches, watched_ids}
+use Rattle.idle_moves.specs.inner.Watch.{Watches, watched_ids}
 use Rattle.board_trials.proofs.boards.shared.expect_versions.Given as goal
 
 -- the watch has gone on with the pass

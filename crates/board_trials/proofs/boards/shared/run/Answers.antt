@@ -1,5 +1,5 @@
 use Rattle.std.proofs.Common.{ap, ◌∙◌}
-use Rattle.idle_moves.specs.Watch.{watched_ids}
+use Rattle.idle_moves.specs.inner.Watch.{watched_ids}
 use Rattle.idle_moves.proofs.Raising.{ids-versions}
 use Rattle.board_trials.proofs.boards.shared.run.Goals as goal
 

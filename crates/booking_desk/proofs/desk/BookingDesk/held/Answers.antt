@@ -1,5 +1,6 @@
 use Rattle.std.proofs.Common.{subst}
-use Rattle.booking_desk.specs.Desk.{DeskState, IsDesk}
+use Rattle.booking_desk.specs.Desk.{DeskState}
+use Rattle.booking_desk.specs.inner.Desk.{IsDesk}
 use Rattle.booking_desk.proofs.Shown.{shown}
 use Rattle.booking_desk.proofs.desk.BookingDesk.held.Goals as goal
 

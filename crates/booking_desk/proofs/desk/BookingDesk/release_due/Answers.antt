@@ -9,8 +9,9 @@ use Rattle.ride_model.specs.declared.command.Command.{Command}
 use Rattle.ride_model.specs.declared.entry.Event.TheVariants.{Fed}
 use Rattle.ride_model.specs.Text.{IsSpelledCommand}
 use Rattle.turn_lock.specs.Passes.{knowledge}
-use Rattle.fleet_board.specs.Passes.{AddsEntry, Known, root_of}
-use Rattle.booking_desk.specs.Desk.{Booking, due_of, is_due}
+use Rattle.fleet_board.specs.inner.Passes.{AddsEntry, Known, root_of}
+use Rattle.booking_desk.specs.Desk.{Booking}
+use Rattle.booking_desk.specs.inner.Desk.{due_of, is_due}
 use Rattle.booking_desk.proofs.Due.{booking-of, none-of}
 use Rattle.booking_desk.proofs.Releasing.{all-released, releases-more, releases-none, some-released, submitted-none}
 use Rattle.booking_desk.proofs.desk.BookingDesk.release_due.Goals as goal

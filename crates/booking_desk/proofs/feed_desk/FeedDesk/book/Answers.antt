@@ -1,9 +1,9 @@
 use Rattle.std.proofs.Common.{◌++◌, ◌∙◌, sym, subst}
-use Rattle.line_text.specs.text_page.Output.{HasPut}
+use Rattle.line_text.specs.inner.text_page.Output.{HasPut}
 use Rattle.booking_desk.specs.declared.replies.BookReply.{BookReply}
 use Rattle.booking_desk.specs.BookText.{reply_text}
 use Rattle.booking_desk.specs.Desk.{DeskState}
-use Rattle.booking_desk.specs.FeedDesk.{AreSpelled}
+use Rattle.booking_desk.specs.inner.FeedDesk.{AreSpelled}
 use Rattle.booking_desk.proofs.BookedLines.{spelled-book}
 use Rattle.booking_desk.proofs.feed_desk.FeedDesk.book.Goals as goal
 

@@ -1,5 +1,5 @@
 use Rattle.std.proofs.Common.{◌++◌, ℕ, subst}
-use Rattle.line_text.specs.text_page.Output.{HasPut}
+use Rattle.line_text.specs.inner.text_page.Output.{HasPut}
 use Rattle.booking_desk.specs.BookText.{held_line}
 use Rattle.booking_desk.proofs.feed_desk.FeedDesk.put_held.Goals as goal
 

@@ -1,5 +1,6 @@
 use Rattle.std.proofs.Common.{◌++◌, ◌∷◌, [], ap, ◌∙◌}
-use Rattle.booking_desk.specs.Desk.{DeskState, after_clock, most_bookings}
+use Rattle.booking_desk.specs.Desk.{DeskState, most_bookings}
+use Rattle.booking_desk.specs.inner.Desk.{after_clock}
 use Rattle.booking_desk.specs.Released.{clock, released_at}
 use Rattle.booking_desk.proofs.Moments.{clock-set, released-due}
 use Rattle.booking_desk.proofs.feed_desk.FeedDesk.set_clock.Goals as goal

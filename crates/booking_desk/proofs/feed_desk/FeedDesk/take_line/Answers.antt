@@ -1,8 +1,8 @@
 use Rattle.std.proofs.Common.{◌≡◌, ◌++◌, true, false, Option, Some, None, refl, sym, ap, subst, ◌∙◌, append-nil, List, ℕ}
 use Rattle.line_text.specs.Fields.{fields_of, is_over_long}
-use Rattle.line_text.specs.text_page.Output.{HasPut}
+use Rattle.line_text.specs.inner.text_page.Output.{HasPut}
 use Rattle.booking_desk.specs.declared.asked.Asked.{Asked}
-use Rattle.booking_desk.specs.Asked.{as_call}
+use Rattle.booking_desk.specs.inner.Asked.{as_call}
 use Rattle.booking_desk.specs.BookLines.{call_of_fields, calls_in}
 use Rattle.booking_desk.specs.BookText.{text_of_lines, with_lf}
 use Rattle.booking_desk.specs.Released.{DeskCall, book, clock, desk_after, unbook}

@@ -1,8 +1,8 @@
 use Rattle.std.proofs.Common.{◌==◌, ◌++◌, Bool, cond, [], not, sym, subst}
-use Rattle.line_text.specs.text_page.Output.{HasPut}
+use Rattle.line_text.specs.inner.text_page.Output.{HasPut}
 use Rattle.booking_desk.specs.BookText.{refusal_line}
 use Rattle.booking_desk.specs.Desk.{Booking, DeskState, id_of}
-use Rattle.booking_desk.specs.FeedDesk.{AreSpelled, IsSpelledBooking}
+use Rattle.booking_desk.specs.inner.FeedDesk.{AreSpelled, IsSpelledBooking}
 use Rattle.model_laws.proofs.plain.Each.{each-filter}
 use Rattle.booking_desk.proofs.feed_desk.FeedDesk.unbook.Goals as goal
 

@@ -1,5 +1,5 @@
 use Rattle.std.proofs.Common.{ℕ, List, ◌++◌}
-use Rattle.city_maker.specs.Growth.{HasJoined}
+use Rattle.city_maker.specs.inner.Growth.{HasJoined}
 use Rattle.city_maker.specs.Roads.{pairs_in_row}
 use Rattle.city_maker.proofs.roads.Roads.join_row.Given as goal
 

@@ -4,7 +4,7 @@ use Rattle.ride_model.specs.declared.command.Command.{Command}
 use Rattle.ride_ports.proofs.ByteLemmas.{Reads-then}
 use Rattle.command_lines.specs.Commands.{before}
 use Rattle.command_lines.specs.declared.forms.FeedForm.{FeedForm}
-use Rattle.command_lines.specs.Feeds.{FeedState, HasGiven, IsStopped}
+use Rattle.command_lines.specs.inner.Feeds.{FeedState, HasGiven, IsStopped}
 use Rattle.command_lines.proofs.ReaderLemmas.{going}
 use Rattle.command_lines.proofs.feeds.FeedReader.next_command.Goals as goal
 

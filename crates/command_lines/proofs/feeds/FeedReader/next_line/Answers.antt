@@ -5,10 +5,10 @@ use Rattle.ride_model.specs.Text.{IsSpelledCommand}
 use Rattle.line_text.specs.Lines.{ended_lines}
 use Rattle.line_text.specs.declared.line_reader.answers.NextLine.{NextLine}
 use Rattle.line_text.specs.declared.line_reader.limits.Limits.{Limits}
-use Rattle.line_text.specs.line_reader.Reader.{IsAtEnd, IsNext}
+use Rattle.line_text.specs.inner.line_reader.Reader.{IsAtEnd, IsNext}
 use Rattle.command_lines.specs.Commands.{before}
-use Rattle.command_lines.specs.Limits.{IsForm}
-use Rattle.command_lines.specs.Feeds.{FeedState, HasCut, HasGiven, IsStopped}
+use Rattle.command_lines.specs.inner.Limits.{IsForm}
+use Rattle.command_lines.specs.inner.Feeds.{FeedState, HasCut, HasGiven, IsStopped}
 use Rattle.command_lines.proofs.ReaderLemmas.{given-end, given-last, given-line, number-last, number-next, stopped}
 use Rattle.command_lines.proofs.feeds.FeedReader.next_line.Goals as goal
 

@@ -7,7 +7,7 @@ use Rattle.board_core.specs.declared.opening.Opening.TheVariants.{Idle, Ended}
 use Rattle.board_core.specs.Recorded.{Recorded, state_of, opened_entry}
 use Rattle.turn_lock.specs.Knowledge.{after_enter}
 use Rattle.turn_lock.specs.Passes.{knowledge}
-use Rattle.fleet_board.specs.Passes.{Known, desk_of}
+use Rattle.fleet_board.specs.inner.Passes.{Known, desk_of}
 use Rattle.fleet_board.proofs.Actors.{DeskFound, desk-found, desk-added, desk-looked}
 use Rattle.fleet_board.proofs.Batches.{GotBatch, got-batch, told-none, opens, none_opened, none-looked}
 use Rattle.fleet_board.proofs.Points.{Added, Looked, added, looked, grown, point-added, point-looked}

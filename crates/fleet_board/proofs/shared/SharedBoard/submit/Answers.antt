@@ -10,7 +10,7 @@ use Rattle.ride_model.specs.State.{State, has_ended}
 use Rattle.ride_model.specs.Step.{step}
 use Rattle.board_core.specs.Recorded.{state_of}
 use Rattle.turn_lock.specs.Passes.{knowledge}
-use Rattle.fleet_board.specs.Passes.{Known}
+use Rattle.fleet_board.specs.inner.Passes.{Known}
 use Rattle.fleet_board.proofs.Actors.{feed-found, feed-added, feed-looked}
 use Rattle.fleet_board.proofs.Points.{Added, Looked, added, looked, point-added, point-looked, before-added}
 use Rattle.fleet_board.proofs.shared.SharedBoard.submit.Given as given

@@ -5,11 +5,11 @@ use Rattle.ride_model.specs.declared.vehicle.Ride.{Ride}
 use Rattle.ride_model.specs.declared.vehicle.Vehicle.{Vehicle}
 use Rattle.ride_model.specs.Fleet.{IsFleet}
 use Rattle.ride_model.specs.Seating.{BatchCopy}
-use Rattle.batch_commit.specs.Table.{IsPriceable}
+use Rattle.batch_commit.specs.inner.Table.{IsPriceable}
 use Rattle.board_core.specs.Recorded.{Recorded, state_of}
-use Rattle.fleet_league.specs.Companies.{CompanyState}
-use Rattle.fleet_league.specs.Prices.{IsNewRide}
-use Rattle.fleet_league.specs.Quoting.{quoting_batch}
+use Rattle.fleet_league.specs.inner.Companies.{CompanyState}
+use Rattle.fleet_league.specs.inner.Prices.{IsNewRide}
+use Rattle.fleet_league.specs.inner.Quoting.{quoting_batch}
 use Rattle.fleet_league.proofs.Batched.{may-price}
 use Rattle.fleet_league.proofs.Legality.{IsLegalBoard, board-fleet, board-settings}
 use Rattle.fleet_league.proofs.company.Company.batch_of.Goals as goal

@@ -3,12 +3,13 @@ use Rattle.ride_ports.specs.declared.outcome.Ran.{Ran}
 use Rattle.ride_ports.specs.Count.{KeepsCount}
 use Rattle.ride_ports.proofs.ByteLemmas.{Reads-none}
 use Rattle.ride_ports.proofs.Counts.{KeepsCount-none}
-use Rattle.line_text.specs.line_reader.FeedRuns.{IsReadWhole, IsUnhindered, ran_of}
+use Rattle.line_text.specs.inner.line_reader.FeedRuns.{ran_of}
+use Rattle.line_text.specs.line_reader.FeedRuns.{IsReadWhole, IsUnhindered}
 use Rattle.line_text.proofs.line_reader.FeedLines.{are-taken, run-still, short-enough}
 use Rattle.command_lines.specs.Limits.{feed_limits}
 use Rattle.fleet_league.specs.league_session.League.{LeagueState}
 use Rattle.fleet_league.specs.league_session.Leagued.{IsLeagueText, IsLeagued}
-use Rattle.fleet_league.specs.league_session.LeagueRuns.{ended_text}
+use Rattle.fleet_league.specs.inner.league_session.LeagueRuns.{ended_text}
 use Rattle.fleet_league.proofs.league_session.LeagueEnds.{is-leagued, leagued-none}
 use Rattle.fleet_league.proofs.league_session.session.league.Goals as goal
 

@@ -5,8 +5,8 @@ use Rattle.line_text.specs.declared.line_reader.answers.NextLine.TheVariants.{Li
 use Rattle.fleet_league.proofs.league_session.LeagueEnds.{fault-stops}
 use Rattle.line_text.proofs.line_reader.FeedLines.{between-none, follows, run-sink_failed}
 use Rattle.command_lines.specs.Limits.{feed_limits}
-use Rattle.fleet_league.specs.league_session.LeagueBoards.{league_of}
-use Rattle.fleet_league.specs.league_session.LeagueRuns.{HasTold}
+use Rattle.fleet_league.specs.inner.league_session.LeagueBoards.{league_of}
+use Rattle.fleet_league.specs.inner.league_session.LeagueRuns.{HasTold}
 use Rattle.fleet_league.proofs.league_session.TextRuns.{scribe-same, told-nothing, told-written}
 use Rattle.fleet_league.proofs.league_session.session.take_lines.Goals as goal
 

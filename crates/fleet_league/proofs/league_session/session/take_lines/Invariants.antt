@@ -1,10 +1,10 @@
 use Rattle.std.proofs.Common.{◌≡◌, ℕ, false, List}
 use Rattle.ride_ports.specs.Count.{KeepsCount}
 use Rattle.line_text.specs.Lines.{ended_lines}
-use Rattle.line_text.specs.line_reader.FeedRuns.{IsBetween}
+use Rattle.line_text.specs.inner.line_reader.FeedRuns.{IsBetween}
 use Rattle.command_lines.specs.Limits.{feed_limits}
-use Rattle.fleet_league.specs.league_session.LeagueBoards.{league_of}
-use Rattle.fleet_league.specs.league_session.LeagueRuns.{HasTold, IsScribe}
+use Rattle.fleet_league.specs.inner.league_session.LeagueBoards.{league_of}
+use Rattle.fleet_league.specs.inner.league_session.LeagueRuns.{HasTold, IsScribe}
 use Rattle.fleet_league.proofs.league_session.session.take_lines.Given as goal
 
 -- the lines so far were taken

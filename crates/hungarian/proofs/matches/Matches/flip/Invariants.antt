@@ -1,5 +1,5 @@
-use Rattle.hungarian.specs.Labels.{rank_at}
-use Rattle.hungarian.specs.Turned.{IsFlippable}
+use Rattle.hungarian.specs.inner.Labels.{rank_at}
+use Rattle.hungarian.specs.inner.Turned.{IsFlippable}
 use Rattle.std.proofs.Common.{ℕ}
 use Rattle.hungarian.proofs.Flipping.{IsFlipping}
 use Rattle.hungarian.proofs.matches.Matches.flip.Given as goal

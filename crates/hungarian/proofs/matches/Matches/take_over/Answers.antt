@@ -1,8 +1,8 @@
 use Rattle.std.proofs.Common.{◌≡◌, subst, sym, refl, ◌∙◌}
 use Rattle.std.specs.Prelude.{Some, None}
 use Rattle.std.proofs.lemmas.List.{get_or_read}
-use Rattle.hungarian.specs.Mates.{mate}
-use Rattle.hungarian.specs.Turned.{IsReady, IsTurned, IsLeft}
+use Rattle.hungarian.specs.inner.Mates.{mate}
+use Rattle.hungarian.specs.inner.Turned.{IsReady, IsTurned, IsLeft}
 use Rattle.hungarian.proofs.Flipping.{flippable-at_column, flippable-at_row, turned-at_row}
 use Rattle.hungarian.proofs.matches.Matches.take_over.Goals as goal
 

@@ -3,7 +3,7 @@ use Rattle.std.specs.Prelude.{Option, None}
 use Rattle.std.specs.Vec.{with_items}
 use Rattle.std.proofs.lemmas.List.{get_or-take, get_or-drop, with_items_is}
 use Rattle.dual_check.specs.Cells.{GridCells, cell_at}
-use Rattle.hungarian.specs.Ways.{IsShortened}
+use Rattle.hungarian.specs.inner.Ways.{IsShortened}
 use Rattle.hungarian.proofs.search.Search.advance.Goals as goal
 
 -- a cell of a row

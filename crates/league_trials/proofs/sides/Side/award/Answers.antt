@@ -4,9 +4,9 @@ use Rattle.ride_model.specs.declared.vehicle.Ride.{Ride}
 use Rattle.ride_model.specs.Text.{IsSpelled, IsSpelledCommand}
 use Rattle.board_core.specs.Recorded.{state_of}
 use Rattle.fleet_league.specs.Awards.{request_of, won_rides}
-use Rattle.fleet_league.specs.Companies.{CompanyState}
-use Rattle.fleet_league.specs.Winning.{MayWin}
-use Rattle.fleet_league.specs.Prices.{IsNewRide}
+use Rattle.fleet_league.specs.inner.Companies.{CompanyState}
+use Rattle.fleet_league.specs.inner.Winning.{MayWin}
+use Rattle.fleet_league.specs.inner.Prices.{IsNewRide}
 use Rattle.fleet_league.proofs.league_session.AwardedMembers.{id-spelled}
 use Rattle.fleet_league.proofs.MayAward.{won-each}
 use Rattle.league_trials.proofs.DaySides.{no-chairs}

@@ -2,8 +2,8 @@ use Rattle.std.proofs.Common.{◌≡◌, length, refl, sym, ap, subst, ◌∙◌
 use Rattle.std.specs.Prelude.{All}
 use Rattle.ride_model.specs.Road.{RoadMap}
 use Rattle.board_core.specs.Recorded.{Recorded, state_of}
-use Rattle.fleet_league.specs.Companies.{CompanyState}
-use Rattle.fleet_league.specs.Winning.{MayPlay}
+use Rattle.fleet_league.specs.inner.Companies.{CompanyState}
+use Rattle.fleet_league.specs.inner.Winning.{MayPlay}
 use Rattle.fleet_league.proofs.Legality.{IsLegalBoard}
 use Rattle.league_trials.specs.Sides.{IsFreshRide}
 use Rattle.league_trials.proofs.DaySides.{may-play}

@@ -1,6 +1,6 @@
 use Rattle.std.proofs.Common.{subst, sym, arith}
 use Rattle.ride_model.specs.declared.vehicle.Vehicle.{Vehicle}
-use Rattle.ride_model.specs.Vehicle.{IsRoutedSomewhere}
+use Rattle.ride_model.specs.inner.Vehicle.{IsRoutedSomewhere}
 use Rattle.league_trials.proofs.DaySides.{routed-at}
 use Rattle.league_trials.proofs.sides.Side.next_of.Goals as goal
 

@@ -5,7 +5,7 @@ use Rattle.ride_model.specs.declared.entry.Event.TheVariants.{Abandoned}
 use Rattle.ride_model.specs.State.{open_batch_numbered}
 use Rattle.board_core.specs.Recorded.{Recorded, state_of}
 use Rattle.log_audit.specs.declared.auditor.Auditor.{Auditor}
-use Rattle.log_audit.specs.OpenBatches.{AreOpen}
+use Rattle.log_audit.specs.inner.OpenBatches.{AreOpen}
 use Rattle.log_audit.proofs.Judged.{auditing-on}
 use Rattle.log_audit.proofs.OpenOnes.{OpenOne, open-one, open-abandoned}
 use Rattle.log_audit.proofs.auditor.Auditor.judge_abandoned.Goals as goal

@@ -10,7 +10,7 @@ use Rattle.board_core.specs.declared.opening.Opening.{Opening}
 use Rattle.board_core.specs.Recorded.{Recorded, state_of, opened_entry}
 use Rattle.board_core.proofs.OpenBatches.{got-next}
 use Rattle.log_audit.specs.declared.verdict.Why.TheVariants.{Batch as ToBatch}
-use Rattle.log_audit.specs.OpenBatches.{AreOpen}
+use Rattle.log_audit.specs.inner.OpenBatches.{AreOpen}
 use Rattle.log_audit.proofs.Judged.{auditing-on, judged}
 use Rattle.log_audit.proofs.Legality.{fault-batch}
 use Rattle.log_audit.proofs.OpenOnes.{none-open, open-opened}

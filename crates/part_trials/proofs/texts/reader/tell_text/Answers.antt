@@ -1,7 +1,7 @@
 use Rattle.std.proofs.Common.{◌∷◌, ◌++◌, [], Some, subst}
 use Rattle.line_text.specs.declared.line_reader.answers.NextLine.{NextLine}
 use Rattle.line_text.specs.declared.line_reader.answers.NextLine.TheVariants.{Line}
-use Rattle.line_text.specs.line_reader.Reader.{IsNext}
+use Rattle.line_text.specs.inner.line_reader.Reader.{IsNext}
 use Rattle.part_trials.proofs.texts.reader.tell_text.Goals as goal
 
 pub lines-init : goal.lines-init

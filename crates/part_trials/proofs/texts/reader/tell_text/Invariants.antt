@@ -1,5 +1,5 @@
 use Rattle.std.proofs.Common.{ℕ, List}
-use Rattle.line_text.specs.line_reader.Reader.{HasGiven}
+use Rattle.line_text.specs.inner.line_reader.Reader.{HasGiven}
 use Rattle.part_trials.proofs.texts.reader.tell_text.Given as goal
 
 -- the lines of some bytes were given

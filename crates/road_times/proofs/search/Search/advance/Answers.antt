@@ -4,8 +4,8 @@ use Rattle.std.proofs.lemmas.List.{get_or-set_same, length-set}
 use Rattle.radix_queue.proofs.Counts.{key_in-within}
 use Rattle.std.proofs.lemmas.List.Elements.{All-contains}
 use Rattle.ride_model.specs.Road.{IsArc}
-use Rattle.road_times.specs.Search.{IsSearch, IsRelaxed}
-use Rattle.road_times.specs.Adjacency.{arc_to, neighbors_at}
+use Rattle.road_times.specs.inner.Search.{IsSearch, IsRelaxed}
+use Rattle.road_times.specs.inner.Adjacency.{arc_to, neighbors_at}
 use Rattle.road_times.proofs.Searches.{search-settled, search-relaxed, least_fits}
 use Rattle.road_times.proofs.search.Search.advance.Goals as goal
 

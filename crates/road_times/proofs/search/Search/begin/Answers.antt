@@ -1,7 +1,7 @@
 use Rattle.std.proofs.Common.{ℕ, length, ap, ◌∙◌}
 use Rattle.std.specs.Prelude.{Some}
-use Rattle.radix_queue.specs.Queue.{lesser_key}
-use Rattle.radix_queue.specs.Buckets.{key_in}
+use Rattle.radix_queue.specs.inner.Queue.{lesser_key}
+use Rattle.radix_queue.specs.inner.Buckets.{key_in}
 use Rattle.road_times.proofs.Lists.{all_none}
 use Rattle.road_times.proofs.Searches.{search-begun}
 use Rattle.road_times.proofs.search.Search.begin.Goals as goal

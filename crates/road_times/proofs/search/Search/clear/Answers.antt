@@ -2,8 +2,8 @@ use Rattle.std.proofs.Common.{◌≡◌, ℕ, length, subst, sym, ap, ◌∙◌,
 use Rattle.std.specs.Prelude.{Option, None}
 use Rattle.std.proofs.lemmas.List.{length-replicate}
 use Rattle.road_times.proofs.Lists.{IsLeft, left-none, listed-none}
-use Rattle.radix_queue.specs.Queue.{Queue}
-use Rattle.road_times.specs.Search.{IsListed}
+use Rattle.radix_queue.specs.inner.Queue.{Queue}
+use Rattle.road_times.specs.inner.Search.{IsListed}
 use Rattle.road_times.proofs.search.Search.clear.Goals as goal
 
 abbrev no_key : Option ℕ

@@ -3,7 +3,7 @@ use Rattle.std.specs.List.{range_with_len}
 use Rattle.std.proofs.lemmas.List.FromFn.{map-range_with_len_more}
 use Rattle.ride_model.specs.Drill.{drive}
 use Rattle.ride_model.specs.State.{State}
-use Rattle.session_run.specs.Drills.{GoesBy}
+use Rattle.session_run.specs.inner.Drills.{GoesBy}
 use Rattle.session_run.proofs.DrillSteps.{goes-none, goes-then}
 use Rattle.session_run.proofs.drills.reports.drive_all.Goals as goal
 

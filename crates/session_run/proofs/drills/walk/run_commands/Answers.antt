@@ -7,7 +7,7 @@ use Rattle.ride_model.specs.Drill.{Follows}
 use Rattle.ride_model.specs.Drill.Follows.{done}
 use Rattle.ride_model.specs.History.{entries_of, fed_commands}
 use Rattle.city_maker.specs.Steps.{steps_with}
-use Rattle.session_run.specs.Drills.{GoesBy}
+use Rattle.session_run.specs.inner.Drills.{GoesBy}
 use Rattle.session_run.proofs.DrillSteps.{goes-none, goes-then, steps-more}
 use Rattle.session_run.proofs.drills.walk.run_commands.Goals as goal
 

@@ -3,12 +3,12 @@ use Rattle.std.specs.Prelude.{◌||◌, not}
 use Rattle.ride_model.specs.Text.{text_of}
 use Rattle.board_core.specs.Recorded.{Recorded}
 use Rattle.idle_moves.specs.AheadText.{sheet_lines}
-use Rattle.line_text.specs.text_page.Output.{HasPut}
-use Rattle.session_run.specs.SessionState.{SessionState}
-use Rattle.session_run.specs.Writing.{reach_of}
-use Rattle.session_run.specs.Planning.{is_whole, sheets_in}
-use Rattle.session_run.specs.Reading.{HasToldBy}
-use Rattle.session_run.specs.Telling.{GoesOnWith}
+use Rattle.line_text.specs.inner.text_page.Output.{HasPut}
+use Rattle.session_run.specs.inner.SessionState.{SessionState}
+use Rattle.session_run.specs.inner.Writing.{reach_of}
+use Rattle.session_run.specs.inner.Planning.{is_whole, sheets_in}
+use Rattle.session_run.specs.inner.Reading.{HasToldBy}
+use Rattle.session_run.specs.inner.Telling.{GoesOnWith}
 use Rattle.session_run.proofs.ToldSheets.{told-first, told-more}
 use Rattle.session_run.proofs.session.Session.tell.Goals as goal
 

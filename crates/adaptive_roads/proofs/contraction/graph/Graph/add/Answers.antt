@@ -2,7 +2,7 @@ use Rattle.std.proofs.Common.{◌≡◌, List, [], ◌∷◌, ◌++◌, length, 
 use Rattle.std.proofs.lemmas.List.{get_or_read, length_push}
 use Rattle.ride_model.specs.declared.network.RoadArc.{RoadArc}
 use Rattle.adaptive_roads.specs.declared.contraction.graph.Chain.{Chain}
-use Rattle.adaptive_roads.specs.contraction.Graph.{IsGraphOf}
+use Rattle.adaptive_roads.specs.inner.contraction.Graph.{IsGraphOf}
 use Rattle.adaptive_roads.proofs.contraction.GraphSteps.{graph-pushed}
 use Rattle.adaptive_roads.proofs.contraction.graph.Graph.add.Goals as goal
 

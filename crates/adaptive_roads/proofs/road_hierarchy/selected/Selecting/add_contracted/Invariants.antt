@@ -1,5 +1,5 @@
 use Rattle.std.proofs.Common.{◌≤◌, length}
-use Rattle.adaptive_roads.specs.road_hierarchy.Selection.{IsSelectingOf, IsFrom}
+use Rattle.adaptive_roads.specs.inner.road_hierarchy.Selection.{IsSelectingOf, IsFrom}
 use Rattle.adaptive_roads.proofs.road_hierarchy.selected.Selecting.add_contracted.Given as goal
 
 abbrev pub invariant-loop-level : goal.invariant-loop-level

@@ -3,7 +3,7 @@ use Rattle.ride_model.specs.History.{fed_commands}
 use Rattle.ride_model.specs.Step.{step}
 use Rattle.ride_model.specs.Text.{IsSpelledCommand}
 use Rattle.board_core.specs.Recorded.{Recorded, state_of}
-use Rattle.fleet_league.specs.league_session.LeagueBoards.{IsDesk}
+use Rattle.fleet_league.specs.inner.league_session.LeagueBoards.{IsDesk}
 use Rattle.fleet_league.proofs.league_session.Desks.{answered, on-ok}
 use Rattle.fleet_league.proofs.league_session.desk.RequestDesk.answer.Goals as goal
 

@@ -6,7 +6,7 @@ use Rattle.ride_model.specs.Batch.{with_request_states}
 use Rattle.ride_model.specs.History.{fed_commands}
 use Rattle.ride_model.specs.State.{request_state}
 use Rattle.board_core.specs.Recorded.{Recorded, state_of}
-use Rattle.fleet_league.specs.league_session.LeagueBoards.{HasOpened}
+use Rattle.fleet_league.specs.inner.league_session.LeagueBoards.{HasOpened}
 use Rattle.fleet_league.proofs.league_session.OpenedRounds.{Closes, closed-few, closed-fits, closed-is, none-ended-yet, still-open}
 use Rattle.fleet_league.proofs.league_session.desk.RequestDesk.close_round.Goals as goal
 

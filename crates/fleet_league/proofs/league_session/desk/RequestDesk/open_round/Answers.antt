@@ -5,10 +5,10 @@ use Rattle.ride_model.specs.Batch.{next_batch, waiting_rides}
 use Rattle.ride_model.specs.History.{fed_commands}
 use Rattle.ride_model.specs.Seating.{BatchCopy}
 use Rattle.ride_model.specs.State.{State}
-use Rattle.model_laws.specs.history_laws.Consistent.{IsOpenBatch}
-use Rattle.board_core.specs.Opening.{opening_at}
+use Rattle.model_laws.specs.inner.history_laws.Consistent.{IsOpenBatch}
+use Rattle.board_core.specs.inner.Opening.{opening_at}
 use Rattle.board_core.specs.Recorded.{Recorded, state_of}
-use Rattle.fleet_league.specs.league_session.LeagueBoards.{HasOpened, IsDesk}
+use Rattle.fleet_league.specs.inner.league_session.LeagueBoards.{HasOpened, IsDesk}
 use Rattle.fleet_league.proofs.league_session.OpenedRounds.{Opens, after-ask, asked_once, fed-same, gets-next, has-opened, rides-are}
 use Rattle.fleet_league.proofs.Reports.{fed-push}
 use Rattle.fleet_league.proofs.WinsAsked.{none-ended, none-open}

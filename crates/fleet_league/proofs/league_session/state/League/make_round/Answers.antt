@@ -8,7 +8,7 @@ use Rattle.board_core.specs.Recorded.{state_of}
 use Rattle.fleet_league.specs.declared.league_session.lines.FeedLine.TheVariants.{League}
 use Rattle.fleet_league.specs.declared.league_session.sheets.Told.TheVariants.{Round}
 use Rattle.fleet_league.specs.league_session.League.{TakesLine, after_round}
-use Rattle.fleet_league.specs.league_session.LeagueBoards.{IsLeague, LeagueBoards, league_of}
+use Rattle.fleet_league.specs.inner.league_session.LeagueBoards.{IsLeague, LeagueBoards, league_of}
 use Rattle.fleet_league.proofs.Legality.{IsLegalBoard}
 use Rattle.fleet_league.proofs.league_session.RoundsMade.{HasMade, MakesNow, first-plays, round-kept, round-made, second-plays}
 use Rattle.fleet_league.proofs.league_session.state.League.make_round.Goals as goal

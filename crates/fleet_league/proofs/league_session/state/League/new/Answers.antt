@@ -1,6 +1,6 @@
 use Rattle.std.proofs.Common.{◌≡◌}
 use Rattle.fleet_league.specs.league_session.League.{league_start}
-use Rattle.fleet_league.specs.league_session.LeagueBoards.{IsLeague, league_of}
+use Rattle.fleet_league.specs.inner.league_session.LeagueBoards.{IsLeague, league_of}
 use Rattle.fleet_league.proofs.league_session.LeagueKept.{league-new}
 use Rattle.fleet_league.proofs.league_session.state.League.new.Goals as goal
 

@@ -1,5 +1,5 @@
 use Rattle.std.proofs.Common.{◌≡◌, take, sym, ap, subst, ◌∙◌}
-use Rattle.line_text.specs.text_page.Output.{HasPut, OutputState, PageState}
+use Rattle.line_text.specs.inner.text_page.Output.{HasPut, OutputState, PageState}
 use Rattle.line_text.proofs.text_page.output.Output.back_to.Goals as goal
 
 pub returns-clause-put : goal.returns-clause-put

@@ -1,5 +1,5 @@
 use Rattle.std.proofs.Common.{◌≡◌, false, sym, ap, ◌∙◌}
-use Rattle.line_text.specs.text_page.Output.{OutputState}
+use Rattle.line_text.specs.inner.text_page.Output.{OutputState}
 use Rattle.line_text.proofs.text_page.OutputLemmas.{put-page}
 use Rattle.line_text.proofs.text_page.output.Output.end.Goals as goal
 

@@ -1,0 +1,12 @@
+pub mod Recorded
+pub mod Opening
+pub mod Given
+pub mod Service
+pub mod Wishes
+pub mod Numbers
+pub mod Kept
+pub mod Legs
+pub mod Reports
+pub mod Marking
+pub mod Settling
+pub mod request_book

@@ -1,0 +1,7 @@
+pub mod Desk
+pub mod Kept
+pub mod Released
+pub mod Steps
+pub mod Releases
+pub mod Asked
+pub mod FeedDesk

@@ -1,0 +1,4 @@
+pub mod Stored
+pub mod Parts
+pub mod Orders
+pub mod Costs

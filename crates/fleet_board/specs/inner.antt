@@ -1,0 +1,5 @@
+pub mod Passes
+pub mod Openings
+pub mod Commits
+pub mod Turns
+pub mod Sets

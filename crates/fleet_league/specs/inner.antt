@@ -1,0 +1,10 @@
+pub mod Prices
+pub mod Quoting
+pub mod Companies
+pub mod Awards
+pub mod Awarding
+pub mod Winning
+pub mod Filling
+pub mod Restriction
+pub mod Round
+pub mod league_session

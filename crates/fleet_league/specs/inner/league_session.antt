@@ -1,0 +1,4 @@
+pub mod Feed
+pub mod League
+pub mod LeagueBoards
+pub mod LeagueRuns

@@ -1,0 +1,9 @@
+pub mod Mates
+pub mod Ways
+pub mod Labels
+pub mod Searching
+pub mod Rises
+pub mod Partial
+pub mod Turned
+pub mod Costs
+pub mod Seats

@@ -1,0 +1,4 @@
+pub mod Standby
+pub mod Filling
+pub mod Raises
+pub mod Watch

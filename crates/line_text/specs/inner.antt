@@ -1,0 +1,5 @@
+pub mod Lines
+pub mod Cutter
+pub mod Reading
+pub mod line_reader
+pub mod text_page

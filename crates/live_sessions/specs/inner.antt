@@ -1,0 +1,4 @@
+pub mod Serving
+pub mod Resuming
+pub mod Actors
+pub mod Stages

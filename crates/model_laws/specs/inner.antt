@@ -1,0 +1,3 @@
+pub mod Sooner
+pub mod Requests
+pub mod history_laws

@@ -1,0 +1,4 @@
+pub mod Start
+pub mod Consistent
+pub mod Closing
+pub mod Finishing

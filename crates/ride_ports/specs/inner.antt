@@ -1,0 +1,9 @@
+pub mod Calls
+pub mod Contents
+pub mod Count
+pub mod Ledger
+pub mod Memory
+pub mod Returned
+pub mod MemFile
+pub mod Sure
+pub mod SureFile

@@ -1,0 +1,5 @@
+pub mod Tables
+pub mod Trips
+pub mod SlackOf
+pub mod Search
+pub mod Offered

@@ -1,0 +1,4 @@
+pub mod Change
+pub mod Aboard
+pub mod Legged
+pub mod First
