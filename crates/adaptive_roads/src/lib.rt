@@ -11,10 +11,10 @@ ghost use Rattle.std.specs.Prelude.{◌≡◌, IfOk, IfSome};
 ghost use Rattle.ride_model.specs.Road.{IsRoadMap};
 ghost use Rattle.adaptive_roads.specs.inner.Made.{IsMadeOf};
 
+use crate::road_hierarchy::Hierarchy;
 use made::Made;
 use making::{Making, Progress, contract_more};
 use ride_model::{Network, NoMemory};
-use crate::road_hierarchy::Hierarchy;
 use std::alloc::Global;
 use std::marker::Model;
 use std::mem;

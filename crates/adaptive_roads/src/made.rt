@@ -2,8 +2,8 @@
 ghost use Rattle.std.specs.Prelude.{◌≡◌, ◌↔◌, IfOk, IfSome, IsTrue};
 ghost use Rattle.adaptive_roads.specs.inner.Made.{IsMadeOf};
 
-use ride_model::{Network, NoMemory};
 use crate::road_hierarchy::Hierarchy;
+use ride_model::{Network, NoMemory};
 use road_times::Roads;
 use std::alloc::Global;
 use std::marker::Model;

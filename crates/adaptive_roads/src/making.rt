@@ -2,10 +2,10 @@
 ghost use Rattle.std.specs.Prelude.{◌≡◌, IfOk};
 ghost use Rattle.adaptive_roads.specs.inner.Made.{IsMadeOf};
 
-use crate::made::Made;
 use crate::contraction::Contraction;
-use ride_model::{Network, NoMemory};
+use crate::made::Made;
 use crate::road_hierarchy::Hierarchy;
+use ride_model::{Network, NoMemory};
 use road_times::Roads;
 use std::alloc::Global;
 use std::marker::Model;

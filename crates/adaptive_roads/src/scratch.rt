@@ -2,8 +2,8 @@
 ghost use Rattle.std.specs.Prelude.{◌≡◌, length, All, IfOk};
 
 use crate::Roads;
-use ride_model::NoMemory;
 use crate::road_hierarchy::SweepRoom;
+use ride_model::NoMemory;
 use std::alloc::Global;
 use std::marker::Model;
 

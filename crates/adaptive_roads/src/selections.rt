@@ -4,8 +4,8 @@ ghost use Rattle.ride_model.specs.Road.{RoadMap, IsRoadMap, travel};
 ghost use Rattle.road_times.specs.inner.Turned.{travel_by};
 ghost use Rattle.adaptive_roads.specs.inner.contraction.Contracted.{IsContractionOf};
 
-use ride_model::NoMemory;
 use crate::road_hierarchy::{Hierarchy, Selected, SweepRoom};
+use ride_model::NoMemory;
 use road_times::Side;
 use std::alloc::Global;
 use std::marker::Model;

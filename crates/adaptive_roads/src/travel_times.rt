@@ -7,10 +7,10 @@ ghost use Rattle.adaptive_roads.specs.inner.Selections.{IsSelectedOf};
 
 use crate::Roads;
 use crate::batch_roads::BatchRoads;
+use crate::road_hierarchy::Hierarchy;
 use crate::scratch::Scratch;
 use crate::selections::Selections;
 use ride_model::NoMemory;
-use crate::road_hierarchy::Hierarchy;
 use road_times::Side;
 use std::alloc::Global;
 use std::marker::Model;

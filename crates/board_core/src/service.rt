@@ -15,9 +15,9 @@ mod settling;
 mod waiting;
 
 use crate::places::Places;
+use crate::request_book::RequestBook;
 use crate::setup::Setup;
 use crate::wishes::Wish;
-use crate::request_book::RequestBook;
 use ride_model::limits::{LATEST_TIME, MOST_BATCHES};
 use ride_model::refusals::{BATCHES_FULL, ODD_TIME};
 use ride_model::{Command, NoMemory, Reply, Vehicle};

@@ -14,10 +14,10 @@ ghost use Rattle.booking_desk.specs.Desk.{Booking};
 use crate::asked::{Asked, asked_by};
 use crate::plain_lines::{put_held, put_line, put_refusal, put_request};
 use crate::{BookReply, BookingDesk, NoMemory};
+use line_text::text_page::Output;
 use ride_model::Command;
 use ride_ports::Sink;
 use std::alloc::Global;
-use line_text::text_page::Output;
 
 /// The code of an unbooking of what is not held.
 const NOT_HELD: u8 = 21;

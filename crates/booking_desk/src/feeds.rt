@@ -40,7 +40,7 @@ pub fn book_feed<S: Source, K: Sink>(alloc: Global, feed: &mut S, out: &mut K) -
         (S.faults feed.old) (S.faults feed.new) }
     ensures sink_faults { KeepsCount result.sink_failed (K.faults out.old) (K.faults out.new) }
 {
-    let Ok((mut reader, mut desk)) = begun(alloc) else {
+    let Ok((mut reader, mut desk)) = begin(alloc) else {
         return ran_of(Some(Stop::NoMemory), false);
     };
     let stop = run_feed(&mut reader, &mut desk, feed, out);
@@ -49,7 +49,7 @@ pub fn book_feed<S: Source, K: Sink>(alloc: Global, feed: &mut S, out: &mut K) -
 }
 
 /// A reader of a feed and a desk, at their start.
-fn begun(alloc: Global) -> Result<(LineReader, FeedDesk), NoMemory>
+fn begin(alloc: Global) -> Result<(LineReader, FeedDesk), NoMemory>
     ensures limits { IfOk result (λ made. made.0.limits ≡ feed_limits) }
     ensures nothing_given { IfOk result (λ made. HasGiven made.0 []) }
     ensures nothing_pending { IfOk result (λ made. made.0.pending ≡ []) }

@@ -8,9 +8,9 @@ ghost use Rattle.booking_desk.specs.inner.Desk.{IsRequest};
 
 use crate::spelling::print_request;
 use line_text::put_number;
+use line_text::text_page::Output;
 use ride_model::Command;
 use ride_ports::Sink;
-use line_text::text_page::Output;
 
 /// Puts bytes as a line.
 pub(crate) fn put_line<K: Sink>(output: &mut Output, out: &mut K, bytes: &[u8])

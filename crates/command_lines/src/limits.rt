@@ -1,6 +1,6 @@
 //! The limits of a feed.
-use line_text::line_reader::Limits;
 use line_text::MOST_LINE;
+use line_text::line_reader::Limits;
 
 /// The limits of a feed: at most 2^26 bytes and 1,000,000 lines.
 pub const FEED_LIMITS: Limits = Limits {

@@ -9,6 +9,7 @@ ghost use Rattle.dispatcher.specs.inner.Sources.{DoesWork, OfReach, OfTexts, Wor
 use crate::files::Texts;
 use crate::status::Status;
 use crate::verdicts::say_found;
+use fleet_league::league_session;
 use ride_ports::{Shelf, Sink, Source};
 use std::alloc::Global;
 use std::thread::Threads;
@@ -100,7 +101,7 @@ fn do_work<R: Threads + Sync, S: Source, K: Sink>(
                 fleet,
                 second,
             } = texts;
-            fleet_league::league_session::league(rt, alloc, &roads, settings, fleet, second, source, out).status()
+            league_session::league(rt, alloc, &roads, settings, fleet, second, source, out).status()
         }
         Work::Book => booking_desk::book_feed(alloc, source, out).status(),
     }

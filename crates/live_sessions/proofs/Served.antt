@@ -27,6 +27,18 @@ use Rattle.live_sessions.specs.inner.Stages.{IsClosed, IsReady, LeavesActors, bo
 use Rattle.live_sessions.proofs.Sessions.{served, text-joined, written-out}
 use Rattle.live_sessions.proofs.StageLemmas.{FeederOf, began, desks-whole, drivers-of, drivers-sink, feeder-sink, feeds-whole, goes_on, riders-of}
 
+-- what is said of a session where either feed or a desk says it: it is said of no feed, or of one where no desk says it
+of-no-feed : (riders drivers desks : Bool) → (riders || drivers) || (desks || false) ≡ false → (riders ≡ false) × (drivers ≡ false)
+of-no-feed riders drivers desks none = or_parts riders drivers (or_parts (riders || drivers) (desks || false) none).0
+
+of-a-feed : (riders drivers desks : Bool) → desks ≡ false → (riders || drivers) || (desks || false) ≡ true
+    → (riders ≡ true) ⊎ (drivers ≡ true)
+of-a-feed riders drivers desks silent some =
+    elim (or_cases (riders || drivers) (desks || false) some) [
+      | inl feed ↦ or_cases riders drivers feed
+      | inr other ↦ absurd (cc (other, ap (λ b. b || false) silent))
+    ]
+
 -- what kept a session from running whole, by its parts
 module _ (answers : Answers) (sink_failed broken_off : Bool) where
   abbrev session : Ran
@@ -56,31 +68,19 @@ module _ (answers : Answers) (sink_failed broken_off : Bool) where
 
   -- no source failed, and one did
   pub sources-sound : session.source_failed ≡ false → (answers.riders.source_failed ≡ false) × (answers.drivers.source_failed ≡ false)
-  sources-sound sound =
-      or_parts answers.riders.source_failed answers.drivers.source_failed
-      (or_parts (answers.riders.source_failed || answers.drivers.source_failed) (answers.desks.source_failed || false) sound).0
+  sources-sound = of-no-feed answers.riders.source_failed answers.drivers.source_failed answers.desks.source_failed
 
   pub source-failed : answers.desks.source_failed ≡ false → session.source_failed ≡ true
       → (answers.riders.source_failed ≡ true) ⊎ (answers.drivers.source_failed ≡ true)
-  source-failed desks failed =
-      elim (or_cases (answers.riders.source_failed || answers.drivers.source_failed) (answers.desks.source_failed || false) failed) [
-        | inl feed ↦ or_cases answers.riders.source_failed answers.drivers.source_failed feed
-        | inr other ↦ absurd (cc (other, ap (λ b. b || false) desks))
-      ]
+  source-failed = of-a-feed answers.riders.source_failed answers.drivers.source_failed answers.desks.source_failed
 
   -- no feed was too long, and one was
   pub lengths-fit : session.too_long ≡ false → (answers.riders.too_long ≡ false) × (answers.drivers.too_long ≡ false)
-  lengths-fit fits =
-      or_parts answers.riders.too_long answers.drivers.too_long
-      (or_parts (answers.riders.too_long || answers.drivers.too_long) (answers.desks.too_long || false) fits).0
+  lengths-fit = of-no-feed answers.riders.too_long answers.drivers.too_long answers.desks.too_long
 
   pub length-passed : answers.desks.too_long ≡ false → session.too_long ≡ true
       → (answers.riders.too_long ≡ true) ⊎ (answers.drivers.too_long ≡ true)
-  length-passed desks long =
-      elim (or_cases (answers.riders.too_long || answers.drivers.too_long) (answers.desks.too_long || false) long) [
-        | inl feed ↦ or_cases answers.riders.too_long answers.drivers.too_long feed
-        | inr other ↦ absurd (cc (other, ap (λ b. b || false) desks))
-      ]
+  length-passed = of-a-feed answers.riders.too_long answers.drivers.too_long answers.desks.too_long
 
   -- the sink failed where the log says so
   pub sink-is : answers.riders.sink_failed ≡ false → answers.drivers.sink_failed ≡ false → answers.desks.sink_failed ≡ false

@@ -35,10 +35,10 @@ pub(crate) struct Living {
 pub(crate) fn living_on(board: &Board<'_>) -> Living
     ensures { AreLiving board.now result }
 {
-    let mut drivers = start_on(board, 2);
+    let mut drivers = feed_start(board, 2);
     drivers.lives &= board.feeds() == 2;
     Living {
-        riders: start_on(board, 1),
+        riders: feed_start(board, 1),
         drivers,
         first: !board.has_ended(Actor::Desk(1)),
         second: !board.has_ended(Actor::Desk(2)),
@@ -65,7 +65,7 @@ fn has_few_commands(entries: &[Entry], feed: u8) -> bool
 }
 
 // How a feed of a board stands. It may have as many lines as a feed that begins, less those that were answered before.
-fn start_on(board: &Board<'_>, feed: u8) -> FeedStart
+fn feed_start(board: &Board<'_>, feed: u8) -> FeedStart
     ensures { IsFeedStart board.now feed result }
 {
     let answered = count_commands(board.entries(), feed);

@@ -16,17 +16,17 @@ ghost use Rattle.live_sessions.specs.inner.Stages.{IsReady, MayRunActors, board_
 use crate::actors::run_actors;
 use crate::outcomes::ran_of;
 use crate::shared::Shared;
-use crate::stages::{Stage, begun, closed};
+use crate::stages::{Stage, close, prepare};
 use adaptive_roads::Roads;
 use batch_commit::Batch;
 use board_core::Board;
+use line_text::text_page::Output;
 use ride_model::Entry;
 use ride_ports::{Failed, Gate, Ran, Sink, Source};
 use session_loops::{Scribed, put_all, put_head};
 use std::alloc::Global;
 use std::sync::Wait;
 use std::thread::Threads;
-use line_text::text_page::Output;
 
 /// What a session goes on from: a board as it stands, the batches that its desks have open, and how many workers each has.
 #[derive(Drop)]
@@ -70,7 +70,7 @@ pub fn resume<'r, R: Threads + Wait + Sync, S: Source, K: Sink, G: Gate>(
         (feed_run S.left S.faults drivers.old drivers.new) result }
     ensures sink_faults { KeepsCount result.sink_failed (K.faults out.old) (K.faults out.new) }
 {
-    match begun(alloc, roads, interrupted) {
+    match prepare(alloc, roads, interrupted) {
         Ok(stage) => run(rt, alloc, stage, riders, drivers, out, gate),
         Err(_) => Ran {
             sink_failed: false,
@@ -125,7 +125,7 @@ fn run<'r, R: Threads + Wait + Sync, S: Source, K: Sink, G: Gate>(
         log,
     };
     let answers = run_actors(&shared, &mut actors, riders, drivers, out, head_failed);
-    let board = closed(board, actors);
+    let board = close(board, actors);
     put_rest(&mut output, out, board.entries(), &answers.scribed, log);
     ran_of(&answers, output.failed(), broken_off)
 }

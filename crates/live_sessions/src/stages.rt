@@ -13,10 +13,10 @@ use adaptive_roads::Roads;
 use batch_commit::Batch;
 use board_core::Board;
 use fleet_board::{ActorPass, PassSet, SharedBoard};
+use line_text::text_page::Output;
 use pricing_workers::Pricer;
 use ride_model::NoMemory;
 use std::alloc::Global;
-use line_text::text_page::Output;
 
 /// A board, its actors, and its log on the way out, with what the log's head names.
 #[derive(Drop)]
@@ -32,7 +32,7 @@ pub(crate) struct Stage<'r> {
 }
 
 /// Takes all memory that a session needs before its actors run.
-pub(crate) fn begun<'r>(
+pub(crate) fn prepare<'r>(
     alloc: Global,
     roads: &'r Roads,
     interrupted: Interrupted<'r>,
@@ -174,7 +174,7 @@ fn desk_of<'r>(
 }
 
 /// Takes the board back from its actors.
-pub(crate) fn closed<'r>(board: SharedBoard<'r>, actors: Actors<'r>) -> Board<'r>
+pub(crate) fn close<'r>(board: SharedBoard<'r>, actors: Actors<'r>) -> Board<'r>
     requires { MayClose board actors }
     ensures { IsClosed actors.entry result }
 {

@@ -3,9 +3,9 @@ ghost use Rattle.std.specs.Prelude.{◌≡◌, [], IfOk};
 
 use adaptive_roads::Roads;
 use board_core::Board;
+use plan_trials::trial_town::fleet;
 use ride_model::{NoMemory, Settings};
 use std::alloc::Global;
-use plan_trials::trial_town::fleet;
 
 const SETTINGS: Settings = Settings {
     batch: 1,

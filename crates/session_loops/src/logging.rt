@@ -3,9 +3,9 @@ ghost use Rattle.std.specs.Prelude.{◌≡◌, [], All};
 ghost use Rattle.ride_model.specs.Text.{HasLine, IsOneOrTwo, entry_line, entry_lines, head_line};
 ghost use Rattle.line_text.specs.inner.text_page.Output.{HasPut, IsFresh, Puts};
 
+use line_text::text_page::Output;
 use ride_model::Entry;
 use ride_ports::Sink;
-use line_text::text_page::Output;
 use trip_log::{print_entry, print_head};
 
 /// Writes the head of a log of so many feeds and desks.

@@ -10,11 +10,11 @@ ghost use Rattle.session_loops.specs.inner.Loops.{HasScribed, HasScribedSome, Ha
 
 use crate::logging::put_all;
 use fleet_board::{ActorPass, SharedBoard, Tail};
+use line_text::text_page::Output;
 use ride_model::{Entry, NoMemory};
 use ride_ports::{Failed, Sink};
 use std::alloc::{AllocError, Global};
 use std::sync::Wait;
-use line_text::text_page::Output;
 
 /// The most entries that are copied while the board's turn is held.
 const MOST: u32 = 1024;

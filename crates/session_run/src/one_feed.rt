@@ -59,7 +59,7 @@ pub(crate) fn run_one_feed<R: Threads + Sync, S: Source, K: Sink>(
     // These calls tell that the map and the fleet are within their limits.
     let _nodes = roads.nodes();
     let _vehicles = fleet.vehicles();
-    let Ok((mut session, mut reader)) = begun(rt, alloc, roads, settings, fleet, writes) else {
+    let Ok((mut session, mut reader)) = prepare(rt, alloc, roads, settings, fleet, writes) else {
         return Ran {
             sink_failed: false,
             no_memory: true,
@@ -81,7 +81,7 @@ pub(crate) fn run_one_feed<R: Threads + Sync, S: Source, K: Sink>(
 }
 
 // A session at its start, and the reader of its feed.
-fn begun<'r>(
+fn prepare<'r>(
     rt: &impl Threads,
     alloc: Global,
     roads: &'r Roads,

@@ -26,13 +26,13 @@ use crate::tools::Tools;
 use crate::writes::Writes;
 use adaptive_roads::Roads;
 use board_core::Board;
+use line_text::text_page::Output;
 use ride_model::{Actor, Command, Ending, Entry, Fleet, NoMemory, Settings};
 use ride_ports::Sink;
 use session_loops::{put_all, put_head};
 use std::alloc::Global;
 use std::marker::Model;
 use std::thread::Threads;
-use line_text::text_page::Output;
 
 /// A board of one feed and one desk, what its desk works with, and what is written of it: its log, or the sheets of its batches.
 pub(crate) struct Session<'r> {

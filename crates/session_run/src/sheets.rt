@@ -3,9 +3,9 @@ ghost use Rattle.idle_moves.specs.AheadText.{head_line, last_line, sheet_line};
 ghost use Rattle.line_text.specs.inner.text_page.Output.{HasPut, IsFresh, Puts};
 
 use idle_moves::{MoveSheet, print_end, print_head, print_sheet};
+use line_text::text_page::Output;
 use ride_model::Ending;
 use ride_ports::Sink;
-use line_text::text_page::Output;
 
 /// Writes the first line of the sheets within a reach.
 pub(crate) fn put_reach<K: Sink>(output: &mut Output, out: &mut K, reach: u64)

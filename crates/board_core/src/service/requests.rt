@@ -12,10 +12,10 @@ ghost use Rattle.board_core.specs.inner.Wishes.{ride_of, wish_step, joins_nodes,
 ghost use Rattle.board_core.specs.inner.request_book.Book.{request_of};
 
 use crate::plans::free;
+use crate::request_book::RequestBook;
 use crate::service::Service;
 use crate::setup::Setup;
 use crate::wishes::Wish;
-use crate::request_book::RequestBook;
 use ride_model::limits::{LATEST_TIME, LONGEST_RIDE, MOST_CHAIRS, MOST_SEATS};
 use ride_model::refusals::{
     END_OFF_MAP, KNOWN_ID, ODD_LOAD, ODD_TIME, REQUEST_CLOSED, REQUESTS_FULL, RIDER_ABOARD,

@@ -12,11 +12,11 @@ ghost use Rattle.board_core.specs.inner.Given.{Given};
 ghost use Rattle.board_core.specs.inner.Marking.{marked_in, state_in, still_in};
 ghost use Rattle.board_core.specs.inner.Service.{state_at, batch_at};
 
+use crate::request_book::RequestBook;
 use crate::service::{Service, copies_of};
 use crate::setup::Setup;
 use arrayvec::ArrayVec;
 use batch_commit::Batch;
-use crate::request_book::RequestBook;
 use ride_model::{Fleet, NoMemory, RequestState, Ride};
 use std::alloc::Global;
 

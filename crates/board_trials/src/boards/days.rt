@@ -12,6 +12,7 @@ ghost use Rattle.board_core.specs.Recorded.{state_of};
 use adaptive_roads::Roads;
 use batch_commit::Batch;
 use board_core::{Board, Opening};
+use plan_trials::trial_town::{fleet, settings};
 use pricing_workers::{Pricer, seat_batch};
 use ride_model::{Actor, Command, Ending, Entry, NoMemory, Reply, RequestState};
 use ride_ports::{MemSink, OpenGate};
@@ -19,7 +20,6 @@ use std::alloc::Global;
 use std::marker::Model;
 use std::process::Abort;
 use std::thread::Threads;
-use plan_trials::trial_town::{fleet, settings};
 use trip_log::print_entry;
 
 /// The numbers of a command are below this.

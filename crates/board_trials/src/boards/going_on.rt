@@ -9,6 +9,7 @@ use adaptive_roads::Roads;
 use batch_commit::Batch;
 use board_core::{Board, Opening};
 use fleet_board::{PassSet, SharedBoard, Tail};
+use plan_trials::trial_town::{fleet, settings};
 use pricing_workers::Pricer;
 use ride_model::{Actor, Command, Ending, Event};
 use ride_ports::OpenGate;
@@ -16,7 +17,6 @@ use session_loops::desk_loop;
 use std::process::Abort;
 use std::sync::Wait;
 use std::thread::Threads;
-use plan_trials::trial_town::{fleet, settings};
 
 /// Request 7, the ask and the batch that is opened; and then the end of the feed, the commit and the end of the desk.
 const ENTRIES_BEFORE: u64 = 3;

@@ -8,12 +8,12 @@ use super::roads;
 use adaptive_roads::Roads;
 use batch_commit::Batch;
 use log_audit::{Restoration, Restored, due_line, restore};
+use plan_trials::trial_town::settings;
 use ride_model::{Fleet, Settings};
 use ride_ports::SureSource;
 use std::alloc::Global;
 use std::process::Abort;
 use std::thread::Threads;
-use plan_trials::trial_town::settings;
 
 /// What a log gives back: a board of so many entries with the numbers of its open batches, 0 where a desk has none; or its first wrong
 /// line.

@@ -19,6 +19,7 @@ use board_core::{Board, Opening};
 use booking_desk::BookingDesk;
 use fleet_board::{ActorPass, PassSet, SharedBoard};
 use idle_moves::{Move, VersionWatch};
+use plan_trials::trial_town::{fleet, settings};
 use pricing_workers::{Pricer, seat_batch};
 use ride_model::{Command, Entry, Event, NoMemory, Outcome};
 use ride_ports::OpenGate;
@@ -26,7 +27,6 @@ use std::alloc::Global;
 use std::process::Abort;
 use std::sync::Wait;
 use std::thread::Threads;
-use plan_trials::trial_town::{fleet, settings};
 
 /// What happens on a shared board of one vehicle, one feed and so many desks, and what is read of it then.
 struct Play {

@@ -4,8 +4,8 @@ ghost use Rattle.dual_check.specs.Grid.{pairing_cost};
 ghost use Rattle.board_core.specs.Recorded.{state_of};
 ghost use Rattle.fleet_league.specs.inner.league_session.League.{IsRoundBetween, commit_cost, part_between};
 
-use dual_check::Paired;
 use crate::{Brief, Company};
+use dual_check::Paired;
 use ride_model::Ride;
 
 /// What the commits of a round cost, with a penalty for each ride that the round leaves out, is what the round costs, which is the

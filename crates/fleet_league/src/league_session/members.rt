@@ -14,10 +14,10 @@ ghost use Rattle.fleet_league.specs.Prices.{quote_of};
 ghost use Rattle.fleet_league.specs.inner.Quoting.{quoting_batch};
 ghost use Rattle.fleet_league.specs.inner.Round.{IsPriced};
 
+use crate::{Brief, Company, NoMemory, PricedQuote, table_of_won};
 use adaptive_roads::Roads;
 use batch_commit::PriceTable;
 use board_core::Board;
-use crate::{Brief, Company, NoMemory, PricedQuote, table_of_won};
 use pricing_workers::Pricer;
 use ride_model::{Command, Fleet, Reply, Ride, Settings};
 use std::alloc::Global;

@@ -2,8 +2,8 @@
 ghost use Rattle.std.specs.Prelude.{◌≡◌, ◌++◌, ◌∷◌, [], option_and_then, slice_get, IfOk, OnOk};
 ghost use Rattle.fleet_league.specs.league_session.RoundParts.{columns_of_quote, paid_columns, row_of, rows_of, union_columns};
 
-use dual_check::Paired;
 use crate::{NoMemory, Quote};
+use dual_check::Paired;
 use ride_model::Ride;
 use std::alloc::Global;
 

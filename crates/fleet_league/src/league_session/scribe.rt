@@ -19,11 +19,11 @@ use crate::league_session::state::League;
 use crate::league_session::stops::ending_of;
 use adaptive_roads::Roads;
 use line_text::line_reader::Stop;
+use line_text::text_page::Output;
 use ride_model::{Fleet, NoMemory, Settings};
 use ride_ports::Sink;
 use std::alloc::Global;
 use std::thread::Threads;
-use line_text::text_page::Output;
 
 /// A league, its text on the way out, and how many lines of the feed were taken.
 pub(crate) struct Scribe<'r> {

@@ -55,7 +55,7 @@ pub fn league<R: Threads + Sync, S: Source, K: Sink>(
         (S.faults feed.old) (S.faults feed.new) }
     ensures sink_faults { KeepsCount result.sink_failed (K.faults out.old) (K.faults out.new) }
 {
-    let Ok((mut reader, mut scribe)) = begun(alloc, roads, settings, first, second) else {
+    let Ok((mut reader, mut scribe)) = begin(alloc, roads, settings, first, second) else {
         return ran_of(Some(Stop::NoMemory), false);
     };
     let stop = run_feed(rt, &mut reader, &mut scribe, feed, out);
@@ -64,7 +64,7 @@ pub fn league<R: Threads + Sync, S: Source, K: Sink>(
 }
 
 // A reader of a feed and a scribe, at their start.
-fn begun<'r>(
+fn begin<'r>(
     alloc: Global,
     roads: &'r Roads,
     settings: Settings,

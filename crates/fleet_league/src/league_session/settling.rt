@@ -11,8 +11,8 @@ ghost use Rattle.fleet_league.specs.league_session.RoundParts.{brief_of};
 use crate::league_session::parts::{brief_of, sheet_of};
 use crate::league_session::rows::{columns_of, paid_columns, rows_of};
 use crate::league_session::sheets::RoundSheet;
-use dual_check::Paired;
 use crate::{Brief, NoMemory, Quote, settle};
+use dual_check::Paired;
 use ride_model::Ride;
 use std::alloc::Global;
 

@@ -8,9 +8,9 @@ ghost use Rattle.line_text.specs.declared.line_reader.answers.NextLine.TheVarian
 ghost use Rattle.line_text.specs.declared.line_reader.answers.ReadStop.TheVariants.{SourceFailed, TooLong};
 ghost use Rattle.line_text.specs.inner.line_reader.Reader.{HasGiven, HasRead, IsCutOff, IsFilled, IsLast, IsNext, IsStopped, is_fault};
 
+use crate::LineCutter;
 use crate::line_reader::piece::Piece;
 use crate::line_reader::{Limits, NextLine, NoMemory, ReadStop};
-use crate::LineCutter;
 use ride_ports::Source;
 use std::alloc::Global;
 use std::marker::Model;

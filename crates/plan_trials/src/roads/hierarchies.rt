@@ -4,9 +4,9 @@ ghost use Rattle.adaptive_roads.specs.inner.contraction.Contracted.{IsContractio
 ghost use Rattle.adaptive_roads.specs.inner.road_hierarchy.Selection.{IsSelectionOf};
 
 use super::maps::{MAPS, SmallMap, all_nodes, contraction_of, expect_line, network};
+use adaptive_roads::road_hierarchy::*;
 use adaptive_roads::{Roads, TravelTimes};
 use ride_model::Network;
-use adaptive_roads::road_hierarchy::*;
 use road_times::Side;
 use std::alloc::Global;
 use std::process::Abort;

@@ -5,9 +5,9 @@ ghost use Rattle.ride_model.specs.declared.network.RoadArc.{RoadArc};
 ghost use Rattle.plan_trials.specs.roads.Hostile.{IsHostile};
 
 use super::maps::contraction_of;
+use adaptive_roads::road_hierarchy::{Hierarchy, Selected, SweepRoom};
 use adaptive_roads::{BatchRoads, TravelTimes};
 use ride_model::{Network, RoadArc};
-use adaptive_roads::road_hierarchy::{Hierarchy, Selected, SweepRoom};
 use road_times::{Roads, Scratch, Side};
 use std::alloc::Global;
 use std::process::Abort;

@@ -1,12 +1,12 @@
 //! What is said on standard error: of a run that was not whole, in one line, and of a session that cannot be live. No clause speaks of
 //! it.
+use crate::RESUMPTION;
 use crate::run_messages::options::{tell_options, tell_words};
 use crate::run_messages::overheard::Overheard;
 use crate::run_messages::programs::Program;
 use crate::run_messages::texts::{tell_fleet, tell_map};
 use crate::run_messages::verdicts::{LogNames, tell_wrong};
 use ride_ports::{FileFault, FileShelf, StdoutSink};
-use crate::RESUMPTION;
 use std::fmt::{self, Display, Formatter};
 use std::io;
 use std::rt::Files;

@@ -7,10 +7,10 @@ use adaptive_roads::{Roads, TravelTimes};
 use arrayvec::ArrayVec;
 use batch_commit::{Answer, Batch};
 use idle_moves::{Move, MoveSheet, plan_moves};
+use plan_trials::trial_town::settings;
 use ride_model::{AmountList, Fleet, Ride, Seat, SeatList, Stop, Vehicle};
 use std::alloc::Global;
 use std::process::Abort;
-use plan_trials::trial_town::settings;
 
 /// What a vehicle does.
 enum Doing {

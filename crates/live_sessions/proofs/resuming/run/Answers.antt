@@ -19,10 +19,10 @@ use Rattle.live_sessions.proofs.resuming.run.Goals as goal
 -- the whole text was logged
 logged : (g : given.Over) (c : goal.After-drop-output-inside g)
     → HasPut (g.K.Sink.written c.args.out.now) (g.K.Sink.written c.put_rest.new.out) (g.K.Sink.faults c.args.out.now)
-    (g.K.Sink.faults c.put_rest.new.out) c.put_rest.new.output (text_of c.args.stage.log c.args.stage.feeds c.args.stage.desks c.closed-board.result.history)
+    (g.K.Sink.faults c.put_rest.new.out) c.put_rest.new.output (text_of c.args.stage.log c.args.stage.feeds c.args.stage.desks c.close-board.result.history)
 logged g c =
     let stage = c.args.stage in
-    let history : List Entry = c.closed-board.result.history in
+    let history : List Entry = c.close-board.result.history in
     let entries : c.entries.result.now ≡ history = c.entries.ensures.items in
     let head = put-same (g.K.Sink.written c.args.out.now) (g.K.Sink.written c.put_head.new.out) (g.K.Sink.faults c.args.out.now)
     (g.K.Sink.faults c.put_head.new.out) c.put_head.new.output (bare c.failed-head_failed.result) (head_line stage.log stage.feeds stage.desks)
@@ -39,8 +39,8 @@ logged g c =
     c.failed-head_failed.result (g.K.Sink.written c.args.out.now) (g.K.Sink.written c.put_head.new.out)
     (g.K.Sink.written c.run_actors-answers.new.out) (g.K.Sink.written c.put_rest.new.out) (g.K.Sink.faults c.args.out.now)
     (g.K.Sink.faults c.put_head.new.out) (g.K.Sink.faults c.run_actors-answers.new.out) (g.K.Sink.faults c.put_rest.new.out)
-    c.run_actors-answers.result c.run_actors-answers.new.actors c.requires.ready c.run_actors-answers.ensures c.closed-board.result
-    c.closed-board.ensures c.put_rest.new.output head rest
+    c.run_actors-answers.result c.run_actors-answers.new.actors c.requires.ready c.run_actors-answers.ensures c.close-board.result
+    c.close-board.ensures c.put_rest.new.output head rest
 
 -- what the drivers' feed leaves of sink and faults
 drivers_sink : (g : given.Over) (c : goal.After-drop-output-inside g) → c.run_actors-answers.result.drivers.sink_failed ≡ false
@@ -81,7 +81,7 @@ returns-clause-resumed g c =
     (g.K.Sink.written c.put_head.new.out) (g.K.Sink.written c.run_actors-answers.new.out) (g.K.Sink.written c.put_rest.new.out)
     (g.K.Sink.faults c.args.out.now) (g.K.Sink.faults c.put_head.new.out) (g.K.Sink.faults c.run_actors-answers.new.out)
     (g.K.Sink.faults c.put_rest.new.out) c.run_actors-answers.result c.run_actors-answers.new.actors c.requires.ready
-    c.run_actors-answers.ensures c.closed-board.result c.closed-board.ensures c.put_rest.new.output c.requires.feeds c.requires.desks
+    c.run_actors-answers.ensures c.close-board.result c.close-board.ensures c.put_rest.new.output c.requires.feeds c.requires.desks
     c.requires.log c.put_rest.ensures.nothing_left (logged g c))
 
 -- whether a source failed, by what the loops answered

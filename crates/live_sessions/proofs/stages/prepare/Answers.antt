@@ -12,7 +12,7 @@ use Rattle.live_sessions.specs.declared.stages.Stage.{Stage}
 use Rattle.live_sessions.specs.inner.Stages.{IsDeskOf, IsEquipped, IsFeederOf, IsFeedStart, MayRunActors}
 use Rattle.live_sessions.proofs.StageLemmas.{at-some, equip, four, of-bare, second-count, second-ready}
 use Rattle.live_sessions.proofs.Starts.{may-run}
-use Rattle.live_sessions.proofs.stages.begun.Goals as goal
+use Rattle.live_sessions.proofs.stages.prepare.Goals as goal
 
 pub returns-clause-board : goal.returns-clause-board
 returns-clause-board c =
