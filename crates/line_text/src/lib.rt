@@ -1,5 +1,6 @@
 //! Lines of a text that comes in any pieces, the reading of a source line by line, the fields of
-//! a line, and decimal numbers. Only `LineCutter::new` takes memory, and `read_lines` by it.
+//! a line, and decimal numbers; a reader that gives lines as they come (`line_reader`), and the page that text is put on before
+//! it is written (`text_page`). Only the calls `new` take memory, and `read_lines` by one of them.
 #![tactic(auto)]
 
 mod cutter;

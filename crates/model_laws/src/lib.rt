@@ -1,4 +1,5 @@
-//! Laws of the definitions of ride dispatch. Each is the contract of a function that does nothing.
+//! Laws of the definitions of ride dispatch, and in `history_laws` of every legal history. Each is the contract of a function that does
+//! nothing. Lemmas of options, numbers and lists, which speak of no word of dispatch, stand in `proofs/plain/`.
 #![tactic(auto)]
 
 pub mod batches;

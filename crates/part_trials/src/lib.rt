@@ -1,4 +1,4 @@
-//! Trials of lists, queues, locks and the book of requests. It has nothing but tests.
+//! Trials of texts and of the outside (`texts`), and of lists, queues, locks and the book of requests. It has nothing but tests.
 #![tactic(auto)]
 
 #[cfg(test)]

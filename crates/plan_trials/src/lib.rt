@@ -1,4 +1,5 @@
-//! Trials of plans, offers and cities. Its library is the small roads, rides and vehicles that tests of seatings and the bench share.
+//! Trials of roads (`roads`), plans, offers and cities, and rows worked by hand (`worked_rows`). Its library is the small roads, rides and
+//! vehicles and the town (`trial_town`) that other trials and the bench share.
 #![tactic(auto)]
 
 #[cfg(test)]

@@ -1,4 +1,5 @@
-//! The second top call: a session goes on from its log, files by a shelf, and one sink.
+//! The second top call: a session goes on from its log, files by a shelf, and one sink; and what holds of the log of every session
+//! (`session_laws`).
 #![tactic(auto)]
 
 mod feeds;

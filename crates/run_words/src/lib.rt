@@ -1,4 +1,5 @@
-//! The words after the program's name: what they ask for, by the command-line library's own definition of what a command takes.
+//! The words after the program's name: what they ask for, by the command-line library's own definition of what a command takes. What
+//! the programs say on standard error of words, files and logs is its module `run_messages`.
 #![tactic(auto)]
 
 ghost use Rattle.std.specs.Prelude.{◌≡◌, codes, map, string_bytes, IfOk};

@@ -1,4 +1,5 @@
-//! Trials of batches, certificates, pairings, seatings and prices: worked cases, and small batches for them. It has nothing but tests.
+//! Trials of batches, certificates, pairings, seatings and prices: worked cases, and small batches for them; and of bookings and orders
+//! to idle vehicles (`desk`). It has nothing but tests.
 #![tactic(auto)]
 
 #[cfg(test)]

@@ -1,4 +1,4 @@
-//! The trip log, printed and read line by line. Only `read_entry` takes memory.
+//! The trip log, printed and read line by line, and how long it can be (`limit_laws`). Only `read_entry` takes memory.
 #![tactic(auto)]
 
 mod comparison;
