@@ -1,10 +1,6 @@
 -- Networks are compared arc by arc.
-use Rattle.std.proofs.Common.{◌≡◌, ℕ, Bool, List, sym, ◌∙◌, ap}
-use Rattle.std.specs.Prelude.{◌==◌, ◌&&◌}
+use Rattle.adaptive_roads.proofs.Common.{◌≡◌, ℕ, Bool, List, sym, ◌∙◌, ap, ◌==◌, ◌&&◌, Decides-and, Decides-eqb, Decides-like, RoadArc, RoadMap}
 use Rattle.std.specs.Bool.{Decides}
-use Rattle.std.proofs.lemmas.Bool.Decides.{Decides-and, Decides-eqb, Decides-like}
-use Rattle.ride_model.specs.declared.network.RoadArc.{RoadArc}
-use Rattle.ride_model.specs.Road.{RoadMap}
 
 abbrev arc_of : ℕ → ℕ → ℕ → RoadArc
 arc_of tail head seconds = record { tail = tail; head = head; seconds = seconds }

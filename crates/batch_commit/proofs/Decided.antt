@@ -1,16 +1,5 @@
 -- Outcomes that are decided one after another.
-use Rattle.std.proofs.Common.{◌≡◌, ℕ, zero, suc, ◌+◌, ◌<◌, ◌≤◌, Bool, List, [], ◌∷◌, length, take, get_or, refl, sym, ◌∙◌, ap, subst, arith, add-one}
-use Rattle.std.specs.Prelude.{map, slice_set}
-use Rattle.std.proofs.lemmas.List.{length-map}
-use Rattle.ride_model.specs.declared.entry.Outcome.{Outcome}
-use Rattle.ride_model.specs.declared.offer.Seat.{Seat}
-use Rattle.ride_model.specs.declared.vehicle.Ride.{Ride}
-use Rattle.ride_model.specs.declared.vehicle.Vehicle.{Vehicle}
-use Rattle.ride_model.specs.State.{State}
-use Rattle.ride_model.specs.Vehicle.{ride_ids}
-use Rattle.ride_model.specs.Seating.{BatchCopy}
-use Rattle.ride_model.specs.Batch.{was_cancelled, seat_of, outcome_by, outcome_of}
-use Rattle.batch_commit.specs.inner.Solved.{StandsSo}
+use Rattle.batch_commit.proofs.Common.{◌≡◌, ℕ, zero, suc, ◌+◌, ◌<◌, ◌≤◌, Bool, List, [], ◌∷◌, length, take, get_or, refl, sym, ◌∙◌, ap, subst, arith, add-one, map, slice_set, length-map, Outcome, Seat, Ride, Vehicle, State, ride_ids, BatchCopy, was_cancelled, seat_of, outcome_by, outcome_of, StandsSo}
 
 -- one more is decided
 pub decided-more : (f : ℕ → Outcome) (ids : List ℕ) (xs : List (ℕ × Outcome)) (r id : ℕ) (o : Outcome) → length xs ≡ length ids → r < length ids

@@ -1,39 +1,6 @@
 -- Batches that are no longer open.
-use Rattle.std.proofs.Common.{◌≡◌, ℕ, ◌+◌, ◌≤◌, Bool, true, false, not, ◌&&◌, cond, inl, inr, List, [], ◌∷◌, ◌++◌, eqb, refl, sym, ◌∙◌, ap, subst, length-append, arith}
-use Rattle.std.specs.Prelude.{◌==◌, Option, Some, None, option_map, find, IsSome, IsSomeAnd}
-use Rattle.std.specs.List.{filter, list_any}
-use Rattle.std.proofs.lemmas.Bool.{eqb-true, eq-eqb}
-use Rattle.std.proofs.lemmas.List.Folds.{list_any-append}
-use Rattle.std.proofs.Math.Bool.{or-true}
-use Rattle.std.proofs.lemmas.Option.{same_Some}
-use Rattle.ride_model.specs.declared.command.Actor.TheVariants.{Desk}
-use Rattle.ride_model.specs.declared.entry.Entry.{Entry}
-use Rattle.ride_model.specs.declared.entry.Event.TheVariants.{Committed}
-use Rattle.ride_model.specs.declared.entry.Outcome.{Outcome}
-use Rattle.ride_model.specs.declared.offer.Seat.{Seat}
-use Rattle.ride_model.specs.Text.{IsOneOrTwo}
-use Rattle.ride_model.specs.Batch.{with_request_states, standing_rides, without_batch, after_outcomes}
+use Rattle.board_core.proofs.Common.{◌≡◌, ℕ, ◌+◌, ◌≤◌, Bool, true, false, not, ◌&&◌, cond, inl, inr, List, [], ◌∷◌, ◌++◌, eqb, refl, sym, ◌∙◌, ap, subst, length-append, arith, ◌==◌, Option, Some, None, option_map, find, IsSome, IsSomeAnd, filter, list_any, eqb-true, eq-eqb, list_any-append, or-true, same_Some, Desk, Entry, Committed, Outcome, Seat, IsOneOrTwo, with_request_states, standing_rides, without_batch, after_outcomes, is_abandoned, after_entry, IsLegalEntry, CommitsBatch, BatchCopy, State, is_batch, open_batch_of, open_batch_numbered, Among, found_among, of_all, replay-push, IsOpenBatch, is_fed, IsFedSpelled, found_by, committed-state, abandoned-state, Desks, Service, Given, places_kept, with_closed, with_given_up, Mirrors, IsBoard, at_number, one_if_some, Recorded, state_of, abandoned_entry, state_at}
 use Rattle.ride_model.specs.declared.reply.RequestState.TheVariants.{Waiting}
-use Rattle.ride_model.specs.History.{is_abandoned}
-use Rattle.ride_model.specs.Legal.{after_entry, IsLegalEntry, CommitsBatch}
-use Rattle.ride_model.specs.Seating.{BatchCopy}
-use Rattle.ride_model.specs.State.{State, is_batch, open_batch_of, open_batch_numbered}
-use Rattle.model_laws.proofs.plain.Among.{Among, found_among}
-use Rattle.model_laws.proofs.plain.Each.{of_all}
-use Rattle.model_laws.proofs.Histories.{replay-push}
-use Rattle.model_laws.specs.inner.history_laws.Consistent.{IsOpenBatch}
-use Rattle.model_laws.specs.history_laws.Start.{is_fed}
-use Rattle.model_laws.specs.inner.history_laws.Start.{IsFedSpelled}
-use Rattle.model_laws.proofs.history_laws.Lookups.{found_by}
-use Rattle.model_laws.proofs.history_laws.OpenedBatches.{committed-state, abandoned-state}
-use Rattle.board_core.specs.declared.desks.Desks.{Desks}
-use Rattle.board_core.specs.declared.service.Service.{Service}
-use Rattle.board_core.specs.inner.Given.{Given}
-use Rattle.board_core.specs.inner.Kept.{places_kept, with_closed, with_given_up, Mirrors, IsBoard}
-use Rattle.board_core.specs.inner.Numbers.{at_number, one_if_some}
-use Rattle.board_core.specs.Recorded.{Recorded, state_of}
-use Rattle.board_core.specs.inner.Recorded.{abandoned_entry}
-use Rattle.board_core.specs.inner.Service.{state_at}
 use Rattle.board_core.proofs.FedEntries.{within-push, none-of_others}
 use Rattle.board_core.proofs.Numbering.{at_number-with, count-with}
 use Rattle.board_core.proofs.Boards.{board-consistent, pushed, recorded-push, abandoned-push}

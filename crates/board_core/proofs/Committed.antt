@@ -1,24 +1,7 @@
 -- Commits of open batches.
-use Rattle.std.proofs.Common.{◌≡◌, ℕ, sym, ◌∙◌, ap, subst, arith}
-use Rattle.std.specs.Prelude.{Some, All}
-use Rattle.ride_model.specs.Batch.{outcomes_of}
-use Rattle.ride_model.specs.Legal.{CommitsBatch}
-use Rattle.ride_model.specs.Seating.{Certifies, find_vehicle, vehicle_ids}
-use Rattle.ride_model.specs.inner.Seating.{IsBatchOver}
-use Rattle.ride_model.specs.State.{State, open_batch_numbered}
-use Rattle.ride_model.specs.Vehicle.{IsLawful}
+use Rattle.board_core.proofs.Common.{◌≡◌, ℕ, sym, ◌∙◌, ap, subst, arith, Some, All, outcomes_of, CommitsBatch, Certifies, find_vehicle, vehicle_ids, IsBatchOver, State, open_batch_numbered, IsLawful, SolvedBatch, IsTableOf, AreSeats, Desks, Service, Given, IsBoard, Recorded, state_of, HasRoomAbove, IsCommitted, IsSettledTo, balance}
 use Rattle.batch_commit.specs.inner.Answer.{CertifiesOverCells}
-use Rattle.batch_commit.specs.inner.Solved.{SolvedBatch}
-use Rattle.batch_commit.specs.inner.Table.{IsTableOf}
 use Rattle.dual_check.proofs.OverMaps.{certified-over-map, least-over-map}
-use Rattle.dual_check.proofs.SeatPlaces.{AreSeats}
-use Rattle.board_core.specs.declared.desks.Desks.{Desks}
-use Rattle.board_core.specs.declared.service.Service.{Service}
-use Rattle.board_core.specs.inner.Given.{Given}
-use Rattle.board_core.specs.inner.Kept.{IsBoard}
-use Rattle.board_core.specs.Recorded.{Recorded, state_of}
-use Rattle.board_core.specs.inner.Service.{HasRoomAbove}
-use Rattle.board_core.specs.inner.Settling.{IsCommitted, IsSettledTo, balance}
 use Rattle.board_core.proofs.Boards.{board-consistent, board-in_order}
 use Rattle.board_core.proofs.Closed.{open-facts}
 

@@ -1,27 +1,5 @@
 -- Actors that end.
-use Rattle.std.proofs.Common.{◌≡◌, ℕ, ◌+◌, ◌≤◌, Bool, true, false, ◌&&◌, ◌||◌, cond, List, [], ◌∷◌, ◌++◌, refl, sym, ◌∙◌, ap, subst, length-append, arith}
-use Rattle.std.specs.Prelude.{Option, Some, None, is_some, option_map}
-use Rattle.std.specs.List.{list_any}
-use Rattle.std.proofs.lemmas.Bool.{eqb-true}
-use Rattle.std.proofs.lemmas.List.Folds.{list_any-append}
-use Rattle.std.proofs.Math.Bool.{or-true, or-false}
-use Rattle.ride_model.specs.declared.command.Actor.{Actor}
-use Rattle.ride_model.specs.declared.command.Actor.TheVariants.{Feed, Desk}
-use Rattle.ride_model.specs.declared.entry.Ending.{Ending}
-use Rattle.ride_model.specs.declared.entry.Entry.{Entry}
-use Rattle.ride_model.specs.declared.entry.Event.TheVariants.{Finish}
-use Rattle.ride_model.specs.History.{ended_whole, is_whole, is_abandoned}
-use Rattle.ride_model.specs.Legal.{after_event, IsLegalEvent}
-use Rattle.ride_model.specs.State.{State, is_actor, has_ended, with_end, open_batch_of}
-use Rattle.ride_model.specs.Seating.{BatchCopy}
-use Rattle.ride_model.specs.Text.{IsOneOrTwo}
-use Rattle.model_laws.proofs.Histories.{replay-push}
-use Rattle.board_core.specs.declared.desks.Desks.{Desks}
-use Rattle.board_core.specs.declared.service.Service.{Service}
-use Rattle.board_core.specs.inner.Given.{Given}
-use Rattle.board_core.specs.inner.Kept.{ending_of, is_whole_end, places_kept, with_ending, Mirrors, IsBoard}
-use Rattle.board_core.specs.inner.Numbers.{at_number, with_number, one_if_some}
-use Rattle.board_core.specs.Recorded.{Recorded, state_of}
+use Rattle.board_core.proofs.Common.{◌≡◌, ℕ, ◌+◌, ◌≤◌, Bool, true, false, ◌&&◌, ◌||◌, cond, List, [], ◌∷◌, ◌++◌, refl, sym, ◌∙◌, ap, subst, length-append, arith, Option, Some, None, is_some, option_map, list_any, eqb-true, list_any-append, or-true, or-false, Actor, Feed, Desk, Ending, Entry, Finish, ended_whole, is_whole, is_abandoned, after_event, IsLegalEvent, State, is_actor, has_ended, with_end, open_batch_of, BatchCopy, IsOneOrTwo, replay-push, Desks, Service, Given, ending_of, is_whole_end, places_kept, with_ending, Mirrors, IsBoard, at_number, with_number, one_if_some, Recorded, state_of}
 use Rattle.board_core.proofs.FedEntries.{within-push, none-of_others}
 use Rattle.board_core.proofs.Numbering.{at_number-with, count-with, count-le}
 use Rattle.board_core.proofs.Boards.{pushed, recorded-push, abandoned-push}

@@ -1,23 +1,5 @@
 -- The commands that a history answers.
-use Rattle.std.proofs.Common.{◌≡◌, ℕ, ◌+◌, ◌<◌, ◌≤◌, inl, inr, Bool, true, false, cond, List, [], ◌∷◌, ◌++◌, length, eqb, refl, ◌∙◌, ap, subst, length-append, arith}
-use Rattle.std.specs.Prelude.{filter_map}
-use Rattle.std.specs.List.{filter}
-use Rattle.std.proofs.lemmas.Bool.{eq-eqb, eqb-true}
-use Rattle.std.proofs.lemmas.List.Sums.{sum_by-cons}
-use Rattle.std.proofs.lemmas.List.Elements.{filter-append, filter_map-append, All-push}
-use Rattle.model_laws.proofs.plain.Numbers.{one_of_two}
-use Rattle.ride_model.specs.declared.command.Actor.{Actor}
-use Rattle.ride_model.specs.declared.command.Actor.TheVariants.{Feed, Desk}
-use Rattle.ride_model.specs.declared.command.Command.{Command}
-use Rattle.ride_model.specs.declared.entry.Entry.{Entry}
-use Rattle.ride_model.specs.declared.entry.Event.{Event}
-use Rattle.ride_model.specs.declared.entry.Event.TheVariants.{Fed, Finish, Opened, Committed, Abandoned}
-use Rattle.ride_model.specs.declared.reply.Reply.{Reply}
-use Rattle.ride_model.specs.History.{entries_of, command_of, fed_commands}
-use Rattle.ride_model.specs.Legal.{after_entry, IsLegal, IsLegalEvent}
-use Rattle.ride_model.specs.State.{State, is_actor}
-use Rattle.model_laws.specs.history_laws.Start.{is_fed}
-use Rattle.model_laws.specs.inner.history_laws.Start.{fed_total, IsFedSpelled, IsFedWithin}
+use Rattle.board_core.proofs.Common.{◌≡◌, ℕ, ◌+◌, ◌<◌, ◌≤◌, inl, inr, Bool, true, false, cond, List, [], ◌∷◌, ◌++◌, length, eqb, refl, ◌∙◌, ap, subst, length-append, arith, filter_map, filter, eq-eqb, eqb-true, sum_by-cons, filter-append, filter_map-append, All-push, one_of_two, Actor, Feed, Desk, Command, Entry, Event, Fed, Finish, Opened, Committed, Abandoned, Reply, entries_of, command_of, fed_commands, after_entry, IsLegal, IsLegalEvent, State, is_actor, is_fed, fed_total, IsFedSpelled, IsFedWithin}
 
 -- the commands of a feed in two parts of a history
 pub fed_commands-append : (feed : ℕ) (first second : List Entry)

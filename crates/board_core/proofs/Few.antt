@@ -1,18 +1,5 @@
 -- How many of the first elements a test keeps, and elements of different ids.
-use Rattle.std.proofs.Common.{◌≡◌, ℕ, ◌*◌, ◌≤◌, Bool, List, [], ◌∷◌, length, length-take, take, eqb, refl, sym, ap, subst, arith}
-use Rattle.std.specs.Prelude.{map, All}
-use Rattle.std.specs.List.{filter, IsDistinct, AllByRecursion, sum_by}
-use Rattle.std.proofs.lemmas.List.{length-map}
-use Rattle.std.proofs.lemmas.List.Elements.{recursion_from_All}
-use Rattle.std.proofs.lemmas.List.Sums.{sum_by-cons}
-use Rattle.ride_model.specs.declared.vehicle.Ride.{Ride}
-use Rattle.ride_model.specs.State.{AcceptedRequest}
-use Rattle.ride_model.specs.Batch.{is_waiting}
-use Rattle.ride_model.specs.Vehicle.{ride_ids}
-use Rattle.ride_model.specs.Seating.{amount_ids}
-use Rattle.board_core.specs.inner.request_book.Book.{waiting_of}
-use Rattle.model_laws.proofs.history_laws.Lookups.{distinct-filter_by, distinct-take_by}
-use Rattle.model_laws.proofs.history_laws.Raised.{length-filter-le}
+use Rattle.board_core.proofs.Common.{◌≡◌, ℕ, ◌*◌, ◌≤◌, Bool, List, [], ◌∷◌, length, length-take, take, eqb, refl, sym, ap, subst, arith, map, All, filter, IsDistinct, AllByRecursion, sum_by, length-map, recursion_from_All, sum_by-cons, Ride, AcceptedRequest, is_waiting, ride_ids, amount_ids, waiting_of, distinct-filter_by, distinct-take_by, length-filter-le}
 
 -- a test keeps no more of the first elements than there are
 pub few-kept : {X Y : Type 0} → (f : X → Y) (p : X → Bool) (xs : List X) (many : ℕ) → length (map f (filter p (take many xs))) ≤ many

@@ -1,26 +1,6 @@
 -- How many outcomes a legal history has.
-use Rattle.std.proofs.Common.{◌≡◌, ℕ, ◌+◌, ◌*◌, ◌<◌, ◌≤◌, Bool, List, [], ◌∷◌, ◌++◌, length, get_or, take, Option, None, Some, sym, ◌∙◌, ap, subst, arith, append_assoc}
-use Rattle.std.specs.Prelude.{sum_by, count_by, IfSome, IsSomeAnd, All}
-use Rattle.std.proofs.lemmas.List.{length-map, take_more}
-use Rattle.std.proofs.lemmas.List.Sums.{sum_by-cons, sum_by_push, length-filter}
-use Rattle.ride_model.specs.declared.command.Actor.{Actor}
-use Rattle.ride_model.specs.declared.command.Actor.TheVariants.{Feed, Desk}
-use Rattle.ride_model.specs.declared.entry.Entry.{Entry}
-use Rattle.ride_model.specs.declared.entry.Event.{Event}
-use Rattle.ride_model.specs.declared.entry.Event.TheVariants.{Fed, Finish, Opened, Committed, Abandoned}
-use Rattle.ride_model.specs.declared.entry.Outcome.{Outcome}
-use Rattle.ride_model.specs.declared.offer.Seat.{Seat}
-use Rattle.ride_model.specs.declared.vehicle.Ride.{Ride}
-use Rattle.ride_model.specs.Batch.{outcome_of, outcomes_of}
-use Rattle.ride_model.specs.History.{outcomes_in}
-use Rattle.ride_model.specs.Legal.{CommitsBatch, IsLegal, IsLegalEntry, IsLegalEvent, replay}
-use Rattle.ride_model.specs.Seating.{BatchCopy}
-use Rattle.ride_model.specs.State.{State, open_batch_numbered}
-use Rattle.ride_model.specs.Vehicle.{ride_ids}
-use Rattle.model_laws.specs.history_laws.Start.{IsStart}
-use Rattle.model_laws.proofs.history_laws.EveryState.{consistent}
-use Rattle.model_laws.proofs.history_laws.Raised.{length-filter-le}
-use Rattle.model_laws.proofs.Histories.{IsLegal-parts}
+use Rattle.board_core.proofs.Common.{◌≡◌, ℕ, ◌+◌, ◌*◌, ◌<◌, ◌≤◌, Bool, List, [], ◌∷◌, ◌++◌, length, get_or, take, Option, None, Some, sym, ◌∙◌, ap, subst, arith, append_assoc, count_by, IfSome, IsSomeAnd, All, length-map, take_more, sum_by-cons, sum_by_push, length-filter, Actor, Feed, Desk, Entry, Event, Fed, Finish, Opened, Committed, Abandoned, Outcome, Seat, Ride, outcome_of, outcomes_of, outcomes_in, CommitsBatch, IsLegal, IsLegalEntry, IsLegalEvent, replay, BatchCopy, State, open_batch_numbered, ride_ids, IsStart, consistent, length-filter-le, IsLegal-parts}
+use Rattle.std.specs.Prelude.{sum_by}
 use Rattle.board_core.proofs.OpenBatches.{open-batch}
 
 -- the first entry of a legal history is legal

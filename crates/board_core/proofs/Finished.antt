@@ -1,24 +1,5 @@
 -- Boards that are finished.
-use Rattle.std.proofs.Common.{◌≡◌, ℕ, ◌≤◌, not, ◌&&◌, cond, inl, inr, List, [], ◌∷◌, eqb, refl, sym, ◌∙◌, ap, subst, arith}
-use Rattle.std.specs.Prelude.{◌==◌, Option, Some, None, option_map, find, All, IsTrue, ◌↔◌}
-use Rattle.std.specs.List.{list_all, range_with_len}
-use Rattle.std.proofs.lemmas.Bool.{eqb-true, eq-eqb, not-true, and_from, and_parts}
-use Rattle.ride_model.specs.declared.command.Actor.TheVariants.{Feed, Desk}
-use Rattle.ride_model.specs.History.{ended_whole, IsFinished}
-use Rattle.model_laws.proofs.plain.Among.{Among}
-use Rattle.model_laws.proofs.plain.Each.{of_all}
-use Rattle.ride_model.specs.Seating.{BatchCopy}
-use Rattle.ride_model.specs.State.{State, open_batch_of}
-use Rattle.ride_model.specs.Text.{IsOneOrTwo}
-use Rattle.model_laws.specs.inner.history_laws.Consistent.{IsConsistent, IsOpenBatch}
-use Rattle.model_laws.specs.inner.history_laws.Start.{fed_total}
-use Rattle.board_core.specs.declared.desks.Desks.{Desks}
-use Rattle.board_core.specs.declared.numbered.Numbered.{Numbered}
-use Rattle.board_core.specs.declared.service.Service.{Service}
-use Rattle.board_core.specs.inner.Given.{Given}
-use Rattle.board_core.specs.inner.Kept.{all_whole, is_finished, Mirrors, IsBoard}
-use Rattle.board_core.specs.inner.Numbers.{at_number, one_if_some, count_in}
-use Rattle.board_core.specs.Recorded.{Recorded, state_of}
+use Rattle.board_core.proofs.Common.{◌≡◌, ℕ, ◌≤◌, not, ◌&&◌, cond, inl, inr, List, [], ◌∷◌, eqb, refl, sym, ◌∙◌, ap, subst, arith, ◌==◌, Option, Some, None, option_map, find, All, IsTrue, ◌↔◌, list_all, range_with_len, eqb-true, eq-eqb, not-true, and_from, and_parts, Feed, Desk, ended_whole, IsFinished, Among, of_all, BatchCopy, State, open_batch_of, IsOneOrTwo, IsConsistent, IsOpenBatch, fed_total, Desks, Numbered, Service, Given, all_whole, is_finished, Mirrors, IsBoard, at_number, one_if_some, count_in, Recorded, state_of}
 use Rattle.board_core.proofs.Numbering.{one_or_two}
 use Rattle.board_core.proofs.Boards.{board-consistent}
 

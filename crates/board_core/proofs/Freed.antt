@@ -1,24 +1,7 @@
 -- A plan from which a ride is taken.
-use Rattle.std.proofs.Common.{◌≡◌, ℕ, ◌+◌, ◌-◌, ◌≤◌, true, false, cond, List, [], ◌∷◌, ◌++◌, length, eqb, refl, sym, ◌∙◌, ap, length-append, arith}
-use Rattle.std.specs.Prelude.{map}
-use Rattle.std.proofs.lemmas.Bool.{eqb-true}
-use Rattle.ride_model.specs.declared.vehicle.Kind.{Kind}
-use Rattle.ride_model.specs.declared.vehicle.Kind.TheVariants.{Pickup, Dropoff}
-use Rattle.ride_model.specs.declared.vehicle.Ride.{Ride}
-use Rattle.ride_model.specs.declared.vehicle.Stop.{Stop}
-use Rattle.ride_model.specs.declared.vehicle.Vehicle.{Vehicle}
-use Rattle.ride_model.specs.Road.{RoadMap, IsRoadMap}
-use Rattle.ride_model.specs.Vehicle.{IsLawful, visit_of, visits_due, stops_of}
-use Rattle.ride_model.specs.Insertion.{stops_without, without_ride}
-use Rattle.ride_model.specs.Offers.{leg_at}
+use Rattle.board_core.proofs.Common.{◌≡◌, ℕ, ◌+◌, ◌-◌, ◌≤◌, true, false, cond, List, [], ◌∷◌, ◌++◌, length, eqb, refl, sym, ◌∙◌, ap, length-append, arith, map, eqb-true, Kind, Pickup, Dropoff, Ride, Stop, Vehicle, RoadMap, IsRoadMap, IsLawful, visit_of, visits_due, stops_of, stops_without, without_ride, leg_at, RemovesFrom, IsFirst, is_visit, among_from_contains, of_all, same-head, same-tail, nodes_without, leg_along, HasWaiting}
 use Rattle.model_laws.proofs.Removal.{route_without, without_ride-is}
-use Rattle.stop_plans.specs.inner.Change.{RemovesFrom}
-use Rattle.stop_plans.specs.inner.First.{IsFirst, is_visit}
 use Rattle.stop_plans.proofs.RemovedLegs.{removal_places}
-use Rattle.model_laws.proofs.plain.Among.{among_from_contains}
-use Rattle.model_laws.proofs.plain.Each.{of_all}
-use Rattle.model_laws.proofs.plain.Lists.{same-head, same-tail}
-use Rattle.board_core.specs.inner.Legs.{nodes_without, leg_along, HasWaiting}
 use Rattle.board_core.proofs.LegLaws.{leg-of_route}
 
 -- the first stop of a ride, with what stands before and behind it

@@ -1,23 +1,6 @@
 -- Legs along nodes, and the nodes of a vehicle's stops.
-use Rattle.std.proofs.Common.{◌≡◌, ℕ, zero, suc, ◌+◌, ◌<◌, ◌≤◌, inl, inr, not, List, [], ◌∷◌, length, length-take, take, get_or, refl, sym, ◌∙◌, ap, subst, arith}
-use Rattle.std.specs.Prelude.{◌==◌, map, Option, Some, None, unwrap_or, All, Contains}
-use Rattle.std.proofs.lemmas.List.Elements.{All-cons, All-map, All-filter}
-use Rattle.ride_model.specs.declared.vehicle.Kind.{Kind}
-use Rattle.ride_model.specs.declared.vehicle.Ride.{Ride}
-use Rattle.ride_model.specs.declared.vehicle.Stop.{Stop}
-use Rattle.ride_model.specs.declared.vehicle.Vehicle.{Vehicle}
-use Rattle.ride_model.specs.Road.{RoadMap, IsNode, travel}
-use Rattle.ride_model.specs.Vehicle.{IsRide, IsLawful, visit_of, visits_due, stops_of, ride_ids}
-use Rattle.ride_model.specs.Insertion.{routed, stops_without}
-use Rattle.ride_model.specs.Offers.{leg_at}
-use Rattle.model_laws.proofs.plain.Among.{Among, among_from_contains, among_map, among_map_back, among_filter}
-use Rattle.model_laws.proofs.plain.Each.{of_all, all_of}
+use Rattle.board_core.proofs.Common.{◌≡◌, ℕ, zero, suc, ◌+◌, ◌<◌, ◌≤◌, inl, inr, not, List, [], ◌∷◌, length, length-take, take, get_or, refl, sym, ◌∙◌, ap, subst, arith, ◌==◌, map, Option, Some, None, unwrap_or, All, Contains, All-cons, All-map, All-filter, Kind, Ride, Stop, Vehicle, RoadMap, IsNode, travel, IsRide, IsLawful, visit_of, visits_due, stops_of, ride_ids, routed, stops_without, leg_at, Among, among_from_contains, among_map, among_map_back, among_filter, of_all, all_of, length-filter-le, length-map, eq-eqb, same_Some, nodes_without, leg_along}
 use Rattle.stop_plans.proofs.InsertedLegs.{route_head}
-use Rattle.model_laws.proofs.history_laws.Raised.{length-filter-le}
-use Rattle.std.proofs.lemmas.List.{length-map}
-use Rattle.std.proofs.lemmas.Bool.{eq-eqb}
-use Rattle.std.proofs.lemmas.Option.{same_Some}
-use Rattle.board_core.specs.inner.Legs.{nodes_without, leg_along}
 
 -- past the last but one node there is no leg
 pub leg-past : (roads : RoadMap) (nodes : List ℕ) (place : ℕ) → length nodes ≤ place + 1 → leg_along roads nodes place ≡ 0

@@ -1,11 +1,5 @@
 -- Requests whose states are set one after another.
-use Rattle.std.proofs.Common.{◌≡◌, ℕ, zero, suc, ◌+◌, ◌<◌, Bool, List, [], ◌∷◌, ◌++◌, length, map, take, get_or, refl, ◌∙◌, ap, arith, sym, add-one}
-use Rattle.ride_model.specs.declared.reply.RequestState.{RequestState}
-use Rattle.ride_model.specs.declared.vehicle.Ride.{Ride}
-use Rattle.ride_model.specs.Batch.{with_request_states}
-use Rattle.ride_model.specs.State.{State, with_request_state}
-use Rattle.ride_model.specs.Vehicle.{ride_ids}
-use Rattle.board_core.specs.inner.Marking.{marked_in}
+use Rattle.board_core.proofs.Common.{◌≡◌, ℕ, zero, suc, ◌+◌, ◌<◌, Bool, List, [], ◌∷◌, ◌++◌, length, map, take, get_or, refl, ◌∙◌, ap, arith, sym, add-one, RequestState, Ride, with_request_states, State, with_request_state, ride_ids, marked_in}
 
 -- the state with these rides' requests in one state has their ids marked
 pub with_states-marked : (state : RequestState) (rides : List Ride) (s : State)

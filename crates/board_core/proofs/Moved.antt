@@ -1,19 +1,8 @@
 -- Reports of a vehicle.
-use Rattle.std.proofs.Common.{◌≡◌, ℕ, ◌+◌, ◌≤◌, List, ◌∷◌, sym, ◌∙◌, ap, subst}
-use Rattle.std.specs.Prelude.{Option, Some}
-use Rattle.ride_model.specs.declared.settings.Settings.{Settings}
-use Rattle.ride_model.specs.declared.vehicle.Stop.{Stop}
-use Rattle.ride_model.specs.declared.vehicle.Vehicle.{Vehicle}
-use Rattle.ride_model.specs.Road.{RoadMap, IsRoadMap, IsNode, travel}
-use Rattle.ride_model.specs.Vehicle.{HasLegs, IsLawful}
-use Rattle.ride_model.specs.State.{State, with_vehicle}
-use Rattle.ride_model.specs.Step.{raised, reported, report, report_driving}
+use Rattle.board_core.proofs.Common.{◌≡◌, ℕ, ◌+◌, ◌≤◌, List, ◌∷◌, sym, ◌∙◌, ap, subst, Option, Some, Settings, Stop, Vehicle, RoadMap, IsRoadMap, IsNode, travel, HasLegs, IsLawful, State, with_vehicle, raised, reported, report, report_driving, placed_at, reported-is, routed-first, lawful-placed, lawful-raised, Given, lateness_of, IsMoved}
 use Rattle.model_laws.proofs.Routes.{with_leg}
 use Rattle.model_laws.proofs.TravelTimes.{travel-le}
 use Rattle.stop_plans.specs.inner.Legged.{relegged}
-use Rattle.model_laws.proofs.history_laws.Raised.{placed_at, reported-is, routed-first, lawful-placed, lawful-raised}
-use Rattle.board_core.specs.inner.Given.{Given}
-use Rattle.board_core.specs.inner.Reports.{lateness_of, IsMoved}
 
 -- a vehicle put before its first stop
 abbrev pub put_before : Vehicle → ℕ → ℕ → ℕ → Vehicle

@@ -1,10 +1,5 @@
 -- Values of two that are numbered.
-use Rattle.std.proofs.Common.{◌≡◌, ℕ, ◌+◌, ◌≤◌, ◌⊎◌, inl, inr, Bool, true, false, cond, eqb, refl, sym, ap, subst, arith}
-use Rattle.std.proofs.lemmas.Bool.{eqb-true}
-use Rattle.std.specs.Prelude.{Option, Some, None}
-use Rattle.ride_model.specs.Text.{IsOneOrTwo}
-use Rattle.board_core.specs.declared.numbered.Numbered.{Numbered}
-use Rattle.board_core.specs.inner.Numbers.{at_number, with_number, one_if_some, count_in}
+use Rattle.board_core.proofs.Common.{◌≡◌, ℕ, ◌+◌, ◌≤◌, ◌⊎◌, inl, inr, Bool, true, false, cond, eqb, refl, sym, ap, subst, arith, eqb-true, Option, Some, None, IsOneOrTwo, Numbered, at_number, with_number, one_if_some, count_in}
 
 -- one or two
 pub one_or_two : (n : ℕ) → IsOneOrTwo n → (n ≡ 1) ⊎ (n ≡ 2)

@@ -1,43 +1,11 @@
 -- Batches that are open while a board goes on.
-use Rattle.std.proofs.Common.{◌≡◌, ◌≢◌, ℕ, ◌≤◌, Bool, true, false, not, cond, List, [], ◌∷◌, ◌++◌, length, Option, Some, None, Result, Ok, Err, eqb, refl, sym, ap, subst, ◌∙◌, arith}
-use Rattle.std.specs.Prelude.{find, ◌==◌, nat_lt, All, IsNone, IfOk, OnOk, OnErr, IfSome}
-use Rattle.std.specs.List.{filter}
-use Rattle.std.specs.Option.{option_or}
-use Rattle.std.specs.declared.alloc.AllocError.{AllocError}
-use Rattle.std.proofs.lemmas.Bool.{eqb-true, ne_eqb}
-use Rattle.std.proofs.lemmas.List.Folds.{find-append}
-use Rattle.model_laws.proofs.plain.Each.{of_all}
-use Rattle.model_laws.proofs.plain.Lists.{length-filter_map-le}
-use Rattle.model_laws.proofs.plain.Options.{none_from_is_some}
-use Rattle.model_laws.proofs.plain.Among.{found_among}
-use Rattle.ride_model.specs.declared.command.Actor.{Actor}
-use Rattle.ride_model.specs.declared.command.Actor.TheVariants.{Feed}
-use Rattle.ride_model.specs.declared.command.Command.{Command}
-use Rattle.ride_model.specs.declared.entry.Ending.{Ending}
-use Rattle.ride_model.specs.declared.entry.Entry.{Entry}
-use Rattle.ride_model.specs.declared.reply.Reply.{Reply}
-use Rattle.ride_model.specs.Batch.{next_batch, after_opening, after_commit, outcomes_of}
-use Rattle.ride_model.specs.History.{entries_of, command_of, fed_commands}
-use Rattle.ride_model.specs.Legal.{after_entry, replay, IsLegal, all_feeds_ended}
-use Rattle.ride_model.specs.Road.{RoadMap}
-use Rattle.ride_model.specs.Seating.{BatchCopy, seating_cost}
-use Rattle.ride_model.specs.State.{State, is_actor, is_batch, open_batch_of, open_batch_numbered}
-use Rattle.batch_commit.specs.inner.Solved.{SolvedBatch}
-use Rattle.batch_commit.specs.inner.Table.{IsPriceable}
-use Rattle.model_laws.proofs.Histories.{replay-push}
+use Rattle.board_core.proofs.Common.{◌≡◌, ◌≢◌, ℕ, ◌≤◌, Bool, true, false, not, cond, List, [], ◌∷◌, ◌++◌, length, Option, Some, None, Result, Ok, Err, eqb, refl, sym, ap, subst, ◌∙◌, arith, find, ◌==◌, nat_lt, All, IsNone, IfOk, OnOk, OnErr, IfSome, filter, option_or, AllocError, eqb-true, ne_eqb, find-append, of_all, length-filter_map-le, none_from_is_some, found_among, Actor, Feed, Command, Ending, Entry, Reply, next_batch, after_opening, after_commit, outcomes_of, entries_of, command_of, fed_commands, after_entry, replay, IsLegal, all_feeds_ended, RoadMap, BatchCopy, seating_cost, State, is_actor, is_batch, open_batch_of, open_batch_numbered, SolvedBatch, IsPriceable, replay-push, IsOpenBatch, IsStart, consistent, length-filter-le, committed-state, abandoned-state, Recorded, state_of, end_entry, opened_entry, fed_entry, committed_entry, abandoned_entry}
 use Rattle.model_laws.proofs.RequestStates.{others-opening, abandon-is}
-use Rattle.model_laws.specs.inner.history_laws.Consistent.{IsOpenBatch}
-use Rattle.model_laws.specs.history_laws.Start.{IsStart}
-use Rattle.model_laws.proofs.history_laws.EveryState.{consistent}
 use Rattle.model_laws.proofs.history_laws.Leaving.{is_batch-own}
-use Rattle.model_laws.proofs.history_laws.Raised.{length-filter-le}
 use Rattle.model_laws.proofs.history_laws.Untouched.{leaves-step, stays-outcomes}
-use Rattle.model_laws.proofs.history_laws.OpenedBatches.{committed-state, abandoned-state}
 use Rattle.board_core.specs.declared.opening.Opening.{Opening}
 use Rattle.board_core.specs.declared.opening.Opening.TheVariants.{Batch, Idle, Ended}
 use Rattle.board_core.specs.inner.Opening.{opening_at}
-use Rattle.board_core.specs.Recorded.{Recorded, state_of, end_entry, opened_entry}
-use Rattle.board_core.specs.inner.Recorded.{fed_entry, committed_entry, abandoned_entry}
 
 -- the state of a board that went on by an entry
 pub state-push : (old new : Recorded) (entry : Entry) → new.start ≡ old.start → new.history ≡ old.history ++ entry ∷ []

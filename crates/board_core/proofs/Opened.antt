@@ -1,33 +1,9 @@
 -- Batches that are opened.
-use Rattle.std.proofs.Common.{◌≡◌, ℕ, ◌+◌, ◌<◌, ◌≤◌, Bool, true, false, not, ◌&&◌, cond, List, [], ◌∷◌, ◌++◌, length, eqb, ltb, refl, sym, ◌∙◌, ap, subst, length-append, arith}
-use Rattle.std.specs.Prelude.{◌==◌, Option, Some, None, option_map, is_some, find, All, IsTrue, IsFalse, IsNone}
-use Rattle.std.specs.Option.{option_or}
-use Rattle.std.proofs.lemmas.Bool.{eqb-true, lt-ltb, and_from}
-use Rattle.std.proofs.lemmas.List.Elements.{Contains-push, All-contains}
-use Rattle.std.proofs.lemmas.List.Folds.{find-append}
-use Rattle.ride_model.specs.declared.command.Actor.TheVariants.{Desk}
-use Rattle.ride_model.specs.declared.entry.Entry.{Entry}
-use Rattle.ride_model.specs.declared.reply.RequestState.TheVariants.{InBatch}
-use Rattle.ride_model.specs.Batch.{may_open, next_batch, after_opening}
-use Rattle.ride_model.specs.Legal.{IsNumbered, IsLegalEntry, NamesBatch, versions_of}
-use Rattle.ride_model.specs.Seating.{BatchCopy}
-use Rattle.ride_model.specs.State.{State, has_ended, open_batch_of}
-use Rattle.ride_model.specs.Text.{IsOneOrTwo}
-use Rattle.ride_model.specs.Vehicle.{ride_ids}
-use Rattle.model_laws.proofs.Histories.{replay-push}
-use Rattle.model_laws.specs.inner.history_laws.Consistent.{IsOpenBatch}
-use Rattle.board_core.specs.declared.desks.Desks.{Desks}
-use Rattle.board_core.specs.declared.service.Service.{Service}
-use Rattle.board_core.specs.inner.Given.{Given}
-use Rattle.board_core.specs.inner.Kept.{places_kept, with_opened, Mirrors, IsBoard}
-use Rattle.board_core.specs.inner.Marking.{marked_in}
-use Rattle.board_core.specs.Recorded.{Recorded, state_of, opened_entry}
-use Rattle.board_core.specs.inner.Service.{state_at, batch_at}
+use Rattle.board_core.proofs.Common.{◌≡◌, ℕ, ◌+◌, ◌<◌, ◌≤◌, Bool, true, false, not, ◌&&◌, cond, List, [], ◌∷◌, ◌++◌, length, eqb, ltb, refl, sym, ◌∙◌, ap, subst, length-append, arith, ◌==◌, Option, Some, None, option_map, is_some, find, All, IsTrue, IsFalse, IsNone, option_or, eqb-true, lt-ltb, and_from, Contains-push, All-contains, find-append, Desk, Entry, InBatch, may_open, next_batch, after_opening, IsNumbered, IsLegalEntry, NamesBatch, versions_of, BatchCopy, State, has_ended, open_batch_of, IsOneOrTwo, ride_ids, replay-push, IsOpenBatch, Desks, Service, Given, places_kept, with_opened, Mirrors, IsBoard, marked_in, Recorded, state_of, opened_entry, state_at, batch_at, none_from_is_some}
 use Rattle.board_core.proofs.FedEntries.{within-push, none-of_others}
 use Rattle.board_core.proofs.Marked.{with_states-marked}
 use Rattle.board_core.proofs.Numbering.{at_number-with, count-with}
 use Rattle.board_core.proofs.Boards.{board-consistent, pushed, recorded-push, abandoned-push}
-use Rattle.model_laws.proofs.plain.Options.{none_from_is_some}
 
 -- the next batch by what is kept
 pub next-is : (setup : Given) (service : Service) (kept : Desks) (capacity : ℕ) (board : Recorded) (desk : ℕ) → IsBoard setup service kept capacity board

@@ -1,21 +1,6 @@
 -- The place of a vehicle in its fleet.
-use Rattle.std.proofs.Common.{◌≡◌, ℕ, zero, suc, ◌+◌, ◌<◌, ◌≤◌, Bool, true, false, ◌||◌, cond, if◌then◌else◌, List, [], ◌∷◌, ◌++◌, refl, length, map, take, get_or, slice_get, eqb, ltb, sym, ◌∙◌, ap, subst, arith}
-use Rattle.std.specs.Prelude.{Some, None, MatchOption, find, option_map, position, slice_set, not, ◌==◌}
-use Rattle.std.specs.List.{IsDistinct, enumerate_from, list_any, position_or_len}
+use Rattle.board_core.proofs.Common.{◌≡◌, ℕ, zero, suc, ◌+◌, ◌<◌, ◌≤◌, Bool, true, false, ◌||◌, cond, if◌then◌else◌, List, [], ◌∷◌, ◌++◌, refl, length, map, take, get_or, slice_get, eqb, ltb, sym, ◌∙◌, ap, subst, arith, Some, None, MatchOption, find, option_map, position, slice_set, not, ◌==◌, IsDistinct, enumerate_from, list_any, position_or_len, ltb-true, ltb-false, length-map, map-append, take-map, take_more, All-from_recursion, find_at, length-enumerate_from, get_or-enumerate_from, IsDistinct-head, IsDistinct-tail, slice_get-get_or, slice_get_past, eqb-comm, any-default, insert_key, Vehicle, find_vehicle, vehicle_ids, placed_in}
 use Rattle.std.proofs.Math.ListN.{get_or-map}
-use Rattle.std.proofs.lemmas.Bool.{ltb-true, ltb-false}
-use Rattle.std.proofs.lemmas.List.{length-map, map-append, take-map, take_more}
-use Rattle.std.proofs.lemmas.List.Elements.{All-from_recursion}
-use Rattle.std.proofs.lemmas.List.Folds.{find_at}
-use Rattle.std.proofs.lemmas.List.FromFn.{length-enumerate_from, get_or-enumerate_from}
-use Rattle.std.proofs.lemmas.Map.Keys.{IsDistinct-head, IsDistinct-tail}
-use Rattle.std.proofs.lemmas.Option.{slice_get-get_or, slice_get_past}
-use Rattle.model_laws.proofs.plain.Numbers.{eqb-comm}
-use Rattle.model_laws.proofs.plain.Lists.{any-default}
-use Rattle.indexmap.specs.IndexSet.{insert_key}
-use Rattle.ride_model.specs.declared.vehicle.Vehicle.{Vehicle}
-use Rattle.ride_model.specs.Seating.{find_vehicle, vehicle_ids}
-use Rattle.board_core.specs.inner.Service.{placed_in}
 
 -- the first element with a key stands where the key stands first
 first-by : {X : Type 0} (key : X → ℕ) (xs : List X) (id : ℕ) → position_or_len (λ x. key x == id) xs ≡ position_or_len (eqb id) (map key xs)

@@ -1,20 +1,6 @@
 -- Requests that a vehicle has promised.
-use Rattle.std.proofs.Common.{◌≡◌, ℕ, eqb, refl, sym, ◌∙◌, ap, subst}
-use Rattle.std.specs.Prelude.{Option, Some, None, option_map, All, Contains, IfSome, IsSomeAnd}
-use Rattle.std.proofs.lemmas.Bool.{eqb-true}
-use Rattle.std.proofs.lemmas.Option.{same_Some}
+use Rattle.board_core.proofs.Common.{◌≡◌, ℕ, eqb, refl, sym, ◌∙◌, ap, subst, Option, Some, None, option_map, All, Contains, IfSome, IsSomeAnd, eqb-true, same_Some, Ride, Vehicle, IsFleet, find_vehicle, State, AcceptedRequest, accepted_request, request_state, placed_vehicle, ride_ids, among_from_contains, contains_from_among, among_map_back, found_among, of_all, HasPromised, IsWithVehicle, promised_as, promised_state, vehicle_of_request, placed_is, HasWaiting}
 use Rattle.ride_model.specs.declared.reply.RequestState.TheVariants.{Confirmed}
-use Rattle.ride_model.specs.declared.vehicle.Ride.{Ride}
-use Rattle.ride_model.specs.declared.vehicle.Vehicle.{Vehicle}
-use Rattle.ride_model.specs.Fleet.{IsFleet}
-use Rattle.ride_model.specs.Seating.{find_vehicle}
-use Rattle.ride_model.specs.State.{State, AcceptedRequest, accepted_request, request_state, placed_vehicle}
-use Rattle.ride_model.specs.Vehicle.{ride_ids}
-use Rattle.model_laws.proofs.plain.Among.{among_from_contains, contains_from_among, among_map_back, found_among}
-use Rattle.model_laws.proofs.plain.Each.{of_all}
-use Rattle.model_laws.specs.inner.history_laws.Consistent.{HasPromised, IsWithVehicle, promised_as, promised_state, vehicle_of_request}
-use Rattle.model_laws.proofs.history_laws.Lookups.{placed_is}
-use Rattle.board_core.specs.inner.Legs.{HasWaiting}
 
 -- a ride whose request is confirmed waits
 waits-by_state : (vehicle other : ℕ) (picked : Option ℕ) → promised_state other picked ≡ Confirmed vehicle → picked ≡ None

@@ -1,51 +1,14 @@
 -- A commit, request by request.
-use Rattle.std.proofs.Common.{◌≡◌, ℕ, zero, suc, ◌+◌, ◌<◌, ◌≤◌, ◌^◌, Bool, true, false, not, ◌&&◌, cond, inl, inr, List, [], ◌∷◌, ◌++◌, length, drop, get_or, eqb, leb, leb-true, refl, sym, ◌∙◌, ap, subst, arith, add-one}
-use Rattle.std.specs.Prelude.{◌==◌, map, max, Some, None, option_map, unwrap_or, find, slice_set, All, Contains, IsSomeAnd, MatchOption}
-use Rattle.std.specs.List.{IsDistinct, list_all, enumerate_from}
-use Rattle.std.proofs.lemmas.Map.Keys.{IsDistinct-head, IsDistinct-tail}
-use Rattle.std.proofs.lemmas.Bool.{eqb-true, eq-eqb, ne_eqb, and_parts}
-use Rattle.std.proofs.lemmas.List.{length-map, get_or-map}
-use Rattle.std.proofs.lemmas.List.Elements.{Contains-get_or}
-use Rattle.std.proofs.lemmas.Option.{same_Some}
-use Rattle.ride_model.specs.declared.entry.Outcome.{Outcome}
-use Rattle.ride_model.specs.declared.entry.Outcome.TheVariants.{Confirmed, Moved}
-use Rattle.ride_model.specs.declared.offer.Offer.{Offer}
-use Rattle.ride_model.specs.declared.offer.Seat.{Seat}
-use Rattle.ride_model.specs.declared.vehicle.Ride.{Ride}
-use Rattle.ride_model.specs.declared.vehicle.Vehicle.{Vehicle}
-use Rattle.ride_model.specs.Batch.{seat_of, version_of, priced_start, was_cancelled, outcome_by, outcome_of, after_outcome, after_outcomes, with_confirmed}
-use Rattle.ride_model.specs.Insertion.{with_plan, inserted, stops_with}
-use Rattle.ride_model.specs.Keeps.{keeps_ride}
-use Rattle.ride_model.specs.Loads.{loads_fit}
-use Rattle.ride_model.specs.Offers.{is_idle, start_of, price}
-use Rattle.ride_model.specs.Road.{RoadMap}
-use Rattle.ride_model.specs.Seating.{BatchCopy, find_vehicle, vehicle_ids}
-use Rattle.ride_model.specs.State.{State}
-use Rattle.ride_model.specs.Step.{raised}
-use Rattle.ride_model.specs.Vehicle.{IsLawful, IsRide, ride_ids}
-use Rattle.ride_model.specs.inner.Vehicle.{IsFresh}
-use Rattle.model_laws.proofs.plain.Among.{Among, among_from_contains, contains_from_among, found_among}
-use Rattle.model_laws.proofs.plain.Each.{of_each, of_all}
+use Rattle.board_core.proofs.Common.{◌≡◌, ℕ, zero, suc, ◌+◌, ◌<◌, ◌≤◌, ◌^◌, Bool, true, false, not, ◌&&◌, cond, inl, inr, List, [], ◌∷◌, ◌++◌, length, drop, get_or, eqb, leb, leb-true, refl, sym, ◌∙◌, ap, subst, arith, add-one, ◌==◌, map, max, Some, None, option_map, unwrap_or, find, slice_set, All, Contains, IsSomeAnd, MatchOption, IsDistinct, list_all, enumerate_from, IsDistinct-head, IsDistinct-tail, eqb-true, eq-eqb, ne_eqb, and_parts, length-map, get_or-map, Contains-get_or, same_Some, Outcome, Confirmed, Moved, Offer, Seat, Ride, Vehicle, seat_of, version_of, priced_start, was_cancelled, outcome_by, outcome_of, after_outcome, after_outcomes, with_confirmed, with_plan, inserted, stops_with, keeps_ride, loads_fit, is_idle, start_of, price, RoadMap, BatchCopy, find_vehicle, vehicle_ids, State, raised, IsLawful, IsRide, ride_ids, IsFresh, Among, among_from_contains, contains_from_among, found_among, of_each, of_all, SolvedBatch, cell_at, IsLeastOffer, same-place, find-id, element, HasPlaces, places-of, InsertsInto, IsEarlier, AreEarlier, found_by, ids-map, placed_is, put, put-id, Service, Given, placed_in, HasRoomAbove, started, IsCommitted, IsSettledTo, IsToConfirm}
 use Rattle.model_laws.proofs.Costs.{OfferPlan, offer_plan}
 use Rattle.model_laws.proofs.Insertions.{InsertedFacts, inserted_facts, length-stops_with}
 use Rattle.model_laws.proofs.PlanStops.{unlegged-routed}
 use Rattle.model_laws.proofs.AboardLoads.{length-same}
 use Rattle.model_laws.proofs.Starts.{start-later}
 use Rattle.model_laws.proofs.FewRides.{few-rides}
-use Rattle.batch_commit.specs.inner.Solved.{SolvedBatch}
-use Rattle.batch_commit.specs.inner.Table.{cell_at, IsLeastOffer}
-use Rattle.dual_check.proofs.DifferentIds.{same-place, find-id, element}
-use Rattle.dual_check.proofs.SeatPlaces.{HasPlaces, places-of}
-use Rattle.stop_plans.specs.inner.Change.{InsertsInto}
-use Rattle.model_laws.specs.inner.history_laws.Consistent.{IsEarlier, AreEarlier}
-use Rattle.model_laws.proofs.history_laws.Lookups.{found_by, ids-map, placed_is, put, put-id}
 use Rattle.model_laws.proofs.history_laws.Earlier.{later_of}
 use Rattle.model_laws.proofs.history_laws.Confirming.{ready_at, start-fits, version_of-found, priced_start-found, routed-ready}
 use Rattle.model_laws.proofs.history_laws.Committing.{put_elsewhere}
-use Rattle.board_core.specs.declared.service.Service.{Service}
-use Rattle.board_core.specs.inner.Given.{Given}
-use Rattle.board_core.specs.inner.Service.{placed_in, HasRoomAbove}
-use Rattle.board_core.specs.inner.Settling.{started, IsCommitted, IsSettledTo, IsToConfirm}
 
 -- earlier records have the same ids
 pub earlier-ids : (earliers laters : List Vehicle) → AreEarlier earliers laters → vehicle_ids earliers ≡ vehicle_ids laters

@@ -1,18 +1,6 @@
 -- What a command does, test by test.
-use Rattle.std.proofs.Common.{◌≡◌, ℕ, ◌+◌, ◌<◌, ◌≤◌, Bool, true, false, not, cond, List, [], ◌∷◌, length, eqb, leb, ltb, le-ltb, refl, ◌∙◌, ap}
-use Rattle.std.specs.Prelude.{Some, None, is_some, option_map}
-use Rattle.std.proofs.lemmas.Bool.{lt-ltb}
-use Rattle.std.proofs.lemmas.Option.{same_Some}
-use Rattle.ride_model.specs.declared.reply.Reply.TheVariants.{Waiting, Freed, Duty}
-use Rattle.ride_model.specs.declared.reply.RequestState.{RequestState}
+use Rattle.board_core.proofs.Common.{◌≡◌, ℕ, ◌+◌, ◌<◌, ◌≤◌, Bool, true, false, not, cond, List, [], ◌∷◌, length, eqb, leb, ltb, le-ltb, refl, ◌∙◌, ap, Some, None, is_some, option_map, lt-ltb, same_Some, Waiting, Freed, Duty, RequestState, Stop, Vehicle, without_ride, Wish, ride_of, wish_step, joins_nodes, has_odd_load, has_odd_limits, State, AcceptedRequest, accepted_request, request_state, placed_vehicle, with_vehicle, with_request_state, Answered, refused, with_accepted, request_step, raised, is_node, cancel_found, cancel_by_state, freed, cancel_step, reported, report, at_found, at_step, served, served_state, served_reply, done_found, done_at_stop, done_step, duty_found, duty_step}
 use Rattle.ride_model.specs.declared.reply.RequestState.TheVariants.{Confirmed, Cancelled as CancelledState}
-use Rattle.ride_model.specs.declared.vehicle.Stop.{Stop}
-use Rattle.ride_model.specs.declared.vehicle.Vehicle.{Vehicle}
-use Rattle.ride_model.specs.Insertion.{without_ride}
-use Rattle.board_core.specs.declared.wishes.Wish.{Wish}
-use Rattle.board_core.specs.inner.Wishes.{ride_of, wish_step, joins_nodes, has_odd_load, has_odd_limits}
-use Rattle.ride_model.specs.State.{State, AcceptedRequest, accepted_request, request_state, placed_vehicle, with_vehicle, with_request_state}
-use Rattle.ride_model.specs.Step.{Answered, refused, with_accepted, request_step, raised, is_node, cancel_found, cancel_by_state, freed, cancel_step, reported, report, at_found, at_step, served, served_state, served_reply, done_found, done_at_stop, done_step, duty_found, duty_step}
 
 -- a report of no vehicle
 pub at-none : (s : State) (id node time : ℕ) → placed_vehicle s id ≡ None → at_step s id node time ≡ refused s 10

@@ -1,13 +1,5 @@
 -- A wish against which nothing speaks may be accepted.
-use Rattle.std.proofs.Common.{◌≡◌, ℕ, ◌+◌, ◌^◌, ◌<◌, ◌||◌, true, false, List, length, eqb, leb, ltb, ltb-false, refl, arith}
-use Rattle.std.specs.Prelude.{Option, Some, None, is_some}
-use Rattle.std.proofs.lemmas.Bool.{leb-false, or_parts, and_parts}
-use Rattle.ride_model.specs.Road.{RoadMap, IsRoadMap, IsNode}
-use Rattle.ride_model.specs.State.{AcceptedRequest}
-use Rattle.board_core.specs.inner.request_book.Book.{request_of}
-use Rattle.model_laws.proofs.history_laws.Raised.{node_is}
-use Rattle.board_core.specs.declared.wishes.Wish.{Wish}
-use Rattle.board_core.specs.inner.Wishes.{joins_nodes, has_odd_load, MayBeAccepted}
+use Rattle.board_core.proofs.Common.{◌≡◌, ℕ, ◌+◌, ◌^◌, ◌<◌, ◌||◌, true, false, List, length, eqb, leb, ltb, ltb-false, refl, arith, Option, Some, None, is_some, leb-false, or_parts, and_parts, RoadMap, IsRoadMap, IsNode, AcceptedRequest, request_of, node_is, Wish, joins_nodes, has_odd_load, MayBeAccepted}
 
 pub may-be_accepted : (roads : RoadMap) (requests : List AcceptedRequest) (wish : Wish) → IsRoadMap roads
     → is_some (request_of requests wish.id) ≡ false

@@ -1,14 +1,5 @@
 -- What a call makes of a desk at which all that are due were taken.
-use Rattle.std.proofs.Common.{◌≡◌, ℕ, ◌<◌, ◌≤◌, Bool, true, false, eqb, leb, ltb, List, [], ◌∷◌, ◌++◌, length, max, refl, sym, ap, ◌∙◌, arith}
-use Rattle.std.specs.Prelude.{filter, map, not, ◌&&◌}
-use Rattle.std.specs.List.{AllByRecursion}
-use Rattle.std.proofs.lemmas.List.{length-map, map-append}
-use Rattle.std.proofs.Math.Bool.{and-false}
-use Rattle.ride_model.specs.declared.command.Command.{Command}
-use Rattle.booking_desk.specs.Desk.{Booking, DeskState, is_booked, put_in, request_id}
-use Rattle.booking_desk.specs.inner.Desk.{after_book, after_unbook, without}
-use Rattle.booking_desk.specs.Released.{DeskCall, book, unbook, clock, call_id, clock_of, desk_after, made_of, released_at, sorted, standing}
-use Rattle.model_laws.proofs.plain.Filters.{filter-and, filter-filter, filter-same}
+use Rattle.booking_desk.proofs.Common.{◌≡◌, ℕ, ◌<◌, ◌≤◌, Bool, true, false, eqb, leb, ltb, List, [], ◌∷◌, ◌++◌, length, max, refl, sym, ap, ◌∙◌, arith, filter, map, not, ◌&&◌, AllByRecursion, length-map, map-append, and-false, Command, Booking, DeskState, is_booked, put_in, request_id, after_book, after_unbook, without, DeskCall, book, unbook, clock, call_id, clock_of, desk_after, made_of, released_at, sorted, standing, filter-and, filter-filter, filter-same}
 use Rattle.booking_desk.proofs.BookingOrder.{all_put_in-push, filter-put_in, later-put_in, order-filter, order-sorted, sorted-without, split-time}
 use Rattle.booking_desk.proofs.Bookings.{refused-late, refused-again, refused-full, made-now, made-held, after-refusal, after-now, after-held}
 use Rattle.booking_desk.proofs.Made.{call_for, clock-append}

@@ -1,26 +1,6 @@
 -- What the lines of a feed ask and give, one after the other.
-use Rattle.std.proofs.Common.{◌≡◌, ℕ, ◌+◌, Bool, true, false, cond, List, [], ◌∷◌, ◌++◌, Option, Some, None, length, take, take_all, refl, ap, sym, subst, ◌∙◌, append_assoc, append-nil, length-append, arith}
-use Rattle.std.specs.Prelude.{filter, nat_lt, ◌≤◌, IfOk, MatchResult, Result, Ok, Err}
-use Rattle.std.specs.List.{cons_option}
-use Rattle.std.proofs.lemmas.List.{flat_map_more}
-use Rattle.std.proofs.lemmas.List.Elements.{filter_map-append}
-use Rattle.line_text.specs.Fields.{begins_with, fields_of, is_over_long}
-use Rattle.line_text.specs.Lines.{ended_after, ended_lines}
-use Rattle.ride_model.specs.declared.command.Command.{Command}
-use Rattle.ride_model.specs.Text.{IsSpelledCommand}
-use Rattle.line_text.specs.inner.text_page.Output.{HasPut}
-use Rattle.line_text.proofs.text_page.OutputLemmas.{put-nothing, put-two}
-use Rattle.booking_desk.specs.declared.replies.BookReply.{BookReply}
-use Rattle.booking_desk.specs.declared.replies.BookReply.TheVariants.{Held, Now, Refused}
-use Rattle.booking_desk.specs.BookLines.{call_of, call_of_fields, calls_in}
-use Rattle.booking_desk.specs.BookText.{asked_text, over_long_line, part_of, parts_after, refusal_line, released_text, reply_text, request_line, text_of_lines, with_lf}
-use Rattle.booking_desk.specs.Desk.{Booking, DeskState, is_before, is_held, reply_to_book, most_bookings}
-use Rattle.booking_desk.specs.inner.Desk.{IsRequest, after_book, after_reply, after_unbook}
-use Rattle.booking_desk.specs.declared.feed_desk.FeedDesk.{FeedDesk}
-use Rattle.booking_desk.specs.inner.FeedDesk.{AreSpelled, HasBooked, IsNew, IsSpelledBooking}
-use Rattle.booking_desk.specs.Released.{DeskCall, book, unbook, clock, desk_after, released_at}
+use Rattle.booking_desk.proofs.Common.{◌≡◌, ℕ, ◌+◌, Bool, true, false, cond, List, [], ◌∷◌, ◌++◌, Option, Some, None, length, take, take_all, refl, ap, sym, subst, ◌∙◌, append_assoc, append-nil, length-append, arith, filter, nat_lt, ◌≤◌, IfOk, MatchResult, Result, Ok, Err, cons_option, flat_map_more, filter_map-append, begins_with, fields_of, is_over_long, ended_after, ended_lines, Command, IsSpelledCommand, HasPut, put-nothing, put-two, BookReply, Held, Now, Refused, call_of, call_of_fields, calls_in, asked_text, over_long_line, part_of, parts_after, refusal_line, released_text, reply_text, request_line, text_of_lines, with_lf, Booking, DeskState, is_before, is_held, reply_to_book, most_bookings, IsRequest, after_book, after_reply, after_unbook, FeedDesk, AreSpelled, HasBooked, IsNew, IsSpelledBooking, DeskCall, book, unbook, clock, desk_after, released_at, each-append, each-filter}
 use Rattle.booking_desk.proofs.AfterCalls.{booked-is, unbooked-is}
-use Rattle.model_laws.proofs.plain.Each.{each-append, each-filter}
 
 pub begins-take : (line : List ℕ) → begins_with 35 (take 200 line) ≡ begins_with 35 line
 begins-take [] = refl

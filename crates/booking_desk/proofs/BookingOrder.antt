@@ -1,18 +1,6 @@
 -- The order of bookings, and lists of bookings in order.
-use Rattle.std.proofs.Common.{◌≡◌, ℕ, ◌<◌, ◌≤◌, Bool, true, false, eqb, leb, ltb, List, [], ◌∷◌, ◌++◌, refl, sym, ap, ◌∙◌, arith}
-use Rattle.std.specs.Prelude.{filter, not}
-use Rattle.std.specs.declared.cmp.Ordering.{Ordering}
-use Rattle.std.specs.declared.cmp.Ordering.TheVariants.{Less, Equal, Greater}
-use Rattle.std.specs.List.{AllByRecursion}
-use Rattle.std.specs.Ordering.{is_lt}
-use Rattle.std.proofs.lemmas.List.Elements.{filter-append}
-use Rattle.booking_desk.specs.Desk.{Booking, id_of, is_before, put_in}
-use Rattle.booking_desk.specs.inner.Desk.{without}
-use Rattle.booking_desk.specs.inner.Kept.{key_cmp}
-use Rattle.booking_desk.specs.Released.{all_put_in, sorted}
+use Rattle.booking_desk.proofs.Common.{◌≡◌, ℕ, ◌<◌, ◌≤◌, Bool, true, false, eqb, leb, ltb, List, [], ◌∷◌, ◌++◌, refl, sym, ap, ◌∙◌, arith, filter, not, Ordering, Less, Equal, Greater, AllByRecursion, is_lt, filter-append, Booking, id_of, is_before, put_in, without, key_cmp, all_put_in, sorted, filter-filter, filter-all, filter-none, each-filter, each-weaker, each-append}
 use Rattle.booking_desk.proofs.Keys.{key_total, Equal-ids, Less-releases, early-Less}
-use Rattle.model_laws.proofs.plain.Filters.{filter-filter, filter-all, filter-none}
-use Rattle.model_laws.proofs.plain.Each.{each-filter, each-weaker, each-append}
 
 abbrev key_of : Booking → ℕ × ℕ
 key_of b = (b.release, id_of b)

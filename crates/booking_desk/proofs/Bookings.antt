@@ -1,10 +1,5 @@
 -- How a booking is answered, and what becomes of the desk.
-use Rattle.std.proofs.Common.{◌≡◌, ℕ, ◌<◌, ◌≤◌, Bool, true, false, eqb, leb, ltb, List, [], ◌∷◌, ◌++◌, length, is_some, refl, sym, ap, ◌∙◌, arith}
-use Rattle.std.specs.Map.{keys_of, lookup}
-use Rattle.ride_model.specs.declared.command.Command.{Command}
-use Rattle.booking_desk.specs.declared.replies.BookReply.TheVariants.{Held, Now, Refused}
-use Rattle.booking_desk.specs.Desk.{Booking, DeskState, is_booked, put_in, reply_to_book, request_id}
-use Rattle.booking_desk.specs.inner.Desk.{after_book, after_reply}
+use Rattle.booking_desk.proofs.Common.{◌≡◌, ℕ, ◌<◌, ◌≤◌, Bool, true, false, eqb, leb, ltb, List, [], ◌∷◌, ◌++◌, length, is_some, refl, sym, ap, ◌∙◌, arith, keys_of, lookup, Command, Held, Now, Refused, Booking, DeskState, is_booked, put_in, reply_to_book, request_id, after_book, after_reply}
 
 -- a look-up finds an id where it was booked
 booked-found : (id : ℕ) (booked : List (ℕ × ℕ)) → is_booked id (keys_of booked) ≡ is_some (lookup (eqb id) booked)

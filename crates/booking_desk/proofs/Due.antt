@@ -1,12 +1,5 @@
 -- What is due at a desk.
-use Rattle.std.proofs.Common.{◌≡◌, true, leb, List, [], ◌∷◌, ◌++◌, Option, Some, None, refl, sym, ap, subst, ◌∙◌, append_assoc, append-nil}
-use Rattle.std.specs.Prelude.{option_map, IfSome}
-use Rattle.std.specs.Option.{option_map_or}
-use Rattle.ride_model.specs.declared.command.Command.{Command}
-use Rattle.booking_desk.specs.Desk.{Booking, DeskState, id_of, most_bookings}
-use Rattle.booking_desk.specs.inner.Desk.{after_take, after_unbook, due_of}
-use Rattle.booking_desk.specs.inner.FeedDesk.{AreDue, with_due}
-use Rattle.booking_desk.specs.Released.{DeskCall, clock_of, desk_after}
+use Rattle.booking_desk.proofs.Common.{◌≡◌, true, leb, List, [], ◌∷◌, ◌++◌, Option, Some, None, refl, sym, ap, subst, ◌∙◌, append_assoc, append-nil, option_map, IfSome, option_map_or, Command, Booking, DeskState, id_of, most_bookings, after_take, after_unbook, due_of, AreDue, with_due, DeskCall, clock_of, desk_after}
 use Rattle.booking_desk.proofs.Moments.{due-first, none-else}
 
 -- the booking of which a request is

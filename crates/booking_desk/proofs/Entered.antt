@@ -1,17 +1,6 @@
 -- What the maps keep after a booking was entered, and after the first was taken.
-use Rattle.std.proofs.Common.{◌≡◌, ℕ, ◌<◌, Bool, true, false, eqb, leb, List, [], ◌∷◌, ◌++◌, Option, Some, None, length, take, IsSome, refl, sym, ap, subst, ◌∙◌, arith}
-use Rattle.std.specs.Prelude.{find, option_to_list, ◌↔◌}
-use Rattle.std.specs.declared.cmp.Ordering.{Ordering}
-use Rattle.std.specs.declared.cmp.Ordering.TheVariants.{Less, Equal, Greater}
-use Rattle.std.specs.List.{AllByRecursion}
+use Rattle.booking_desk.proofs.Common.{◌≡◌, ℕ, ◌<◌, Bool, true, false, eqb, leb, List, [], ◌∷◌, ◌++◌, Option, Some, None, length, take, IsSome, refl, sym, ap, subst, ◌∙◌, arith, find, option_to_list, ◌↔◌, Ordering, Less, Equal, Greater, AllByRecursion, keys_of, lookup, insert_entry, is_at, map-append, length-append, take-append_seam, Booking, request_id, is_due, without, booking_in, bookings_in, key_cmp, IsHeldEntry}
 use Rattle.std.specs.List.Sorted.{IsStrictlySortedBy}
-use Rattle.std.specs.Map.{keys_of, lookup}
-use Rattle.std.specs.BTreeMap.{insert_entry, is_at}
-use Rattle.std.proofs.lemmas.List.{map-append, length-append}
-use Rattle.std.proofs.Math.Seq.{take-append_seam}
-use Rattle.booking_desk.specs.Desk.{Booking, request_id}
-use Rattle.booking_desk.specs.inner.Desk.{is_due, without}
-use Rattle.booking_desk.specs.inner.Kept.{booking_in, bookings_in, key_cmp, IsHeldEntry}
 use Rattle.booking_desk.proofs.Keys.{Entry, IsKeyed}
 use Rattle.booking_desk.proofs.HeldEntries.{HaveOtherIds, later-others, none-due, not-at, others-stay}
 

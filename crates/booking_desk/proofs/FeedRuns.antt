@@ -1,18 +1,8 @@
 -- What was written of a feed that was booked to its end, or was stopped.
-use Rattle.std.proofs.Common.{◌≡◌, ℕ, false, List, [], ◌++◌, Option, Some, None, refl, sym, subst, ◌∙◌}
+use Rattle.booking_desk.proofs.Common.{◌≡◌, ℕ, false, List, [], ◌++◌, Option, Some, None, refl, sym, subst, ◌∙◌, HasRun, ran_of, are-taken, none-first, Reads-none, WritesPrefix-of_first, feed_limits, HasPut, OutputState, put-nothing, written-prefix, written-whole, FeedDesk, last_line_after, text_of_lines, IsBooked, HasBooked, run_text}
 use Rattle.line_text.specs.declared.line_reader.stops.Stop.{Stop}
 use Rattle.line_text.specs.declared.line_reader.stops.Stop.TheVariants.{NoMemory}
-use Rattle.line_text.specs.inner.line_reader.FeedRuns.{HasRun, ran_of}
-use Rattle.line_text.proofs.line_reader.FeedLines.{are-taken, none-first}
 use Rattle.ride_ports.specs.Bytes.{Writes, WritesPrefix}
-use Rattle.ride_ports.proofs.ByteLemmas.{Reads-none, WritesPrefix-of_first}
-use Rattle.command_lines.specs.Limits.{feed_limits}
-use Rattle.line_text.specs.inner.text_page.Output.{HasPut, OutputState}
-use Rattle.line_text.proofs.text_page.OutputLemmas.{put-nothing, written-prefix, written-whole}
-use Rattle.booking_desk.specs.declared.feed_desk.FeedDesk.{FeedDesk}
-use Rattle.booking_desk.specs.BookText.{last_line_after, text_of_lines}
-use Rattle.booking_desk.specs.Booked.{IsBooked}
-use Rattle.booking_desk.specs.inner.FeedDesk.{HasBooked, run_text}
 use Rattle.booking_desk.proofs.BookedLines.{text-nothing}
 
 -- writing what was put changes no lines

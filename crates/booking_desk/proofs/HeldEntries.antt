@@ -1,17 +1,6 @@
 -- The entries that keep what is held, as bookings.
-use Rattle.std.proofs.Common.{◌≡◌, ℕ, ◌<◌, ◌≤◌, Bool, true, false, eqb, leb, List, [], ◌∷◌, Some, None, is_some, refl, sym, ap, subst, ◌∙◌, arith}
-use Rattle.std.specs.Prelude.{filter, find, slice_get}
-use Rattle.std.specs.declared.cmp.Ordering.{Ordering}
-use Rattle.std.specs.declared.cmp.Ordering.TheVariants.{Less, Equal, Greater}
-use Rattle.std.specs.List.{AllByRecursion}
+use Rattle.booking_desk.proofs.Common.{◌≡◌, ℕ, ◌<◌, ◌≤◌, Bool, true, false, eqb, leb, List, [], ◌∷◌, Some, None, is_some, refl, sym, ap, subst, ◌∙◌, arith, filter, find, slice_get, Ordering, Less, Equal, Greater, AllByRecursion, keys_of, lookup, remove_entry, insert_entry, is_at, is_lt, is_eq, eqb-true, false_from_ne_true, is_before, is_held, put_in, request_id, is_due, without, booking_in, bookings_in, key_cmp, IsHeldEntry}
 use Rattle.std.specs.List.Sorted.{IsStrictlySortedBy}
-use Rattle.std.specs.Map.{keys_of, lookup, remove_entry}
-use Rattle.std.specs.BTreeMap.{insert_entry, is_at}
-use Rattle.std.specs.Ordering.{is_lt, is_eq}
-use Rattle.std.proofs.lemmas.Bool.{eqb-true, false_from_ne_true}
-use Rattle.booking_desk.specs.Desk.{is_before, is_held, put_in, request_id}
-use Rattle.booking_desk.specs.inner.Desk.{is_due, without}
-use Rattle.booking_desk.specs.inner.Kept.{booking_in, bookings_in, key_cmp, IsHeldEntry}
 use Rattle.booking_desk.proofs.Keys.{Entry, IsKeyed, key_total, key_cmp-same, Equal-ids, Less-releases, before-keys}
 
 -- no entry has the id

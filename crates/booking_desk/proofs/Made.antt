@@ -1,13 +1,5 @@
 -- The bookings that calls make, after one more call.
-use Rattle.std.proofs.Common.{◌≡◌, ℕ, zero, suc, ◌<◌, ◌≤◌, ◌+◌, Bool, true, false, eqb, ltb, List, [], ◌∷◌, ◌++◌, length, take, max, refl, sym, ap, ◌∙◌, arith}
-use Rattle.std.specs.Prelude.{filter, map, not, ◌||◌}
-use Rattle.std.specs.List.{AllByRecursion}
-use Rattle.std.proofs.lemmas.List.{length-append, length-take, take-append-le, append-nil, take_all}
-use Rattle.std.proofs.lemmas.List.Elements.{filter-append}
-use Rattle.ride_model.specs.declared.command.Command.{Command}
-use Rattle.booking_desk.specs.Desk.{is_booked}
-use Rattle.booking_desk.specs.Released.{DeskCall, book, unbook, clock, BookCall, book_calls, call_id, first_of_each_id, greatest_clock, made_of}
-use Rattle.model_laws.proofs.plain.Each.{each-filter, each-take}
+use Rattle.booking_desk.proofs.Common.{◌≡◌, ℕ, zero, suc, ◌<◌, ◌≤◌, ◌+◌, Bool, true, false, eqb, ltb, List, [], ◌∷◌, ◌++◌, length, take, max, refl, sym, ap, ◌∙◌, arith, filter, map, not, ◌||◌, AllByRecursion, length-append, length-take, take-append-le, append-nil, take_all, filter-append, Command, is_booked, DeskCall, book, unbook, clock, BookCall, book_calls, call_id, first_of_each_id, greatest_clock, made_of, each-filter, each-take}
 
 -- the call of a booking
 abbrev pub call_for : ℕ → ℕ → Command → BookCall

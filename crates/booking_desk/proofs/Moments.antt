@@ -1,16 +1,7 @@
 -- Where all that are due are taken after each call, they are those that are released, in their order.
-use Rattle.std.proofs.Common.{◌≡◌, ℕ, zero, suc, ◌≤◌, ◌+◌, Bool, true, false, eqb, leb, ltb, List, [], ◌∷◌, ◌++◌, Option, Some, None, max, refl, sym, ap, subst, ◌∙◌, arith}
-use Rattle.std.specs.Prelude.{find, map, ◌&&◌}
-use Rattle.std.specs.List.{AllByRecursion}
-use Rattle.std.specs.Option.{option_map_or}
-use Rattle.std.proofs.lemmas.List.{append_assoc, append-nil}
-use Rattle.booking_desk.specs.Desk.{Booking, DeskState, id_of}
-use Rattle.booking_desk.specs.inner.Desk.{after_take, after_unbook, due_of, is_due, new_desk, without}
-use Rattle.booking_desk.specs.Released.{DeskCall, book, unbook, clock, call_id, clock_of, desk_after, made_of, released_at, sorted, standing}
+use Rattle.booking_desk.proofs.Common.{◌≡◌, ℕ, zero, suc, ◌≤◌, ◌+◌, Bool, true, false, eqb, leb, ltb, List, [], ◌∷◌, ◌++◌, Option, Some, None, max, refl, sym, ap, subst, ◌∙◌, arith, find, map, ◌&&◌, AllByRecursion, option_map_or, append_assoc, append-nil, Booking, DeskState, id_of, after_take, after_unbook, due_of, is_due, new_desk, without, DeskCall, book, unbook, clock, call_id, clock_of, desk_after, made_of, released_at, sorted, standing, DeskStep, call, take_due, after_call, after_steps, before, calls_of, taken_by, TakesAllDue, each-weaker}
 use Rattle.booking_desk.specs.inner.Released.{released_after, released_of}
-use Rattle.booking_desk.specs.inner.Steps.{DeskStep, call, take_due, after_call, after_steps, before, calls_of, taken_by, TakesAllDue}
 use Rattle.booking_desk.proofs.AfterCalls.{booked-is, clock-is, held-is, ids-are, unbooked-is}
-use Rattle.model_laws.proofs.plain.Each.{each-weaker}
 use Rattle.booking_desk.proofs.BookingOrder.{passing}
 use Rattle.booking_desk.proofs.Sound.{IsSound, sound-call, sound-new, sound-take, times, without-none}
 

@@ -1,18 +1,6 @@
 -- What is taken is taken once, not before its release and not after it was unbooked.
-use Rattle.std.proofs.Common.{◌≡◌, ℕ, ◌≤◌, ◌+◌, Bool, true, false, eqb, leb, List, [], ◌∷◌, ◌++◌, Option, Some, None, refl, sym, ap, subst, ◌∙◌, arith}
-use Rattle.std.specs.Prelude.{Contains, IfSome, filter, find, map, not, ◌||◌}
-use Rattle.std.specs.List.{AllByRecursion, IsDistinct}
-use Rattle.std.proofs.lemmas.List.{append_assoc, append-nil}
-use Rattle.std.proofs.lemmas.List.Elements.{Contains-append_left, Contains-push, All-from_recursion}
-use Rattle.ride_model.specs.declared.command.Command.{Command}
-use Rattle.booking_desk.specs.declared.replies.BookReply.{BookReply}
-use Rattle.booking_desk.specs.declared.replies.BookReply.TheVariants.{Held, Now, Refused}
-use Rattle.booking_desk.specs.Desk.{Booking, DeskState, id_of, is_before, is_booked, is_held, put_in, reply_to_book, request_id}
-use Rattle.booking_desk.specs.inner.Desk.{after_book, after_take, after_unbook, due_of, is_due, new_desk}
-use Rattle.booking_desk.specs.Released.{DeskCall, book, unbook, clock, clock_of, greatest_clock}
-use Rattle.booking_desk.specs.inner.Steps.{DeskStep, call, take_due, after_call, after_steps, calls_of, taken_by}
-use Rattle.model_laws.proofs.plain.Filters.{any-append}
-use Rattle.model_laws.proofs.plain.Each.{each-append, each-filter, each-weaker, IfSome-find}
+use Rattle.booking_desk.proofs.Common.{◌≡◌, ℕ, ◌≤◌, ◌+◌, Bool, true, false, eqb, leb, List, [], ◌∷◌, ◌++◌, Option, Some, None, refl, sym, ap, subst, ◌∙◌, arith, Contains, IfSome, filter, find, map, not, ◌||◌, AllByRecursion, append_assoc, append-nil, Contains-append_left, Contains-push, All-from_recursion, Command, BookReply, Held, Now, Refused, Booking, DeskState, id_of, is_before, is_booked, is_held, put_in, reply_to_book, request_id, after_book, after_take, after_unbook, due_of, is_due, new_desk, DeskCall, book, unbook, clock, clock_of, greatest_clock, DeskStep, call, take_due, after_call, after_steps, calls_of, taken_by, any-append, each-append, each-filter, each-weaker, IfSome-find}
+use Rattle.std.specs.List.{IsDistinct}
 use Rattle.booking_desk.proofs.Sound.{IsSound, found-times, held-new, sound-call, sound-new, times, times-filter, times-put_in, times-without}
 
 -- an id that was booked and is not held

@@ -1,24 +1,8 @@
 -- What a desk has submitted so far.
-use Rattle.std.proofs.Common.{◌≡◌, ℕ, ◌≤◌, ◌+◌, Bool, true, false, leb, List, [], ◌∷◌, ◌++◌, Some, None, length, All, refl, sym, ap, subst, ◌∙◌, arith, append_assoc, append-nil}
-use Rattle.std.specs.Prelude.{filter, find}
-use Rattle.std.specs.List.{AllByRecursion, AllZip}
-use Rattle.std.proofs.lemmas.List.{length-append}
-use Rattle.std.proofs.lemmas.List.Elements.{All-rest, filter-append, filter_map-append}
+use Rattle.booking_desk.proofs.Common.{◌≡◌, ℕ, ◌≤◌, ◌+◌, Bool, true, false, leb, List, [], ◌∷◌, ◌++◌, Some, None, length, All, refl, sym, ap, subst, ◌∙◌, arith, append_assoc, append-nil, filter, find, AllByRecursion, AllZip, length-append, All-rest, filter-append, filter_map-append, Feed, Entry, Fed, Reply, command_of, IsSpelledCommand, Known, AddsEntry, AddsNone, commands_in, root_of, Booking, DeskState, after_take, due_of, is_due, filter-all, each-append, found_among}
 use Rattle.turn_lock.proofs.Lists.{prefix_self, prefix_trans}
-use Rattle.ride_model.specs.declared.command.Actor.TheVariants.{Feed}
-use Rattle.ride_model.specs.declared.entry.Entry.{Entry}
-use Rattle.ride_model.specs.declared.entry.Event.TheVariants.{Fed}
-use Rattle.ride_model.specs.declared.reply.Reply.{Reply}
-use Rattle.ride_model.specs.History.{command_of}
-use Rattle.ride_model.specs.Text.{IsSpelledCommand}
-use Rattle.fleet_board.specs.inner.Passes.{Known, AddsEntry, AddsNone, commands_in, root_of}
-use Rattle.booking_desk.specs.Desk.{Booking, DeskState}
-use Rattle.booking_desk.specs.inner.Desk.{after_take, due_of, is_due}
 use Rattle.booking_desk.specs.inner.Releases.{HasSubmitted, IsAnswerTo, all_due}
 use Rattle.booking_desk.proofs.Due.{taken-rest}
-use Rattle.model_laws.proofs.plain.Filters.{filter-all}
-use Rattle.model_laws.proofs.plain.Each.{each-append}
-use Rattle.model_laws.proofs.plain.Among.{found_among}
 
 -- these bookings were due and are submitted, and few enough are left
 pub record ReleasesSoFar (desk new_desk : DeskState) (pass new_pass : Known) (count : ℕ) : Type 0 where

@@ -1,18 +1,8 @@
 -- What a desk shows of what it keeps.
-use Rattle.std.proofs.Common.{◌≡◌, ℕ, false, eqb, List, [], ◌∷◌, Some, refl, ap, subst, ◌∙◌, arith}
-use Rattle.std.specs.Prelude.{AllPairs, Contains, IsTrue, IsSome, map}
-use Rattle.std.specs.declared.cmp.Ordering.TheVariants.{Less}
-use Rattle.std.specs.List.{AllByRecursion, IsDistinct}
+use Rattle.booking_desk.proofs.Common.{◌≡◌, ℕ, false, eqb, List, [], ◌∷◌, Some, refl, ap, subst, ◌∙◌, arith, AllPairs, Contains, IsTrue, IsSome, map, Less, AllByRecursion, keys_of, lookup, is_lt, length-map, recursion_from_All, All-from_recursion, All-map, All-weaker, Contains-keys_from_lookup, exact_unsigned_eq, Booking, id_of, is_before, request_id, IsDesk, IsRequest, booking_in, bookings_in, key_cmp, IsHeldEntry, IsKept}
+use Rattle.std.specs.List.{IsDistinct}
 use Rattle.std.specs.List.Sorted.{IsStrictlySortedBy}
-use Rattle.std.specs.Map.{keys_of, lookup}
-use Rattle.std.specs.Ordering.{is_lt}
-use Rattle.std.proofs.lemmas.List.{length-map}
-use Rattle.std.proofs.lemmas.List.Elements.{recursion_from_All, All-from_recursion, All-map, All-weaker}
 use Rattle.std.proofs.lemmas.List.Kept.{AllPairs-cons}
-use Rattle.std.proofs.lemmas.Map.Views.{Contains-keys_from_lookup, exact_unsigned_eq}
-use Rattle.booking_desk.specs.Desk.{Booking, id_of, is_before, request_id}
-use Rattle.booking_desk.specs.inner.Desk.{IsDesk, IsRequest}
-use Rattle.booking_desk.specs.inner.Kept.{booking_in, bookings_in, key_cmp, IsHeldEntry, IsKept}
 use Rattle.booking_desk.proofs.Keys.{Entry, IsKeyed, before-keys}
 use Rattle.booking_desk.proofs.HeldEntries.{HaveOtherIds, later-others}
 use Rattle.booking_desk.proofs.Entered.{keyed-from_kept}

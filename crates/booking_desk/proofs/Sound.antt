@@ -1,15 +1,5 @@
 -- Every desk holds at most one booking of an id, and none of an id that was not booked.
-use Rattle.std.proofs.Common.{◌≡◌, ℕ, ◌≤◌, ◌+◌, Bool, true, false, cond, eqb, ltb, List, [], ◌∷◌, ◌++◌, Option, Some, None, refl, sym, ap, subst, ◌∙◌, arith}
-use Rattle.std.specs.Prelude.{filter, find, not, ◌||◌}
-use Rattle.std.proofs.lemmas.Bool.{eqb-true}
-use Rattle.ride_model.specs.declared.command.Command.{Command}
-use Rattle.booking_desk.specs.declared.replies.BookReply.{BookReply}
-use Rattle.booking_desk.specs.declared.replies.BookReply.TheVariants.{Held, Now, Refused}
-use Rattle.booking_desk.specs.Desk.{Booking, DeskState, id_of, is_before, is_booked, put_in, reply_to_book, request_id}
-use Rattle.booking_desk.specs.inner.Desk.{after_book, after_take, due_of, new_desk, without}
-use Rattle.booking_desk.specs.Released.{DeskCall, book, unbook, clock}
-use Rattle.booking_desk.specs.inner.Steps.{after_call}
-use Rattle.model_laws.proofs.plain.Filters.{any-append}
+use Rattle.booking_desk.proofs.Common.{◌≡◌, ℕ, ◌≤◌, ◌+◌, Bool, true, false, cond, eqb, ltb, List, [], ◌∷◌, ◌++◌, Option, Some, None, refl, sym, ap, subst, ◌∙◌, arith, filter, find, not, ◌||◌, eqb-true, Command, BookReply, Held, Now, Refused, Booking, DeskState, id_of, is_before, is_booked, put_in, reply_to_book, request_id, after_book, after_take, due_of, new_desk, without, DeskCall, book, unbook, clock, after_call, any-append}
 use Rattle.model_laws.proofs.plain.Numbers.{eqb-flip}
 use Rattle.booking_desk.proofs.BookingOrder.{before-not_after}
 

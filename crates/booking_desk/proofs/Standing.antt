@@ -1,17 +1,5 @@
 -- The bookings that stand, after one more call.
-use Rattle.std.proofs.Common.{◌≡◌, ℕ, ◌<◌, ◌≤◌, ◌+◌, Bool, true, false, eqb, ltb, List, [], ◌∷◌, ◌++◌, length, take, drop, refl, ap, ◌∙◌, arith}
-use Rattle.std.specs.Prelude.{filter, map, not, ◌||◌}
-use Rattle.std.specs.List.{AllByRecursion, list_any}
-use Rattle.std.proofs.lemmas.List.{map-append, append-nil, drop-append-le}
-use Rattle.std.proofs.lemmas.List.Elements.{filter-append}
-use Rattle.std.proofs.Math.Seq.{drop-append_seam}
-use Rattle.std.proofs.Math.Bool.{or-false}
-use Rattle.ride_model.specs.declared.command.Command.{Command}
-use Rattle.booking_desk.specs.Desk.{is_booked, request_id}
-use Rattle.booking_desk.specs.inner.Desk.{without}
-use Rattle.booking_desk.specs.Released.{DeskCall, book, unbook, clock, BookCall, book_calls, call_id, first_of_each_id, is_unbook, is_unbooked, made_of, standing}
-use Rattle.model_laws.proofs.plain.Filters.{any-append, filter-same}
-use Rattle.model_laws.proofs.plain.Each.{each-weaker}
+use Rattle.booking_desk.proofs.Common.{◌≡◌, ℕ, ◌<◌, ◌≤◌, ◌+◌, Bool, true, false, eqb, ltb, List, [], ◌∷◌, ◌++◌, length, take, drop, refl, ap, ◌∙◌, arith, filter, map, not, ◌||◌, AllByRecursion, list_any, map-append, append-nil, drop-append-le, filter-append, drop-append_seam, or-false, Command, is_booked, request_id, without, DeskCall, book, unbook, clock, BookCall, book_calls, call_id, first_of_each_id, is_unbook, is_unbooked, made_of, standing, any-append, filter-same, each-weaker}
 use Rattle.booking_desk.proofs.Made.{call_for, calls-append, made-places, taken-again, taken-full, taken-new}
 
 -- one more call unbooks a booking where it is an unbook of its id

@@ -5,11 +5,12 @@ use Rattle.line_text.specs.Fields.{begins_with, is_over_long}
 use Rattle.line_text.specs.Lines.{lines_of}
 use Rattle.ride_model.specs.declared.command.Command.{Command}
 use Rattle.ride_model.specs.declared.command.Command.TheVariants.{Request}
+use Rattle.ride_model.specs.Refusals.{code_of, not_held}
 use Rattle.command_lines.specs.Commands.{spelling_of}
 use Rattle.booking_desk.specs.declared.replies.BookReply.{BookReply}
 use Rattle.booking_desk.specs.declared.replies.BookReply.TheVariants.{Held, Now, Refused}
 use Rattle.booking_desk.specs.BookLines.{call_of, calls_in}
-use Rattle.booking_desk.specs.Desk.{Booking, is_held, most_bookings, not_held, reply_to_book}
+use Rattle.booking_desk.specs.Desk.{Booking, is_held, most_bookings, reply_to_book}
 use Rattle.booking_desk.specs.Released.{DeskCall, book, unbook, clock, desk_after, released_at}
 
 -- bytes as a line
@@ -51,7 +52,7 @@ abbrev pub call_text : List DeskCall → ℕ → List ℕ → DeskCall → List 
 call_text calls number line (book release request) =
     reply_text (reply_to_book (desk_after most_bookings calls) release request) number request
 call_text calls number line (unbook id) =
-    if is_held id (desk_after most_bookings calls).held then [] else refusal_line not_held number
+    if is_held id (desk_after most_bookings calls).held then [] else refusal_line (code_of not_held) number
 call_text calls number line (clock time) = with_lf line ++ released_text (released_at most_bookings calls time)
 
 -- what a line gives by what it asks of a desk: a line that asks nothing stands as it is

@@ -5,6 +5,7 @@ use Rattle.std.specs.Ordering.{is_lt, nat_cmp, ordering_then}
 use Rattle.ride_model.specs.declared.command.Command.{Command}
 use Rattle.ride_model.specs.declared.command.Command.TheVariants.{Request}
 use Rattle.ride_model.specs.Limits.{latest_time, most_requests}
+use Rattle.ride_model.specs.Refusals.{booked_before, code_of, desk_full, late_release}
 use Rattle.booking_desk.specs.declared.replies.BookReply.{BookReply}
 use Rattle.booking_desk.specs.declared.replies.BookReply.TheVariants.{Held, Now, Refused}
 
@@ -48,24 +49,11 @@ is_booked id booked = list_any (λ other. id == other) booked
 abbrev pub most_bookings : ℕ
 most_bookings = most_requests
 
--- why a booking is refused, or not given up
-abbrev pub booked_before : ℕ
-booked_before = 19
-
-abbrev pub late_release : ℕ
-late_release = 20
-
-abbrev pub not_held : ℕ
-not_held = 21
-
-abbrev pub desk_full : ℕ
-desk_full = 22
-
 -- how a booking is answered: the release is not after the latest time, the id was never booked, and the desk is not full
 abbrev pub reply_to_book : DeskState → ℕ → Command → BookReply
 reply_to_book desk release request =
-    if nat_lt latest_time release then Refused late_release
-    else (if is_booked (request_id request) desk.booked then Refused booked_before
-    else (if nat_le desk.most (length desk.booked) then Refused desk_full
+    if nat_lt latest_time release then Refused (code_of late_release)
+    else (if is_booked (request_id request) desk.booked then Refused (code_of booked_before)
+    else (if nat_le desk.most (length desk.booked) then Refused (code_of desk_full)
     else (if nat_le release desk.clock then Now
     else Held)))

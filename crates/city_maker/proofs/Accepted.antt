@@ -1,22 +1,5 @@
 -- The reports of a vehicle's driver are accepted, and none is late.
-use Rattle.std.proofs.Common.{◌≡◌, ℕ, zero, suc, ◌+◌, ◌≤◌, ◌==◌, nat_eq, nat_lt, nat_le, Bool, true, false, cond, List, [], ◌∷◌, map, Option, Some, None, inl, inr, refl, sym, ap, ◌∙◌, subst, arith, true≢false}
-use Rattle.std.specs.Prelude.{find, slice_get, not}
-use Rattle.std.specs.List.{IsDistinct, enumerate_from, AllByRecursion}
-use Rattle.std.proofs.lemmas.Bool.{eq-eqb, le-leb, le-ltb, leb-true}
-use Rattle.std.proofs.lemmas.List.Elements.{All-contains}
-use Rattle.std.proofs.lemmas.Map.Keys.{IsDistinct-head, IsDistinct-tail}
-use Rattle.ride_model.specs.declared.command.Command.{Command}
-use Rattle.ride_model.specs.declared.command.Command.TheVariants.{At, Done}
-use Rattle.ride_model.specs.declared.reply.Reply.TheVariants.{OnMap}
-use Rattle.ride_model.specs.declared.vehicle.Kind.{Kind}
-use Rattle.ride_model.specs.declared.vehicle.Kind.TheVariants.{Pickup, Dropoff}
-use Rattle.ride_model.specs.declared.vehicle.Stop.{Stop}
-use Rattle.ride_model.specs.declared.vehicle.Vehicle.{Vehicle}
-use Rattle.ride_model.specs.Drill.{report_of}
-use Rattle.ride_model.specs.Road.{IsNode}
-use Rattle.ride_model.specs.State.{State, placed_vehicle}
-use Rattle.ride_model.specs.Step.{Answered, step, at_step, done_step, at_found, done_found, done_at_stop, is_node, served_reply, report, reported, report_driving, report_reply}
-use Rattle.ride_model.specs.Vehicle.{IsRide}
+use Rattle.city_maker.proofs.Common.{◌≡◌, ℕ, zero, suc, ◌+◌, ◌≤◌, ◌==◌, nat_eq, nat_lt, nat_le, Bool, true, false, cond, List, [], ◌∷◌, map, Option, Some, None, inl, inr, refl, sym, ap, ◌∙◌, subst, arith, true≢false, find, slice_get, not, IsDistinct, enumerate_from, AllByRecursion, eq-eqb, le-leb, le-ltb, leb-true, All-contains, IsDistinct-head, IsDistinct-tail, Command, At, Done, OnMap, Kind, Pickup, Dropoff, Stop, Vehicle, report_of, IsNode, State, placed_vehicle, Answered, step, at_step, done_step, at_found, done_found, done_at_stop, is_node, served_reply, report, reported, report_driving, report_reply, IsRide}
 use Rattle.model_laws.proofs.plain.Among.{Among, contains_from_among}
 use Rattle.model_laws.proofs.PlanStops.{stop-of-ride}
 use Rattle.model_laws.proofs.TravelTimes.{travel-same}

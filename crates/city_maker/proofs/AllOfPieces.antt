@@ -1,10 +1,5 @@
 -- What holds of each element of a list that is made of pieces, or over a range.
-use Rattle.std.proofs.Common.{ℕ, zero, suc, ◌+◌, ◌*◌, ◌<◌, ◌≤◌, List, [], ◌∷◌, length, map, sym, subst, arith}
-use Rattle.std.specs.Prelude.{All}
-use Rattle.std.specs.List.{flat_map, range_with_len, enumerate_from}
-use Rattle.std.proofs.lemmas.List.{length-append}
-use Rattle.std.proofs.lemmas.List.Elements.{All-nil, All-cons, All-head, All-tail, All-append, All-map, All-from_get_or}
-use Rattle.std.proofs.lemmas.List.FromFn.{length-range_with_len, get_or-range_with_len}
+use Rattle.city_maker.proofs.Common.{ℕ, zero, suc, ◌+◌, ◌*◌, ◌<◌, ◌≤◌, List, [], ◌∷◌, length, map, sym, subst, arith, All, flat_map, range_with_len, enumerate_from, length-append, All-nil, All-cons, All-head, All-tail, All-append, All-map, All-from_get_or, length-range_with_len, get_or-range_with_len}
 
 pub All-range : (P : ℕ → Type 0) (a n : ℕ) → ((k : ℕ) → a ≤ k → k < a + n → P k) → All P (range_with_len a n)
 All-range P a n each = All-from_get_or P (range_with_len a n) 0 (λ i below.

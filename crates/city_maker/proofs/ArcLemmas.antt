@@ -1,13 +1,6 @@
 -- Arcs with one pair of neighbours more.
-use Rattle.std.proofs.Common.{◌≡◌, ℕ, ◌+◌, ◌<◌, ◌≤◌, Bool, true, false, cond, nat_lt, List, [], ◌∷◌, ◌++◌, length, refl, sym, ap, ◌∙◌, append_assoc, subst, arith}
-use Rattle.std.specs.List.{flat_map, enumerate_from}
-use Rattle.std.proofs.lemmas.List.{append-nil, length_push}
-use Rattle.std.proofs.lemmas.Bool.{lt-ltb, le-ltb}
-use Rattle.std.proofs.lemmas.List.Concat.{flat_map-append}
+use Rattle.city_maker.proofs.Common.{◌≡◌, ℕ, ◌+◌, ◌<◌, ◌≤◌, Bool, true, false, cond, nat_lt, List, [], ◌∷◌, ◌++◌, length, refl, sym, ap, ◌∙◌, append_assoc, subst, arith, flat_map, enumerate_from, append-nil, length_push, lt-ltb, le-ltb, flat_map-append, state_after, draw_at, node_at, arc, arcs_between, arcs_of, pairs_at, pairs_in_row, pairs_in_rows, HasJoined}
 use Rattle.city_maker.specs.declared.roads.Roads.{Roads}
-use Rattle.city_maker.specs.Draws.{state_after, draw_at}
-use Rattle.city_maker.specs.Roads.{node_at, arc, arcs_between, arcs_of, pairs_at, pairs_in_row, pairs_in_rows}
-use Rattle.city_maker.specs.inner.Growth.{HasJoined}
 use Rattle.city_maker.proofs.ListsOfRanges.{flat_map-range_more, enumerate_from-push}
 
 pub arcs_of-push : (seed : ℕ) (pairs : List (ℕ × ℕ)) (pair : ℕ × ℕ)

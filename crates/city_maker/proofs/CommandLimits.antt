@@ -1,21 +1,5 @@
 -- The commands of a plan within its ranges have a text, and the nodes that they name are on the map.
-use Rattle.std.proofs.Common.{◌≡◌, ◌≢◌, ℕ, ◌+◌, ◌-◌, ◌*◌, ◌%◌, ◌<◌, ◌≤◌, min, [], ◌∷◌, ◌++◌, inl, inr, refl, sym, ap, ◌∙◌, subst, arith}
-use Rattle.std.specs.Prelude.{All}
-use Rattle.std.specs.List.{flat_map, range_with_len}
-use Rattle.std.proofs.lemmas.Bool.{cases_eq, cases_lt}
-use Rattle.std.proofs.lemmas.List.Elements.{All-nil, All-cons, All-append}
-use Rattle.std.proofs.lemmas.Nat.{mul-le}
-use Rattle.std.proofs.Math.Nat.{mod-eq_of_lt, mod_self}
-use Rattle.ride_model.specs.declared.command.Command.{Command}
-use Rattle.ride_model.specs.declared.command.Command.TheVariants.{Clock, Ask}
-use Rattle.ride_model.specs.Text.{IsSpelledCommand}
-use Rattle.city_maker.specs.declared.plan.CityPlan.{CityPlan}
-use Rattle.city_maker.specs.Draws.{draw_at}
-use Rattle.city_maker.specs.Plan.{nodes_of}
-use Rattle.city_maker.specs.inner.Plan.{IsPlan}
-use Rattle.city_maker.specs.Roads.{network_of}
-use Rattle.city_maker.specs.Feed.{apart, clock_of, commands_of, draws_before, from_of, group_of, groups_of, request_of, requests_in, seats_of, to_of}
-use Rattle.city_maker.specs.inner.Cities.{IsOnMap}
+use Rattle.city_maker.proofs.Common.{◌≡◌, ◌≢◌, ℕ, ◌+◌, ◌-◌, ◌*◌, ◌%◌, ◌<◌, ◌≤◌, min, [], ◌∷◌, ◌++◌, inl, inr, refl, sym, ap, ◌∙◌, subst, arith, All, flat_map, range_with_len, cases_eq, cases_lt, All-nil, All-cons, All-append, mul-le, mod-eq_of_lt, mod_self, Command, Clock, Ask, IsSpelledCommand, CityPlan, draw_at, nodes_of, IsPlan, network_of, apart, clock_of, commands_of, draws_before, from_of, group_of, groups_of, request_of, requests_in, seats_of, to_of, IsOnMap}
 use Rattle.city_maker.proofs.AllOfPieces.{All-map_range, All-flat_map_range}
 use Rattle.city_maker.proofs.DrawLemmas.{draw_at-below}
 use Rattle.city_maker.proofs.RequestLemmas.{apart-same, apart-other}

@@ -1,7 +1,5 @@
 -- States after draws.
-use Rattle.std.proofs.Common.{◌≡◌, ℕ, ◌+◌, ◌/◌, ◌<◌, refl, add-one}
-use Rattle.std.proofs.lemmas.Nat.{mod_below}
-use Rattle.city_maker.specs.Draws.{next_state, state_after, drawn, draw_at}
+use Rattle.city_maker.proofs.Common.{◌≡◌, ℕ, ◌+◌, ◌/◌, ◌<◌, refl, add-one, mod_below, next_state, state_after, drawn, draw_at}
 
 pub state_after-none : (seed : ℕ) → state_after seed 0 ≡ seed
 unfolding state_after

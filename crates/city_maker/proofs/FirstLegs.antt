@@ -1,9 +1,5 @@
 -- The leg to the first stop of a vehicle.
-use Rattle.std.proofs.Common.{◌≡◌, ◌<◌, ◌≤◌, List, length, get_or, sym, subst}
-use Rattle.std.proofs.lemmas.List.Elements.{All-get_or, All-same}
-use Rattle.ride_model.specs.declared.vehicle.Stop.{Stop}
-use Rattle.ride_model.specs.declared.vehicle.Vehicle.{Vehicle}
-use Rattle.ride_model.specs.inner.Vehicle.{IsRoutedSomewhere}
+use Rattle.city_maker.proofs.Common.{◌≡◌, ◌<◌, ◌≤◌, List, length, get_or, sym, subst, All-get_or, All-same, Stop, Vehicle, IsRoutedSomewhere}
 use Rattle.stop_plans.proofs.Legs.{legs_are_bounded}
 
 pub first-leg-le : (v : Vehicle) (stops : List Stop) (first : Stop) → IsRoutedSomewhere v → stops ≡ v.stops.items → 0 < length stops

@@ -1,21 +1,6 @@
 -- The fleet of a plan within its ranges is within the limits of a fleet, and each vehicle is as a fleet starts.
-use Rattle.std.proofs.Common.{◌≡◌, ◌≢◌, ℕ, zero, suc, ◌+◌, ◌*◌, ◌<◌, ◌≤◌, ◌^◌, nat_eq, [], length, ◌∷◌, get_or, map, refl, sym, ap, ◌∙◌, subst, arith}
-use Rattle.std.specs.Prelude.{All}
-use Rattle.std.specs.List.{IsDistinct, range_with_len}
-use Rattle.std.proofs.lemmas.Bool.{ne_eqb}
-use Rattle.std.proofs.lemmas.List.Elements.{All-nil}
-use Rattle.std.proofs.lemmas.List.FromFn.{length-map-range_with_len, get_or-map-range_with_len}
-use Rattle.std.proofs.lemmas.Map.Keys.{IsDistinct-from_apart}
-use Rattle.std.proofs.lemmas.Nat.{mul-le}
-use Rattle.ride_model.specs.declared.vehicle.Vehicle.{Vehicle}
-use Rattle.ride_model.specs.Fleet.{IsFleet}
-use Rattle.ride_model.specs.Vehicle.{IsLawful}
-use Rattle.city_maker.specs.declared.plan.CityPlan.{CityPlan}
-use Rattle.city_maker.specs.Draws.{draw_at}
-use Rattle.city_maker.specs.Plan.{nodes_of}
-use Rattle.city_maker.specs.inner.Plan.{IsPlan}
-use Rattle.city_maker.specs.Roads.{network_of}
-use Rattle.city_maker.specs.Fleets.{fleet_of, road_draws, vehicle_of}
+use Rattle.city_maker.proofs.Common.{◌≡◌, ◌≢◌, ℕ, zero, suc, ◌+◌, ◌*◌, ◌<◌, ◌≤◌, ◌^◌, nat_eq, [], length, ◌∷◌, get_or, map, refl, sym, ap, ◌∙◌, subst, arith, All, range_with_len, ne_eqb, All-nil, length-map-range_with_len, get_or-map-range_with_len, IsDistinct-from_apart, mul-le, Vehicle, IsFleet, IsLawful, CityPlan, draw_at, nodes_of, IsPlan, network_of, fleet_of, road_draws, vehicle_of}
+use Rattle.std.specs.List.{IsDistinct}
 use Rattle.city_maker.proofs.AllOfPieces.{All-map_range}
 use Rattle.city_maker.proofs.DrawLemmas.{draw_at-below}
 

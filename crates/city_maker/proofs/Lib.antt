@@ -1,3 +1,4 @@
+pub mod Common
 pub mod DrawLemmas
 pub mod ListsOfRanges
 pub mod AllOfPieces

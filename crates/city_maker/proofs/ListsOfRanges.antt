@@ -1,8 +1,5 @@
 -- Lists over the numbers of a range, with one number more.
-use Rattle.std.proofs.Common.{◌≡◌, ℕ, zero, suc, ◌+◌, ◌-◌, ◌≤◌, List, [], ◌∷◌, ◌++◌, length, map, sym, ap, ◌∙◌, append_assoc, add-one, arith}
-use Rattle.std.specs.List.{flat_map, range_with_len, enumerate_from}
-use Rattle.std.proofs.lemmas.List.{append-nil}
-use Rattle.std.proofs.lemmas.List.FromFn.{map-range_with_len_more}
+use Rattle.city_maker.proofs.Common.{◌≡◌, ℕ, zero, suc, ◌+◌, ◌-◌, ◌≤◌, List, [], ◌∷◌, ◌++◌, length, map, sym, ap, ◌∙◌, append_assoc, add-one, arith, flat_map, range_with_len, enumerate_from, append-nil, map-range_with_len_more}
 
 pub flat_map-range_more : {A : Type 0} (f : ℕ → List A) (a n j : ℕ) → a + n ≡ j
     → flat_map f (range_with_len a (n + 1)) ≡ flat_map f (range_with_len a n) ++ f j

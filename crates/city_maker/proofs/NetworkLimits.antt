@@ -1,18 +1,5 @@
 -- The road network of a plan within its ranges is within the limits of a map.
-use Rattle.std.proofs.Common.{◌≡◌, ℕ, ◌+◌, ◌*◌, ◌<◌, ◌≤◌, Bool, true, false, cond, nat_lt, List, [], ◌∷◌, length, refl, ap, ◌∙◌, arith}
-use Rattle.std.specs.Prelude.{All}
-use Rattle.std.specs.List.{flat_map, enumerate_from}
-use Rattle.std.proofs.lemmas.Bool.{ltb-true}
-use Rattle.std.proofs.lemmas.List.{length-append}
-use Rattle.std.proofs.lemmas.List.Elements.{All-nil, All-cons, All-append, All-weaker}
-use Rattle.std.proofs.lemmas.Nat.{mul-add-lt, mul-le}
-use Rattle.ride_model.specs.declared.network.RoadArc.{RoadArc}
-use Rattle.ride_model.specs.Road.{RoadMap, IsRoadMap, IsArc}
-use Rattle.city_maker.specs.declared.plan.CityPlan.{CityPlan}
-use Rattle.city_maker.specs.Draws.{draw_at}
-use Rattle.city_maker.specs.Plan.{nodes_of}
-use Rattle.city_maker.specs.inner.Plan.{IsPlan}
-use Rattle.city_maker.specs.Roads.{node_at, arc, arcs_between, arcs_of, neighbour_pairs, network_of, pairs_at, pairs_in_row, pairs_in_rows, right_pair, lower_pair}
+use Rattle.city_maker.proofs.Common.{◌≡◌, ℕ, ◌+◌, ◌*◌, ◌<◌, ◌≤◌, Bool, true, false, cond, nat_lt, List, [], ◌∷◌, length, refl, ap, ◌∙◌, arith, All, flat_map, enumerate_from, ltb-true, length-append, All-nil, All-cons, All-append, All-weaker, mul-add-lt, mul-le, RoadArc, RoadMap, IsRoadMap, IsArc, CityPlan, draw_at, nodes_of, IsPlan, node_at, arc, arcs_between, arcs_of, neighbour_pairs, network_of, pairs_at, pairs_in_row, pairs_in_rows, right_pair, lower_pair}
 use Rattle.city_maker.proofs.AllOfPieces.{All-flat_map, All-flat_map_range, All-enumerate, length-flat_map_range_le}
 use Rattle.city_maker.proofs.DrawLemmas.{draw_at-below}
 

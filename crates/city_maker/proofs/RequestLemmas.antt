@@ -1,12 +1,5 @@
 -- The requests of a city.
-use Rattle.std.proofs.Common.{◌≡◌, ◌≢◌, ℕ, ◌+◌, ◌*◌, ◌/◌, ◌%◌, List, [], ◌∷◌, ◌++◌, refl, ap, ◌∙◌, append_assoc, arith}
-use Rattle.std.proofs.lemmas.Bool.{eq-eqb, ne_eqb}
-use Rattle.ride_model.specs.declared.command.Command.{Command}
-use Rattle.ride_model.specs.declared.command.Command.TheVariants.{Request}
-use Rattle.city_maker.specs.declared.plan.CityPlan.{CityPlan}
-use Rattle.city_maker.specs.Draws.{state_after, draw_at}
-use Rattle.city_maker.specs.Plan.{nodes_of}
-use Rattle.city_maker.specs.Feed.{draws_before, from_of, to_of, seats_of, apart, request_of}
+use Rattle.city_maker.proofs.Common.{◌≡◌, ◌≢◌, ℕ, ◌+◌, ◌*◌, ◌/◌, ◌%◌, List, [], ◌∷◌, ◌++◌, refl, ap, ◌∙◌, append_assoc, arith, eq-eqb, ne_eqb, Command, Request, CityPlan, state_after, draw_at, nodes_of, draws_before, from_of, to_of, seats_of, apart, request_of}
 
 pub apart-same : (nodes from drawn : ℕ) → drawn ≡ from → apart nodes from drawn ≡ from % nodes + 1
 apart-same nodes from drawn same = rw (eq-eqb drawn from same) refl

@@ -1,12 +1,5 @@
 -- The vehicles of a city.
-use Rattle.std.proofs.Common.{◌≡◌, ℕ, ◌+◌, true, List, [], ap, ◌∙◌}
-use Rattle.ride_model.specs.declared.vehicle.Ride.{Ride}
-use Rattle.ride_model.specs.declared.vehicle.Stop.{Stop}
-use Rattle.ride_model.specs.declared.vehicle.Vehicle.{Vehicle}
-use Rattle.city_maker.specs.declared.plan.CityPlan.{CityPlan}
-use Rattle.city_maker.specs.Draws.{draw_at}
-use Rattle.city_maker.specs.Plan.{nodes_of}
-use Rattle.city_maker.specs.Fleets.{road_draws, vehicle_of}
+use Rattle.city_maker.proofs.Common.{◌≡◌, ℕ, ◌+◌, true, List, [], ap, ◌∙◌, Ride, Stop, Vehicle, CityPlan, draw_at, nodes_of, road_draws, vehicle_of}
 
 -- a vehicle as it is made
 abbrev made : ℕ → ℕ → List Ride → List Stop → Vehicle

@@ -1,21 +1,11 @@
 -- The commands of lines: of more lines, of the first lines, of one line.
-use Rattle.std.proofs.Common.{◌≡◌, ℕ, suc, ◌+◌, ◌≤◌, Option, Some, None, List, [], ◌∷◌, ◌++◌, length, take, drop, refl, ap, sym, subst, ◌∙◌, arith, append_assoc, take-append-drop}
-use Rattle.std.specs.Prelude.{IfSome, unwrap_or}
-use Rattle.ride_model.specs.declared.command.Command.{Command}
-use Rattle.ride_model.specs.declared.command.Command.TheVariants.{Bad}
-use Rattle.ride_model.specs.Text.{IsSpelledCommand}
-use Rattle.line_text.specs.Fields.{words_of}
-use Rattle.line_text.specs.Lines.{ended_lines, ended_after, rest_of, last_line}
-use Rattle.line_text.proofs.LineLemmas.{ended_lines-append}
-use Rattle.command_lines.specs.Commands.{before, command_of_fields, said_by_words, said_by, commands_from, commands_of}
-use Rattle.command_lines.specs.declared.forms.FeedForm.{FeedForm}
-use Rattle.command_lines.specs.Limits.{AreFirst, ended_commands}
+use Rattle.command_lines.proofs.Common.{◌≡◌, ℕ, suc, ◌+◌, ◌≤◌, Option, Some, None, List, [], ◌∷◌, ◌++◌, length, take, drop, refl, ap, sym, subst, ◌∙◌, arith, append_assoc, take-append-drop, IfSome, unwrap_or, cons_option, Command, Bad, IsSpelledCommand, words_of, ended_lines, ended_after, rest_of, last_line, ended_lines-append, command_of_fields, said_by_words, said_by, commands_from, commands_of, FeedForm, AreFirst, ended_commands}
 use Rattle.command_lines.proofs.Spelled.{spelled_fields}
 
 -- a command before others
-before-append : (o : Option Command) (xs : List Command) → before o xs ≡ before o [] ++ xs
-before-append None xs = refl
-before-append (Some command) xs = refl
+cons_option-append : (o : Option Command) (xs : List Command) → cons_option o xs ≡ cons_option o [] ++ xs
+cons_option-append None xs = refl
+cons_option-append (Some command) xs = refl
 
 -- the commands of lines and more lines
 pub commands_from-append : (log number : ℕ) (xs ys : List (List ℕ))
@@ -24,14 +14,14 @@ unfolding commands_from
 commands_from-append log number [] ys = ap (λ n. commands_from log n ys) (omega arith)
 commands_from-append log number (x ∷ xs) ys =
     let later : (number + 1) + length xs ≡ number + suc (length xs) = omega arith in
-    before-append (said_by log number x) (commands_from log (number + 1) (xs ++ ys))
-    ∙ ap (λ cs. before (said_by log number x) [] ++ cs) (commands_from-append log (number + 1) xs ys
+    cons_option-append (said_by log number x) (commands_from log (number + 1) (xs ++ ys))
+    ∙ ap (λ cs. cons_option (said_by log number x) [] ++ cs) (commands_from-append log (number + 1) xs ys
     ∙ ap (λ n. commands_from log (number + 1) xs ++ commands_from log n ys) later)
-    ∙ sym (append_assoc (before (said_by log number x) []) (commands_from log (number + 1) xs) (commands_from log (number + suc (length xs)) ys))
-    ∙ ap (λ cs. cs ++ commands_from log (number + suc (length xs)) ys) (sym (before-append (said_by log number x) (commands_from log (number + 1) xs)))
+    ∙ sym (append_assoc (cons_option (said_by log number x) []) (commands_from log (number + 1) xs) (commands_from log (number + suc (length xs)) ys))
+    ∙ ap (λ cs. cs ++ commands_from log (number + suc (length xs)) ys) (sym (cons_option-append (said_by log number x) (commands_from log (number + 1) xs)))
 
 -- the command of one line
-pub commands_from-one : (log number : ℕ) (line : List ℕ) → commands_from log number (line ∷ []) ≡ before (said_by log number line) []
+pub commands_from-one : (log number : ℕ) (line : List ℕ) → commands_from log number (line ∷ []) ≡ cons_option (said_by log number line) []
 unfolding commands_from
 commands_from-one log number line = refl
 
@@ -42,7 +32,7 @@ length-commands_from-le log number [] = omega arith
 length-commands_from-le log number (line ∷ lines) =
     at_most (said_by log number line) (commands_from log (number + 1) lines) (length-commands_from-le log (number + 1) lines)
   where
-    at_most : (o : Option Command) (cs : List Command) → length cs ≤ length lines → length (before o cs) ≤ suc (length lines)
+    at_most : (o : Option Command) (cs : List Command) → length cs ≤ length lines → length (cons_option o cs) ≤ suc (length lines)
     at_most None cs few = omega arith
     at_most (Some command) cs few = omega arith
 
@@ -88,7 +78,7 @@ said-spelled log number line command small is = by_words (words_of 35 line) is
     by_command None spelled e = same (Bad number) command (omega arith) e
     by_command (Some made) spelled e = same made command spelled e
 
-    by_words : (words : Option (List (List ℕ))) → said_by_words log number words ≡ Some command → IsSpelledCommand log command
+    by_words : (words : Option (List (List ℕ))) → said_by_words (command_of_fields log) (Bad number) words ≡ Some command → IsSpelledCommand log command
     by_words None e = same (Bad number) command (omega arith) e
     by_words (Some []) e = absurd (cc e)
     by_words (Some (word ∷ fields)) e = by_command (command_of_fields log (word ∷ fields)) (spelled_fields log (word ∷ fields)) e

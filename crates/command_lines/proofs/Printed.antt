@@ -1,19 +1,6 @@
 -- Commands that were printed, read again.
-use Rattle.std.proofs.Common.{◌≡◌, ◌≢◌, ℕ, zero, suc, ◌+◌, ◌^◌, ◌<◌, ◌≤◌, ◌==◌, true, false, cond, List, [], ◌∷◌, ◌++◌, length, take, get_or, Some, refl, ap, sym, ◌∙◌, arith, length-take-le, length-append}
-use Rattle.std.specs.Prelude.{decimal, map, codes, All}
-use Rattle.std.specs.List.{join_with_byte, AllByRecursion}
-use Rattle.std.proofs.lemmas.Bool.{le-ltb, eqb-false}
-use Rattle.std.proofs.lemmas.List.{take_more}
-use Rattle.std.proofs.lemmas.List.Elements.{recursion_from_All}
-use Rattle.std.proofs.lemmas.Fmt.{length-decimal-le}
-use Rattle.line_text.specs.Fields.{is_over_long}
-use Rattle.line_text.proofs.PrintedLemmas.{IsPlain, fields_of-joined, plain-decimals, numbers_of-decimals, joined-number, length-joined}
-use Rattle.ride_model.specs.declared.command.Command.{Command}
-use Rattle.ride_model.specs.declared.command.Command.TheVariants.{Request, Cancel, At, Done, On, Off, Clock, Ask, Bad}
-use Rattle.ride_model.specs.Text.{IsOneOrTwo, IsSpelled, IsSpelledCommand}
-use Rattle.command_lines.specs.declared.verbs.Verb.{Verb}
+use Rattle.command_lines.proofs.Common.{◌≡◌, ◌≢◌, ℕ, zero, suc, ◌+◌, ◌^◌, ◌<◌, ◌≤◌, ◌==◌, true, false, cond, List, [], ◌∷◌, ◌++◌, length, take, get_or, Some, refl, ap, sym, ◌∙◌, arith, length-take-le, length-append, decimal, map, codes, All, join_with_byte, AllByRecursion, le-ltb, eqb-false, take_more, recursion_from_All, length-decimal-le, is_over_long, IsPlain, fields_of-joined, plain-decimals, numbers_of-decimals, joined-number, length-joined, Command, Request, Cancel, At, Done, On, Off, Clock, Ask, Bad, IsOneOrTwo, IsSpelled, IsSpelledCommand, Verb, verb_of, command_from, spelling_of}
 use Rattle.command_lines.specs.declared.verbs.Verb.TheVariants.{Request as ToRequest, Cancel as ToCancel, At as ToBeAt, Done as ToBeDone, On as ToBeOn, Off as ToBeOff, Clock as ToClock, Batch as ToBatch}
-use Rattle.command_lines.specs.Commands.{verb_of, command_from, spelling_of}
 use Rattle.command_lines.specs.inner.Commands.{command_of}
 
 abbrev AreSpelled : List ℕ → Type 0

@@ -1,21 +1,10 @@
 -- What a reader of a feed has given after one more line.
-use Rattle.std.proofs.Common.{◌≡◌, ◌≢◌, ℕ, ◌+◌, ◌≤◌, Bool, true, false, MatchBool, List, [], ◌∷◌, ◌++◌, Option, Some, length, refl, ap, sym, subst, ◌∙◌, arith, append_assoc, append-nil}
-use Rattle.std.specs.Prelude.{IfSome}
-use Rattle.std.proofs.lemmas.List.{length_push}
-use Rattle.ride_model.specs.declared.command.Command.{Command}
-use Rattle.line_text.specs.Lines.{ended_after, ended_lines, last_line, lines_of}
-use Rattle.line_text.proofs.LineLemmas.{last_line-some}
+use Rattle.command_lines.proofs.Common.{◌≡◌, ◌≢◌, ℕ, ◌+◌, ◌≤◌, Bool, true, false, MatchBool, List, [], ◌∷◌, ◌++◌, Option, Some, length, refl, ap, sym, subst, ◌∙◌, arith, append_assoc, append-nil, IfSome, length_push, cons_option, Command, ended_after, ended_lines, last_line, lines_of, last_line-some, Limits, ReaderState, StopsAt, IsAtEnd, IsNextLine, commands_from, commands_of, said_by, FeedState, HasCut, HasGiven, IsStopped, FeedForm, AreFirst, ended_commands, limits_of, IsForm}
 use Rattle.line_text.specs.declared.line_reader.answers.ReadStop.{ReadStop}
-use Rattle.line_text.specs.declared.line_reader.limits.Limits.{Limits}
 use Rattle.line_text.specs.line_reader.Limits.{IsWithinLimits, lines_within}
-use Rattle.line_text.specs.inner.line_reader.Reader.{ReaderState, StopsAt, IsAtEnd, IsNextLine, HasGiven as HasGivenLines, IsStopped as IsStoppedText}
+use Rattle.line_text.specs.inner.line_reader.Reader.{HasGiven as HasGivenLines, IsStopped as IsStoppedText}
 use Rattle.line_text.proofs.line_reader.FeedLines.{lines-at_end}
-use Rattle.command_lines.specs.Commands.{before, commands_from, commands_of, said_by}
 use Rattle.command_lines.specs.Feeds.{IsWhole}
-use Rattle.command_lines.specs.inner.Feeds.{FeedState, HasCut, HasGiven, IsStopped}
-use Rattle.command_lines.specs.declared.forms.FeedForm.{FeedForm}
-use Rattle.command_lines.specs.Limits.{AreFirst, ended_commands, limits_of}
-use Rattle.command_lines.specs.inner.Limits.{IsForm}
 use Rattle.command_lines.proofs.LineCommands.{commands_from-append, commands_from-one, ended-first, length-commands_from-le}
 
 -- what a reader that goes on has given
@@ -53,7 +42,7 @@ given-nothing reader left fits goes limits given none = given-going reader left 
 
 -- the commands of lines and of one more
 commands-then : (log : ℕ) (lines : List (List ℕ)) (line : List ℕ)
-    → commands_from log 1 lines ++ before (said_by log (length lines + 1) line) [] ≡ commands_from log 1 (lines ++ line ∷ [])
+    → commands_from log 1 lines ++ cons_option (said_by log (length lines + 1) line) [] ≡ commands_from log 1 (lines ++ line ∷ [])
 commands-then log lines line =
     sym (commands_from-append log 1 lines (line ∷ [])
     ∙ ap (λ cs. commands_from log 1 lines ++ cs)
@@ -93,7 +82,7 @@ module _ (old new : FeedState) (left : Option (List ℕ)) (commands : List Comma
   -- with the next line
   pub given-line : (line : List ℕ) → new.ended ≡ false → new.lines.limits ≡ old.lines.limits
       → IsNextLine new.lines has.cut (old.lines.pending ++ more) line
-      → HasGiven new left (commands ++ before (said_by old.form.log (length (ended_lines has.cut) + 1) line) []) (bytes ++ more)
+      → HasGiven new left (commands ++ cons_option (said_by old.form.log (length (ended_lines has.cut) + 1) line) []) (bytes ++ more)
   given-line line goes limits next =
       let all : bytes ++ more ≡ (has.cut ++ line ++ 10 ∷ []) ++ new.lines.pending
       = came-is ∙ ap (λ l. has.cut ++ l) next.parts ∙ sym (append_assoc has.cut (line ++ 10 ∷ []) new.lines.pending)
@@ -103,7 +92,7 @@ module _ (old new : FeedState) (left : Option (List ℕ)) (commands : List Comma
         parts = all;
         limits = limits ∙ has.limits ∙ ap (λ (f : FeedForm). limits_of f.lines) (sym form);
         given = next.given;
-        commands_are = ap (λ cs. cs ++ before (said_by old.form.log (length (ended_lines has.cut) + 1) line) []) has.commands_are
+        commands_are = ap (λ cs. cs ++ cons_option (said_by old.form.log (length (ended_lines has.cut) + 1) line) []) has.commands_are
             ∙ commands-then old.form.log (ended_lines has.cut) line
             ∙ ap (commands_from old.form.log 1) (sym next.lines_are)
             ∙ ap (λ (f : FeedForm). commands_from f.log 1 (ended_lines (has.cut ++ line ++ 10 ∷ []))) (sym form);
@@ -121,10 +110,10 @@ module _ (old new : FeedState) (left : Option (List ℕ)) (commands : List Comma
 
   -- with the last line, which no LF ends
   pub given-last : new.ended ≡ true → IsAtEnd left old.lines.limits has.cut (old.lines.pending ++ more) → old.lines.pending ++ more ≢ []
-      → HasGiven new left (commands ++ before (said_by old.form.log (length (ended_lines has.cut) + 1) (old.lines.pending ++ more)) []) (bytes ++ more)
+      → HasGiven new left (commands ++ cons_option (said_by old.form.log (length (ended_lines has.cut) + 1) (old.lines.pending ++ more)) []) (bytes ++ more)
   given-last ended end some =
       whole _ ended end
-      (ap (λ cs. cs ++ before (said_by old.form.log (length (ended_lines has.cut) + 1) (old.lines.pending ++ more)) []) has.commands_are
+      (ap (λ cs. cs ++ cons_option (said_by old.form.log (length (ended_lines has.cut) + 1) (old.lines.pending ++ more)) []) has.commands_are
       ∙ commands-then old.form.log (ended_lines has.cut) (old.lines.pending ++ more)
       ∙ ap (λ ls. commands_from old.form.log 1 (ended_lines has.cut ++ ls)) (sym (last_line-some (old.lines.pending ++ more) some))
       ∙ ap (commands_from old.form.log 1) (sym (lines-at_end old.lines.limits left has.cut (old.lines.pending ++ more) end)))

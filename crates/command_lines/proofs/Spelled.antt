@@ -1,16 +1,6 @@
 -- A command that was read has a text.
-use Rattle.std.proofs.Common.{◌≡◌, ℕ, ◌^◌, ◌<◌, ◌==◌, true, false, cond, List, [], ◌∷◌, Option, Some, None, refl, subst, arith}
-use Rattle.std.specs.Prelude.{option_and_then, IfSome}
-use Rattle.std.specs.List.{AllByRecursion}
-use Rattle.std.proofs.lemmas.Bool.{eqb-true}
-use Rattle.line_text.specs.Fields.{numbers_of}
-use Rattle.line_text.proofs.PrintedLemmas.{numbers_of-small}
-use Rattle.ride_model.specs.declared.command.Command.{Command}
-use Rattle.ride_model.specs.declared.command.Command.TheVariants.{Request, Cancel, At, Done, On, Off, Clock, Ask}
-use Rattle.ride_model.specs.Text.{IsSpelledCommand}
-use Rattle.command_lines.specs.declared.verbs.Verb.{Verb}
+use Rattle.command_lines.proofs.Common.{◌≡◌, ℕ, ◌^◌, ◌<◌, ◌==◌, true, false, cond, List, [], ◌∷◌, Option, Some, None, refl, subst, arith, option_and_then, IfSome, AllByRecursion, eqb-true, numbers_of, numbers_of-small, Command, Request, Cancel, At, Done, On, Off, Clock, Ask, IsSpelledCommand, Verb, verb_of, command_from, command_of_fields}
 use Rattle.command_lines.specs.declared.verbs.Verb.TheVariants.{Request as ToRequest, Cancel as ToCancel, At as ToBeAt, Done as ToBeDone, On as ToBeOn, Off as ToBeOff, Clock as ToClock, Batch as ToBatch}
-use Rattle.command_lines.specs.Commands.{verb_of, command_from, command_of_fields}
 
 abbrev AreSpelled : List ℕ → Type 0
 AreSpelled ns = AllByRecursion (λ n. n < 10 ^ 18) ns

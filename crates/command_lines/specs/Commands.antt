@@ -1,6 +1,6 @@
 -- The lines of a feed, and the commands of all its bytes.
 use Rattle.std.specs.Prelude.{ℕ, ◌+◌, ◌==◌, if◌then◌else◌, List, [], ◌∷◌, Option, Some, None, option_and_then, unwrap_or, codes}
-use Rattle.std.specs.List.{join_with_byte}
+use Rattle.std.specs.List.{cons_option, join_with_byte}
 use Rattle.std.specs.Str.{bytes_eq}
 use Rattle.line_text.specs.Fields.{numbers_of, words_of}
 use Rattle.line_text.specs.Lines.{lines_of}
@@ -43,25 +43,20 @@ command_of_fields log [] = None
 command_of_fields log (word ∷ fields) =
     option_and_then (λ verb. option_and_then (command_from log verb) (numbers_of fields)) (verb_of word)
 
--- what a line of a feed says by its words: nothing where it is blank or a comment, else a command or that it is bad
-abbrev pub said_by_words : ℕ → ℕ → Option (List (List ℕ)) → Option Command
-said_by_words log number None = Some (Bad number)
-said_by_words log number (Some []) = None
-said_by_words log number (Some (word ∷ fields)) = Some (unwrap_or (command_of_fields log (word ∷ fields)) (Bad number))
+-- what a line of a feed says by its words: nothing where it is blank or a comment, else what its fields spell, or that it is bad
+abbrev pub said_by_words : {A : Type 0} → (List (List ℕ) → Option A) → A → Option (List (List ℕ)) → Option A
+said_by_words spelled bad None = Some bad
+said_by_words spelled bad (Some []) = None
+said_by_words spelled bad (Some (word ∷ fields)) = Some (unwrap_or (spelled (word ∷ fields)) bad)
 
 -- what the line of this number says. Comments begin with `#`
 abbrev pub said_by : ℕ → ℕ → List ℕ → Option Command
-said_by log number line = said_by_words log number (words_of 35 line)
-
--- a command, where there is one, before others
-abbrev pub before : Option Command → List Command → List Command
-before None commands = commands
-before (Some command) commands = command ∷ commands
+said_by log number line = said_by_words (command_of_fields log) (Bad number) (words_of 35 line)
 
 -- the commands of lines of which the first has this number
 unfoldable pub commands_from : ℕ → ℕ → List (List ℕ) → List Command
 commands_from log number [] = []
-commands_from log number (line ∷ lines) = before (said_by log number line) (commands_from log (number + 1) lines)
+commands_from log number (line ∷ lines) = cons_option (said_by log number line) (commands_from log (number + 1) lines)
 
 -- the commands of a feed's bytes
 abbrev pub commands_of : ℕ → List ℕ → List Command

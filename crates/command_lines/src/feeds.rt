@@ -5,7 +5,8 @@ ghost use Rattle.ride_model.specs.Text.{IsOneOrTwo, IsSpelledCommand};
 ghost use Rattle.ride_ports.specs.Bytes.{Reads};
 ghost use Rattle.ride_ports.specs.Count.{KeepsCount};
 ghost use Rattle.line_text.specs.inner.line_reader.Reader.{IsShown, is_fault};
-ghost use Rattle.command_lines.specs.Commands.{before, said_by};
+ghost use Rattle.std.specs.List.{cons_option};
+ghost use Rattle.command_lines.specs.Commands.{said_by};
 ghost use Rattle.command_lines.specs.inner.Limits.{IsForm};
 ghost use Rattle.command_lines.specs.Feeds.{IsWhole};
 ghost use Rattle.command_lines.specs.inner.Feeds.{HasCut, HasGiven, IsStopped, begins_with_letter, is_ready, lines_ahead};
@@ -102,7 +103,7 @@ impl FeedReader {
             × ((commands : List Command) (bytes : List ℕ) → HasCut self.old commands bytes
             → MatchResult result
             (λ said. HasGiven self.new (S.left source.new)
-            (commands ++ before said []) (bytes ++ more))
+            (commands ++ cons_option said []) (bytes ++ more))
             (λ stop. IsStopped self.old.form stop commands (bytes ++ more))) }
         ensures form { self.new.form ≡ self.old.form }
         ensures spelled { IfOk result (λ said. IfSome said (IsSpelledCommand self.old.form.log)) }

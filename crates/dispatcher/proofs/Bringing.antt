@@ -1,20 +1,5 @@
 -- Files that are brought, read and given back.
-use Rattle.std.proofs.Common.{◌≡◌, ℕ, ◌+◌, ◌<◌, List, [], ◌∷◌, ◌++◌, Option, Some, None, Result, Ok, Err, refl, sym, subst, ◌∙◌, append-nil, arith}
-use Rattle.std.specs.Prelude.{IfSome}
-use Rattle.line_text.specs.Texts.{Format}
-use Rattle.ride_ports.specs.Bytes.{Reads}
-use Rattle.ride_ports.specs.Contents.{Contents, GivenBack, bytes_at}
-use Rattle.ride_ports.specs.inner.Contents.{IsContentOf}
-use Rattle.ride_ports.specs.Count.{Rose}
-use Rattle.ride_model.specs.Road.{RoadMap}
-use Rattle.ride_model.specs.declared.settings.Settings.{Settings}
-use Rattle.ride_model.specs.declared.vehicle.Vehicle.{Vehicle}
-use Rattle.dispatcher.specs.Formats.{FailsIn}
-use Rattle.dispatcher.specs.inner.Readings.{AsksOnce, IsReadBy}
-use Rattle.dispatcher.specs.Shelves.{AreBytesOf, IsLeftOf, Shelved, told_bytes}
-use Rattle.dispatcher.specs.inner.Stops.{ReadsFleet, ReadsMap}
-use Rattle.dispatcher.specs.declared.stop.Stop.{Stop}
-use Rattle.dispatcher.specs.declared.stop.Stop.TheVariants.{NoMemory, ShelfFault, LimitPassed, MapRefused, FleetRefused}
+use Rattle.dispatcher.proofs.Common.{◌≡◌, ℕ, ◌+◌, ◌<◌, List, [], ◌∷◌, ◌++◌, Option, Some, None, Result, Ok, Err, refl, sym, subst, ◌∙◌, append-nil, arith, IfSome, Format, Reads, Contents, GivenBack, bytes_at, IsContentOf, Rose, RoadMap, Settings, Vehicle, FailsIn, AsksOnce, IsReadBy, AreBytesOf, IsLeftOf, Shelved, told_bytes, ReadsFleet, ReadsMap, Stop, NoMemory, ShelfFault, LimitPassed, MapRefused, FleetRefused}
 
 -- what was taken of a source
 pub left-of : (file : Option (List ℕ)) (source : GivenBack) (taken : List ℕ) → Reads file source.left taken → IsLeftOf file source taken

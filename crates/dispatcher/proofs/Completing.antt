@@ -1,36 +1,12 @@
 -- Which statuses are left to a run of whole files without faults.
-use Rattle.std.proofs.Common.{◌≡◌, ◌⊎◌, inl, inr, ℕ, true, List, [], ◌∷◌, ◌++◌, Option, Some, Result, Ok, Err, IfSome, refl, sym, subst, ◌∙◌}
-use Rattle.std.specs.Prelude.{All, ⊤}
-use Rattle.std.proofs.lemmas.List.Elements.{All-head, All-tail}
-use Rattle.ride_ports.specs.Bytes.{Reads}
-use Rattle.ride_ports.specs.Contents.{Contents, GivenBack}
-use Rattle.ride_ports.specs.Count.{Rose}
+use Rattle.dispatcher.proofs.Common.{◌≡◌, ◌⊎◌, inl, inr, ℕ, true, List, [], ◌∷◌, ◌++◌, Option, Some, Result, Ok, Err, IfSome, refl, sym, subst, ◌∙◌, All, ⊤, All-head, All-tail, Reads, Contents, GivenBack, Rose, Ran, RoadMap, Settings, Vehicle, map_text, fleet_text, IsTooLong, feed_limits, IsAnswer, AuditFault, ReadFault, TooLong, Verdict, Yes, No, FeedRun, Asked, a_replay, an_ahead, an_audit, a_service, a_drill, a_booking, a_league, File, map_file, fleet_file, second_fleet_file, feed_file, log_file, files_of, Meaning, Means, StopsAt, StopsFleet, StopsMap, start_of, status_of, HasStopped, HasWorked, IsUnread, Serves, AreBytesOf, IsBackOf, Shelved, Sunk, told_bytes, Audits, EndsBy, Stop, NoMemory, ShelfFault, LimitPassed, MapRefused, FleetRefused}
 use Rattle.ride_ports.specs.Status.{status_of as status_ran}
-use Rattle.ride_ports.specs.declared.outcome.Ran.{Ran}
-use Rattle.ride_model.specs.Road.{RoadMap}
 use Rattle.gr_reader.specs.declared.errors.MapError.{MapError}
 use Rattle.gr_reader.specs.declared.errors.MapError.TheVariants.{TooLong as TooLongMap}
-use Rattle.gr_reader.specs.MapText.{map_text}
 use Rattle.fleet_file.specs.declared.errors.FleetError.{FleetError}
 use Rattle.fleet_file.specs.declared.errors.FleetError.TheVariants.{TooLong as TooLongFleet}
-use Rattle.fleet_file.specs.FleetText.{fleet_text}
-use Rattle.line_text.specs.line_reader.Limits.{IsTooLong}
-use Rattle.command_lines.specs.Limits.{feed_limits}
-use Rattle.log_audit.specs.Audit.{IsAnswer}
-use Rattle.log_audit.specs.declared.verdict.AuditFault.{AuditFault}
-use Rattle.log_audit.specs.declared.verdict.AuditFault.TheVariants.{ReadFault, TooLong, NoMemory as AuditNoMemory}
-use Rattle.log_audit.specs.declared.verdict.Verdict.{Verdict}
-use Rattle.log_audit.specs.declared.verdict.Verdict.TheVariants.{Yes, No}
-use Rattle.live_sessions.specs.Serving.{FeedRun}
-use Rattle.run_words.specs.Words.{Asked, a_replay, an_ahead, an_audit, a_service, a_drill, a_booking, a_league, File, map_file, fleet_file, second_fleet_file, feed_file, log_file, files_of}
-use Rattle.dispatcher.specs.Meanings.{IsFleetFile, Meaning, Means, StopsAt, start_of, status_of}
-use Rattle.dispatcher.specs.Runs.{HasStopped, HasWorked, IsUnread}
-use Rattle.dispatcher.specs.Services.{Serves}
-use Rattle.dispatcher.specs.Shelves.{AreBytesOf, IsBackOf, Shelved, Sunk, told_bytes}
-use Rattle.dispatcher.specs.Verdicts.{Audits, EndsBy}
+use Rattle.log_audit.specs.declared.verdict.AuditFault.TheVariants.{NoMemory as AuditNoMemory}
 use Rattle.dispatcher.specs.Whole.{AreWhole, IsWhole, MayEnd}
-use Rattle.dispatcher.specs.declared.stop.Stop.{Stop}
-use Rattle.dispatcher.specs.declared.stop.Stop.TheVariants.{NoMemory, ShelfFault, LimitPassed, MapRefused, FleetRefused}
 use Rattle.dispatcher.proofs.Statuses.{long-status, ran-status, within-not-long}
 
 -- want of memory and a whole run are possible ends of all
@@ -66,6 +42,12 @@ pub map-first : (name : List ℕ) (files : List File) → IsHeaded (map_file nam
 unfolding IsHeaded
 map-first name files = tt
 
+-- a fleet file, which is read over a map
+abbrev IsFleetFile : File → Type 0
+IsFleetFile (fleet_file name) = ⊤
+IsFleetFile (second_fleet_file name) = ⊤
+IsFleetFile _ = ⊥
+
 headed : (ask : Asked) → IsHeaded (files_of ask)
 unfolding IsHeaded
 headed (a_replay map fleet feed) = tt
@@ -86,43 +68,40 @@ module _ (told : Option Contents) (m n : Meaning) where
   same-network name whole means =
       cc (subst (λ (o : Option (List ℕ)). IfSome o (λ text. map_text text ≡ Ok n.network)) whole.bytes_are means, whole.text)
 
-  no-fleet-fault : (name : List ℕ) (e : FleetError) → n.network ≡ m.network → IsWhole told m (fleet_file name)
-      → IfSome (told_bytes told name) (λ text. fleet_text n.network.nodes text ≡ Err e) → ⊥
-  no-fleet-fault name e same whole fault =
+  no-fleet-fault : (file : Option (List ℕ)) (bytes : List ℕ) (read : Settings × List Vehicle) (e : FleetError) → n.network ≡ m.network → file ≡ Some bytes
+      → fleet_text m.network.nodes bytes ≡ Ok read → IfSome file (λ text. fleet_text n.network.nodes text ≡ Err e) → ⊥
+  no-fleet-fault file bytes read e same are text fault =
       absurd (cc (
-        subst (λ (r : RoadMap). fleet_text r.nodes whole.bytes ≡ Err e) same
-            (subst (λ (o : Option (List ℕ)). IfSome o (λ text. fleet_text n.network.nodes text ≡ Err e)) whole.bytes_are fault),
-        whole.text,
+        subst (λ (r : RoadMap). fleet_text r.nodes bytes ≡ Err e) same
+            (subst (λ (o : Option (List ℕ)). IfSome o (λ text. fleet_text n.network.nodes text ≡ Err e)) are fault),
+        text,
       ))
 
-  no-second-fault : (name : List ℕ) (e : FleetError) → n.network ≡ m.network → IsWhole told m (second_fleet_file name)
-      → IfSome (told_bytes told name) (λ text. fleet_text n.network.nodes text ≡ Err e) → ⊥
-  no-second-fault name e same whole fault =
-      absurd (cc (
-        subst (λ (r : RoadMap). fleet_text r.nodes whole.bytes ≡ Err e) same
-            (subst (λ (o : Option (List ℕ)). IfSome o (λ text. fleet_text n.network.nodes text ≡ Err e)) whole.bytes_are fault),
-        whole.text.1,
-      ))
+  no-map-stop : (name : List ℕ) (stop : Stop) → IsWhole told m (map_file name) → StopsMap (told_bytes told name) stop
+      → (stop ≡ NoMemory) ⊎ (stop ≡ ShelfFault)
+  no-map-stop name NoMemory whole stops = inl refl
+  no-map-stop name ShelfFault whole stops = inr refl
+  no-map-stop name LimitPassed whole fault = absurd (no-map-fault name TooLongMap whole fault)
+  no-map-stop name (MapRefused e) whole (of_map, fault) = absurd (no-map-fault name e whole fault)
+  no-map-stop name (FleetRefused e) whole stops = absurd stops
+
+  no-fleet-stop : (file : Option (List ℕ)) (bytes : List ℕ) (read : Settings × List Vehicle) (stop : Stop) → n.network ≡ m.network → file ≡ Some bytes
+      → fleet_text m.network.nodes bytes ≡ Ok read → StopsFleet n.network.nodes file stop → (stop ≡ NoMemory) ⊎ (stop ≡ ShelfFault)
+  no-fleet-stop file bytes read NoMemory same are text stops = inl refl
+  no-fleet-stop file bytes read ShelfFault same are text stops = inr refl
+  no-fleet-stop file bytes read LimitPassed same are text fault = absurd (no-fleet-fault file bytes read TooLongFleet same are text fault)
+  no-fleet-stop file bytes read (MapRefused e) same are text stops = absurd stops
+  no-fleet-stop file bytes read (FleetRefused e) same are text (of_fleet, fault) = absurd (no-fleet-fault file bytes read e same are text fault)
 
   no-stop : (file : File) (stop : Stop) → IsWhole told m file → (IsFleetFile file → n.network ≡ m.network) → StopsAt told n file stop
       → (stop ≡ NoMemory) ⊎ (stop ≡ ShelfFault)
-  no-stop file NoMemory whole same stops = inl refl
-  no-stop file ShelfFault whole same stops = inr refl
-  no-stop (map_file name) LimitPassed whole same (text, fault) = absurd (no-map-fault name TooLongMap whole fault)
-  no-stop (fleet_file name) LimitPassed whole same (text, fault) = absurd (no-fleet-fault name TooLongFleet (same tt) whole fault)
-  no-stop (second_fleet_file name) LimitPassed whole same (text, fault) = absurd (no-second-fault name TooLongFleet (same tt) whole fault)
-  no-stop (feed_file name) LimitPassed whole same (text, fault) = absurd text
-  no-stop (log_file name) LimitPassed whole same (text, fault) = absurd text
-  no-stop (map_file name) (MapRefused e) whole same (is_map, of_map, fault) = absurd (no-map-fault name e whole fault)
-  no-stop (fleet_file name) (MapRefused e) whole same (is_map, of_map, fault) = absurd is_map
-  no-stop (second_fleet_file name) (MapRefused e) whole same (is_map, of_map, fault) = absurd is_map
-  no-stop (feed_file name) (MapRefused e) whole same (is_map, of_map, fault) = absurd is_map
-  no-stop (log_file name) (MapRefused e) whole same (is_map, of_map, fault) = absurd is_map
-  no-stop (map_file name) (FleetRefused e) whole same (is_fleet, of_fleet, fault) = absurd is_fleet
-  no-stop (fleet_file name) (FleetRefused e) whole same (is_fleet, of_fleet, fault) = absurd (no-fleet-fault name e (same tt) whole fault)
-  no-stop (second_fleet_file name) (FleetRefused e) whole same (is_fleet, of_fleet, fault) = absurd (no-second-fault name e (same tt) whole fault)
-  no-stop (feed_file name) (FleetRefused e) whole same (is_fleet, of_fleet, fault) = absurd is_fleet
-  no-stop (log_file name) (FleetRefused e) whole same (is_fleet, of_fleet, fault) = absurd is_fleet
+  no-stop (map_file name) stop whole same stops = no-map-stop name stop whole stops
+  no-stop (fleet_file name) stop whole same stops =
+      no-fleet-stop (told_bytes told name) whole.bytes (m.settings, m.vehicles) stop (same tt) whole.bytes_are whole.text stops
+  no-stop (second_fleet_file name) stop whole same stops =
+      no-fleet-stop (told_bytes told name) whole.bytes (whole.text.0, m.second) stop (same tt) whole.bytes_are whole.text.1 stops
+  no-stop (feed_file name) stop whole same stops = stops
+  no-stop (log_file name) stop whole same stops = stops
 
   -- the map before a fleet file
   map-before : (earlier later : List File) (file : File) → IsHeaded (earlier ++ file ∷ later) → All (IsWhole told m) (earlier ++ file ∷ later)
@@ -243,12 +222,12 @@ module _ (old new : Shelved) (out : Sunk) (status : ℕ) (no_shelf : Rose old.fa
       found-ends map fleet log did.found out status did.said (λ five. no_shelf (worked.shelf_fault five)) (λ six. no_sink (worked.sink_fault six))
       (log-not-long old.told m worked.meaning log over.source over.feed out status (third m (map_file map) (fleet_file fleet) (log_file log) whole) over.of_file did)
   worked-ends (a_service map fleet riders drivers workers desks) worked (m, whole) =
-      let (over, did) = worked.did in
+      let (second, first, did) = worked.did in
       let (of_riders, of_drivers) = fourth m (map_file map) (fleet_file fleet) (feed_file riders) (feed_file drivers) whole in
       ran-ends (a_service map fleet riders drivers workers desks) did.ran status did.status_is (λ five. no_shelf (worked.shelf_fault five))
       (λ six. no_sink (worked.sink_fault six))
-      (service-not-long old.told m worked.meaning riders drivers over.first_source over.second_source over.first over.second desks out status of_riders
-      of_drivers over.of_first over.of_second did)
+      (service-not-long old.told m worked.meaning riders drivers first.source second.source first.feed second.feed desks out status of_riders
+      of_drivers first.of_file second.of_file did)
   worked-ends (a_drill plan) worked whole =
       ran-ends (a_drill plan) worked.did.ran status worked.did.status_is (λ five. no_shelf (worked.shelf_fault five)) (λ six. no_sink (worked.sink_fault six))
       (λ long. absurd (cc (worked.did.no_limit, long)))

@@ -1,11 +1,6 @@
 -- A drill, which asks for no file.
-use Rattle.std.proofs.Common.{◌≡◌, ℕ, false, inr, refl, sym, ◌∙◌}
-use Rattle.std.specs.Prelude.{IsTrue}
-use Rattle.ride_ports.specs.Count.{KeepsCount}
+use Rattle.dispatcher.proofs.Common.{◌≡◌, ℕ, false, inr, refl, sym, ◌∙◌, IsTrue, KeepsCount, a_drill, IsRun, IsFresh, Shelved, Sunk}
 use Rattle.city_maker.specs.declared.plan.CityPlan.{CityPlan}
-use Rattle.run_words.specs.Words.{a_drill}
-use Rattle.dispatcher.specs.Runs.{IsRun}
-use Rattle.dispatcher.specs.Shelves.{IsFresh, Shelved, Sunk}
 use Rattle.dispatcher.specs.Works.{Drills}
 use Rattle.dispatcher.proofs.Reading.{none-read}
 use Rattle.dispatcher.proofs.Running.{run-of}

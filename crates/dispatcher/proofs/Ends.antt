@@ -1,19 +1,5 @@
 -- Who has ended whole after a legal history, by his own part of it.
-use Rattle.std.proofs.Common.{◌≡◌, ℕ, true, false, ◌||◌, List, [], ◌∷◌, ◌++◌, refl, sym, ap, ◌∙◌}
-use Rattle.std.specs.Prelude.{IsTrue}
-use Rattle.std.proofs.lemmas.List.Elements.{All-weaker}
-use Rattle.std.proofs.lemmas.List.Folds.{list_any-append, list_any_none}
-use Rattle.ride_model.specs.declared.command.Actor.TheVariants.{Feed}
-use Rattle.ride_model.specs.declared.entry.Ending.{Ending}
-use Rattle.ride_model.specs.declared.entry.Ending.TheVariants.{Whole, Cut}
-use Rattle.ride_model.specs.declared.entry.Entry.{Entry}
-use Rattle.ride_model.specs.declared.entry.Event.{Event}
-use Rattle.ride_model.specs.declared.entry.Event.TheVariants.{Fed, Finish, Opened, Committed, Abandoned}
-use Rattle.ride_model.specs.History.{entries_of, ended_whole, is_whole}
-use Rattle.ride_model.specs.Legal.{replay}
-use Rattle.ride_model.specs.State.{State}
-use Rattle.model_laws.specs.inner.history_laws.Finishing.{is_whole_end, has_whole_end}
-use Rattle.model_laws.specs.history_laws.Start.{IsStart, is_fed}
+use Rattle.dispatcher.proofs.Common.{◌≡◌, ℕ, true, false, ◌||◌, List, [], ◌∷◌, ◌++◌, refl, sym, ap, ◌∙◌, IsTrue, All-weaker, list_any-append, list_any_none, Feed, Ending, Whole, Cut, Entry, Event, Fed, Finish, Opened, Committed, Abandoned, entries_of, ended_whole, is_whole, replay, State, is_whole_end, has_whole_end, IsStart, is_fed}
 use Rattle.model_laws.proofs.history_laws.Finished.{whole-after}
 use Rattle.board_core.specs.Recorded.{end_entry}
 use Rattle.session_loops.specs.Loops.{AreFed}

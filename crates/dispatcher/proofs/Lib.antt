@@ -1,3 +1,4 @@
+pub mod Common
 pub mod Statuses
 pub mod Saying
 pub mod StopFacts

@@ -1,30 +1,11 @@
 -- What a service keeps that ran whole.
-use Rattle.std.proofs.Common.{◌≡◌, ◌⊎◌, inl, inr, ℕ, List, ◌∷◌, Option, Some, None, IfSome, sym, subst, ◌∙◌, arith}
-use Rattle.ride_ports.specs.Bytes.{Reads}
-use Rattle.ride_ports.specs.Contents.{Contents, GivenBack}
-use Rattle.ride_ports.proofs.ByteLemmas.{Reads-to_end}
-use Rattle.ride_model.specs.declared.command.Actor.TheVariants.{Desk}
-use Rattle.ride_model.specs.declared.command.Command.{Command}
-use Rattle.ride_model.specs.declared.entry.Entry.{Entry}
-use Rattle.ride_model.specs.declared.entry.Event.TheVariants.{Committed}
-use Rattle.ride_model.specs.History.{fed_commands}
-use Rattle.ride_model.specs.Legal.{IsLegal}
-use Rattle.ride_model.specs.State.{State}
+use Rattle.dispatcher.proofs.Common.{◌≡◌, ◌⊎◌, inl, inr, ℕ, List, ◌∷◌, Option, Some, None, IfSome, sym, subst, ◌∙◌, arith, Reads, Contents, GivenBack, Reads-to_end, Desk, Command, Entry, Committed, fed_commands, IsLegal, State, new_feed, IsStart, FeedRun, Asked, a_replay, an_ahead, an_audit, a_service, a_drill, a_booking, a_league, files_of, start_of, status_of, HasStopped, HasWorked, IsRun, IsUnread, IsBackOf, Shelved, Sunk, told_bytes, Stop, NoMemory, ShelfFault, LimitPassed, MapRefused, FleetRefused}
 use Rattle.command_lines.specs.declared.forms.FeedForm.{FeedForm}
-use Rattle.command_lines.specs.Limits.{new_feed}
 use Rattle.command_lines.specs.Commands.{commands_of}
 use Rattle.command_lines.specs.Feeds.{IsWhole}
-use Rattle.model_laws.specs.history_laws.Start.{IsStart}
 use Rattle.model_laws.proofs.history_laws.Unmoved.{unmoved-by_commit}
 use Rattle.model_laws.proofs.Histories.{IsLegal-parts}
-use Rattle.live_sessions.specs.Serving.{FeedRun}
-use Rattle.run_words.specs.Words.{Asked, a_replay, an_ahead, an_audit, a_service, a_drill, a_booking, a_league, files_of}
-use Rattle.dispatcher.specs.Meanings.{start_of, status_of}
 use Rattle.dispatcher.specs.Mission.{CommitsOnlyStanding, SeatsAtLeastCost, ServesWell}
-use Rattle.dispatcher.specs.Runs.{HasStopped, HasWorked, IsRun, IsUnread}
-use Rattle.dispatcher.specs.Shelves.{IsBackOf, Shelved, Sunk, told_bytes}
-use Rattle.dispatcher.specs.declared.stop.Stop.{Stop}
-use Rattle.dispatcher.specs.declared.stop.Stop.TheVariants.{NoMemory, ShelfFault, LimitPassed, MapRefused, FleetRefused}
 use Rattle.dispatcher.proofs.Statuses.{whole-status}
 
 module _ (feeds desks : ℕ) (start : State) (entries : List Entry) (legal : IsLegal feeds desks start entries) where
@@ -62,7 +43,7 @@ module _ (map fleet riders drivers : List ℕ) (workers desks : ℕ) (old new : 
 
   worked-well : HasWorked ask old new out status → ServesWell ask old.told out status
   worked-well worked zero =
-      let (over, serves) = worked.did in
+      let (second, first, serves) = worked.did in
       let m = worked.meaning in
       let none = whole-status serves.ran (sym serves.status_is ∙ zero) in
       elim serves.served [
@@ -76,10 +57,10 @@ module _ (map fleet riders drivers : List ℕ) (workers desks : ℕ) (old new : 
                 history = has.entries;
                 logged = has.written.whole none.sink;
                 one_legal_history = has.legal.legal;
-                riders_answered = answers-all (new_feed m.settings.log) (told_bytes old.told riders) over.first_source over.first has.riders_taken (fed_commands 1 has.entries)
-                    over.of_first has.of_riders.reads riders_whole.0;
-                drivers_answered = answers-all (new_feed m.settings.log) (told_bytes old.told drivers) over.second_source over.second has.drivers_taken
-                    (fed_commands 2 has.entries) over.of_second has.of_drivers.reads drivers_whole.0;
+                riders_answered = answers-all (new_feed m.settings.log) (told_bytes old.told riders) first.source first.feed has.riders_taken (fed_commands 1 has.entries)
+                    first.of_file has.of_riders.reads riders_whole.0;
+                drivers_answered = answers-all (new_feed m.settings.log) (told_bytes old.told drivers) second.source second.feed has.drivers_taken
+                    (fed_commands 2 has.entries) second.of_file has.of_drivers.reads drivers_whole.0;
                 seated_at_least_cost = seats-least 2 desks (start_of m) has.entries has.legal.legal;
                 only_standing_committed = only-standing 2 desks (start_of m) has.entries has.legal.legal has.legal.begins;
                 promises_kept = has.legal.promises;

@@ -1,20 +1,5 @@
 -- The texts of a run, read one after another.
-use Rattle.std.proofs.Common.{◌≡◌, ℕ, suc, ◌+◌, ◌≤◌, List, [], ◌∷◌, ◌++◌, Option, Some, None, refl, sym, ap, subst, ◌∙◌, append-nil, arith, length-append}
-use Rattle.std.specs.Prelude.{All, length, map}
-use Rattle.std.proofs.lemmas.List.{append_assoc, map-append}
-use Rattle.std.proofs.lemmas.List.Elements.{All-append, All-cons, All-head, All-tail}
-use Rattle.model_laws.proofs.plain.Each.{all_of_none, all_of_one}
-use Rattle.line_text.specs.Texts.{Format}
-use Rattle.ride_ports.specs.Contents.{Contents, GivenBack}
-use Rattle.ride_ports.specs.Count.{Rose}
-use Rattle.run_words.specs.Words.{File, name_of}
-use Rattle.dispatcher.specs.Formats.{FailsAt, FailsIn}
-use Rattle.dispatcher.specs.Meanings.{Meaning, Means, StopsAt}
-use Rattle.dispatcher.specs.Readings.{StopsReading}
-use Rattle.dispatcher.specs.inner.Readings.{AreRead, AsksOnce, IsReadAs}
-use Rattle.dispatcher.specs.Shelves.{AreGivenBack, IsFresh, IsLeftOf, IsSpent, Shelved, bytes_of, told_bytes}
-use Rattle.dispatcher.specs.declared.stop.Stop.{Stop}
-use Rattle.dispatcher.specs.declared.stop.Stop.TheVariants.{NoMemory, ShelfFault}
+use Rattle.dispatcher.proofs.Common.{◌≡◌, inl, inr, ℕ, ◌+◌, ◌≤◌, List, [], ◌∷◌, ◌++◌, Option, Some, None, refl, sym, ap, subst, ◌∙◌, append-nil, arith, length-append, All, length, map, append_assoc, length-map, map-append, All-append, All-cons, All-head, All-tail, all_of_none, all_of_one, Format, Contents, GivenBack, Rose, File, feed_file, fleet_file, log_file, map_file, name_of, second_fleet_file, FailsAt, FailsIn, Meaning, Means, StopsAt, StopsReading, AreRead, AsksOnce, IsReadAs, AreGivenBack, IsFresh, IsLeftOf, IsSpent, Shelved, bytes_of, told_bytes, Stop, NoMemory, ShelfFault}
 
 -- sources of some files are those of more, and one more is that of the next
 pub back-longer : (files more : List (Option (List ℕ))) (back : List GivenBack) → AreGivenBack files back → AreGivenBack (files ++ more) back
@@ -62,11 +47,7 @@ reads-one format file (source ∷ other ∷ sources) read = absurd read
 
 -- all files were given back
 pub back-length : (files : List File) (m : Meaning) (old new : Shelved) → AreRead files m old new → length new.back ≡ length (bytes_of old.told files)
-back-length files m old new read = read.back.all_back ∙ read.brought ∙ sym (bytes-length old.told files)
-  where
-    bytes-length : (told : Option Contents) (fs : List File) → length (bytes_of told fs) ≡ length fs
-    bytes-length told [] = refl
-    bytes-length told (f ∷ fs) = ap (λ n. suc n) (bytes-length told fs)
+back-length files m old new read = read.back.all_back ∙ read.brought ∙ sym (length-map files (λ (f : File). told_bytes old.told (name_of f)))
 
 -- one source more was given back after those of the first files of a run
 pub back-one : (files : List File) (m : Meaning) (old mid : Shelved) → AreRead files m old mid → (file : File) (later : List File) (source : GivenBack)
@@ -147,12 +128,8 @@ module _ (files : List File) (m : Meaning) (file : File) {S V E : Type 0} (forma
       → new.brought ≡ length new.asked → new.back ≡ first ++ source ∷ [] → FailsAt old.told m file source
   fails-at [] first source read reads back brought asked fails all last =
       let many : length new.asked ≡ length (map name_of (files ++ file ∷ [])) = ap length (asked-next read asked) in
-      let names : length (map name_of (files ++ file ∷ [])) ≡ length files + 1 = names-length (files ++ file ∷ []) ∙ length-append files (file ∷ []) in
+      let names : length (map name_of (files ++ file ∷ [])) ≡ length files + 1 = length-map (files ++ file ∷ []) name_of ∙ length-append files (file ∷ []) in
       absurd (omega (arith, many, names, brought, all, read.brought))
-    where
-      names-length : (fs : List File) → length (map name_of fs) ≡ length fs
-      names-length [] = refl
-      names-length (f ∷ fs) = ap (λ n. suc n) (names-length fs)
   fails-at (s ∷ []) first source read reads back brought asked fails all last =
       subst (λ (x : GivenBack). FailsAt old.told m file x) (last-is mid.back first s source (sym back ∙ last))
       (fails s (subst (λ (t : Option Contents). FailsIn format (told_bytes t (name_of file)) s) read.told (reads.fault refl)))
@@ -181,17 +158,28 @@ module _ (files : List File) (m : Meaning) (file : File) {S V E : Type 0} (forma
           all_back = omega (arith, given, asks.brought, read.back.all_back);
           in_order = in-order-at later asks.sources (Some stop) read asks.read asks.back;
         };
-        few = omega (arith, many, asks.brought, few-sources asks.sources (Some stop) asks.read, read.brought, ap length read.asked, names-length files);
+        few = omega (arith, many, asks.brought, few-sources asks.sources (Some stop) asks.read, read.brought, ap length read.asked, length-map files name_of);
         rose = λ is. subst (λ (k : ℕ). Rose k new.faults) read.faults (asks.fault (ap (λ (s : Stop). Some s) is));
         before_fault = λ first source is all last.
             fails-at asks.sources first source read
             (subst (λ (s : Stop). IsReadAs format (told_bytes mid.told (name_of file)) asks.sources (Some s)) is asks.read) asks.back asks.brought
             asks.asked fails all last;
       }
-    where
-      names-length : (fs : List File) → length (map name_of fs) ≡ length fs
-      names-length [] = refl
-      names-length (f ∷ fs) = ap (λ n. suc n) (names-length fs)
+
+-- a run may stop at any file for want of memory, or for a fault of the shelf
+stops-for_memory : (told : Option Contents) (m : Meaning) (file : File) → StopsAt told m file NoMemory
+stops-for_memory told m (map_file name) = tt
+stops-for_memory told m (fleet_file name) = tt
+stops-for_memory told m (second_fleet_file name) = tt
+stops-for_memory told m (feed_file name) = inl refl
+stops-for_memory told m (log_file name) = inl refl
+
+pub stops-for_fault : (told : Option Contents) (m : Meaning) (file : File) → StopsAt told m file ShelfFault
+stops-for_fault told m (map_file name) = tt
+stops-for_fault told m (fleet_file name) = tt
+stops-for_fault told m (second_fleet_file name) = tt
+stops-for_fault told m (feed_file name) = inr refl
+stops-for_fault told m (log_file name) = inr refl
 
 -- memory was wanting after the last of some texts
 pub then-stops : (files : List File) (last : File) (m : Meaning) (old new : Shelved) → AreRead (files ++ last ∷ []) m old new
@@ -206,17 +194,13 @@ then-stops files last m old new read = record {
     meaning = m;
     means = All-front (Means old.told m) files (last ∷ []) read.means;
   };
-  why = tt;
+  why = stops-for_memory old.told m last;
   back = read.back;
-  few = omega (arith, read.brought, ap length read.asked, names-length (files ++ last ∷ []));
+  few = omega (arith, read.brought, ap length read.asked, length-map (files ++ last ∷ []) name_of);
   rose = λ is. absurd (cc is);
   before_fault = λ first source is. absurd (cc is);
 }
   where
-    names-length : (fs : List File) → length (map name_of fs) ≡ length fs
-    names-length [] = refl
-    names-length (f ∷ fs) = ap (λ n. suc n) (names-length fs)
-
     All-front : {X : Type 0} (P : X → Type 0) (xs ys : List X) → All P (xs ++ ys) → All P xs
     All-front P [] ys all = all_of_none P
     All-front P (x ∷ xs) ys all = All-cons P x xs (All-head P x (xs ++ ys) all) (All-front P xs ys (All-tail P x (xs ++ ys) all))

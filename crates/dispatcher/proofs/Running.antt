@@ -1,26 +1,8 @@
 -- Runs for what was asked: those that stopped, and those that did their work.
-use Rattle.std.proofs.Common.{◌≡◌, ◌⊎◌, inl, inr, ℕ, ◌+◌, List, [], ◌∷◌, ◌++◌, Option, Some, None, IfSome, refl, sym, ap, subst, ◌∙◌, arith, length-append}
-use Rattle.std.specs.Prelude.{All, length, map}
-use Rattle.std.proofs.lemmas.List.{map-append}
-use Rattle.std.proofs.lemmas.List.Elements.{All-append}
-use Rattle.model_laws.proofs.plain.Each.{all_of_one}
-use Rattle.ride_ports.specs.Contents.{Contents, GivenBack}
-use Rattle.ride_ports.specs.Count.{Rose}
-use Rattle.gr_reader.specs.MapText.{map_format}
-use Rattle.run_words.specs.Words.{Asked, File, files_of, name_of}
-use Rattle.dispatcher.specs.Formats.{FailsAt}
-use Rattle.dispatcher.specs.Meanings.{Meaning, Means, said_of, status_of}
-use Rattle.dispatcher.specs.Readings.{StopsReading}
-use Rattle.dispatcher.specs.inner.Readings.{AreRead}
-use Rattle.dispatcher.specs.Runs.{Does, HasStopped, HasWorked, IsOver, IsRun, IsUnread}
-use Rattle.dispatcher.specs.Shelves.{AreGivenBack, IsBackOf, IsFresh, IsLeftOf, IsSpent, IsUntouched, SaysTo, Shelved, Sunk, bytes_of, told_bytes}
-use Rattle.dispatcher.specs.inner.Sources.{Did, DoesWork, HandsBack}
-use Rattle.dispatcher.specs.declared.sources.Work.{Work}
-use Rattle.dispatcher.specs.declared.stop.Stop.{Stop}
-use Rattle.dispatcher.specs.declared.stop.Stop.TheVariants.{ShelfFault}
+use Rattle.dispatcher.proofs.Common.{◌≡◌, ◌⊎◌, inl, inr, ℕ, ◌+◌, List, [], ◌∷◌, ◌++◌, Option, Some, None, IfSome, refl, sym, ap, subst, ◌∙◌, arith, length-append, All, length, map, map-append, All-append, all_of_one, Contents, GivenBack, Rose, map_format, Asked, File, files_of, name_of, FailsAt, Meaning, Means, said_of, status_of, StopsReading, AreRead, Does, HasStopped, HasWorked, IsOver, IsRun, IsUnread, AreGivenBack, IsBackOf, IsFresh, IsLeftOf, IsSpent, IsUntouched, SaysTo, Shelved, Sunk, bytes_of, told_bytes, Did, DoesWork, HandsBack, Work, Stop, ShelfFault}
 use Rattle.dispatcher.proofs.Bringing.{asks-none}
 use Rattle.dispatcher.proofs.Completing.{completes}
-use Rattle.dispatcher.proofs.Reading.{back-next, back-length, one-stops, stops-longer}
+use Rattle.dispatcher.proofs.Reading.{back-next, back-length, one-stops, stops-for_fault, stops-longer}
 use Rattle.dispatcher.proofs.Saying.{says-nothing}
 
 -- a run, by how it ended
@@ -58,7 +40,7 @@ module _ (files : List File) (file : File) (later : List File) (m : Meaning) (ol
   missed fails read told asked back brought rose untouched = record {
     stop = ShelfFault;
     reading = one-stops files m file map_format old mid new later ShelfFault read
-        (asks-none map_format (name_of file) mid new told asked back brought rose) tt (λ s failed. fails s);
+        (asks-none map_format (name_of file) mid new told asked back brought rose) (stops-for_fault old.told m file) (λ s failed. fails s);
     status_is = inl refl;
     said = λ is. says-nothing out.before out.after out.faults_before out.faults_after untouched;
     no_memory = λ is. untouched;

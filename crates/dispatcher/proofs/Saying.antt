@@ -1,10 +1,5 @@
 -- Lines that were written.
-use Rattle.std.proofs.Common.{◌≡◌, ℕ, List, [], ◌∷◌, ◌++◌, Option, Result, Ok, Err, refl, sym, subst, ◌∙◌}
-use Rattle.std.specs.Prelude.{OnOk, OnErr, is_err}
-use Rattle.ride_ports.specs.Bytes.{Writes, WritesPrefix}
-use Rattle.ride_ports.specs.Count.{KeepsCount}
-use Rattle.ride_ports.proofs.ByteLemmas.{WritesPrefix-whole, append_known-nil}
-use Rattle.dispatcher.specs.Refusals.{Says}
+use Rattle.dispatcher.proofs.Common.{◌≡◌, ℕ, List, [], ◌∷◌, ◌++◌, Option, Result, Ok, Err, refl, sym, subst, ◌∙◌, OnOk, OnErr, is_err, Writes, WritesPrefix, KeepsCount, WritesPrefix-whole, append_known-nil, Says}
 
 -- what a write says
 pub says : {T E : Type 0} (outcome : Result T E) (before after : Option (List ℕ)) (faults_before faults_after : ℕ) (line : List ℕ)

@@ -1,21 +1,6 @@
 -- What a service of two feeds tells of what was taken of them, and of its status.
-use Rattle.std.proofs.Common.{◌≡◌, ◌⊎◌, inl, inr, ℕ, ◌&&◌, Bool, true, false, List, [], Option, IfSome, refl, sym, subst}
-use Rattle.std.specs.Prelude.{IsTrue}
-use Rattle.std.specs.List.{list_all, range_with_len}
-use Rattle.ride_ports.specs.Bytes.{Reads}
+use Rattle.dispatcher.proofs.Common.{◌≡◌, ◌⊎◌, inl, inr, ℕ, ◌&&◌, Bool, true, false, List, [], Option, IfSome, refl, sym, subst, IsTrue, list_all, range_with_len, Reads, Ran, Reads-none, ended_whole, replay, Feed, Whole, Entry, FeedRun, HasNotServed, HasServed, IsServed, Meaning, start_of, HasAnswered, Sunk}
 use Rattle.ride_ports.specs.Status.{status_of}
-use Rattle.ride_ports.specs.declared.outcome.Ran.{Ran}
-use Rattle.ride_ports.proofs.ByteLemmas.{Reads-none}
-use Rattle.ride_model.specs.History.{ended_whole}
-use Rattle.ride_model.specs.Legal.{replay}
-use Rattle.ride_model.specs.declared.command.Actor.TheVariants.{Feed}
-use Rattle.ride_model.specs.declared.entry.Ending.TheVariants.{Whole}
-use Rattle.ride_model.specs.declared.entry.Entry.{Entry}
-use Rattle.live_sessions.specs.Serving.{FeedRun, HasNotServed, HasServed}
-use Rattle.live_sessions.specs.inner.Serving.{IsServed}
-use Rattle.dispatcher.specs.Meanings.{Meaning, start_of}
-use Rattle.dispatcher.specs.Services.{HasAnswered}
-use Rattle.dispatcher.specs.Shelves.{Sunk}
 use Rattle.dispatcher.proofs.Ends.{ending-whole, nobody-whole}
 use Rattle.dispatcher.proofs.Statuses.{NoneWanting, none-status, whole-status}
 

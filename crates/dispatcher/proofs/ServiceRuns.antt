@@ -1,18 +1,6 @@
 -- Runs of a service, whose two feeds are brought one after the other.
-use Rattle.std.proofs.Common.{◌≡◌, inl, inr, ℕ, ◌+◌, List, [], ◌∷◌, ◌++◌, Option, refl, sym, ap, subst, ◌∙◌, arith, length-append}
-use Rattle.std.specs.Prelude.{All, length, map}
-use Rattle.std.proofs.lemmas.List.{append_assoc, length-map, map-append}
-use Rattle.std.proofs.lemmas.List.Elements.{All-append}
-use Rattle.model_laws.proofs.plain.Each.{all_of_one, all_of_two}
-use Rattle.ride_ports.specs.Contents.{Contents, GivenBack}
-use Rattle.ride_ports.specs.Count.{Rose}
-use Rattle.run_words.specs.Words.{File, a_service, feed_file, fleet_file, map_file, name_of}
-use Rattle.dispatcher.specs.Meanings.{Meaning, Means}
+use Rattle.dispatcher.proofs.Common.{◌≡◌, inl, inr, ℕ, ◌+◌, List, [], ◌∷◌, ◌++◌, Option, refl, sym, ap, subst, ◌∙◌, arith, length-append, All, length, map, append_assoc, length-map, map-append, All-append, all_of_one, all_of_two, Contents, GivenBack, Rose, File, a_service, feed_file, fleet_file, map_file, name_of, Meaning, Means, AreRead, HasStopped, IsRun, AreGivenBack, IsBackOf, IsLeftOf, IsSpent, Shelved, Sunk, bytes_of, told_bytes, ShelfFault}
 use Rattle.dispatcher.specs.inner.Pairs.{BringsOne, HandsBoth, ServesFeeds}
-use Rattle.dispatcher.specs.inner.Readings.{AreRead}
-use Rattle.dispatcher.specs.Runs.{HasStopped, IsRun}
-use Rattle.dispatcher.specs.Shelves.{AreGivenBack, IsBackOf, IsLeftOf, IsSpent, Shelved, Sunk, bytes_of, told_bytes}
-use Rattle.dispatcher.specs.declared.stop.Stop.TheVariants.{ShelfFault}
 use Rattle.dispatcher.proofs.Reading.{back-length, back-next, back-one}
 use Rattle.dispatcher.proofs.Running.{any-text, missed-run, run-of}
 use Rattle.dispatcher.proofs.Saying.{says-nothing}
@@ -37,7 +25,7 @@ one-missed files m riders drivers old mid new out status read one =
           meaning = m;
           means = All-append (Means old.told m) files (feed_file riders ∷ []) read.means (all_of_one (Means old.told m) (feed_file riders) (any-text _));
         };
-        why = tt;
+        why = inr refl;
         back = record {
           all_back = omega (arith, many, one.brought, read.back.all_back);
           in_order = subst (λ (l : List GivenBack). AreGivenBack (bytes_of old.told (files ++ feed_file riders ∷ feed_file drivers ∷ [])) l) (sym one.back)
@@ -92,14 +80,18 @@ module _ (map_name fleet riders drivers : List ℕ) (workers desks : ℕ) (m : M
             (all_of_two (Means old.told m) (feed_file riders) (feed_file drivers) (any-text _) (any-text _));
         did = (
           record {
-            first = both.first;
-            second = both.second;
-            first_source = both.first_source;
-            second_source = both.second_source;
+            feed = both.second;
+            source = both.second_source;
+            earlier = mid.back ++ both.first_source ∷ [];
+            back_is = both.back ∙ sym (append_assoc mid.back (both.first_source ∷ []) (both.second_source ∷ []));
+            of_file = subst (λ (t : Option Contents). IsBackOf (told_bytes t drivers) both.second_source both.second) read.told both.of_second;
+          },
+          record {
+            feed = both.first;
+            source = both.first_source;
             earlier = mid.back;
-            back_is = both.back;
-            of_first = subst (λ (t : Option Contents). IsBackOf (told_bytes t riders) both.first_source both.first) read.told both.of_first;
-            of_second = subst (λ (t : Option Contents). IsBackOf (told_bytes t drivers) both.second_source both.second) read.told both.of_second;
+            back_is = refl;
+            of_file = subst (λ (t : Option Contents). IsBackOf (told_bytes t riders) both.first_source both.first) read.told both.of_first;
           },
           both.serves,
         );

@@ -1,12 +1,8 @@
 -- What a session's status tells of what was wanting.
-use Rattle.std.proofs.Common.{◌≡◌, ◌⊎◌, inl, inr, ℕ, ◌≤◌, ◌+◌, Bool, true, false, cond, List, length, Option, Some, refl, ap, sym, subst, ◌∙◌, arith, length-append}
-use Rattle.ride_ports.specs.Bytes.{Reads}
+use Rattle.dispatcher.proofs.Common.{◌≡◌, ◌⊎◌, inl, inr, ℕ, ◌≤◌, ◌+◌, Bool, true, false, cond, List, length, Option, Some, refl, ap, sym, subst, ◌∙◌, arith, length-append, Reads, Ran, Reads-told, IsTooLong, IsWithinLimits}
 use Rattle.ride_ports.specs.Status.{status_of as status_ran}
-use Rattle.ride_ports.specs.declared.outcome.Ran.{Ran}
-use Rattle.ride_ports.proofs.ByteLemmas.{Reads-told}
 use Rattle.line_text.specs.Lines.{lines_of}
 use Rattle.line_text.proofs.LineLemmas.{lines-grow}
-use Rattle.line_text.specs.line_reader.Limits.{IsTooLong, IsWithinLimits}
 use Rattle.line_text.specs.declared.line_reader.limits.Limits.{Limits}
 use Rattle.line_text.specs.line_reader.FeedRuns.{IsReadWhole}
 

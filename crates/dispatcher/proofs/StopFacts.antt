@@ -1,8 +1,5 @@
 -- What stopped a reading.
-use Rattle.std.proofs.Common.{◌≡◌, Some, Result, Ok, Err}
-use Rattle.dispatcher.specs.inner.Readings.{stop_in}
-use Rattle.dispatcher.specs.declared.stop.Stop.{Stop}
-use Rattle.dispatcher.specs.declared.stop.Stop.TheVariants.{ShelfFault}
+use Rattle.dispatcher.proofs.Common.{◌≡◌, Some, Result, Ok, Err, stop_in, Stop, ShelfFault}
 
 pub stop-is : {T : Type 0} (outcome : Result T Stop) (stop : Stop) → stop_in outcome ≡ Some stop → outcome ≡ Err stop
 stop-is (Ok answer) stop is = absurd (cc is)

@@ -1,20 +1,5 @@
 -- The texts of a run: a map, a fleet file over it, and a second one where there is.
-use Rattle.std.proofs.Common.{◌≡◌, ℕ, List, [], ◌∷◌, Option, Some, None, Ok, Err, refl, sym, subst, ◌∙◌}
-use Rattle.std.specs.Prelude.{IfSome}
-use Rattle.ride_ports.specs.Contents.{Contents}
-use Rattle.ride_model.specs.Road.{RoadMap}
-use Rattle.ride_model.specs.declared.settings.Settings.{Settings}
-use Rattle.ride_model.specs.declared.vehicle.Vehicle.{Vehicle}
-use Rattle.gr_reader.specs.MapText.{map_format, map_text}
-use Rattle.fleet_file.specs.FleetText.{fleet_format, fleet_text}
-use Rattle.run_words.specs.Words.{map_file, fleet_file, second_fleet_file}
-use Rattle.dispatcher.specs.Meanings.{Meaning, StopsAt}
-use Rattle.dispatcher.specs.Readings.{StopsReading}
-use Rattle.dispatcher.specs.inner.Readings.{AreRead, AsksOnce, text_files}
-use Rattle.dispatcher.specs.Shelves.{IsFresh, Shelved, told_bytes}
-use Rattle.dispatcher.specs.inner.Stops.{BringsSecond, StopsFleet, StopsMap}
-use Rattle.dispatcher.specs.declared.stop.Stop.{Stop}
-use Rattle.dispatcher.specs.declared.stop.Stop.TheVariants.{NoMemory, ShelfFault, LimitPassed, MapRefused, FleetRefused}
+use Rattle.dispatcher.proofs.Common.{◌≡◌, ℕ, List, [], ◌∷◌, Option, Some, None, Ok, Err, refl, sym, subst, ◌∙◌, IfSome, Contents, RoadMap, Settings, Vehicle, map_format, map_text, fleet_format, fleet_text, map_file, fleet_file, second_fleet_file, Meaning, StopsFleet, StopsMap, StopsReading, AreRead, AsksOnce, text_files, IsFresh, Shelved, told_bytes, BringsSecond, Stop, NoMemory}
 use Rattle.dispatcher.proofs.Reading.{none-read, one-more, one-stops, then-stops}
 
 -- what is meant before a fleet file was read, and before a map was
@@ -33,39 +18,15 @@ nothing = record { network = no_map; settings = no_settings; vehicles = []; seco
 abbrev pub meaning : RoadMap → Settings → List Vehicle → List Vehicle → Meaning
 meaning network settings vehicles second = record { network = network; settings = settings; vehicles = vehicles; second = second }
 
--- why a run stops at a map and at a fleet file
-map-stops : (told : Option Contents) (name : List ℕ) (m : Meaning) (stop : Stop) → StopsMap (told_bytes told name) stop → StopsAt told m (map_file name) stop
-map-stops told name m NoMemory stops = tt
-map-stops told name m ShelfFault stops = tt
-map-stops told name m LimitPassed stops = (tt, stops)
-map-stops told name m (MapRefused e) (of_map, stops) = (tt, of_map, stops)
-map-stops told name m (FleetRefused e) stops = absurd stops
-
-fleet-stops : (told : Option Contents) (name : List ℕ) (m : Meaning) (stop : Stop) → StopsFleet m.network.nodes (told_bytes told name) stop
-    → StopsAt told m (fleet_file name) stop
-fleet-stops told name m NoMemory stops = tt
-fleet-stops told name m ShelfFault stops = tt
-fleet-stops told name m LimitPassed stops = (tt, stops)
-fleet-stops told name m (MapRefused e) stops = absurd stops
-fleet-stops told name m (FleetRefused e) (of_fleet, stops) = (tt, of_fleet, stops)
-
-second-stops : (told : Option Contents) (name : List ℕ) (m : Meaning) (stop : Stop) → StopsFleet m.network.nodes (told_bytes told name) stop
-    → StopsAt told m (second_fleet_file name) stop
-second-stops told name m NoMemory stops = tt
-second-stops told name m ShelfFault stops = tt
-second-stops told name m LimitPassed stops = (tt, stops)
-second-stops told name m (MapRefused e) stops = absurd stops
-second-stops told name m (FleetRefused e) (of_fleet, stops) = (tt, of_fleet, stops)
-
 -- a run stopped at the map
 pub at-map : (old new : Shelved) (map fleet : List ℕ) (second : Option (List ℕ)) (stop : Stop) → IsFresh old → AsksOnce map_format map old new (Some stop)
     → StopsMap (told_bytes old.told map) stop → StopsReading (text_files map fleet second) stop old new
 at-map old new map fleet None stop fresh asks stops =
-    one-stops [] (over no_map) (map_file map) map_format old old new (fleet_file fleet ∷ []) stop (none-read (over no_map) old fresh) asks
-    (map-stops old.told map (over no_map) stop stops) (λ s fails. fails)
+    one-stops [] (over no_map) (map_file map) map_format old old new (fleet_file fleet ∷ []) stop (none-read (over no_map) old fresh) asks stops
+    (λ s fails. fails)
 at-map old new map fleet (Some second) stop fresh asks stops =
     one-stops [] (over no_map) (map_file map) map_format old old new (fleet_file fleet ∷ second_fleet_file second ∷ []) stop
-    (none-read (over no_map) old fresh) asks (map-stops old.told map (over no_map) stop stops) (λ s fails. fails)
+    (none-read (over no_map) old fresh) asks stops (λ s fails. fails)
 
 -- a map was read
 module _ (old mid : Shelved) (map fleet : List ℕ) (network : RoadMap) (fresh : IsFresh old) (asks_map : AsksOnce map_format map old mid None)
@@ -79,13 +40,11 @@ module _ (old mid : Shelved) (map fleet : List ℕ) (network : RoadMap) (fresh :
       → StopsFleet network.nodes (told_bytes mid.told fleet) stop → StopsReading (text_files map fleet second) stop old new
   at-fleet new None stop asks stops =
       one-stops (map_file map ∷ []) (over network) (fleet_file fleet) (fleet_format network.nodes) old mid new [] stop (map-read (over network) refl) asks
-      (fleet-stops old.told fleet (over network) stop
-      (subst (λ (t : Option Contents). StopsFleet network.nodes (told_bytes t fleet) stop) asks_map.told stops)) (λ s fails. fails)
+      (subst (λ (t : Option Contents). StopsFleet network.nodes (told_bytes t fleet) stop) asks_map.told stops) (λ s fails. fails)
   at-fleet new (Some second) stop asks stops =
       one-stops (map_file map ∷ []) (over network) (fleet_file fleet) (fleet_format network.nodes) old mid new (second_fleet_file second ∷ []) stop
       (map-read (over network) refl) asks
-      (fleet-stops old.told fleet (over network) stop
-      (subst (λ (t : Option Contents). StopsFleet network.nodes (told_bytes t fleet) stop) asks_map.told stops)) (λ s fails. fails)
+      (subst (λ (t : Option Contents). StopsFleet network.nodes (told_bytes t fleet) stop) asks_map.told stops) (λ s fails. fails)
 
   -- a fleet file was read too
   module _ (next : Shelved) (settings : Settings) (vehicles : List Vehicle) (asks_fleet : AsksOnce (fleet_format network.nodes) fleet mid next None)
@@ -108,8 +67,7 @@ module _ (old mid : Shelved) (map fleet : List ℕ) (network : RoadMap) (fresh :
     at-second new (Some second) stop (stops, asks) =
         let m = meaning network settings vehicles [] in
         one-stops (map_file map ∷ fleet_file fleet ∷ []) m (second_fleet_file second) (fleet_format network.nodes) old next new [] stop (two-read []) asks
-        (second-stops old.told second m stop
-        (subst (λ (t : Option Contents). StopsFleet network.nodes (told_bytes t second) stop) two-told stops)) (λ s fails. fails)
+        (subst (λ (t : Option Contents). StopsFleet network.nodes (told_bytes t second) stop) two-told stops) (λ s fails. fails)
 
     -- all texts were read
     all-read : (new : Shelved) (second : Option (List ℕ)) (others : List Vehicle) → BringsSecond network second next new (Ok others)

@@ -1,20 +1,8 @@
 -- What is done over one source.
-use Rattle.std.proofs.Common.{◌≡◌, inl, inr, ℕ, ◌<◌, List, [], Result, Ok, Err, IfSome, refl, sym, ◌∙◌, ap, arith}
-use Rattle.ride_ports.specs.Bytes.{Reads}
-use Rattle.ride_ports.specs.Count.{KeepsCount, Rose}
+use Rattle.dispatcher.proofs.Common.{◌≡◌, inl, inr, ℕ, ◌<◌, List, [], Result, Ok, Err, IfSome, refl, sym, ◌∙◌, ap, arith, Reads, KeepsCount, Rose, Ran, AuditFault, ReadFault, TooLong, Verdict, Yes, No, is_read_fault, FeedRun, Sunk, Did, WorksOver, EndsBy, Work}
 use Rattle.ride_ports.specs.Status.{status_of}
-use Rattle.ride_ports.specs.declared.outcome.Ran.{Ran}
-use Rattle.log_audit.specs.declared.verdict.AuditFault.{AuditFault}
-use Rattle.log_audit.specs.declared.verdict.AuditFault.TheVariants.{ReadFault, TooLong, NoMemory}
-use Rattle.log_audit.specs.declared.verdict.Verdict.{Verdict}
-use Rattle.log_audit.specs.declared.verdict.Verdict.TheVariants.{Yes, No}
+use Rattle.log_audit.specs.declared.verdict.AuditFault.TheVariants.{NoMemory}
 use Rattle.board_core.specs.declared.board.totals.Totals.{Totals}
-use Rattle.log_audit.specs.Audit.{is_read_fault}
-use Rattle.live_sessions.specs.Serving.{FeedRun}
-use Rattle.dispatcher.specs.Shelves.{Sunk}
-use Rattle.dispatcher.specs.inner.Sources.{Did, WorksOver}
-use Rattle.dispatcher.specs.Verdicts.{EndsBy}
-use Rattle.dispatcher.specs.declared.sources.Work.{Work}
 use Rattle.dispatcher.proofs.Statuses.{NoneWanting, sink-status, source-status, whole-status}
 
 -- what is known of a session that ran over a source

@@ -1,14 +1,12 @@
 -- What the texts of a run mean, and why one stops it.
-use Rattle.std.specs.Prelude.{◌≡◌, ℕ, ⊤, List, [], Option, Ok, Err, IfSome}
+use Rattle.std.specs.Prelude.{◌≡◌, ◌⊎◌, ℕ, ⊤, List, [], Option, Ok, Err, IfSome}
 use Rattle.ride_ports.specs.Contents.{Contents}
 use Rattle.ride_model.specs.Road.{RoadMap}
 use Rattle.ride_model.specs.State.{State, start_state}
 use Rattle.ride_model.specs.declared.settings.Settings.{Settings}
 use Rattle.ride_model.specs.declared.vehicle.Vehicle.{Vehicle}
-use Rattle.gr_reader.specs.declared.errors.MapError.{MapError}
 use Rattle.gr_reader.specs.declared.errors.MapError.TheVariants.{TooLong}
 use Rattle.gr_reader.specs.MapText.{map_text}
-use Rattle.fleet_file.specs.declared.errors.FleetError.{FleetError}
 use Rattle.fleet_file.specs.declared.errors.FleetError.TheVariants.{TooLong as FleetTooLong}
 use Rattle.fleet_file.specs.FleetText.{fleet_text}
 use Rattle.run_words.specs.Words.{File, map_file, fleet_file, second_fleet_file, feed_file, log_file, name_of}
@@ -38,46 +36,28 @@ IsTextOf m (log_file name) text = ⊤
 abbrev pub Means : Option Contents → Meaning → File → Type 0
 Means told m file = IfSome (told_bytes told (name_of file)) (IsTextOf m file)
 
--- a map's text, or over a network a fleet file's, has this fault
-abbrev pub HasMapFault : File → MapError → List ℕ → Type 0
-HasMapFault (map_file name) e text = map_text text ≡ Err e
-HasMapFault _ e text = ⊥
+-- why a run stops at a map of these bytes: want of memory or a fault of the shelf, or what they are a text of, where they are told
+abbrev pub StopsMap : Option (List ℕ) → Stop → Type 0
+StopsMap told NoMemory = ⊤
+StopsMap told ShelfFault = ⊤
+StopsMap told LimitPassed = IfSome told (λ bytes. map_text bytes ≡ Err TooLong)
+StopsMap told (MapRefused e) = IsOfMap e × IfSome told (λ bytes. map_text bytes ≡ Err e)
+StopsMap told (FleetRefused e) = ⊥
 
-abbrev pub HasFleetFault : Meaning → File → FleetError → List ℕ → Type 0
-HasFleetFault m (fleet_file name) e text = fleet_text m.network.nodes text ≡ Err e
-HasFleetFault m (second_fleet_file name) e text = fleet_text m.network.nodes text ≡ Err e
-HasFleetFault m _ e text = ⊥
+-- and at a fleet file over a map of so many nodes
+abbrev pub StopsFleet : ℕ → Option (List ℕ) → Stop → Type 0
+StopsFleet nodes told NoMemory = ⊤
+StopsFleet nodes told ShelfFault = ⊤
+StopsFleet nodes told LimitPassed = IfSome told (λ bytes. fleet_text nodes bytes ≡ Err FleetTooLong)
+StopsFleet nodes told (MapRefused e) = ⊥
+StopsFleet nodes told (FleetRefused e) = IsOfFleet e × IfSome told (λ bytes. fleet_text nodes bytes ≡ Err e)
 
-abbrev pub IsMap : File → Type 0
-IsMap (map_file name) = ⊤
-IsMap _ = ⊥
-
-abbrev pub IsFleetFile : File → Type 0
-IsFleetFile (fleet_file name) = ⊤
-IsFleetFile (second_fleet_file name) = ⊤
-IsFleetFile _ = ⊥
-
--- a text has more bytes than its limit, and no faulty line within it
-abbrev pub IsTooLarge : Meaning → File → List ℕ → Type 0
-IsTooLarge m (map_file name) text = map_text text ≡ Err TooLong
-IsTooLarge m (fleet_file name) text = fleet_text m.network.nodes text ≡ Err FleetTooLong
-IsTooLarge m (second_fleet_file name) text = fleet_text m.network.nodes text ≡ Err FleetTooLong
-IsTooLarge m _ text = ⊥
-
-abbrev pub IsText : File → Type 0
-IsText (map_file name) = ⊤
-IsText (fleet_file name) = ⊤
-IsText (second_fleet_file name) = ⊤
-IsText _ = ⊥
-
--- why a run stops at a file: want of memory or a fault of the shelf, or what its bytes are a text of, where the texts before it
--- mean this
+-- why a run stops at a file, where the texts before it mean this. Feeds and logs are judged as they are read
 abbrev pub StopsAt : Option Contents → Meaning → File → Stop → Type 0
-StopsAt told m file NoMemory = ⊤
-StopsAt told m file ShelfFault = ⊤
-StopsAt told m file LimitPassed = IsText file × IfSome (told_bytes told (name_of file)) (IsTooLarge m file)
-StopsAt told m file (MapRefused e) = IsMap file × IsOfMap e × IfSome (told_bytes told (name_of file)) (HasMapFault file e)
-StopsAt told m file (FleetRefused e) = IsFleetFile file × IsOfFleet e × IfSome (told_bytes told (name_of file)) (HasFleetFault m file e)
+StopsAt told m (map_file name) stop = StopsMap (told_bytes told name) stop
+StopsAt told m (fleet_file name) stop = StopsFleet m.network.nodes (told_bytes told name) stop
+StopsAt told m (second_fleet_file name) stop = StopsFleet m.network.nodes (told_bytes told name) stop
+StopsAt told m _ stop = (stop ≡ NoMemory) ⊎ (stop ≡ ShelfFault)
 
 -- the exit status of a run that stopped, and the line that it says
 abbrev pub status_of : Stop → ℕ

@@ -29,7 +29,7 @@ pub record HasStopped (files : List File) (old new : Shelved) (out : Sunk) (stat
   pub said : status ≡ status_of stop → SaysTo out (said_of stop)
   pub no_memory : status ≡ 1 → IsUntouched out
 
--- the source that was given back last is that of a file; so are the last two of two files
+-- the source that was given back last is that of a file
 pub record IsOver (told : Option Contents) (name : List ℕ) (back : List GivenBack) : Type 0 where
   pub feed : FeedRun
   pub source : GivenBack
@@ -37,23 +37,13 @@ pub record IsOver (told : Option Contents) (name : List ℕ) (back : List GivenB
   pub back_is : back ≡ earlier ++ source ∷ []
   pub of_file : IsBackOf (told_bytes told name) source feed
 
-pub record AreOver (told : Option Contents) (first_name second_name : List ℕ) (back : List GivenBack) : Type 0 where
-  pub first : FeedRun
-  pub second : FeedRun
-  pub first_source : GivenBack
-  pub second_source : GivenBack
-  pub earlier : List GivenBack
-  pub back_is : back ≡ earlier ++ first_source ∷ second_source ∷ []
-  pub of_first : IsBackOf (told_bytes told first_name) first_source first
-  pub of_second : IsBackOf (told_bytes told second_name) second_source second
-
 -- what was done, by what was asked for
 abbrev pub Does : Asked → Option Contents → Meaning → List GivenBack → Sunk → ℕ → Type 0
 Does (a_replay map fleet feed) told m back out status = (over : IsOver told feed back) × Replays m None over.feed out status
 Does (an_ahead map fleet feed reach) told m back out status = (over : IsOver told feed back) × Replays m (Some reach) over.feed out status
 Does (an_audit map fleet log) told m back out status = (over : IsOver told log back) × Audits m over.feed out status
 Does (a_service map fleet riders drivers workers desks) told m back out status =
-    (over : AreOver told riders drivers back) × Serves m desks over.first over.second out status
+    (second : IsOver told drivers back) × (first : IsOver told riders second.earlier) × Serves m desks first.feed second.feed out status
 Does (a_drill plan) told m back out status = Drills plan out status
 Does (a_booking feed) told m back out status = (over : IsOver told feed back) × Books over.feed out status
 Does (a_league map fleet second feed) told m back out status = (over : IsOver told feed back) × PlaysLeague m over.feed out status

@@ -3,7 +3,7 @@ use fleet_file::FleetError;
 use gr_reader::MapError;
 
 /// Why a run stopped.
-#[derive(Clone, Copy, PartialEq, Eq)]
+#[derive(Clone, Copy, Debug, PartialEq, Eq)]
 pub enum Stop {
     NoMemory,
     /// The shelf, or a source that it brought, failed.

@@ -1,18 +1,7 @@
 -- Prices that certify a grid's pairing make it least.
-use Rattle.std.proofs.Common.{◌≡◌, ℕ, zero, suc, ◌+◌, ◌-◌, ◌*◌, ◌<◌, ◌≤◌, Bool, true, false, cond, not, List, [], ◌∷◌, length, get_or, eqb, refl, sym, ◌∙◌, ap, subst, mul-suc, arith}
-use Rattle.std.specs.Prelude.{map, sum, Option, Some, None, IsSome, IfSome, is_some, unwrap_or}
-use Rattle.std.specs.List.{filter, sum_by, range_with_len, enumerate_from, AllByRecursion, IsDistinct}
-use Rattle.std.proofs.lemmas.List.{map-id}
-use Rattle.std.proofs.lemmas.List.FromFn.{fill_by_all}
-use Rattle.std.proofs.lemmas.List.Filters.{length-filter_both, sum_by-filter_both}
-use Rattle.std.proofs.lemmas.List.Sums.{sum_by-cons, sum-map}
-use Rattle.std.proofs.lemmas.Bool.{ne_eqb, eq-eqb, false≢true}
-use Rattle.ride_model.specs.Seating.{amount_of}
+use Rattle.dual_check.proofs.Common.{◌≡◌, ℕ, zero, suc, ◌+◌, ◌-◌, ◌*◌, ◌<◌, ◌≤◌, Bool, true, false, cond, not, List, [], ◌∷◌, length, get_or, eqb, refl, sym, ◌∙◌, ap, subst, mul-suc, arith, map, sum, Option, Some, None, IsSome, IfSome, is_some, unwrap_or, sum_by, range_with_len, enumerate_from, AllByRecursion, map-id, fill_by_all, length-filter_both, sum_by-filter_both, sum_by-cons, sum-map, ne_eqb, eq-eqb, false≢true, amount_of, amount-cons, sum-amounts-le, sum_by-map, GridCells, cell_at, column_of, IsPairing, row_cost, pairing_cost, IsLeastPairing, price_at, CertifiesPairing}
+use Rattle.std.specs.List.{filter, IsDistinct}
 use Rattle.model_laws.proofs.CoveredPairs.{prices-le-cost}
-use Rattle.model_laws.proofs.Certificates.{amount-cons, sum-amounts-le}
-use Rattle.model_laws.proofs.plain.Sums.{sum_by-map}
-use Rattle.dual_check.specs.Cells.{GridCells, cell_at}
-use Rattle.dual_check.specs.Grid.{column_of, IsPairing, row_cost, pairing_cost, IsLeastPairing, price_at, CertifiesPairing}
 
 -- numbered amounts sum to the amounts
 sum-numbered : (k : ℕ) (xs : List ℕ) → sum_by (λ (item : ℕ × ℕ). item.1) (enumerate_from k xs) ≡ sum xs

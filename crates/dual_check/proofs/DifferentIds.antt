@@ -1,16 +1,5 @@
 -- Items of different ids.
-use Rattle.std.proofs.Common.{◌≡◌, ℕ, ◌<◌, inl, inr, Bool, true, false, cond, List, [], ◌∷◌, length, get_or, eqb, refl, sym, ◌∙◌, ap, arith}
-use Rattle.std.specs.Prelude.{map, filter, find, Some, None, ◌==◌, ◌||◌}
-use Rattle.std.specs.List.{slice_get, position_or_len, list_any, IsDistinct}
-use Rattle.std.proofs.lemmas.Bool.{eqb-false, eq-eqb, ne_eqb, lt-ltb, cases_order, true≢false}
-use Rattle.std.proofs.lemmas.List.{length-map, get_or-map}
-use Rattle.std.proofs.lemmas.List.Folds.{find_at}
-use Rattle.std.proofs.lemmas.List.Sums.{position_or_len_is}
-use Rattle.std.proofs.lemmas.Map.Keys.{IsDistinct-head, IsDistinct-tail, IsDistinct-cons, apart_from_distinct}
-use Rattle.std.proofs.lemmas.Option.{slice_get-get_or}
-use Rattle.model_laws.proofs.plain.Each.{each-filter}
-use Rattle.model_laws.proofs.plain.Lists.{distinct-filter}
-use Rattle.batch_commit.specs.inner.Answer.{place_of}
+use Rattle.dual_check.proofs.Common.{◌≡◌, ℕ, ◌<◌, inl, inr, Bool, true, false, cond, List, [], ◌∷◌, length, get_or, eqb, refl, sym, ◌∙◌, ap, arith, map, filter, find, Some, None, ◌==◌, ◌||◌, slice_get, position_or_len, list_any, IsDistinct, eqb-false, eq-eqb, ne_eqb, lt-ltb, cases_order, true≢false, length-map, get_or-map, find_at, position_or_len_is, IsDistinct-head, IsDistinct-tail, IsDistinct-cons, apart_from_distinct, slice_get-get_or, each-filter, distinct-filter, place_of}
 
 -- different ids have different places
 pub same-place : (ids : List ℕ) (i j : ℕ) → IsDistinct eqb ids → i < length ids → j < length ids

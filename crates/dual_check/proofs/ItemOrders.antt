@@ -1,14 +1,6 @@
 -- Items that are taken in the order of ids.
-use Rattle.std.proofs.Common.{◌≡◌, ℕ, zero, suc, ◌+◌, ◌<◌, ◌≤◌, Bool, true, false, cond, List, [], ◌∷◌, ◌++◌, length, drop, get_or, eqb, refl, sym, ◌∙◌, ap, subst, arith, add-one}
-use Rattle.std.specs.Prelude.{map, filter, Option, Some, None, is_some}
-use Rattle.std.specs.List.{AllByRecursion, IsDistinct}
-use Rattle.std.proofs.lemmas.Bool.{eqb-true, eqb-false, ne_eqb, eq-eqb, false≢true}
-use Rattle.std.proofs.lemmas.Map.Keys.{IsDistinct-head, IsDistinct-tail}
-use Rattle.std.proofs.lemmas.List.{length_push, append_assoc, append-nil, drop_more, drop_all, length-drop}
-use Rattle.model_laws.proofs.plain.Each.{each-filter, each-weaker}
+use Rattle.dual_check.proofs.Common.{◌≡◌, ℕ, zero, suc, ◌+◌, ◌<◌, ◌≤◌, Bool, true, false, cond, List, [], ◌∷◌, ◌++◌, length, drop, get_or, eqb, refl, sym, ◌∙◌, ap, subst, arith, add-one, map, filter, Option, Some, None, is_some, AllByRecursion, IsDistinct, eqb-true, eqb-false, ne_eqb, eq-eqb, false≢true, IsDistinct-head, IsDistinct-tail, length_push, append_assoc, append-nil, drop_more, drop_all, length-drop, each-filter, each-weaker, filter-same, item_of, has_item, StandsInOrder, first_if_of}
 use Rattle.model_laws.proofs.plain.Numbers.{eqb-flip}
-use Rattle.model_laws.proofs.plain.Filters.{filter-same}
-use Rattle.dual_check.specs.inner.Orders.{item_of, has_item, StandsInOrder, first_if_of}
 
 -- two functions that agree at each element have the same images
 pub map-agree : {A B : Type 0} (f g : A → B) (xs : List A) → AllByRecursion (λ x. f x ≡ g x) xs → map f xs ≡ map g xs

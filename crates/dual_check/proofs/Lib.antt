@@ -1,3 +1,4 @@
+pub mod Common
 pub mod PairingParts
 pub mod CertifiedPairings
 pub mod ItemOrders

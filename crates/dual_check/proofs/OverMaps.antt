@@ -1,20 +1,6 @@
 -- What certifies a seating over a table's cells certifies it over each map over which the table is the batch's.
-use Rattle.std.proofs.Common.{◌≡◌, ℕ, ◌+◌, ◌-◌, ◌*◌, ◌≤◌, List, length, get_or, refl, sym, ◌∙◌, ap, subst, arith}
-use Rattle.std.specs.Prelude.{Some, None, option_and_then, unwrap_or, IsSome, IfSome, IsSomeAnd, MatchOption}
-use Rattle.std.proofs.lemmas.List.{get_or-map}
-use Rattle.std.proofs.lemmas.List.Elements.{All-from_recursion}
-use Rattle.ride_model.specs.declared.offer.Offer.{Offer}
-use Rattle.ride_model.specs.declared.offer.Seat.{Seat}
-use Rattle.ride_model.specs.declared.vehicle.Ride.{Ride}
-use Rattle.ride_model.specs.declared.vehicle.Vehicle.{Vehicle}
-use Rattle.ride_model.specs.Road.{RoadMap}
-use Rattle.ride_model.specs.Offers.{offer_of, price}
-use Rattle.ride_model.specs.Seating.{BatchCopy, vehicle_ids, find_ride, find_vehicle, seat_offer, seat_cost, seating_cost, IsLeastSeating, amount_of, IsCovered, Certifies}
-use Rattle.model_laws.proofs.plain.Among.{Among}
-use Rattle.model_laws.proofs.plain.Each.{each-among}
-use Rattle.model_laws.proofs.Certificates.{certified_is_least}
-use Rattle.batch_commit.specs.inner.Table.{Table, IsTableOf, IsLeastOffer, cell_at as offer_at}
-use Rattle.batch_commit.specs.inner.Answer.{place_of, cell_cost, cells_cost, CertifiesOverCells}
+use Rattle.dual_check.proofs.Common.{◌≡◌, ℕ, ◌+◌, ◌-◌, ◌*◌, ◌≤◌, List, length, get_or, refl, sym, ◌∙◌, ap, subst, arith, Some, None, option_and_then, unwrap_or, IsSome, IfSome, IsSomeAnd, MatchOption, get_or-map, All-from_recursion, Offer, Seat, Ride, Vehicle, RoadMap, offer_of, price, BatchCopy, vehicle_ids, find_ride, find_vehicle, seat_offer, seat_cost, seating_cost, IsLeastSeating, amount_of, IsCovered, Certifies, Among, each-among, certified_is_least, Table, IsTableOf, IsLeastOffer, place_of, cell_cost, cells_cost, CertifiesOverCells}
+use Rattle.batch_commit.specs.inner.Table.{cell_at as offer_at}
 use Rattle.dual_check.proofs.DifferentIds.{find-id, element}
 use Rattle.dual_check.proofs.SeatPlaces.{cost_in_cell, AreSeats, places-of}
 use Rattle.dual_check.proofs.SeatCosts.{sum_by-agree}

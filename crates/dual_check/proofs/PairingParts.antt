@@ -1,14 +1,5 @@
 -- A pairing by its parts.
-use Rattle.std.proofs.Common.{◌≡◌, ℕ, zero, suc, ◌+◌, ◌<◌, ◌≤◌, inl, inr, Bool, true, false, List, [], ◌∷◌, length, take, refl, sym, ◌∙◌, ap, subst, arith}
-use Rattle.std.specs.Prelude.{Option, Some, None, IsSome, IfSome, MatchBool}
-use Rattle.std.specs.List.{sum_by, range_with_len}
-use Rattle.std.proofs.lemmas.Bool.{cases_order, cases_lt}
-use Rattle.std.proofs.lemmas.List.{get_or-take, get_or_past, length-take}
-use Rattle.std.proofs.lemmas.List.Sums.{sum-map}
-use Rattle.std.proofs.lemmas.List.FromFn.{sum_by-map-range_with_len_more}
-use Rattle.dual_check.specs.Cells.{GridCells, cell_at}
-use Rattle.dual_check.specs.Grid.{column_of, IsPairing}
-use Rattle.dual_check.specs.inner.Parts.{StandsInCells, HasColumnsOnce}
+use Rattle.dual_check.proofs.Common.{◌≡◌, ℕ, zero, suc, ◌+◌, ◌<◌, ◌≤◌, inl, inr, Bool, true, false, List, [], ◌∷◌, length, take, refl, sym, ◌∙◌, ap, subst, arith, Option, Some, None, IsSome, IfSome, MatchBool, sum_by, range_with_len, cases_order, cases_lt, get_or-take, get_or_past, length-take, sum-map, sum_by-map-range_with_len_more, GridCells, cell_at, column_of, IsPairing, StandsInCells, HasColumnsOnce}
 
 -- what decides a fact decides one that holds where it holds
 pub decided-like : {P Q : Type 0} (b : Bool) → (P → Q) → (Q → P) → MatchBool b P (P → ⊥) → MatchBool b Q (Q → ⊥)

@@ -1,27 +1,5 @@
 -- What a batch's seating costs, and its amounts, as sums over its requests and its fleet.
-use Rattle.std.proofs.Common.{◌≡◌, ℕ, ◌-◌, ◌*◌, ◌≤◌, inl, inr, true, not, List, [], ◌∷◌, length, get_or, eqb, refl, sym, ◌∙◌, ap, subst, arith}
-use Rattle.std.specs.Prelude.{map, filter, sum, Some, None, unwrap_or}
-use Rattle.std.specs.List.{sum_by, range_with_len, AllByRecursion, IsDistinct}
-use Rattle.std.proofs.lemmas.List.{length-map, get_or-map}
-use Rattle.std.proofs.lemmas.List.Filters.{length-filter_both, sum_by-filter_both}
-use Rattle.std.proofs.lemmas.List.FromFn.{fill_by_all}
-use Rattle.std.proofs.lemmas.Bool.{not-true}
-use Rattle.std.proofs.lemmas.List.Sums.{sum_by-cons, sum-map}
-use Rattle.ride_model.specs.declared.offer.Seat.{Seat}
-use Rattle.ride_model.specs.declared.vehicle.Ride.{Ride}
-use Rattle.ride_model.specs.Vehicle.{ride_ids}
-use Rattle.ride_model.specs.Batch.{seat_of}
-use Rattle.ride_model.specs.Seating.{BatchCopy, vehicle_ids, has_seat, amount_ids, amount_of, has_amount}
-use Rattle.model_laws.proofs.plain.Among.{Among}
-use Rattle.model_laws.proofs.Certificates.{sum-amounts, sum-amounts-le}
-use Rattle.model_laws.proofs.plain.Sums.{sum_by-map}
-use Rattle.model_laws.proofs.plain.Each.{each-among}
-use Rattle.model_laws.proofs.plain.Lists.{distinct-filter}
-use Rattle.batch_commit.specs.inner.Table.{Table}
-use Rattle.batch_commit.specs.inner.Answer.{place_of, cell_cost, cells_cost}
-use Rattle.dual_check.specs.Cells.{GridCells, cell_at}
-use Rattle.dual_check.specs.Grid.{column_of, row_cost, pairing_cost}
-use Rattle.dual_check.specs.inner.Costs.{cost_grid, seat_place, seat_columns, amounts_over}
+use Rattle.dual_check.proofs.Common.{◌≡◌, ℕ, ◌-◌, ◌*◌, ◌≤◌, inl, inr, true, not, List, [], ◌∷◌, length, get_or, eqb, refl, sym, ◌∙◌, ap, subst, arith, map, filter, sum, Some, None, unwrap_or, sum_by, range_with_len, AllByRecursion, IsDistinct, length-map, get_or-map, length-filter_both, sum_by-filter_both, fill_by_all, not-true, sum_by-cons, sum-map, Seat, Ride, ride_ids, seat_of, BatchCopy, vehicle_ids, has_seat, amount_ids, amount_of, has_amount, Among, sum-amounts, sum-amounts-le, sum_by-map, each-among, distinct-filter, Table, place_of, cell_cost, cells_cost, GridCells, cell_at, column_of, row_cost, pairing_cost, cost_grid, seat_place, seat_columns, amounts_over}
 use Rattle.dual_check.proofs.DifferentIds.{place-of-id, not-found}
 use Rattle.dual_check.proofs.SeatPlaces.{cost-cell, AreSeats, seat-of-request}
 use Rattle.dual_check.proofs.CertifiedPairings.{each-range, each-kept, sum_by-times}

@@ -1,26 +1,6 @@
 -- A batch's certificate is that of a pairing of its table's costs.
-use Rattle.std.proofs.Common.{◌≡◌, ℕ, ◌+◌, ◌<◌, ◌≤◌, List, length, get_or, eqb, refl, sym, ◌∙◌, ap, subst, arith}
-use Rattle.std.specs.Prelude.{map, filter, sum, All, Option, Some, None, option_map, unwrap_or, IsSome, IfSome, IsSomeAnd}
-use Rattle.std.specs.List.{IsDistinct}
-use Rattle.std.proofs.lemmas.List.{length-map, get_or-map, ext_get_or}
-use Rattle.std.proofs.lemmas.List.Elements.{All-map, Contains-get_or}
-use Rattle.std.proofs.lemmas.List.Sums.{sum-map}
-use Rattle.std.proofs.lemmas.Bool.{ne_eqb}
-use Rattle.std.proofs.lemmas.Map.Keys.{IsDistinct-from_apart}
-use Rattle.ride_model.specs.declared.offer.Offer.{Offer}
-use Rattle.ride_model.specs.declared.offer.Seat.{Seat}
-use Rattle.ride_model.specs.declared.vehicle.Ride.{Ride}
-use Rattle.ride_model.specs.declared.vehicle.Vehicle.{Vehicle}
-use Rattle.ride_model.specs.Vehicle.{ride_ids}
-use Rattle.ride_model.specs.Batch.{seat_of}
-use Rattle.ride_model.specs.Seating.{BatchCopy, vehicle_ids, has_seat, amount_ids, amount_of, has_amount}
-use Rattle.model_laws.proofs.plain.Among.{Among, among_from_contains, contains_from_among}
-use Rattle.model_laws.proofs.plain.Lists.{distinct-filter}
-use Rattle.batch_commit.specs.inner.Table.{Table, cell_at as offer_at}
-use Rattle.batch_commit.specs.inner.Answer.{place_of, CertifiesOverCells}
-use Rattle.dual_check.specs.Cells.{cell_at}
-use Rattle.dual_check.specs.Grid.{IsPairing, CertifiesPairing, price_at}
-use Rattle.dual_check.specs.inner.Costs.{cost_grid, seat_place, seat_columns, amounts_over}
+use Rattle.dual_check.proofs.Common.{◌≡◌, ℕ, ◌+◌, ◌<◌, ◌≤◌, List, length, get_or, eqb, refl, sym, ◌∙◌, ap, subst, arith, map, filter, sum, All, Option, Some, None, option_map, unwrap_or, IsSome, IfSome, IsSomeAnd, IsDistinct, length-map, get_or-map, ext_get_or, All-map, Contains-get_or, sum-map, ne_eqb, IsDistinct-from_apart, Offer, Seat, Ride, Vehicle, ride_ids, seat_of, BatchCopy, vehicle_ids, has_seat, amount_ids, amount_of, has_amount, Among, among_from_contains, contains_from_among, distinct-filter, Table, place_of, CertifiesOverCells, cell_at, IsPairing, CertifiesPairing, price_at, cost_grid, seat_place, seat_columns, amounts_over}
+use Rattle.batch_commit.specs.inner.Table.{cell_at as offer_at}
 use Rattle.dual_check.proofs.DifferentIds.{same-place, find-id, element}
 use Rattle.dual_check.proofs.SeatPlaces.{cost_in_cell, cost-cell, AreSeats, places-of, seat-of-row, column-of-seat}
 use Rattle.dual_check.proofs.SeatCosts.{sum-amounts-over, cost-of-seats}

@@ -1,24 +1,6 @@
 -- Where a batch's seats stand among its requests and its fleet.
-use Rattle.std.proofs.Common.{◌≡◌, ℕ, zero, suc, ◌+◌, ◌*◌, ◌<◌, List, [], ◌∷◌, length, get_or, eqb, refl, sym, ◌∙◌, ap, subst, arith}
-use Rattle.std.specs.Prelude.{map, All, Option, Some, None, option_map, IsSomeAnd}
-use Rattle.std.specs.List.{IsDistinct}
-use Rattle.std.proofs.lemmas.List.{length-map, get_or-map}
-use Rattle.std.proofs.lemmas.List.Elements.{All-contains}
-use Rattle.std.proofs.lemmas.Bool.{eqb-true}
-use Rattle.ride_model.specs.declared.offer.Offer.{Offer}
-use Rattle.ride_model.specs.declared.offer.Seat.{Seat}
-use Rattle.ride_model.specs.declared.vehicle.Ride.{Ride}
-use Rattle.ride_model.specs.declared.vehicle.Vehicle.{Vehicle}
-use Rattle.ride_model.specs.Fleet.{IsFleet}
-use Rattle.ride_model.specs.Vehicle.{ride_ids}
-use Rattle.ride_model.specs.Batch.{seat_of}
-use Rattle.ride_model.specs.Seating.{BatchCopy, vehicle_ids}
-use Rattle.model_laws.proofs.plain.Among.{Among, contains_from_among, found_among}
-use Rattle.batch_commit.specs.inner.Table.{Table, FitsBatch, cell_at as offer_at}
-use Rattle.batch_commit.specs.inner.Answer.{IsSeatAt, place_of}
-use Rattle.dual_check.specs.Cells.{cell_at}
-use Rattle.dual_check.specs.Grid.{column_of}
-use Rattle.dual_check.specs.inner.Costs.{cost_grid, seat_place, seat_columns}
+use Rattle.dual_check.proofs.Common.{◌≡◌, ℕ, zero, suc, ◌+◌, ◌*◌, ◌<◌, List, [], ◌∷◌, length, get_or, eqb, refl, sym, ◌∙◌, ap, subst, arith, map, All, Option, Some, None, option_map, IsSomeAnd, IsDistinct, length-map, get_or-map, All-contains, eqb-true, Offer, Seat, Ride, Vehicle, IsFleet, ride_ids, seat_of, BatchCopy, vehicle_ids, Among, contains_from_among, found_among, Table, FitsBatch, IsSeatAt, place_of, cell_at, column_of, cost_grid, seat_place, seat_columns}
+use Rattle.batch_commit.specs.inner.Table.{cell_at as offer_at}
 use Rattle.dual_check.proofs.PairingParts.{row-of-column}
 use Rattle.dual_check.proofs.DifferentIds.{place-of-id, find-id, id-at}
 

@@ -1,20 +1,5 @@
 -- Checks of a batch's certificate by its seats and amounts, spread over its requests and its fleet.
-use Rattle.std.proofs.Common.{◌≡◌, ℕ, ◌≤◌, Bool, true, false, cond, List, [], ◌∷◌, length, eqb, refl, sym, ◌∙◌, ap, subst, arith}
-use Rattle.std.specs.Prelude.{map, filter, All, MatchBool}
-use Rattle.std.specs.List.{AllByRecursion, IsDistinct}
-use Rattle.std.proofs.lemmas.List.{length-map}
-use Rattle.std.proofs.lemmas.List.Sums.{length-filter, count_by-le-length}
-use Rattle.std.proofs.lemmas.Bool.{eq-eqb, or_right}
-use Rattle.model_laws.proofs.plain.Each.{each-weaker}
-use Rattle.model_laws.proofs.plain.Filters.{filter-all}
-use Rattle.ride_model.specs.declared.offer.Seat.{Seat}
-use Rattle.ride_model.specs.Vehicle.{ride_ids}
-use Rattle.ride_model.specs.Seating.{BatchCopy, vehicle_ids}
-use Rattle.batch_commit.specs.inner.Table.{Table, FitsBatch}
-use Rattle.batch_commit.specs.inner.Answer.{IsSeatAt, CertifiesOverCells}
-use Rattle.dual_check.specs.Grid.{CertifiesPairing}
-use Rattle.dual_check.specs.inner.Orders.{has_item, StandsInOrder}
-use Rattle.dual_check.specs.inner.Costs.{cost_grid, seat_columns, amounts_over}
+use Rattle.dual_check.proofs.Common.{◌≡◌, ℕ, ◌≤◌, Bool, true, false, cond, List, [], ◌∷◌, length, eqb, refl, sym, ◌∙◌, ap, subst, arith, map, filter, All, MatchBool, AllByRecursion, IsDistinct, length-map, length-filter, count_by-le-length, eq-eqb, or_right, each-weaker, filter-all, Seat, ride_ids, BatchCopy, vehicle_ids, Table, FitsBatch, IsSeatAt, CertifiesOverCells, CertifiesPairing, has_item, StandsInOrder, cost_grid, seat_columns, amounts_over}
 use Rattle.dual_check.proofs.PairingParts.{decided-like}
 use Rattle.dual_check.proofs.SeatPlaces.{AreSeats}
 use Rattle.dual_check.proofs.SeatPairings.{certified-from-pairing, pairing-from-certified}

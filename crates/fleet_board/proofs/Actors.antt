@@ -1,29 +1,11 @@
 -- Feeds and desks that have not ended, what a turn finds of them, and what others leave of a desk's batch.
-use Rattle.std.proofs.Common.{◌≡◌, ℕ, ◌+◌, ◌-◌, ◌≤◌, true, false, List, [], ◌++◌, sym, ap, subst, ◌∙◌, arith}
-use Rattle.std.specs.Prelude.{All, filter_map, ◌==◌}
-use Rattle.std.proofs.lemmas.Bool.{eqb-true, and_parts}
-use Rattle.std.proofs.lemmas.List.{append-nil}
-use Rattle.std.proofs.lemmas.List.Elements.{filter-append}
-use Rattle.ride_model.specs.declared.command.Actor.{Actor}
-use Rattle.ride_model.specs.declared.command.Actor.TheVariants.{Feed, Desk}
-use Rattle.ride_model.specs.declared.entry.Entry.{Entry}
-use Rattle.ride_model.specs.History.{entries_of, command_of, fed_commands}
-use Rattle.ride_model.specs.Legal.{IsNumbered}
-use Rattle.ride_model.specs.Seating.{BatchCopy}
-use Rattle.ride_model.specs.State.{State, has_ended, is_batch, open_batch_of, open_batch_numbered}
-use Rattle.ride_model.specs.Text.{IsOneOrTwo, HasLine}
+use Rattle.fleet_board.proofs.Common.{◌≡◌, ℕ, ◌+◌, ◌-◌, ◌≤◌, true, false, List, [], ◌++◌, sym, ap, subst, ◌∙◌, arith, All, filter_map, ◌==◌, eqb-true, and_parts, append-nil, filter-append, Actor, Feed, Desk, Entry, entries_of, command_of, fed_commands, IsNumbered, BatchCopy, State, has_ended, is_batch, open_batch_of, open_batch_numbered, IsOneOrTwo, HasLine, ended-same, ended-others, found-others, open_batch-others, one_or_two, Recorded, state_of, items_of, Known, maker_of, commands_in, root_of, seen_state, desk_of, IsPoint, IsFeed, IsDesk, Finds}
 use Rattle.model_laws.proofs.history_laws.Effects.{ends_in}
-use Rattle.model_laws.proofs.history_laws.Others.{ended-same, ended-others, found-others, open_batch-others}
-use Rattle.model_laws.proofs.history_laws.HistoryTexts.{one_or_two}
-use Rattle.board_core.specs.Recorded.{Recorded, state_of}
-use Rattle.turn_lock.specs.inner.History.{items_of}
-use Rattle.fleet_board.specs.inner.Passes.{Known, maker_of, commands_in, root_of, seen_state, desk_of, IsPoint, IsFeed, IsDesk}
-use Rattle.fleet_board.specs.inner.Turns.{Finds}
 use Rattle.fleet_board.proofs.Parts.{nothing_behind, items-feed, items-desk}
 use Rattle.fleet_board.proofs.Points.{Added, Looked, state-added, state-looked, found-state}
 
 -- the entries of an actor, in two parts
-entries-append : (actor : Actor) (first second : List Entry) → entries_of actor (first ++ second) ≡ entries_of actor first ++ entries_of actor second
+pub entries-append : (actor : Actor) (first second : List Entry) → entries_of actor (first ++ second) ≡ entries_of actor first ++ entries_of actor second
 unfolding entries_of
 entries-append actor first second = filter-append _ first second
 

@@ -1,33 +1,13 @@
 -- Batches that a desk opens, commits and gives up at a turn.
-use Rattle.std.proofs.Common.{◌≡◌, ◌≢◌, ℕ, ◌+◌, Bool, true, false, not, cond, inl, inr, List, [], ◌∷◌, ◌++◌, Some, None, eqb, refl, sym, ap, subst, ◌∙◌}
-use Rattle.std.specs.Prelude.{find, ◌==◌, is_some, IsNone, IsSomeAnd, IfOk, Ok, Result}
-use Rattle.std.specs.List.{filter}
-use Rattle.std.proofs.lemmas.Bool.{eqb-true}
-use Rattle.std.specs.declared.alloc.AllocError.{AllocError}
-use Rattle.std.proofs.lemmas.Option.{same_Some}
-use Rattle.ride_model.specs.declared.entry.Entry.{Entry}
-use Rattle.ride_model.specs.Batch.{next_batch, outcomes_of}
-use Rattle.ride_model.specs.Legal.{replay, IsLegal, CommitsBatch}
-use Rattle.ride_model.specs.Seating.{BatchCopy, seating_cost}
-use Rattle.ride_model.specs.State.{State, is_batch, open_batch_of, open_batch_numbered}
-use Rattle.model_laws.proofs.plain.Among.{Among, found_among}
-use Rattle.model_laws.proofs.Histories.{IsLegal-parts}
+use Rattle.fleet_board.proofs.Common.{◌≡◌, ◌≢◌, ℕ, ◌+◌, Bool, true, false, not, cond, inl, inr, List, [], ◌∷◌, ◌++◌, Some, None, eqb, refl, sym, ap, subst, ◌∙◌, find, ◌==◌, is_some, IsNone, IsSomeAnd, IfOk, Ok, Result, filter, eqb-true, AllocError, same_Some, Entry, next_batch, outcomes_of, replay, IsLegal, CommitsBatch, BatchCopy, seating_cost, State, is_batch, open_batch_of, open_batch_numbered, Among, found_among, IsLegal-parts, consistent, Batch, Recorded, state_of, opened_entry, committed_entry, abandoned_entry, HasNoneOpen, HasOpen, OpensBatch, OpensNone, IsPriceable, Known, root_of, seen_state, state_before, desk_of, IsPoint, IsDesk, IsTold}
 use Rattle.batch_commit.specs.inner.Solved.{SolvedBatch}
-use Rattle.model_laws.proofs.history_laws.EveryState.{consistent}
 use Rattle.model_laws.proofs.history_laws.Leaving.{is_batch-own}
 use Rattle.model_laws.proofs.history_laws.Lookups.{found_by}
 use Rattle.model_laws.proofs.history_laws.Unmoved.{unmoved, vehicles_differ}
 use Rattle.board_core.specs.declared.opening.Opening.{Opening}
-use Rattle.board_core.specs.declared.opening.Opening.TheVariants.{Batch}
 use Rattle.board_core.specs.inner.Opening.{opening_at}
-use Rattle.board_core.specs.Recorded.{Recorded, state_of, opened_entry}
-use Rattle.board_core.specs.inner.Recorded.{committed_entry, abandoned_entry}
 use Rattle.board_core.proofs.OpenBatches.{IsOpen, Gets, gets, got-next, open-priceable, batches-committed, batches-abandoned, after-committed}
 use Rattle.fleet_board.specs.inner.Commits.{CommitsSolved, ChangesOnlyStanding}
-use Rattle.fleet_board.specs.inner.Openings.{HasNoneOpen, HasOpen, OpensBatch, OpensNone}
-use Rattle.batch_commit.specs.inner.Table.{IsPriceable}
-use Rattle.fleet_board.specs.inner.Passes.{Known, root_of, seen_state, state_before, desk_of, IsPoint, IsDesk}
-use Rattle.fleet_board.specs.inner.Turns.{IsTold}
 use Rattle.fleet_board.proofs.Actors.{DeskFound, desk-found}
 use Rattle.fleet_board.proofs.Points.{GoesOn, Added, Looked, adds, sees, before-added, state-added, state-looked, state-new, root-new, root-looked}
 

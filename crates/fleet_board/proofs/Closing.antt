@@ -1,19 +1,7 @@
 -- What a close finds of the passes that were joined into the scribe's.
-use Rattle.std.proofs.Common.{◌≡◌, ℕ, ◌+◌, List, [], ◌∷◌, ◌++◌, Option, Some, None, refl, sym, ap, subst, ◌∙◌, inl, inr}
-use Rattle.std.specs.Prelude.{All, IfSome, MatchOption}
-use mathlib.Core.List.{IsPrefix}
-use Rattle.ride_model.specs.declared.command.Actor.{Actor}
-use Rattle.ride_model.specs.declared.command.Actor.TheVariants.{Feed, Desk}
-use Rattle.ride_model.specs.declared.entry.Entry.{Entry}
-use Rattle.ride_model.specs.Text.{IsOneOrTwo, HasLine}
-use Rattle.model_laws.proofs.plain.Among.{Among}
+use Rattle.fleet_board.proofs.Common.{◌≡◌, ℕ, ◌+◌, List, [], ◌∷◌, ◌++◌, Option, Some, None, refl, sym, ap, subst, ◌∙◌, inl, inr, All, IfSome, MatchOption, IsPrefix, Actor, Feed, Desk, Entry, IsOneOrTwo, HasLine, Among, items_of, EndedStand, after_join, prefix_trans, Known, maker_of, IsPartOf}
 use Rattle.model_laws.proofs.plain.Each.{of_all, all_of}
 use Rattle.turn_lock.specs.declared.rule.Ended.{Ended}
-use Rattle.turn_lock.specs.inner.History.{items_of, EndedStand}
-use Rattle.turn_lock.specs.Knowledge.{after_join}
-use Rattle.turn_lock.proofs.Lists.{prefix_trans}
-use Rattle.fleet_board.specs.inner.Passes.{Known, maker_of}
-use Rattle.fleet_board.specs.inner.Sets.{IsPartOf}
 use Rattle.fleet_board.proofs.Parts.{items-feed, items-desk}
 
 -- what is among the first part is among the whole, and so the last

@@ -1,8 +1,5 @@
 -- What a pass keeps that adds nothing.
-use Rattle.std.proofs.Common.{◌≡◌, ℕ, ◌≤◌, List, [], ◌++◌, length, take, refl, sym, ap, ◌∙◌, append_assoc, append-nil, length-append, arith}
-use Rattle.std.proofs.lemmas.List.{take-append-le}
-use Rattle.ride_model.specs.declared.entry.Entry.{Entry}
-use Rattle.fleet_board.specs.inner.Passes.{AddsNone, Known, root_of}
+use Rattle.fleet_board.proofs.Common.{◌≡◌, ℕ, ◌≤◌, List, [], ◌++◌, length, take, refl, sym, ap, ◌∙◌, append_assoc, append-nil, length-append, arith, take-append-le, Entry, AddsNone, Known, root_of}
 
 -- no call adds nothing, and two that add nothing add nothing together
 pub adds_none-same : (k : Known) → AddsNone k k

@@ -1,22 +1,5 @@
 -- Ends: what is legal at what a pass has seen is legal at its turn, and what feeds and desks may do.
-use Rattle.std.proofs.Common.{◌≡◌, ℕ, ◌-◌, ◌≤◌, Bool, true, false, cond, ◌++◌, refl, sym, ap, subst, ◌∙◌, arith}
-use Rattle.std.specs.Prelude.{nat_le, nat_lt, is_some}
-use Rattle.ride_model.specs.declared.command.Actor.TheVariants.{Feed, Desk}
-use Rattle.ride_model.specs.declared.entry.Ending.{Ending}
-use Rattle.ride_model.specs.declared.entry.Ending.TheVariants.{Whole}
-use Rattle.ride_model.specs.declared.entry.Event.TheVariants.{Finish}
-use Rattle.ride_model.specs.Batch.{next_batch}
-use Rattle.ride_model.specs.Legal.{IsLegal, IsLegalEvent, all_feeds_ended}
-use Rattle.ride_model.specs.State.{State}
-use Rattle.model_laws.proofs.Histories.{IsLegal-parts}
-use Rattle.model_laws.proofs.history_laws.EveryState.{consistent}
-use Rattle.model_laws.proofs.history_laws.Others.{NoneToCome, none_to_come}
-use Rattle.model_laws.proofs.history_laws.HistoryTexts.{one_or_two}
-use Rattle.board_core.specs.declared.opening.Opening.TheVariants.{Batch, Idle, Ended}
-use Rattle.board_core.specs.Recorded.{Recorded, state_of}
-use Rattle.fleet_board.specs.inner.Openings.{OpensNone}
-use Rattle.fleet_board.specs.inner.Passes.{Known, pass_number, actor_of, root_of, seen_state, desk_of, IsPoint, IsFeed, IsDesk}
-use Rattle.fleet_board.specs.inner.Turns.{Finds}
+use Rattle.fleet_board.proofs.Common.{◌≡◌, ℕ, ◌-◌, ◌≤◌, Bool, true, false, cond, ◌++◌, refl, sym, ap, subst, ◌∙◌, arith, nat_le, nat_lt, is_some, Feed, Desk, Ending, Whole, Finish, next_batch, IsLegal, IsLegalEvent, all_feeds_ended, State, IsLegal-parts, consistent, NoneToCome, none_to_come, one_or_two, Batch, Idle, Ended, Recorded, state_of, OpensNone, Known, pass_number, actor_of, root_of, seen_state, desk_of, IsPoint, IsFeed, IsDesk, Finds}
 use Rattle.fleet_board.proofs.Actors.{feed-found, desk-found}
 use Rattle.fleet_board.proofs.Points.{found-state}
 

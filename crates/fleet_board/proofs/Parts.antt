@@ -1,17 +1,5 @@
 -- The entries of a pass's number are those of its actor, since actors have the numbers 1 and 2.
-use Rattle.std.proofs.Common.{◌≡◌, ℕ, ◌+◌, Bool, cond, List, [], ◌∷◌, ◌++◌, eqb, refl, arith}
-use Rattle.std.specs.Prelude.{All}
-use Rattle.std.specs.List.{filter, AllByRecursion}
-use Rattle.std.proofs.lemmas.Bool.{ne_eqb}
-use Rattle.std.proofs.lemmas.List.Elements.{recursion_from_All}
-use Rattle.ride_model.specs.declared.command.Actor.{Actor}
-use Rattle.ride_model.specs.declared.command.Actor.TheVariants.{Feed, Desk}
-use Rattle.ride_model.specs.declared.entry.Entry.{Entry}
-use Rattle.ride_model.specs.History.{entries_of}
-use Rattle.ride_model.specs.State.{is_actor}
-use Rattle.ride_model.specs.Text.{IsOneOrTwo, IsSpelledActor, HasLine}
-use Rattle.turn_lock.specs.inner.History.{items_of}
-use Rattle.fleet_board.specs.inner.Passes.{pass_number, maker_of}
+use Rattle.fleet_board.proofs.Common.{◌≡◌, ℕ, ◌+◌, Bool, cond, List, [], ◌∷◌, ◌++◌, eqb, refl, arith, All, filter, AllByRecursion, ne_eqb, recursion_from_All, Actor, Feed, Desk, Entry, entries_of, is_actor, IsOneOrTwo, IsSpelledActor, HasLine, items_of, pass_number, maker_of}
 
 -- what stands behind a list that is the whole
 pub nothing_behind : {X : Type 0} (xs ys : List X) → xs ++ ys ≡ xs → ys ≡ []

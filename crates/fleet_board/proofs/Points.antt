@@ -1,19 +1,5 @@
 -- What a turn finds, and what a pass knows after it.
-use Rattle.std.proofs.Common.{◌≡◌, ℕ, ◌+◌, ◌-◌, false, List, [], ◌∷◌, ◌++◌, length, take, drop, refl, sym, ap, subst, ◌∙◌, length-append, arith}
-use Rattle.std.proofs.lemmas.List.{append-nil}
-use Rattle.std.proofs.lemmas.List.Elements.{filter-append}
-use Rattle.std.proofs.Math.Seq.{drop-append_seam}
-use mathlib.Core.List.{IsPrefix}
-use Rattle.ride_model.specs.declared.entry.Entry.{Entry}
-use Rattle.ride_model.specs.Legal.{after_entry, replay, IsLegal}
-use Rattle.ride_model.specs.Text.{HasText}
-use Rattle.model_laws.proofs.Histories.{replay-append, replay-push}
-use Rattle.board_core.specs.Recorded.{Recorded, state_of}
-use Rattle.turn_lock.specs.inner.History.{items_of, GrowsByOne}
-use Rattle.turn_lock.specs.Knowledge.{after_enter, after_leave, after_note}
-use Rattle.turn_lock.proofs.Lists.{items_more}
-use Rattle.fleet_board.specs.inner.Passes.{Known, maker_of, root_of, seen_state, state_before, IsPoint, AddsNone, AddsEntry}
-use Rattle.fleet_board.specs.inner.Turns.{IsTold, Finds, as_began}
+use Rattle.fleet_board.proofs.Common.{◌≡◌, ℕ, ◌+◌, ◌-◌, false, List, [], ◌∷◌, ◌++◌, length, take, drop, refl, sym, ap, subst, ◌∙◌, length-append, arith, append-nil, filter-append, drop-append_seam, IsPrefix, Entry, after_entry, replay, IsLegal, HasText, replay-append, replay-push, Recorded, state_of, items_of, GrowsByOne, after_enter, after_leave, after_note, items_more, Known, maker_of, root_of, seen_state, state_before, IsPoint, AddsNone, AddsEntry, IsTold, Finds, as_began}
 use Rattle.fleet_board.proofs.Parts.{nothing_behind}
 
 -- a turn finds the pass's board, gone on by entries of others

@@ -1,15 +1,6 @@
 -- The passes of a board that was shared when something had happened on it: an actor that has not ended may go on, and a desk has
 -- the batch open that it had.
-use Rattle.std.proofs.Common.{◌≡◌, ℕ, ◌-◌, ◌≤◌, Some, sym, subst}
-use Rattle.std.specs.Prelude.{IsFalse}
-use Rattle.ride_model.specs.declared.command.Actor.TheVariants.{Feed, Desk}
-use Rattle.ride_model.specs.Legal.{IsNumbered}
-use Rattle.ride_model.specs.Seating.{BatchCopy}
-use Rattle.ride_model.specs.State.{has_ended, open_batch_numbered}
-use Rattle.board_core.specs.Recorded.{Recorded, state_of}
-use Rattle.fleet_board.specs.inner.Openings.{HasOpen}
-use Rattle.fleet_board.specs.inner.Passes.{Known, IsDesk, IsFeed}
-use Rattle.fleet_board.specs.inner.Sets.{newcomer}
+use Rattle.fleet_board.proofs.Common.{◌≡◌, ℕ, ◌-◌, ◌≤◌, Some, sym, subst, IsFalse, Feed, Desk, IsNumbered, BatchCopy, has_ended, open_batch_numbered, Recorded, state_of, HasOpen, Known, IsDesk, IsFeed, newcomer}
 
 module _ (board : Recorded) (n : ℕ) (k : Known) (new : k ≡ newcomer board n) where
   -- a feed that has not ended

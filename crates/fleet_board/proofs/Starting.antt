@@ -1,22 +1,5 @@
 -- Passes of a board that is shared, and of one on which nothing happened yet.
-use Rattle.std.proofs.Common.{◌≡◌, ◌≢◌, ℕ, ◌+◌, ◌-◌, ◌≤◌, Bool, true, false, List, [], ◌∷◌, Option, Some, None, cond, eqb, length, refl, sym, ap, subst, ◌∙◌, arith}
-use Rattle.std.specs.Prelude.{IsSomeAnd, MatchOption, is_some, find, nat_le, ◌==◌}
-use Rattle.std.specs.List.{list_any}
-use Rattle.std.proofs.lemmas.Bool.{eqb-true, eq-eqb}
-use Rattle.ride_model.specs.declared.command.Actor.{Actor}
-use Rattle.ride_model.specs.declared.command.Actor.TheVariants.{Feed, Desk}
-use Rattle.ride_model.specs.declared.entry.Ending.{Ending}
-use Rattle.ride_model.specs.declared.entry.Entry.{Entry}
-use Rattle.ride_model.specs.Legal.{replay, IsNumbered}
-use Rattle.ride_model.specs.Seating.{BatchCopy}
-use Rattle.ride_model.specs.State.{State, is_actor, has_ended}
-use Rattle.board_core.specs.Recorded.{Recorded}
-use Rattle.turn_lock.specs.inner.History.{items_of, longer}
-use Rattle.turn_lock.specs.Knowledge.{at_start, after_split, split_off, after_join}
-use Rattle.fleet_board.specs.inner.Openings.{HasNoneOpen}
-use Rattle.fleet_board.specs.inner.Passes.{Known, IsPoint, IsFeed, IsDesk, maker_of}
-use Rattle.fleet_board.specs.inner.Sets.{newcomer, one_if_some}
-use Rattle.fleet_board.specs.inner.Turns.{IsTold, as_began}
+use Rattle.fleet_board.proofs.Common.{◌≡◌, ◌≢◌, ℕ, ◌+◌, ◌-◌, ◌≤◌, Bool, true, false, List, [], ◌∷◌, Option, Some, None, cond, eqb, length, refl, sym, ap, subst, ◌∙◌, arith, IsSomeAnd, MatchOption, is_some, find, nat_le, ◌==◌, list_any, eqb-true, eq-eqb, Actor, Feed, Desk, Ending, Entry, replay, IsNumbered, BatchCopy, State, is_actor, has_ended, Recorded, items_of, longer, at_start, after_split, split_off, after_join, HasNoneOpen, Known, IsPoint, IsFeed, IsDesk, maker_of, newcomer, one_if_some, IsTold, as_began}
 
 -- a pass that has seen the history as it stands, and has its number's entries in it, stands at its end
 pub point-of : (board : Recorded) → IsTold board → (k : Known) → k.root ≡ as_began board ∷ [] → k.seen ≡ board.history

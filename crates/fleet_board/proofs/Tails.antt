@@ -1,7 +1,5 @@
 -- Entries from a place on.
-use Rattle.std.proofs.Common.{◌≡◌, ℕ, ◌+◌, ◌-◌, ◌≤◌, ◌<◌, List, length, take, drop, sym, ap, ◌∙◌, ◌⊎◌, inl, inr, arith, length-drop}
-use Rattle.std.specs.Prelude.{min}
-use Rattle.std.proofs.lemmas.List.{take_min, drop_all}
+use Rattle.fleet_board.proofs.Common.{◌≡◌, ℕ, ◌+◌, ◌-◌, ◌≤◌, ◌<◌, List, length, take, drop, sym, ap, ◌∙◌, ◌⊎◌, inl, inr, arith, length-drop, min, take_min, drop_all}
 use Rattle.model_laws.proofs.plain.Numbers.{le_or_lt}
 
 -- the elements of a list between a place within it and one as far behind as may be

@@ -1,18 +1,7 @@
 -- Fleets of the vehicles so far.
-use Rattle.std.proofs.Common.{◌≡◌, ℕ, zero, suc, ◌+◌, ◌<◌, ◌^◌, ◌==◌, ◌||◌, nat_eq, true, false, List, [], ◌∷◌, ◌++◌, length, map, Option, Some, None, IfSome, refl, ap, sym, subst, ◌∙◌, arith, true≢false}
-use Rattle.std.specs.Cmp.{nat_eq_equiv}
-use Rattle.std.specs.Prelude.{All}
-use Rattle.std.specs.List.{IsDistinct, list_any, AllByRecursion}
-use Rattle.std.proofs.lemmas.Bool.{eqb-true, eq-eqb, false_from_ne_true}
-use Rattle.std.proofs.lemmas.List.{length_push, map_push}
-use Rattle.std.proofs.lemmas.List.Elements.{All-append}
-use Rattle.std.proofs.lemmas.Map.Keys.{IsDistinct-push}
-use Rattle.line_text.specs.Fields.{numbers_of}
+use Rattle.fleet_file.proofs.Common.{◌≡◌, ℕ, zero, suc, ◌+◌, ◌<◌, ◌^◌, ◌==◌, ◌||◌, nat_eq, true, false, List, [], ◌∷◌, ◌++◌, length, map, Option, Some, None, IfSome, refl, ap, sym, subst, ◌∙◌, arith, true≢false, nat_eq_equiv, All, list_any, AllByRecursion, eqb-true, eq-eqb, false_from_ne_true, length_push, map_push, All-append, IsDistinct-push, numbers_of, Vehicle, IsFleet, NewVehicle, vehicle_from}
+use Rattle.std.specs.List.{IsDistinct}
 use Rattle.line_text.proofs.PrintedLemmas.{numbers_of-small}
-use Rattle.ride_model.specs.declared.vehicle.Vehicle.{Vehicle}
-use Rattle.ride_model.specs.Fleet.{IsFleet}
-use Rattle.fleet_file.specs.declared.vehicles.NewVehicle.{NewVehicle}
-use Rattle.fleet_file.specs.FleetText.{vehicle_from}
 
 pub IsFleet-nil : (vehicles : List Vehicle) → vehicles ≡ [] → IsFleet vehicles
 unfolding IsDistinct

@@ -1,24 +1,7 @@
 -- Vehicles that a fleet file gives are lawful over its map, idle and of version 0.
-use Rattle.std.proofs.Common.{◌≡◌, ℕ, ◌+◌, ◌==◌, ◌||◌, nat_lt, nat_le, Bool, true, false, cond, List, [], ◌∷◌, length, take, Option, Some, None, Result, Ok, Err, refl, ap, sym, subst, arith}
-use Rattle.std.specs.Prelude.{All, codes, is_some}
-use Rattle.std.specs.List.{IsDistinct, list_any}
-use Rattle.std.specs.Str.{bytes_eq}
-use Rattle.std.proofs.lemmas.Bool.{eqb-false, le-leb, ltb-false, or_parts}
-use Rattle.std.proofs.lemmas.List.Elements.{All-append}
+use Rattle.fleet_file.proofs.Common.{◌≡◌, ℕ, ◌+◌, ◌==◌, ◌||◌, nat_lt, nat_le, Bool, true, false, cond, List, [], ◌∷◌, length, take, Option, Some, None, Result, Ok, Err, refl, ap, sym, subst, arith, All, codes, is_some, list_any, bytes_eq, eqb-false, le-leb, ltb-false, or_parts, All-append, numbers_of, words_of, lines_of, and_then, after_lines, after_ended, Settings, Vehicle, MayStart, RoadMap, IsSettings, IsLawful, NewVehicle, FleetError, BadLine, TooLong, FleetSoFar, fleet_format, fleet_text, nothing_said, after_words, setting_line, setting_of, vehicle_line, vehicle_from, idle_vehicle, is_out, set_at, settings_of, has_value_out}
+use Rattle.std.specs.List.{IsDistinct}
 use Rattle.model_laws.proofs.plain.Each.{all_of_one, all_of_none}
-use Rattle.line_text.specs.Fields.{numbers_of, words_of}
-use Rattle.line_text.specs.Lines.{lines_of}
-use Rattle.line_text.specs.Texts.{and_then, after_lines, after_ended}
-use Rattle.ride_model.specs.declared.settings.Settings.{Settings}
-use Rattle.ride_model.specs.declared.vehicle.Vehicle.{Vehicle}
-use Rattle.ride_model.specs.Fleet.{MayStart}
-use Rattle.ride_model.specs.Road.{RoadMap}
-use Rattle.ride_model.specs.Settings.{IsSettings}
-use Rattle.ride_model.specs.Vehicle.{IsLawful}
-use Rattle.fleet_file.specs.declared.vehicles.NewVehicle.{NewVehicle}
-use Rattle.fleet_file.specs.declared.errors.FleetError.{FleetError}
-use Rattle.fleet_file.specs.declared.errors.FleetError.TheVariants.{BadLine, TooLong}
-use Rattle.fleet_file.specs.FleetText.{FleetSoFar, fleet_format, fleet_text, nothing_said, after_words, setting_line, setting_of, vehicle_line, vehicle_from, idle_vehicle, is_out, set_at, settings_of, has_value_out}
 
 -- as a fleet starts
 pub record IsStarting (map : RoadMap) (v : Vehicle) : Type 0 where

@@ -1,3 +1,4 @@
+pub mod Common
 mod SettingLemmas
 mod FleetLemmas
 mod NamedLemmas

@@ -1,16 +1,6 @@
 -- A text's refusal is neither want of memory nor a fault of reading.
-use Rattle.std.proofs.Common.{◌≢◌, ℕ, nat_lt, nat_le, ◌==◌, ◌||◌, Bool, true, false, List, [], ◌∷◌, length, Option, Some, None, Err, refl}
-use Rattle.std.specs.Prelude.{codes, is_some}
-use Rattle.std.specs.List.{list_any}
-use Rattle.std.specs.Str.{bytes_eq}
-use Rattle.line_text.specs.Fields.{numbers_of, words_of}
-use Rattle.line_text.specs.Texts.{after_lines}
+use Rattle.fleet_file.proofs.Common.{◌≢◌, ℕ, nat_lt, nat_le, ◌==◌, ◌||◌, Bool, true, false, List, [], ◌∷◌, length, Option, Some, None, Err, refl, codes, is_some, list_any, bytes_eq, numbers_of, words_of, after_lines, Vehicle, NewVehicle, FleetError, NoMemory, ReadFault, FleetSoFar, fleet_format, fleet_text, nothing_said, after_words, setting_line, setting_of, vehicle_line, vehicle_from, is_out, set_at, has_value_out}
 use Rattle.line_text.proofs.NamedRefusals.{IsNamed, named-cond, named-lines, named-text as text-named, unnamed}
-use Rattle.ride_model.specs.declared.vehicle.Vehicle.{Vehicle}
-use Rattle.fleet_file.specs.declared.vehicles.NewVehicle.{NewVehicle}
-use Rattle.fleet_file.specs.declared.errors.FleetError.{FleetError}
-use Rattle.fleet_file.specs.declared.errors.FleetError.TheVariants.{NoMemory, ReadFault}
-use Rattle.fleet_file.specs.FleetText.{FleetSoFar, fleet_format, fleet_text, nothing_said, after_words, setting_line, setting_of, vehicle_line, vehicle_from, is_out, set_at, has_value_out}
 
 is_named : FleetError → Bool
 is_named NoMemory = false

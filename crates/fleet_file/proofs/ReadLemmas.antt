@@ -1,16 +1,7 @@
 -- What the reader has taken after one more line, and what the text gives then.
-use Rattle.std.proofs.Common.{◌≡◌, ◌≢◌, false, ℕ, ◌+◌, ◌≤◌, Option, Some, None, IfSome, List, [], ◌∷◌, ◌++◌, length, Result, Ok, Err, MatchResult, refl, ap, sym, ◌∙◌}
-use Rattle.line_text.proofs.TextLemmas.{some_bytes}
-use Rattle.line_text.specs.Fields.{words_of}
-use Rattle.line_text.specs.Lines.{ended_lines, lines_of}
+use Rattle.fleet_file.proofs.Common.{◌≡◌, ◌≢◌, false, ℕ, ◌+◌, ◌≤◌, Option, Some, None, IfSome, List, [], ◌∷◌, ◌++◌, length, Result, Ok, Err, MatchResult, refl, ap, sym, ◌∙◌, some_bytes, words_of, ended_lines, lines_of, after_lines, after_lines-push, text_value-refused, text_value-too_long, text_value-taken, FleetError, NoMemory, ReadFault, TooLong, FleetSoFar, after_words, fleet_format, fleet_text, nothing_said, settings_of, HasTaken, IsWithin, Gives, Refuses, is_read_fault, said}
 use Rattle.line_text.specs.inner.Reading.{AreFirst, GoesOn, counted_lines}
-use Rattle.line_text.specs.Texts.{after_lines}
-use Rattle.line_text.proofs.TextLemmas.{after_lines-push, text_value-refused, text_value-too_long, text_value-taken}
-use Rattle.fleet_file.specs.declared.errors.FleetError.{FleetError}
-use Rattle.fleet_file.specs.declared.errors.FleetError.TheVariants.{NoMemory, ReadFault, TooLong}
 use Rattle.fleet_file.specs.declared.lines.FleetLines.{FleetLines}
-use Rattle.fleet_file.specs.FleetText.{FleetSoFar, after_words, fleet_format, fleet_text, nothing_said, settings_of}
-use Rattle.fleet_file.specs.inner.Reading.{HasTaken, IsWithin, Gives, Refuses, is_read_fault, said}
 use Rattle.fleet_file.proofs.NamedLemmas.{after_all-no_fault}
 
 -- nothing was taken before the first line

@@ -1,8 +1,5 @@
 -- The values of settings are in their ranges.
-use Rattle.std.proofs.Common.{zero, suc, None, refl, arith}
-use Rattle.std.specs.Prelude.{map}
-use Rattle.fleet_file.specs.FleetText.{Setting, all_settings}
-use Rattle.fleet_file.specs.inner.Reading.{AreInRange}
+use Rattle.fleet_file.proofs.Common.{zero, suc, None, refl, arith, map, Setting, all_settings, AreInRange}
 
 -- where no line sets them
 pub defaults-in_range : AreInRange (map (λ (s : Setting). None) all_settings)

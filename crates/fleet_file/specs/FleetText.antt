@@ -74,17 +74,13 @@ abbrev pub nothing_said : FleetSoFar
 nothing_said = record { values = map (λ _. None) all_settings; vehicles = [] }
 
 -- the place of the setting and the value after `set`
-abbrev pub value_from : Option (List ℕ) → Option ℕ
-value_from (Some (value ∷ [])) = Some value
-value_from _ = None
-
-abbrev pub setting_from : Option ℕ → Option ℕ → Option (ℕ × ℕ)
-setting_from (Some place) (Some value) = Some (place, value)
+abbrev pub setting_from : Option ℕ → Option (List ℕ) → Option (ℕ × ℕ)
+setting_from (Some place) (Some (value ∷ [])) = Some (place, value)
 setting_from _ _ = None
 
 abbrev pub setting_of : List (List ℕ) → Option (ℕ × ℕ)
 setting_of [] = None
-setting_of (name ∷ fields) = setting_from (place_of name) (value_from (numbers_of fields))
+setting_of (name ∷ fields) = setting_from (place_of name) (numbers_of fields)
 
 -- the vehicle after `vehicle`
 abbrev pub vehicle_from : Option (List ℕ) → Option NewVehicle

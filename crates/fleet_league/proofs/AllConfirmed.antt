@@ -1,24 +1,7 @@
 -- A batch that is committed directly after its opening, and of which each request has a seat: each is confirmed.
-use Rattle.std.proofs.Common.{◌≡◌, ℕ, inl, inr, Bool, true, false, cond, List, [], ◌∷◌, length, Option, Some, None, eqb, refl, ap, ◌∙◌}
-use Rattle.std.specs.Prelude.{map, nat_eq, ◌==◌, All, IsSome}
-use Rattle.std.specs.List.{IsDistinct}
-use Rattle.std.proofs.lemmas.Bool.{eq-eqb}
-use Rattle.std.proofs.lemmas.List.{length-map}
-use Rattle.ride_model.specs.declared.entry.Outcome.{Outcome}
-use Rattle.ride_model.specs.declared.entry.Outcome.TheVariants.{Confirmed}
-use Rattle.ride_model.specs.declared.offer.Seat.{Seat}
+use Rattle.fleet_league.proofs.Common.{◌≡◌, ℕ, inl, inr, Bool, true, false, cond, List, [], ◌∷◌, length, Option, Some, None, eqb, refl, ap, ◌∙◌, map, nat_eq, ◌==◌, All, IsSome, IsDistinct, eq-eqb, length-map, Outcome, Confirmed, Seat, Ride, Vehicle, was_cancelled, seat_of, outcome_by, outcome_of, confirm, after_outcome, after_outcomes, BatchCopy, vehicle_ids, seat_offer, State, placed_vehicle, ride_ids, Among, found_among, marked, Win, won_rides, AreSeatsOf}
 use Rattle.ride_model.specs.declared.reply.RequestState.TheVariants.{Confirmed as ConfirmedState}
-use Rattle.ride_model.specs.declared.vehicle.Ride.{Ride}
-use Rattle.ride_model.specs.declared.vehicle.Vehicle.{Vehicle}
-use Rattle.ride_model.specs.Batch.{was_cancelled, seat_of, outcome_by, outcome_of, confirm, after_outcome, after_outcomes}
-use Rattle.ride_model.specs.Seating.{BatchCopy, vehicle_ids, seat_offer}
-use Rattle.ride_model.specs.State.{State, placed_vehicle}
-use Rattle.ride_model.specs.Vehicle.{ride_ids}
-use Rattle.model_laws.proofs.plain.Among.{Among, found_among}
-use Rattle.model_laws.proofs.RequestStates.{marked}
 use Rattle.model_laws.proofs.history_laws.StandingSeats.{seated-confirmed}
-use Rattle.fleet_league.specs.declared.briefs.Win.{Win}
-use Rattle.fleet_league.specs.Awards.{won_rides, AreSeatsOf}
 use Rattle.fleet_league.proofs.Reports.{NoneWaits, none-marked}
 
 -- the seat of one of the wins

@@ -1,58 +1,10 @@
 -- A board during an award: the batch of wins is opened, committed or given up.
-use Rattle.std.proofs.Common.{◌≡◌, ℕ, zero, suc, ◌+◌, ◌≤◌, inr, true, cond, List, [], ◌∷◌, ◌++◌, length, take, Some, lt-ltb, refl, sym, ap, subst, ◌∙◌, arith, append_assoc, append-nil, length-append}
-use Rattle.std.specs.Prelude.{map, count_by, nat_lt, All, IsSome}
-use Rattle.std.specs.List.{filter_map, sum_by}
-use Rattle.std.proofs.lemmas.List.{length-map, take_all}
-use Rattle.std.proofs.lemmas.List.Sums.{sum_by-append, sum_by-cons, sum-map}
-use Rattle.ride_model.specs.declared.command.Actor.TheVariants.{Feed, Desk}
-use Rattle.ride_model.specs.declared.command.Command.{Command}
-use Rattle.ride_model.specs.declared.command.Command.TheVariants.{Ask}
-use Rattle.ride_model.specs.declared.entry.Entry.{Entry}
-use Rattle.ride_model.specs.declared.entry.Event.TheVariants.{Fed, Committed}
-use Rattle.ride_model.specs.declared.entry.Outcome.{Outcome}
-use Rattle.ride_model.specs.declared.entry.Outcome.TheVariants.{Confirmed}
-use Rattle.ride_model.specs.declared.offer.Seat.{Seat}
-use Rattle.ride_model.specs.declared.reply.Reply.{Reply}
-use Rattle.ride_model.specs.declared.reply.Reply.TheVariants.{Asked}
-use Rattle.ride_model.specs.declared.reply.RequestState.TheVariants.{InBatch, Waiting as WaitingState}
-use Rattle.ride_model.specs.declared.vehicle.Ride.{Ride}
-use Rattle.ride_model.specs.Batch.{was_cancelled, waiting_rides, next_batch, after_opening, outcome_of, outcomes_of, after_outcomes, after_commit, after_abandon}
-use Rattle.ride_model.specs.Fleet.{IsFleet}
-use Rattle.ride_model.specs.History.{entries_of, command_of, fed_commands}
-use Rattle.ride_model.specs.Legal.{replay, all_feeds_ended}
-use Rattle.ride_model.specs.Road.{RoadMap}
-use Rattle.ride_model.specs.Seating.{BatchCopy, Certifies, vehicle_ids, seat_offer, seating_cost}
-use Rattle.ride_model.specs.State.{State, is_actor, open_batch_numbered}
-use Rattle.ride_model.specs.Step.{step}
-use Rattle.batch_commit.specs.inner.Answer.{CertifiesOverCells}
-use Rattle.batch_commit.specs.inner.Solved.{SolvedBatch}
-use Rattle.batch_commit.specs.inner.Table.{Table, IsTableOf}
-use Rattle.model_laws.specs.inner.Requests.{is_of}
-use Rattle.model_laws.proofs.Histories.{replay-append}
-use Rattle.model_laws.proofs.plain.Among.{Among, among_map, among_map_back}
-use Rattle.model_laws.proofs.plain.Sums.{sum_by-map}
-use Rattle.model_laws.proofs.RequestStates.{marked, opening-is, others-opening, abandon-is}
-use Rattle.model_laws.proofs.history_laws.Untouched.{leaves-step, stays-outcomes}
-use Rattle.model_laws.proofs.history_laws.OpenedBatches.{opened-not_cancelled, none-left, committed-state, abandoned-state, open-found}
-use Rattle.dual_check.specs.Grid.{pairing_cost}
+use Rattle.fleet_league.proofs.Common.{◌≡◌, ℕ, zero, suc, ◌+◌, ◌≤◌, inr, true, cond, List, [], ◌∷◌, ◌++◌, length, take, Some, lt-ltb, refl, sym, ap, subst, ◌∙◌, arith, append_assoc, append-nil, length-append, map, count_by, nat_lt, All, IsSome, filter_map, sum_by, length-map, take_all, sum_by-append, sum_by-cons, sum-map, Feed, Desk, Command, Ask, Entry, Fed, Committed, Outcome, Confirmed, Seat, Reply, Asked, InBatch, Ride, was_cancelled, waiting_rides, next_batch, after_opening, outcome_of, outcomes_of, after_outcomes, after_commit, after_abandon, IsFleet, entries_of, command_of, fed_commands, replay, all_feeds_ended, RoadMap, BatchCopy, Certifies, vehicle_ids, seat_offer, seating_cost, State, is_actor, open_batch_numbered, step, CertifiesOverCells, SolvedBatch, Table, IsTableOf, is_of, replay-append, Among, among_map, among_map_back, sum_by-map, marked, opening-is, others-opening, abandon-is, leaves-step, stays-outcomes, opened-not_cancelled, none-left, committed-state, abandoned-state, open-found, pairing_cost, Batch, Idle, Ended, opening_at, Recorded, state_of, opened_entry, committed_entry, abandoned_entry, fed_commands-append, state-push, same_batch, Brief, Win, prices_by, prices_of, is_report, report_count, IsIdle, won_rides, won_columns, price_list, request_of, request_entries, asking_entries, opening_entry, confirming_entry, AreSeatsOf, AddsAward, giving_up_entry, AddsPart, IsCertifiedBy, MayConfirm, IsWonBatch, asked_state, won_batch, requests_of, quoting_batch}
+use Rattle.ride_model.specs.declared.reply.RequestState.TheVariants.{Waiting as WaitingState}
 use Rattle.dual_check.proofs.OverMaps.{certified-over-map}
 use Rattle.dual_check.proofs.SeatCosts.{sum-amounts-over}
 use Rattle.dual_check.proofs.SeatPlaces.{AreSeats}
 use Rattle.board_core.specs.declared.opening.Opening.{Opening}
-use Rattle.board_core.specs.declared.opening.Opening.TheVariants.{Batch, Idle, Ended}
-use Rattle.board_core.specs.inner.Opening.{opening_at}
-use Rattle.board_core.specs.Recorded.{Recorded, state_of, opened_entry}
-use Rattle.board_core.specs.inner.Recorded.{committed_entry, abandoned_entry}
-use Rattle.board_core.proofs.FedEntries.{fed_commands-append}
-use Rattle.board_core.proofs.OpenBatches.{state-push, same_batch}
-use Rattle.fleet_league.specs.declared.briefs.Brief.{Brief}
-use Rattle.fleet_league.specs.declared.briefs.Win.{Win}
-use Rattle.fleet_league.specs.Prices.{prices_by, prices_of}
-use Rattle.fleet_league.specs.inner.Companies.{is_report, report_count, IsIdle}
-use Rattle.fleet_league.specs.Awards.{won_rides, won_columns, price_list, request_of, request_entries, asking_entries, opening_entry, confirming_entry, AreSeatsOf, AddsAward}
-use Rattle.fleet_league.specs.inner.Awards.{giving_up_entry, AddsPart, IsCertifiedBy}
-use Rattle.fleet_league.specs.inner.Awarding.{MayConfirm, IsWonBatch, asked_state, won_batch, requests_of}
-use Rattle.fleet_league.specs.inner.Quoting.{quoting_batch}
 use Rattle.fleet_league.proofs.AllConfirmed.{seat-of-win, outcome-confirmed, outcomes-are, all-confirmed}
 use Rattle.fleet_league.proofs.BatchOpened.{opened-none}
 use Rattle.fleet_league.proofs.Legality.{IsLegalBoard, board-fleet, board-roads}

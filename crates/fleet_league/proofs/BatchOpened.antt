@@ -1,16 +1,5 @@
 -- A batch of all that wait was opened.
-use Rattle.std.proofs.Common.{◌≡◌, ℕ, Bool, true, false, cond, inl, inr, List, [], ◌∷◌, refl, sym, subst}
-use Rattle.std.specs.Prelude.{map}
-use Rattle.std.specs.List.{filter}
-use Rattle.ride_model.specs.declared.reply.RequestState.{RequestState}
-use Rattle.ride_model.specs.declared.reply.RequestState.TheVariants.{InBatch}
-use Rattle.ride_model.specs.Batch.{is_waiting, waiting_rides, after_opening}
-use Rattle.ride_model.specs.Seating.{BatchCopy}
-use Rattle.ride_model.specs.State.{State, AcceptedRequest}
-use Rattle.model_laws.specs.inner.Requests.{is_of}
-use Rattle.model_laws.proofs.plain.Among.{Among, among_map, among_filter}
-use Rattle.model_laws.proofs.RequestStates.{marked, opening-is}
-use Rattle.model_laws.proofs.history_laws.Opening.{is_of-among}
+use Rattle.fleet_league.proofs.Common.{◌≡◌, ℕ, Bool, true, false, cond, inl, inr, List, [], ◌∷◌, refl, sym, subst, map, filter, RequestState, InBatch, is_waiting, waiting_rides, after_opening, BatchCopy, State, AcceptedRequest, is_of, Among, among_map, among_filter, marked, opening-is, is_of-among}
 use Rattle.fleet_league.proofs.Reports.{NoneWaits}
 
 -- none waits where each that waited was marked

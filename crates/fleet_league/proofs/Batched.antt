@@ -1,21 +1,6 @@
 -- New rides as the requests of a batch.
-use Rattle.std.proofs.Common.{◌≡◌, ◌≤◌, List, length, Some, None, sym, ap, subst}
-use Rattle.std.specs.Prelude.{All, Contains}
-use Rattle.ride_model.specs.declared.vehicle.Ride.{Ride}
-use Rattle.ride_model.specs.declared.vehicle.Vehicle.{Vehicle}
-use Rattle.ride_model.specs.Settings.{IsSettings}
-use Rattle.ride_model.specs.State.{State, accepted_request}
-use Rattle.ride_model.specs.Vehicle.{IsRide, IsRouted, IsLawful, ride_ids}
-use Rattle.ride_model.specs.inner.Vehicle.{IsFresh}
-use Rattle.batch_commit.specs.inner.Table.{IsPriceable}
-use Rattle.model_laws.proofs.plain.Among.{among_from_contains, among_map_back}
-use Rattle.model_laws.proofs.plain.Each.{of_all, all_of}
-use Rattle.model_laws.specs.inner.history_laws.Consistent.{HasPromised, promised_as}
-use Rattle.model_laws.proofs.history_laws.EveryState.{consistent}
-use Rattle.board_core.specs.Recorded.{Recorded, state_of}
-use Rattle.fleet_league.specs.inner.Prices.{IsNewRide}
+use Rattle.fleet_league.proofs.Common.{◌≡◌, ◌≤◌, List, length, Some, None, sym, ap, subst, All, Contains, Ride, Vehicle, IsSettings, State, accepted_request, IsRide, IsRouted, IsLawful, ride_ids, IsFresh, IsPriceable, among_from_contains, among_map_back, of_all, all_of, HasPromised, promised_as, consistent, Recorded, state_of, IsNewRide, quoting_batch}
 use Rattle.fleet_league.proofs.Legality.{IsLegalBoard}
-use Rattle.fleet_league.specs.inner.Quoting.{quoting_batch}
 
 -- they can be priced over the board's map
 pub may-price : (board : Recorded) (rides : List Ride) → IsLegalBoard board → length rides ≤ 128

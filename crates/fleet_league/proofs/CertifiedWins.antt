@@ -1,40 +1,9 @@
 -- The seats of wins that their prices certify.
-use Rattle.std.proofs.Common.{◌≡◌, ℕ, zero, suc, ◌+◌, ◌*◌, ◌<◌, ◌≤◌, Bool, true, false, cond, List, [], ◌∷◌, length, take, get_or, eqb, ltb-false, nat_lt, Option, Some, None, refl, sym, ap, subst, ◌∙◌, arith, length-append}
-use Rattle.std.specs.Prelude.{map, position, find, is_some, ◌==◌, ◌||◌, All, Contains, IsSomeAnd, unwrap_or, option_map}
-use Rattle.std.specs.List.{cons_option, flat_map, filter, filter_map, position_or_len, range_with_len, AllByRecursion, IsDistinct}
-use Rattle.std.proofs.lemmas.Bool.{eqb-true, eq-eqb, ne_eqb}
-use Rattle.std.proofs.lemmas.List.{length-map, get_or-map, get_or_default, length-take-le}
-use Rattle.std.proofs.lemmas.List.Concat.{get_or-flat_map}
-use Rattle.std.proofs.lemmas.List.FromFn.{fill_by_all}
-use Rattle.std.proofs.lemmas.List.Quantifiers.{position-Some}
-use Rattle.std.proofs.lemmas.List.Sums.{fails_before_first}
-use Rattle.std.proofs.lemmas.Map.Keys.{IsDistinct-head, IsDistinct-tail}
-use Rattle.std.proofs.Math.Nat.{suc-mul}
-use Rattle.ride_model.specs.declared.offer.Offer.{Offer}
-use Rattle.ride_model.specs.declared.offer.Seat.{Seat}
-use Rattle.ride_model.specs.declared.settings.Settings.{Settings}
-use Rattle.ride_model.specs.declared.vehicle.Ride.{Ride}
-use Rattle.ride_model.specs.declared.vehicle.Vehicle.{Vehicle}
-use Rattle.ride_model.specs.Offers.{price}
-use Rattle.ride_model.specs.Road.{RoadMap}
-use Rattle.ride_model.specs.Seating.{BatchCopy, amount_ids, amount_of, has_amount, vehicle_ids}
-use Rattle.ride_model.specs.Vehicle.{ride_ids}
-use Rattle.batch_commit.specs.inner.Answer.{CertifiesOverCells}
-use Rattle.batch_commit.specs.inner.Table.{Table, IsTableOf, cell_at as offer_at}
-use Rattle.model_laws.proofs.plain.Among.{Among, among_from_contains, contains_from_among, among_map_back}
-use Rattle.dual_check.specs.Cells.{GridCells, cell_at}
-use Rattle.dual_check.specs.inner.Costs.{amounts_over}
-use Rattle.dual_check.specs.Grid.{column_of, CertifiesPairing}
-use Rattle.dual_check.proofs.DifferentIds.{element, not-found}
+use Rattle.fleet_league.proofs.Common.{◌≡◌, ℕ, zero, suc, ◌+◌, ◌*◌, ◌<◌, ◌≤◌, Bool, true, false, cond, List, [], ◌∷◌, length, take, get_or, eqb, ltb-false, nat_lt, Option, Some, None, refl, sym, ap, subst, ◌∙◌, arith, length-append, map, position, find, is_some, ◌==◌, ◌||◌, All, Contains, IsSomeAnd, unwrap_or, option_map, cons_option, flat_map, filter, filter_map, position_or_len, range_with_len, AllByRecursion, IsDistinct, eqb-true, eq-eqb, ne_eqb, length-map, get_or-map, get_or_default, length-take-le, get_or-flat_map, fill_by_all, position-Some, fails_before_first, IsDistinct-head, IsDistinct-tail, suc-mul, Offer, Seat, Settings, Ride, Vehicle, price, RoadMap, BatchCopy, amount_ids, amount_of, has_amount, vehicle_ids, ride_ids, CertifiesOverCells, Table, IsTableOf, Among, among_from_contains, contains_from_among, among_map_back, GridCells, amounts_over, column_of, CertifiesPairing, element, not-found, pay_at, pays_by, seat_at, seats_by, solved-certified, Brief, Win, prices_by, won_rides, won_column, won_columns, price_list, AreSeatsOf, IsWonBatch}
+use Rattle.batch_commit.specs.inner.Table.{cell_at as offer_at}
+use Rattle.dual_check.specs.Cells.{cell_at}
 use Rattle.hungarian.specs.inner.Costs.{cost_of, HasCosts}
-use Rattle.hungarian.specs.Seats.{pay_at, pays_by, prices_by as amounts_by}
-use Rattle.hungarian.specs.inner.Seats.{seat_at, seats_by}
-use Rattle.hungarian.proofs.BatchCertificates.{solved-certified}
-use Rattle.fleet_league.specs.declared.briefs.Brief.{Brief}
-use Rattle.fleet_league.specs.declared.briefs.Win.{Win}
-use Rattle.fleet_league.specs.Prices.{prices_by}
-use Rattle.fleet_league.specs.Awards.{won_rides, won_column, won_columns, price_list, AreSeatsOf}
-use Rattle.fleet_league.specs.inner.Awarding.{IsWonBatch}
+use Rattle.hungarian.specs.Seats.{prices_by as amounts_by}
 use Rattle.fleet_league.proofs.PricedRows.{cost-is}
 
 -- pieces of one length

@@ -1,13 +1,6 @@
 -- Sums over rows and columns, some of which are chosen.
-use Rattle.std.proofs.Common.{◌≡◌, ℕ, zero, suc, ◌+◌, ◌<◌, ◌≤◌, Bool, true, false, cond, not, List, [], ◌∷◌, length, get_or, eqb, refl, sym, ◌∙◌, ap, arith}
-use Rattle.std.specs.Prelude.{map, sum, Option, Some, None}
-use Rattle.std.specs.List.{filter, sum_by, range_with_len, AllByRecursion, IsDistinct}
-use Rattle.std.proofs.lemmas.List.Filters.{sum_by-filter_both}
-use Rattle.std.proofs.lemmas.List.FromFn.{fill_by_all}
-use Rattle.std.proofs.lemmas.List.Sums.{sum_by-cons, sum-map}
-use Rattle.std.proofs.lemmas.Bool.{ne_eqb}
-use Rattle.std.proofs.lemmas.List.Elements.{All-from_recursion}
-use Rattle.dual_check.proofs.CertifiedPairings.{each-kept, each-range, sum-places-le}
+use Rattle.fleet_league.proofs.Common.{◌≡◌, ℕ, zero, suc, ◌+◌, ◌<◌, ◌≤◌, Bool, true, false, cond, not, List, [], ◌∷◌, length, get_or, eqb, refl, sym, ◌∙◌, ap, arith, map, sum, Option, Some, None, filter, sum_by, range_with_len, AllByRecursion, sum_by-filter_both, fill_by_all, sum_by-cons, sum-map, ne_eqb, All-from_recursion, each-kept, each-range, sum-places-le}
+use Rattle.std.specs.List.{IsDistinct}
 
 -- what a list of weights gives at a column, if there is one
 abbrev pub weight_at : List ℕ → Option ℕ → ℕ

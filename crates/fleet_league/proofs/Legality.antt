@@ -1,13 +1,5 @@
 -- Boards whose history is legal.
-use Rattle.std.proofs.Common.{◌≡◌, ◌+◌}
-use Rattle.ride_model.specs.Fleet.{IsFleet}
-use Rattle.ride_model.specs.Legal.{IsLegal}
-use Rattle.model_laws.specs.history_laws.Start.{IsStart}
-use Rattle.model_laws.specs.inner.history_laws.Start.{fed_total}
-use Rattle.model_laws.specs.inner.history_laws.Consistent.{IsConsistent}
-use Rattle.model_laws.proofs.history_laws.EveryState.{any_id, consistent, legal_goes}
-use Rattle.model_laws.proofs.history_laws.Invariant.{fleet_of}
-use Rattle.board_core.specs.Recorded.{Recorded, state_of}
+use Rattle.fleet_league.proofs.Common.{◌≡◌, ◌+◌, IsFleet, IsLegal, IsStart, fed_total, IsConsistent, any_id, consistent, legal_goes, fleet_of, Recorded, state_of}
 
 -- a board's history is legal from a start
 pub record IsLegalBoard (board : Recorded) : Type 0 where

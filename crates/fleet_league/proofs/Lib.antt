@@ -1,3 +1,4 @@
+pub mod Common
 pub mod Legality
 pub mod Reports
 pub mod PricedRows

@@ -1,25 +1,5 @@
 -- What an award asks of a company is what its batch needs.
-use Rattle.std.proofs.Common.{◌≡◌, ℕ, ◌≤◌, List, length, sym, subst, arith}
-use Rattle.std.specs.Prelude.{All, Contains, IsTrue, nat_eq}
-use Rattle.std.specs.List.{IsDistinct}
-use Rattle.std.proofs.lemmas.List.{length-map}
-use Rattle.ride_model.specs.declared.settings.Settings.{Settings}
-use Rattle.ride_model.specs.declared.vehicle.Ride.{Ride}
-use Rattle.ride_model.specs.Road.{RoadMap, IsRoadMap}
-use Rattle.ride_model.specs.Text.{IsSpelled, IsSpelledCommand}
-use Rattle.ride_model.specs.Vehicle.{IsRide, ride_ids}
-use Rattle.model_laws.proofs.plain.Among.{among_from_contains, contains_from_among}
-use Rattle.model_laws.proofs.plain.Each.{of_all, all_of}
-use Rattle.board_core.specs.Recorded.{Recorded, state_of}
-use Rattle.fleet_league.specs.declared.briefs.Brief.{Brief}
-use Rattle.fleet_league.specs.declared.briefs.Win.{Win}
-use Rattle.fleet_league.specs.declared.quotes.Quote.{Quote}
-use Rattle.fleet_league.specs.inner.Prices.{IsNewRide}
-use Rattle.fleet_league.specs.inner.Companies.{CompanyState, IsCompany, IsIdle}
-use Rattle.fleet_league.specs.Awards.{won_rides, request_of}
-use Rattle.fleet_league.specs.inner.Awards.{AreOfOneState, HasRoomFor}
-use Rattle.fleet_league.specs.inner.Awarding.{MayConfirm}
-use Rattle.fleet_league.specs.inner.Winning.{MayWin}
+use Rattle.fleet_league.proofs.Common.{◌≡◌, ℕ, ◌≤◌, List, length, sym, subst, arith, All, Contains, IsTrue, nat_eq, IsDistinct, length-map, Settings, Ride, RoadMap, IsRoadMap, IsSpelled, IsSpelledCommand, IsRide, ride_ids, among_from_contains, contains_from_among, of_all, all_of, Recorded, state_of, Brief, Win, Quote, IsNewRide, CompanyState, IsCompany, IsIdle, won_rides, request_of, AreOfOneState, HasRoomFor, MayConfirm, MayWin}
 use Rattle.fleet_league.proofs.Legality.{IsLegalBoard, board-roads, board-settings}
 use Rattle.fleet_league.proofs.QuotedState.{Stands, certified-now}
 use Rattle.fleet_league.proofs.Reports.{few-fed}

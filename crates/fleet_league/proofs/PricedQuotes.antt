@@ -1,23 +1,6 @@
 -- The prices that a company quotes are within the limits of a grid.
-use Rattle.std.proofs.Common.{◌≡◌, ℕ, ◌<◌, ◌^◌, ◌⊎◌, inl, inr, List, [], ◌∷◌, ◌++◌, length, get_or, Option, Some, None, refl, sym, subst, arith}
-use Rattle.std.specs.Prelude.{map, IfSome, MatchOption}
-use Rattle.std.specs.List.{flat_map}
-use Rattle.std.proofs.lemmas.List.{length-map}
-use Rattle.ride_model.specs.declared.offer.Offer.{Offer}
-use Rattle.ride_model.specs.declared.vehicle.Ride.{Ride}
-use Rattle.ride_model.specs.declared.vehicle.Vehicle.{Vehicle}
-use Rattle.ride_model.specs.Fleet.{IsFleet}
-use Rattle.ride_model.specs.Offers.{price}
-use Rattle.ride_model.specs.Road.{RoadMap, IsRoadMap}
-use Rattle.ride_model.specs.Seating.{BatchCopy}
-use Rattle.ride_model.specs.inner.Seating.{IsBatchOver}
-use Rattle.batch_commit.specs.inner.Table.{Table, cell_at, IsLeastOffer, IsTableOf}
-use Rattle.model_laws.proofs.plain.Among.{Among, among_map_back, contains_from_among}
-use Rattle.model_laws.proofs.plain.Each.{all_of}
-use Rattle.dual_check.specs.Cells.{IsSmall}
+use Rattle.fleet_league.proofs.Common.{◌≡◌, ℕ, ◌<◌, ◌^◌, ◌⊎◌, inl, inr, List, [], ◌∷◌, ◌++◌, length, get_or, Option, Some, None, refl, sym, subst, arith, map, IfSome, MatchOption, flat_map, length-map, Offer, Ride, Vehicle, IsFleet, price, RoadMap, IsRoadMap, BatchCopy, IsBatchOver, Table, cell_at, IsLeastOffer, IsTableOf, Among, among_map_back, contains_from_among, all_of, IsSmall, prices_by, IsPriced}
 use Rattle.pricing_workers.proofs.SmallCosts.{small-costs}
-use Rattle.fleet_league.specs.Prices.{prices_by}
-use Rattle.fleet_league.specs.inner.Round.{IsPriced}
 use Rattle.fleet_league.proofs.CertifiedWins.{flat-length}
 
 -- what is in one of two lists' pieces

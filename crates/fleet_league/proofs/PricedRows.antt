@@ -1,22 +1,5 @@
 -- The rows of a batch's table as rows of prices.
-use Rattle.std.proofs.Common.{◌≡◌, ℕ, suc, ◌+◌, ◌*◌, ◌<◌, List, [], ◌∷◌, ◌++◌, length, get_or, Option, Some, None, refl, sym, ap, subst, ◌∙◌, arith, append-nil, mul_comm}
-use Rattle.std.specs.Prelude.{map, MatchOption}
-use Rattle.std.specs.List.{flat_map, range_with_len}
-use Rattle.std.proofs.lemmas.List.{length-map, get_or-map}
-use Rattle.std.proofs.lemmas.Grind.{flat_map-append}
-use Rattle.std.proofs.lemmas.List.Concat.{length-flat_map}
-use Rattle.std.proofs.lemmas.List.Folds.{flat_map-map}
-use Rattle.std.proofs.lemmas.List.FromFn.{fill_by_all, length-range_with_len, length-map-range_with_len, map-range_with_len_more}
-use Rattle.ride_model.specs.declared.offer.Offer.{Offer}
-use Rattle.ride_model.specs.declared.vehicle.Ride.{Ride}
-use Rattle.ride_model.specs.declared.vehicle.Vehicle.{Vehicle}
-use Rattle.ride_model.specs.Offers.{price}
-use Rattle.ride_model.specs.Road.{RoadMap}
-use Rattle.ride_model.specs.Seating.{BatchCopy}
-use Rattle.batch_commit.specs.inner.Table.{Table, cell_at, IsLeastOffer, IsTableOf}
-use Rattle.dual_check.proofs.CertifiedPairings.{each-range, sum_by-times}
-use Rattle.dual_check.proofs.DifferentIds.{element}
-use Rattle.fleet_league.specs.inner.Quoting.{cost_in, cost_row}
+use Rattle.fleet_league.proofs.Common.{◌≡◌, ℕ, suc, ◌+◌, ◌*◌, ◌<◌, List, [], ◌∷◌, ◌++◌, length, get_or, Option, Some, None, refl, sym, ap, subst, ◌∙◌, arith, append-nil, mul_comm, map, MatchOption, flat_map, range_with_len, length-map, get_or-map, flat_map-append, length-flat_map, flat_map-map, fill_by_all, length-range_with_len, length-map-range_with_len, map-range_with_len_more, Offer, Ride, Vehicle, price, RoadMap, BatchCopy, Table, cell_at, IsLeastOffer, IsTableOf, each-range, sum_by-times, element, cost_in, cost_row}
 
 -- pieces by places are pieces by elements
 flat-range : {X A : Type 0} (f : ℕ → List A) (g : X → List A) (xs : List X) (a : ℕ)

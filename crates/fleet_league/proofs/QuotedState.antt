@@ -1,26 +1,7 @@
 -- The state that a quote was made of, where its vehicles and its clock still stand.
-use Rattle.std.proofs.Common.{◌≡◌, ℕ, ◌+◌, Bool, true, false, not, cond, List, [], ◌∷◌, ◌++◌, length, eqb, Option, Some, None, refl, sym, ap, subst, ◌∙◌}
-use Rattle.std.specs.Prelude.{option_map}
-use Rattle.std.proofs.lemmas.Bool.{eqb-true}
-use Rattle.std.proofs.lemmas.List.{length-map}
-use Rattle.model_laws.proofs.plain.Each.{all_of}
-use Rattle.ride_model.specs.declared.entry.Entry.{Entry}
-use Rattle.ride_model.specs.declared.vehicle.Vehicle.{Vehicle}
-use Rattle.ride_model.specs.Legal.{replay, versions_of, IsLegal}
-use Rattle.ride_model.specs.Seating.{vehicle_ids}
-use Rattle.ride_model.specs.State.{State}
-use Rattle.model_laws.specs.inner.history_laws.Consistent.{AreEarlier}
-use Rattle.model_laws.proofs.history_laws.EveryState.{any_id, any_fine, consistent, history_goes, legal_goes}
+use Rattle.fleet_league.proofs.Common.{◌≡◌, ℕ, ◌+◌, Bool, true, false, not, cond, List, [], ◌∷◌, ◌++◌, length, eqb, Option, Some, None, refl, sym, ap, subst, ◌∙◌, option_map, eqb-true, length-map, all_of, Entry, Vehicle, replay, versions_of, IsLegal, vehicle_ids, State, AreEarlier, any_id, any_fine, consistent, history_goes, legal_goes, replay-append, IsLegal-parts, fed_total, Recorded, state_of, Brief, Timed, Quote, prices_by, won_rides, IsCertifiedBy, IsCertifiedOver, AreOfOneState, first_moved, moved_answer, settled_by, settled_at}
 use Rattle.model_laws.proofs.history_laws.Entries.{IsFineEvent}
-use Rattle.model_laws.proofs.Histories.{replay-append, IsLegal-parts}
-use Rattle.model_laws.specs.inner.history_laws.Start.{fed_total}
-use Rattle.board_core.specs.Recorded.{Recorded, state_of}
-use Rattle.fleet_league.specs.declared.briefs.Brief.{Brief}
-use Rattle.fleet_league.specs.declared.briefs.Settled.TheVariants.{Confirmed, Timed}
-use Rattle.fleet_league.specs.declared.quotes.Quote.{Quote}
-use Rattle.fleet_league.specs.Prices.{prices_by}
-use Rattle.fleet_league.specs.Awards.{won_rides}
-use Rattle.fleet_league.specs.inner.Awards.{IsCertifiedBy, IsCertifiedOver, AreOfOneState, first_moved, moved_answer, settled_by, settled_at}
+use Rattle.fleet_league.specs.declared.briefs.Settled.TheVariants.{Confirmed}
 use Rattle.fleet_league.proofs.Legality.{IsLegalBoard}
 
 -- earlier records of which none has moved are the later ones

@@ -1,39 +1,8 @@
 -- Reports leave a company's board idle.
-use Rattle.std.proofs.Common.{◌≡◌, ℕ, ◌+◌, ◌<◌, ◌≤◌, Bool, true, false, not, cond, List, [], ◌∷◌, ◌++◌, length, Option, Some, None, Result, Ok, Err, refl, sym, ap, subst, ◌∙◌, arith, length-append}
-use Rattle.std.specs.Prelude.{map, count_by, nat_lt, option_map, ◌==◌, OnOk, OnErr}
-use Rattle.std.specs.List.{filter}
-use Rattle.std.specs.declared.alloc.AllocError.{AllocError}
-use Rattle.std.proofs.lemmas.List.{length-map}
-use Rattle.std.proofs.lemmas.List.Sums.{sum_by-append}
-use Rattle.ride_model.specs.declared.command.Command.{Command}
-use Rattle.ride_model.specs.declared.command.Command.TheVariants.{Request, Cancel, At, Done, On, Off, Clock, Ask, Bad}
-use Rattle.ride_model.specs.declared.entry.Entry.{Entry}
-use Rattle.ride_model.specs.declared.reply.Reply.{Reply}
-use Rattle.ride_model.specs.declared.reply.Reply.TheVariants.{Refused}
-use Rattle.ride_model.specs.declared.reply.RequestState.{RequestState}
-use Rattle.ride_model.specs.declared.reply.RequestState.TheVariants.{Waiting, InBatch, Confirmed, Aboard, Done as DoneState, Away, Cancelled}
-use Rattle.ride_model.specs.declared.vehicle.Kind.{Kind}
-use Rattle.ride_model.specs.declared.vehicle.Kind.TheVariants.{Pickup, Dropoff}
-use Rattle.ride_model.specs.declared.vehicle.Stop.{Stop}
-use Rattle.ride_model.specs.declared.vehicle.Vehicle.{Vehicle}
-use Rattle.ride_model.specs.Batch.{is_waiting, waiting_rides}
-use Rattle.ride_model.specs.History.{entries_of, fed_commands}
-use Rattle.ride_model.specs.declared.settings.Settings.{Settings}
-use Rattle.ride_model.specs.Legal.{replay}
-use Rattle.ride_model.specs.Road.{RoadMap, travel}
-use Rattle.ride_model.specs.State.{State, AcceptedRequest, accepted_request, placed_vehicle, start_state}
-use Rattle.ride_model.specs.Step.{Answered, is_node, cancel_by_state, cancel_found, cancel_step, freed, reported, report, report_driving, at_found, at_step, served_state, done_at_stop, done_found, done_step, duty_found, duty_step, clock_step, step}
-use Rattle.model_laws.proofs.RequestStates.{marked, marked-ride}
+use Rattle.fleet_league.proofs.Common.{◌≡◌, ℕ, ◌+◌, ◌<◌, ◌≤◌, Bool, true, false, not, cond, List, [], ◌∷◌, ◌++◌, length, Option, Some, None, Result, Ok, Err, refl, sym, ap, subst, ◌∙◌, arith, length-append, map, count_by, nat_lt, option_map, ◌==◌, OnOk, OnErr, filter, AllocError, length-map, sum_by-append, Command, Request, Cancel, At, Done, On, Off, Clock, Ask, Bad, Entry, Reply, Refused, RequestState, Waiting, InBatch, Aboard, Away, Cancelled, Kind, Pickup, Dropoff, Stop, Vehicle, is_waiting, waiting_rides, entries_of, fed_commands, Settings, replay, RoadMap, travel, State, AcceptedRequest, accepted_request, placed_vehicle, start_state, Answered, is_node, cancel_by_state, cancel_found, cancel_step, freed, reported, report, report_driving, at_found, at_step, served_state, done_at_stop, done_found, done_step, duty_found, duty_step, clock_step, step, marked, marked-ride, consistent, find_request, leaves-step, Recorded, state_of, fed_entry, fed_commands-append, state-push, is_report, report_count, most_reports, IsIdle, IsCompany}
+use Rattle.ride_model.specs.declared.reply.RequestState.TheVariants.{Confirmed, Done as DoneState}
 use Rattle.model_laws.proofs.history_laws.Changes.{find_request-map}
-use Rattle.model_laws.proofs.history_laws.EveryState.{consistent}
-use Rattle.model_laws.proofs.history_laws.Invariant.{find_request}
 use Rattle.model_laws.proofs.history_laws.Others.{keeps_none}
-use Rattle.model_laws.proofs.history_laws.Untouched.{leaves-step}
-use Rattle.board_core.specs.Recorded.{Recorded, state_of}
-use Rattle.board_core.specs.inner.Recorded.{fed_entry}
-use Rattle.board_core.proofs.FedEntries.{fed_commands-append}
-use Rattle.board_core.proofs.OpenBatches.{state-push}
-use Rattle.fleet_league.specs.inner.Companies.{is_report, report_count, most_reports, IsIdle, IsCompany}
 use Rattle.fleet_league.proofs.Legality.{IsLegalBoard}
 
 -- none of these requests waits

@@ -1,27 +1,7 @@
 -- A state that takes new rides as requests.
-use Rattle.std.proofs.Common.{◌≡◌, ℕ, ◌+◌, ◌≤◌, ◌&&◌, ◌||◌, true, false, not, cond, inl, inr, List, [], ◌∷◌, ◌++◌, length, eqb, Some, None, refl, sym, ap, subst, ◌∙◌, arith, append_assoc, append-nil, length-append}
-use Rattle.std.specs.Prelude.{map, find, is_some, nat_lt, nat_le, ◌==◌}
-use Rattle.std.specs.List.{filter, AllByRecursion}
-use Rattle.std.specs.Option.{option_or}
-use Rattle.std.proofs.lemmas.Bool.{ne_eqb}
-use Rattle.std.proofs.lemmas.List.Elements.{filter-append}
-use Rattle.std.proofs.lemmas.List.Folds.{find-append}
-use Rattle.std.proofs.lemmas.Map.Keys.{IsDistinct-head, IsDistinct-tail}
+use Rattle.fleet_league.proofs.Common.{◌≡◌, ℕ, ◌+◌, ◌≤◌, ◌&&◌, ◌||◌, true, false, not, cond, inl, inr, List, [], ◌∷◌, ◌++◌, length, eqb, Some, None, refl, sym, ap, subst, ◌∙◌, arith, append_assoc, append-nil, length-append, map, find, is_some, nat_lt, nat_le, ◌==◌, filter, AllByRecursion, option_or, ne_eqb, filter-append, find-append, IsDistinct-head, IsDistinct-tail, Ride, is_waiting, replay, RoadMap, IsNode, State, AcceptedRequest, accepted_request, Answered, is_node, with_accepted, request_step, step, ride_ids, Among, among_map, of_all, all_of, Win, IsNewRide, won_rides, request_of, request_entries, AreNew, requests_of, requested_state}
 use Rattle.ride_model.specs.declared.reply.Reply.TheVariants.{Waiting}
 use Rattle.ride_model.specs.declared.reply.RequestState.TheVariants.{Waiting as WaitingState}
-use Rattle.ride_model.specs.declared.vehicle.Ride.{Ride}
-use Rattle.ride_model.specs.Batch.{is_waiting}
-use Rattle.ride_model.specs.Legal.{replay}
-use Rattle.ride_model.specs.Road.{RoadMap, IsNode}
-use Rattle.ride_model.specs.State.{State, AcceptedRequest, accepted_request}
-use Rattle.ride_model.specs.Step.{Answered, is_node, with_accepted, request_step, step}
-use Rattle.ride_model.specs.Vehicle.{ride_ids}
-use Rattle.model_laws.proofs.plain.Among.{Among, among_map}
-use Rattle.model_laws.proofs.plain.Each.{of_all, all_of}
-use Rattle.fleet_league.specs.declared.briefs.Win.{Win}
-use Rattle.fleet_league.specs.inner.Prices.{IsNewRide}
-use Rattle.fleet_league.specs.Awards.{won_rides, request_of, request_entries}
-use Rattle.fleet_league.specs.inner.Awarding.{AreNew, requests_of, requested_state}
 
 -- tests that a ride of the map passes
 node-test : (roads : RoadMap) (x : ℕ) → IsNode roads x → is_node roads x ≡ true

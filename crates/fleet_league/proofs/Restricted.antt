@@ -1,19 +1,6 @@
 -- A certified pairing, kept to some of its columns.
-use Rattle.std.proofs.Common.{◌≡◌, ℕ, ◌+◌, ◌<◌, ◌≤◌, Bool, true, false, cond, not, List, length, get_or, eqb, refl, sym, ◌∙◌, ap, subst, arith}
-use Rattle.std.specs.Prelude.{map, sum, All, Option, Some, None, IsSome, IfSome}
-use Rattle.std.specs.List.{sum_by, range_with_len, IsDistinct}
-use Rattle.std.proofs.lemmas.Bool.{false≢true}
-use Rattle.std.proofs.lemmas.List.{get_or-map, length-map}
-use Rattle.std.proofs.lemmas.List.Filters.{sum_by-filter_both}
-use Rattle.std.proofs.lemmas.List.FromFn.{get_or-map-range_with_len}
-use Rattle.std.proofs.lemmas.List.Sums.{sum-map}
-use Rattle.model_laws.proofs.plain.Sums.{sum_by-map}
-use Rattle.dual_check.proofs.CertifiedPairings.{each-range}
-use Rattle.dual_check.proofs.DifferentIds.{same-place}
-use Rattle.dual_check.proofs.PairingParts.{row-of-column}
-use Rattle.dual_check.specs.Cells.{GridCells, cell_at}
-use Rattle.dual_check.specs.Grid.{column_of, row_cost, pairing_cost, price_at, IsPairing, CertifiesPairing}
-use Rattle.fleet_league.specs.inner.Restriction.{is_chosen, chosen_columns, rows_into, IsPart, KeepsColumns, IsRestrictedTo}
+use Rattle.fleet_league.proofs.Common.{◌≡◌, ℕ, ◌+◌, ◌<◌, ◌≤◌, Bool, true, false, cond, not, List, length, get_or, eqb, refl, sym, ◌∙◌, ap, subst, arith, map, sum, All, Option, Some, None, IsSome, IfSome, sum_by, range_with_len, IsDistinct, false≢true, get_or-map, length-map, sum_by-filter_both, get_or-map-range_with_len, sum-map, sum_by-map, each-range, same-place, row-of-column, GridCells, column_of, row_cost, pairing_cost, price_at, IsPairing, CertifiesPairing, is_chosen, chosen_columns, rows_into, IsPart, KeepsColumns, IsRestrictedTo}
+use Rattle.dual_check.specs.Cells.{cell_at}
 use Rattle.fleet_league.proofs.ChosenSums.{weight_at, weights_of, sum-weights, covered-rows, sum-same, by-place, distinct-kept, kept-below}
 
 -- a row's price is at most its cell and what its column pays

@@ -1,16 +1,7 @@
 -- A union grid while it is filled.
-use Rattle.std.proofs.Common.{◌≡◌, ℕ, ◌+◌, ◌*◌, ◌<◌, ◌≤◌, inl, inr, List, length, get_or, set, sym, ◌∙◌, ap, refl, subst, arith}
-use Rattle.std.specs.Prelude.{Option, Some, None, All, slice_get, take, sum_by, replicate, option_map}
-use Rattle.std.proofs.lemmas.Bool.{cases_eq, cases_lt}
-use Rattle.std.proofs.lemmas.List.{get_or-replicate, get_or-map, get_or-set_other, get_or_past, length-map, length-replicate, take-take}
-use Rattle.std.proofs.lemmas.List.Sums.{sum_by_more, sum_by-take-le}
-use Rattle.std.proofs.lemmas.Nat.{same_from_place}
-use Rattle.std.proofs.lemmas.Option.{get_or_from_slice_get, slice_get-get_or, slice_get-map, slice_get_within}
-use Rattle.model_laws.proofs.plain.Sums.{sum_by-map}
-use Rattle.dual_check.specs.Cells.{GridCells, IsGrid, cell_at}
-use Rattle.fleet_league.specs.inner.Filling.{ChangesOnly}
-use Rattle.fleet_league.specs.declared.quotes.Quote.{Quote}
-use Rattle.fleet_league.specs.Round.{IsUnion, StandsFrom, columns_before, company_prices}
+use Rattle.fleet_league.proofs.Common.{◌≡◌, ℕ, ◌+◌, ◌*◌, ◌<◌, ◌≤◌, inl, inr, List, length, get_or, set, sym, ◌∙◌, ap, refl, subst, arith, Option, Some, None, All, slice_get, take, replicate, option_map, cases_eq, cases_lt, get_or-replicate, get_or-map, get_or-set_other, get_or_past, length-map, length-replicate, take-take, sum_by_more, sum_by-take-le, same_from_place, get_or_from_slice_get, slice_get-get_or, slice_get-map, slice_get_within, sum_by-map, GridCells, IsGrid, ChangesOnly, Quote, IsUnion, StandsFrom, columns_before, company_prices}
+use Rattle.std.specs.Prelude.{sum_by}
+use Rattle.dual_check.specs.Cells.{cell_at}
 
 -- a grid with a cell that is written changes in this cell alone
 pub changes-cell : (grid : GridCells) (row column amount : ℕ) → column < grid.columns

@@ -1,33 +1,6 @@
 -- A board on which wins are requested, one after another.
-use Rattle.std.proofs.Common.{◌≡◌, ℕ, ◌+◌, ◌<◌, ◌≤◌, inl, inr, false, cond, List, [], ◌∷◌, ◌++◌, length, take, drop, get_or, refl, sym, ap, subst, ◌∙◌, arith, append_assoc, length-append}
-use Rattle.std.specs.Prelude.{map, find, nat_le, ◌==◌, IsNone}
-use Rattle.std.specs.List.{list_any}
-use Rattle.std.proofs.lemmas.Bool.{cases_lt}
-use Rattle.std.proofs.lemmas.List.{length-map, get_or-map, take_more, drop_more, take_all, take-map, take-append-le, map-append}
-use Rattle.std.proofs.Math.Seq.{take-append_seam}
-use Rattle.ride_model.specs.declared.command.Actor.{Actor}
-use Rattle.ride_model.specs.declared.command.Actor.TheVariants.{Feed}
-use Rattle.ride_model.specs.declared.command.Command.{Command}
-use Rattle.ride_model.specs.declared.command.Command.TheVariants.{Ask}
-use Rattle.ride_model.specs.declared.entry.Ending.{Ending}
-use Rattle.ride_model.specs.declared.entry.Entry.{Entry}
-use Rattle.ride_model.specs.declared.entry.Event.TheVariants.{Fed}
-use Rattle.ride_model.specs.declared.reply.Reply.TheVariants.{Waiting, Asked, Refused}
-use Rattle.ride_model.specs.declared.vehicle.Ride.{Ride}
-use Rattle.ride_model.specs.Seating.{BatchCopy}
-use Rattle.ride_model.specs.Text.{IsSpelledCommand}
-use Rattle.ride_model.specs.History.{entries_of, fed_commands}
-use Rattle.ride_model.specs.Legal.{after_entry, replay}
-use Rattle.ride_model.specs.State.{State, has_ended, is_actor, open_batch_of}
-use Rattle.ride_model.specs.Step.{Answered, with_accepted, ask_step, step}
-use Rattle.model_laws.proofs.Histories.{replay-append, replay-push}
-use Rattle.board_core.specs.Recorded.{Recorded, state_of}
-use Rattle.board_core.specs.inner.Recorded.{fed_entry}
-use Rattle.board_core.proofs.FedEntries.{fed_commands-append}
-use Rattle.board_core.proofs.OpenBatches.{state-push}
-use Rattle.fleet_league.specs.declared.briefs.Win.{Win}
-use Rattle.fleet_league.specs.Awards.{won_rides, request_of, request_entries, asking_entries}
-use Rattle.fleet_league.specs.inner.Awarding.{AreNew, MayAsk, requested_state, asked_state}
+use Rattle.fleet_league.proofs.Common.{◌≡◌, ℕ, ◌+◌, ◌<◌, ◌≤◌, inl, inr, false, cond, List, [], ◌∷◌, ◌++◌, length, take, drop, get_or, refl, sym, ap, subst, ◌∙◌, arith, append_assoc, length-append, map, find, nat_le, ◌==◌, IsNone, list_any, cases_lt, length-map, get_or-map, take_more, drop_more, take_all, take-map, take-append-le, map-append, take-append_seam, Actor, Feed, Command, Ask, Ending, Entry, Fed, Asked, Refused, Ride, BatchCopy, IsSpelledCommand, entries_of, fed_commands, after_entry, replay, State, has_ended, is_actor, open_batch_of, Answered, with_accepted, ask_step, step, replay-append, replay-push, Recorded, state_of, fed_entry, fed_commands-append, state-push, Win, won_rides, request_of, request_entries, asking_entries, AreNew, MayAsk, requested_state, asked_state}
+use Rattle.ride_model.specs.declared.reply.Reply.TheVariants.{Waiting}
 use Rattle.fleet_league.proofs.Reports.{fed-push}
 use Rattle.fleet_league.proofs.Requested.{new-first, new-room, new-rest, request-taken, requested}
 

@@ -1,34 +1,7 @@
 -- An award adds the requests of its wins alone, and one batch.
-use Rattle.std.proofs.Common.{◌≡◌, ℕ, ◌+◌, ◌≤◌, Bool, true, false, cond, not, List, [], ◌∷◌, ◌++◌, eqb, Option, Some, None, refl, ap, ◌∙◌, arith}
-use Rattle.std.specs.Prelude.{◌==◌, ◌&&◌, ◌||◌, map, nat_le, nat_lt, length, find, is_some}
-use Rattle.std.specs.Option.{option_or}
-use Rattle.std.proofs.lemmas.List.Folds.{find-append}
-use Rattle.std.proofs.lemmas.Bool.{or_parts}
-use Rattle.ride_model.specs.declared.command.Actor.TheVariants.{Feed, Desk}
-use Rattle.ride_model.specs.declared.command.Command.TheVariants.{Ask}
-use Rattle.ride_model.specs.declared.entry.Entry.{Entry}
-use Rattle.ride_model.specs.declared.entry.Event.TheVariants.{Fed, Committed}
-use Rattle.ride_model.specs.declared.entry.Outcome.{Outcome}
-use Rattle.ride_model.specs.declared.entry.Outcome.TheVariants.{Confirmed, Away, Gone, Moved, Behind}
-use Rattle.ride_model.specs.declared.offer.Seat.{Seat}
-use Rattle.ride_model.specs.declared.reply.Reply.{Reply}
-use Rattle.ride_model.specs.declared.reply.RequestState.TheVariants.{Waiting as WaitingState, InBatch, Confirmed as ConfirmedState, Away as AwayState}
-use Rattle.ride_model.specs.declared.vehicle.Ride.{Ride}
-use Rattle.ride_model.specs.declared.vehicle.Vehicle.{Vehicle}
-use Rattle.ride_model.specs.Batch.{after_opening, after_outcome, after_outcomes, confirm, next_batch, outcome_of, seat_of}
-use Rattle.ride_model.specs.Legal.{after_event, replay}
-use Rattle.ride_model.specs.Seating.{BatchCopy}
-use Rattle.ride_model.specs.State.{State, AcceptedRequest, accepted_request, open_batch_numbered, placed_vehicle}
-use Rattle.ride_model.specs.Step.{Answered, ask_step, is_node, request_step, step, with_accepted}
-use Rattle.model_laws.specs.inner.Requests.{is_of}
-use Rattle.model_laws.proofs.Histories.{replay-append}
-use Rattle.model_laws.proofs.RequestStates.{opening-is}
-use Rattle.model_laws.proofs.history_laws.Untouched.{stays-outcomes}
-use Rattle.dual_check.specs.Grid.{pairing_cost}
-use Rattle.fleet_league.specs.declared.briefs.Brief.{Brief}
-use Rattle.fleet_league.specs.declared.briefs.Win.{Win}
-use Rattle.fleet_league.specs.Awards.{asking_entries, confirming_entry, opening_entry, price_list, request_entries, request_of, won_columns, won_rides}
-use Rattle.fleet_league.specs.Prices.{prices_of}
+use Rattle.fleet_league.proofs.Common.{◌≡◌, ℕ, ◌+◌, ◌≤◌, Bool, true, false, cond, not, List, [], ◌∷◌, ◌++◌, eqb, Option, Some, None, refl, ap, ◌∙◌, arith, ◌==◌, ◌&&◌, ◌||◌, map, nat_le, nat_lt, length, find, is_some, option_or, find-append, or_parts, Feed, Desk, Ask, Entry, Fed, Committed, Outcome, Confirmed, Gone, Moved, Behind, Seat, Reply, InBatch, Ride, Vehicle, after_opening, after_outcome, after_outcomes, confirm, next_batch, outcome_of, seat_of, after_event, replay, BatchCopy, State, AcceptedRequest, accepted_request, open_batch_numbered, placed_vehicle, Answered, ask_step, is_node, request_step, step, with_accepted, is_of, replay-append, opening-is, stays-outcomes, pairing_cost, Brief, Win, asking_entries, confirming_entry, opening_entry, price_list, request_entries, request_of, won_columns, won_rides, prices_of}
+use Rattle.ride_model.specs.declared.entry.Outcome.TheVariants.{Away}
+use Rattle.ride_model.specs.declared.reply.RequestState.TheVariants.{Waiting as WaitingState, Confirmed as ConfirmedState, Away as AwayState}
 use Rattle.fleet_league.proofs.Reports.{none-found}
 
 -- a state after which at most so many more batches were asked for, and, if it is another, a request that was not accepted is not

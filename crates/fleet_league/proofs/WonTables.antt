@@ -1,27 +1,5 @@
 -- The rows of a table of rides that belong to wins of them.
-use Rattle.std.proofs.Common.{◌≡◌, ℕ, ◌+◌, ◌*◌, ◌<◌, List, [], ◌∷◌, ◌++◌, length, take, get_or, Option, Some, None, refl, sym, ap, subst, ◌∙◌, arith, append-nil}
-use Rattle.std.specs.Prelude.{nat_eq, ◌==◌, position, unwrap_or, All, Contains, MatchOption}
-use Rattle.std.specs.List.{flat_map, position_or_len, IsDistinct}
-use Rattle.std.proofs.lemmas.Bool.{eq-eqb, lt-ltb, ne_eqb}
-use Rattle.std.proofs.lemmas.Grind.{flat_map-append}
-use Rattle.std.proofs.lemmas.List.{length-map, length-take-le, get_or-map, get_or_default, take_more}
-use Rattle.std.proofs.lemmas.List.Concat.{get_or-flat_map}
-use Rattle.std.proofs.lemmas.List.FromFn.{get_or-map-range_with_len, length-map-range_with_len}
-use Rattle.std.proofs.lemmas.List.Sums.{position_or_len_is}
-use Rattle.ride_model.specs.declared.offer.Offer.{Offer}
-use Rattle.ride_model.specs.declared.vehicle.Ride.{Ride}
-use Rattle.ride_model.specs.declared.vehicle.Vehicle.{Vehicle}
-use Rattle.ride_model.specs.Offers.{offer_of, price}
-use Rattle.ride_model.specs.Road.{RoadMap}
-use Rattle.ride_model.specs.Seating.{BatchCopy}
-use Rattle.ride_model.specs.State.{State}
-use Rattle.ride_model.specs.Vehicle.{ride_ids}
-use Rattle.batch_commit.specs.inner.Table.{Table, cell_at, IsLeastOffer, IsTableOf}
-use Rattle.dual_check.proofs.DifferentIds.{element, same-place}
-use Rattle.fleet_league.specs.declared.briefs.Win.{Win}
-use Rattle.fleet_league.specs.inner.Awarding.{won_batch}
-use Rattle.fleet_league.specs.Awards.{won_rides}
-use Rattle.fleet_league.specs.inner.Quoting.{offer_row, place_of, quoting_batch}
+use Rattle.fleet_league.proofs.Common.{◌≡◌, ℕ, ◌+◌, ◌*◌, ◌<◌, List, [], ◌∷◌, ◌++◌, length, take, get_or, Option, Some, None, refl, sym, ap, subst, ◌∙◌, arith, append-nil, nat_eq, ◌==◌, position, unwrap_or, All, Contains, MatchOption, flat_map, position_or_len, IsDistinct, eq-eqb, lt-ltb, ne_eqb, flat_map-append, length-map, length-take-le, get_or-map, get_or_default, take_more, get_or-flat_map, get_or-map-range_with_len, length-map-range_with_len, position_or_len_is, Offer, Ride, Vehicle, offer_of, price, RoadMap, BatchCopy, State, ride_ids, Table, cell_at, IsLeastOffer, IsTableOf, element, same-place, Win, won_batch, won_rides, offer_row, place_of, quoting_batch}
 use Rattle.fleet_league.proofs.CertifiedWins.{flat-length}
 
 -- a ride's place among rides of different ids

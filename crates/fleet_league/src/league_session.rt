@@ -3,6 +3,7 @@ mod desk;
 pub mod laws;
 mod lines;
 mod members;
+mod outset;
 mod parts;
 mod playing;
 mod printing;

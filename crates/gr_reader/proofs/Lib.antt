@@ -1,3 +1,4 @@
+pub mod Common
 mod MapLemmas
 mod NamedLemmas
 mod ReadLemmas

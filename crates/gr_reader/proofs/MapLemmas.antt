@@ -1,17 +1,5 @@
 -- What a problem line and an arc line make of what was said so far.
-use Rattle.std.proofs.Common.{◌≡◌, ℕ, zero, suc, ◌+◌, ◌-◌, ◌^◌, ◌<◌, ◌≤◌, min, nat_lt, true, false, cond, if◌then◌else◌, List, [], ◌∷◌, ◌++◌, length, take, Option, Some, None, is_some, Result, Ok, Err, IfErr, OnOk, refl, ap, sym, subst, ◌∙◌, arith, ltb-true, ltb-false}
-use Rattle.std.specs.Prelude.{All, MatchOption}
-use Rattle.std.proofs.lemmas.List.{take_all, take-append-le, length_push}
-use Rattle.std.proofs.lemmas.List.Elements.{All-append}
-use Rattle.std.proofs.Math.Seq.{take-nil}
-use Rattle.line_text.specs.Fields.{numbers_of}
-use Rattle.ride_model.specs.declared.network.RoadArc.{RoadArc}
-use Rattle.gr_reader.specs.declared.errors.MapError.{MapError}
-use Rattle.gr_reader.specs.declared.errors.MapError.TheVariants.{NoMemory}
-use Rattle.gr_reader.specs.declared.lines.MapLines.{MapLines}
-use Rattle.gr_reader.specs.declared.lines.Problem.{Problem}
-use Rattle.gr_reader.specs.MapText.{MapSoFar, problem_line, arc_line, problem_of, arc_from, checked_problem, checked_arc}
-use Rattle.gr_reader.specs.inner.Reading.{IsProblem, IsArcAmong, IsSoFar, Holds, Gives, said}
+use Rattle.gr_reader.proofs.Common.{◌≡◌, ℕ, zero, suc, ◌+◌, ◌-◌, ◌^◌, ◌<◌, ◌≤◌, min, nat_lt, true, false, cond, if◌then◌else◌, List, [], ◌∷◌, ◌++◌, length, take, Option, Some, None, is_some, Result, Ok, Err, IfErr, OnOk, refl, ap, sym, subst, ◌∙◌, arith, ltb-true, ltb-false, All, MatchOption, take_all, take-append-le, length_push, All-append, take-nil, numbers_of, RoadArc, MapError, NoMemory, MapLines, Problem, MapSoFar, problem_line, arc_line, problem_of, arc_from, checked_problem, checked_arc, IsProblem, IsArcAmong, IsSoFar, Holds, Gives, said}
 
 -- no arcs are said before the problem
 no-arcs : (so_far : MapSoFar) → so_far.problem ≡ None → IsSoFar so_far → so_far.arcs ≡ []

@@ -1,16 +1,7 @@
 -- A text's refusal is neither want of memory nor a fault of reading.
-use Rattle.std.proofs.Common.{◌≢◌, ℕ, nat_lt, ◌==◌, ◌||◌, Bool, true, false, List, [], ◌∷◌, length, Option, Some, None, Err, refl}
-use Rattle.std.specs.Prelude.{codes}
-use Rattle.std.specs.Str.{bytes_eq}
-use Rattle.line_text.specs.Fields.{numbers_of, words_of}
-use Rattle.line_text.specs.Texts.{after_lines}
+use Rattle.gr_reader.proofs.Common.{◌≢◌, ℕ, nat_lt, ◌==◌, ◌||◌, Bool, true, false, List, [], ◌∷◌, length, Option, Some, None, Err, refl, codes, bytes_eq, numbers_of, words_of, after_lines, RoadArc, Problem, MapError, NoMemory, ReadFault, MapSoFar, map_format, map_text, map_from, after_words, problem_line, arc_line, problem_of, arc_from, checked_problem, checked_arc, is_out}
 use Rattle.line_text.proofs.NamedRefusals.{IsNamed, named-cond, named-and_then, named-lines, named-text as text-named, unnamed}
-use Rattle.ride_model.specs.declared.network.RoadArc.{RoadArc}
 use Rattle.ride_model.specs.Limits.{longest_arc}
-use Rattle.gr_reader.specs.declared.lines.Problem.{Problem}
-use Rattle.gr_reader.specs.declared.errors.MapError.{MapError}
-use Rattle.gr_reader.specs.declared.errors.MapError.TheVariants.{NoMemory, ReadFault}
-use Rattle.gr_reader.specs.MapText.{MapSoFar, map_format, map_text, map_from, after_words, problem_line, arc_line, problem_of, arc_from, checked_problem, checked_arc, is_out}
 
 is_named : MapError → Bool
 is_named NoMemory = false

@@ -1,17 +1,7 @@
 -- What the reader has taken after one more line, and what the text gives then.
-use Rattle.std.proofs.Common.{◌≡◌, ◌≢◌, false, ℕ, ◌+◌, ◌<◌, ◌≤◌, Option, Some, None, IfSome, List, [], ◌∷◌, ◌++◌, length, Result, Ok, Err, MatchResult, refl, ap, sym, ◌∙◌, arith}
-use Rattle.std.proofs.lemmas.List.{length_push}
-use Rattle.line_text.proofs.TextLemmas.{some_bytes}
-use Rattle.line_text.specs.Fields.{words_of}
+use Rattle.gr_reader.proofs.Common.{◌≡◌, ◌≢◌, false, ℕ, ◌+◌, ◌<◌, ◌≤◌, Option, Some, None, IfSome, List, [], ◌∷◌, ◌++◌, length, Result, Ok, Err, MatchResult, refl, ap, sym, ◌∙◌, arith, length_push, some_bytes, words_of, after_lines, after_lines-push, text_value-refused, text_value-too_long, MapError, NoMemory, ReadFault, TooLong, MapLines, MapSoFar, after_words, map_format, map_text, HasTaken, Holds, Gives, Refuses, is_read_fault}
 use Rattle.line_text.specs.Lines.{ended_lines}
 use Rattle.line_text.specs.inner.Reading.{AreFirst, GoesOn, counted_lines}
-use Rattle.line_text.specs.Texts.{after_lines}
-use Rattle.line_text.proofs.TextLemmas.{after_lines-push, text_value-refused, text_value-too_long}
-use Rattle.gr_reader.specs.declared.errors.MapError.{MapError}
-use Rattle.gr_reader.specs.declared.errors.MapError.TheVariants.{NoMemory, ReadFault, TooLong}
-use Rattle.gr_reader.specs.declared.lines.MapLines.{MapLines}
-use Rattle.gr_reader.specs.MapText.{MapSoFar, after_words, map_format, map_text}
-use Rattle.gr_reader.specs.inner.Reading.{HasTaken, Holds, Gives, Refuses, is_read_fault}
 use Rattle.gr_reader.proofs.NamedLemmas.{after_all-no_fault}
 
 -- nothing was taken before the first line

@@ -1,22 +1,6 @@
 -- A row that is added to a pairing of the rows before it.
-use Rattle.std.proofs.Common.{◌≡◌, ◌≢◌, ℕ, ◌+◌, ◌<◌, ◌≤◌, ◌⊎◌, inl, inr, refl, sym, ◌∙◌, ap, subst, arith}
-use Rattle.std.specs.Prelude.{Some, None}
-use Rattle.std.proofs.lemmas.Bool.{cases_eq, cases_lt}
-use Rattle.std.proofs.lemmas.List.{get_or_past}
-use Rattle.std.proofs.lemmas.Option.{same_Some}
-use Rattle.dual_check.specs.Cells.{GridCells, cell_at}
-use Rattle.dual_check.specs.Grid.{price_at}
-use Rattle.hungarian.specs.declared.matches.Matches.{Matches}
-use Rattle.hungarian.specs.declared.duals.Duals.{Duals}
-use Rattle.hungarian.specs.declared.search.Search.{Search}
-use Rattle.hungarian.specs.declared.search.Path.{Path}
+use Rattle.hungarian.proofs.Common.{◌≡◌, ◌≢◌, ℕ, ◌+◌, ◌<◌, ◌≤◌, ◌⊎◌, inl, inr, refl, sym, ◌∙◌, ap, subst, arith, Some, None, cases_eq, cases_lt, get_or_past, same_Some, GridCells, cell_at, price_at, Matches, Duals, Search, Path, Column, Row, mate, distance_at, source_at, rank_at, IsReached, IsExit, IsPath, column_rise, mate_rise, AreRaisable, IsRaised, IsEnd, IsReady, IsTurned, IsLeft, IsTight, IsPartial}
 use Rattle.hungarian.specs.declared.search.Exit.{Exit}
-use Rattle.hungarian.specs.declared.search.Exit.TheVariants.{Column, Row}
-use Rattle.hungarian.specs.inner.Mates.{mate}
-use Rattle.hungarian.specs.inner.Labels.{distance_at, source_at, rank_at, IsReached, IsExit, IsPath}
-use Rattle.hungarian.specs.inner.Rises.{column_rise, mate_rise, AreRaisable, IsRaised}
-use Rattle.hungarian.specs.inner.Turned.{IsEnd, IsReady, IsTurned, IsLeft}
-use Rattle.hungarian.specs.inner.Partial.{IsTight, IsPartial}
 use Rattle.hungarian.proofs.Mated.{mate-in, cases_mate}
 use Rattle.hungarian.proofs.Raising.{rise-settled, rise-unsettled}
 use Rattle.hungarian.proofs.Reaching.{settled-in, reached-in}

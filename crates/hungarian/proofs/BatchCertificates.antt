@@ -1,36 +1,12 @@
 -- A batch's certificate, from that of the pairing of its requests and vehicles.
-use Rattle.std.proofs.Common.{◌≡◌, ℕ, ◌+◌, ◌<◌, ◌≤◌, ◌⊎◌, inl, inr, true, List, length, get_or, eqb, refl, sym, ◌∙◌, ap, subst, arith}
-use Rattle.std.specs.Prelude.{map, All, Option, Some, None, is_some, IfSome, IsSomeAnd, option_map}
-use Rattle.std.specs.List.{range_with_len, sum_by, filter_map, IsDistinct}
-use Rattle.std.proofs.lemmas.Bool.{cases_eq, ne_eqb, eq-eqb, false≢true}
-use Rattle.std.proofs.lemmas.List.{length-map, get_or-map}
-use Rattle.std.proofs.lemmas.List.Elements.{All-from_recursion}
-use Rattle.std.proofs.lemmas.List.FromFn.{fill_by_all}
-use Rattle.ride_model.specs.declared.offer.Offer.{Offer}
-use Rattle.ride_model.specs.declared.offer.Seat.{Seat}
-use Rattle.ride_model.specs.declared.vehicle.Ride.{Ride}
-use Rattle.ride_model.specs.declared.vehicle.Vehicle.{Vehicle}
-use Rattle.ride_model.specs.Road.{RoadMap}
-use Rattle.ride_model.specs.Vehicle.{ride_ids}
-use Rattle.ride_model.specs.Batch.{seat_of}
-use Rattle.ride_model.specs.Seating.{BatchCopy, vehicle_ids, amount_ids, IsLeastSeating}
-use Rattle.batch_commit.specs.inner.Table.{Table, FitsBatch, IsTableOf, cell_at as offer_at}
-use Rattle.batch_commit.specs.inner.Answer.{IsSeatAt, CertifiesOverCells}
-use Rattle.dual_check.specs.Cells.{GridCells, cell_at}
-use Rattle.dual_check.specs.Grid.{column_of, IsPairing, row_cost, pairing_cost, price_at, CertifiesPairing}
-use Rattle.dual_check.specs.inner.Orders.{item_of, StandsInOrder}
+use Rattle.hungarian.proofs.Common.{◌≡◌, ℕ, ◌+◌, ◌<◌, ◌≤◌, ◌⊎◌, inl, inr, true, List, length, get_or, eqb, refl, sym, ◌∙◌, ap, subst, arith, map, All, Option, Some, None, is_some, IfSome, IsSomeAnd, option_map, range_with_len, sum_by, filter_map, IsDistinct, cases_eq, ne_eqb, eq-eqb, false≢true, length-map, get_or-map, All-from_recursion, fill_by_all, Offer, Seat, Ride, Vehicle, RoadMap, ride_ids, seat_of, BatchCopy, vehicle_ids, amount_ids, IsLeastSeating, Table, FitsBatch, IsTableOf, IsSeatAt, CertifiesOverCells, GridCells, cell_at, column_of, IsPairing, row_cost, pairing_cost, price_at, CertifiesPairing, item_of, StandsInOrder, row-of-column, each-range, map-map, cost_of, HasCosts, pay_at, pays_by, prices_by, seat_at, seats_by}
+use Rattle.batch_commit.specs.inner.Table.{cell_at as offer_at}
 use Rattle.dual_check.specs.inner.Costs.{cost_grid, seat_place, seat_columns, amount_alone, amounts_over}
-use Rattle.dual_check.proofs.PairingParts.{row-of-column}
-use Rattle.dual_check.proofs.CertifiedPairings.{each-range}
-use Rattle.dual_check.proofs.ItemOrders.{map-map}
 use Rattle.dual_check.proofs.DifferentIds.{place-of-id}
 use Rattle.dual_check.proofs.SeatCosts.{sum_by-agree}
 use Rattle.dual_check.proofs.SeatPlaces.{cost-cell, AreSeats}
 use Rattle.dual_check.proofs.SeatPairings.{certified-from-pairing}
 use Rattle.dual_check.proofs.OverMaps.{least-over-map}
-use Rattle.hungarian.specs.inner.Costs.{cost_of, HasCosts}
-use Rattle.hungarian.specs.Seats.{pay_at, pays_by, prices_by}
-use Rattle.hungarian.specs.inner.Seats.{seat_at, seats_by}
 use Rattle.hungarian.proofs.Mated.{cases_mate}
 use Rattle.hungarian.proofs.Gathering.{each-gathered, gathered-all, gathered-in_order}
 

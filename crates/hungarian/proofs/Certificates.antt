@@ -1,19 +1,5 @@
 -- A pairing of all rows, certified by its prices.
-use Rattle.std.proofs.Common.{◌≡◌, ◌≢◌, ℕ, zero, suc, ◌+◌, ◌<◌, ◌≤◌, inl, inr, List, [], ◌∷◌, length, set, refl, sym, ◌∙◌, ap, arith}
-use Rattle.std.specs.Prelude.{Option, Some, None, is_some, sum}
-use Rattle.std.specs.List.{sum_by, range_with_len}
-use Rattle.std.proofs.lemmas.Bool.{cases_eq}
-use Rattle.std.proofs.lemmas.List.{length-set, get_or-set_same, get_or-set_other, get_or_default}
-use Rattle.std.proofs.lemmas.List.FromFn.{fill_by_all}
-use Rattle.std.proofs.lemmas.List.Sums.{sum_by-set, sum_by-cons, sum-map}
-use Rattle.std.proofs.lemmas.Option.{same_Some}
-use Rattle.dual_check.specs.Cells.{GridCells, cell_at}
-use Rattle.dual_check.specs.Grid.{IsPairing, row_cost, price_at, CertifiesPairing}
-use Rattle.dual_check.proofs.PairingParts.{sum_by-range-more}
-use Rattle.hungarian.specs.declared.matches.Matches.{Matches}
-use Rattle.hungarian.specs.declared.duals.Duals.{Duals}
-use Rattle.hungarian.specs.inner.Mates.{mate}
-use Rattle.hungarian.specs.inner.Partial.{IsPartial}
+use Rattle.hungarian.proofs.Common.{◌≡◌, ◌≢◌, ℕ, zero, suc, ◌+◌, ◌<◌, ◌≤◌, inl, inr, List, [], ◌∷◌, length, set, refl, sym, ◌∙◌, ap, arith, Option, Some, None, is_some, sum, sum_by, range_with_len, cases_eq, length-set, get_or-set_same, get_or-set_other, get_or_default, fill_by_all, sum_by-set, sum_by-cons, sum-map, same_Some, GridCells, cell_at, IsPairing, row_cost, price_at, CertifiesPairing, sum_by-range-more, Matches, Duals, mate, IsPartial}
 use Rattle.hungarian.proofs.Mated.{mate-in, cases_mate}
 use Rattle.hungarian.proofs.Paths.{if-some}
 

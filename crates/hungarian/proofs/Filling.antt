@@ -1,12 +1,6 @@
 -- A grid while the costs of a table's row are written into it.
-use Rattle.std.proofs.Common.{◌≡◌, ◌≢◌, ℕ, ◌+◌, ◌*◌, ◌<◌, ◌≤◌, inl, inr, length, set, sym, ◌∙◌, ap, arith}
-use Rattle.std.specs.Prelude.{Some, None}
-use Rattle.std.proofs.lemmas.Bool.{cases_eq}
-use Rattle.std.proofs.lemmas.List.{length-set, get_or-set_same, get_or-set_other}
-use Rattle.std.proofs.lemmas.Nat.{mul-add-lt, same_from_place}
-use Rattle.batch_commit.specs.inner.Table.{Table, cell_at as offer_at}
-use Rattle.dual_check.specs.Cells.{GridCells, cell_at}
-use Rattle.hungarian.specs.inner.Costs.{cost_of}
+use Rattle.hungarian.proofs.Common.{◌≡◌, ◌≢◌, ℕ, ◌+◌, ◌*◌, ◌<◌, ◌≤◌, inl, inr, length, set, sym, ◌∙◌, ap, arith, Some, None, cases_eq, length-set, get_or-set_same, get_or-set_other, mul-add-lt, same_from_place, Table, GridCells, cell_at, cost_of}
+use Rattle.batch_commit.specs.inner.Table.{cell_at as offer_at}
 
 -- the costs of a row's first columns were written, and nothing else
 pub record IsFilling (table : Table) (row columns count : ℕ) (old now : GridCells) : Type 0 where

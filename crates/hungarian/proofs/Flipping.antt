@@ -1,14 +1,5 @@
 -- The way back along a path, while it is taken over.
-use Rattle.std.proofs.Common.{◌≡◌, ◌≢◌, ℕ, ◌<◌, ◌≤◌, ◌⊎◌, inl, inr, List, length, set, sym, ◌∙◌, ap, subst, arith}
-use Rattle.std.specs.Prelude.{Option, Some, None}
-use Rattle.std.proofs.lemmas.List.{length-set}
-use Rattle.std.proofs.lemmas.Option.{same_Some}
-use Rattle.hungarian.specs.declared.matches.Matches.{Matches}
-use Rattle.hungarian.specs.declared.search.Search.{Search}
-use Rattle.hungarian.specs.declared.search.Exit.TheVariants.{Column, Row}
-use Rattle.hungarian.specs.inner.Mates.{mate, AreMates, AreMatesBut}
-use Rattle.hungarian.specs.inner.Labels.{source_at, rank_at}
-use Rattle.hungarian.specs.inner.Turned.{IsTurned, IsFlippable, IsReady, IsLeft}
+use Rattle.hungarian.proofs.Common.{◌≡◌, ◌≢◌, ℕ, ◌<◌, ◌≤◌, ◌⊎◌, inl, inr, List, length, set, sym, ◌∙◌, ap, subst, arith, Option, Some, None, length-set, same_Some, Matches, Search, Column, Row, mate, AreMates, AreMatesBut, source_at, rank_at, IsTurned, IsFlippable, IsReady, IsLeft}
 use Rattle.hungarian.proofs.Mated.{mate-in, mate-set, mates-last, mates-next}
 
 -- up to an open column the way back was taken over

@@ -1,17 +1,7 @@
 -- Items that are gathered from the places that have one.
-use Rattle.std.proofs.Common.{◌≡◌, ℕ, zero, suc, ◌+◌, ◌<◌, ◌≤◌, Bool, true, false, cond, List, [], ◌∷◌, ◌++◌, length, get_or, eqb, refl, sym, ◌∙◌, ap, subst, arith, add-zero}
-use Rattle.std.specs.Prelude.{map, filter, Option, Some, None, IfSome}
-use Rattle.std.specs.List.{filter_map, cons_option, range_with_len, AllByRecursion, IsDistinct}
-use Rattle.std.proofs.lemmas.Bool.{eq-eqb, ne_eqb, eqb-false}
-use Rattle.std.proofs.lemmas.List.{map-id, append-nil, get_or-map}
-use Rattle.std.proofs.lemmas.List.Elements.{filter_map-append}
-use Rattle.std.proofs.lemmas.List.FromFn.{map-range_with_len_more}
-use Rattle.std.proofs.lemmas.Map.Keys.{IsDistinct-head, IsDistinct-tail}
+use Rattle.hungarian.proofs.Common.{◌≡◌, ℕ, zero, suc, ◌+◌, ◌<◌, ◌≤◌, Bool, true, false, cond, List, [], ◌∷◌, ◌++◌, length, get_or, eqb, refl, sym, ◌∙◌, ap, subst, arith, add-zero, map, filter, Option, Some, None, IfSome, filter_map, cons_option, range_with_len, AllByRecursion, IsDistinct, eq-eqb, ne_eqb, eqb-false, map-id, append-nil, get_or-map, filter_map-append, map-range_with_len_more, IsDistinct-head, IsDistinct-tail, none_from_not_some, item_of, has_item, StandsInOrder, map-agree}
 use Rattle.model_laws.proofs.plain.Each.{each-filter, each-weaker}
-use Rattle.model_laws.proofs.plain.Options.{none_from_not_some}
 use Rattle.model_laws.proofs.plain.Filters.{filter-same}
-use Rattle.dual_check.specs.inner.Orders.{item_of, has_item, StandsInOrder}
-use Rattle.dual_check.proofs.ItemOrders.{map-agree}
 
 -- the places below one more
 range-more : (n : ℕ) → range_with_len 0 (n + 1) ≡ range_with_len 0 n ++ n ∷ []

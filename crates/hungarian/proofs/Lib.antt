@@ -1,3 +1,4 @@
+pub mod Common
 pub mod Mated
 pub mod Flipping
 pub mod Raising

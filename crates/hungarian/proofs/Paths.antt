@@ -1,23 +1,5 @@
 -- A search from its begin to its shortest path.
-use Rattle.std.proofs.Common.{◌≡◌, ◌≢◌, ℕ, ◌+◌, ◌-◌, ◌*◌, ◌<◌, ◌≤◌, ◌⊎◌, inl, inr, Bool, cond, length, get_or, set, replicate, refl, sym, ◌∙◌, ap, subst, arith}
-use Rattle.std.specs.Prelude.{Option, Some, None, IfSome}
-use Rattle.std.proofs.lemmas.Bool.{cases_eq, cases_lt, lt-ltb, le-ltb}
-use Rattle.std.proofs.lemmas.List.{get_or-set_same, get_or-set_other}
-use Rattle.std.proofs.lemmas.Nat.{mul-add-lt}
-use Rattle.std.proofs.lemmas.Option.{same_Some}
-use Rattle.dual_check.specs.Cells.{GridCells, cell_at, IsGrid}
-use Rattle.dual_check.specs.Grid.{price_at}
-use Rattle.hungarian.specs.declared.matches.Matches.{Matches}
-use Rattle.hungarian.specs.declared.duals.Duals.{Duals}
-use Rattle.hungarian.specs.declared.relaxing.Reach.{Reach}
-use Rattle.hungarian.specs.declared.search.Search.{Search}
-use Rattle.hungarian.specs.declared.search.Path.{Path}
-use Rattle.hungarian.specs.declared.search.Exit.TheVariants.{Column, Row}
-use Rattle.hungarian.specs.inner.Mates.{mate}
-use Rattle.hungarian.specs.inner.Ways.{IsShortened, IsRelaxable}
-use Rattle.hungarian.specs.inner.Labels.{distance_at, source_at, rank_at, IsReached, IsSized, IsNext, IsSearch, IsLeaving, IsExit, IsPath, sooner_path}
-use Rattle.hungarian.specs.inner.Searching.{IsSearching}
-use Rattle.hungarian.specs.inner.Partial.{IsPartial}
+use Rattle.hungarian.proofs.Common.{◌≡◌, ◌≢◌, ℕ, ◌+◌, ◌-◌, ◌*◌, ◌<◌, ◌≤◌, ◌⊎◌, inl, inr, Bool, cond, length, get_or, set, replicate, refl, sym, ◌∙◌, ap, subst, arith, Option, Some, None, IfSome, cases_eq, cases_lt, lt-ltb, le-ltb, get_or-set_same, get_or-set_other, mul-add-lt, same_Some, GridCells, cell_at, IsGrid, price_at, Matches, Duals, Reach, Search, Path, Column, Row, mate, IsShortened, IsRelaxable, distance_at, source_at, rank_at, IsReached, IsSized, IsNext, IsSearch, IsLeaving, IsExit, IsPath, sooner_path, IsSearching, IsPartial}
 use Rattle.hungarian.proofs.Mated.{cases_mate}
 use Rattle.hungarian.proofs.Reaching.{zero-at, reached-in, Keeps, reached-kept}
 use Rattle.hungarian.proofs.Steps.{search-begun, search-relaxed, search-settled}

@@ -1,16 +1,5 @@
 -- Duals and payments while they are raised, column by column.
-use Rattle.std.proofs.Common.{◌≡◌, ◌≢◌, ℕ, ◌+◌, ◌-◌, ◌<◌, ◌≤◌, inl, inr, length, set, refl, sym, ◌∙◌, ap, arith}
-use Rattle.std.specs.Prelude.{Option, Some, None, nat_lt, if◌then◌else◌}
-use Rattle.std.proofs.lemmas.Bool.{cases_eq, ne_eqb, eq-eqb, lt-ltb}
-use Rattle.std.proofs.lemmas.List.{length-set, get_or-set_same, get_or-set_other}
-use Rattle.std.proofs.lemmas.Option.{same_Some}
-use Rattle.dual_check.specs.Grid.{price_at}
-use Rattle.hungarian.specs.declared.matches.Matches.{Matches}
-use Rattle.hungarian.specs.declared.duals.Duals.{Duals}
-use Rattle.hungarian.specs.declared.search.Search.{Search}
-use Rattle.hungarian.specs.inner.Mates.{mate}
-use Rattle.hungarian.specs.inner.Labels.{distance_at, rank_at}
-use Rattle.hungarian.specs.inner.Rises.{column_rise, mate_rise, rise_from, IsRaisable, IsColumnRaised}
+use Rattle.hungarian.proofs.Common.{◌≡◌, ◌≢◌, ℕ, ◌+◌, ◌-◌, ◌<◌, ◌≤◌, inl, inr, length, set, refl, sym, ◌∙◌, ap, arith, Option, Some, None, nat_lt, if◌then◌else◌, cases_eq, ne_eqb, eq-eqb, lt-ltb, length-set, get_or-set_same, get_or-set_other, same_Some, price_at, Matches, Duals, Search, mate, distance_at, rank_at, column_rise, mate_rise, rise_from, IsRaisable, IsColumnRaised}
 use Rattle.hungarian.proofs.Mated.{mate-in, cases_mate}
 
 -- how far a row with this column was raised, once the columns before a place were

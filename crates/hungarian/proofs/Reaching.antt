@@ -1,18 +1,5 @@
 -- Rows that a search reached, and its columns as they are relaxed and settled.
-use Rattle.std.proofs.Common.{◌≡◌, ℕ, ◌+◌, ◌<◌, inl, inr, cond, List, length, get_or, set, replicate, refl, sym, ◌∙◌, ap, arith}
-use Rattle.std.specs.Prelude.{◌==◌, count_by, None}
-use Rattle.std.proofs.lemmas.Bool.{cases_lt, eq-eqb, ne_eqb}
-use Rattle.std.proofs.lemmas.List.{length-set, length-replicate, get_or-replicate, get_or_past}
-use Rattle.std.proofs.lemmas.List.Folds.{sum_by-replicate}
-use Rattle.std.proofs.lemmas.List.Sums.{sum_by-set}
-use Rattle.std.proofs.lemmas.Option.{same_Some}
-use Rattle.dual_check.specs.Cells.{GridCells}
-use Rattle.hungarian.specs.declared.matches.Matches.{Matches}
-use Rattle.hungarian.specs.declared.duals.Duals.{Duals}
-use Rattle.hungarian.specs.declared.search.Search.{Search}
-use Rattle.hungarian.specs.inner.Mates.{mate}
-use Rattle.hungarian.specs.inner.Labels.{distance_at, rank_at, IsReached, IsSized}
-use Rattle.hungarian.specs.inner.Partial.{IsPartial}
+use Rattle.hungarian.proofs.Common.{◌≡◌, ℕ, ◌+◌, ◌<◌, inl, inr, cond, List, length, get_or, set, replicate, refl, sym, ◌∙◌, ap, arith, ◌==◌, count_by, None, cases_lt, eq-eqb, ne_eqb, length-set, length-replicate, get_or-replicate, get_or_past, sum_by-replicate, sum_by-set, same_Some, GridCells, Matches, Duals, Search, mate, distance_at, rank_at, IsReached, IsSized, IsPartial}
 use Rattle.hungarian.proofs.Mated.{mate-in}
 
 -- a place of a number above 0 is within the list

@@ -1,18 +1,5 @@
 -- The steps of a search for a shortest path.
-use Rattle.std.proofs.Common.{◌≡◌, ◌≢◌, ℕ, ◌+◌, ◌<◌, ◌≤◌, inl, inr, length, get_or, set, replicate, sym, ◌∙◌, ap, subst, arith}
-use Rattle.std.specs.Prelude.{Some}
-use Rattle.std.proofs.lemmas.Bool.{cases_eq, cases_lt}
-use Rattle.std.proofs.lemmas.List.{length-replicate, get_or-set_same, get_or-set_other, get_or-replicate, get_or_past}
-use Rattle.dual_check.specs.Cells.{GridCells, cell_at}
-use Rattle.dual_check.specs.Grid.{price_at}
-use Rattle.hungarian.specs.declared.matches.Matches.{Matches}
-use Rattle.hungarian.specs.declared.duals.Duals.{Duals}
-use Rattle.hungarian.specs.declared.relaxing.Reach.{Reach}
-use Rattle.hungarian.specs.declared.search.Search.{Search}
-use Rattle.hungarian.specs.inner.Mates.{mate}
-use Rattle.hungarian.specs.inner.Ways.{IsShortened}
-use Rattle.hungarian.specs.inner.Labels.{distance_at, source_at, rank_at, IsReached, IsTraced, IsSized, IsSearch}
-use Rattle.hungarian.specs.inner.Partial.{IsPartial}
+use Rattle.hungarian.proofs.Common.{◌≡◌, ◌≢◌, ℕ, ◌+◌, ◌<◌, ◌≤◌, inl, inr, length, get_or, set, replicate, sym, ◌∙◌, ap, subst, arith, Some, cases_eq, cases_lt, length-replicate, get_or-set_same, get_or-set_other, get_or-replicate, get_or_past, GridCells, cell_at, price_at, Matches, Duals, Reach, Search, mate, IsShortened, distance_at, source_at, rank_at, IsReached, IsTraced, IsSized, IsSearch, IsPartial}
 use Rattle.hungarian.proofs.Reaching.{zero-at, settled-in, reached-in, reached-once, Keeps, reached-kept, sized-begun, sized-settled}
 
 -- a search begins at its root, with all columns open

@@ -1,22 +1,9 @@
 -- Which versions rise by a commit: those of the vehicles that its outcomes confirm.
-use Rattle.std.proofs.Common.{◌≡◌, ℕ, ◌+◌, cond, List, [], ◌∷◌, ◌++◌, Option, Some, None, eqb, refl, sym, ap, subst, ◌∙◌}
-use Rattle.std.specs.Prelude.{map, unwrap_or, option_map}
-use Rattle.std.specs.List.{IsDistinct}
-use Rattle.ride_model.specs.declared.entry.Outcome.{Outcome}
-use Rattle.ride_model.specs.declared.entry.Outcome.TheVariants.{Confirmed, Away, Gone, Moved, Behind}
-use Rattle.ride_model.specs.declared.offer.Seat.{Seat}
-use Rattle.ride_model.specs.declared.vehicle.Ride.{Ride}
-use Rattle.ride_model.specs.declared.vehicle.Stop.{Stop}
-use Rattle.ride_model.specs.declared.vehicle.Vehicle.{Vehicle}
-use Rattle.ride_model.specs.Batch.{after_commit, after_outcome, after_outcomes, outcome_of, outcomes_of, priced_start, seat_of, with_confirmed}
-use Rattle.ride_model.specs.Insertion.{routed, stops_with, with_plan}
-use Rattle.ride_model.specs.Legal.{versions_of}
-use Rattle.ride_model.specs.Offers.{is_idle}
-use Rattle.ride_model.specs.Seating.{BatchCopy, vehicle_ids}
-use Rattle.ride_model.specs.State.{State, placed_vehicle}
+use Rattle.idle_moves.proofs.Common.{◌≡◌, ℕ, ◌+◌, cond, List, [], ◌∷◌, ◌++◌, Option, Some, None, eqb, refl, sym, ap, subst, ◌∙◌, map, unwrap_or, option_map, IsDistinct, Outcome, Confirmed, Gone, Moved, Behind, Seat, Ride, Stop, Vehicle, after_commit, after_outcome, outcome_of, outcomes_of, priced_start, seat_of, with_confirmed, routed, stops_with, with_plan, versions_of, is_idle, BatchCopy, vehicle_ids, State, placed_vehicle, ride_ids, raised, raised_if, vehicle_confirmed}
+use Rattle.ride_model.specs.declared.entry.Outcome.TheVariants.{Away}
+use Rattle.ride_model.specs.Batch.{after_outcomes}
 use Rattle.ride_model.specs.Step.{raised as raised_vehicle}
-use Rattle.ride_model.specs.Vehicle.{ride_ids}
-use Rattle.idle_moves.specs.inner.Raises.{after_outcomes as versions_after, raised, raised_if, vehicle_confirmed}
+use Rattle.idle_moves.specs.inner.Raises.{after_outcomes as versions_after}
 use Rattle.idle_moves.proofs.Raising.{ids-after, versions-none, versions-set}
 
 -- a vehicle with a confirmed ride keeps its id, and its version is one higher

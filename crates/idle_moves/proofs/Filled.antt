@@ -1,14 +1,5 @@
 -- A grid that is filled cell by cell.
-use Rattle.std.proofs.Common.{◌≡◌, ℕ, zero, suc, ◌+◌, ◌*◌, ◌<◌, List, [], ◌∷◌, ◌++◌, length, set, map, take, get_or, replicate, refl, sym, ap, subst, ◌∙◌, arith, append_assoc, length-append}
-use Rattle.std.specs.Prelude.{Option, Some, None}
-use Rattle.std.specs.List.{flat_map}
-use Rattle.std.proofs.Math.Seq.{set-append_seam}
-use Rattle.std.proofs.lemmas.List.{append-nil, length-map, length-take-le, map_more, take_more}
-use Rattle.std.proofs.lemmas.Grind.{flat_map-append}
-use Rattle.std.proofs.lemmas.Nat.{mul-add-lt}
-use Rattle.dual_check.specs.Cells.{GridCells}
-use Rattle.idle_moves.specs.inner.Filling.{BeginsWith, with_cell}
-use Rattle.idle_moves.specs.Sheet.{within}
+use Rattle.idle_moves.proofs.Common.{◌≡◌, ℕ, zero, suc, ◌+◌, ◌*◌, ◌<◌, List, [], ◌∷◌, ◌++◌, length, set, map, take, get_or, replicate, refl, sym, ap, subst, ◌∙◌, arith, append_assoc, length-append, Option, Some, None, flat_map, set-append_seam, append-nil, length-map, length-take-le, map_more, take_more, flat_map-append, mul-add-lt, GridCells, BeginsWith, with_cell, within}
 
 -- the next cell is empty, and is written or left so
 next-cell : (written : List (Option ℕ)) (cell : Option ℕ) (grid : GridCells) (place left : ℕ) → length written ≡ place

@@ -1,33 +1,11 @@
 -- The versions of the state after a legal history.
-use Rattle.std.proofs.Common.{◌≡◌, ℕ, ◌+◌, ◌<◌, ◌≤◌, ◌^◌, List, [], ◌∷◌, ◌++◌, length, Option, Some, None, eqb, refl, sym, ap, subst, ◌∙◌, arith, append_assoc}
-use Rattle.std.specs.Prelude.{IsSomeAnd}
-use Rattle.std.specs.List.{IsDistinct}
-use Rattle.std.proofs.lemmas.List.{append-nil, length-map}
-use Rattle.std.proofs.lemmas.List.Elements.{All-map, All-weaker}
-use Rattle.std.proofs.lemmas.List.Sums.{count_by-le-length}
+use Rattle.idle_moves.proofs.Common.{◌≡◌, ℕ, ◌+◌, ◌<◌, ◌≤◌, ◌^◌, List, [], ◌∷◌, ◌++◌, length, Option, Some, None, eqb, refl, sym, ap, subst, ◌∙◌, arith, append_assoc, IsSomeAnd, IsDistinct, append-nil, length-map, All-map, All-weaker, count_by-le-length, Actor, Feed, Desk, Entry, Event, Fed, Finish, Opened, Committed, Abandoned, Outcome, Ride, Vehicle, next_batch, outcome_of, CommitsBatch, IsLegal, IsLegalEvent, replay, versions_of, BatchCopy, vehicle_ids, State, open_batch_numbered, ride_ids, IsLegal-parts, replay-push, IsStart, is_fed, fed_total, IsConsistent, IsOpenBatch, HasRoom, after_entries, after_event, after_outcomes, raised_if, raises_in, vehicle_changed}
 use Rattle.model_laws.proofs.plain.Each.{of_all}
-use Rattle.ride_model.specs.declared.command.Actor.{Actor}
-use Rattle.ride_model.specs.declared.command.Actor.TheVariants.{Feed, Desk}
-use Rattle.ride_model.specs.declared.entry.Entry.{Entry}
-use Rattle.ride_model.specs.declared.entry.Event.{Event}
-use Rattle.ride_model.specs.declared.entry.Event.TheVariants.{Fed, Finish, Opened, Committed, Abandoned}
-use Rattle.ride_model.specs.declared.entry.Outcome.{Outcome}
-use Rattle.ride_model.specs.declared.vehicle.Ride.{Ride}
-use Rattle.ride_model.specs.declared.vehicle.Vehicle.{Vehicle}
-use Rattle.ride_model.specs.Batch.{next_batch, outcome_of}
-use Rattle.ride_model.specs.Legal.{CommitsBatch, IsLegal, IsLegalEvent, after_event as state_after, replay, versions_of}
-use Rattle.ride_model.specs.Seating.{BatchCopy, vehicle_ids}
-use Rattle.ride_model.specs.State.{State, open_batch_numbered}
-use Rattle.ride_model.specs.Vehicle.{ride_ids}
-use Rattle.model_laws.proofs.Histories.{IsLegal-parts, replay-push}
+use Rattle.ride_model.specs.Legal.{after_event as state_after}
 use Rattle.model_laws.proofs.RequestStates.{abandon-is, opening-is}
-use Rattle.model_laws.specs.history_laws.Start.{IsStart, is_fed}
-use Rattle.model_laws.specs.inner.history_laws.Start.{fed_total}
-use Rattle.model_laws.specs.inner.history_laws.Consistent.{IsConsistent, IsOpenBatch}
 use Rattle.model_laws.proofs.history_laws.EveryState.{consistent}
 use Rattle.model_laws.proofs.history_laws.Leaving.{open_batch}
 use Rattle.model_laws.proofs.history_laws.Unmoved.{vehicles_differ}
-use Rattle.idle_moves.specs.inner.Raises.{HasRoom, after_entries, after_event, after_outcomes, raised_if, raises_in, vehicle_changed}
 use Rattle.idle_moves.proofs.Commits.{commit-rises}
 use Rattle.idle_moves.proofs.Steps.{step-rises}
 

@@ -1,19 +1,7 @@
 -- Versions that a map keeps by the ids of their vehicles.
-use Rattle.std.proofs.Common.{◌≡◌, ℕ, zero, suc, ◌+◌, ◌<◌, ◌^◌, Bool, true, false, cond, List, [], ◌∷◌, Some, None, slice_get, get_or, length, take, eqb, refl, sym, ap, subst, ◌∙◌, arith, add-one}
-use Rattle.std.specs.Prelude.{slice_index_or, unwrap_or}
-use Rattle.std.specs.List.{AllByRecursion, IsDistinct}
-use Rattle.std.specs.Map.{lookup, keys_of, values_of}
-use Rattle.std.proofs.lemmas.Bool.{eqb-true}
-use Rattle.std.proofs.lemmas.List.{get_or-map, length-map}
-use Rattle.std.proofs.lemmas.List.Elements.{All-from_recursion, recursion_from_All}
-use Rattle.std.proofs.lemmas.Map.Keys.{IsDistinct-head, IsDistinct-tail}
-use Rattle.std.proofs.lemmas.Option.{same_Some}
+use Rattle.idle_moves.proofs.Common.{◌≡◌, ℕ, zero, suc, ◌+◌, ◌<◌, ◌^◌, Bool, true, false, cond, List, [], ◌∷◌, Some, None, slice_get, get_or, length, take, eqb, refl, sym, ap, subst, ◌∙◌, arith, add-one, slice_index_or, unwrap_or, AllByRecursion, lookup, keys_of, values_of, eqb-true, get_or-map, length-map, All-from_recursion, recursion_from_All, IsDistinct-head, IsDistinct-tail, same_Some, insert_entry, set_value_at, Vehicle, versions_of, amount_of, vehicle_ids, HasRoom, raised}
+use Rattle.std.specs.List.{IsDistinct}
 use Rattle.model_laws.proofs.plain.Numbers.{eqb-comm}
-use Rattle.indexmap.specs.IndexMap.{insert_entry, set_value_at}
-use Rattle.ride_model.specs.declared.vehicle.Vehicle.{Vehicle}
-use Rattle.ride_model.specs.Legal.{versions_of}
-use Rattle.ride_model.specs.Seating.{amount_of, vehicle_ids}
-use Rattle.idle_moves.specs.inner.Raises.{HasRoom, raised}
 
 -- nothing rises under an id that is no key
 pub raised-absent : (id : ℕ) (entries : List (ℕ × ℕ)) → lookup (eqb id) entries ≡ None → entries ≡ raised id entries

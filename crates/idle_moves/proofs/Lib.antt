@@ -1,3 +1,4 @@
+pub mod Common
 pub mod Filled
 pub mod Orders
 pub mod OverGrids

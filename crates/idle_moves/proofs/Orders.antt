@@ -1,17 +1,5 @@
 -- The lists of a sheet, read from what is kept of the vehicles that stand by.
-use Rattle.std.proofs.Common.{◌≡◌, ℕ, ◌<◌, List, length, map, get_or, sym, ap, ◌∙◌}
-use Rattle.std.specs.Prelude.{Option, Some, option_map}
-use Rattle.std.proofs.lemmas.List.{get_or-map}
-use Rattle.dual_check.proofs.ItemOrders.{map-map}
-use Rattle.ride_model.specs.declared.vehicle.Ride.{Ride}
-use Rattle.ride_model.specs.declared.vehicle.Vehicle.{Vehicle}
-use Rattle.ride_model.specs.Seating.{vehicle_ids}
-use Rattle.ride_model.specs.Vehicle.{ride_ids}
-use Rattle.dual_check.specs.Cells.{GridCells, cell_at}
-use Rattle.idle_moves.specs.declared.moves.Move.{Move}
-use Rattle.idle_moves.specs.declared.standby.Standby.{Standby}
-use Rattle.idle_moves.specs.Sheet.{order_at}
-use Rattle.idle_moves.specs.inner.Standby.{AreStandbys, standby_of}
+use Rattle.idle_moves.proofs.Common.{◌≡◌, ℕ, ◌<◌, List, length, map, get_or, sym, ap, ◌∙◌, Option, Some, option_map, get_or-map, map-map, Ride, Vehicle, vehicle_ids, ride_ids, GridCells, cell_at, Move, Standby, order_at, AreStandbys, standby_of}
 
 -- what is read of a vehicle that stands by is what the fleet has at its place
 module _ (standbys : List Standby) (fleet : List Vehicle) (are : AreStandbys standbys fleet) where

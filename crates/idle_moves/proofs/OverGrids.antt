@@ -1,24 +1,5 @@
 -- Sheets over the requests that are left out and the vehicles that stand by.
-use Rattle.std.proofs.Common.{◌≡◌, ℕ, Bool, ◌≤◌, List, [], ◌∷◌, ◌++◌, length, map, refl, sym, ap, subst, ◌∙◌, arith}
-use Rattle.std.specs.Prelude.{not, All, Option, Result, Ok, Err, IfOk}
-use Rattle.std.specs.List.{filter, flat_map}
-use Rattle.std.proofs.lemmas.List.{length-map}
-use Rattle.std.proofs.lemmas.List.Elements.{All-filter, All-map}
-use Rattle.ride_model.specs.declared.offer.Seat.{Seat}
-use Rattle.ride_model.specs.declared.vehicle.Ride.{Ride}
-use Rattle.ride_model.specs.declared.vehicle.Vehicle.{Vehicle}
-use Rattle.ride_model.specs.Road.{IsNode, RoadMap, travel}
-use Rattle.ride_model.specs.Seating.{BatchCopy, has_seat}
-use Rattle.road_times.specs.declared.side.Side.TheVariants.{Back}
-use Rattle.road_times.specs.inner.Turned.{travel_by}
-use Rattle.dual_check.specs.Cells.{GridCells}
-use Rattle.dual_check.specs.Grid.{CertifiesPairing, IsLeastPairing}
-use Rattle.dual_check.proofs.ItemOrders.{map-map}
-use Rattle.model_laws.proofs.history_laws.Raised.{length-filter-le}
-use Rattle.idle_moves.specs.declared.moves.MoveSheet.{MoveSheet}
-use Rattle.idle_moves.specs.declared.standby.Standby.{Standby}
-use Rattle.idle_moves.specs.Sheet.{IsSheet, IsSheetOver, Shows, left_out, stands_by, standing_by, times_grid, within}
-use Rattle.idle_moves.specs.inner.Standby.{AreStandbys, cells_of, standby_of}
+use Rattle.idle_moves.proofs.Common.{◌≡◌, ℕ, Bool, ◌≤◌, List, [], ◌∷◌, ◌++◌, length, map, refl, sym, ap, subst, ◌∙◌, arith, not, All, Option, Result, Ok, Err, IfOk, filter, flat_map, length-map, All-filter, All-map, Seat, Ride, Vehicle, IsNode, RoadMap, travel, BatchCopy, has_seat, Back, travel_by, GridCells, CertifiesPairing, IsLeastPairing, map-map, length-filter-le, MoveSheet, Standby, IsSheet, IsSheetOver, Shows, left_out, stands_by, standing_by, times_grid, within, AreStandbys, cells_of, standby_of}
 
 -- what a function gives at each element is joined alike
 flat_map-same : {X Y : Type 0} (f g : X → List Y) → ((x : X) → f x ≡ g x) → (xs : List X) → flat_map f xs ≡ flat_map g xs

@@ -1,22 +1,7 @@
 -- Versions by id, of which some rise.
-use Rattle.std.proofs.Common.{◌≡◌, ℕ, ◌+◌, ◌<◌, ◌^◌, Bool, true, false, cond, inl, inr, List, [], ◌∷◌, Option, Some, None, eqb, refl, sym, ◌∙◌, ap, arith}
-use Rattle.std.specs.Prelude.{map, find, ◌==◌}
-use Rattle.std.specs.List.{IsDistinct, enumerate_from}
-use Rattle.std.proofs.lemmas.Bool.{eqb-true}
-use Rattle.std.proofs.lemmas.List.Elements.{All-map, All-weaker}
-use Rattle.std.proofs.lemmas.Option.{same_Some}
-use Rattle.ride_model.specs.declared.entry.Entry.{Entry}
-use Rattle.ride_model.specs.declared.entry.Event.{Event}
-use Rattle.ride_model.specs.declared.entry.Event.TheVariants.{Fed, Finish, Opened, Committed, Abandoned}
-use Rattle.ride_model.specs.declared.entry.Outcome.{Outcome}
-use Rattle.ride_model.specs.declared.offer.Seat.{Seat}
-use Rattle.ride_model.specs.declared.vehicle.Vehicle.{Vehicle}
-use Rattle.ride_model.specs.Legal.{versions_of}
-use Rattle.ride_model.specs.Seating.{find_vehicle, vehicle_ids}
-use Rattle.ride_model.specs.State.{State, placed_vehicle, with_vehicle}
+use Rattle.idle_moves.proofs.Common.{◌≡◌, ℕ, ◌+◌, ◌<◌, ◌^◌, Bool, true, false, cond, inl, inr, List, [], ◌∷◌, Option, Some, None, eqb, refl, sym, ◌∙◌, ap, arith, map, find, ◌==◌, IsDistinct, enumerate_from, eqb-true, All-map, All-weaker, same_Some, Entry, Event, Fed, Finish, Opened, Committed, Abandoned, Outcome, Seat, Vehicle, versions_of, find_vehicle, vehicle_ids, State, placed_vehicle, with_vehicle, HasRoom, after_entries, after_event, after_outcomes, raised, raised_if, vehicle_changed, vehicle_confirmed}
 use Rattle.model_laws.proofs.plain.Among.{Among, found_among}
 use Rattle.model_laws.proofs.history_laws.Lookups.{found_by, put, placed_is}
-use Rattle.idle_moves.specs.inner.Raises.{HasRoom, after_entries, after_event, after_outcomes, raised, raised_if, vehicle_changed, vehicle_confirmed}
 
 -- an item, whose version rises where it is of the vehicle
 abbrev pub lifted : ℕ → ℕ × ℕ → ℕ × ℕ

@@ -1,11 +1,6 @@
 -- The texts of sheets.
-use Rattle.std.proofs.Common.{◌≡◌, ℕ, List, [], ◌∷◌, ◌++◌, map, ap, sym, ◌∙◌, append_assoc}
-use Rattle.std.specs.Prelude.{codes, decimal}
-use Rattle.ride_model.specs.Text.{amount_field}
+use Rattle.idle_moves.proofs.Common.{◌≡◌, ℕ, List, [], ◌∷◌, ◌++◌, map, ap, sym, ◌∙◌, append_assoc, codes, decimal, amount_field, fields_then-append, fields_then-map, fields_then-more, line-fields, Move, MoveSheet}
 use Rattle.trip_log.specs.inner.Prints.{fields_then, listed}
-use Rattle.trip_log.proofs.PrintsLemmas.{fields_then-append, fields_then-map, fields_then-more, line-fields}
-use Rattle.idle_moves.specs.declared.moves.Move.{Move}
-use Rattle.idle_moves.specs.declared.moves.MoveSheet.{MoveSheet}
 use Rattle.idle_moves.specs.AheadText.{order_field, sheet_line}
 
 -- the lists of a line

@@ -1,24 +1,7 @@
 -- Which versions rise by an answered command: as its reply tells.
-use Rattle.std.proofs.Common.{◌≡◌, ℕ, ◌+◌, Bool, true, false, cond, List, [], ◌∷◌, Option, Some, None, eqb, refl}
-use Rattle.std.specs.Prelude.{is_some, not, nat_lt, nat_le, length, ◌&&◌, ◌||◌, ◌==◌, ◌-◌}
-use Rattle.std.specs.List.{IsDistinct}
-use Rattle.ride_model.specs.declared.command.Command.{Command}
-use Rattle.ride_model.specs.declared.command.Command.TheVariants.{Request, Cancel, At, Done, On, Off, Clock, Ask, Bad}
-use Rattle.ride_model.specs.declared.reply.Reply.TheVariants.{OnMap, Late}
-use Rattle.ride_model.specs.declared.reply.RequestState.{RequestState}
-use Rattle.ride_model.specs.declared.reply.RequestState.TheVariants.{Waiting, InBatch, Confirmed, Aboard, Done as DoneState, Away, Cancelled}
-use Rattle.ride_model.specs.declared.vehicle.Kind.{Kind}
-use Rattle.ride_model.specs.declared.vehicle.Kind.TheVariants.{Pickup, Dropoff}
-use Rattle.ride_model.specs.declared.vehicle.Stop.{Stop}
-use Rattle.ride_model.specs.declared.vehicle.Vehicle.{Vehicle}
-use Rattle.ride_model.specs.Insertion.{without_ride}
-use Rattle.ride_model.specs.Keeps.{broken_of}
-use Rattle.ride_model.specs.Legal.{versions_of}
-use Rattle.ride_model.specs.Road.{travel}
-use Rattle.ride_model.specs.Seating.{vehicle_ids}
-use Rattle.ride_model.specs.State.{State, AcceptedRequest, accepted_request, placed_vehicle, with_vehicle}
-use Rattle.ride_model.specs.Step.{Answered, raised as raised_vehicle, cancel_by_state, cancel_found, cancel_step, freed, reported, report, report_driving, at_found, at_step, served, served_reply, done_at_stop, done_found, done_step, duty_found, duty_step, clock_step, ask_step, request_step, is_node, step}
-use Rattle.idle_moves.specs.inner.Raises.{raised, raised_if, vehicle_changed}
+use Rattle.idle_moves.proofs.Common.{◌≡◌, ℕ, ◌+◌, Bool, true, false, cond, List, [], ◌∷◌, Option, Some, None, eqb, refl, is_some, not, nat_lt, nat_le, length, ◌&&◌, ◌||◌, ◌==◌, ◌-◌, IsDistinct, Command, Request, Cancel, At, Done, On, Off, Clock, Ask, Bad, OnMap, Late, RequestState, Waiting, InBatch, Aboard, Away, Cancelled, Kind, Pickup, Dropoff, Stop, Vehicle, without_ride, broken_of, versions_of, travel, vehicle_ids, State, AcceptedRequest, accepted_request, placed_vehicle, with_vehicle, Answered, cancel_by_state, cancel_found, cancel_step, freed, reported, report, report_driving, at_found, at_step, served, served_reply, done_at_stop, done_found, done_step, duty_found, duty_step, clock_step, ask_step, request_step, is_node, step, raised, raised_if, vehicle_changed}
+use Rattle.ride_model.specs.declared.reply.RequestState.TheVariants.{Confirmed, Done as DoneState}
+use Rattle.ride_model.specs.Step.{raised as raised_vehicle}
 use Rattle.idle_moves.proofs.Raising.{versions-set}
 
 -- the versions rise as the reply tells

@@ -1,16 +1,6 @@
 -- What a watch knows once it has taken entries into account.
-use Rattle.std.proofs.Common.{◌≡◌, ℕ, suc, ◌+◌, ◌≤◌, ◌^◌, List, ◌∷◌, ◌++◌, length, take, drop, get_or, sym, ap, subst, ◌∙◌, arith, append_assoc, length-append}
-use Rattle.std.specs.Prelude.{min}
-use Rattle.std.proofs.Math.Seq.{drop-cons, take-append-add}
-use Rattle.std.proofs.lemmas.List.{length-take, length-take-le, take-append-drop, take-append-le, take_min}
-use Rattle.ride_model.specs.declared.entry.Entry.{Entry}
-use Rattle.ride_model.specs.Legal.{IsLegal, replay, versions_of}
-use Rattle.ride_model.specs.State.{State}
-use Rattle.model_laws.proofs.Histories.{IsLegal-parts}
+use Rattle.idle_moves.proofs.Common.{◌≡◌, ℕ, suc, ◌+◌, ◌≤◌, ◌^◌, List, ◌∷◌, ◌++◌, length, take, drop, get_or, sym, ap, subst, ◌∙◌, arith, append_assoc, length-append, min, drop-cons, take-append-add, length-take, length-take-le, take-append-drop, take-append-le, take_min, Entry, IsLegal, replay, versions_of, State, IsLegal-parts, AddsNone, IsPoint, Known, root_of, HasRoom, HasRoomFor, after_entries, raises_in, Watched, Watches}
 use Rattle.board_core.specs.Recorded.{Recorded}
-use Rattle.fleet_board.specs.inner.Passes.{AddsNone, IsPoint, Known, root_of}
-use Rattle.idle_moves.specs.inner.Raises.{HasRoom, HasRoomFor, after_entries, raises_in}
-use Rattle.idle_moves.specs.inner.Watch.{Watched, Watches}
 use Rattle.idle_moves.proofs.Following.{room-next, versions-follow}
 
 -- what a watch knew is so of all that a pass has seen since

@@ -12,14 +12,12 @@ abbrev pub order_field : Move → List ℕ
 order_field order =
     joined (decimal order.request ∷ plan_field (order.vehicle, order.version) ∷ decimal order.node ∷ decimal order.seconds ∷ [])
 
-abbrev pub sheet_fields : MoveSheet → List (List ℕ)
-sheet_fields sheet =
-    (codes "moves" ∷ decimal sheet.batch ∷ codes "cost" ∷ decimal sheet.cost ∷ []) ++ (codes "goes" ∷ map order_field sheet.moves)
-    ++ (codes "prices" ∷ map amount_field sheet.prices) ++ (codes "pays" ∷ map amount_field sheet.pays)
-
 -- the line of a sheet
 abbrev pub sheet_line : MoveSheet → List ℕ
-sheet_line sheet = line_of (sheet_fields sheet)
+sheet_line sheet = line_of (
+    (codes "moves" ∷ decimal sheet.batch ∷ codes "cost" ∷ decimal sheet.cost ∷ []) ++ (codes "goes" ∷ map order_field sheet.moves)
+    ++ (codes "prices" ∷ map amount_field sheet.prices) ++ (codes "pays" ∷ map amount_field sheet.pays)
+    )
 
 -- the first line: the version of the text, and the reach
 abbrev pub head_line : ℕ → List ℕ

@@ -1,16 +1,6 @@
 -- The legs that a map gives a plan with a ride more are those of the times near the ride.
-use Rattle.std.proofs.Common.{◌≡◌, ℕ, zero, suc, ◌<◌, ◌≤◌, List, [], ◌∷◌, length, refl, ◌∙◌, ap, arith}
-use Rattle.std.specs.Prelude.{map, Option, Some, None, option_map, option_and_then, insert}
-use Rattle.ride_model.specs.declared.offer.Joins.{Joins}
-use Rattle.ride_model.specs.declared.vehicle.Ride.{Ride}
-use Rattle.ride_model.specs.declared.vehicle.Stop.{Stop}
-use Rattle.ride_model.specs.Road.{RoadMap, travel}
-use Rattle.ride_model.specs.Vehicle.{HasLegs}
-use Rattle.ride_model.specs.Insertion.{routed, pickup_of, dropoff_of, stops_with}
-use Rattle.ride_model.specs.Offers.{leg_at}
+use Rattle.insertion.proofs.Common.{◌≡◌, ℕ, zero, suc, ◌<◌, ◌≤◌, List, [], ◌∷◌, length, refl, ◌∙◌, ap, arith, map, Option, Some, None, option_map, option_and_then, insert, Joins, Ride, Stop, RoadMap, travel, HasLegs, routed, pickup_of, dropoff_of, stops_with, leg_at, NearStop, leg_before, leg_after, four_legs}
 use Rattle.model_laws.proofs.Routes.{with_leg, routed-own}
-use Rattle.insertion.specs.declared.near.NearStop.{NearStop}
-use Rattle.insertion.specs.inner.Joined.{leg_before, leg_after, four_legs}
 
 -- the travel time from the node before a place, and that to the stop at a place, 0 where none is there
 abbrev pub before_place : RoadMap → ℕ → ℕ → List Stop → ℕ → Option ℕ

@@ -1,15 +1,6 @@
 -- The least cost, place after place.
-use Rattle.std.proofs.Common.{◌≡◌, ℕ, suc, ◌+◌, ◌-◌, ◌≤◌, ◌⊎◌, inl, inr, min, List, [], ◌∷◌, ◌++◌, length, refl, sym, ◌∙◌, ap, subst, arith}
-use Rattle.std.specs.Prelude.{map, Option, Some, None, IfSome, flat_map}
-use Rattle.std.specs.List.{filter_map, cons_option, range_with_len}
-use Rattle.ride_model.specs.declared.offer.Offer.{Offer}
-use Rattle.ride_model.specs.declared.settings.Settings.{Settings}
-use Rattle.ride_model.specs.declared.vehicle.Ride.{Ride}
-use Rattle.ride_model.specs.declared.vehicle.Vehicle.{Vehicle}
-use Rattle.ride_model.specs.Road.{RoadMap, lesser, least_of}
-use Rattle.ride_model.specs.Offers.{offer_of, price}
+use Rattle.insertion.proofs.Common.{◌≡◌, ℕ, suc, ◌+◌, ◌-◌, ◌≤◌, ◌⊎◌, inl, inr, min, List, [], ◌∷◌, ◌++◌, length, refl, sym, ◌∙◌, ap, subst, arith, map, Option, Some, None, IfSome, flat_map, filter_map, cons_option, range_with_len, Offer, Settings, Ride, Vehicle, RoadMap, lesser, least_of, offer_of, price, cost_if_any, least_with_pickup, least_from}
 use Rattle.model_laws.proofs.Costs.{offer_plan}
-use Rattle.insertion.specs.inner.Least.{cost_if_any, least_with_pickup, least_from}
 
 pub lesser-assoc : (a b c : Option ℕ) → lesser (lesser a b) c ≡ lesser a (lesser b c)
 lesser-assoc None b c = refl

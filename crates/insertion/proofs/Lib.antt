@@ -1,3 +1,4 @@
+pub mod Common
 pub mod NearLegs
 pub mod Joined
 pub mod OfferLaws

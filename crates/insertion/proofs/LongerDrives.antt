@@ -1,27 +1,6 @@
 -- What a plan with a ride more drives, by the legs into and out of the new stops.
-use Rattle.std.proofs.Common.{◌≡◌, ℕ, zero, suc, ◌+◌, ◌-◌, ◌*◌, ◌<◌, ◌≤◌, ◌⊎◌, inl, inr, Bool, true, false, cond, ◌&&◌, List, [], ◌∷◌, length, slice_index, eqb, leb, refl, sym, ◌∙◌, ap, subst, arith}
-use Rattle.std.specs.Prelude.{Option, Some, None}
-use Rattle.std.specs.List.{AllByRecursion}
-use Rattle.std.proofs.lemmas.Bool.{eqb-true, eq-eqb}
-use Rattle.std.proofs.lemmas.List.Elements.{recursion_from_All}
-use Rattle.model_laws.proofs.plain.Numbers.{less_if_differs}
-use Rattle.ride_model.specs.declared.offer.Joins.{Joins}
-use Rattle.ride_model.specs.declared.offer.Offer.{Offer}
-use Rattle.ride_model.specs.declared.settings.Settings.{Settings}
-use Rattle.ride_model.specs.declared.vehicle.Ride.{Ride}
-use Rattle.ride_model.specs.declared.vehicle.Stop.{Stop}
-use Rattle.ride_model.specs.declared.vehicle.Vehicle.{Vehicle}
-use Rattle.ride_model.specs.Road.{RoadMap}
-use Rattle.ride_model.specs.Times.{times_from, times_of, drive_of}
-use Rattle.ride_model.specs.Keeps.{keeps}
-use Rattle.ride_model.specs.Insertion.{pickup_of, dropoff_of}
-use Rattle.ride_model.specs.Offers.{is_open, start_of, leg_at, cost_of, offer_of, offer_of_plan}
-use Rattle.stop_plans.specs.inner.Change.{InsertsInto}
-use Rattle.stop_plans.specs.inner.Legged.{with_leg, with_stop}
-use Rattle.stop_plans.proofs.InsertedLegs.{inserts-into}
+use Rattle.insertion.proofs.Common.{◌≡◌, ℕ, zero, suc, ◌+◌, ◌-◌, ◌*◌, ◌<◌, ◌≤◌, ◌⊎◌, inl, inr, Bool, true, false, cond, ◌&&◌, List, [], ◌∷◌, length, slice_index, eqb, leb, refl, sym, ◌∙◌, ap, subst, arith, Option, Some, None, AllByRecursion, eqb-true, eq-eqb, recursion_from_All, less_if_differs, Joins, Offer, Settings, Ride, Stop, Vehicle, RoadMap, times_from, times_of, drive_of, keeps, pickup_of, dropoff_of, is_open, start_of, leg_at, cost_of, offer_of, offer_of_plan, InsertsInto, with_leg, with_stop, inserts-into, leave_at, stands_more, drives_more, AreShort, IsDrawn}
 use Rattle.stop_plans.proofs.Legs.{legs_are_bounded}
-use Rattle.insertion.specs.inner.Arrivals.{leave_at}
-use Rattle.insertion.specs.inner.Drawn.{stands_more, drives_more, AreShort, IsDrawn}
 use Rattle.insertion.proofs.OfferLaws.{length-inserted, new-routed, of-plan, plan-broken, plan-kept}
 use Rattle.insertion.proofs.PlanTimes.{last_time, drive-last}
 

@@ -1,9 +1,5 @@
 -- Legs, read from the times near a ride.
-use Rattle.std.proofs.Common.{◌≡◌, ℕ, zero, suc, ◌-◌, ◌<◌, ◌≤◌, List, [], ◌∷◌, length, get_or, refl, ◌∙◌, ap, arith}
-use Rattle.std.specs.Prelude.{Option, Some}
-use Rattle.model_laws.proofs.plain.Numbers.{suc-less_one}
-use Rattle.insertion.specs.declared.near.NearStop.{NearStop}
-use Rattle.insertion.specs.inner.Joined.{leg_before, leg_after}
+use Rattle.insertion.proofs.Common.{◌≡◌, ℕ, zero, suc, ◌-◌, ◌<◌, ◌≤◌, List, [], ◌∷◌, length, get_or, refl, ◌∙◌, ap, arith, Option, Some, suc-less_one, NearStop, leg_before, leg_after}
 
 -- the leg from the stop before a place that is not the first
 pub before-read : (first : Option ℕ) (time_of : NearStop → Option ℕ) (stops : List NearStop) (place : ℕ) (d : NearStop) → (0 < place) → place ≤ length stops

@@ -1,32 +1,6 @@
 -- No offer: where a vehicle is not open, where its plan is full, and where the pickup would be too late already.
-use Rattle.std.proofs.Common.{◌≡◌, ℕ, zero, suc, ◌+◌, ◌<◌, ◌≤◌, Bool, true, false, ◌&&◌, List, [], ◌∷◌, ◌++◌, length, eqb, leb, leb-true, le-leb, refl, sym, ◌∙◌, ap, subst, arith}
-use Rattle.std.specs.Prelude.{map, zip, Option, Some, None, option_map, option_and_then, insert, IfSome, ◌==◌}
-use Rattle.std.specs.List.{AllByRecursion, list_all}
-use Rattle.std.proofs.lemmas.Bool.{eq-eqb, and_parts}
-use Rattle.std.proofs.lemmas.Option.{same_Some}
-use Rattle.ride_model.specs.declared.settings.Settings.{Settings}
-use Rattle.ride_model.specs.declared.vehicle.Ride.{Ride}
-use Rattle.ride_model.specs.declared.vehicle.Stop.{Stop}
-use Rattle.ride_model.specs.declared.vehicle.Vehicle.{Vehicle}
-use Rattle.ride_model.specs.Road.{RoadMap, IsRoadMap, travel, lesser, least_of}
-use Rattle.ride_model.specs.Vehicle.{HasLegs}
-use Rattle.ride_model.specs.Loads.{loads_fit}
-use Rattle.ride_model.specs.Times.{times_from, times_of}
-use Rattle.ride_model.specs.Keeps.{is_pickup_at, is_dropoff_at, keeps_visits, keeps_ride, keeps}
-use Rattle.ride_model.specs.Insertion.{routed, pickup_of, dropoff_of, stops_with, with_plan, inserted}
-use Rattle.ride_model.specs.Offers.{is_open, start_of, offer_of, offer_of_plan, price}
-use Rattle.model_laws.proofs.AboardLoads.{filter-kept, filter-skipped}
-use Rattle.model_laws.proofs.Insertions.{inserted_facts, plan-fresh}
+use Rattle.insertion.proofs.Common.{◌≡◌, ℕ, zero, suc, ◌+◌, ◌<◌, ◌≤◌, Bool, true, false, ◌&&◌, List, [], ◌∷◌, ◌++◌, length, eqb, leb, leb-true, le-leb, refl, sym, ◌∙◌, ap, subst, arith, map, zip, Option, Some, None, option_map, option_and_then, insert, IfSome, ◌==◌, AllByRecursion, list_all, eq-eqb, and_parts, same_Some, Settings, Ride, Stop, Vehicle, RoadMap, IsRoadMap, travel, lesser, least_of, HasLegs, loads_fit, times_from, times_of, is_pickup_at, is_dropoff_at, keeps_visits, keeps_ride, keeps, routed, pickup_of, dropoff_of, stops_with, with_plan, inserted, is_open, start_of, offer_of, offer_of_plan, price, filter-kept, filter-skipped, inserted_facts, plan-fresh, with_leg, route_head, visits_along, Near, NearStop, plan_of, leave_at, pickup_at, is_by, near_stop, HoldsTimes, IsAsked, leg_before, to_pickup_of, after_pickup_of, to_dropoff_of, after_dropoff_of, four_legs, cost_if_any, least_with_pickup}
 use Rattle.model_laws.proofs.TravelTimes.{travel-le}
-use Rattle.stop_plans.specs.inner.Legged.{with_leg}
-use Rattle.stop_plans.proofs.InsertedLegs.{route_head}
-use Rattle.promises.proofs.Visits.{visits_along}
-use Rattle.insertion.specs.declared.near.Near.{Near}
-use Rattle.insertion.specs.declared.near.NearStop.{NearStop}
-use Rattle.insertion.specs.inner.Arrivals.{plan_of, leave_at, pickup_at, is_by}
-use Rattle.insertion.specs.inner.Asked.{near_stop, HoldsTimes, IsAsked}
-use Rattle.insertion.specs.inner.Joined.{leg_before, to_pickup_of, after_pickup_of, to_dropoff_of, after_dropoff_of, four_legs}
-use Rattle.insertion.specs.inner.Least.{cost_if_any, least_with_pickup}
 use Rattle.insertion.proofs.Joined.{before_place, before-noted}
 use Rattle.insertion.proofs.OfferLaws.{ArePlaces, are-places, at-places, no-places, no-room, no-legs, plan-broken}
 use Rattle.insertion.proofs.LeastOffers.{price-least}

@@ -1,30 +1,7 @@
 -- No offer on the way past a place where a ride does not fit beside what is aboard.
-use Rattle.std.proofs.Common.{◌≡◌, inl, inr, ℕ, zero, suc, ◌+◌, ◌-◌, ◌<◌, ◌≤◌, Bool, true, false, cond, ◌&&◌, List, [], ◌∷◌, ◌++◌, length, take, get_or, eqb, leb, refl, sym, ◌∙◌, ap, subst, arith, add-one, add-zero}
-use Rattle.std.specs.Prelude.{map, sum_by, insert, is_some, Contains, Option, Some, None, option_and_then}
-use Rattle.std.specs.List.{AllByRecursion, list_all, range_with_len}
-use Rattle.std.proofs.lemmas.Bool.{and_parts, eq-eqb, eqb-true}
-use Rattle.std.proofs.lemmas.List.Sums.{sum_by-append, sum_by-cons}
+use Rattle.insertion.proofs.Common.{◌≡◌, inl, inr, ℕ, zero, suc, ◌+◌, ◌-◌, ◌<◌, ◌≤◌, Bool, true, false, cond, ◌&&◌, List, [], ◌∷◌, ◌++◌, length, take, get_or, eqb, leb, refl, sym, ◌∙◌, ap, subst, arith, add-one, add-zero, map, sum_by, insert, is_some, Contains, Option, Some, None, option_and_then, AllByRecursion, list_all, range_with_len, and_parts, eq-eqb, eqb-true, sum_by-append, sum_by-cons, Settings, Load, Ride, Stop, Vehicle, RoadMap, lesser, least_of, is_pickup, is_aboard_from, is_aboard_after, load_after, fits_load, loads_fit, keeps, keeps_ride, pickup_of, dropoff_of, stops_with, with_plan, inserted, is_open, start_of, offer_of, offer_of_plan, IsLawful, ride_ids, IsFresh, fits_throughout, length-same, load-agrees, load-same, unlegged-routed, inserted_facts, length-stops_with, plan-fresh, Near, IsAsked, cost_if_any, least_with_pickup, load_beside, fits_beside, rooms_of}
 use Rattle.model_laws.proofs.plain.Among.{Among, contains_from_among}
 use Rattle.model_laws.proofs.plain.Each.{each-take}
-use Rattle.ride_model.specs.declared.settings.Settings.{Settings}
-use Rattle.ride_model.specs.declared.vehicle.Load.{Load}
-use Rattle.ride_model.specs.declared.vehicle.Ride.{Ride}
-use Rattle.ride_model.specs.declared.vehicle.Stop.{Stop}
-use Rattle.ride_model.specs.declared.vehicle.Vehicle.{Vehicle}
-use Rattle.ride_model.specs.Road.{RoadMap, lesser, least_of}
-use Rattle.ride_model.specs.Loads.{is_pickup, is_aboard_from, is_aboard_after, load_after, fits_load, loads_fit}
-use Rattle.ride_model.specs.Keeps.{keeps, keeps_ride}
-use Rattle.ride_model.specs.Insertion.{pickup_of, dropoff_of, stops_with, with_plan, inserted}
-use Rattle.ride_model.specs.Offers.{is_open, start_of, offer_of, offer_of_plan}
-use Rattle.ride_model.specs.Vehicle.{IsLawful, ride_ids}
-use Rattle.ride_model.specs.inner.Vehicle.{IsFresh}
-use Rattle.model_laws.proofs.AboardLoads.{fits_throughout, length-same, load-agrees, load-same}
-use Rattle.model_laws.proofs.PlanStops.{unlegged-routed}
-use Rattle.model_laws.proofs.Insertions.{inserted_facts, length-stops_with, plan-fresh}
-use Rattle.insertion.specs.declared.near.Near.{Near}
-use Rattle.insertion.specs.inner.Asked.{IsAsked}
-use Rattle.insertion.specs.inner.Least.{cost_if_any, least_with_pickup}
-use Rattle.insertion.specs.inner.Rooms.{load_beside, fits_beside, rooms_of}
 use Rattle.insertion.proofs.OfferLaws.{are-places, at-places, no-places, plan-broken}
 
 -- the first stops of a plan with a stop more

@@ -1,31 +1,6 @@
 -- Offers, from the times near a ride and the plan with it.
-use Rattle.std.proofs.Common.{◌≡◌, ℕ, suc, ◌+◌, ◌<◌, ◌≤◌, ◌⊎◌, inl, inr, Bool, true, false, cond, ◌&&◌, List, [], ◌∷◌, ◌++◌, length, eqb, leb, leb-true, refl, sym, ◌∙◌, ap, subst, arith, add-one}
+use Rattle.insertion.proofs.Common.{◌≡◌, ℕ, suc, ◌+◌, ◌<◌, ◌≤◌, ◌⊎◌, inl, inr, Bool, true, false, cond, ◌&&◌, List, [], ◌∷◌, ◌++◌, length, eqb, leb, leb-true, refl, sym, ◌∙◌, ap, subst, arith, add-one, Option, Some, None, option_map, option_and_then, list_all, eqb-true, eq-eqb, and_parts, same_Some, same_or_less, Joins, Offer, Settings, Ride, Stop, Vehicle, RoadMap, travel, HasLegs, IsRouted, loads_fit, keeps, keeps_ride, routed, stops_with, with_plan, inserted, is_open, leg_at, joins_of, cost_of, start_of, offer_of, offer_of_plan, unlegged-routed, length-same, inserted_facts, length-stops_with, routed-with, InsertsInto, Near, NearStop, near_stop, HoldsTimes, IsAsked, leg_before, leg_after, four_legs, to_pickup_of, after_pickup_of, to_dropoff_of, after_dropoff_of, joins_near}
 use native.Mathlib.Numerals.{add-two}
-use Rattle.std.specs.Prelude.{Option, Some, None, option_map, option_and_then}
-use Rattle.std.specs.List.{list_all}
-use Rattle.std.proofs.lemmas.Bool.{eqb-true, eq-eqb, and_parts}
-use Rattle.std.proofs.lemmas.Option.{same_Some}
-use Rattle.model_laws.proofs.plain.Numbers.{same_or_less}
-use Rattle.ride_model.specs.declared.offer.Joins.{Joins}
-use Rattle.ride_model.specs.declared.offer.Offer.{Offer}
-use Rattle.ride_model.specs.declared.settings.Settings.{Settings}
-use Rattle.ride_model.specs.declared.vehicle.Ride.{Ride}
-use Rattle.ride_model.specs.declared.vehicle.Stop.{Stop}
-use Rattle.ride_model.specs.declared.vehicle.Vehicle.{Vehicle}
-use Rattle.ride_model.specs.Road.{RoadMap, travel}
-use Rattle.ride_model.specs.Vehicle.{HasLegs, IsRouted}
-use Rattle.ride_model.specs.Loads.{loads_fit}
-use Rattle.ride_model.specs.Keeps.{keeps, keeps_ride}
-use Rattle.ride_model.specs.Insertion.{routed, stops_with, with_plan, inserted}
-use Rattle.ride_model.specs.Offers.{is_open, leg_at, joins_of, cost_of, start_of, offer_of, offer_of_plan}
-use Rattle.model_laws.proofs.PlanStops.{unlegged-routed}
-use Rattle.model_laws.proofs.AboardLoads.{length-same}
-use Rattle.model_laws.proofs.Insertions.{inserted_facts, length-stops_with, routed-with}
-use Rattle.stop_plans.specs.inner.Change.{InsertsInto}
-use Rattle.insertion.specs.declared.near.Near.{Near}
-use Rattle.insertion.specs.declared.near.NearStop.{NearStop}
-use Rattle.insertion.specs.inner.Asked.{near_stop, HoldsTimes, IsAsked}
-use Rattle.insertion.specs.inner.Joined.{leg_before, leg_after, four_legs, to_pickup_of, after_pickup_of, to_dropoff_of, after_dropoff_of, joins_near}
 use Rattle.insertion.proofs.Joined.{before_place, after_place, before-noted, after-noted, legs_of_two, two-joined-together, two-joined-apart}
 use Rattle.model_laws.proofs.FewRides.{few-rides}
 

@@ -1,12 +1,5 @@
 -- Arrivals read, and the last one.
-use Rattle.std.proofs.Common.{◌≡◌, ℕ, zero, suc, ◌+◌, ◌-◌, ◌<◌, ◌≤◌, List, [], ◌∷◌, length, get_or, refl, ◌∙◌, ap, arith}
-use Rattle.std.specs.Prelude.{Some, None, unwrap_or}
-use Rattle.std.specs.List.{last_or}
-use Rattle.model_laws.proofs.plain.Numbers.{suc-less_one}
-use Rattle.ride_model.specs.declared.vehicle.Vehicle.{Vehicle}
-use Rattle.ride_model.specs.Times.{times_of, drive_of}
-use Rattle.ride_model.specs.Offers.{start_of}
-use Rattle.insertion.specs.inner.Arrivals.{leave_at}
+use Rattle.insertion.proofs.Common.{◌≡◌, ℕ, zero, suc, ◌+◌, ◌-◌, ◌<◌, ◌≤◌, List, [], ◌∷◌, length, get_or, refl, ◌∙◌, ap, arith, Some, None, unwrap_or, last_or, suc-less_one, Vehicle, times_of, drive_of, start_of, leave_at}
 
 -- the arrival before a place that is not the first
 pub leave-read : (start dwell : ℕ) (times : List ℕ) (place d : ℕ) → 0 < place → place ≤ length times

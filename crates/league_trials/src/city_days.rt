@@ -1,14 +1,12 @@
 //! A day of two companies that share the vehicles of a generated city: what each has on its board in the end is a log that audits.
 ghost use Rattle.std.specs.Prelude.{◌≡◌, length, All, IfOk};
-ghost use Rattle.ride_model.specs.declared.settings.Settings.{Settings};
-ghost use Rattle.ride_model.specs.Fleet.{MayStart};
-ghost use Rattle.ride_model.specs.Road.{RoadMap};
 ghost use Rattle.ride_model.specs.Text.{HasLine};
 ghost use Rattle.city_maker.specs.Fleets.{default_settings};
 ghost use Rattle.fleet_league.specs.declared.quotes.Quote.{Quote};
 ghost use Rattle.fleet_league.specs.inner.Round.{IsPriced};
 ghost use Rattle.league_trials.specs.Sides.{AreParts};
 
+use super::outset::Outset;
 use super::sides::Side;
 use adaptive_roads::Roads;
 use board_core::{Board, Totals};
@@ -16,7 +14,7 @@ use city_maker::{City, CityPlan, make_city};
 use fleet_league::league_session::part_of;
 use fleet_league::{Brief, NoMemory, Quote, settle};
 use log_audit::{Verdict, audit};
-use ride_model::{Command, Entry, Fleet, Reply, Ride, Settings};
+use ride_model::{Command, Entry, Reply, Ride};
 use ride_ports::{MemSink, MemSource};
 use std::alloc::Global;
 use std::process::Abort;
@@ -36,15 +34,6 @@ const PENALTY: u64 = 3_600;
 
 /// The round after which a rider cancels.
 const CANCELLING: u64 = 5;
-
-// The city, before anything happened.
-fn city_of_day(alloc: Global) -> Result<City, NoMemory>
-    ensures settings { IfOk result (λ city. city.settings ≡ default_settings) }
-    ensures start { IfOk result (λ city. MayStart city.network city.settings city.fleet) }
-{
-    let city = make_city(alloc, &PLAN)?;
-    Ok(city)
-}
 
 /// What the rounds of a day have given.
 #[derive(Clone, Copy)]
@@ -77,31 +66,6 @@ impl Drop for Day<'_> {
         drop(second);
         drop(waiting);
     }
-}
-
-// The vehicles of a fleet whose ids have this rest by 2.
-fn half_of(alloc: Global, fleet: &Fleet, rest: u64) -> Result<Fleet, NoMemory>
-    ensures { (roads : RoadMap) (settings : Settings) → MayStart roads settings fleet.now
-        → IfOk result (MayStart roads settings) }
-{
-    let mut vehicles = Vec::new(alloc);
-    for vehicle in fleet.vehicles() {
-        if vehicle.id % 2 == rest {
-            vehicles.push(vehicle.copy())?;
-        }
-    }
-    Ok(Fleet::new(vehicles))
-}
-
-// The same, with ample memory.
-fn half(rt: &impl Abort, alloc: Global, fleet: &Fleet, rest: u64) -> Fleet
-    ensures { (roads : RoadMap) (settings : Settings) → MayStart roads settings fleet.now
-        → MayStart roads settings result }
-{
-    let Ok(half) = half_of(alloc, fleet, rest) else {
-        panic!(rt; "there is memory");
-    };
-    half
 }
 
 // The ride of a request in a map of so many nodes.
@@ -179,22 +143,11 @@ fn play<R: Threads + Sync + Abort>(
 }
 
 impl<'r> Day<'r> {
-    // A day of the fleet's vehicles of odd and of even ids.
-    fn new(
-        rt: &impl Abort,
-        alloc: Global,
-        roads: &'r Roads,
-        settings: Settings,
-        fleet: &Fleet,
-    ) -> Day<'r>
-        requires settings { settings ≡ default_settings }
-        requires start { MayStart roads.now settings fleet.now }
-    {
-        let first = half(rt, alloc, fleet, 1);
-        let second = half(rt, alloc, fleet, 0);
+    // A day of the outset's vehicles of odd and of even ids.
+    fn new(rt: &impl Abort, alloc: Global, outset: &Outset<'r>) -> Day<'r> {
         Day {
-            first: Side::new(rt, alloc, roads, settings, first),
-            second: Side::new(rt, alloc, roads, settings, second),
+            first: Side::new(rt, alloc, outset.half(rt, alloc, 1)),
+            second: Side::new(rt, alloc, outset.half(rt, alloc, 0)),
             waiting: Vec::new(alloc),
             tally: Tally {
                 rounds: 0,
@@ -301,17 +254,18 @@ fn put_log(rt: &impl Abort, board: &Board<'_>, log: &mut MemSink<'_>)
     print_entries(rt, board.entries(), log);
 }
 
-// The totals of a log over a fleet, which is right.
+// The totals of a log over an outset, which is right.
 fn audited<R: Threads + Sync + Abort>(
     rt: &R,
     alloc: Global,
-    roads: &Roads,
-    settings: Settings,
-    fleet: Fleet,
+    outset: Outset<'_>,
     log: &[u8],
-) -> Totals
-    requires { MayStart roads.now settings fleet }
-{
+) -> Totals {
+    let Outset {
+        roads,
+        settings,
+        fleet,
+    } = outset;
     let mut source = MemSource::new(log, &[], &[]);
     match audit(rt, alloc, roads, settings, fleet, &mut source) {
         Ok(Verdict::Yes(totals)) => totals,
@@ -324,34 +278,25 @@ fn audited<R: Threads + Sync + Abort>(
 fn totals_of<R: Threads + Sync + Abort>(
     rt: &R,
     alloc: Global,
-    roads: &Roads,
-    settings: Settings,
-    fleet: &Fleet,
+    outset: &Outset<'_>,
     rest: u64,
     side: &Side<'_>,
-) -> Totals
-    requires { MayStart roads.now settings fleet.now }
-{
+) -> Totals {
     let log = MemSink::new(alloc, 1_000_000, &[], &[]);
     let mut log = log.expect(rt, "there is memory");
     put_log(rt, side.board(), &mut log);
-    let half = half(rt, alloc, fleet, rest);
-    audited(rt, alloc, roads, settings, half, log.written())
+    audited(rt, alloc, outset.half(rt, alloc, rest), log.written())
 }
 
 // The audited logs of a day tell of as many confirmed rides as were won.
 fn expect_logs<R: Threads + Sync + Abort>(
     rt: &R,
     alloc: Global,
-    roads: &Roads,
-    settings: Settings,
-    fleet: &Fleet,
+    outset: &Outset<'_>,
     day: &Day<'_>,
-)
-    requires { MayStart roads.now settings fleet.now }
-{
-    let first = totals_of(rt, alloc, roads, settings, fleet, 1, &day.first);
-    let second = totals_of(rt, alloc, roads, settings, fleet, 0, &day.second);
+) {
+    let first = totals_of(rt, alloc, outset, 1, &day.first);
+    let second = totals_of(rt, alloc, outset, 0, &day.second);
     assert!(rt; first.confirmed == day.tally.first && first.away == 0);
     assert!(rt; second.confirmed == day.tally.second && second.away == 0);
 }
@@ -362,24 +307,33 @@ fn expect_tally(rt: &impl Abort, tally: &Tally) {
     assert!(rt; 0 < tally.first && 0 < tally.second && 0 < tally.away);
 }
 
-// Plays the city's day, and looks at what it has given.
-fn expect_day<R: Threads + Sync + Abort>(rt: &R, alloc: Global, roads: &Roads, city: &City)
-    requires settings { city.now.settings ≡ default_settings }
-    requires start { MayStart roads.now city.now.settings city.now.fleet }
-{
-    let mut day = Day::new(rt, alloc, roads, city.settings, &city.fleet);
-    day.take_all(rt, alloc, roads.nodes(), city.commands.items());
+// Plays a city's day, and looks at what it has given.
+fn expect_day<R: Threads + Sync + Abort>(
+    rt: &R,
+    alloc: Global,
+    outset: &Outset<'_>,
+    commands: &[Command],
+) {
+    let mut day = Day::new(rt, alloc, outset);
+    day.take_all(rt, alloc, outset.roads.nodes(), commands);
     expect_tally(rt, &day.tally);
-    expect_logs(rt, alloc, roads, city.settings, &city.fleet, &day);
+    expect_logs(rt, alloc, outset, &day);
 }
 
 #[test]
 fn the_logs_of_two_companies_of_a_city_audit(rt: HostRuntime) {
-    let Ok(city) = city_of_day(rt.alloc()) else {
+    let Ok(city) = make_city(rt.alloc(), &PLAN) else {
         panic!(&rt; "there is memory");
     };
-    let Ok(roads) = Roads::new(rt.alloc(), &city.network) else {
+    let City {
+        network,
+        settings,
+        fleet,
+        commands,
+    } = city;
+    let Ok(roads) = Roads::new(rt.alloc(), &network) else {
         panic!(&rt; "there is memory");
     };
-    expect_day(&rt, rt.alloc(), &roads, &city);
+    let outset = Outset::new(&roads, settings, fleet);
+    expect_day(&rt, rt.alloc(), &outset, commands.items());
 }

@@ -14,6 +14,8 @@ mod off_duty;
 #[cfg(test)]
 mod one_vehicle;
 #[cfg(test)]
+mod outset;
+#[cfg(test)]
 mod restrictions;
 #[cfg(test)]
 mod rounds;

@@ -1,6 +1,5 @@
 //! A company that plays a day of a city. What its calls ask is looked at before each of them.
 ghost use Rattle.std.specs.Prelude.{◌≡◌, ◌≤◌, ◌<◌, nat_eq, true, All, IsTrue};
-ghost use Rattle.ride_model.specs.Fleet.{MayStart};
 ghost use Rattle.std.specs.List.{IsDistinct};
 ghost use Rattle.ride_model.specs.Text.{IsSpelledCommand};
 ghost use Rattle.ride_model.specs.Vehicle.{ride_ids};
@@ -13,12 +12,13 @@ ghost use Rattle.fleet_league.specs.Prices.{quote_of};
 ghost use Rattle.fleet_league.specs.inner.Round.{IsPriced};
 ghost use Rattle.league_trials.specs.Sides.{IsFreshRide, IsRideOf};
 
+use super::outset::Outset;
 use adaptive_roads::Roads;
 use board_core::Board;
 use city_maker::next_report;
 use fleet_league::{Brief, Company, Quote, Settled};
 use pricing_workers::Pricer;
-use ride_model::{Command, Fleet, Reply, Ride, Settings};
+use ride_model::{Command, Reply, Ride};
 use std::alloc::Global;
 use std::marker::Model;
 use std::process::Abort;
@@ -66,17 +66,13 @@ impl Drop for Side<'_> {
 }
 
 impl<'r> Side<'r> {
-    /// A company of a fleet, of which nothing was told.
-    pub(crate) fn new(
-        rt: &impl Abort,
-        alloc: Global,
-        roads: &'r Roads,
-        settings: Settings,
-        fleet: Fleet,
-    ) -> Side<'r>
-        requires settings { settings ≡ default_settings }
-        requires start { MayStart roads.now settings fleet }
-    {
+    /// A company of an outset, of which nothing was told.
+    pub(crate) fn new(rt: &impl Abort, alloc: Global, outset: Outset<'r>) -> Side<'r> {
+        let Outset {
+            roads,
+            settings,
+            fleet,
+        } = outset;
         let Ok(pricer) = Pricer::new(alloc, roads, 1) else {
             panic!(rt; "there is memory");
         };

@@ -1,14 +1,7 @@
 -- What a cutter shows after one more part of a piece.
-use Rattle.std.proofs.Common.{◌≡◌, ◌≢◌, ℕ, suc, ◌+◌, ◌-◌, ◌^◌, ◌<◌, ◌≤◌, min, nat_lt, Bool, true, false, not, cond, ◌==◌, ◌||◌, ◌&&◌, List, [], ◌∷◌, ◌++◌, length, take, refl, ap, sym, subst, subst₂, ◌∙◌, append_assoc, append-nil, length-append, length-take, arith, MatchBool, ltb-false, ltb-true, lt-ltb, le-ltb, ne_eqb}
-use Rattle.std.proofs.lemmas.List.{take_all, take-append-le, take_at, nil_from_length, length_push}
-use Rattle.std.proofs.lemmas.List.{take_min}
-use Rattle.std.proofs.Math.Seq.{take-append-add}
+use Rattle.line_text.proofs.Common.{◌≡◌, ◌≢◌, ℕ, suc, ◌+◌, ◌-◌, ◌^◌, ◌<◌, ◌≤◌, min, nat_lt, Bool, true, false, not, cond, ◌==◌, ◌||◌, ◌&&◌, List, [], ◌∷◌, ◌++◌, length, take, refl, ap, sym, subst, subst₂, ◌∙◌, append_assoc, append-nil, length-append, length-take, arith, MatchBool, ltb-false, ltb-true, lt-ltb, le-ltb, ne_eqb, take_all, take-append-le, take_at, nil_from_length, length_push, take_min, take-append-add, list_any, ended_after, rest_after, ended_lines, rest_of, first_line, CutterState, Shows, ShowsRest, HasTaken, EndsLine, Continues, begun, kept, taken, taken_len}
 use Rattle.std.proofs.Math.Bool.{and-true, and-false}
 use Rattle.std.proofs.lemmas.Bool.Decides.{nat_tests}
-use Rattle.std.specs.List.{list_any}
-use Rattle.line_text.specs.Lines.{ended_after, rest_after, ended_lines, rest_of}
-use Rattle.line_text.specs.inner.Lines.{first_line}
-use Rattle.line_text.specs.inner.Cutter.{CutterState, Shows, ShowsRest, HasTaken, EndsLine, Continues, begun, kept, taken, taken_len}
 use Rattle.line_text.proofs.LineLemmas.{HasNoEnd, line_end, first_line-no_end, take-first_line, ended_lines-part, rest_of-part, ended_after-append, rest_after-append}
 
 take-nil : (n : ℕ) → ◌≡◌ {A = List ℕ} (take {A = ℕ} n []) []

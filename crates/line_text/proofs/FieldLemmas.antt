@@ -1,9 +1,5 @@
 -- Fields of texts that are read from the front, and ends of lines that are dropped from behind.
-use Rattle.std.proofs.Common.{◌≡◌, ◌≢◌, ℕ, zero, suc, ◌+◌, ◌-◌, ◌<◌, ◌≤◌, Bool, true, false, cond, ◌==◌, List, [], ◌∷◌, ◌++◌, length, take, drop, get_or, Option, Some, None, IfSome, option_map, refl, ap, sym, subst, ◌∙◌, append_assoc, append-nil, length-append, arith, true≢false, ltb-false, inl, inr, ◌⊎◌}
-use Rattle.std.proofs.lemmas.List.{take_all, take_more, drop_all}
-use Rattle.std.proofs.lemmas.Bool.{not-true}
-use Rattle.line_text.specs.Numbers.{number_of}
-use Rattle.line_text.specs.Fields.{is_blank, is_dropped, before_end, without_end, begins_field, joined, runs_of, numbers_of, begins_with, is_over_long, unless_comment, words_of, fields_of}
+use Rattle.line_text.proofs.Common.{◌≡◌, ◌≢◌, ℕ, zero, suc, ◌+◌, ◌-◌, ◌<◌, ◌≤◌, Bool, true, false, cond, ◌==◌, List, [], ◌∷◌, ◌++◌, length, take, drop, get_or, Option, Some, None, IfSome, option_map, refl, ap, sym, subst, ◌∙◌, append_assoc, append-nil, length-append, arith, true≢false, ltb-false, inl, inr, ◌⊎◌, take_all, take_more, drop_all, not-true, number_of, is_blank, is_dropped, before_end, without_end, begins_field, joined, runs_of, numbers_of, begins_with, is_over_long, unless_comment, words_of, fields_of}
 
 pub before_end-not_nil : (b : ℕ) (bytes : List ℕ) → bytes ≢ [] → before_end b bytes ≡ b ∷ bytes
 before_end-not_nil b [] not_nil = absurd (not_nil refl)
@@ -38,6 +34,12 @@ pub runs_of-blank : (b : ℕ) (bytes : List ℕ) → is_blank b ≡ true → run
 unfolding runs_of
 runs_of-blank b bytes is = rw is refl
 
+-- a byte more of the first field
+pub runs_of-longer : (b : ℕ) (bytes field : List ℕ) (fields : List (List ℕ)) → is_blank b ≡ false → begins_field bytes ≡ true
+    → runs_of bytes ≡ field ∷ fields → runs_of (b ∷ bytes) ≡ (b ∷ field) ∷ fields
+unfolding runs_of
+runs_of-longer b bytes field fields blank begins is = rw (blank, begins, is) refl
+
 -- a run of bytes that are not blank, up to a blank or the end
 pub runs_of-first : (text : List ℕ) (n : ℕ) → n ≤ length text → 0 < n → ((k : ℕ) → k < n → is_blank (get_or text k 0) ≡ false) →
     begins_field (drop n text) ≡ false → runs_of text ≡ take n text ∷ runs_of (drop n text)
@@ -51,11 +53,7 @@ runs_of-first (b ∷ c ∷ bytes) (suc (suc n)) within some none ends =
     let rest = runs_of-first (c ∷ bytes) (suc n) (omega arith) (omega arith) (λ k below. none (suc k) (omega arith)) ends in
     let first : is_blank b ≡ false = none 0 (omega arith) in
     let second : is_blank c ≡ false = none 1 (omega arith) in
-    first-step b (c ∷ bytes) (take (suc n) (c ∷ bytes)) (runs_of (drop (suc n) (c ∷ bytes))) first (rw second refl) rest
-  where
-    first-step : (b : ℕ) (bytes field : List ℕ) (fields : List (List ℕ)) → is_blank b ≡ false → begins_field bytes ≡ true → runs_of bytes ≡ field ∷ fields →
-        runs_of (b ∷ bytes) ≡ (b ∷ field) ∷ fields
-    first-step b bytes field fields blank begins is = rw (blank, begins, is) refl
+    runs_of-longer b (c ∷ bytes) (take (suc n) (c ∷ bytes)) (runs_of (drop (suc n) (c ∷ bytes))) first (rw second refl) rest
 
 -- the first field of a text that is empty or begins with one
 pub unless_comment-runs : (comment : ℕ) (text : List ℕ) → (text ≡ []) ⊎ (begins_field text ≡ true) →

@@ -1,3 +1,4 @@
+pub mod Common
 pub mod LineLemmas
 mod CutterLemmas
 mod FieldLemmas

@@ -1,8 +1,5 @@
 -- Lines of bytes that come in parts.
-use Rattle.std.proofs.Common.{◌≡◌, ℕ, zero, ◌<◌, get_or, ◌+◌, ◌≤◌, suc, Bool, true, false, cond, ◌==◌, ◌||◌, List, [], ◌∷◌, ◌++◌, length, take, refl, ap, ◌∙◌, append_assoc, append-nil, length-append, arith, eqb-true, add-one, ◌≢◌}
-use Rattle.std.specs.List.{list_any, AllByRecursion}
-use Rattle.line_text.specs.Lines.{ended_after, rest_after, ended_lines, last_line, lines_of, rest_of}
-use Rattle.line_text.specs.inner.Lines.{first_line}
+use Rattle.line_text.proofs.Common.{◌≡◌, ℕ, zero, ◌<◌, get_or, ◌+◌, ◌≤◌, suc, Bool, true, false, cond, ◌==◌, ◌||◌, List, [], ◌∷◌, ◌++◌, length, take, refl, ap, ◌∙◌, append_assoc, append-nil, length-append, arith, eqb-true, add-one, ◌≢◌, list_any, AllByRecursion, ended_after, rest_after, ended_lines, last_line, lines_of, rest_of, first_line}
 
 -- no byte is an LF
 abbrev pub HasNoEnd : List ℕ → Type 0

@@ -1,7 +1,5 @@
 -- Results whose refusals pass a test: of a format all do, where those of its lines do.
-use Rattle.std.proofs.Common.{◌≡◌, ℕ, ◌+◌, nat_lt, Bool, true, false, cond, List, [], ◌∷◌, length, take, Result, Ok, Err, IfErr, ap, sym, ◌∙◌, true≢false}
-use Rattle.line_text.specs.Lines.{ended_lines, lines_of}
-use Rattle.line_text.specs.Texts.{Format, and_then, after_lines, after_ended, text_value}
+use Rattle.line_text.proofs.Common.{◌≡◌, ℕ, ◌+◌, nat_lt, Bool, true, false, cond, List, [], ◌∷◌, length, take, Result, Ok, Err, IfErr, ap, sym, ◌∙◌, true≢false, ended_lines, lines_of, Format, and_then, after_lines, after_ended, text_value}
 
 unfoldable pub IsNamed : {A E : Type 0} → (E → Bool) → Result A E → Type 0
 IsNamed test r = IfErr r (λ e. test e ≡ true)

@@ -1,9 +1,5 @@
 -- Numbers whose digits are read one by one.
-use Rattle.std.proofs.Common.{◌≡◌, ℕ, ◌+◌, ◌*◌, ◌^◌, ◌<◌, ◌≤◌, Bool, true, false, ◌&&◌, List, length, Some, refl, arith, le-leb}
-use Rattle.std.proofs.Math.Nat.{pow-le-pow_right}
-use Rattle.std.specs.Str.{all_ascii_digits}
-use Rattle.std.specs.Str.Parse.{digits_value}
-use Rattle.line_text.specs.Numbers.{number_of}
+use Rattle.line_text.proofs.Common.{◌≡◌, ℕ, ◌+◌, ◌*◌, ◌^◌, ◌<◌, ◌≤◌, Bool, true, false, ◌&&◌, List, length, Some, refl, arith, le-leb, pow-le-pow_right, all_ascii_digits, digits_value, number_of}
 
 pub number_of-some : (text : List ℕ) → 0 < length text → length text ≤ 18 → all_ascii_digits text ≡ true → number_of text ≡ Some (digits_value 10 text)
 number_of-some text some short digits = rw (le-leb 1 (length text) (omega arith), le-leb (length text) 18 short, digits) refl

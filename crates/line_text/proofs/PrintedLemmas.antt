@@ -1,17 +1,10 @@
 -- Fields and numbers that were printed, read again.
-use Rattle.std.proofs.Common.{◌≡◌, ◌≢◌, ℕ, ◌+◌, ◌*◌, ◌^◌, ◌<◌, ◌≤◌, ◌==◌, ◌||◌, ◌&&◌, nat_le, Bool, true, false, cond, List, [], ◌∷◌, ◌++◌, length, Option, Some, None, option_map, refl, ap, sym, subst, ◌∙◌, append_assoc, length-append, arith, true≢false, leb-true}
-use Rattle.std.specs.Prelude.{decimal, map, option_and_then}
-use Rattle.std.specs.List.{join_with_byte, AllByRecursion}
+use Rattle.line_text.proofs.Common.{◌≡◌, ◌≢◌, ℕ, ◌+◌, ◌*◌, ◌^◌, ◌<◌, ◌≤◌, ◌==◌, ◌||◌, ◌&&◌, nat_le, Bool, true, false, cond, List, [], ◌∷◌, ◌++◌, length, Option, Some, None, option_map, refl, ap, sym, subst, ◌∙◌, append_assoc, length-append, arith, true≢false, leb-true, decimal, map, option_and_then, join_with_byte, AllByRecursion, all_ascii_digits, digits_value, pow-le-pow_right, number_of, is_blank, is_dropped, before_end, without_end, begins_field, runs_of, fields_of, numbers_of}
 use Rattle.std.specs.Int.{IsInRange}
-use Rattle.std.specs.Str.{all_ascii_digits}
-use Rattle.std.specs.Str.Parse.{digits_value}
-use Rattle.std.proofs.Math.Nat.{pow-le-pow_right}
 use Rattle.std.proofs.lemmas.Fmt.{decimal_nonempty, digits_decimal, digits_value-decimal, length-decimal-le}
 use Rattle.std.proofs.lemmas.Int.Digits.{digits_value-lt}
 use Rattle.std.proofs.lemmas.Str.Parse.{IsNumeralModel, tells_all_ascii_digits, numerals_by_value}
-use Rattle.line_text.specs.Numbers.{number_of}
-use Rattle.line_text.specs.Fields.{is_blank, is_dropped, before_end, without_end, begins_field, runs_of, fields_of, numbers_of}
-use Rattle.line_text.proofs.FieldLemmas.{before_end-not_nil}
+use Rattle.line_text.proofs.FieldLemmas.{before_end-not_nil, runs_of-longer}
 use Rattle.line_text.proofs.NumberLemmas.{number_of-some}
 
 -- a field of bytes of which none is dropped at a line's end
@@ -57,12 +50,6 @@ without_end-joined field [] (plain, _) = without_end-plain field plain
 without_end-joined field (next ∷ fields) (plain, rest) =
     without_end-after field 32 (join_with_byte 32 (next ∷ fields))
     (without_end-blank (join_with_byte 32 (next ∷ fields)) (without_end-joined next fields rest) (joined-some fields next rest))
-
--- a byte more of the first field
-runs_of-longer : (b : ℕ) (bytes field : List ℕ) (fields : List (List ℕ)) → is_blank b ≡ false → begins_field bytes ≡ true
-    → runs_of bytes ≡ field ∷ fields → runs_of (b ∷ bytes) ≡ (b ∷ field) ∷ fields
-unfolding runs_of
-runs_of-longer b bytes field fields blank begins is = rw (blank, begins, is) refl
 
 plain-first : (b : ℕ) (bytes : List ℕ) → IsPlain (b ∷ bytes) → is_blank b ≡ false
 plain-first b [] plain = plain-not_blank b plain

@@ -1,13 +1,5 @@
 -- What a reader of lines has read after one more piece.
-use Rattle.std.proofs.Common.{◌≡◌, ◌≢◌, ℕ, ◌+◌, ◌-◌, ◌^◌, ◌<◌, ◌≤◌, min, nat_lt, Bool, true, false, cond, Option, Some, None, IfSome, List, [], ◌∷◌, ◌++◌, length, take, drop, Result, Ok, Err, MatchResult, refl, ap, sym, subst, ◌∙◌, arith, append_assoc, append-nil, length-append, length-take-le, length-drop, take-append-drop, take-take, le-ltb}
-use Rattle.std.proofs.lemmas.List.{take_rest}
-use Rattle.std.proofs.Math.Seq.{take-add, take-append-add}
-use Rattle.ride_ports.specs.Bytes.{Reads}
-use Rattle.ride_ports.proofs.ByteLemmas.{Reads-to_end, Reads-told}
-use Rattle.line_text.specs.inner.Cutter.{CutterState, HasTaken, EndsLine, ShowsRest}
-use Rattle.line_text.specs.Fields.{is_over_long}
-use Rattle.line_text.specs.Lines.{ended_after, ended_lines, last_line, lines_of, rest_of}
-use Rattle.line_text.specs.inner.Reading.{AreFirst, GoesOn, HasRead, IsRefused, counted_lines}
+use Rattle.line_text.proofs.Common.{◌≡◌, ◌≢◌, ℕ, ◌+◌, ◌-◌, ◌^◌, ◌<◌, ◌≤◌, min, nat_lt, Bool, true, false, cond, Option, Some, None, IfSome, List, [], ◌∷◌, ◌++◌, length, take, drop, Result, Ok, Err, MatchResult, refl, ap, sym, subst, ◌∙◌, arith, append_assoc, append-nil, length-append, length-take-le, length-drop, take-append-drop, take-take, le-ltb, take_rest, take-add, take-append-add, Reads, Reads-to_end, Reads-told, CutterState, HasTaken, EndsLine, ShowsRest, is_over_long, ended_after, ended_lines, last_line, lines_of, rest_of, AreFirst, GoesOn, HasRead, IsRefused, counted_lines}
 use Rattle.line_text.proofs.LineLemmas.{ended_lines-append, length-ended_after-le, last_line-some}
 
 -- the number of a line of a text whose bytes can be counted

@@ -1,9 +1,5 @@
 -- What a text gives, from what its first bytes give.
-use Rattle.std.proofs.Common.{◌≡◌, ◌≢◌, ℕ, ◌+◌, ◌<◌, ◌≤◌, suc, nat_lt, true, false, cond, List, [], ◌∷◌, ◌++◌, length, take, Result, Ok, Err, refl, ap, ◌∙◌, length-append, arith, lt-ltb, le-ltb}
-use Rattle.std.proofs.lemmas.List.{take_at}
-use Rattle.line_text.specs.Lines.{ended_lines, lines_of}
-use Rattle.line_text.specs.inner.Reading.{AreFirst, counted_lines}
-use Rattle.line_text.specs.Texts.{Format, and_then, after_lines, after_ended, text_value}
+use Rattle.line_text.proofs.Common.{◌≡◌, ◌≢◌, ℕ, ◌+◌, ◌<◌, ◌≤◌, suc, nat_lt, true, false, cond, List, [], ◌∷◌, ◌++◌, length, take, Result, Ok, Err, refl, ap, ◌∙◌, length-append, arith, lt-ltb, le-ltb, take_at, ended_lines, lines_of, AreFirst, counted_lines, Format, and_then, after_lines, after_ended, text_value}
 
 -- a refusal decides, whatever lines follow
 pub after_lines-refused : {S V E : Type 0} (format : Format S V E) (number : ℕ) (state : S) (e : E) (lines more : List (List ℕ)) →

@@ -37,7 +37,7 @@ pub trait LineReader {
 }
 
 /// Why the lines of a source were not all taken.
-#[derive(Drop, Clone, Copy, PartialEq, Eq)]
+#[derive(Debug, Drop, Clone, Copy, PartialEq, Eq)]
 pub enum ReadError<E> {
     Refused(E),
     TooLong,

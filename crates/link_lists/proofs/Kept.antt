@@ -1,16 +1,7 @@
 -- a table that keeps the lists keeps the changed lists after a change
-use Rattle.std.proofs.Common.{◌≡◌, ◌≢◌, ℕ, zero, suc, ◌+◌, ◌-◌, ◌^◌, ◌<◌, ◌≤◌, List, [], ◌∷◌, ◌++◌, length, get_or, set, map, refl, sym, ap, ◌∙◌, subst, arith, inl, inr, ◌⊎◌, nat_eq, eqb, true, length-set}
-use Rattle.std.specs.Prelude.{Option, Some, None, IfSome, slice_get, if◌then◌else◌, nat_lt, replicate}
-use Rattle.std.specs.List.{Contains, IsDistinct, list_any}
-use Rattle.std.proofs.lemmas.Bool.{cases_eq, cases_lt, eqb-true, or_cases}
-use Rattle.std.proofs.lemmas.List.{get_or-set_same, get_or-set_other, get_or_past, length-map, length-replicate}
-use Rattle.std.proofs.lemmas.Option.{slice_get_within, get_or_from_slice_get}
+use Rattle.link_lists.proofs.Common.{◌≡◌, ◌≢◌, ℕ, zero, suc, ◌+◌, ◌-◌, ◌^◌, ◌<◌, ◌≤◌, List, [], ◌∷◌, ◌++◌, length, get_or, set, map, refl, sym, ap, ◌∙◌, subst, arith, inl, inr, ◌⊎◌, nat_eq, eqb, true, length-set, Option, Some, None, IfSome, slice_get, if◌then◌else◌, nat_lt, replicate, Contains, IsDistinct, list_any, cases_eq, cases_lt, eqb-true, or_cases, get_or-set_same, get_or-set_other, get_or_past, length-map, length-replicate, slice_get_within, get_or_from_slice_get, Contains-push_cases, Contains-append_left, Contains-push, Link, Family, list_at, IsHeld, IsFamily, without, with_behind, next_of, before_of, IsInserted, IsTakenOut, IsPath, circle_of, family_of, IsAlone, Keeps}
 use Rattle.std.proofs.lemmas.List.FromFn.{fill_by_all}
-use Rattle.std.proofs.lemmas.List.Elements.{Contains-push_cases, Contains-append_left, Contains-push}
 use Rattle.std.proofs.lemmas.Map.Steps.{length-le_from_distinct_below}
-use Rattle.link_lists.specs.declared.circles.Link.{Link}
-use Rattle.link_lists.specs.inner.Family.{Family, list_at, IsHeld, IsFamily, without, with_behind}
-use Rattle.link_lists.specs.inner.Circles.{next_of, before_of, IsInserted, IsTakenOut, IsPath, circle_of, family_of, IsAlone, Keeps}
 use Rattle.link_lists.proofs.Members.{Contains-here, Contains-there, Contains-cons_cases, Contains-nil, ByRecursion-from, IsDistinct-nil, IsDistinct-push, IsDistinct-more, IsDistinct-without, Contains-without, Contains-left, Contains-with_behind, Contains-behind_kept, Contains-behind_new, IsDistinct-with_behind}
 use Rattle.link_lists.proofs.Steps.{CanInsert, CanTake, path-kept, path-kept_to, path-at_start, path-at_end, path-with_behind, path-without, path-first, path-next, path-moves, nodes_from-path}
 

@@ -1,9 +1,6 @@
 -- which nodes a changed list has, and that they stay distinct
-use Rattle.std.proofs.Common.{◌≡◌, ◌≢◌, ℕ, zero, suc, false, eqb, List, [], ◌∷◌, ◌++◌, refl, sym, ap, ◌∙◌, subst, arith, inl, inr, ◌⊎◌, nat_eq}
-use Rattle.std.specs.List.{Contains, IsDistinct, AllByRecursion}
-use Rattle.std.proofs.lemmas.Bool.{eqb-false, eq-eqb, ne_eqb, cases_eq}
-use Rattle.std.proofs.lemmas.List.Elements.{Contains-append_cases, Contains-append_right}
-use Rattle.link_lists.specs.inner.Family.{without, with_behind}
+use Rattle.link_lists.proofs.Common.{◌≡◌, ◌≢◌, ℕ, zero, suc, false, eqb, List, [], ◌∷◌, ◌++◌, refl, sym, ap, ◌∙◌, subst, arith, inl, inr, ◌⊎◌, nat_eq, Contains, AllByRecursion, eqb-false, eq-eqb, ne_eqb, cases_eq, Contains-append_cases, Contains-append_right, without, with_behind}
+use Rattle.std.specs.List.{IsDistinct}
 
 pub Contains-here : (x : ℕ) (xs : List ℕ) → Contains (x ∷ xs) x
 Contains-here x xs = (0, omega arith, refl)

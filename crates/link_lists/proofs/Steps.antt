@@ -1,11 +1,5 @@
 -- how a path through the table changes where a node is put in or taken out
-use Rattle.std.proofs.Common.{◌≡◌, ◌≢◌, ℕ, zero, suc, ◌+◌, ◌<◌, ◌≤◌, List, [], ◌∷◌, ◌++◌, length, refl, sym, ap, ◌∙◌, subst, arith, inl, inr, nat_eq}
-use Rattle.std.specs.Prelude.{Some, None, slice_get, if◌then◌else◌, nat_lt}
-use Rattle.std.specs.List.{Contains, IsDistinct, AllByRecursion}
-use Rattle.std.proofs.lemmas.Bool.{cases_eq, lt-ltb, le-ltb}
-use Rattle.link_lists.specs.declared.circles.Link.{Link}
-use Rattle.link_lists.specs.inner.Family.{without, with_behind}
-use Rattle.link_lists.specs.inner.Circles.{next_of, before_of, IsInserted, IsTakenOut, IsStep, IsPath, nodes_from}
+use Rattle.link_lists.proofs.Common.{◌≡◌, ◌≢◌, ℕ, zero, suc, ◌+◌, ◌<◌, ◌≤◌, List, [], ◌∷◌, ◌++◌, length, refl, sym, ap, ◌∙◌, subst, arith, inl, inr, nat_eq, Some, None, slice_get, if◌then◌else◌, nat_lt, Contains, IsDistinct, AllByRecursion, cases_eq, lt-ltb, le-ltb, Link, without, with_behind, next_of, before_of, IsInserted, IsTakenOut, IsStep, IsPath, nodes_from}
 use Rattle.link_lists.proofs.Members.{Contains-here, Contains-there, Contains-cons_cases, Contains-nil, ByRecursion-from, IsDistinct-first, IsDistinct-rest, without-same, without-other, without-absent, with_behind-here, with_behind-other}
 
 -- ---- what a path tells

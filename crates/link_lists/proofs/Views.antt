@@ -1,9 +1,5 @@
 -- what a contract sees of a table before and after a change
-use Rattle.std.proofs.Common.{◌≡◌, ◌≢◌, ℕ, ◌<◌, List, [], length, set, map, refl, sym, ap, ◌∙◌, subst, length-set}
-use Rattle.std.proofs.lemmas.List.{get_or-set_same, get_or-set_other, length-map}
-use Rattle.link_lists.specs.declared.circles.Link.{Link}
-use Rattle.link_lists.specs.inner.Family.{Family, list_at, IsFamily, IsSameSize}
-use Rattle.link_lists.specs.inner.Circles.{family_of, Keeps}
+use Rattle.link_lists.proofs.Common.{◌≡◌, ◌≢◌, ℕ, ◌<◌, List, [], length, set, map, refl, sym, ap, ◌∙◌, subst, length-set, get_or-set_same, get_or-set_other, length-map, Link, Family, list_at, IsFamily, IsSameSize, family_of, Keeps}
 use Rattle.link_lists.proofs.Kept.{with_lists, family_of-kept, get_or-map_nil}
 
 pub family_of-nodes : (t : List Link) (n : ℕ) → (family_of t n).nodes ≡ n

@@ -1,22 +1,6 @@
 -- A session that begins is one that goes on from a board on which nothing happened.
-use Rattle.std.proofs.Common.{◌≡◌, ℕ, ◌≤◌, ◌&&◌, Bool, true, false, not, List, [], ◌⊎◌, inl, inr, length, Option, None, refl, sym, ap, subst, ◌∙◌, arith}
-use Rattle.std.specs.Prelude.{nat_le}
-use Rattle.ride_model.specs.declared.command.Actor.TheVariants.{Feed}
-use Rattle.ride_model.specs.declared.entry.Entry.{Entry}
-use Rattle.ride_model.specs.declared.settings.Settings.{Settings}
-use Rattle.ride_model.specs.declared.vehicle.Vehicle.{Vehicle}
-use Rattle.ride_model.specs.History.{entries_of, fed_commands}
-use Rattle.ride_model.specs.Legal.{replay}
-use Rattle.ride_model.specs.inner.Limits.{most_earlier_commands}
-use Rattle.ride_model.specs.Road.{RoadMap}
-use Rattle.ride_model.specs.State.{State, has_ended, open_batch_of, start_state}
-use Rattle.ride_ports.specs.declared.outcome.Ran.{Ran}
-use Rattle.model_laws.specs.history_laws.Start.{IsStart}
-use Rattle.board_core.specs.Recorded.{Recorded, state_of}
-use Rattle.live_sessions.specs.Resuming.{HasResumed, IsResumed, still_feeds}
+use Rattle.live_sessions.proofs.Common.{◌≡◌, ℕ, ◌≤◌, ◌&&◌, Bool, true, false, not, List, [], ◌⊎◌, inl, inr, length, Option, None, refl, sym, ap, subst, ◌∙◌, arith, nat_le, Feed, Entry, Settings, Vehicle, entries_of, fed_commands, replay, most_earlier_commands, RoadMap, State, has_ended, open_batch_of, start_state, Ran, IsStart, Recorded, state_of, HasResumed, IsResumed, still_feeds, FeedRun, HasNotServed, IsServed}
 use Rattle.live_sessions.specs.inner.Resuming.{MayGoOn}
-use Rattle.live_sessions.specs.Serving.{FeedRun, HasNotServed}
-use Rattle.live_sessions.specs.inner.Serving.{IsServed}
 
 -- nobody has ended and nothing is open at a start
 replay-none : (s : State) → replay s [] ≡ s

@@ -1,22 +1,5 @@
 -- Entries of which none is broken off: who has ended has ended whole, and no batch was given up. And feeds that a history does not have.
-use Rattle.std.proofs.Common.{◌≡◌, ℕ, Bool, true, false, ◌||◌, cond, List, [], ◌∷◌, refl, ap, subst, ◌∙◌}
-use Rattle.std.specs.List.{list_any}
-use Rattle.std.proofs.lemmas.List.Folds.{list_any-append}
-use Rattle.std.proofs.Math.Bool.{or-true, or-false}
-use Rattle.std.proofs.lemmas.Bool.{eqb-true, or_from, or_parts}
-use Rattle.ride_model.specs.declared.command.Actor.{Actor}
-use Rattle.ride_model.specs.declared.command.Actor.TheVariants.{Feed, Desk}
-use Rattle.ride_model.specs.declared.entry.Ending.{Ending}
-use Rattle.ride_model.specs.declared.entry.Ending.TheVariants.{Whole, Cut}
-use Rattle.ride_model.specs.declared.entry.Entry.{Entry}
-use Rattle.ride_model.specs.declared.entry.Event.{Event}
-use Rattle.ride_model.specs.declared.entry.Event.TheVariants.{Fed, Finish, Opened, Committed, Abandoned}
-use Rattle.ride_model.specs.History.{entries_of, is_abandoned}
-use Rattle.ride_model.specs.Legal.{after_entry, replay, IsLegal, IsLegalEvent, IsNumbered}
-use Rattle.ride_model.specs.State.{State, has_ended, is_actor}
-use Rattle.model_laws.specs.inner.history_laws.Finishing.{gives_up, has_whole_end, is_whole_end}
-use Rattle.model_laws.proofs.history_laws.Effects.{effect, ends_in}
-use Rattle.live_sessions.specs.Resuming.{breaks_off, is_broken_off}
+use Rattle.live_sessions.proofs.Common.{◌≡◌, ℕ, Bool, true, false, ◌||◌, cond, List, [], ◌∷◌, refl, ap, subst, ◌∙◌, list_any, list_any-append, or-true, or-false, eqb-true, or_from, or_parts, Actor, Feed, Desk, Ending, Whole, Cut, Entry, Event, Fed, Finish, Opened, Committed, Abandoned, entries_of, is_abandoned, after_entry, replay, IsLegal, IsLegalEvent, IsNumbered, State, has_ended, is_actor, gives_up, has_whole_end, is_whole_end, effect, ends_in, breaks_off, is_broken_off}
 
 -- whether an event of one actor is another's end
 abbrev ends_it : Actor → Actor → Event → Bool

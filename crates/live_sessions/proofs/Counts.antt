@@ -1,14 +1,5 @@
 -- How many commands of a feed entries answer.
-use Rattle.std.proofs.Common.{◌≡◌, ℕ, suc, Bool, true, false, cond, List, [], ◌∷◌, length, refl, ap}
-use Rattle.std.specs.Prelude.{◌&&◌, filter_map}
-use Rattle.std.specs.List.{filter}
-use Rattle.ride_model.specs.declared.command.Actor.TheVariants.{Feed}
-use Rattle.ride_model.specs.declared.entry.Entry.{Entry}
-use Rattle.ride_model.specs.declared.entry.Event.{Event}
-use Rattle.ride_model.specs.declared.entry.Event.TheVariants.{Fed, Finish, Opened, Committed, Abandoned}
-use Rattle.ride_model.specs.History.{command_of, entries_of, fed_commands}
-use Rattle.ride_model.specs.State.{is_actor}
-use Rattle.model_laws.specs.history_laws.Start.{is_fed}
+use Rattle.live_sessions.proofs.Common.{◌≡◌, ℕ, suc, Bool, true, false, cond, List, [], ◌∷◌, length, refl, ap, ◌&&◌, filter_map, filter, Feed, Entry, Event, Fed, Finish, Opened, Committed, Abandoned, command_of, entries_of, fed_commands, is_actor, is_fed}
 
 -- as many as are the feed's and answer one
 pub count-fed : (feed : ℕ) (entries : List Entry)

@@ -1,35 +1,8 @@
 -- What the desks' own parts say of a history: who ended whole, and that no batch was given up.
-use Rattle.std.proofs.Common.{◌≡◌, ℕ, Bool, true, false, ◌||◌, ◌&&◌, cond, List, [], ◌∷◌, ◌++◌, Option, Some, None, refl, sym, ap, subst, ◌∙◌, eq-eqb}
-use Rattle.std.specs.Prelude.{IsSome}
-use Rattle.std.specs.List.{list_any}
-use Rattle.std.proofs.lemmas.List.Folds.{list_any-append}
-use Rattle.std.proofs.Math.Bool.{or-true, or-false, and-false}
-use Rattle.std.proofs.lemmas.Bool.{or_from, or_parts}
-use Rattle.ride_model.specs.declared.command.Actor.{Actor}
-use Rattle.ride_model.specs.declared.command.Actor.TheVariants.{Feed, Desk}
-use Rattle.ride_model.specs.declared.entry.Ending.{Ending}
-use Rattle.ride_model.specs.declared.entry.Entry.{Entry}
-use Rattle.ride_model.specs.declared.entry.Event.{Event}
-use Rattle.ride_model.specs.declared.entry.Event.TheVariants.{Fed, Finish, Opened, Committed, Abandoned}
-use Rattle.ride_model.specs.History.{ended_whole, entries_of, is_abandoned, is_whole}
-use Rattle.ride_model.specs.Legal.{after_entry, replay, IsLegal, IsLegalEvent, IsNumbered}
-use Rattle.ride_model.specs.Seating.{BatchCopy}
-use Rattle.ride_model.specs.State.{State, is_actor, open_batch_numbered}
-use Rattle.ride_ports.specs.declared.outcome.Ran.{Ran}
-use Rattle.model_laws.proofs.plain.Among.{Among}
+use Rattle.live_sessions.proofs.Common.{◌≡◌, ℕ, Bool, true, false, ◌||◌, ◌&&◌, cond, List, [], ◌∷◌, ◌++◌, Option, Some, None, refl, sym, ap, subst, ◌∙◌, eq-eqb, IsSome, list_any, list_any-append, or-true, or-false, and-false, or_from, or_parts, Actor, Feed, Desk, Ending, Entry, Event, Fed, Finish, Opened, Committed, Abandoned, ended_whole, entries_of, is_abandoned, is_whole, after_entry, replay, IsLegal, IsLegalEvent, IsNumbered, BatchCopy, State, is_actor, open_batch_numbered, Ran, Among, IsLegal-parts, IsConsistent, IsOpenBatch, gives_up, has_whole_end, is_whole_end, IsStart, fed_total, effect, ends_in, end_entry, Known, actor_of, IsPartOf, RunsDesk}
 use Rattle.model_laws.proofs.plain.Each.{of_all}
-use Rattle.model_laws.proofs.Histories.{IsLegal-parts}
-use Rattle.model_laws.specs.inner.history_laws.Consistent.{IsConsistent, IsOpenBatch}
-use Rattle.model_laws.specs.inner.history_laws.Finishing.{gives_up, has_whole_end, is_whole_end}
-use Rattle.model_laws.specs.history_laws.Start.{IsStart}
-use Rattle.model_laws.specs.inner.history_laws.Start.{fed_total}
-use Rattle.model_laws.proofs.history_laws.Effects.{effect, ends_in}
 use Rattle.model_laws.proofs.history_laws.EveryState.{consistent}
 use Rattle.model_laws.proofs.history_laws.Leaving.{open_batch}
-use Rattle.board_core.specs.Recorded.{end_entry}
-use Rattle.fleet_board.specs.inner.Passes.{Known, actor_of}
-use Rattle.fleet_board.specs.inner.Sets.{IsPartOf}
-use Rattle.session_loops.specs.inner.Loops.{RunsDesk}
 use Rattle.live_sessions.proofs.FeedParts.{ends-whole}
 
 -- a desk ended whole and gave no batch up

@@ -1,34 +1,7 @@
 -- What a feed's loop leaves of the history: its answers and its end.
-use Rattle.std.proofs.Common.{◌≡◌, ℕ, ◌≤◌, ◌-◌, true, false, cond, ◌||◌, ◌⊎◌, inl, inr, List, [], ◌∷◌, ◌++◌, sym, ap, subst, ◌∙◌, append_assoc, append-nil, arith}
-use Rattle.std.specs.Prelude.{nat_le}
-use Rattle.std.proofs.lemmas.List.{append_cancel_left}
-use Rattle.std.proofs.lemmas.List.Elements.{filter-append, filter_map-append}
-use Rattle.std.proofs.lemmas.List.Folds.{list_any-append}
-use Rattle.std.proofs.Math.Bool.{or-true}
-use Rattle.std.proofs.lemmas.Bool.{cases_Bool}
-use Rattle.ride_model.specs.declared.command.Actor.{Actor}
-use Rattle.ride_model.specs.declared.command.Actor.TheVariants.{Feed, Desk}
-use Rattle.ride_model.specs.declared.command.Command.{Command}
-use Rattle.ride_model.specs.declared.entry.Ending.{Ending}
-use Rattle.ride_model.specs.declared.entry.Ending.TheVariants.{Whole, Cut}
-use Rattle.ride_model.specs.declared.entry.Entry.{Entry}
-use Rattle.ride_model.specs.History.{command_of, entries_of, fed_commands}
-use Rattle.ride_model.specs.State.{is_actor}
-use Rattle.ride_model.specs.Text.{IsOneOrTwo}
-use Rattle.ride_ports.specs.declared.outcome.Ran.{Ran}
-use Rattle.ride_ports.specs.Count.{KeepsCount, Rose}
+use Rattle.live_sessions.proofs.Common.{◌≡◌, ℕ, ◌≤◌, ◌-◌, true, false, cond, ◌||◌, ◌⊎◌, inl, inr, List, [], ◌∷◌, ◌++◌, sym, ap, subst, ◌∙◌, append_assoc, append-nil, arith, nat_le, append_cancel_left, filter_map-append, list_any-append, or-true, cases_Bool, Actor, Feed, Desk, Command, Ending, Whole, Cut, Entry, command_of, entries_of, fed_commands, IsOneOrTwo, Ran, KeepsCount, Rose, entries-append, IsTooLong, FeedForm, ended_commands, limits_of, has_whole_end, is_whole_end, end_entry, Known, actor_of, commands_in, IsPartOf, HasFed, RunsFeed, IsReadWhole, FeedRun, IsFeedOf}
 use Rattle.command_lines.specs.Feeds.{IsWhole}
-use Rattle.line_text.specs.line_reader.Limits.{IsTooLong}
-use Rattle.command_lines.specs.declared.forms.FeedForm.{FeedForm}
-use Rattle.command_lines.specs.Limits.{ended_commands, limits_of}
-use Rattle.model_laws.specs.inner.history_laws.Finishing.{has_whole_end, is_whole_end}
-use Rattle.board_core.specs.Recorded.{end_entry}
-use Rattle.fleet_board.specs.inner.Passes.{Known, actor_of, commands_in}
-use Rattle.fleet_board.specs.inner.Sets.{IsPartOf}
-use Rattle.session_loops.specs.inner.Loops.{HasFed, RunsFeed}
-use Rattle.line_text.specs.line_reader.FeedRuns.{IsReadWhole}
 use Rattle.session_loops.specs.Stops.{AreFirstOf}
-use Rattle.live_sessions.specs.Serving.{FeedRun, IsFeedOf}
 
 -- a feed was read whole, or something of it kept it from that
 read_whole : (ran : Ran) → IsReadWhole ran ⊎ ((ran.source_failed ≡ true) ⊎ (ran.too_long ≡ true))
@@ -62,11 +35,6 @@ feed-actor n (low, high) = ap (λ b. cond b (Feed n) (Desk (n - 2))) (small n hi
   where
     small : (m : ℕ) → m ≤ 2 → nat_le m 2 ≡ true
     small m h = grind arith
-
--- what entries have of an actor, in two parts
-pub entries-append : (actor : Actor) (first second : List Entry) → entries_of actor (first ++ second) ≡ entries_of actor first ++ entries_of actor second
-unfolding entries_of
-entries-append actor first second = filter-append (λ (entry : Entry). is_actor entry.actor actor) first second
 
 -- what entries after others have of an actor, by what they have of it together
 pub part-after : (actor : Actor) (before more made : List Entry) → entries_of actor (before ++ more) ≡ entries_of actor before ++ made

@@ -1,3 +1,4 @@
+pub mod Common
 pub mod Counts
 pub mod FeedParts
 pub mod DeskParts

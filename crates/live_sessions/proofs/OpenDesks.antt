@@ -1,10 +1,5 @@
 -- The batch that a desk has open, by its number.
-use Rattle.std.proofs.Common.{◌≡◌, ℕ, Bool, true, false, ◌&&◌, cond, eqb, List, [], ◌∷◌, Some, refl, ap, ◌∙◌, eq-eqb}
-use Rattle.std.specs.Prelude.{find, ◌==◌}
-use Rattle.std.proofs.lemmas.Bool.{eqb-true}
-use Rattle.ride_model.specs.Seating.{BatchCopy}
-use Rattle.ride_model.specs.State.{State, is_batch, open_batch_numbered, open_batch_of}
-use Rattle.model_laws.proofs.plain.Among.{found_among}
+use Rattle.live_sessions.proofs.Common.{◌≡◌, ℕ, Bool, true, false, ◌&&◌, cond, eqb, List, [], ◌∷◌, Some, refl, ap, ◌∙◌, eq-eqb, find, ◌==◌, eqb-true, BatchCopy, State, is_batch, open_batch_numbered, open_batch_of, found_among}
 
 -- the first batch of a desk is the first of that desk and its own number
 found-numbered : (desk : ℕ) (batches : List BatchCopy) (batch : BatchCopy) → find (λ (b : BatchCopy). b.desk == desk) batches ≡ Some batch

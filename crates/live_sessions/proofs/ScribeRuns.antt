@@ -1,16 +1,6 @@
 -- What a scribe leaves, by what its loop says.
-use Rattle.std.proofs.Common.{◌≡◌, ℕ, ◌≤◌, Bool, true, false, List, length, take, Option, Result, Ok, Err, refl, sym, subst, arith}
-use Rattle.std.specs.Prelude.{IfOk, OnErr, is_err, min}
-use Rattle.std.proofs.lemmas.List.{take_min}
-use Rattle.ride_model.specs.declared.entry.Entry.{Entry}
-use Rattle.ride_model.specs.Text.{entry_lines}
+use Rattle.live_sessions.proofs.Common.{◌≡◌, ℕ, ◌≤◌, Bool, true, false, List, length, take, Option, Result, Ok, Err, refl, sym, subst, arith, IfOk, OnErr, is_err, min, take_min, Entry, entry_lines, KeepsCount, Failed, put-failed, put-line, put-line_failed, Scribed, HasToldSome, bare, HasScribed, HasScribedSome}
 use Rattle.ride_ports.specs.Bytes.{WritesPrefix}
-use Rattle.ride_ports.specs.Count.{KeepsCount}
-use Rattle.ride_ports.specs.declared.sources.Failed.{Failed}
-use Rattle.line_text.proofs.text_page.OutputLemmas.{put-failed, put-line, put-line_failed}
-use Rattle.session_loops.specs.declared.scribes.Scribed.{Scribed}
-use Rattle.live_sessions.specs.inner.Actors.{HasToldSome, bare}
-use Rattle.session_loops.specs.inner.Loops.{HasScribed, HasScribedSome}
 
 -- so many entries were logged, and whether the sink took the head
 pub record Told (log : ℕ) (head_failed : Bool) (before after : Option (List ℕ)) (faults m : ℕ) (scribed : Result Scribed Failed) (seen : List Entry)

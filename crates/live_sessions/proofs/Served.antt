@@ -1,29 +1,5 @@
 -- A session that was begun: all that its contract says, by what its actors left and its log says.
-use Rattle.std.proofs.Common.{◌≡◌, ℕ, Bool, true, false, ◌||◌, ◌⊎◌, inl, inr, List, [], ◌++◌, take, drop, Option, Result, Ok, Err, sym, ap, subst, ◌∙◌, true≢false}
-use Rattle.std.specs.Prelude.{IfOk, is_err}
-use Rattle.std.proofs.lemmas.Bool.{cases_Bool, or_parts, or_cases}
-use Rattle.ride_model.specs.declared.entry.Entry.{Entry}
-use Rattle.ride_model.specs.Legal.{IsLegal}
-use Rattle.ride_model.specs.Text.{HasText, entry_lines, head_line, text_of}
-use Rattle.ride_ports.specs.declared.outcome.Ran.{Ran}
-use Rattle.ride_ports.specs.declared.sources.Failed.{Failed}
-use Rattle.line_text.specs.line_reader.FeedRuns.{IsReadWhole}
-use Rattle.line_text.specs.line_reader.Limits.{IsTooLong}
-use Rattle.command_lines.specs.Limits.{limits_of}
-use Rattle.model_laws.specs.history_laws.Start.{IsStart}
-use Rattle.board_core.specs.Recorded.{Recorded}
-use Rattle.turn_lock.specs.Passes.{knowledge}
-use Rattle.fleet_board.specs.inner.Passes.{root_of}
-use Rattle.fleet_board.specs.inner.Turns.{as_began}
-use Rattle.line_text.specs.inner.text_page.Output.{HasPut, OutputState}
-use Rattle.session_loops.specs.declared.scribes.Scribed.{Scribed}
-use Rattle.live_sessions.specs.declared.actors.Actors.{Actors}
-use Rattle.live_sessions.specs.declared.actors.Answers.{Answers}
-use Rattle.live_sessions.specs.declared.stages.Stage.{Stage}
-use Rattle.live_sessions.specs.inner.Actors.{bare}
-use Rattle.live_sessions.specs.Resuming.{IsResumed, form_after, is_broken_off, still_feeds}
-use Rattle.live_sessions.specs.Serving.{FeedRun, HasServed, IsWrittenOut}
-use Rattle.live_sessions.specs.inner.Stages.{IsClosed, IsReady, LeavesActors, board_of, is_cut_short, ran_of}
+use Rattle.live_sessions.proofs.Common.{◌≡◌, ℕ, Bool, true, false, ◌||◌, ◌⊎◌, inl, inr, List, [], ◌++◌, take, drop, Option, Result, Ok, Err, sym, ap, subst, ◌∙◌, true≢false, IfOk, is_err, cases_Bool, or_parts, or_cases, Entry, IsLegal, HasText, entry_lines, head_line, text_of, Ran, Failed, IsReadWhole, IsTooLong, limits_of, IsStart, Recorded, knowledge, root_of, as_began, HasPut, OutputState, Scribed, Actors, Answers, Stage, bare, IsResumed, form_after, is_broken_off, still_feeds, FeedRun, HasServed, IsWrittenOut, IsClosed, IsReady, LeavesActors, board_of, is_cut_short, ran_of}
 use Rattle.live_sessions.proofs.Sessions.{served, text-joined, written-out}
 use Rattle.live_sessions.proofs.StageLemmas.{FeederOf, began, desks-whole, drivers-of, drivers-sink, feeder-sink, feeds-whole, goes_on, riders-of}
 

@@ -1,23 +1,8 @@
 -- What a session gives, by what its actors' loops and its log say.
-use Rattle.std.proofs.Common.{◌≡◌, ℕ, ◌≤◌, true, false, inl, inr, List, [], ◌++◌, length, take, drop, Option, sym, ap, subst, ◌∙◌, take-append-drop}
-use Rattle.std.proofs.lemmas.List.{take-append-le}
+use Rattle.live_sessions.proofs.Common.{◌≡◌, ℕ, ◌≤◌, true, false, inl, inr, List, [], ◌++◌, length, take, drop, Option, sym, ap, subst, ◌∙◌, take-append-drop, take-append-le, IsPrefix, Feed, Desk, Entry, entries_of, IsLegal, IsNumbered, State, HasText, entry_lines, head_line, text_of, Ran, has_whole_end, IsStart, HasPut, OutputState, written-prefix, written-whole, IsReadWhole, HasServed, IsWrittenOut}
 use Rattle.model_laws.proofs.plain.Numbers.{one_of_two}
-use mathlib.Core.List.{IsPrefix}
-use Rattle.ride_model.specs.declared.command.Actor.TheVariants.{Feed, Desk}
-use Rattle.ride_model.specs.declared.entry.Entry.{Entry}
-use Rattle.ride_model.specs.History.{entries_of}
-use Rattle.ride_model.specs.Legal.{IsLegal, IsNumbered}
-use Rattle.ride_model.specs.State.{State}
-use Rattle.ride_model.specs.Text.{HasText, entry_lines, head_line, text_of}
-use Rattle.ride_ports.specs.declared.outcome.Ran.{Ran}
-use Rattle.model_laws.specs.inner.history_laws.Finishing.{has_whole_end}
-use Rattle.model_laws.specs.history_laws.Start.{IsStart}
 use Rattle.model_laws.proofs.history_laws.Finished.{whole-finished}
 use Rattle.model_laws.proofs.history_laws.KeptHistory.{keeps_promises}
-use Rattle.line_text.specs.inner.text_page.Output.{HasPut, OutputState}
-use Rattle.line_text.proofs.text_page.OutputLemmas.{written-prefix, written-whole}
-use Rattle.line_text.specs.line_reader.FeedRuns.{IsReadWhole}
-use Rattle.live_sessions.specs.Serving.{HasServed, IsWrittenOut}
 use Rattle.live_sessions.proofs.DeskParts.{DeskWhole, none-given_up, part-whole}
 use Rattle.session_loops.proofs.LogLemmas.{text_of-append}
 

@@ -1,47 +1,13 @@
 -- A session from before its actors run to after they did.
-use Rattle.std.proofs.Common.{◌≡◌, ◌≢◌, ℕ, ◌+◌, ◌≤◌, ◌&&◌, ◌||◌, inl, inr, Bool, true, false, not, List, [], ◌++◌, Option, Some, None, refl, sym, ap, subst, ◌∙◌, append_assoc, append-nil, true≢false, arith}
-use Rattle.std.specs.Prelude.{IfSome, IsNone, IsSomeAnd, MatchOption, nat_le}
-use Rattle.std.proofs.Math.Bool.{or-true}
-use Rattle.std.proofs.lemmas.Bool.{cases_Bool}
-use Rattle.std.proofs.lemmas.List.Folds.{list_any-append}
-use Rattle.ride_model.specs.declared.command.Actor.TheVariants.{Feed, Desk as DeskNumbered}
-use Rattle.ride_model.specs.declared.entry.Entry.{Entry}
-use Rattle.ride_model.specs.History.{entries_of}
-use Rattle.ride_model.specs.Legal.{IsLegal, IsNumbered}
-use Rattle.ride_model.specs.Road.{RoadMap}
-use Rattle.ride_model.specs.Seating.{BatchCopy}
-use Rattle.ride_model.specs.State.{State, has_ended}
-use Rattle.ride_model.specs.Text.{IsOneOrTwo}
-use Rattle.ride_ports.specs.Count.{KeepsCount}
-use Rattle.ride_ports.specs.declared.outcome.Ran.{Ran}
+use Rattle.live_sessions.proofs.Common.{◌≡◌, ◌≢◌, ℕ, ◌+◌, ◌≤◌, ◌&&◌, ◌||◌, inl, inr, Bool, true, false, not, List, [], ◌++◌, Option, Some, None, refl, sym, ap, subst, ◌∙◌, append_assoc, append-nil, true≢false, arith, IfSome, IsNone, IsSomeAnd, MatchOption, nat_le, or-true, cases_Bool, list_any-append, Feed, Entry, entries_of, IsLegal, IsNumbered, RoadMap, BatchCopy, State, has_ended, IsOneOrTwo, KeepsCount, Ran, IsReadWhole, IsTooLong, FeedForm, limits_of, IsLegal-parts, gives_up, has_whole_end, is_whole_end, Recorded, state_of, knowledge, Known, root_of, IsPartOf, one_if_some, as_began, root-stays, RunsFeed, Actors, Answers, Feeder, Stage, IsIdle, LeavesDesk, LeavesFeeder, IsFeedAfter, form_after, is_broken_off, still_feeds, FeedRun, IsClosed, IsDeskOf, IsEquipped, IsFeederOf, IsReady, IsFeedStart, LeavesActors, board_of, entries-append}
+use Rattle.ride_model.specs.declared.command.Actor.TheVariants.{Desk as DeskNumbered}
 use Rattle.ride_ports.proofs.Counts.{KeepsCount-none}
-use Rattle.line_text.specs.line_reader.FeedRuns.{IsReadWhole}
-use Rattle.line_text.specs.line_reader.Limits.{IsTooLong}
-use Rattle.command_lines.specs.declared.forms.FeedForm.{FeedForm}
-use Rattle.command_lines.specs.Limits.{limits_of}
-use Rattle.model_laws.proofs.Histories.{IsLegal-parts}
-use Rattle.model_laws.specs.inner.history_laws.Finishing.{gives_up, has_whole_end, is_whole_end}
-use Rattle.board_core.specs.Recorded.{Recorded, state_of}
-use Rattle.turn_lock.specs.Passes.{knowledge}
 use Rattle.fleet_board.specs.declared.shared.SharedBoard.{SharedBoard}
-use Rattle.fleet_board.specs.inner.Passes.{Known, root_of}
-use Rattle.fleet_board.specs.inner.Sets.{IsPartOf, one_if_some}
-use Rattle.fleet_board.specs.inner.Turns.{as_began}
-use Rattle.fleet_board.proofs.Looking.{root-stays}
-use Rattle.session_loops.specs.inner.Loops.{RunsFeed}
-use Rattle.live_sessions.specs.declared.actors.Actors.{Actors}
-use Rattle.live_sessions.specs.declared.actors.Answers.{Answers}
 use Rattle.live_sessions.specs.declared.desk_pairs.Desk.{Desk}
-use Rattle.live_sessions.specs.declared.feed_pairs.Feeder.{Feeder}
 use Rattle.live_sessions.specs.declared.living.FeedStart.{FeedStart}
-use Rattle.live_sessions.specs.declared.stages.Stage.{Stage}
-use Rattle.live_sessions.specs.inner.Actors.{IsIdle, LeavesDesk, LeavesFeeder}
-use Rattle.live_sessions.specs.Resuming.{IsFeedAfter, form_after, is_broken_off, still_feeds}
-use Rattle.live_sessions.specs.Serving.{FeedRun}
-use Rattle.live_sessions.specs.inner.Stages.{IsClosed, IsDeskOf, IsEquipped, IsFeederOf, IsReady, IsFeedStart, LeavesActors, board_of}
 use Rattle.live_sessions.proofs.BrokenOff.{ended-whole, no-feed, none-broken}
 use Rattle.live_sessions.proofs.DeskParts.{DeskWhole, desk-of, desk-over}
-use Rattle.live_sessions.proofs.FeedParts.{entries-append, feed-of, part-after}
+use Rattle.live_sessions.proofs.FeedParts.{feed-of, part-after}
 use Rattle.live_sessions.proofs.Sessions.{first-or-second}
 use Rattle.live_sessions.proofs.Starts.{own-desk, own-feed, told-of}
 

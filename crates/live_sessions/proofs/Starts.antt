@@ -1,30 +1,13 @@
 -- The actors of a session that is ready may run.
-use Rattle.std.proofs.Common.{◌≡◌, ◌≢◌, ℕ, ◌+◌, ◌-◌, ◌≤◌, Bool, true, false, not, List, Option, Some, None, refl, sym, ap, subst, ◌∙◌, arith}
-use Rattle.std.specs.Prelude.{IfSome, IsFalse, MatchOption, is_some, length}
-use Rattle.ride_model.specs.declared.command.Actor.TheVariants.{Feed, Desk as DeskNumbered}
-use Rattle.ride_model.specs.declared.entry.Entry.{Entry}
-use Rattle.ride_model.specs.History.{entries_of, fed_commands}
-use Rattle.ride_model.specs.inner.Limits.{most_earlier_commands}
-use Rattle.ride_model.specs.Seating.{BatchCopy}
-use Rattle.ride_model.specs.State.{has_ended, open_batch_numbered, open_batch_of}
-use Rattle.ride_model.specs.Text.{IsOneOrTwo}
-use Rattle.command_lines.specs.declared.forms.FeedForm.{FeedForm}
-use Rattle.command_lines.specs.Limits.{most_lines}
+use Rattle.live_sessions.proofs.Common.{◌≡◌, ◌≢◌, ℕ, ◌+◌, ◌-◌, ◌≤◌, Bool, true, false, not, List, Option, Some, None, refl, sym, ap, subst, ◌∙◌, arith, IfSome, IsFalse, MatchOption, is_some, length, Feed, Entry, entries_of, fed_commands, most_earlier_commands, BatchCopy, has_ended, open_batch_numbered, open_batch_of, IsOneOrTwo, FeedForm, most_lines, Recorded, state_of, knowledge, Known, commands_in, desk_of, root_of, seen_state, IsTold, Feeder, Stage, MayRunDesk, MayRunFeeder, IsDeskOf, IsFeederOf, IsReady, MayRunActors, board_of}
+use Rattle.ride_model.specs.declared.command.Actor.TheVariants.{Desk as DeskNumbered}
 use Rattle.command_lines.specs.inner.Limits.{IsForm}
-use Rattle.board_core.specs.Recorded.{Recorded, state_of}
 use Rattle.board_core.proofs.OpenBatches.{open-priceable}
-use Rattle.turn_lock.specs.Passes.{knowledge}
 use Rattle.batch_commit.specs.inner.Table.{IsPriceable}
-use Rattle.fleet_board.specs.inner.Passes.{Known, commands_in, desk_of, root_of, seen_state}
 use Rattle.fleet_board.specs.Roles.{MayCommit, MayOpen}
-use Rattle.fleet_board.specs.inner.Turns.{IsTold}
 use Rattle.fleet_board.proofs.Parts.{items-desk, items-feed}
 use Rattle.fleet_board.proofs.Standing.{standing-desk, standing-feed, standing-open}
 use Rattle.live_sessions.specs.declared.desk_pairs.Desk.{Desk}
-use Rattle.live_sessions.specs.declared.feed_pairs.Feeder.{Feeder}
-use Rattle.live_sessions.specs.declared.stages.Stage.{Stage}
-use Rattle.live_sessions.specs.inner.Actors.{MayRunDesk, MayRunFeeder}
-use Rattle.live_sessions.specs.inner.Stages.{IsDeskOf, IsFeederOf, IsReady, MayRunActors, board_of}
 use Rattle.live_sessions.proofs.OpenDesks.{of-desk}
 
 -- what is not true is false

@@ -1,26 +1,9 @@
 -- The text of a legal history is within the limits of an audit.
-use Rattle.std.proofs.Common.{◌≡◌, ℕ, ◌≤◌, inl, inr, List, Result, Ok, length, refl, arith}
-use Rattle.std.specs.Prelude.{All}
-use Rattle.std.proofs.lemmas.List.Elements.{All-weaker}
-use Rattle.line_text.specs.Lines.{lines_of}
-use Rattle.ride_model.specs.declared.entry.Entry.{Entry}
-use Rattle.ride_model.specs.History.{fed_commands}
-use Rattle.ride_model.specs.Legal.{IsLegal, IsNumbered}
-use Rattle.ride_model.specs.State.{State}
-use Rattle.ride_model.specs.Text.{HasText, text_of}
+use Rattle.log_audit.proofs.Common.{◌≡◌, ℕ, ◌≤◌, inl, inr, List, Result, Ok, length, refl, arith, All, All-weaker, lines_of, Entry, fed_commands, IsLegal, IsNumbered, State, HasText, text_of, IsStart, text-le, Totals, AreTotalsOf, AuditFault, Verdict, Yes, IsAnswer, most_line, IsTooLong}
 use Rattle.command_lines.specs.Limits.{feed_limits}
-use Rattle.model_laws.specs.history_laws.Start.{IsStart}
 use Rattle.trip_log.proofs.limit_laws.FedCommands.{few-fed}
 use Rattle.trip_log.proofs.limit_laws.Tallies.{few-entries}
 use Rattle.trip_log.proofs.limit_laws.TextLines.{count-lines, each-line}
-use Rattle.trip_log.proofs.limit_laws.Texts.{text-le}
-use Rattle.board_core.specs.declared.board.totals.Totals.{Totals}
-use Rattle.board_core.specs.Totals.{AreTotalsOf}
-use Rattle.log_audit.specs.declared.verdict.AuditFault.{AuditFault}
-use Rattle.log_audit.specs.declared.verdict.Verdict.{Verdict}
-use Rattle.log_audit.specs.declared.verdict.Verdict.TheVariants.{Yes}
-use Rattle.log_audit.specs.Audit.{IsAnswer}
-use Rattle.log_audit.specs.Limits.{most_line, IsTooLong}
 use Rattle.log_audit.proofs.OneAnswer.{one-answer}
 
 -- a text that has no more commands of a feed than a feed may have lines

@@ -1,39 +1,5 @@
 -- The steps of an audit: its head, a line after it, and how it ends.
-use Rattle.std.proofs.Common.{◌≡◌, ◌≢◌, ℕ, ◌+◌, ◌≤◌, inl, inr, true, false, List, [], ◌∷◌, ◌++◌, length, take, Option, None, Some, refl, sym, ◌∙◌, ap, subst, arith, append_assoc, length-append}
-use Rattle.std.specs.Prelude.{IfSome, IfNone, IfOk, Result, Ok, Err, MatchOption, nat_lt, codes, decimal}
-use Rattle.std.proofs.lemmas.Bool.{ltb-true, lt-ltb, cases_lt}
-use Rattle.std.proofs.lemmas.Fmt.{decimal_digit}
-use Rattle.std.proofs.lemmas.List.{take_all}
-use Rattle.line_text.specs.Lines.{ended_after, ended_lines, rest_after, rest_of}
-use Rattle.ride_model.specs.declared.entry.Entry.{Entry}
-use Rattle.ride_model.specs.Legal.{IsLegal}
-use Rattle.ride_model.specs.State.{State}
-use Rattle.ride_model.specs.Text.{HasLine, HasText, IsOneOrTwo, entry_line, head_line, line_of, text_of}
-use Rattle.model_laws.specs.history_laws.Start.{IsStart}
-use Rattle.board_core.specs.Recorded.{Recorded, state_of}
-use Rattle.log_audit.specs.declared.auditor.Auditor.{Auditor}
-use Rattle.log_audit.specs.declared.fault.Fault.{Fault}
-use Rattle.trip_log.specs.declared.reading.Head.{Head}
-use Rattle.trip_log.proofs.ReadLemmas.{for_one_or_two}
-use Rattle.trip_log.proofs.TextLemmas.{texts-same}
-use Rattle.line_text.specs.declared.line_reader.answers.NextLine.{NextLine}
-use Rattle.line_text.specs.declared.line_reader.answers.NextLine.TheVariants.{Line, Unfinished, End}
-use Rattle.line_text.specs.inner.line_reader.Reader.{ReaderState}
-use Rattle.line_text.specs.line_reader.Reader.{HasNoLf}
-use Rattle.log_audit.specs.declared.verdict.AuditFault.{AuditFault}
-use Rattle.log_audit.specs.declared.verdict.AuditFault.TheVariants.{ReadFault, TooLong, NoMemory}
-use Rattle.log_audit.specs.declared.verdict.Verdict.{Verdict}
-use Rattle.log_audit.specs.declared.verdict.Verdict.TheVariants.{No}
-use Rattle.log_audit.specs.declared.verdict.Why.{Why}
-use Rattle.log_audit.specs.declared.verdict.Why.TheVariants.{Spelling}
-use Rattle.log_audit.specs.Audit.{HasNoHead, IsAnswer, IsLogOf, IsWrongLine}
-use Rattle.log_audit.specs.Audited.{FailsAfter}
-use Rattle.log_audit.specs.inner.Audited.{HasReadHead, HasReadNoHead, IsWrongLineAfter, text_so_far}
-use Rattle.log_audit.specs.inner.Auditing.{IsAuditing, IsJudged, IsLineOf, LeavesDue}
-use Rattle.log_audit.specs.Limits.{Counts, IsTooLong, lines_within, most_line, most_lines}
-use Rattle.log_audit.specs.inner.LogLines.{HasRead, IsAtEnd, IsNext, IsNextLine, IsStop}
-use Rattle.log_audit.specs.inner.Reading.{StopsReading}
-use Rattle.log_audit.specs.Words.{IsFault}
+use Rattle.log_audit.proofs.Common.{◌≡◌, ◌≢◌, ℕ, ◌+◌, ◌≤◌, inl, inr, true, false, List, [], ◌∷◌, ◌++◌, length, take, Option, None, Some, refl, sym, ◌∙◌, ap, subst, arith, append_assoc, length-append, IfSome, IfNone, IfOk, Result, Ok, Err, MatchOption, nat_lt, codes, decimal, ltb-true, lt-ltb, cases_lt, decimal_digit, take_all, ended_after, ended_lines, rest_after, rest_of, Entry, IsLegal, State, HasLine, HasText, IsOneOrTwo, entry_line, head_line, line_of, text_of, IsStart, Recorded, state_of, Auditor, Fault, Head, for_one_or_two, texts-same, NextLine, Line, Unfinished, End, ReaderState, HasNoLf, AuditFault, ReadFault, TooLong, NoMemory, Verdict, No, Why, Spelling, HasNoHead, IsAnswer, IsLogOf, IsWrongLine, FailsAfter, HasReadHead, HasReadNoHead, IsWrongLineAfter, text_so_far, IsAuditing, IsJudged, IsLineOf, LeavesDue, Counts, IsTooLong, lines_within, most_line, most_lines, HasRead, IsAtEnd, IsNext, IsNextLine, IsStop, StopsReading, IsFault}
 use Rattle.log_audit.proofs.Ends.{all-read, count-text, counts-front, ends-fault, ends-too_long, one-line-more, wrong-next}
 use Rattle.log_audit.proofs.LogParts.{few-bytes, lines-counted, told-by}
 use Rattle.log_audit.proofs.OneAnswer.{one-answer}

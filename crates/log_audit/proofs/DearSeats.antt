@@ -1,21 +1,6 @@
 -- Where prices certify a seating, each seat costs what its pair is priced at.
-use Rattle.std.proofs.Common.{◌≡◌, ℕ, ◌+◌, ◌-◌, ◌*◌, ◌≤◌, List, [], ◌∷◌, length, refl, sym, ap, subst, arith}
-use Rattle.std.specs.Prelude.{map, sum_by, All, Some, IfSome, IsSome, unwrap_or, option_and_then, nat_eq}
-use Rattle.std.specs.List.{AllByRecursion, IsDistinct}
-use Rattle.std.proofs.lemmas.List.{length-map}
-use Rattle.std.proofs.lemmas.List.Elements.{recursion_from_All, All-contains}
-use Rattle.std.proofs.lemmas.List.Sums.{sum_by-cons}
-use Rattle.ride_model.specs.declared.offer.Seat.{Seat}
-use Rattle.ride_model.specs.declared.vehicle.Ride.{Ride}
-use Rattle.ride_model.specs.declared.vehicle.Vehicle.{Vehicle}
-use Rattle.ride_model.specs.Road.{RoadMap}
-use Rattle.ride_model.specs.Offers.{price}
-use Rattle.ride_model.specs.Vehicle.{ride_ids}
-use Rattle.ride_model.specs.Seating.{BatchCopy, find_ride, find_vehicle, has_seat, seat_offer, seat_cost, amount_of, IsCovered, Certifies}
-use Rattle.model_laws.proofs.plain.Among.{contains_from_among}
-use Rattle.model_laws.proofs.Certificates.{sum-amounts, sum-amounts-le, each_capped, seat_facts}
+use Rattle.log_audit.proofs.Common.{◌≡◌, ℕ, ◌+◌, ◌-◌, ◌*◌, ◌≤◌, List, [], ◌∷◌, length, refl, sym, ap, subst, arith, map, sum_by, All, Some, IfSome, IsSome, unwrap_or, option_and_then, nat_eq, AllByRecursion, IsDistinct, length-map, recursion_from_All, All-contains, sum_by-cons, Seat, Ride, Vehicle, RoadMap, price, ride_ids, BatchCopy, find_ride, find_vehicle, has_seat, seat_offer, seat_cost, amount_of, IsCovered, Certifies, contains_from_among, sum-amounts, sum-amounts-le, each_capped, seat_facts, price-le-cost}
 use Rattle.model_laws.proofs.CoveredPairs.{prices-le-cost}
-use Rattle.model_laws.proofs.OfferPrices.{price-le-cost}
 use Rattle.model_laws.proofs.plain.Sums.{sum_by-map}
 
 -- the price of a seat's pair

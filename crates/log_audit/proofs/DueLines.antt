@@ -1,24 +1,6 @@
 -- The line that was due in place of a wrong one.
-use Rattle.std.proofs.Common.{◌≡◌, ℕ, inl, inr, List, [], ◌∷◌, ◌++◌, Option, None, Some, Ok, Err, Vec, Global, sym, ◌∙◌, ap, subst, append-nil}
-use Rattle.std.specs.Prelude.{IfSome, IfOk, IsSomeAnd, IsTrue, IsFalse, Result}
-use Rattle.ride_model.specs.declared.entry.Entry.{Entry}
-use Rattle.ride_model.specs.Legal.{IsLegal, IsLegalEntry, replay}
-use Rattle.ride_model.specs.Seating.{BatchCopy}
-use Rattle.ride_model.specs.State.{State}
-use Rattle.ride_model.specs.Text.{HasLine, HasText, entry_line}
-use Rattle.model_laws.proofs.Histories.{IsLegal-parts}
-use Rattle.board_core.proofs.FewOutcomes.{first-legal}
-use Rattle.board_core.specs.Recorded.{Recorded}
-use Rattle.log_audit.specs.declared.auditor.Auditor.{Auditor}
-use Rattle.log_audit.specs.declared.fault.Fault.{Fault}
-use Rattle.log_audit.specs.declared.verdict.Verdict.TheVariants.{No}
-use Rattle.log_audit.specs.declared.verdict.Why.{Why}
-use Rattle.log_audit.specs.declared.verdict.Why.TheVariants.{Spelling, Actor as ToActor, Reply as ToReply, Batch as ToBatch, Seating as ToSeating, Prices as ToPrices, Outcomes as ToOutcomes}
-use Rattle.log_audit.specs.Audit.{IsAnswer, IsLogOf}
-use Rattle.log_audit.specs.inner.Audited.{text_so_far}
-use Rattle.log_audit.specs.inner.Auditing.{GoesOn, HasGrown, IsUncommitted, LeavesDue}
-use Rattle.log_audit.specs.inner.Due.{IsDue, IsDueOf, has_due}
-use Rattle.log_audit.specs.inner.Reading.{HasReadAll, HasReadWrong}
+use Rattle.log_audit.proofs.Common.{◌≡◌, ℕ, inl, inr, List, [], ◌∷◌, ◌++◌, Option, None, Some, Ok, Err, Vec, Global, sym, ◌∙◌, ap, subst, append-nil, IfSome, IfOk, IsSomeAnd, IsTrue, IsFalse, Result, Entry, IsLegal, IsLegalEntry, replay, BatchCopy, State, HasLine, HasText, entry_line, IsLegal-parts, first-legal, Recorded, Auditor, Fault, No, Why, Spelling, IsAnswer, IsLogOf, text_so_far, GoesOn, HasGrown, IsUncommitted, LeavesDue, IsDue, IsDueOf, has_due, HasReadAll, HasReadWrong}
+use Rattle.log_audit.specs.declared.verdict.Why.TheVariants.{Actor as ToActor, Reply as ToReply, Batch as ToBatch, Seating as ToSeating, Prices as ToPrices, Outcomes as ToOutcomes}
 use Rattle.log_audit.proofs.Ends.{IsWrongAfter, all-read, ends-wrong-entry}
 use Rattle.log_audit.proofs.Judged.{last-line}
 

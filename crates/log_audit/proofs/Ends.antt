@@ -1,33 +1,7 @@
 -- How an audit ends.
-use Rattle.std.proofs.Common.{◌≡◌, ◌≢◌, ℕ, ◌+◌, ◌-◌, ◌≤◌, inr, List, [], ◌∷◌, ◌++◌, length, take, Option, None, Some, refl, sym, ◌∙◌, ap, subst, arith, append_assoc, append-nil, length-append}
-use Rattle.std.specs.Prelude.{IfSome, Ok, Err}
-use Rattle.std.proofs.Math.Seq.{take-append-add}
-use Rattle.std.proofs.lemmas.Bool.{ne_eqb}
-use Rattle.std.proofs.lemmas.List.{length-map}
-use Rattle.ride_ports.specs.Bytes.{Reads}
-use Rattle.ride_ports.proofs.ByteLemmas.{Reads-to_end}
-use Rattle.line_text.specs.Lines.{ended_after, rest_after, ended_lines, rest_of}
-use Rattle.line_text.proofs.LineLemmas.{ended_lines-append, ended_after-no_end, rest_after-append, rest_after-no_end, HasNoEnd}
-use Rattle.ride_model.specs.declared.entry.Entry.{Entry}
-use Rattle.ride_model.specs.State.{State}
-use Rattle.ride_model.specs.Legal.{replay}
-use Rattle.ride_model.specs.Text.{entry_line}
-use Rattle.model_laws.specs.history_laws.Start.{IsStart}
+use Rattle.log_audit.proofs.Common.{◌≡◌, ◌≢◌, ℕ, ◌+◌, ◌-◌, ◌≤◌, inr, List, [], ◌∷◌, ◌++◌, length, take, Option, None, Some, refl, sym, ◌∙◌, ap, subst, arith, append_assoc, append-nil, length-append, IfSome, Ok, Err, take-append-add, ne_eqb, length-map, Reads, Reads-to_end, ended_after, rest_after, ended_lines, rest_of, ended_lines-append, ended_after-no_end, rest_after-append, rest_after-no_end, HasNoEnd, Entry, State, replay, entry_line, IsStart, cut-text, rest-text, ReaderState, HasNoLf, ReadFault, TooLong, Totals, Yes, No, Why, Spelling, Tells, IsLogOf, IsWrongEntry, IsWrongNext, IsAnswer, FailsAfter, most_bytes, most_lines, IsTooLong, lines_within, Counts, IsAtEnd, IsNextLine, IsStop, AreTotalsOf, IsFault}
 use Rattle.trip_log.specs.inner.Cuts.{front_of}
-use Rattle.trip_log.proofs.TextLemmas.{cut-text, rest-text}
-use Rattle.line_text.specs.inner.line_reader.Reader.{ReaderState}
-use Rattle.line_text.specs.line_reader.Reader.{HasNoLf}
-use Rattle.log_audit.specs.declared.verdict.AuditFault.TheVariants.{ReadFault, TooLong}
-use Rattle.board_core.specs.declared.board.totals.Totals.{Totals}
-use Rattle.log_audit.specs.declared.verdict.Verdict.TheVariants.{Yes, No}
-use Rattle.log_audit.specs.declared.verdict.Why.{Why}
-use Rattle.log_audit.specs.declared.verdict.Why.TheVariants.{Spelling, Actor as ToActor, Reply as ToReply, Batch as ToBatch, Seating as ToSeating, Prices as ToPrices, Outcomes as ToOutcomes}
-use Rattle.log_audit.specs.Audit.{Tells, IsLogOf, IsWrongEntry, IsWrongNext, IsAnswer}
-use Rattle.log_audit.specs.Audited.{FailsAfter}
-use Rattle.log_audit.specs.Limits.{most_bytes, most_lines, IsTooLong, lines_within, Counts}
-use Rattle.log_audit.specs.inner.LogLines.{IsAtEnd, IsNextLine, IsStop}
-use Rattle.board_core.specs.Totals.{AreTotalsOf}
-use Rattle.log_audit.specs.Words.{IsFault}
+use Rattle.log_audit.specs.declared.verdict.Why.TheVariants.{Actor as ToActor, Reply as ToReply, Batch as ToBatch, Seating as ToSeating, Prices as ToPrices, Outcomes as ToOutcomes}
 use Rattle.log_audit.proofs.LogParts.{few-bytes, lines-counted, told-by}
 use Rattle.log_audit.proofs.OneAnswer.{wrong-later}
 use Rattle.log_audit.proofs.WholeLines.{no-entry-first}

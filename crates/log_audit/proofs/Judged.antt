@@ -1,20 +1,5 @@
 -- Entries that were judged.
-use Rattle.std.proofs.Common.{◌≡◌, ◌≢◌, ℕ, List, [], ◌∷◌, ◌++◌, Option, None, Some, refl, sym, ◌∙◌, ap, subst}
-use Rattle.std.specs.Prelude.{All}
-use Rattle.std.proofs.lemmas.List.Elements.{All-contains, Contains-push}
-use Rattle.std.proofs.lemmas.Option.{same_Some}
-use Rattle.ride_model.specs.declared.entry.Entry.{Entry}
-use Rattle.ride_model.specs.Seating.{BatchCopy}
-use Rattle.ride_model.specs.State.{State}
-use Rattle.ride_model.specs.Text.{HasLine, HasText, IsOneOrTwo, entry_line}
-use Rattle.trip_log.proofs.ReadLemmas.{lines-same}
-use Rattle.board_core.specs.Recorded.{Recorded, state_of}
-use Rattle.log_audit.specs.declared.auditor.Auditor.{Auditor}
-use Rattle.log_audit.specs.declared.fault.Fault.{Fault}
-use Rattle.log_audit.specs.declared.verdict.Why.{Why}
-use Rattle.log_audit.specs.inner.Auditing.{GoesOn, IsAuditing, IsJudged, IsLineOf, LeavesDue}
-use Rattle.log_audit.specs.inner.OpenBatches.{AreOpen}
-use Rattle.log_audit.specs.Words.{IsFault}
+use Rattle.log_audit.proofs.Common.{◌≡◌, ◌≢◌, ℕ, List, [], ◌∷◌, ◌++◌, Option, None, Some, refl, sym, ◌∙◌, ap, subst, All, All-contains, Contains-push, same_Some, Entry, BatchCopy, State, HasLine, HasText, IsOneOrTwo, entry_line, lines-same, Recorded, state_of, Auditor, Fault, Why, GoesOn, IsAuditing, IsJudged, IsLineOf, LeavesDue, AreOpen, IsFault}
 
 -- an audit goes on where its board has the same start, and the same batches are open
 pub auditing-on : (old new : Auditor) → IsAuditing old → new.board.start ≡ old.board.start → new.pricing ≡ old.pricing → new.log ≡ old.log

@@ -1,27 +1,6 @@
 -- The words why a line is wrong: together they are what makes an entry legal, and only one is the first that is not met.
-use Rattle.std.proofs.Common.{◌≡◌, ℕ, ◌<◌, inl, inr, List, refl, sym, ◌∙◌, ap, subst, arith}
-use Rattle.std.specs.Prelude.{◌==◌, if◌then◌else◌, Option, Some, None, IsSome, IfSome, IsSomeAnd, All, nat_eq}
-use Rattle.std.specs.List.{IsDistinct}
-use Rattle.std.proofs.lemmas.Bool.{cases_order}
-use Rattle.ride_model.specs.declared.command.Actor.{Actor}
-use Rattle.ride_model.specs.declared.command.Actor.TheVariants.{Feed, Desk}
-use Rattle.ride_model.specs.declared.entry.Entry.{Entry}
-use Rattle.ride_model.specs.declared.entry.Event.{Event}
-use Rattle.ride_model.specs.declared.entry.Event.TheVariants.{Fed, Finish, Opened, Committed, Abandoned}
-use Rattle.ride_model.specs.declared.entry.Outcome.{Outcome}
-use Rattle.ride_model.specs.declared.offer.Seat.{Seat}
-use Rattle.ride_model.specs.Batch.{outcomes_of}
-use Rattle.ride_model.specs.Legal.{IsLegal, IsLegalEvent, CommitsBatch, replay}
-use Rattle.ride_model.specs.Seating.{BatchCopy, IsSeating, Certifies, seating_cost}
-use Rattle.ride_model.specs.State.{State, open_batch_numbered}
-use Rattle.ride_model.specs.Vehicle.{ride_ids}
-use Rattle.model_laws.proofs.Certificates.{certified_is_least}
-use Rattle.model_laws.specs.history_laws.Start.{IsStart}
-use Rattle.model_laws.proofs.history_laws.EveryState.{consistent}
-use Rattle.board_core.proofs.OpenBatches.{open-batch}
-use Rattle.log_audit.specs.declared.verdict.Why.{Why}
-use Rattle.log_audit.specs.declared.verdict.Why.TheVariants.{Spelling, Actor as ToActor, Reply as ToReply, Batch as ToBatch, Seating as ToSeating, Prices as ToPrices, Outcomes as ToOutcomes}
-use Rattle.log_audit.specs.Words.{MayAct, IsAnswered, IsNamed, IsSeated, IsPriced, IsDecided, Meets, rank, IsFault}
+use Rattle.log_audit.proofs.Common.{◌≡◌, ℕ, ◌<◌, inl, inr, List, refl, sym, ◌∙◌, ap, subst, arith, ◌==◌, if◌then◌else◌, Option, Some, None, IsSome, IfSome, IsSomeAnd, All, nat_eq, IsDistinct, cases_order, Actor, Feed, Desk, Entry, Event, Fed, Finish, Opened, Committed, Abandoned, Outcome, Seat, outcomes_of, IsLegal, IsLegalEvent, CommitsBatch, replay, BatchCopy, IsSeating, Certifies, seating_cost, State, open_batch_numbered, ride_ids, certified_is_least, IsStart, consistent, open-batch, Why, Spelling, MayAct, IsAnswered, IsNamed, IsSeated, IsPriced, IsDecided, Meets, rank, IsFault}
+use Rattle.log_audit.specs.declared.verdict.Why.TheVariants.{Actor as ToActor, Reply as ToReply, Batch as ToBatch, Seating as ToSeating, Prices as ToPrices, Outcomes as ToOutcomes}
 
 -- the word at a place
 word_at : ℕ → Why

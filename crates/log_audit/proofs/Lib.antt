@@ -1,3 +1,4 @@
+pub mod Common
 pub mod LogParts
 pub mod Legality
 pub mod OpenOnes

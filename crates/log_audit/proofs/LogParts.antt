@@ -1,23 +1,10 @@
 -- The lines of a log: what a reader of them gives, and where it stops.
-use Rattle.std.proofs.Common.{◌≡◌, ℕ, ◌+◌, ◌≤◌, inl, inr, List, [], ◌∷◌, ◌++◌, length, take, min, Option, None, Some, refl, ap, sym, subst, ◌∙◌, arith, append_assoc, length-append, nat_lt, take_all}
-use Rattle.std.specs.Prelude.{IfSome}
-use Rattle.std.proofs.lemmas.Bool.{cases_lt}
-use Rattle.std.proofs.lemmas.List.{length-take, take-append-le}
-use Rattle.ride_ports.specs.Bytes.{Reads}
-use Rattle.ride_ports.proofs.ByteLemmas.{Reads-none, Reads-then, Reads-told}
-use Rattle.line_text.specs.Lines.{ended_lines, last_line, rest_of}
-use Rattle.line_text.proofs.LineLemmas.{lines-grow}
-use Rattle.line_text.specs.declared.line_reader.answers.NextLine.{NextLine}
-use Rattle.line_text.specs.declared.line_reader.answers.NextLine.TheVariants.{Line, Unfinished, End}
+use Rattle.log_audit.proofs.Common.{◌≡◌, ℕ, ◌+◌, ◌≤◌, inl, inr, List, [], ◌∷◌, ◌++◌, length, take, min, Option, None, Some, refl, ap, sym, subst, ◌∙◌, arith, append_assoc, length-append, nat_lt, take_all, IfSome, cases_lt, length-take, take-append-le, Reads, Reads-none, Reads-then, Reads-told, ended_lines, last_line, rest_of, lines-grow, NextLine, Line, Unfinished, End, ReaderState, IsStopped, ReadFault, TooLong, most_bytes, most_lines, IsTooLong, lines_within, log_limits, TakesSome, HasRead, IsAtEnd, IsNext, IsStop}
 use Rattle.line_text.specs.declared.line_reader.answers.ReadStop.TheVariants.{SourceFailed as ReadFailed, TooLong as ReadTooLong}
 use Rattle.line_text.specs.declared.line_reader.limits.Limits.{Limits}
 use Rattle.line_text.specs.line_reader.Limits.{IsWithinLimits, lines_within as lines_in}
-use Rattle.line_text.specs.inner.line_reader.Reader.{ReaderState, IsNext as IsNextText, IsAtEnd as IsAtEndText, IsStopped}
+use Rattle.line_text.specs.inner.line_reader.Reader.{IsNext as IsNextText, IsAtEnd as IsAtEndText}
 use Rattle.line_text.proofs.line_reader.LineParts.{lines-within}
-use Rattle.log_audit.specs.declared.verdict.AuditFault.TheVariants.{ReadFault, TooLong}
-use Rattle.log_audit.specs.Limits.{most_bytes, most_lines, IsTooLong, lines_within, log_limits}
-use Rattle.log_audit.specs.LogLines.{TakesSome}
-use Rattle.log_audit.specs.inner.LogLines.{HasRead, IsAtEnd, IsNext, IsStop}
 
 -- what the bytes begin that are told
 pub told-by : (before left : Option (List ℕ)) (read : List ℕ) (P : List ℕ → Type 0) → Reads before left read

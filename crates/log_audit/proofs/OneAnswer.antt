@@ -1,27 +1,6 @@
 -- A log has at most one answer.
-use Rattle.std.proofs.Common.{◌≡◌, ◌≢◌, ℕ, ◌+◌, ◌<◌, ◌≤◌, ◌⊎◌, inl, inr, Bool, true, false, List, [], ◌∷◌, ◌++◌, length, refl, sym, ◌∙◌, ap, subst, arith, append_assoc, append-nil, length-append}
-use Rattle.std.specs.Prelude.{All, IsTrue, Result, Ok, Err}
-use Rattle.std.specs.List.{AllByRecursion, join_with_byte}
-use Rattle.std.proofs.lemmas.Bool.{cases_lt}
-use Rattle.std.proofs.lemmas.List.Elements.{recursion_from_All, All-from_recursion}
-use Rattle.ride_model.specs.declared.entry.Entry.{Entry}
-use Rattle.ride_model.specs.Legal.{IsLegal, IsLegalEntry, replay}
-use Rattle.ride_model.specs.State.{State}
-use Rattle.ride_model.specs.Text.{HasLine, IsOneOrTwo, actor_field, event_fields, entry_line, entry_lines, head_line, text_of}
-use Rattle.model_laws.proofs.Histories.{IsLegal-parts}
-use Rattle.model_laws.specs.history_laws.Start.{IsStart}
-use Rattle.trip_log.proofs.TextLemmas.{lines-go_on, texts-go_on, texts-same}
-use Rattle.board_core.proofs.FewOutcomes.{first-legal}
-use Rattle.log_audit.specs.declared.verdict.AuditFault.{AuditFault}
-use Rattle.log_audit.specs.declared.verdict.AuditFault.TheVariants.{ReadFault, TooLong, NoMemory}
-use Rattle.board_core.specs.declared.board.totals.Totals.{Totals}
-use Rattle.log_audit.specs.declared.verdict.Verdict.{Verdict}
-use Rattle.log_audit.specs.declared.verdict.Verdict.TheVariants.{Yes, No}
-use Rattle.log_audit.specs.declared.verdict.Why.{Why}
-use Rattle.log_audit.specs.declared.verdict.Why.TheVariants.{Spelling, Actor as ToActor, Reply as ToReply, Batch as ToBatch, Seating as ToSeating, Prices as ToPrices, Outcomes as ToOutcomes}
-use Rattle.log_audit.specs.Audit.{Tells, TellsNone, IsLogOf, IsWrongNext, IsWrongEntry, IsWrongHead, IsWrongLine, IsAnswer}
-use Rattle.board_core.specs.Totals.{AreTotalsOf}
-use Rattle.log_audit.specs.Words.{IsFault}
+use Rattle.log_audit.proofs.Common.{◌≡◌, ◌≢◌, ℕ, ◌+◌, ◌<◌, ◌≤◌, ◌⊎◌, inl, inr, Bool, true, false, List, [], ◌∷◌, ◌++◌, length, refl, sym, ◌∙◌, ap, subst, arith, append_assoc, append-nil, length-append, All, IsTrue, Result, Ok, Err, AllByRecursion, join_with_byte, cases_lt, recursion_from_All, All-from_recursion, Entry, IsLegal, IsLegalEntry, replay, State, HasLine, IsOneOrTwo, actor_field, event_fields, entry_line, entry_lines, head_line, text_of, IsLegal-parts, IsStart, lines-go_on, texts-go_on, texts-same, first-legal, AuditFault, ReadFault, TooLong, NoMemory, Totals, Verdict, Yes, No, Why, Spelling, Tells, TellsNone, IsLogOf, IsWrongNext, IsWrongEntry, IsWrongHead, IsWrongLine, IsAnswer, AreTotalsOf, IsFault}
+use Rattle.log_audit.specs.declared.verdict.Why.TheVariants.{Actor as ToActor, Reply as ToReply, Batch as ToBatch, Seating as ToSeating, Prices as ToPrices, Outcomes as ToOutcomes}
 use Rattle.log_audit.proofs.Legality.{legal-words, one-fault}
 use Rattle.log_audit.proofs.ShortLines.{legal-short}
 

@@ -1,35 +1,11 @@
 -- The open batches of a log's desks, entry by entry.
-use Rattle.std.proofs.Common.{◌≡◌, ℕ, Bool, true, false, not, cond, List, [], ◌∷◌, ◌++◌, eqb, refl, sym, ap, subst, ◌∙◌}
-use Rattle.std.specs.Prelude.{◌==◌, ◌&&◌, map, find, filter, nat_lt, is_some, Option, Some, None, IsTrue}
-use Rattle.std.specs.List.{AllByRecursion, IsDistinct}
-use Rattle.std.proofs.lemmas.Bool.{eqb-true, eqb-false, eq-eqb, ne_eqb, and_parts}
-use Rattle.std.proofs.lemmas.Map.Keys.{IsDistinct-head, IsDistinct-tail}
-use Rattle.std.proofs.lemmas.Option.{same_Some}
-use Rattle.ride_model.specs.declared.command.Actor.{Actor}
-use Rattle.ride_model.specs.declared.command.Actor.TheVariants.{Desk}
-use Rattle.ride_model.specs.declared.command.Command.{Command}
-use Rattle.ride_model.specs.declared.entry.Ending.{Ending}
-use Rattle.ride_model.specs.Batch.{may_open, next_batch, after_opening, after_commit, after_abandon}
-use Rattle.ride_model.specs.Legal.{after_entry, replay, IsLegal}
-use Rattle.ride_model.specs.Seating.{BatchCopy}
-use Rattle.ride_model.specs.State.{State, has_ended, is_batch, open_batch_of, open_batch_numbered}
-use Rattle.ride_model.specs.Text.{IsOneOrTwo}
-use Rattle.batch_commit.specs.inner.Solved.{SolvedBatch}
-use Rattle.batch_commit.specs.inner.Table.{IsPriceable}
-use Rattle.model_laws.proofs.plain.Among.{Among, found_among}
+use Rattle.log_audit.proofs.Common.{◌≡◌, ℕ, Bool, true, false, not, cond, List, [], ◌∷◌, ◌++◌, eqb, refl, sym, ap, subst, ◌∙◌, ◌==◌, ◌&&◌, map, find, filter, nat_lt, is_some, Option, Some, None, IsTrue, AllByRecursion, IsDistinct, eqb-true, eqb-false, eq-eqb, ne_eqb, and_parts, IsDistinct-head, IsDistinct-tail, same_Some, Actor, Desk, Command, Ending, may_open, next_batch, after_opening, after_commit, after_abandon, after_entry, replay, IsLegal, BatchCopy, State, has_ended, is_batch, open_batch_of, open_batch_numbered, IsOneOrTwo, SolvedBatch, IsPriceable, Among, found_among, IsStart, consistent, for_one_or_two, Recorded, state_of, end_entry, opened_entry, fed_entry, committed_entry, abandoned_entry, state-push, none-numbered, open-priceable, batch_of, with_batch, AreOpen}
 use Rattle.model_laws.proofs.RequestStates.{others-opening, abandon-is}
 use Rattle.model_laws.proofs.history_laws.Untouched.{leaves-step, stays-outcomes}
-use Rattle.model_laws.specs.history_laws.Start.{IsStart}
-use Rattle.model_laws.proofs.history_laws.EveryState.{consistent}
 use Rattle.model_laws.proofs.history_laws.Lookups.{found_by}
-use Rattle.trip_log.proofs.ReadLemmas.{for_one_or_two}
-use Rattle.board_core.specs.Recorded.{Recorded, state_of, end_entry, opened_entry}
-use Rattle.board_core.specs.inner.Recorded.{fed_entry, committed_entry, abandoned_entry}
 use Rattle.board_core.proofs.Closed.{find-without}
 use Rattle.board_core.proofs.Opened.{open-with}
-use Rattle.board_core.proofs.OpenBatches.{state-push, none-numbered, open-priceable}
 use Rattle.log_audit.specs.declared.open_batches.OpenBatches.{OpenBatches}
-use Rattle.log_audit.specs.inner.OpenBatches.{batch_of, with_batch, AreOpen}
 
 -- the batch of a desk after that of one was put in or taken out
 pub batch-with : (desk other : ℕ) (batch : Option BatchCopy) (batches : OpenBatches) → IsOneOrTwo desk → IsOneOrTwo other

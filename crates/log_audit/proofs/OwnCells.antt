@@ -1,27 +1,6 @@
 -- A table with the seats' own offers in their cells.
-use Rattle.std.proofs.Common.{◌≡◌, ◌≢◌, ℕ, zero, suc, ◌+◌, ◌*◌, ◌<◌, ◌≤◌, inl, inr, List, [], ◌∷◌, length, get_or, refl, sym, ◌∙◌, ap, subst, arith}
-use Rattle.std.specs.Prelude.{map, slice_set, All, Option, Some, None, IsSomeAnd, MatchOption, nat_eq}
-use Rattle.std.specs.List.{IsDistinct}
-use Rattle.std.proofs.lemmas.Bool.{cases_eq}
-use Rattle.std.proofs.lemmas.List.{get_or-set_same, get_or-set_other, get_or_default, get_or-map, length-map}
-use Rattle.std.proofs.lemmas.List.Elements.{All-from_recursion}
-use Rattle.std.proofs.lemmas.Nat.{same_from_place}
-use Rattle.std.proofs.lemmas.Option.{same_Some}
-use Rattle.ride_model.specs.declared.offer.Offer.{Offer}
-use Rattle.ride_model.specs.declared.offer.Seat.{Seat}
-use Rattle.ride_model.specs.declared.vehicle.Ride.{Ride}
-use Rattle.ride_model.specs.declared.vehicle.Vehicle.{Vehicle}
-use Rattle.ride_model.specs.Road.{RoadMap}
-use Rattle.ride_model.specs.Offers.{offer_of, price}
-use Rattle.ride_model.specs.Vehicle.{ride_ids}
-use Rattle.ride_model.specs.Seating.{BatchCopy, Certifies, IsSeating, find_ride, find_vehicle, seat_cost, seat_offer, vehicle_ids}
+use Rattle.log_audit.proofs.Common.{◌≡◌, ◌≢◌, ℕ, zero, suc, ◌+◌, ◌*◌, ◌<◌, ◌≤◌, inl, inr, List, [], ◌∷◌, length, get_or, refl, sym, ◌∙◌, ap, subst, arith, map, slice_set, All, Option, Some, None, IsSomeAnd, MatchOption, nat_eq, IsDistinct, cases_eq, get_or-set_same, get_or-set_other, get_or_default, get_or-map, length-map, All-from_recursion, same_from_place, same_Some, Offer, Seat, Ride, Vehicle, RoadMap, offer_of, price, ride_ids, BatchCopy, Certifies, IsSeating, find_ride, find_vehicle, seat_cost, seat_offer, vehicle_ids, price-le-cost, IsSeatAt, Table, cell_at, IsLeastOffer, IsTableOf, element, find-id, same-place, Placed, IsPlaced, ArePlaced}
 use Rattle.model_laws.proofs.Costs.{offer_plan}
-use Rattle.model_laws.proofs.OfferPrices.{price-le-cost}
-use Rattle.batch_commit.specs.inner.Answer.{IsSeatAt}
-use Rattle.batch_commit.specs.inner.Table.{Table, cell_at, IsLeastOffer, IsTableOf}
-use Rattle.dual_check.proofs.DifferentIds.{element, find-id, same-place}
-use Rattle.log_audit.specs.declared.seating.Placed.{Placed}
-use Rattle.log_audit.specs.inner.Seated.{IsPlaced, ArePlaced}
 use Rattle.log_audit.proofs.DearSeats.{pair_price, seats-at-price}
 
 -- the request and the vehicle of a seat that has its places

@@ -1,23 +1,5 @@
 -- Seats that are found in their batch.
-use Rattle.std.proofs.Common.{◌≡◌, ℕ, ◌+◌, ◌-◌, ◌<◌, ◌≤◌, ◌==◌, inl, inr, Bool, true, false, cond, List, [], ◌∷◌, ◌++◌, length, get_or, Option, None, Some, nat_lt, nat_eq, refl, sym, ◌∙◌, ap, subst, arith}
-use Rattle.std.specs.Prelude.{find, position, option_and_then}
-use Rattle.std.specs.List.{IsDistinct, position_or_len, slice_get}
-use Rattle.std.proofs.lemmas.Bool.{cases_eq, cases_lt, eqb-true, lt-ltb}
-use Rattle.std.proofs.lemmas.List.{get_or_default, get_or_append_left, get_or-append_right}
-use Rattle.std.proofs.lemmas.Option.{slice_get_past}
-use Rattle.std.proofs.lemmas.List.Folds.{find_at}
-use Rattle.std.proofs.lemmas.List.Quantifiers.{position-Some}
-use Rattle.ride_model.specs.declared.offer.Offer.{Offer}
-use Rattle.ride_model.specs.declared.offer.Seat.{Seat}
-use Rattle.ride_model.specs.declared.vehicle.Ride.{Ride}
-use Rattle.ride_model.specs.declared.vehicle.Vehicle.{Vehicle}
-use Rattle.ride_model.specs.Offers.{offer_of}
-use Rattle.ride_model.specs.Road.{RoadMap}
-use Rattle.ride_model.specs.Seating.{BatchCopy, find_ride, find_vehicle, seat_offer, vehicle_ids}
-use Rattle.ride_model.specs.Vehicle.{ride_ids}
-use Rattle.dual_check.proofs.DifferentIds.{element, find-id}
-use Rattle.log_audit.specs.declared.seating.Placed.{Placed}
-use Rattle.log_audit.specs.inner.Seated.{IsPlaced}
+use Rattle.log_audit.proofs.Common.{◌≡◌, ℕ, ◌+◌, ◌-◌, ◌<◌, ◌≤◌, ◌==◌, inl, inr, Bool, true, false, cond, List, [], ◌∷◌, ◌++◌, length, get_or, Option, None, Some, nat_lt, nat_eq, refl, sym, ◌∙◌, ap, subst, arith, find, position, option_and_then, IsDistinct, position_or_len, slice_get, cases_eq, cases_lt, eqb-true, lt-ltb, get_or_default, get_or_append_left, get_or-append_right, slice_get_past, find_at, position-Some, Offer, Seat, Ride, Vehicle, offer_of, RoadMap, BatchCopy, find_ride, find_vehicle, seat_offer, vehicle_ids, ride_ids, element, find-id, Placed, IsPlaced}
 
 -- what has no place is not found
 not-found : {X : Type 0} (p : X → Bool) (xs : List X) → position p xs ≡ None → find p xs ≡ None

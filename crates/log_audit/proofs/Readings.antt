@@ -1,16 +1,5 @@
 -- What the reading of a log answers.
-use Rattle.std.proofs.Common.{◌≡◌, ◌≢◌, ℕ, ◌+◌, List, [], length, Option, subst}
-use Rattle.std.specs.Prelude.{IfSome, Ok}
-use Rattle.ride_model.specs.State.{State}
-use Rattle.board_core.specs.Totals.{AreTotalsOf}
-use Rattle.board_core.specs.declared.board.totals.Totals.{Totals}
-use Rattle.log_audit.specs.declared.auditor.Auditor.{Auditor}
-use Rattle.log_audit.specs.declared.fault.Fault.{Fault}
-use Rattle.log_audit.specs.declared.verdict.Verdict.TheVariants.{Yes, No}
-use Rattle.log_audit.specs.declared.verdict.Why.TheVariants.{Spelling}
-use Rattle.log_audit.specs.Audit.{IsAnswer}
-use Rattle.log_audit.specs.inner.Audited.{text_so_far}
-use Rattle.log_audit.specs.inner.Reading.{HasReadAll, HasReadWrong}
+use Rattle.log_audit.proofs.Common.{◌≡◌, ◌≢◌, ℕ, ◌+◌, List, [], length, Option, subst, IfSome, Ok, State, AreTotalsOf, Totals, Auditor, Fault, Yes, No, Spelling, IsAnswer, text_so_far, HasReadAll, HasReadWrong}
 use Rattle.log_audit.proofs.Ends.{ends-unfinished, ends-wrong, ends-yes}
 
 module _ (before left : Option (List ℕ)) (start : State) where

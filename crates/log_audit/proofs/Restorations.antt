@@ -1,27 +1,8 @@
 -- What a log gives back, and that it is nothing else.
-use Rattle.std.proofs.Common.{◌≡◌, ℕ, ◌≤◌, inl, inr, List, [], ◌∷◌, ◌++◌, length, Option, None, Some, Result, Ok, Err, refl, sym, ◌∙◌, ap, subst, arith, append-nil, length-append}
-use Rattle.std.specs.Prelude.{IfSome}
-use Rattle.std.proofs.lemmas.Bool.{cases_lt}
-use Rattle.line_text.specs.Lines.{ended_lines, rest_of}
-use Rattle.ride_model.specs.Legal.{replay}
-use Rattle.ride_model.specs.State.{State, open_batch_of}
-use Rattle.ride_model.specs.Text.{IsOneOrTwo}
-use Rattle.model_laws.specs.history_laws.Start.{IsStart}
-use Rattle.trip_log.proofs.TextLemmas.{texts-same}
-use Rattle.log_audit.specs.declared.auditor.Auditor.{Auditor}
-use Rattle.log_audit.specs.declared.fault.Fault.{Fault}
+use Rattle.log_audit.proofs.Common.{◌≡◌, ℕ, ◌≤◌, inl, inr, List, [], ◌∷◌, ◌++◌, length, Option, None, Some, Result, Ok, Err, refl, sym, ◌∙◌, ap, subst, arith, append-nil, length-append, IfSome, cases_lt, ended_lines, rest_of, replay, State, open_batch_of, IsOneOrTwo, IsStart, texts-same, Auditor, Fault, Restoration, AuditFault, ReadFault, TooLong, NoMemory, Why, Spelling, IsAnswer, IsLogOf, IsWrongLine, HasReadNoHead, text_so_far, HasReadAll, HasReadWrong, IsBoardOf, IsHeadOrEnded, IsRestoration, IsSameButRoom, StandsAt}
 use Rattle.log_audit.specs.declared.restoring.Restored.{Restored}
-use Rattle.log_audit.specs.declared.restoring.Restoration.{Restoration}
 use Rattle.log_audit.specs.declared.restoring.Restoration.TheVariants.{Standing, No}
-use Rattle.log_audit.specs.declared.verdict.AuditFault.{AuditFault}
-use Rattle.log_audit.specs.declared.verdict.AuditFault.TheVariants.{ReadFault, TooLong, NoMemory}
 use Rattle.log_audit.specs.declared.verdict.Verdict.TheVariants.{No as NoVerdict}
-use Rattle.log_audit.specs.declared.verdict.Why.{Why}
-use Rattle.log_audit.specs.declared.verdict.Why.TheVariants.{Spelling}
-use Rattle.log_audit.specs.Audit.{IsAnswer, IsLogOf, IsWrongLine}
-use Rattle.log_audit.specs.inner.Audited.{HasReadNoHead, text_so_far}
-use Rattle.log_audit.specs.inner.Reading.{HasReadAll, HasReadWrong}
-use Rattle.log_audit.specs.Restored.{IsBoardOf, IsHeadOrEnded, IsRestoration, IsSameButRoom, StandsAt}
 use Rattle.log_audit.proofs.AuditSteps.{no-head-answer}
 use Rattle.log_audit.proofs.Ends.{all-read, count-text, ended-rest, whole-text, wrong-ended}
 use Rattle.log_audit.proofs.OneAnswer.{split-longer, wrong-later, wrong-same}

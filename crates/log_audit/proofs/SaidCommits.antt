@@ -1,25 +1,6 @@
 -- Commits that were judged.
-use Rattle.std.proofs.Common.{◌≡◌, ℕ, List, Option, None, Some, Vec, Global, sym, ◌∙◌, ap, subst}
-use Rattle.std.specs.Prelude.{MatchOption}
-use Rattle.ride_model.specs.declared.command.Actor.TheVariants.{Desk}
-use Rattle.ride_model.specs.declared.entry.Entry.{Entry}
-use Rattle.ride_model.specs.declared.entry.Event.TheVariants.{Committed}
-use Rattle.ride_model.specs.declared.entry.Outcome.{Outcome}
-use Rattle.ride_model.specs.declared.offer.Seat.{Seat}
-use Rattle.ride_model.specs.Batch.{outcomes_of}
-use Rattle.ride_model.specs.Road.{RoadMap}
-use Rattle.ride_model.specs.Seating.{BatchCopy, Certifies, seating_cost}
-use Rattle.ride_model.specs.State.{State, open_batch_numbered}
+use Rattle.log_audit.proofs.Common.{◌≡◌, ℕ, List, Option, None, Some, Vec, Global, sym, ◌∙◌, ap, subst, MatchOption, Desk, Entry, Committed, Outcome, Seat, outcomes_of, RoadMap, BatchCopy, Certifies, seating_cost, State, open_batch_numbered, CertifiesOverCells, undecided, SolvedBatch, IsTableOf, Table, Recorded, state_of, committed_entry, Placed, Seating, Prices, Outcomes, ArePlaced, IsSeatedAt, IsFault}
 use Rattle.batch_commit.specs.declared.answers.Answer.{Answer}
-use Rattle.batch_commit.specs.inner.Answer.{CertifiesOverCells, undecided}
-use Rattle.batch_commit.specs.inner.Solved.{SolvedBatch}
-use Rattle.batch_commit.specs.inner.Table.{IsTableOf, Table}
-use Rattle.board_core.specs.Recorded.{Recorded, state_of}
-use Rattle.board_core.specs.inner.Recorded.{committed_entry}
-use Rattle.log_audit.specs.declared.seating.Placed.{Placed}
-use Rattle.log_audit.specs.declared.verdict.Why.TheVariants.{Seating, Prices, Outcomes}
-use Rattle.log_audit.specs.inner.Seated.{ArePlaced, IsSeatedAt}
-use Rattle.log_audit.specs.Words.{IsFault}
 use Rattle.log_audit.proofs.Legality.{fault-seating, fault-prices, fault-outcomes}
 
 -- what a commit says

@@ -1,17 +1,6 @@
 -- Seats with their places: what they cost, and how many they are.
-use Rattle.std.proofs.Common.{◌≡◌, ℕ, suc, ◌+◌, ◌-◌, ◌*◌, ◌≤◌, List, [], ◌∷◌, length, get_or, Option, Some, Vec, Global, refl, sym, ◌∙◌, ap, subst, arith, nat_eq}
-use Rattle.std.specs.Prelude.{map, filter, sum_by, All, IsSome, MatchOption}
-use Rattle.std.specs.List.{IsDistinct}
-use Rattle.std.proofs.lemmas.List.{length-map}
-use Rattle.std.proofs.lemmas.List.Sums.{sum_by-cons}
-use Rattle.ride_model.specs.declared.offer.Seat.{Seat}
-use Rattle.ride_model.specs.declared.vehicle.Ride.{Ride}
-use Rattle.ride_model.specs.Road.{RoadMap}
-use Rattle.ride_model.specs.Seating.{BatchCopy, has_seat, seat_cost, seat_offer, seating_cost, vehicle_ids}
-use Rattle.ride_model.specs.Vehicle.{ride_ids}
+use Rattle.log_audit.proofs.Common.{◌≡◌, ℕ, suc, ◌+◌, ◌-◌, ◌*◌, ◌≤◌, List, [], ◌∷◌, length, get_or, Option, Some, Vec, Global, refl, sym, ◌∙◌, ap, subst, arith, nat_eq, map, filter, sum_by, All, IsSome, MatchOption, IsDistinct, length-map, sum_by-cons, Seat, Ride, RoadMap, BatchCopy, has_seat, seat_cost, seat_offer, seating_cost, vehicle_ids, ride_ids, Placed, IsPlaced, ArePlaced}
 use Rattle.model_laws.proofs.history_laws.Raised.{length-filter-le}
-use Rattle.log_audit.specs.declared.seating.Placed.{Placed}
-use Rattle.log_audit.specs.inner.Seated.{IsPlaced, ArePlaced}
 use Rattle.log_audit.proofs.OwnCells.{of-seat, cost-of-seat, no_place}
 
 -- they cost what their offers cost

@@ -1,12 +1,6 @@
 -- Seats of different vehicles.
-use Rattle.std.proofs.Common.{◌≡◌, ℕ, ◌+◌, ◌<◌, Bool, true, false, inl, inr, List, [], ◌∷◌, ◌++◌, length, get_or, take, drop, eqb, refl, sym, ◌∙◌, ap, subst}
-use Rattle.std.specs.Prelude.{◌==◌, map}
-use Rattle.std.specs.List.{AllByRecursion, IsDistinct, list_any}
-use Rattle.std.proofs.lemmas.List.{drop_more, map-append, take-append-drop, take_more}
-use Rattle.std.proofs.lemmas.Map.Keys.{IsDistinct-head, IsDistinct-tail}
-use Rattle.std.proofs.lemmas.Bool.{or_parts}
-use Rattle.ride_model.specs.declared.offer.Seat.{Seat}
-use Rattle.model_laws.proofs.plain.Among.{Among, among_map, among_map_back}
+use Rattle.log_audit.proofs.Common.{◌≡◌, ℕ, ◌+◌, ◌<◌, Bool, true, false, inl, inr, List, [], ◌∷◌, ◌++◌, length, get_or, take, drop, eqb, refl, sym, ◌∙◌, ap, subst, ◌==◌, map, AllByRecursion, list_any, drop_more, map-append, take-append-drop, take_more, IsDistinct-head, IsDistinct-tail, or_parts, Seat, Among, among_map, among_map_back}
+use Rattle.std.specs.List.{IsDistinct}
 use Rattle.model_laws.proofs.plain.Lists.{distinct-push}
 
 abbrev pub vehicles_of : List Seat → List ℕ

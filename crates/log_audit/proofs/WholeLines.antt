@@ -1,15 +1,7 @@
 -- Whole lines at the front of bytes.
-use Rattle.std.proofs.Common.{◌≡◌, ℕ, ◌==◌, inl, not, List, [], ◌∷◌, ◌++◌, refl, sym, ◌∙◌, ap, arith, append_assoc, append-nil}
-use Rattle.std.specs.Prelude.{codes, decimal, map}
-use Rattle.std.specs.List.{concat, join_with_byte, list_all}
-use Rattle.std.proofs.lemmas.Bool.{ne_eqb, and_from}
-use Rattle.std.proofs.lemmas.List.{map-append}
-use Rattle.std.proofs.lemmas.List.Folds.{concat-append}
-use Rattle.ride_model.specs.declared.entry.Entry.{Entry}
-use Rattle.ride_model.specs.Text.{HasLine, IsOneOrTwo, actor_field, event_fields, entry_line, entry_lines, head_line, text_of}
+use Rattle.log_audit.proofs.Common.{◌≡◌, ℕ, ◌==◌, inl, not, List, [], ◌∷◌, ◌++◌, refl, sym, ◌∙◌, ap, arith, append_assoc, append-nil, codes, decimal, map, concat, join_with_byte, list_all, ne_eqb, and_from, map-append, concat-append, Entry, HasLine, IsOneOrTwo, actor_field, event_fields, entry_line, entry_lines, head_line, text_of, HasNoLf}
 use Rattle.trip_log.proofs.CutLemmas.{Avoids, all-joined, first-same}
 use Rattle.trip_log.proofs.SolidLemmas.{avoids-decimal, solid-entry, solids-avoid}
-use Rattle.line_text.specs.line_reader.Reader.{HasNoLf}
 
 -- bytes without LF have no byte that is one
 pub no_lf-avoids : (bytes : List ℕ) → HasNoLf bytes → Avoids 10 bytes

@@ -14,6 +14,7 @@ ghost use Rattle.log_audit.specs.Audited.{FailsAfter};
 ghost use Rattle.log_audit.specs.LogLines.{TakesSome};
 ghost use Rattle.log_audit.specs.inner.Reading.{HasReadLog};
 
+use crate::outset::Outset;
 use crate::reading::{Ended, Reading, read_log};
 use crate::{AuditFault, Verdict, Why};
 use adaptive_roads::Roads;
@@ -52,7 +53,8 @@ pub fn audit<R: Threads + Sync, S: Source>(
     ensures taken { TakesSome (S.left log.old) (S.left log.new) }
     ensures faults { KeepsCount (is_read_fault result) (S.faults log.old) (S.faults log.new) }
 {
-    let reading = read_log(rt, alloc, roads, settings, fleet, log, Search::ByWholePlans)?;
+    let outset = Outset::new(roads, settings, fleet);
+    let reading = read_log(rt, alloc, outset, log, Search::ByWholePlans)?;
     Ok(verdict_of(reading))
 }
 

@@ -1,8 +1,6 @@
 //! What an audit keeps, and how it judges an entry.
 ghost use Rattle.std.specs.Prelude.{◌≡◌, ◌≢◌, ◌<◌, ◌++◌, ◌∷◌, [], None, Some, List, length, IfOk};
-ghost use Rattle.ride_model.specs.Fleet.{MayStart};
 ghost use Rattle.ride_model.specs.declared.entry.Entry.{Entry};
-ghost use Rattle.ride_model.specs.State.{start_state};
 ghost use Rattle.ride_model.specs.Text.{IsOneOrTwo, entry_line};
 ghost use Rattle.log_audit.specs.inner.Auditing.{IsAuditing, IsJudged, IsLineOf};
 ghost use Rattle.log_audit.specs.Limits.{most_lines};
@@ -11,10 +9,10 @@ use crate::Why;
 use crate::commits::Commit;
 use crate::fault::Fault;
 use crate::open_batches::OpenBatches;
-use adaptive_roads::Roads;
+use crate::outset::Outset;
 use board_core::Board;
 use pricing_workers::{Pricer, Search, workers_at_hand};
-use ride_model::{Actor, Entry, Event, Fleet, NoMemory, Settings};
+use ride_model::{Actor, Entry, Event, NoMemory};
 use std::alloc::Global;
 use std::thread::Threads;
 use trip_log::{Head, spells};
@@ -50,22 +48,23 @@ impl<'r> Auditor<'r> {
     pub(crate) fn new(
         rt: &impl Threads,
         alloc: Global,
-        roads: &'r Roads,
-        settings: Settings,
-        fleet: Fleet,
+        outset: Outset<'r>,
         head: Head,
         search: Search,
     ) -> Result<Auditor<'r>, NoMemory>
-        requires start { MayStart roads.now settings fleet }
         requires feeds { IsOneOrTwo head.feeds }
         requires desks { IsOneOrTwo head.desks }
-        ensures start { IfOk result (λ auditor. auditor.board.start
-            ≡ start_state roads.now settings fleet) }
+        ensures start { IfOk result (λ auditor. auditor.board.start ≡ outset.entry) }
         ensures feeds { IfOk result (λ auditor. auditor.board.feeds ≡ head.feeds) }
         ensures desks { IfOk result (λ auditor. auditor.board.desks ≡ head.desks) }
         ensures history { IfOk result (λ auditor. auditor.board.history ≡ []) }
         ensures auditing { IfOk result IsAuditing }
     {
+        let Outset {
+            roads,
+            settings,
+            fleet,
+        } = outset;
         let pricing = Pricer::new(alloc, roads, workers_at_hand(rt))?;
         let log = settings.log;
         let board = Board::new(alloc, roads, settings, fleet, head.feeds, head.desks)?;

@@ -18,6 +18,7 @@ ghost use Rattle.log_audit.specs.inner.Reading.{HasReadLog, HasReadWrong};
 use crate::auditor::Auditor;
 use crate::fault::Fault;
 use crate::lines::MOST_LINE;
+use crate::outset::Outset;
 use crate::reading::{Ended, Reading, read_log};
 use crate::{AuditFault, Why};
 use adaptive_roads::Roads;
@@ -47,7 +48,8 @@ pub fn due_line<R: Threads + Sync, S: Source>(
     ensures taken { TakesSome (S.left log.old) (S.left log.new) }
     ensures faults { KeepsCount (is_read_fault result) (S.faults log.old) (S.faults log.new) }
 {
-    let reading = read_log(rt, alloc, roads, settings, fleet, log, Search::ByWholePlans)?;
+    let outset = Outset::new(roads, settings, fleet);
+    let reading = read_log(rt, alloc, outset, log, Search::ByWholePlans)?;
     let line = line_due(rt, alloc, reading)?;
     Ok(line)
 }

@@ -12,6 +12,7 @@ mod feeds;
 mod laws;
 mod lines;
 mod open_batches;
+mod outset;
 mod reading;
 mod restoring;
 mod seating;

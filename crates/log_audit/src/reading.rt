@@ -1,9 +1,6 @@
 //! Logs, read up to their end or their first wrong line.
 ghost use Rattle.std.specs.Prelude.{◌≡◌, ◌≢◌, ℕ, ◌<◌, ◌++◌, ◌∷◌, [], nat_lt, length, take, List, Option, IfOk, IfNone, IfSome, MatchOption, MatchResult};
-ghost use Rattle.model_laws.specs.history_laws.Start.{IsStart};
 ghost use Rattle.line_text.specs.line_reader.Reader.{HasNoLf};
-ghost use Rattle.ride_model.specs.Fleet.{MayStart};
-ghost use Rattle.ride_model.specs.State.{start_state};
 ghost use Rattle.ride_model.specs.Text.{IsOneOrTwo, head_line};
 ghost use Rattle.ride_ports.specs.Count.{KeepsCount};
 ghost use Rattle.log_audit.specs.Audit.{is_read_fault};
@@ -17,11 +14,11 @@ ghost use Rattle.log_audit.specs.inner.Reading.{HasEnded, HasReadLog, StopsReadi
 use crate::auditor::Auditor;
 use crate::fault::Fault;
 use crate::lines::{log_reader, next_line};
+use crate::outset::Outset;
 use crate::{AuditFault, Why};
-use adaptive_roads::Roads;
 use line_text::line_reader::{LineReader, NextLine};
 use pricing_workers::Search;
-use ride_model::{Fleet, NoMemory, Settings};
+use ride_model::NoMemory;
 use ride_ports::Source;
 use std::alloc::Global;
 use std::thread::Threads;
@@ -51,28 +48,21 @@ pub(crate) enum Reading<'r> {
 pub(crate) fn read_log<'r, R: Threads + Sync, S: Source>(
     rt: &R,
     alloc: Global,
-    roads: &'r Roads,
-    settings: Settings,
-    fleet: Fleet,
+    outset: Outset<'r>,
     log: &mut S,
     search: Search,
 ) -> Result<Reading<'r>, AuditFault>
-    requires start { MayStart roads.now settings fleet }
-    ensures start { IsStart (start_state roads.now settings fleet) }
     ensures read { MatchResult result
-        (HasReadLog (S.left log.old) (S.left log.new) (start_state roads.now settings fleet))
-        (StopsReading (S.left log.old) (S.left log.new) (start_state roads.now settings fleet)) }
+        (HasReadLog (S.left log.old) (S.left log.new) outset.entry)
+        (StopsReading (S.left log.old) (S.left log.new) outset.entry) }
     ensures taken { TakesSome (S.left log.old) (S.left log.new) }
     ensures faults { KeepsCount (is_read_fault result) (S.faults log.old) (S.faults log.new) }
 {
-    // These calls tell that the map and the fleet are within their limits.
-    let _nodes = roads.nodes();
-    let _vehicles = fleet.vehicles();
     let mut lines = log_reader(alloc)?;
-    let Some(head) = first_line(&mut lines, log, settings.log)? else {
+    let Some(head) = first_line(&mut lines, log, outset.settings.log)? else {
         return Ok(Reading::NoHead);
     };
-    let mut auditor = Auditor::new(rt, alloc, roads, settings, fleet, head, search)?;
+    let mut auditor = Auditor::new(rt, alloc, outset, head, search)?;
     let ended = further_lines(&mut auditor, &mut lines, rt, alloc, log)?;
     Ok(Reading::Lines(auditor, ended))
 }

@@ -17,6 +17,7 @@ ghost use Rattle.log_audit.specs.Restored.{IsBoardOf, IsRestoration, IsSameButRo
 
 use crate::auditor::Auditor;
 use crate::open_batches::OpenBatches;
+use crate::outset::Outset;
 use crate::reading::{Ended, Reading, read_log};
 use crate::{AuditFault, Why};
 use adaptive_roads::Roads;
@@ -110,7 +111,8 @@ pub fn restore<'r, R: Threads + Sync, S: Source>(
         → IsBoardOf (start_state roads.now settings fleet) restored }
     ensures faults { KeepsCount (is_read_fault result) (S.faults log.old) (S.faults log.new) }
 {
-    let reading = read_log(rt, alloc, roads, settings, fleet, log, Search::BySlack)?;
+    let outset = Outset::new(roads, settings, fleet);
+    let reading = read_log(rt, alloc, outset, log, Search::BySlack)?;
     Ok(restoration_of(reading))
 }
 

@@ -29,7 +29,7 @@ pub enum Why {
 }
 
 /// Why a log was not judged.
-#[derive(Clone, Copy, PartialEq, Eq)]
+#[derive(Clone, Copy, Debug, PartialEq, Eq)]
 pub enum AuditFault {
     ReadFault,
     /// It has more bytes or more lines than a log may have.

@@ -1,17 +1,6 @@
 -- What is aboard of a plan with a ride less.
-use Rattle.std.proofs.Common.{◌≡◌, ℕ, zero, suc, ◌+◌, ◌<◌, ◌≤◌, ◌⊎◌, inl, inr, Bool, true, false, not, cond, ◌&&◌, List, [], ◌∷◌, length, take, eqb, leb, leb-true, le-leb, refl, sym, ◌∙◌, ap, subst, arith}
-use Rattle.std.specs.Prelude.{map, is_some, ◌==◌}
-use Rattle.std.specs.List.{filter, AllByRecursion, list_all, range_with_len, sum_by}
-use Rattle.std.proofs.lemmas.Bool.{eqb-true, eq-eqb, and_from, and_parts}
-use Rattle.std.proofs.lemmas.List.Sums.{sum_by-cons}
-use Rattle.std.proofs.lemmas.List.{take-map, length-map}
+use Rattle.model_laws.proofs.Common.{◌≡◌, ℕ, zero, suc, ◌+◌, ◌<◌, ◌≤◌, ◌⊎◌, inl, inr, Bool, true, false, not, cond, ◌&&◌, List, [], ◌∷◌, length, take, eqb, leb, leb-true, le-leb, refl, sym, ◌∙◌, ap, subst, arith, map, is_some, ◌==◌, filter, AllByRecursion, list_all, range_with_len, sum_by, eqb-true, eq-eqb, and_from, and_parts, sum_by-cons, take-map, length-map, Load, Ride, Stop, Vehicle, is_pickup, is_aboard_from, is_aboard_after, load_after, loads_of, fits_load, loads_fit, stops_without, rides_without}
 use Rattle.model_laws.proofs.plain.Numbers.{same_or_less, eqb-other}
-use Rattle.ride_model.specs.declared.vehicle.Load.{Load}
-use Rattle.ride_model.specs.declared.vehicle.Ride.{Ride}
-use Rattle.ride_model.specs.declared.vehicle.Stop.{Stop}
-use Rattle.ride_model.specs.declared.vehicle.Vehicle.{Vehicle}
-use Rattle.ride_model.specs.Loads.{is_pickup, is_aboard_from, is_aboard_after, load_after, loads_of, fits_load, loads_fit}
-use Rattle.ride_model.specs.Insertion.{stops_without, rides_without}
 use Rattle.model_laws.proofs.Routes.{with_leg}
 use Rattle.model_laws.proofs.PlanStops.{unlegged}
 

@@ -1,19 +1,5 @@
 -- The cost of a batch's seating is below 2^50.
-use Rattle.std.proofs.Common.{◌≡◌, ◌-◌, ◌*◌, ◌<◌, ◌≤◌, ◌^◌, List, [], ◌∷◌, length, refl, ap, arith, mul-le-mul}
-use Rattle.std.specs.Prelude.{None, All, IsSome}
-use Rattle.std.specs.List.{AllByRecursion}
-use Rattle.std.proofs.lemmas.List.{length-map}
-use Rattle.std.proofs.lemmas.List.Elements.{recursion_from_All, All-contains}
-use Rattle.std.proofs.lemmas.List.Filters.{length-filter_both}
-use Rattle.std.specs.Prelude.{not}
-use Rattle.ride_model.specs.declared.offer.Seat.{Seat}
-use Rattle.ride_model.specs.declared.vehicle.Ride.{Ride}
-use Rattle.ride_model.specs.declared.vehicle.Vehicle.{Vehicle}
-use Rattle.ride_model.specs.Road.{RoadMap, IsRoadMap}
-use Rattle.ride_model.specs.Vehicle.{IsRide, IsRouted, ride_ids}
-use Rattle.ride_model.specs.inner.Vehicle.{IsFresh}
-use Rattle.ride_model.specs.Seating.{BatchCopy, seat_offer, has_seat, IsSeating, seat_cost, seating_cost}
-use Rattle.ride_model.specs.inner.Seating.{IsBatchOver}
+use Rattle.model_laws.proofs.Common.{◌≡◌, ◌-◌, ◌*◌, ◌<◌, ◌≤◌, ◌^◌, List, [], ◌∷◌, length, refl, ap, arith, mul-le-mul, None, All, IsSome, AllByRecursion, length-map, recursion_from_All, All-contains, length-filter_both, not, Seat, Ride, Vehicle, RoadMap, IsRoadMap, IsRide, IsRouted, ride_ids, IsFresh, BatchCopy, seat_offer, has_seat, IsSeating, seat_cost, seating_cost, IsBatchOver}
 use Rattle.model_laws.proofs.plain.Among.{contains_from_among}
 use Rattle.model_laws.proofs.Certificates.{seat_facts}
 use Rattle.model_laws.proofs.Costs.{cost-lt}

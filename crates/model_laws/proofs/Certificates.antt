@@ -1,21 +1,5 @@
 -- Prices that certify a batch's seating make it least.
-use Rattle.std.proofs.Common.{◌≡◌, ℕ, ◌+◌, ◌-◌, ◌*◌, ◌≤◌, inl, inr, Bool, true, false, cond, List, [], ◌∷◌, length, eqb, refl, sym, ◌∙◌, ap, subst, arith}
-use Rattle.std.specs.Prelude.{map, Some, None, option_map, option_and_then, unwrap_or, find, ◌==◌, All, IfSome, IsSome, nat_eq}
-use Rattle.std.specs.List.{sum_by, AllByRecursion, IsDistinct}
-use Rattle.std.proofs.lemmas.List.{length-map}
-use Rattle.std.proofs.lemmas.List.Elements.{recursion_from_All, All-contains}
-use Rattle.std.proofs.lemmas.List.Sums.{sum_by-cons}
-use Rattle.std.proofs.lemmas.Bool.{eqb-true, eq-eqb}
-use Rattle.std.proofs.lemmas.Map.Keys.{IsDistinct-head, IsDistinct-tail}
-use Rattle.std.proofs.lemmas.Option.{same_Some}
-use Rattle.ride_model.specs.declared.offer.Offer.{Offer}
-use Rattle.ride_model.specs.declared.offer.Seat.{Seat}
-use Rattle.ride_model.specs.declared.vehicle.Ride.{Ride}
-use Rattle.ride_model.specs.declared.vehicle.Vehicle.{Vehicle}
-use Rattle.ride_model.specs.Road.{RoadMap}
-use Rattle.ride_model.specs.Vehicle.{ride_ids}
-use Rattle.ride_model.specs.Offers.{offer_of}
-use Rattle.ride_model.specs.Seating.{BatchCopy, find_ride, find_vehicle, seat_offer, has_seat, IsSeating, seat_cost, IsLeastSeating, amount_ids, amount_of, IsCovered, Certifies}
+use Rattle.model_laws.proofs.Common.{◌≡◌, ℕ, ◌+◌, ◌-◌, ◌*◌, ◌≤◌, inl, inr, Bool, true, false, cond, List, [], ◌∷◌, length, eqb, refl, sym, ◌∙◌, ap, subst, arith, map, Some, None, option_map, option_and_then, unwrap_or, find, ◌==◌, All, IfSome, IsSome, nat_eq, sum_by, AllByRecursion, IsDistinct, length-map, recursion_from_All, All-contains, sum_by-cons, eqb-true, eq-eqb, IsDistinct-head, IsDistinct-tail, same_Some, Offer, Seat, Ride, Vehicle, RoadMap, ride_ids, offer_of, BatchCopy, find_ride, find_vehicle, seat_offer, has_seat, IsSeating, seat_cost, IsLeastSeating, amount_ids, amount_of, IsCovered, Certifies}
 use Rattle.model_laws.proofs.plain.Among.{Among, contains_from_among, found_among}
 use Rattle.model_laws.proofs.OfferPrices.{price-le-cost}
 use Rattle.model_laws.proofs.CoveredPairs.{prices-le-cost}

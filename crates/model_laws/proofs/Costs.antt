@@ -1,26 +1,6 @@
 -- Costs of offers: never negative, and below 2^42.
-use Rattle.std.proofs.Common.{◌≡◌, ℕ, zero, suc, ◌+◌, ◌-◌, ◌*◌, ◌<◌, ◌≤◌, ◌^◌, ◌⊎◌, inl, inr, Bool, true, false, not, cond, ◌&&◌, List, [], ◌∷◌, length, eqb, leb, leb-true, refl, sym, ◌∙◌, ap, subst, arith, mul-le-mul, add-zero}
-use Rattle.std.specs.Prelude.{Option, Some, None, option_map, option_and_then, unwrap_or, ◌==◌, Contains, IfSome, slice_index}
-use Rattle.std.specs.List.{filter, list_all, last_or}
-use Rattle.std.proofs.lemmas.Bool.{eq-eqb, and_parts}
-use Rattle.std.proofs.lemmas.List.Elements.{All-contains}
-use Rattle.std.proofs.lemmas.Option.{same_Some}
-use Rattle.ride_model.specs.declared.offer.Offer.{Offer}
-use Rattle.ride_model.specs.declared.settings.Settings.{Settings}
-use Rattle.ride_model.specs.declared.vehicle.Ride.{Ride}
-use Rattle.ride_model.specs.declared.vehicle.Stop.{Stop}
-use Rattle.ride_model.specs.declared.vehicle.Vehicle.{Vehicle}
-use Rattle.ride_model.specs.Road.{RoadMap, IsRoadMap, travel}
-use Rattle.ride_model.specs.Settings.{IsSettings}
-use Rattle.ride_model.specs.Vehicle.{IsRide, ride_ids, IsRouted}
-use Rattle.ride_model.specs.inner.Vehicle.{IsFresh}
-use Rattle.ride_model.specs.Times.{times_from, times_of, drive_of, visits_of}
-use Rattle.ride_model.specs.Loads.{loads_fit}
-use Rattle.ride_model.specs.Keeps.{is_pickup_at, is_dropoff_at, keeps_visits, keeps_ride, keeps}
-use Rattle.ride_model.specs.Insertion.{routed, stops_with, stops_without, inserted}
-use Rattle.ride_model.specs.Offers.{start_of, is_open, cost_of, joins_of, offer_of_plan, offer_of}
+use Rattle.model_laws.proofs.Common.{◌≡◌, ℕ, zero, suc, ◌+◌, ◌-◌, ◌*◌, ◌<◌, ◌≤◌, ◌^◌, ◌⊎◌, inl, inr, Bool, true, false, not, cond, ◌&&◌, List, [], ◌∷◌, length, eqb, leb, leb-true, refl, sym, ◌∙◌, ap, subst, arith, mul-le-mul, add-zero, Option, Some, None, option_map, option_and_then, unwrap_or, ◌==◌, Contains, IfSome, slice_index, filter, list_all, last_or, eq-eqb, and_parts, All-contains, same_Some, Offer, Settings, Ride, Stop, Vehicle, RoadMap, IsRoadMap, travel, IsSettings, IsRide, ride_ids, IsRouted, IsFresh, times_from, times_of, drive_of, visits_of, loads_fit, is_pickup_at, is_dropoff_at, keeps_visits, keeps_ride, keeps, routed, stops_with, stops_without, inserted, start_of, is_open, cost_of, joins_of, offer_of_plan, offer_of, AllSooner}
 use Rattle.model_laws.proofs.plain.Among.{Among, among_from_contains, contains_from_among, among_filter, among_filter_back, among_map_back}
-use Rattle.model_laws.specs.inner.Sooner.{AllSooner}
 use Rattle.model_laws.proofs.Routes.{with_leg, routed-own, of_ride, visits_from}
 use Rattle.model_laws.proofs.PlanStops.{unlegged, unlegged-routed}
 use Rattle.model_laws.proofs.Removal.{is_other, route_without}

@@ -1,9 +1,5 @@
 -- Weak duality: prices that certify a seating make it least.
-use Rattle.std.proofs.Common.{◌≡◌, ℕ, ◌+◌, ◌-◌, ◌*◌, ◌≤◌, Bool, not, List, length, refl, sym, ◌∙◌, ap, subst, arith}
-use Rattle.std.specs.Prelude.{map}
-use Rattle.std.specs.List.{filter, sum_by, AllByRecursion}
-use Rattle.std.proofs.lemmas.List.{length-map}
-use Rattle.std.proofs.lemmas.List.Filters.{length-filter_both, sum_by-filter_both}
+use Rattle.model_laws.proofs.Common.{◌≡◌, ℕ, ◌+◌, ◌-◌, ◌*◌, ◌≤◌, Bool, not, List, length, refl, sym, ◌∙◌, ap, subst, arith, map, filter, sum_by, AllByRecursion, length-map, length-filter_both, sum_by-filter_both}
 use Rattle.model_laws.proofs.plain.Sums.{sum_by-le-each, sum_by-add, sum_by-map, sum_by-le-times}
 use Rattle.model_laws.proofs.plain.Each.{each-filter}
 

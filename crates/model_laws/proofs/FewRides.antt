@@ -1,15 +1,5 @@
 -- A plan has at least as many stops as rides.
-use Rattle.std.proofs.Common.{◌≡◌, ℕ, suc, ◌+◌, ◌≤◌, Bool, true, false, not, cond, List, [], ◌∷◌, length, eqb, refl, sym, ◌∙◌, ap, subst, arith}
-use Rattle.std.specs.Prelude.{map, Option, Some, None, ◌==◌}
-use Rattle.std.specs.List.{AllByRecursion}
-use Rattle.std.proofs.lemmas.Bool.{eqb-true, eq-eqb}
-use Rattle.std.proofs.lemmas.List.{length-map}
-use Rattle.std.proofs.lemmas.List.Elements.{recursion_from_All}
-use Rattle.std.proofs.lemmas.Map.Keys.{IsDistinct-head}
-use Rattle.ride_model.specs.declared.vehicle.Ride.{Ride}
-use Rattle.ride_model.specs.declared.vehicle.Stop.{Stop}
-use Rattle.ride_model.specs.Vehicle.{visits_due, visit_of, stops_of, ride_ids, IsPlanFor}
-use Rattle.ride_model.specs.Insertion.{stops_without, rides_without}
+use Rattle.model_laws.proofs.Common.{◌≡◌, ℕ, suc, ◌+◌, ◌≤◌, Bool, true, false, not, cond, List, [], ◌∷◌, length, eqb, refl, sym, ◌∙◌, ap, subst, arith, map, Option, Some, None, ◌==◌, AllByRecursion, eqb-true, eq-eqb, length-map, recursion_from_All, IsDistinct-head, Ride, Stop, visits_due, visit_of, stops_of, ride_ids, IsPlanFor, stops_without, rides_without}
 use Rattle.model_laws.proofs.PlanStops.{plan-without}
 use Rattle.model_laws.proofs.AboardLoads.{filter-skipped, filter-kept}
 

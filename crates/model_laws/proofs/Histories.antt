@@ -1,8 +1,5 @@
 -- Histories that go on.
-use Rattle.std.proofs.Common.{◌≡◌, ℕ, List, [], ◌∷◌, ◌++◌, refl}
-use Rattle.ride_model.specs.declared.entry.Entry.{Entry}
-use Rattle.ride_model.specs.State.{State}
-use Rattle.ride_model.specs.Legal.{after_entry, replay, IsLegalEntry, IsLegal}
+use Rattle.model_laws.proofs.Common.{◌≡◌, ℕ, List, [], ◌∷◌, ◌++◌, refl, Entry, State, after_entry, replay, IsLegalEntry, IsLegal}
 
 -- the state after one history and then another
 pub replay-append : (s : State) (first second : List Entry) → replay s (first ++ second) ≡ replay (replay s first) second

@@ -1,17 +1,6 @@
 -- A plan with one ride more: the other stops keep their order, exactly two are added, and the plan is what the rides need.
-use Rattle.std.proofs.Common.{◌≡◌, ℕ, zero, suc, ◌+◌, ◌≤◌, inl, inr, Bool, true, false, not, List, [], ◌∷◌, ◌++◌, length, take, drop, eqb, refl, sym, ◌∙◌, ap, subst, arith, length-append, append_assoc}
-use Rattle.std.specs.Prelude.{map, Some, None, option_map, ◌==◌, Contains, IfSome}
-use Rattle.std.specs.List.{filter, AllByRecursion, IsDistinct}
-use Rattle.std.proofs.lemmas.Bool.{eqb-true, eq-eqb}
-use Rattle.std.proofs.lemmas.List.Elements.{All-from_recursion, recursion_from_All, All-push, filter-append, Contains-append_left, Contains-push}
-use Rattle.std.proofs.lemmas.Option.{same_Some}
-use Rattle.ride_model.specs.declared.vehicle.Ride.{Ride}
-use Rattle.ride_model.specs.declared.vehicle.Stop.{Stop}
-use Rattle.ride_model.specs.declared.vehicle.Vehicle.{Vehicle}
-use Rattle.ride_model.specs.Road.{RoadMap}
-use Rattle.ride_model.specs.Vehicle.{IsRide, visits_due, visit_of, stops_of, ride_ids, IsPlanFor, IsRouted}
-use Rattle.ride_model.specs.inner.Vehicle.{IsFresh}
-use Rattle.ride_model.specs.Insertion.{routed, pickup_of, dropoff_of, stops_with, with_plan, inserted, stops_without}
+use Rattle.model_laws.proofs.Common.{◌≡◌, ℕ, zero, suc, ◌+◌, ◌≤◌, inl, inr, Bool, true, false, not, List, [], ◌∷◌, ◌++◌, length, take, drop, eqb, refl, sym, ◌∙◌, ap, subst, arith, length-append, append_assoc, map, Some, None, option_map, ◌==◌, Contains, IfSome, filter, AllByRecursion, eqb-true, eq-eqb, All-from_recursion, recursion_from_All, All-push, filter-append, Contains-append_left, Contains-push, same_Some, Ride, Stop, Vehicle, RoadMap, IsRide, visits_due, visit_of, stops_of, ride_ids, IsPlanFor, IsRouted, IsFresh, routed, pickup_of, dropoff_of, stops_with, with_plan, inserted, stops_without}
+use Rattle.std.specs.List.{IsDistinct}
 use Rattle.model_laws.proofs.plain.Among.{Among, among_from_contains, contains_from_among}
 use Rattle.model_laws.proofs.plain.Each.{each-append, each-take, each-drop}
 use Rattle.model_laws.proofs.Routes.{routed-has_legs}

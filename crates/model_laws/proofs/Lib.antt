@@ -1,3 +1,4 @@
+pub mod Common
 pub mod CoveredPairs
 pub mod OfferPrices
 pub mod Certificates

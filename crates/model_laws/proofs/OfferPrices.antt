@@ -1,14 +1,6 @@
 -- Offers and prices: no offer costs less than the price.
-use Rattle.std.proofs.Common.{◌≡◌, ℕ, zero, suc, ◌+◌, ◌-◌, ◌<◌, ◌≤◌, ◌⊎◌, inl, inr, Bool, true, false, cond, ◌&&◌, List, [], ◌∷◌, ◌++◌, length, leb, refl, leb-true, sym, ◌∙◌, ap, subst, arith}
-use Rattle.std.specs.Prelude.{map, Option, Some, None, option_and_then, flat_map}
-use Rattle.std.specs.List.{filter_map, cons_option, range_with_len}
-use Rattle.ride_model.specs.declared.offer.Offer.{Offer}
-use Rattle.ride_model.specs.declared.settings.Settings.{Settings}
-use Rattle.ride_model.specs.declared.vehicle.Ride.{Ride}
-use Rattle.ride_model.specs.declared.vehicle.Vehicle.{Vehicle}
-use Rattle.ride_model.specs.Road.{RoadMap}
-use Rattle.ride_model.specs.Insertion.{inserted}
-use Rattle.ride_model.specs.Offers.{is_open, offer_of_plan, offer_of, place_pairs, offers, price}
+use Rattle.model_laws.proofs.Common.{◌≡◌, ℕ, zero, suc, ◌+◌, ◌-◌, ◌<◌, ◌≤◌, ◌⊎◌, inl, inr, Bool, true, false, cond, ◌&&◌, List, [], ◌∷◌, ◌++◌, length, leb, refl, leb-true, sym, ◌∙◌, ap, subst, arith, map, Option, Some, None, option_and_then, filter_map, cons_option, range_with_len, Offer, Settings, Ride, Vehicle, RoadMap, inserted, is_open, offer_of_plan, offer_of, place_pairs, offers, price}
+use Rattle.std.specs.Prelude.{flat_map}
 use Rattle.model_laws.proofs.plain.Among.{Among, among_map}
 use Rattle.model_laws.proofs.plain.Numbers.{same_or_less}
 use Rattle.model_laws.proofs.Walks.{least_is_least}

@@ -1,18 +1,5 @@
 -- Plans: rides and the stops that they need, whatever the legs.
-use Rattle.std.proofs.Common.{◌≡◌, ℕ, ◌⊎◌, inl, inr, Bool, true, false, not, cond, List, [], ◌∷◌, eqb, refl, sym, ◌∙◌, ap, subst}
-use Rattle.std.specs.Prelude.{map, All, Option, Some, None, option_map, option_and_then, Contains}
-use Rattle.std.specs.List.{filter, IsDistinct, AllByRecursion}
-use Rattle.std.proofs.lemmas.Bool.{eqb-true, eq-eqb}
-use Rattle.std.proofs.lemmas.List.Elements.{All-from_recursion, recursion_from_All}
-use Rattle.std.proofs.lemmas.Map.Keys.{IsDistinct-head, IsDistinct-tail, IsDistinct-cons}
-use Rattle.std.proofs.lemmas.Option.{same_Some}
-use Rattle.ride_model.specs.declared.vehicle.Kind.{Kind}
-use Rattle.ride_model.specs.declared.vehicle.Ride.{Ride}
-use Rattle.ride_model.specs.declared.vehicle.Stop.{Stop}
-use Rattle.ride_model.specs.Road.{RoadMap, travel, IsNode}
-use Rattle.ride_model.specs.Vehicle.{visits_due, visit_of, stops_of, ride_ids, IsPlanFor, IsRide, IsLawful}
-use Rattle.ride_model.specs.Insertion.{routed, stops_without, rides_without}
-use Rattle.ride_model.specs.declared.vehicle.Vehicle.{Vehicle}
+use Rattle.model_laws.proofs.Common.{◌≡◌, ℕ, ◌⊎◌, inl, inr, Bool, true, false, not, cond, List, [], ◌∷◌, eqb, refl, sym, ◌∙◌, ap, subst, map, All, Option, Some, None, option_map, option_and_then, Contains, filter, IsDistinct, AllByRecursion, eqb-true, eq-eqb, All-from_recursion, recursion_from_All, IsDistinct-head, IsDistinct-tail, IsDistinct-cons, same_Some, Kind, Ride, Stop, RoadMap, travel, IsNode, visits_due, visit_of, stops_of, ride_ids, IsPlanFor, IsRide, IsLawful, routed, stops_without, rides_without, Vehicle}
 use Rattle.model_laws.proofs.plain.Among.{Among, among_from_contains, contains_from_among, among_map, among_map_back, among_filter}
 use Rattle.model_laws.proofs.plain.Each.{of_all}
 use Rattle.model_laws.proofs.plain.Lists.{distinct-filter}

@@ -1,20 +1,6 @@
 -- The removal law: a vehicle without one of its rides is lawful, no stop that is left is later, and no ride is longer.
-use Rattle.std.proofs.Common.{◌≡◌, ℕ, ◌+◌, ◌≤◌, Bool, true, false, not, cond, ◌&&◌, ◌||◌, List, [], ◌∷◌, eqb, leb, ltb, leb-true, le-leb, ltb-false, le-ltb, refl, sym, ◌∙◌, ap, subst, arith}
-use Rattle.std.specs.Prelude.{Option, Some, None, unwrap_or, ◌==◌, IfSome}
-use Rattle.std.specs.List.{filter}
-use Rattle.std.proofs.lemmas.Bool.{eqb-true, eq-eqb, or_parts, or_from, and_from, and_parts}
-use Rattle.std.proofs.lemmas.List.Elements.{All-filter}
-use Rattle.ride_model.specs.declared.vehicle.Ride.{Ride}
-use Rattle.ride_model.specs.declared.vehicle.Stop.{Stop}
-use Rattle.ride_model.specs.declared.vehicle.Vehicle.{Vehicle}
-use Rattle.ride_model.specs.Road.{RoadMap, IsRoadMap}
-use Rattle.ride_model.specs.Vehicle.{IsRide, IsRouted, IsLawful, HasLegs}
-use Rattle.ride_model.specs.Loads.{loads_fit}
-use Rattle.ride_model.specs.Times.{visits_of}
-use Rattle.ride_model.specs.Keeps.{is_pickup_at, is_dropoff_at, keeps_visits, keeps_ride, breaks_visits, breaks_ride}
-use Rattle.ride_model.specs.Insertion.{routed, with_plan, stops_without, rides_without, without_ride}
+use Rattle.model_laws.proofs.Common.{◌≡◌, ℕ, ◌+◌, ◌≤◌, Bool, true, false, not, cond, ◌&&◌, ◌||◌, List, [], ◌∷◌, eqb, leb, ltb, leb-true, le-leb, ltb-false, le-ltb, refl, sym, ◌∙◌, ap, subst, arith, Option, Some, None, unwrap_or, ◌==◌, IfSome, filter, eqb-true, eq-eqb, or_parts, or_from, and_from, and_parts, All-filter, Ride, Stop, Vehicle, RoadMap, IsRoadMap, IsRide, IsRouted, IsLawful, HasLegs, loads_fit, visits_of, is_pickup_at, is_dropoff_at, keeps_visits, keeps_ride, breaks_visits, breaks_ride, routed, with_plan, stops_without, rides_without, without_ride, AllSooner}
 use Rattle.model_laws.proofs.TravelTimes.{travel-same}
-use Rattle.model_laws.specs.inner.Sooner.{AllSooner}
 use Rattle.model_laws.proofs.Routes.{routed-has_legs, of_ride, sooner-filter, visits_from, ShorterRoute, shorter_route}
 use Rattle.model_laws.proofs.PlanStops.{unlegged-routed, plan-same, plan-without}
 use Rattle.model_laws.proofs.AboardLoads.{fits_throughout, loads_fit-throughout, fits-without, filter-skipped}

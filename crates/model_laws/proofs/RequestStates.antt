@@ -1,17 +1,6 @@
 -- What an opening and an abandon make of the requests.
-use Rattle.std.proofs.Common.{◌≡◌, ℕ, ◌+◌, Bool, true, false, not, cond, ◌||◌, ◌&&◌, List, [], ◌∷◌, ◌++◌, eqb, refl, sym, ◌∙◌, ap}
-use Rattle.std.specs.Prelude.{map, Option, Some, None, option_map, find, ◌==◌, if◌then◌else◌}
-use Rattle.std.proofs.Common.{arith}
-use Rattle.std.proofs.lemmas.Bool.{eqb-true}
-use Rattle.std.specs.List.{filter}
+use Rattle.model_laws.proofs.Common.{◌≡◌, ℕ, ◌+◌, Bool, true, false, not, cond, ◌||◌, ◌&&◌, List, [], ◌∷◌, ◌++◌, eqb, refl, sym, ◌∙◌, ap, map, Option, Some, None, option_map, find, ◌==◌, if◌then◌else◌, arith, eqb-true, filter, RequestState, Waiting, InBatch, Ride, BatchCopy, State, AcceptedRequest, request_state, with_request_state, is_batch, is_of, is_in, with_request_states, after_opening, standing_rides, without_batch, after_abandon}
 use Rattle.model_laws.proofs.plain.Numbers.{eqb-comm}
-use Rattle.ride_model.specs.declared.reply.RequestState.{RequestState}
-use Rattle.ride_model.specs.declared.reply.RequestState.TheVariants.{Waiting, InBatch}
-use Rattle.ride_model.specs.declared.vehicle.Ride.{Ride}
-use Rattle.ride_model.specs.Seating.{BatchCopy}
-use Rattle.ride_model.specs.State.{State, AcceptedRequest, request_state, with_request_state, is_batch}
-use Rattle.model_laws.specs.inner.Requests.{is_of, is_in}
-use Rattle.ride_model.specs.Batch.{with_request_states, after_opening, standing_rides, without_batch, after_abandon}
 
 -- a request in a state, where its id passes
 abbrev pub marked : (ℕ → Bool) → RequestState → AcceptedRequest → AcceptedRequest

@@ -1,14 +1,5 @@
 -- Routes: stops with their legs, and what is left when stops are taken out.
-use Rattle.std.proofs.Common.{◌≡◌, ℕ, ◌+◌, ◌-◌, ◌≤◌, Bool, true, false, cond, List, [], ◌∷◌, refl, sym, ap, subst, arith}
-use Rattle.std.specs.Prelude.{Some, None, option_map, option_and_then, zip, IsSomeAnd}
-use Rattle.std.specs.List.{filter}
-use Rattle.std.proofs.lemmas.Option.{same_Some}
-use Rattle.ride_model.specs.declared.vehicle.Stop.{Stop}
-use Rattle.ride_model.specs.Road.{RoadMap, IsRoadMap, travel}
-use Rattle.ride_model.specs.Vehicle.{HasLegs}
-use Rattle.ride_model.specs.Times.{times_from}
-use Rattle.ride_model.specs.Insertion.{routed}
-use Rattle.model_laws.specs.inner.Sooner.{AllSooner}
+use Rattle.model_laws.proofs.Common.{◌≡◌, ℕ, ◌+◌, ◌-◌, ◌≤◌, Bool, true, false, cond, List, [], ◌∷◌, refl, sym, ap, subst, arith, Some, None, option_map, option_and_then, zip, IsSomeAnd, filter, same_Some, Stop, RoadMap, IsRoadMap, travel, HasLegs, times_from, routed, AllSooner}
 use Rattle.model_laws.proofs.TravelTimes.{travel-same, triangle}
 
 -- a stop with another leg

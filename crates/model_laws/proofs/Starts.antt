@@ -1,9 +1,5 @@
 -- When a vehicle starts for a batch.
-use Rattle.std.proofs.Common.{◌≡◌, ℕ, ◌+◌, ◌≤◌, Bool, true, false, cond, leb-true, arith}
-use Rattle.std.specs.Prelude.{max, nat_le, ◌||◌}
-use Rattle.std.proofs.lemmas.Bool.{and_parts}
-use Rattle.ride_model.specs.declared.vehicle.Vehicle.{Vehicle}
-use Rattle.ride_model.specs.Offers.{is_idle, is_open, start_of}
+use Rattle.model_laws.proofs.Common.{◌≡◌, ℕ, ◌+◌, ◌≤◌, Bool, true, false, cond, leb-true, arith, max, nat_le, ◌||◌, and_parts, Vehicle, is_idle, is_open, start_of}
 
 -- not before it is ready
 pub start-later : (v : Vehicle) (lead time : ℕ) → v.ready ≤ start_of v lead time

@@ -1,18 +1,8 @@
 -- Travel times are the least weights of walks: a walk that meets no node twice has at most as many arcs as there are nodes,
 -- and each walk has one that is not heavier.
-use Rattle.std.proofs.Common.{◌≡◌, ℕ, suc, ◌+◌, ◌*◌, ◌<◌, ◌≤◌, Bool, true, false, List, [], ◌∷◌, ◌++◌, length, eqb, refl, sym, ◌∙◌, ap, subst, arith}
-use Rattle.std.specs.Prelude.{map, Option, Some, None, ◌||◌, IsSomeAnd}
-use Rattle.std.specs.List.{list_any, IsDistinct, AllByRecursion}
-use Rattle.std.proofs.lemmas.List.Elements.{All-contains}
-use Rattle.std.proofs.lemmas.List.Sums.{sum_by-append}
-use Rattle.std.proofs.lemmas.List.{length-map}
-use Rattle.std.proofs.lemmas.Bool.{eqb-true}
+use Rattle.model_laws.proofs.Common.{◌≡◌, ℕ, suc, ◌+◌, ◌*◌, ◌<◌, ◌≤◌, Bool, true, false, List, [], ◌∷◌, ◌++◌, length, eqb, refl, sym, ◌∙◌, ap, subst, arith, map, Option, Some, None, ◌||◌, IsSomeAnd, list_any, AllByRecursion, All-contains, sum_by-append, length-map, eqb-true, IsDistinct-cons, IsDistinct-tail, same_Some, RoadArc, RoadMap, IsArc, IsRoadMap, travel, travel_within, IsWalk, IsLeastWeight, IsTravel, weight_of}
+use Rattle.std.specs.List.{IsDistinct}
 use Rattle.std.proofs.lemmas.Map.Steps.{length-le_from_distinct_below}
-use Rattle.std.proofs.lemmas.Map.Keys.{IsDistinct-cons, IsDistinct-tail}
-use Rattle.std.proofs.lemmas.Option.{same_Some}
-use Rattle.ride_model.specs.declared.network.RoadArc.{RoadArc}
-use Rattle.ride_model.specs.Road.{RoadMap, IsArc, IsRoadMap, travel, travel_within}
-use Rattle.ride_model.specs.inner.Road.{IsWalk, IsLeastWeight, IsTravel, weight_of}
 use Rattle.model_laws.proofs.Walks.{weight-cons, within-same, within_is_walked, within_is_least, walk-append}
 
 -- the nodes that a walk leaves

@@ -1,11 +1,5 @@
 -- Walks, and the least weights of short ones.
-use Rattle.std.proofs.Common.{◌≡◌, ℕ, zero, suc, ◌+◌, ◌≤◌, min, ◌⊎◌, inl, inr, true, false, cond, List, [], ◌∷◌, ◌++◌, length, eqb, refl, sym, ◌∙◌, ap, subst, arith}
-use Rattle.std.specs.Prelude.{map, Option, Some, None, option_map, ◌==◌}
-use Rattle.std.proofs.lemmas.List.Sums.{sum_by-cons}
-use Rattle.std.proofs.lemmas.Bool.{eqb-true, eq-eqb}
-use Rattle.ride_model.specs.declared.network.RoadArc.{RoadArc}
-use Rattle.ride_model.specs.Road.{RoadMap, lesser, least_of, arcs_from, travel_within}
-use Rattle.ride_model.specs.inner.Road.{IsWalk, weight_of}
+use Rattle.model_laws.proofs.Common.{◌≡◌, ℕ, zero, suc, ◌+◌, ◌≤◌, min, ◌⊎◌, inl, inr, true, false, cond, List, [], ◌∷◌, ◌++◌, length, eqb, refl, sym, ◌∙◌, ap, subst, arith, map, Option, Some, None, option_map, ◌==◌, sum_by-cons, eqb-true, eq-eqb, RoadArc, RoadMap, lesser, least_of, arcs_from, travel_within, IsWalk, weight_of}
 use Rattle.model_laws.proofs.plain.Among.{Among, among_from_contains, contains_from_among, among_map, among_map_back, among_filter, among_filter_back}
 
 -- the first arc's seconds and the rest's weight

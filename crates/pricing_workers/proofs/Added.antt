@@ -1,8 +1,5 @@
 -- What holds of the first of a list, where one more is added behind them.
-use Rattle.std.proofs.Common.{◌≡◌, ℕ, ◌+◌, ◌≤◌, List, [], ◌∷◌, ◌++◌, length, take, sym, ap, ◌∙◌, subst, arith, length-append}
-use Rattle.std.specs.Prelude.{All}
-use Rattle.std.proofs.lemmas.List.{take_all}
-use Rattle.std.proofs.lemmas.List.Elements.{All-append, All-from_recursion}
+use Rattle.pricing_workers.proofs.Common.{◌≡◌, ℕ, ◌+◌, ◌≤◌, List, [], ◌∷◌, ◌++◌, length, take, sym, ap, ◌∙◌, subst, arith, length-append, All, take_all, All-append, All-from_recursion}
 
 -- it holds of one element more
 pub all-added : {X : Type 0} (P : X → Type 0) (count : ℕ) (old new : List X) (own : X) → length old ≤ count → new ≡ old ++ own ∷ []

@@ -1,15 +1,5 @@
 -- Rows of cells, put together.
-use Rattle.std.proofs.Common.{◌≡◌, ℕ, ◌+◌, ◌-◌, ◌*◌, ◌<◌, List, ◌++◌, length, get_or, take, drop, sym, ap, ◌∙◌, subst, arith, length-append, inl, inr}
-use Rattle.std.specs.Prelude.{Option, None}
-use Rattle.std.proofs.lemmas.Bool.{cases_lt}
-use Rattle.std.proofs.lemmas.Nat.{mul-add-lt}
-use Rattle.std.proofs.lemmas.List.{get_or_append_left, get_or-append-add, take-append-drop}
-use Rattle.ride_model.specs.declared.offer.Offer.{Offer}
-use Rattle.ride_model.specs.declared.vehicle.Ride.{Ride}
-use Rattle.ride_model.specs.Road.{RoadMap}
-use Rattle.ride_model.specs.Seating.{BatchCopy}
-use Rattle.batch_commit.specs.inner.Table.{Table, IsTableOf}
-use Rattle.pricing_workers.specs.inner.Cells.{IsCellOf, AreRowsOf}
+use Rattle.pricing_workers.proofs.Common.{◌≡◌, ℕ, ◌+◌, ◌-◌, ◌*◌, ◌<◌, List, ◌++◌, length, get_or, take, drop, sym, ap, ◌∙◌, subst, arith, length-append, inl, inr, Option, None, cases_lt, mul-add-lt, get_or_append_left, get_or-append-add, take-append-drop, Offer, Ride, RoadMap, BatchCopy, Table, IsTableOf, IsCellOf, AreRowsOf}
 
 -- rows after rows
 pub rows-append : (roads : RoadMap) (batch : BatchCopy) (xs ys : List Ride) (cs ds : List (Option Offer))

@@ -1,12 +1,5 @@
 -- The times of some requests, put together.
-use Rattle.std.proofs.Common.{◌≡◌, ℕ, ◌+◌, ◌-◌, ◌<◌, ◌≤◌, List, ◌++◌, length, get_or, slice_set, sym, ap, ◌∙◌, subst, arith, length-append, inl, inr}
-use Rattle.std.specs.Prelude.{All, None}
-use Rattle.std.proofs.lemmas.Bool.{cases_lt}
-use Rattle.std.proofs.lemmas.List.{get_or_append_left, get_or-append-add, get_or-set_same, get_or-set_other, get_or_default, length-set}
-use Rattle.ride_model.specs.declared.vehicle.Ride.{Ride}
-use Rattle.ride_model.specs.Road.{RoadMap}
-use Rattle.pricing_workers.specs.declared.times.Times.{Times}
-use Rattle.pricing_workers.specs.inner.Rows.{HasRows, HoldsRows, HoldTimes}
+use Rattle.pricing_workers.proofs.Common.{◌≡◌, ℕ, ◌+◌, ◌-◌, ◌<◌, ◌≤◌, List, ◌++◌, length, get_or, slice_set, sym, ap, ◌∙◌, subst, arith, length-append, inl, inr, All, None, cases_lt, get_or_append_left, get_or-append-add, get_or-set_same, get_or-set_other, get_or_default, length-set, Ride, RoadMap, Times, HasRows, HoldsRows, HoldTimes}
 use Rattle.pricing_workers.proofs.RowTimes.{rows-room}
 
 -- times of some rides and then of others

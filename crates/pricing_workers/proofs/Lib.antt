@@ -1,3 +1,4 @@
+pub mod Common
 pub mod RowTimes
 pub mod Wanting
 pub mod Filling

@@ -1,15 +1,7 @@
 -- The nodes that are wanted are nodes of the map.
-use Rattle.std.proofs.Common.{List, [], ◌∷◌}
-use Rattle.std.specs.Prelude.{All, map}
-use Rattle.std.specs.List.{AllByRecursion}
-use Rattle.std.proofs.lemmas.List.Elements.{All-append, All-map, All-from_recursion, recursion_from_All}
-use Rattle.ride_model.specs.declared.vehicle.Stop.{Stop}
-use Rattle.ride_model.specs.declared.vehicle.Vehicle.{Vehicle}
-use Rattle.ride_model.specs.Road.{RoadMap, IsNode}
-use Rattle.ride_model.specs.Vehicle.{IsLawful}
+use Rattle.pricing_workers.proofs.Common.{List, [], ◌∷◌, All, map, AllByRecursion, All-append, All-map, All-from_recursion, recursion_from_All, Stop, Vehicle, RoadMap, IsNode, IsLawful, nodes_of, all_nodes}
 use Rattle.model_laws.proofs.plain.Each.{each-among}
 use Rattle.model_laws.proofs.PlanStops.{stop-at-node}
-use Rattle.pricing_workers.specs.inner.Wanted.{nodes_of, all_nodes}
 
 -- the nodes of a lawful vehicle
 nodes-of-on-map : (roads : RoadMap) (v : Vehicle) → IsLawful roads v → All (IsNode roads) (nodes_of v)

@@ -1,26 +1,6 @@
 -- What is known of a pair that may be priced.
-use Rattle.std.proofs.Common.{◌≡◌, ℕ, ◌+◌, ◌<◌, ◌≤◌, List, length, get_or, sym, ap, ◌∙◌, subst, arith}
-use Rattle.std.specs.Prelude.{take, Option, Some, None, IfSome}
-use Rattle.std.proofs.lemmas.List.Elements.{All-get_or}
-use Rattle.ride_model.specs.declared.offer.Offer.{Offer}
-use Rattle.ride_model.specs.declared.vehicle.Ride.{Ride}
-use Rattle.ride_model.specs.declared.vehicle.Vehicle.{Vehicle}
-use Rattle.ride_model.specs.Offers.{start_of, offer_of, price}
-use Rattle.ride_model.specs.Road.{RoadMap}
-use Rattle.ride_model.specs.Seating.{BatchCopy}
-use Rattle.ride_model.specs.Vehicle.{IsLawful}
-use Rattle.ride_model.specs.inner.Vehicle.{IsFresh}
-use Rattle.insertion.specs.declared.near.Near.{Near}
-use Rattle.insertion.specs.inner.Asked.{HoldsTimes, IsAsked}
+use Rattle.pricing_workers.proofs.Common.{◌≡◌, ℕ, ◌+◌, ◌<◌, ◌≤◌, List, length, get_or, sym, ap, ◌∙◌, subst, arith, take, Option, Some, None, IfSome, All-get_or, Offer, Ride, Vehicle, start_of, offer_of, price, RoadMap, BatchCopy, IsLawful, IsFresh, Near, HoldsTimes, IsAsked, slack_of, Times, Plan, Wanted, IsCellOf, MayPrice, HoldsAt, HoldsRows, IsWide, all_nodes, plan_at}
 use Rattle.insertion.specs.inner.Least.{cost_if_any}
-use Rattle.slack_tables.specs.inner.SlackOf.{slack_of}
-use Rattle.pricing_workers.specs.declared.times.Times.{Times}
-use Rattle.pricing_workers.specs.declared.wanted.Plan.{Plan}
-use Rattle.pricing_workers.specs.declared.wanted.Wanted.{Wanted}
-use Rattle.pricing_workers.specs.inner.Cells.{IsCellOf}
-use Rattle.pricing_workers.specs.inner.Pairs.{MayPrice}
-use Rattle.pricing_workers.specs.inner.Rows.{HoldsAt, HoldsRows, IsWide}
-use Rattle.pricing_workers.specs.inner.Wanted.{all_nodes, plan_at}
 use Rattle.pricing_workers.proofs.RowTimes.{nodes-fit, rows-wide, holds-at}
 
 -- the rows hold the vehicle's times from its first node on, and its tables are those of the batch

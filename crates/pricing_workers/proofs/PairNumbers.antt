@@ -1,21 +1,5 @@
 -- The number of a pair tells its request and its vehicle.
-use Rattle.std.proofs.Common.{◌≡◌, ℕ, suc, zero, ◌+◌, ◌*◌, ◌/◌, ◌%◌, ◌<◌, List, length, get_or, slice_set, sym, ap, ◌∙◌, subst, arith, inl, inr}
-use Rattle.std.specs.Prelude.{Option, None}
-use Rattle.std.proofs.Math.Nat.{div-lt_iff_lt-mul}
-use Rattle.std.proofs.lemmas.Bool.{cases_lt}
-use Rattle.std.proofs.lemmas.Nat.{div-mul-add, mod-mul-add, mul-add-lt}
-use Rattle.std.proofs.lemmas.List.{get_or-set_same, get_or-set_other, get_or_default}
-use Rattle.std.proofs.lemmas.List.Elements.{All-get_or}
-use Rattle.ride_model.specs.declared.offer.Offer.{Offer}
-use Rattle.ride_model.specs.declared.vehicle.Ride.{Ride}
-use Rattle.ride_model.specs.declared.vehicle.Vehicle.{Vehicle}
-use Rattle.ride_model.specs.Road.{RoadMap}
-use Rattle.ride_model.specs.Seating.{BatchCopy}
-use Rattle.pricing_workers.specs.declared.times.Times.{Times}
-use Rattle.pricing_workers.specs.declared.wanted.Wanted.{Wanted}
-use Rattle.pricing_workers.specs.inner.Cells.{IsCellOf, ArePairsOf, AreRowsOf}
-use Rattle.pricing_workers.specs.inner.Pairs.{IsRequest, MayPrice, MayPriceAll}
-use Rattle.pricing_workers.specs.inner.Rows.{HoldsRows}
+use Rattle.pricing_workers.proofs.Common.{◌≡◌, ℕ, suc, zero, ◌+◌, ◌*◌, ◌/◌, ◌%◌, ◌<◌, List, length, get_or, slice_set, sym, ap, ◌∙◌, subst, arith, inl, inr, Option, None, div-lt_iff_lt-mul, cases_lt, div-mul-add, mod-mul-add, mul-add-lt, get_or-set_same, get_or-set_other, get_or_default, All-get_or, Offer, Ride, Vehicle, RoadMap, BatchCopy, Times, Wanted, IsCellOf, ArePairsOf, AreRowsOf, IsRequest, MayPrice, MayPriceAll, HoldsRows}
 
 some-columns : (pair columns rows : ℕ) → pair < rows * columns → 0 < columns
 some-columns pair zero rows low = omega (arith, low)

@@ -1,19 +1,5 @@
 -- The times in a request's rows at a vehicle's nodes.
-use Rattle.std.proofs.Common.{◌≡◌, ℕ, suc, ◌+◌, ◌<◌, ◌≤◌, List, length, get_or, refl, sym, ap, ◌∙◌, arith}
-use Rattle.std.specs.Prelude.{Option, None, map, take}
-use Rattle.std.proofs.lemmas.List.{get_or-map, length-map}
-use Rattle.std.proofs.lemmas.List.Concat.{get_or-flat_map}
-use Rattle.std.proofs.lemmas.List.Folds.{length-flat_map-take}
-use Rattle.std.proofs.lemmas.List.FromFn.{fill_by_all}
-use Rattle.ride_model.specs.declared.vehicle.Kind.TheVariants.{Pickup}
-use Rattle.ride_model.specs.declared.vehicle.Ride.{Ride}
-use Rattle.ride_model.specs.declared.vehicle.Stop.{Stop}
-use Rattle.ride_model.specs.declared.vehicle.Vehicle.{Vehicle}
-use Rattle.ride_model.specs.Road.{RoadMap, travel}
-use Rattle.insertion.specs.inner.Asked.{near_stop}
-use Rattle.pricing_workers.specs.declared.times.Times.{Times}
-use Rattle.pricing_workers.specs.inner.Rows.{HasRows, HoldsRows, HoldsAt, IsWide, near_at, near_node}
-use Rattle.pricing_workers.specs.inner.Wanted.{nodes_of, all_nodes}
+use Rattle.pricing_workers.proofs.Common.{◌≡◌, ℕ, suc, ◌+◌, ◌<◌, ◌≤◌, List, length, get_or, refl, sym, ap, ◌∙◌, arith, Option, None, map, take, get_or-map, length-map, get_or-flat_map, length-flat_map-take, fill_by_all, Pickup, Ride, Stop, Vehicle, RoadMap, travel, near_stop, Times, HasRows, HoldsRows, HoldsAt, IsWide, near_at, near_node, nodes_of, all_nodes}
 
 -- a row's time at a place is that of the node there
 row-at : (f : ℕ → Option ℕ) (nodes : List ℕ) (row : List (Option ℕ)) (k : ℕ) → row ≡ map f nodes → k < length nodes

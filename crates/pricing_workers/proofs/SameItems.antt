@@ -1,13 +1,6 @@
 -- Rides and stops are the same where their fields are.
-use Rattle.std.proofs.Common.{◌≡◌, ℕ, true≢false, refl, sym, ap, rules}
-use Rattle.std.specs.Prelude.{◌==◌, ◌&&◌, Option, Some, None, is_some}
+use Rattle.pricing_workers.proofs.Common.{◌≡◌, ℕ, true≢false, refl, sym, ap, rules, ◌==◌, ◌&&◌, Option, Some, None, is_some, option_eq, Decides-and, Decides-eqb, Decides-like, same_Some, Kind, Ride, Stop}
 use Rattle.std.specs.Bool.{Decides}
-use Rattle.std.specs.Option.{option_eq}
-use Rattle.std.proofs.lemmas.Bool.Decides.{Decides-and, Decides-eqb, Decides-like}
-use Rattle.std.proofs.lemmas.Option.{same_Some}
-use Rattle.ride_model.specs.declared.vehicle.Kind.{Kind}
-use Rattle.ride_model.specs.declared.vehicle.Ride.{Ride}
-use Rattle.ride_model.specs.declared.vehicle.Stop.{Stop}
 use Rattle.ride_model.specs.contracts.vehicle.Kind.{the_type}
 use denote.Enum.Bare.{sameb, same_true, true_same}
 

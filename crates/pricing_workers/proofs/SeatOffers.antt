@@ -1,20 +1,5 @@
 -- What is asked of the offer of a seat's vehicle, whose times alone are found.
-use Rattle.std.proofs.Common.{◌≡◌, ◌≤◌, ◌<◌, ℕ, List, [], ◌∷◌, length, get_or, sym, ◌∙◌, subst, append-nil, arith}
-use Rattle.std.specs.Prelude.{All, None}
-use Rattle.std.proofs.lemmas.List.Concat.{flat_map-cons}
-use Rattle.std.proofs.lemmas.List.Elements.{All-get_or, All-from_recursion}
-use Rattle.ride_model.specs.declared.vehicle.Ride.{Ride}
-use Rattle.ride_model.specs.declared.vehicle.Vehicle.{Vehicle}
-use Rattle.ride_model.specs.Road.{RoadMap, IsRoadMap, IsNode}
-use Rattle.ride_model.specs.Seating.{BatchCopy}
-use Rattle.ride_model.specs.inner.Seating.{IsBatchOver}
-use Rattle.ride_model.specs.Vehicle.{IsLawful, IsRide}
-use Rattle.ride_model.specs.inner.Vehicle.{IsFresh}
-use Rattle.insertion.specs.declared.near.Near.{Near}
-use Rattle.insertion.specs.inner.Asked.{HoldsTimes, IsAsked}
-use Rattle.pricing_workers.specs.declared.times.Times.{Times}
-use Rattle.pricing_workers.specs.inner.Rows.{HoldsAt, HoldsRows}
-use Rattle.pricing_workers.specs.inner.Wanted.{nodes_of, all_nodes}
+use Rattle.pricing_workers.proofs.Common.{◌≡◌, ◌≤◌, ◌<◌, ℕ, List, [], ◌∷◌, length, get_or, sym, ◌∙◌, subst, append-nil, arith, All, None, flat_map-cons, All-get_or, All-from_recursion, Ride, Vehicle, RoadMap, IsRoadMap, IsNode, BatchCopy, IsBatchOver, IsLawful, IsRide, IsFresh, Near, HoldsTimes, IsAsked, Times, HoldsAt, HoldsRows, nodes_of, all_nodes}
 use Rattle.pricing_workers.proofs.Nodes.{nodes-on-map}
 use Rattle.pricing_workers.proofs.RowTimes.{holds-at}
 

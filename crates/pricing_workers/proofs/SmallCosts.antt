@@ -1,17 +1,5 @@
 -- The costs of a batch's table are small.
-use Rattle.std.proofs.Common.{◌≡◌, ℕ, ◌^◌, ◌<◌, List, [], ◌∷◌, length, Option, Some, None, arith}
-use Rattle.std.specs.Prelude.{IfSome, MatchOption, slice_index_or, All}
-use Rattle.std.proofs.lemmas.List.Elements.{All-get_or}
-use Rattle.ride_model.specs.declared.offer.Offer.{Offer}
-use Rattle.ride_model.specs.declared.vehicle.Ride.{Ride}
-use Rattle.ride_model.specs.declared.vehicle.Vehicle.{Vehicle}
-use Rattle.ride_model.specs.Offers.{price}
-use Rattle.ride_model.specs.Road.{RoadMap, IsRoadMap}
-use Rattle.ride_model.specs.Seating.{BatchCopy}
-use Rattle.ride_model.specs.inner.Seating.{IsBatchOver}
-use Rattle.ride_model.specs.Vehicle.{IsRide, IsRouted}
-use Rattle.ride_model.specs.inner.Vehicle.{IsFresh}
-use Rattle.batch_commit.specs.inner.Table.{Table, cell_at, HasSmallCosts, IsLeastOffer, IsTableOf}
+use Rattle.pricing_workers.proofs.Common.{◌≡◌, ℕ, ◌^◌, ◌<◌, List, [], ◌∷◌, length, Option, Some, None, arith, IfSome, MatchOption, slice_index_or, All, All-get_or, Offer, Ride, Vehicle, price, RoadMap, IsRoadMap, BatchCopy, IsBatchOver, IsRide, IsRouted, IsFresh, Table, cell_at, HasSmallCosts, IsLeastOffer, IsTableOf}
 use Rattle.model_laws.proofs.Costs.{cost-lt}
 
 -- an element of a list that has one

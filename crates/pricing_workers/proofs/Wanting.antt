@@ -1,16 +1,5 @@
 -- One more vehicle among those whose nodes are wanted.
-use Rattle.std.proofs.Common.{◌≡◌, ℕ, ◌+◌, ◌<◌, List, [], ◌∷◌, ◌++◌, length, get_or, take, sym, ap, ◌∙◌, subst, arith, length-append, length-take, length-take-le, inl, inr}
-use Rattle.std.proofs.lemmas.Bool.{cases_eq}
-use Rattle.std.proofs.lemmas.Grind.{flat_map-append}
-use Rattle.std.proofs.lemmas.List.{append-nil, get_or-take, get_or_append_left, take-append-le, take_more}
-use Rattle.std.proofs.Math.Seq.{get_or-append_seam, take-append_seam}
-use Rattle.ride_model.specs.declared.settings.Settings.{Settings}
-use Rattle.ride_model.specs.declared.vehicle.Vehicle.{Vehicle}
-use Rattle.ride_model.specs.Offers.{start_of}
-use Rattle.slack_tables.specs.inner.SlackOf.{slack_of}
-use Rattle.pricing_workers.specs.declared.wanted.Plan.{Plan}
-use Rattle.pricing_workers.specs.declared.wanted.Wanted.{Wanted}
-use Rattle.pricing_workers.specs.inner.Wanted.{IsWanted, all_nodes, nodes_of, plan_at}
+use Rattle.pricing_workers.proofs.Common.{◌≡◌, ℕ, ◌+◌, ◌<◌, List, [], ◌∷◌, ◌++◌, length, get_or, take, sym, ap, ◌∙◌, subst, arith, length-append, length-take, length-take-le, inl, inr, cases_eq, flat_map-append, append-nil, get_or-take, get_or_append_left, take-append-le, take_more, get_or-append_seam, take-append_seam, Settings, Vehicle, start_of, slack_of, Plan, Wanted, IsWanted, all_nodes, nodes_of, plan_at}
 
 -- one vehicle more: its nodes are added, and its plan follows those before it
 pub wanted-more : (settings : Settings) (time : ℕ) (vehicles : List Vehicle) (vehicle : Vehicle) (old new : Wanted)

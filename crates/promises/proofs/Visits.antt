@@ -1,23 +1,10 @@
 -- A ride's visits with their arrivals.
-use Rattle.std.proofs.Common.{◌≡◌, ℕ, zero, suc, ◌+◌, ◌*◌, ◌<◌, ◌≤◌, Bool, true, false, not, cond, ◌&&◌, ◌||◌, List, [], ◌∷◌, length, drop, get_or, eqb, leb, ltb, le-leb, refl, sym, ◌∙◌, ap, arith, add-one}
-use Rattle.std.specs.Prelude.{map, filter, zip, All, Option, Some, None, ◌==◌}
-use Rattle.std.specs.List.{AllByRecursion, list_all}
-use Rattle.std.proofs.lemmas.Bool.{eq-eqb}
-use Rattle.std.proofs.lemmas.Bool.Decides.{nat_tests}
-use Rattle.std.proofs.lemmas.List.Elements.{All-from_recursion, recursion_from_All}
+use Rattle.promises.proofs.Common.{◌≡◌, ℕ, zero, suc, ◌+◌, ◌*◌, ◌<◌, ◌≤◌, Bool, true, false, not, cond, ◌&&◌, ◌||◌, List, [], ◌∷◌, length, drop, get_or, eqb, leb, ltb, le-leb, refl, sym, ◌∙◌, ap, arith, add-one, map, filter, zip, All, Option, Some, None, ◌==◌, AllByRecursion, list_all, eq-eqb, nat_tests, All-from_recursion, recursion_from_All, Ride, Stop, loads_fit, times_from, times_of, visits_due, visit_of, stops_of, ride_ids, IsRoutedSomewhere, keeps_visits, keeps_ride, keeps, breaks_visits, broken_of, arrival_of, boarding_of, breaks_trip, breaks_along}
 use Rattle.ride_model.specs.declared.vehicle.Kind.{Kind}
 use Rattle.ride_model.specs.declared.vehicle.Kind.TheVariants.{Pickup, Dropoff}
-use Rattle.ride_model.specs.declared.vehicle.Ride.{Ride}
-use Rattle.ride_model.specs.declared.vehicle.Stop.{Stop}
 use Rattle.ride_model.specs.declared.vehicle.Vehicle.{Vehicle}
-use Rattle.ride_model.specs.Loads.{loads_fit}
-use Rattle.ride_model.specs.Times.{times_from, times_of}
-use Rattle.ride_model.specs.Vehicle.{visits_due, visit_of, stops_of, ride_ids}
-use Rattle.ride_model.specs.inner.Vehicle.{IsRoutedSomewhere}
-use Rattle.ride_model.specs.Keeps.{keeps_visits, keeps_ride, keeps, breaks_visits, broken_of}
 use Rattle.stop_plans.specs.inner.First.{is_kind, is_visit}
 use Rattle.stop_plans.proofs.Legs.{legs_are_bounded}
-use Rattle.promises.specs.inner.Arrivals.{arrival_of, boarding_of, breaks_trip, breaks_along}
 
 -- a ride's stops with their arrivals
 abbrev pub visits_along : ℕ → List Stop → List ℕ → List (Stop × ℕ)

@@ -1,8 +1,6 @@
 -- how many nodes have a key: the measure by which the queue is emptied
-use Rattle.std.proofs.Common.{◌≡◌, ℕ, zero, suc, ◌<◌, List, [], ◌∷◌, length, set, refl, ap, arith}
-use Rattle.std.specs.Prelude.{Option, Some, None, replicate, sum_by}
+use Rattle.radix_queue.proofs.Common.{◌≡◌, ℕ, zero, suc, ◌<◌, List, [], ◌∷◌, length, set, refl, ap, arith, Option, Some, None, replicate, sum_by, key_in}
 use Rattle.std.proofs.lemmas.List.Sums.{sum_by-set}
-use Rattle.radix_queue.specs.inner.Buckets.{key_in}
 
 abbrev pub one_if_some : Option ℕ → ℕ
 one_if_some None = 0

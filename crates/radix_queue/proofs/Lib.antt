@@ -1,3 +1,4 @@
+pub mod Common
 pub mod Radix
 pub mod Marked
 pub mod Placed

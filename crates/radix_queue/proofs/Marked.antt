@@ -1,14 +1,5 @@
 -- the marks of the buckets that have a node
-use Rattle.std.proofs.Common.{◌≡◌, ◌≢◌, ℕ, zero, suc, ◌+◌, ◌-◌, ◌<◌, ◌≤◌, List, [], ◌∷◌, length, refl, sym, ap, ◌∙◌, subst, arith, inl, inr, true, false}
-use Rattle.std.specs.Prelude.{Option, Some, None, is_some, slice_get, Contains}
-use Rattle.std.specs.Int.{bit_at}
-use Rattle.std.proofs.lemmas.Bool.{cases_eq, cases_lt, true≢false}
-use Rattle.std.proofs.lemmas.List.{get_or_past}
-use Rattle.std.proofs.lemmas.Nat.Bits.{bit_at-zero}
-use Rattle.link_lists.specs.inner.Family.{Family, list_at, IsFamily, without}
-use Rattle.link_lists.proofs.Kept.{Contains-from_get}
-use Rattle.link_lists.proofs.Members.{Contains-nil, without-absent}
-use Rattle.radix_queue.specs.inner.Buckets.{IsMarked, IsLowest}
+use Rattle.radix_queue.proofs.Common.{◌≡◌, ◌≢◌, ℕ, zero, suc, ◌+◌, ◌-◌, ◌<◌, ◌≤◌, List, [], ◌∷◌, length, refl, sym, ap, ◌∙◌, subst, arith, inl, inr, true, false, Option, Some, None, is_some, slice_get, Contains, bit_at, cases_eq, cases_lt, true≢false, get_or_past, bit_at-zero, Family, list_at, IsFamily, without, Contains-from_get, Contains-nil, without-absent, IsMarked, IsLowest}
 
 pub nil-from_first : (xs : List ℕ) → slice_get xs 0 ≡ None → xs ≡ []
 nil-from_first [] e = refl

@@ -1,13 +1,5 @@
 -- how the places of the nodes follow what is done to the buckets, the keys and the floor
-use Rattle.std.proofs.Common.{◌≡◌, ◌≢◌, ℕ, zero, suc, ◌/◌, ◌^◌, ◌<◌, ◌≤◌, List, [], ◌∷◌, length, set, refl, sym, ap, ◌∙◌, subst, arith, inl, inr, length-set, nat_eq}
-use Rattle.std.specs.Prelude.{Option, Some, None, IsSome, is_some, slice_get, Contains}
-use Rattle.std.specs.List.{IsDistinct}
-use Rattle.std.proofs.lemmas.Bool.{cases_eq, cases_lt, cases_order}
-use Rattle.std.proofs.lemmas.List.{get_or_past, get_or-set_same, get_or-set_other}
-use Rattle.link_lists.specs.inner.Family.{Family, list_at, IsHeld, IsFamily, IsSameSize, without}
-use Rattle.link_lists.proofs.Kept.{Contains-from_get}
-use Rattle.link_lists.proofs.Members.{Contains-nil, Contains-here, Contains-there, Contains-cons_cases, Contains-without, Contains-left, without-first}
-use Rattle.radix_queue.specs.inner.Buckets.{IsBucket, IsPlaced, IsLowest, IsLeastPlaced, Stands, Waits, key_in, opened_by}
+use Rattle.radix_queue.proofs.Common.{◌≡◌, ◌≢◌, ℕ, zero, suc, ◌/◌, ◌^◌, ◌<◌, ◌≤◌, List, [], ◌∷◌, length, set, refl, sym, ap, ◌∙◌, subst, arith, inl, inr, length-set, nat_eq, Option, Some, None, IsSome, is_some, slice_get, Contains, IsDistinct, cases_eq, cases_lt, cases_order, get_or_past, get_or-set_same, get_or-set_other, Family, list_at, IsHeld, IsFamily, IsSameSize, without, Contains-from_get, Contains-nil, Contains-here, Contains-there, Contains-cons_cases, Contains-without, Contains-left, without-first, IsBucket, IsPlaced, IsLowest, IsLeastPlaced, Stands, Waits, key_in, opened_by}
 use Rattle.radix_queue.proofs.Counts.{key_in-within}
 use Rattle.radix_queue.proofs.Radix.{agrees-below, bucket-above, bucket-stays, bucket-low, bucket-unique, bucket-zero}
 

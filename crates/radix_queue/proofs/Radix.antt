@@ -1,13 +1,8 @@
 -- in which bucket a key stands, and where it goes when the floor rises
-use Rattle.std.proofs.Common.{◌≡◌, ◌≢◌, ℕ, zero, suc, ◌+◌, ◌-◌, ◌/◌, ◌%◌, ◌^◌, ◌<◌, ◌≤◌, refl, sym, ap, ◌∙◌, subst, arith, inl, inr, bit_xor}
-use Rattle.std.specs.Int.{bit_at, leading_zeros, w64}
+use Rattle.radix_queue.proofs.Common.{◌≡◌, ◌≢◌, ℕ, zero, suc, ◌+◌, ◌-◌, ◌/◌, ◌%◌, ◌^◌, ◌<◌, ◌≤◌, refl, sym, ap, ◌∙◌, subst, arith, inl, inr, bit_xor, bit_at, leading_zeros, w64, pow-add, le-div, leading_top, bit_at_xor, bit_at-lt, bit_at_above, same_from_bits, cases_lt, IsBucket}
 use Rattle.std.proofs.Math.Nat.{div-div-eq-div-mul, div-eq_of_lt, div-mul-le_self, pow-suc}
 use Rattle.std.proofs.Math.Pow.{pow_pos}
 use Rattle.std.specs.Int.Count.{leading_of_zero}
-use Rattle.std.proofs.lemmas.Nat.{pow-add, le-div, leading_top}
-use Rattle.std.proofs.lemmas.Nat.Bits.{bit_at_xor, bit_at-lt, bit_at_above, same_from_bits}
-use Rattle.std.proofs.lemmas.Bool.{cases_lt}
-use Rattle.radix_queue.specs.inner.Buckets.{IsBucket}
 
 pub div-more : (a i d : ℕ) → a / 2 ^ (i + d) ≡ a / 2 ^ i / 2 ^ d
 div-more a i d = ap (λ k. a / k) (pow-add 2 i d) ∙ sym (div-div-eq-div-mul a (2 ^ i) (2 ^ d))

@@ -1,12 +1,6 @@
 -- a walk along a bucket for the least key
-use Rattle.std.proofs.Common.{◌≡◌, ℕ, ◌+◌, ◌<◌, ◌≤◌, List, get_or, nat_eq, refl, sym, ap, ◌∙◌, arith, inl, inr}
-use Rattle.std.specs.Prelude.{Option, Some, None, slice_get, Contains}
-use Rattle.std.specs.List.{IsDistinct}
-use Rattle.std.proofs.lemmas.Bool.{cases_lt, cases_eq}
+use Rattle.radix_queue.proofs.Common.{◌≡◌, ℕ, ◌+◌, ◌<◌, ◌≤◌, List, get_or, nat_eq, refl, sym, ap, ◌∙◌, arith, inl, inr, Option, Some, None, slice_get, Contains, IsDistinct, cases_lt, cases_eq, Contains-from_get, nodes_left, nodes_left-at, key_in}
 use Rattle.std.proofs.lemmas.Option.{slice_get_within, slice_get-get_or}
-use Rattle.link_lists.proofs.Kept.{Contains-from_get}
-use Rattle.link_lists.proofs.Walks.{nodes_left, nodes_left-at}
-use Rattle.radix_queue.specs.inner.Buckets.{key_in}
 
 -- of the nodes before the current one, `node` has the least key
 pub record IsWalked (nodes : List ℕ) (keys : List (Option ℕ)) (current : Option ℕ) (node key : ℕ) : Type 0 where

@@ -1,31 +1,9 @@
 -- What a session that goes on tells of its feeds, and of what was taken of them.
-use Rattle.std.proofs.Common.{◌≡◌, ◌⊎◌, inl, inr, ℕ, ◌≤◌, ◌||◌, ◌&&◌, not, Bool, true, false, List, [], ◌∷◌, ◌++◌, Option, IfSome, refl, sym, subst, arith, leb-true}
-use Rattle.std.specs.Prelude.{nat_le}
-use Rattle.std.specs.List.{list_any}
-use Rattle.std.proofs.lemmas.Bool.{and_parts, not-true}
-use Rattle.ride_ports.specs.Bytes.{Reads}
-use Rattle.ride_ports.specs.declared.outcome.Ran.{Ran}
-use Rattle.ride_ports.proofs.ByteLemmas.{Reads-none}
-use Rattle.ride_model.specs.History.{ended_whole, is_whole}
-use Rattle.ride_model.specs.Legal.{replay}
-use Rattle.ride_model.specs.State.{State, has_ended, is_actor}
-use Rattle.ride_model.specs.declared.command.Actor.{Actor}
-use Rattle.ride_model.specs.declared.command.Actor.TheVariants.{Feed}
-use Rattle.ride_model.specs.declared.entry.Ending.{Ending}
-use Rattle.ride_model.specs.declared.entry.Ending.TheVariants.{Whole}
-use Rattle.ride_model.specs.declared.entry.Entry.{Entry}
+use Rattle.resumption.proofs.Common.{◌≡◌, ◌⊎◌, inl, inr, ℕ, ◌≤◌, ◌||◌, ◌&&◌, not, Bool, true, false, List, [], ◌∷◌, ◌++◌, Option, IfSome, refl, sym, subst, arith, leb-true, nat_le, list_any, and_parts, not-true, Reads, Ran, Reads-none, ended_whole, is_whole, replay, State, has_ended, is_actor, Actor, Feed, Ending, Whole, Entry, IsWithinLimits, limits_of, Recorded, IsFeedAfter, IsResumed, form_after, still_feeds, FeedRun, HasNotServed, Sunk, NoneWanting, none-status, whole-status, HasAnsweredOn, IsUnheard, room_of, still_gives}
 use Rattle.model_laws.proofs.Histories.{replay-append}
 use Rattle.model_laws.proofs.history_laws.Others.{in_range}
 use Rattle.line_text.specs.Lines.{ended_after, rest_after}
-use Rattle.line_text.specs.line_reader.Limits.{IsWithinLimits}
-use Rattle.command_lines.specs.Limits.{limits_of}
-use Rattle.board_core.specs.Recorded.{Recorded}
-use Rattle.live_sessions.specs.Resuming.{IsFeedAfter, IsResumed, form_after, still_feeds}
-use Rattle.live_sessions.specs.Serving.{FeedRun, HasNotServed}
-use Rattle.dispatcher.specs.Shelves.{Sunk}
 use Rattle.dispatcher.proofs.Ends.{ending-whole}
-use Rattle.dispatcher.proofs.Statuses.{NoneWanting, none-status, whole-status}
-use Rattle.resumption.specs.Goings.{HasAnsweredOn, IsUnheard, room_of, still_gives}
 
 -- who has not ended has not ended whole
 not-whole : (actor : Actor) (ended : List (Actor × Ending)) → list_any (λ (end : Actor × Ending). is_actor end.0 actor) ended ≡ false

@@ -1,37 +1,9 @@
 -- Which statuses are left to a resumption of whole files without faults.
-use Rattle.std.proofs.Common.{◌≡◌, ◌⊎◌, inl, inr, ℕ, Bool, true, false, List, [], ◌∷◌, Option, Some, Result, Ok, Err, IfSome, refl, sym, subst, ◌∙◌, arith}
-use Rattle.std.specs.Prelude.{All}
-use Rattle.std.proofs.lemmas.List.Elements.{All-head, All-tail, All-take}
-use Rattle.ride_ports.specs.Contents.{Contents, GivenBack}
-use Rattle.ride_ports.specs.Count.{Rose}
-use Rattle.ride_ports.specs.declared.outcome.Ran.{Ran}
-use Rattle.ride_model.specs.State.{State}
-use Rattle.ride_model.specs.declared.entry.Entry.{Entry}
-use Rattle.line_text.specs.line_reader.Limits.{IsTooLong, IsWithinLimits}
-use Rattle.ride_ports.specs.Bytes.{Reads}
-use Rattle.board_core.specs.Recorded.{Recorded}
+use Rattle.resumption.proofs.Common.{◌≡◌, ◌⊎◌, inl, inr, ℕ, Bool, true, false, List, [], ◌∷◌, Option, Some, Result, Ok, Err, IfSome, refl, sym, subst, ◌∙◌, arith, All, All-head, All-tail, All-take, Contents, GivenBack, Rose, Ran, State, Entry, IsTooLong, IsWithinLimits, Reads, Recorded, limits_of, Restored, Restoration, Standing, No, AuditFault, NoMemory, ReadFault, TooLong, IsRestoration, HaveFewCommands, IsFeedAfter, form_after, FeedRun, GoingOn, resumption_files, feed_file, fleet_file, log_file, map_file, Means, start_of, HasStopped, IsUnread, AreBytesOf, IsBackOf, Shelved, Sunk, told_bytes, long-status, ran-status, within-not-long, still_gives, EndsLog, ReadsLog, AreAllWhole, HasGoneOn, HasRefusedLog, HasRoom, IsResumption}
 use Rattle.command_lines.specs.declared.forms.FeedForm.{FeedForm}
-use Rattle.command_lines.specs.Limits.{limits_of}
-use Rattle.log_audit.specs.declared.restoring.Restored.{Restored}
-use Rattle.log_audit.specs.declared.restoring.Restoration.{Restoration}
-use Rattle.log_audit.specs.declared.restoring.Restoration.TheVariants.{Standing, No}
-use Rattle.log_audit.specs.declared.verdict.AuditFault.{AuditFault}
-use Rattle.log_audit.specs.declared.verdict.AuditFault.TheVariants.{NoMemory, ReadFault, TooLong}
-use Rattle.log_audit.specs.Restored.{IsRestoration}
-use Rattle.live_sessions.specs.Resuming.{HaveFewCommands, IsFeedAfter, form_after}
-use Rattle.live_sessions.specs.Serving.{FeedRun}
-use Rattle.run_words.specs.Resumptions.{GoingOn, resumption_files}
-use Rattle.run_words.specs.Words.{feed_file, fleet_file, log_file, map_file}
-use Rattle.dispatcher.specs.Meanings.{Means, start_of}
-use Rattle.dispatcher.specs.Runs.{HasStopped, IsUnread}
-use Rattle.dispatcher.specs.Shelves.{AreBytesOf, IsBackOf, Shelved, Sunk, told_bytes}
 use Rattle.dispatcher.specs.Whole.{IsWhole}
 use Rattle.dispatcher.proofs.Completing.{map-first, whole-stops}
-use Rattle.dispatcher.proofs.Statuses.{long-status, ran-status, within-not-long}
-use Rattle.resumption.specs.Goings.{still_gives}
-use Rattle.resumption.specs.Logs.{EndsLog, ReadsLog}
 use Rattle.resumption.proofs.AnsweredFeeds.{none-within}
-use Rattle.resumption.specs.Resumptions.{AreAllWhole, HasGoneOn, HasRefusedLog, HasRoom, IsResumption}
 
 -- the log and both feeds are whole
 module _ (told : Option Contents) (asked : GoingOn) (whole : AreAllWhole told asked) where
@@ -129,19 +101,19 @@ module _ (asked : GoingOn) (old new : Shelved) (out : Sunk) (status : ℕ) (whol
       room =
           let file = log-whole old.told asked whole in
           whole.room gone.meaning gone.restored (All-take (Means old.told gone.meaning) 3 (resumption_files asked) gone.means)
-          (board-given (start_of gone.meaning) (told_bytes old.told asked.log) file.bytes gone.over.log_source gone.over.log gone.restored file.bytes_are
-          gone.over.of_log gone.reads)
+          (board-given (start_of gone.meaning) (told_bytes old.told asked.log) file.bytes gone.log.source gone.log.feed gone.restored file.bytes_are
+          gone.log.of_file gone.reads)
 
       not-long : gone.goes_on.ran.too_long ≡ true → ⊥
       not-long long = elim gone.goes_on.answered [
         | inl not ↦ absurd (cc (not.no_limit, long))
         | inr has ↦ elim (has.resumed.too_long long) [
-          | inl many ↦ after-not-long (told_bytes old.told asked.riders) (riders-whole old.told asked whole).bytes gone.over.riders_source gone.over.riders
+          | inl many ↦ after-not-long (told_bytes old.told asked.riders) (riders-whole old.told asked whole).bytes gone.riders.source gone.riders.feed
               gone.goes_on.ran (form_after board.start 1 board.history) 1 has.resumed.riders_taken has.resumed.more (still_gives board 1)
-              (riders-whole old.told asked whole).bytes_are room.of_riders gone.over.of_riders has.resumed.of_riders many
-          | inr many ↦ after-not-long (told_bytes old.told asked.drivers) (drivers-whole old.told asked whole).bytes gone.over.drivers_source gone.over.drivers
+              (riders-whole old.told asked whole).bytes_are room.of_riders gone.riders.of_file has.resumed.of_riders many
+          | inr many ↦ after-not-long (told_bytes old.told asked.drivers) (drivers-whole old.told asked whole).bytes gone.drivers.source gone.drivers.feed
               gone.goes_on.ran (form_after board.start 2 board.history) 2 has.resumed.drivers_taken has.resumed.more (still_gives board 2)
-              (drivers-whole old.told asked whole).bytes_are room.of_drivers gone.over.of_drivers has.resumed.of_drivers many
+              (drivers-whole old.told asked whole).bytes_are room.of_drivers gone.drivers.of_file has.resumed.of_drivers many
         ]
       ]
 

@@ -1,26 +1,8 @@
 -- What a session keeps that went on and ran whole.
-use Rattle.std.proofs.Common.{◌≡◌, ◌⊎◌, inl, inr, ℕ, true, List, ◌++◌, Option, Some, None, IfSome, refl, sym, ap, subst, ◌∙◌, arith, append-nil}
-use Rattle.std.specs.List.{filter_map}
-use Rattle.ride_ports.specs.Contents.{Contents, GivenBack}
-use Rattle.ride_ports.specs.declared.outcome.Ran.{Ran}
-use Rattle.ride_model.specs.declared.command.Command.{Command}
-use Rattle.ride_model.specs.declared.entry.Entry.{Entry}
-use Rattle.ride_model.specs.declared.entry.Ending.TheVariants.{Whole}
-use Rattle.ride_model.specs.History.{command_of, fed_commands}
-use Rattle.ride_model.specs.State.{State}
+use Rattle.resumption.proofs.Common.{◌≡◌, ◌⊎◌, inl, inr, ℕ, true, List, ◌++◌, Option, Some, None, IfSome, refl, sym, ap, subst, ◌∙◌, arith, append-nil, filter_map, Contents, GivenBack, Ran, Command, Entry, Whole, command_of, fed_commands, State, fed_commands-append, StandsAt, Restored, IsFeedAfter, form_after, still_feeds, FeedRun, GoingOn, resumption_files, HasStopped, IsUnread, IsBackOf, Shelved, Sunk, told_bytes, whole-status, HasGoneOn, HasRefusedLog, IsResumption}
 use Rattle.command_lines.specs.Commands.{commands_of}
-use Rattle.board_core.proofs.FedEntries.{fed_commands-append}
-use Rattle.log_audit.specs.Restored.{StandsAt}
-use Rattle.log_audit.specs.declared.restoring.Restored.{Restored}
-use Rattle.live_sessions.specs.Resuming.{IsFeedAfter, form_after, still_feeds}
-use Rattle.live_sessions.specs.Serving.{FeedRun}
-use Rattle.run_words.specs.Resumptions.{GoingOn, resumption_files}
-use Rattle.dispatcher.specs.Runs.{HasStopped, IsUnread}
-use Rattle.dispatcher.specs.Shelves.{IsBackOf, Shelved, Sunk, told_bytes}
 use Rattle.dispatcher.proofs.Mission.{answers-all, only-standing, seats-least, stop-not-whole}
-use Rattle.dispatcher.proofs.Statuses.{whole-status}
 use Rattle.resumption.specs.Mission.{AnswersOn, GoesOnWell, ResumesWell, TellsEntries}
-use Rattle.resumption.specs.Resumptions.{HasGoneOn, HasRefusedLog, IsResumption}
 use Rattle.resumption.proofs.LogFaults.{told-zero}
 
 -- the commands before, and then those of all bytes
@@ -82,16 +64,16 @@ module _ (asked : GoingOn) (old new : Shelved) (out : Sunk) (status : ℕ) where
                     before = board.history;
                     more = resumed.more;
                     history = history;
-                    log_tells_before = tells board.start (told_bytes old.told asked.log) gone.over.log_source gone.over.log gone.restored gone.over.of_log
-                        (subst (λ (s : State). IfSome gone.over.log.bytes (λ bytes. StandsAt s bytes gone.restored)) (sym start_is)
+                    log_tells_before = tells board.start (told_bytes old.told asked.log) gone.log.source gone.log.feed gone.restored gone.log.of_file
+                        (subst (λ (s : State). IfSome gone.log.feed.bytes (λ bytes. StandsAt s bytes gone.restored)) (sym start_is)
                         (gone.reads.answer (λ no. absurd (cc no)) (λ no. absurd (cc no))));
                     begins_with_before = refl;
                     logged = resumed.written.whole none.sink;
                     one_legal_history = resumed.history.legal;
                     riders_answered = answers-on board.start board.feeds board.history resumed.more goes.ran 1 (told_bytes old.told asked.riders)
-                        gone.over.riders_source gone.over.riders resumed.riders_taken gone.over.of_riders resumed.of_riders (has.all_of_riders zero_ran);
+                        gone.riders.source gone.riders.feed resumed.riders_taken gone.riders.of_file resumed.of_riders (has.all_of_riders zero_ran);
                     drivers_answered = answers-on board.start board.feeds board.history resumed.more goes.ran 2 (told_bytes old.told asked.drivers)
-                        gone.over.drivers_source gone.over.drivers resumed.drivers_taken gone.over.of_drivers resumed.of_drivers (has.all_of_drivers zero_ran);
+                        gone.drivers.source gone.drivers.feed resumed.drivers_taken gone.drivers.of_file resumed.of_drivers (has.all_of_drivers zero_ran);
                     seated_at_least_cost = seats-least board.feeds board.desks board.start history resumed.history.legal;
                     only_standing_committed = only-standing board.feeds board.desks board.start history resumed.history.legal resumed.history.begins;
                     promises_kept = resumed.history.promises;

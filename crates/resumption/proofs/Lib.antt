@@ -1,3 +1,4 @@
+pub mod Common
 pub mod LogFaults
 pub mod AnsweredFeeds
 pub mod MayResume

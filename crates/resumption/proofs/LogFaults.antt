@@ -1,12 +1,5 @@
 -- What a log gave back, by whether its source failed.
-use Rattle.std.proofs.Common.{◌≡◌, ◌≢◌, ℕ, inl, inr, false, Result, Ok, Err, refl, arith}
-use Rattle.log_audit.specs.declared.restoring.Restoration.{Restoration}
-use Rattle.log_audit.specs.declared.restoring.Restoration.TheVariants.{Standing, No}
-use Rattle.log_audit.specs.declared.verdict.AuditFault.{AuditFault}
-use Rattle.log_audit.specs.declared.verdict.AuditFault.TheVariants.{NoMemory, ReadFault, TooLong}
-use Rattle.log_audit.specs.Audit.{is_read_fault}
-use Rattle.dispatcher.specs.Shelves.{Sunk}
-use Rattle.resumption.specs.Logs.{EndsLog}
+use Rattle.resumption.proofs.Common.{◌≡◌, ◌≢◌, ℕ, inl, inr, false, Result, Ok, Err, refl, arith, Restoration, Standing, No, AuditFault, NoMemory, ReadFault, TooLong, is_read_fault, Sunk, EndsLog}
 
 pub no-fault : (found : Result Restoration AuditFault) → found ≢ Err ReadFault → is_read_fault found ≡ false
 no-fault (Ok restoration) other = refl

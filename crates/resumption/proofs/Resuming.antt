@@ -1,31 +1,15 @@
 -- How a resumption ends, by what was done over its texts.
-use Rattle.std.proofs.Common.{◌≡◌, ◌⊎◌, inl, inr, ℕ, ◌+◌, List, [], ◌∷◌, ◌++◌, Option, Some, None, Ok, IfSome, refl, sym, ap, subst, ◌∙◌, arith, length-append}
-use Rattle.std.specs.Prelude.{length}
-use Rattle.std.proofs.lemmas.List.{append_assoc}
-use Rattle.std.proofs.lemmas.List.Elements.{All-append}
+use Rattle.resumption.proofs.Common.{All, ◌≡◌, ◌⊎◌, inl, inr, ℕ, ◌+◌, List, [], ◌∷◌, ◌++◌, Option, Some, None, Ok, IfSome, refl, sym, ap, subst, ◌∙◌, arith, length-append, length, append_assoc, All-append, Reads, Contents, GivenBack, Rose, Restored, Standing, HaveFewCommands, FeedRun, GoingOn, resumption_files, File, feed_file, fleet_file, log_file, map_file, Meaning, Means, said_of, start_of, status_of, HasStopped, AreGivenBack, IsBackOf, IsFresh, IsLeftOf, IsSpent, IsUntouched, SaysTo, Shelved, Sunk, bytes_of, told_bytes, HasGoneOn, HasRefusedLog, IsResumption, files_to_log}
 use Rattle.model_laws.proofs.plain.Each.{all_of_one, all_of_two}
-use Rattle.ride_ports.specs.Bytes.{Reads}
-use Rattle.ride_ports.specs.Contents.{Contents, GivenBack}
-use Rattle.ride_ports.specs.Count.{Rose}
 use Rattle.gr_reader.specs.MapText.{map_format}
-use Rattle.log_audit.specs.declared.restoring.Restored.{Restored}
-use Rattle.log_audit.specs.declared.restoring.Restoration.TheVariants.{Standing}
-use Rattle.live_sessions.specs.Resuming.{HaveFewCommands}
-use Rattle.live_sessions.specs.Serving.{FeedRun}
-use Rattle.run_words.specs.Resumptions.{GoingOn, resumption_files}
-use Rattle.run_words.specs.Words.{File, feed_file, fleet_file, log_file, map_file}
-use Rattle.dispatcher.specs.Meanings.{Meaning, Means, said_of, start_of, status_of}
 use Rattle.dispatcher.specs.Readings.{StopsReading}
 use Rattle.dispatcher.specs.inner.Readings.{AreRead, AsksOnce}
-use Rattle.dispatcher.specs.Runs.{HasStopped}
-use Rattle.dispatcher.specs.Shelves.{AreGivenBack, IsBackOf, IsFresh, IsLeftOf, IsSpent, IsUntouched, SaysTo, Shelved, Sunk, bytes_of, told_bytes}
 use Rattle.dispatcher.specs.declared.stop.Stop.{Stop}
 use Rattle.dispatcher.proofs.Reading.{back-next, back-one, one-more, stops-longer}
 use Rattle.dispatcher.proofs.Running.{any-text, missed}
 use Rattle.dispatcher.proofs.ServiceRuns.{one-missed}
 use Rattle.resumption.specs.inner.Goings.{GoesOnOver, HandsBothOn}
 use Rattle.resumption.specs.inner.Logs.{HandsLogBack}
-use Rattle.resumption.specs.Resumptions.{HasGoneOn, HasRefusedLog, IsResumption, files_to_log}
 use Rattle.resumption.specs.inner.Steps.{RefusesLog, ResumesOver}
 use Rattle.resumption.proofs.Endings.{resumption-of}
 use Rattle.resumption.proofs.LogFaults.{told-fault, told-five}
@@ -154,24 +138,33 @@ module _ (asked : GoingOn) (m : Meaning) (old mid : Shelved) (read : AreRead (ma
           meaning = m;
           means = All-append (Means old.told m) (files_to_log asked) feeds three-read.means
               (all_of_two (Means old.told m) (feed_file asked.riders) (feed_file asked.drivers) (any-text _) (any-text _));
-          over = record {
-            log = log.log;
-            riders = both.first;
-            drivers = both.second;
-            log_source = log.source;
-            riders_source = both.first_source;
-            drivers_source = both.second_source;
+          drivers = record {
+            feed = both.second;
+            source = both.second_source;
+            earlier = next.back ++ both.first_source ∷ [];
+            back_is = both.back ∙ sym (append_assoc next.back (both.first_source ∷ []) (both.second_source ∷ []));
+            of_file = subst (λ (t : Option Contents). IsBackOf (told_bytes t asked.drivers) both.second_source both.second) three-read.told both.of_second;
+          };
+          riders = record {
+            feed = both.first;
+            source = both.first_source;
+            earlier = next.back;
+            back_is = refl;
+            of_file = subst (λ (t : Option Contents). IsBackOf (told_bytes t asked.riders) both.first_source both.first) three-read.told both.of_first;
+          };
+          log = record {
+            feed = log.log;
+            source = log.source;
             earlier = mid.back;
-            back_is = both.back ∙ ap (λ l. l ++ both.first_source ∷ both.second_source ∷ []) log.back;
-            of_log = subst (λ (t : Option Contents). IsBackOf (told_bytes t asked.log) log.source log.log) read.told log.of_file;
-            of_riders = subst (λ (t : Option Contents). IsBackOf (told_bytes t asked.riders) both.first_source both.first) three-read.told both.of_first;
-            of_drivers = subst (λ (t : Option Contents). IsBackOf (told_bytes t asked.drivers) both.second_source both.second) three-read.told both.of_second;
+            back_is = log.back;
+            of_file = subst (λ (t : Option Contents). IsBackOf (told_bytes t asked.log) log.source log.log) read.told log.of_file;
           };
           restored = restored;
           reads = log.reads;
           few = few;
           goes_on = both.goes_on;
-          log_spent = All-append IsSpent mid.back (log.source ∷ []) read.spent (all_of_one IsSpent log.source log-spent);
+          log_spent = subst (λ (l : List GivenBack). All IsSpent l) (sym log.back)
+              (All-append IsSpent mid.back (log.source ∷ []) read.spent (all_of_one IsSpent log.source log-spent));
           riders_spent = both.first_spent;
           drivers_spent = both.second_spent;
           shelf_sound = λ zero. both.shelf_sound zero ∙ three-read.faults;

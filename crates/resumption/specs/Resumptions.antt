@@ -1,6 +1,6 @@
 -- How a session that was to go on from its log ends.
-use Rattle.std.specs.Prelude.{◌≡◌, ◌⊎◌, ℕ, true, List, [], ◌∷◌, ◌++◌, length, map, All, Option, IfSome, Result, Ok}
-use Rattle.ride_ports.specs.Contents.{Contents, GivenBack}
+use Rattle.std.specs.Prelude.{◌≡◌, ◌⊎◌, ℕ, true, List, [], ◌∷◌, length, map, All, Option, IfSome, Result, Ok}
+use Rattle.ride_ports.specs.Contents.{Contents}
 use Rattle.ride_ports.specs.Count.{Rose}
 use Rattle.line_text.specs.line_reader.Limits.{IsWithinLimits}
 use Rattle.board_core.specs.Recorded.{Recorded}
@@ -10,12 +10,11 @@ use Rattle.log_audit.specs.declared.restoring.Restoration.{Restoration}
 use Rattle.log_audit.specs.declared.restoring.Restoration.TheVariants.{Standing}
 use Rattle.log_audit.specs.declared.verdict.AuditFault.{AuditFault}
 use Rattle.live_sessions.specs.Resuming.{HaveFewCommands}
-use Rattle.live_sessions.specs.Serving.{FeedRun}
 use Rattle.run_words.specs.Resumptions.{GoingOn, resumption_files}
 use Rattle.run_words.specs.Words.{File, fleet_file, log_file, map_file, name_of}
 use Rattle.dispatcher.specs.Meanings.{Meaning, Means, start_of}
 use Rattle.dispatcher.specs.Runs.{HasStopped, IsOver, IsUnread}
-use Rattle.dispatcher.specs.Shelves.{AreBack, IsBackOf, IsSpent, Shelved, Sunk, told_bytes}
+use Rattle.dispatcher.specs.Shelves.{AreBack, IsSpent, Shelved, Sunk, told_bytes}
 use Rattle.dispatcher.specs.Whole.{IsWhole}
 use Rattle.resumption.specs.Goings.{GoesOn, room_of, still_gives}
 use Rattle.resumption.specs.Logs.{EndsLog, ReadsLog}
@@ -38,20 +37,6 @@ pub record HasRefusedLog (asked : GoingOn) (old new : Shelved) (out : Sunk) (sta
   pub shelf_sound : (status ≡ 5 → ⊥) → new.faults ≡ old.faults
   pub shelf_fault : status ≡ 5 → Rose old.faults new.faults
 
--- the last three sources that were given back are those of the log, of riders and of drivers
-pub record AreOverThree (told : Option Contents) (log_name riders_name drivers_name : List ℕ) (back : List GivenBack) : Type 0 where
-  pub log : FeedRun
-  pub riders : FeedRun
-  pub drivers : FeedRun
-  pub log_source : GivenBack
-  pub riders_source : GivenBack
-  pub drivers_source : GivenBack
-  pub earlier : List GivenBack
-  pub back_is : back ≡ (earlier ++ log_source ∷ []) ++ riders_source ∷ drivers_source ∷ []
-  pub of_log : IsBackOf (told_bytes told log_name) log_source log
-  pub of_riders : IsBackOf (told_bytes told riders_name) riders_source riders
-  pub of_drivers : IsBackOf (told_bytes told drivers_name) drivers_source drivers
-
 -- all files were brought, the log gave a board, which has room for more, and the session went on from it. Nothing is left of the texts and of the log; where the
 -- session ran whole, nothing is left of a feed that still gave commands either, and no count rose
 pub record HasGoneOn (asked : GoingOn) (old new : Shelved) (out : Sunk) (status : ℕ) : Type 0 where
@@ -60,14 +45,16 @@ pub record HasGoneOn (asked : GoingOn) (old new : Shelved) (out : Sunk) (status 
   pub back : AreBack old.told (resumption_files asked) new
   pub meaning : Meaning
   pub means : All (Means old.told meaning) (resumption_files asked)
-  pub over : AreOverThree old.told asked.log asked.riders asked.drivers new.back
+  pub drivers : IsOver old.told asked.drivers new.back
+  pub riders : IsOver old.told asked.riders drivers.earlier
+  pub log : IsOver old.told asked.log riders.earlier
   pub restored : Restored
-  pub reads : ReadsLog (start_of meaning) over.log (Ok (Standing restored))
+  pub reads : ReadsLog (start_of meaning) log.feed (Ok (Standing restored))
   pub few : HaveFewCommands restored.board.feeds restored.board.history
-  pub goes_on : GoesOn restored.board over.riders over.drivers out status
-  pub log_spent : All IsSpent (over.earlier ++ over.log_source ∷ [])
-  pub riders_spent : status ≡ 0 → still_gives restored.board 1 ≡ true → IsSpent over.riders_source
-  pub drivers_spent : status ≡ 0 → still_gives restored.board 2 ≡ true → IsSpent over.drivers_source
+  pub goes_on : GoesOn restored.board riders.feed drivers.feed out status
+  pub log_spent : All IsSpent riders.earlier
+  pub riders_spent : status ≡ 0 → still_gives restored.board 1 ≡ true → IsSpent riders.source
+  pub drivers_spent : status ≡ 0 → still_gives restored.board 2 ≡ true → IsSpent drivers.source
   pub shelf_sound : status ≡ 0 → new.faults ≡ old.faults
   pub sink_sound : status ≡ 0 → out.faults_after ≡ out.faults_before
   pub shelf_fault : status ≡ 5 → Rose old.faults new.faults

@@ -64,48 +64,29 @@ fn print_row(rt: &impl Print, source: u32, row: &[Option<u64>]) -> io::Result<()
     println!(rt; "from {source} reached {reached} sum {sum}")
 }
 
-/// Fills the row of a node and prints what it holds. Gives the microseconds that the search took.
-fn time_row(
-    rt: &(impl Clock + Print),
-    roads: &Roads,
-    scratch: &mut Scratch,
-    source: u32,
-    wanted: &[u32],
-    row: &mut [Option<u64>],
-) -> io::Result<u128>
-    requires scratch { scratch.old.nodes ≡ roads.now.nodes }
-    requires source { IsPlace roads.now.nodes source }
-    requires wanted { All (IsPlace roads.now.nodes) wanted.now }
-    requires places { length row.old ≡ length wanted.now }
-    ensures scratch { scratch.new ≡ scratch.old }
-    ensures places { length row.new ≡ length row.old }
-{
-    let watch = Stopwatch::start(rt);
-    roads.rows(scratch, source, Side::Out, wanted, row);
-    let micros = watch.elapsed(rt).as_micros();
-    print_row(rt, source, row)?;
-    Ok(micros)
-}
-
-/// Fills the rows of so many nodes, and gives the microseconds that the searches took together.
+/// Fills the rows of so many nodes by one scratch, and prints what each holds. Returns the microseconds that the searches took together.
 fn time_turns(
     rt: &(impl Clock + Print),
+    alloc: Global,
     roads: &Roads,
-    scratch: &mut Scratch,
     wanted: &[u32],
     row: &mut [Option<u64>],
     turns: u32,
 ) -> io::Result<u128>
     requires nodes { (1 ≤ roads.now.nodes) × (roads.now.nodes ≤ 500000) }
-    requires scratch { scratch.old.nodes ≡ roads.now.nodes }
     requires wanted { All (IsPlace roads.now.nodes) wanted.now }
     requires places { length row.old ≡ length wanted.now }
     requires turns { (1 ≤ turns) × (turns ≤ 40) }
 {
+    let mut scratch = Scratch::new(alloc, roads)?;
     let step = roads.nodes() / turns;
     let mut total = 0u128;
     for turn in 0..turns {
-        let micros = time_row(rt, roads, scratch, 1 + turn * step, wanted, row)?;
+        let source = 1 + turn * step;
+        let watch = Stopwatch::start(rt);
+        roads.rows(&mut scratch, source, Side::Out, wanted, row);
+        let micros = watch.elapsed(rt).as_micros();
+        print_row(rt, source, row)?;
         total = total.wrapping_add(micros);
     }
     Ok(total)
@@ -123,8 +104,7 @@ fn time_rows(
 {
     let wanted = spread(alloc, roads.nodes(), roads.nodes())?;
     let mut row = vec![in alloc; None; wanted.len()]?;
-    let mut scratch = Scratch::new(alloc, roads)?;
-    time_turns(rt, roads, &mut scratch, &wanted, &mut row, turns)
+    time_turns(rt, alloc, roads, &wanted, &mut row, turns)
 }
 
 /// The roads of a map, whose size is printed.

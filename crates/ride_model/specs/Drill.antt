@@ -17,16 +17,14 @@ use Rattle.ride_model.specs.State.{State}
 use Rattle.ride_model.specs.Legal.{after_entry, IsLegal}
 use Rattle.ride_model.specs.History.{IsDirect, IsFinished}
 
--- the report of a driver whose vehicle reaches its first stop at a time
-abbrev pub report_at : Vehicle → ℕ → Stop → ℕ → Option Command
-report_at v clock first time =
+-- the report of a driver whose vehicle has these stops before it
+abbrev pub report_of : Vehicle → ℕ → List Stop → Option Command
+report_of v clock [] = None
+report_of v clock (first ∷ _) =
+    let time = v.ready + first.leg in
     if nat_le time clock
     then (if v.at == first.node then Some (Done v.id) else Some (At v.id first.node time))
     else (if nat_lt v.ready clock then Some (At v.id first.node time) else None)
-
-abbrev pub report_of : Vehicle → ℕ → List Stop → Option Command
-report_of v clock [] = None
-report_of v clock (first ∷ _) = report_at v clock first (v.ready + first.leg)
 
 -- what a map driver reports next: the first stop is served where the vehicle is there by the clock, else it is reported at
 -- its time, where that is not after the clock or the vehicle's ready time is before the clock

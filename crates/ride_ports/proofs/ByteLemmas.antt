@@ -1,9 +1,7 @@
 -- Reads and writes of several pieces in turn.
-use Rattle.std.proofs.Common.{◌≡◌, ℕ, ◌+◌, ◌-◌, List, [], ◌++◌, length, take, drop, Option, None, Some, IfSome, refl, ap, sym, subst, ◌∙◌, append_assoc, append-nil}
+use Rattle.ride_ports.proofs.Common.{◌≡◌, ℕ, ◌+◌, ◌-◌, List, [], ◌++◌, length, take, drop, Option, None, Some, IfSome, refl, ap, sym, subst, ◌∙◌, append_assoc, append-nil, take_rest, take-append-drop, Reads, Writes, WritesPrefix}
 use Rattle.std.proofs.Math.Seq.{take-add}
-use Rattle.std.proofs.lemmas.List.{take_rest, take-append-drop}
 use Rattle.std.specs.Io.KnownBytes.{prepend_known, append_known}
-use Rattle.ride_ports.specs.Bytes.{Reads, Writes, WritesPrefix}
 
 -- known bytes with two pieces at their end have both pieces there as one
 pub append_known-append : (known : Option (List ℕ)) (xs ys : List ℕ) →

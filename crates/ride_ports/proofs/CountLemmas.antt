@@ -1,6 +1,5 @@
 -- Counts of faults over several calls in turn.
-use Rattle.std.proofs.Common.{ℕ, ◌<◌, ◌≤◌, arith}
-use Rattle.ride_ports.specs.Count.{Rose}
+use Rattle.ride_ports.proofs.Common.{ℕ, ◌<◌, ◌≤◌, arith, Rose}
 
 -- a count that rose and does not fall afterwards rose over both calls
 pub Rose-then_kept : (a b c : ℕ) → Rose a b → b ≤ c → Rose a c

@@ -1,6 +1,5 @@
 -- What several calls in turn leave of a count of faults.
-use Rattle.std.proofs.Common.{ℕ, Bool, false, refl, subst, arith}
-use Rattle.ride_ports.specs.Count.{KeepsCount}
+use Rattle.ride_ports.proofs.Common.{ℕ, Bool, false, refl, subst, arith, KeepsCount}
 
 -- where nothing was called
 pub KeepsCount-none : (count : ℕ) → KeepsCount false count count

@@ -1,9 +1,5 @@
 -- Looking up a file of a shelf over memory, as its contracts see it.
-use Rattle.std.proofs.Common.{◌≡◌, ℕ, List, [], Option, None, Some, refl, ap, sym, ◌∙◌, map, find, bytes_eq}
-use Rattle.std.specs.Option.{option_map, option_or}
-use Rattle.ride_ports.specs.Contents.{bytes_at, StoredFile}
-use Rattle.ride_ports.specs.inner.Memory.{FileState, file_named}
-use Rattle.ride_ports.specs.inner.MemFile.{file_state}
+use Rattle.ride_ports.proofs.Common.{◌≡◌, ℕ, List, [], Option, None, Some, refl, ap, sym, ◌∙◌, map, find, bytes_eq, option_map, option_or, bytes_at, StoredFile, FileState, file_named, file_state}
 use Rattle.ride_ports.specs.inner.Sure.{with_empty_others}
 use Rattle.ride_ports.specs.inner.SureFile.{stored_file}
 use Rattle.ride_ports.specs.declared.mem_shelf.MemFile.{MemFile}

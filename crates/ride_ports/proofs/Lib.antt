@@ -1,3 +1,4 @@
+pub mod Common
 pub mod ByteLemmas
 pub mod CountLemmas
 pub mod Counts

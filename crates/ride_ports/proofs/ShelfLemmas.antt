@@ -1,9 +1,6 @@
 -- Looking up a file by its name.
-use Rattle.std.proofs.Common.{◌≡◌, ℕ, Bool, true, false, List, [], ◌∷◌, Option, None, Some, refl, ap, sym, ◌∙◌, map, find, cond, bytes_eq}
-use Rattle.std.specs.Option.{option_map, option_or}
-use Rattle.ride_ports.specs.Contents.{bytes_at, StoredFile}
+use Rattle.ride_ports.proofs.Common.{◌≡◌, ℕ, Bool, true, false, List, [], ◌∷◌, Option, None, Some, refl, ap, sym, ◌∙◌, map, find, cond, bytes_eq, option_map, option_or, bytes_at, StoredFile, FileState, SourceState, contents_of, file_named, source_of}
 use Rattle.ride_ports.specs.inner.Contents.{IsContentOf}
-use Rattle.ride_ports.specs.inner.Memory.{FileState, SourceState, contents_of, file_named, source_of}
 
 -- the first element that passes, after a map
 pub find-map : {A B : Type 0} (f : A → B) (p : B → Bool) (xs : List A) →

@@ -1,3 +1,4 @@
+pub mod Common
 pub mod Searches
 pub mod Lists
 pub mod Relaxing

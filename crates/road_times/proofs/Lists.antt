@@ -1,11 +1,5 @@
 -- Labels and the list of the nodes that have one.
-use Rattle.std.proofs.Common.{◌≡◌, ◌≢◌, ℕ, zero, suc, ◌+◌, ◌<◌, ◌≤◌, ◌⊎◌, inl, inr, true, false, cond, List, [], ◌∷◌, length, get_or, set, refl, sym, ◌∙◌, ap, arith}
-use Rattle.std.specs.Prelude.{Option, Some, None, is_some, count_by, replicate}
-use Rattle.std.proofs.lemmas.Bool.{cases_eq}
-use Rattle.std.proofs.lemmas.List.{get_or-set_same, get_or-set_other, length-set}
-use Rattle.std.proofs.lemmas.List.Sums.{sum_by-cons, sum_by-set, count_by-le-length}
-use Rattle.model_laws.proofs.plain.Options.{none_from_is_some}
-use Rattle.road_times.specs.inner.Search.{label_of, IsListed}
+use Rattle.road_times.proofs.Common.{◌≡◌, ◌≢◌, ℕ, zero, suc, ◌+◌, ◌<◌, ◌≤◌, ◌⊎◌, inl, inr, true, false, cond, List, [], ◌∷◌, length, get_or, set, refl, sym, ◌∙◌, ap, arith, Option, Some, None, is_some, count_by, replicate, cases_eq, get_or-set_same, get_or-set_other, length-set, sum_by-cons, sum_by-set, count_by-le-length, none_from_is_some, label_of, IsListed}
 
 -- a write at a place, seen from any place
 pub set_cases : (labels : List (Option ℕ)) (node other : ℕ) (value : Option ℕ) → node < length labels

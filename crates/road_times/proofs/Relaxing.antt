@@ -1,11 +1,5 @@
 -- The queue while the arcs of a node are relaxed.
-use Rattle.std.proofs.Common.{◌≡◌, ◌≢◌, ℕ, ◌+◌, ◌≤◌, ◌⊎◌, inl, inr, List, length, refl, sym, ◌∙◌, ap, subst, arith}
-use Rattle.std.specs.Prelude.{Option, Some, None, slice_get}
-use Rattle.std.proofs.lemmas.Bool.{cases_eq, cases_lt}
-use Rattle.std.proofs.lemmas.Option.{same_Some}
-use Rattle.radix_queue.specs.inner.Queue.{Queue, key_of, lesser_key, IsAboveFloor}
-use Rattle.road_times.specs.declared.adjacency.Neighbor.{Neighbor}
-use Rattle.road_times.specs.inner.Search.{label_of, IsReached, IsOffered, IsRelaxed}
+use Rattle.road_times.proofs.Common.{◌≡◌, ◌≢◌, ℕ, ◌+◌, ◌≤◌, ◌⊎◌, inl, inr, List, length, refl, sym, ◌∙◌, ap, subst, arith, Option, Some, None, slice_get, cases_eq, cases_lt, same_Some, Queue, key_of, lesser_key, IsAboveFloor, Neighbor, label_of, IsReached, IsOffered, IsRelaxed}
 
 offered-more : (labels : List (Option ℕ)) (neighbors : List Neighbor) (count label node key : ℕ)
     → IsOffered labels neighbors count label node key → IsOffered labels neighbors (count + 1) label node key

@@ -1,21 +1,5 @@
 -- The invariant of a label-setting search, step by step.
-use Rattle.std.proofs.Common.{◌≡◌, ◌≢◌, ℕ, ◌+◌, ◌<◌, ◌≤◌, inl, inr, List, [], ◌∷◌, ◌++◌, length, set, refl, sym, ◌∙◌, ap, subst, arith}
-use Rattle.std.specs.Prelude.{Option, Some, None, Contains, slice_get}
-use Rattle.std.proofs.lemmas.Bool.{cases_eq}
-use Rattle.std.proofs.lemmas.List.{length-set}
-use Rattle.std.proofs.lemmas.List.Elements.{All-contains}
-use Rattle.std.proofs.lemmas.List.Sums.{sum_by-append}
-use Rattle.std.proofs.lemmas.Option.{slice_get_within, same_Some}
-use Rattle.ride_model.specs.declared.network.RoadArc.{RoadArc}
-use Rattle.ride_model.specs.Road.{RoadMap, IsArc, IsRoadMap, travel}
-use Rattle.ride_model.specs.inner.Road.{IsWalk, IsLeastWeight, weight_of}
-use Rattle.model_laws.proofs.Walks.{weight-cons, walk-append}
-use Rattle.model_laws.proofs.TravelTimes.{travel-is_travel, travel-le}
-use Rattle.radix_queue.specs.inner.Queue.{Queue, key_of, IsAboveFloor, IsEmpty, IsLeast}
-use Rattle.radix_queue.proofs.Counts.{key_in-within}
-use Rattle.road_times.specs.declared.adjacency.Adjacency.{Adjacency}
-use Rattle.road_times.specs.inner.Adjacency.{IsAdjacency, neighbors_at, arc_to, neighbor_of}
-use Rattle.road_times.specs.inner.Search.{label_of, IsReached, IsSearch, IsOffered, IsRelaxed}
+use Rattle.road_times.proofs.Common.{◌≡◌, ◌≢◌, ℕ, ◌+◌, ◌<◌, ◌≤◌, inl, inr, List, [], ◌∷◌, ◌++◌, length, set, refl, sym, ◌∙◌, ap, subst, arith, Option, Some, None, Contains, slice_get, cases_eq, length-set, All-contains, sum_by-append, slice_get_within, same_Some, RoadArc, RoadMap, IsArc, IsRoadMap, travel, IsWalk, IsLeastWeight, weight_of, weight-cons, walk-append, travel-is_travel, travel-le, Queue, key_of, IsAboveFloor, IsEmpty, IsLeast, key_in-within, Adjacency, IsAdjacency, neighbors_at, arc_to, neighbor_of, label_of, IsReached, IsSearch, IsOffered, IsRelaxed}
 use Rattle.road_times.proofs.Lists.{set_cases, label_within}
 
 -- a node is queued by a key that is not above the limit

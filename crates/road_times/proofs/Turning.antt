@@ -1,17 +1,5 @@
 -- A search over the reversed map finds the travel times to a node.
-use Rattle.std.proofs.Common.{◌≡◌, ℕ, ◌<◌, List, [], ◌∷◌, ◌++◌, length, get_or, refl, sym, ◌∙◌, ap, arith}
-use Rattle.std.specs.Prelude.{Option, Some, None, map, Contains}
-use Rattle.std.proofs.lemmas.List.{map-id, length-map, get_or-map}
-use Rattle.std.proofs.lemmas.List.Elements.{All-map}
-use Rattle.std.proofs.lemmas.List.Sums.{sum_by-append}
-use Rattle.ride_model.specs.declared.network.RoadArc.{RoadArc}
-use Rattle.ride_model.specs.Road.{RoadMap, IsArc, IsRoadMap, travel}
-use Rattle.ride_model.specs.inner.Road.{IsWalk, IsTravel, weight_of}
-use Rattle.model_laws.proofs.Walks.{weight-cons, walk-append}
-use Rattle.model_laws.proofs.TravelTimes.{travel-is_travel, travel_is_least}
-use Rattle.road_times.specs.declared.side.Side.{Side}
-use Rattle.road_times.specs.declared.side.Side.TheVariants.{Out, Back}
-use Rattle.road_times.specs.inner.Turned.{turned_arc, turned_map, travel_by}
+use Rattle.road_times.proofs.Common.{◌≡◌, ℕ, ◌<◌, List, [], ◌∷◌, ◌++◌, length, get_or, refl, sym, ◌∙◌, ap, arith, Option, Some, None, map, Contains, map-id, length-map, get_or-map, All-map, sum_by-append, RoadArc, RoadMap, IsArc, IsRoadMap, travel, IsWalk, IsTravel, weight_of, weight-cons, walk-append, travel-is_travel, travel_is_least, Side, Out, Back, turned_arc, turned_map, travel_by}
 
 -- the arc the other way round
 abbrev pub flipped : RoadArc → RoadArc

@@ -1,9 +1,5 @@
 -- Words of which there is none.
-use Rattle.std.proofs.Common.{◌≡◌, ◌≢◌, ℕ, false, List, [], ◌∷◌, None, refl, length, map, arith}
-use Rattle.std.specs.Prelude.{bytes_eq}
-use Rattle.std.proofs.lemmas.Bool.{false_from_ne_true}
-use Rattle.std.proofs.lemmas.Slice.Eq.{bytes_eq-Decides}
-use Rattle.run_words.specs.Words.{first_word, word_of}
+use Rattle.run_words.proofs.Common.{◌≡◌, ◌≢◌, ℕ, false, List, [], ◌∷◌, None, refl, length, map, arith, bytes_eq, false_from_ne_true, bytes_eq-Decides, first_word, word_of}
 
 no-first_word : {S : Type 0} (text : S → List ℕ) (words : List S) → length words ≡ 0 → first_word (map text words) ≡ []
 no-first_word text [] is = refl

@@ -1,3 +1,4 @@
+pub mod Common
 pub mod FirstWord
 pub mod OptionValues
 pub mod WordValues

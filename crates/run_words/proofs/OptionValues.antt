@@ -1,16 +1,12 @@
 -- What words ask for, by what a command finds in them.
-use Rattle.std.proofs.Common.{◌≡◌, ◌≢◌, inl, inr, ℕ, true, List, [], ◌∷◌, Option, None, refl, ap, ◌∙◌}
-use Rattle.clap.specs.Faults.{fault_of, is_simple_and_free}
+use Rattle.run_words.proofs.Common.{◌≡◌, ◌≢◌, inl, inr, ℕ, true, List, [], ◌∷◌, Option, None, refl, ap, ◌∙◌, fault_of, is_simple_and_free, first_value, found_of, App, HasMatchesOf, matches_of, unless, value_of}
 use Rattle.clap.specs.Kinds.{HasKind, Kinds}
-use Rattle.clap.specs.Matches.{first_value, found_of}
-use Rattle.clap.specs.Simple.{App, HasMatchesOf, matches_of}
 use Rattle.clap.specs.Walk.{first_of}
 use Rattle.clap.specs.Values.{kind_of}
 use Rattle.clap.specs.declared.error.Error.{Error}
 use Rattle.clap.specs.declared.error.kind.ErrorKind.TheVariants.{OutOfMemory}
 use Rattle.clap.specs.declared.parser.matches.ArgMatches.{ArgMatches}
 use Rattle.clap.proofs.WalkLemmas.{first_value-rows, both}
-use Rattle.run_words.specs.Words.{unless, value_of}
 
 -- the value of an option in words that a command takes
 value-taken : (command : App) (words : List (List ℕ)) (option : List ℕ) → fault_of command words ≡ []

@@ -1,9 +1,7 @@
 -- What is asked for behind a word, by the values that its command finds.
-use Rattle.std.proofs.Common.{◌≡◌, ℕ, true, List, Option, None, refl, codes}
-use Rattle.clap.specs.Faults.{is_simple_and_free}
+use Rattle.run_words.proofs.Common.{◌≡◌, ℕ, true, List, Option, None, refl, codes, is_simple_and_free, asked_by_word, command_by_word}
 use Rattle.run_words.specs.declared.words.Word.{Word}
 use Rattle.run_words.specs.declared.words.Word.TheVariants.{Replay, Ahead, Audit, Serve, Drill, Book, League}
-use Rattle.run_words.specs.Words.{asked_by_word, command_by_word}
 
 -- a word's command is one whose faults and values are known
 pub simple : (word : Word) → is_simple_and_free (command_by_word word) ≡ true

@@ -60,20 +60,14 @@ unfoldable pub value_of : App → List (List ℕ) → List ℕ → Option (List 
 value_of command words option = unless (fault_of command words) (first_of option (matches_of command words))
 
 -- the number of a text, where it is one from the least to the most
-abbrev pub within : ℕ → ℕ → ℕ → Option ℕ
-within least most number = if nat_le least number && nat_le number most then Some number else None
-
 abbrev pub number_within : ℕ → ℕ → List ℕ → Option ℕ
-number_within least most text = option_and_then (within least most) (number_of text)
+number_within least most text =
+    option_and_then (λ number. if nat_le least number && nat_le number most then Some number else None) (number_of text)
 
 -- what three texts ask for, where they are there
 abbrev pub of_three : (List ℕ → List ℕ → List ℕ → Asked) → Option (List ℕ) → Option (List ℕ) → Option (List ℕ) → Option Asked
 of_three ask first second third =
     option_and_then (λ a. option_and_then (λ b. option_map (λ c. ask a b c) third) second) first
-
--- the plan of a drill, by the ranges of plans
-abbrev pub plan_of : ℕ → ℕ → ℕ → ℕ → CityPlan
-plan_of side vehicles requests seed = record { side = side; vehicles = vehicles; requests = requests; seed = seed }
 
 -- what the values of its options ask for behind each first word; nothing where one is wanting or out of its range
 abbrev pub asked_by_word : Word → (List ℕ → Option (List ℕ)) → Option Asked
@@ -91,7 +85,7 @@ asked_by_word Serve value =
     (value (codes "drivers"))) (value (codes "riders"))) (value (codes "fleet"))) (value (codes "map"))
 asked_by_word Drill value =
     option_and_then (λ side. option_and_then (λ vehicles. option_and_then (λ requests.
-    option_map (λ seed. a_drill (plan_of side vehicles requests seed))
+    option_map (λ seed. a_drill (record { side = side; vehicles = vehicles; requests = requests; seed = seed }))
     (option_and_then (number_within 0 2147483647) (value (codes "seed"))))
     (option_and_then (number_within 0 16000) (value (codes "requests"))))
     (option_and_then (number_within 0 most_vehicles) (value (codes "vehicles"))))

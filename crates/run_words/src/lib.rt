@@ -64,7 +64,7 @@ pub enum Ask {
 }
 
 /// Why the words ask for nothing.
-#[derive(Clone, Copy, PartialEq, Eq)]
+#[derive(Clone, Copy, Debug, PartialEq, Eq)]
 pub enum WordsError {
     /// They are not in order.
     Refused,

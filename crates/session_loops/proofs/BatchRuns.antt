@@ -1,20 +1,5 @@
 -- Batches that a desk has opened and closed.
-use Rattle.std.proofs.Common.{◌≡◌, Bool, true, false, not, List, [], ◌∷◌, ◌++◌, refl, sym, subst, ◌∙◌, append_assoc, true≢false}
-use Rattle.std.specs.Prelude.{◌||◌, Option, Some, None}
-use Rattle.std.proofs.lemmas.Bool.{or_parts, or_from}
-use Rattle.std.proofs.lemmas.List.Folds.{list_any-append}
-use Rattle.ride_model.specs.declared.entry.Ending.{Ending}
-use Rattle.ride_model.specs.declared.entry.Ending.TheVariants.{Whole}
-use Rattle.ride_model.specs.declared.entry.Entry.{Entry}
-use Rattle.ride_model.specs.History.{is_abandoned}
-use Rattle.ride_model.specs.Seating.{BatchCopy}
-use Rattle.ride_ports.specs.declared.outcome.Ran.{Ran}
-use Rattle.model_laws.specs.inner.history_laws.Finishing.{gives_up}
-use Rattle.board_core.specs.Recorded.{opened_entry, end_entry}
-use Rattle.fleet_board.specs.inner.Openings.{OpensBatch}
-use Rattle.fleet_board.specs.inner.Passes.{Known, AddsEntry, AddsNone, actor_of}
-use Rattle.session_loops.specs.inner.Loops.{AreBatches, AreClosing, Closes, RunsDesk}
-use Rattle.session_loops.specs.inner.Making.{ClosesBatch, ClosesFirst, HasMade, HasRunBatches}
+use Rattle.session_loops.proofs.Common.{◌≡◌, Bool, true, false, not, List, [], ◌∷◌, ◌++◌, refl, sym, subst, ◌∙◌, append_assoc, true≢false, ◌||◌, Option, Some, None, or_parts, or_from, list_any-append, Ending, Whole, Entry, is_abandoned, BatchCopy, Ran, gives_up, opened_entry, end_entry, OpensBatch, Known, AddsEntry, AddsNone, actor_of, AreBatches, AreClosing, Closes, RunsDesk, ClosesBatch, ClosesFirst, HasMade, HasRunBatches}
 use Rattle.session_loops.proofs.MadeEntries.{made-none, made-first, made-then, made-same, made-end}
 
 -- one batch more

@@ -1,38 +1,12 @@
 -- What a feed's loop has answered, and how it ends.
-use Rattle.std.proofs.Common.{◌≡◌, ℕ, ◌+◌, ◌-◌, ◌<◌, ◌≤◌, true, false, List, [], ◌∷◌, ◌++◌, Option, Some, None, Err, length, refl, ap, sym, subst, ◌∙◌, arith, length-append, true≢false}
-use Rattle.std.specs.Prelude.{IfSome, MatchOption, IsTrue}
-use Rattle.std.proofs.lemmas.List.Elements.{All-nil, All-push, filter_map-append}
-use Rattle.ride_model.specs.declared.command.Command.{Command}
-use Rattle.ride_model.specs.declared.entry.Ending.{Ending}
-use Rattle.ride_model.specs.declared.entry.Ending.TheVariants.{Whole, Cut}
-use Rattle.ride_model.specs.declared.entry.Entry.{Entry}
-use Rattle.ride_model.specs.declared.entry.Event.TheVariants.{Fed}
-use Rattle.ride_model.specs.History.{command_of}
-use Rattle.ride_ports.specs.declared.outcome.Ran.{Ran}
-use Rattle.ride_ports.specs.Bytes.{Reads}
-use Rattle.ride_ports.specs.Count.{KeepsCount}
-use Rattle.ride_ports.proofs.ByteLemmas.{Reads-none, Reads-then}
-use Rattle.line_text.specs.declared.line_reader.answers.ReadStop.{ReadStop}
+use Rattle.session_loops.proofs.Common.{◌≡◌, ℕ, ◌+◌, ◌-◌, ◌<◌, ◌≤◌, true, false, List, [], ◌∷◌, ◌++◌, Option, Some, None, Err, length, refl, ap, sym, subst, ◌∙◌, arith, length-append, true≢false, IfSome, MatchOption, IsTrue, All-nil, All-push, filter_map-append, Command, Ending, Whole, Cut, Entry, Fed, command_of, Ran, Reads, KeepsCount, Reads-none, Reads-then, ReadStop, commands_of, IsWhole, FeedState, HasGiven, FeedForm, AreFirst, ended_commands, limits_of, given-few, is_fed, end_entry, Known, AddsEntry, AddsNone, actor_of, commands_in, NoMemory, OfFeed, HasFed, RunsFeed, AddsAnswer, HasMade, HasSubmitted, IsStoppedBy, AreFirstOf}
 use Rattle.line_text.specs.declared.line_reader.answers.ReadStop.TheVariants.{SourceFailed, TooLong}
 use Rattle.line_text.specs.inner.line_reader.Reader.{is_fault}
-use Rattle.command_lines.specs.Commands.{commands_of}
-use Rattle.command_lines.specs.Feeds.{IsWhole}
-use Rattle.command_lines.specs.inner.Feeds.{FeedState, HasGiven}
 use Rattle.line_text.specs.line_reader.Limits.{IsTooLong, IsWithinLimits}
-use Rattle.command_lines.specs.declared.forms.FeedForm.{FeedForm}
-use Rattle.command_lines.specs.Limits.{AreFirst, ended_commands, limits_of}
-use Rattle.command_lines.proofs.ReaderLemmas.{given-few}
-use Rattle.model_laws.specs.history_laws.Start.{is_fed}
-use Rattle.board_core.specs.Recorded.{end_entry}
-use Rattle.fleet_board.specs.inner.Passes.{Known, AddsEntry, AddsNone, actor_of, commands_in}
 use Rattle.line_text.specs.declared.line_reader.stops.Stop.{Stop}
-use Rattle.line_text.specs.declared.line_reader.stops.Stop.TheVariants.{NoMemory, OfFeed}
 use Rattle.session_loops.specs.Loops.{AreFed}
-use Rattle.session_loops.specs.inner.Loops.{HasFed, RunsFeed}
-use Rattle.session_loops.specs.inner.Making.{AddsAnswer, HasMade, HasSubmitted, IsStoppedBy}
 use Rattle.line_text.specs.inner.line_reader.FeedRuns.{is_no_memory, is_source_failed, is_too_long, ran_of}
 use Rattle.line_text.specs.line_reader.FeedRuns.{IsReadWhole}
-use Rattle.session_loops.specs.Stops.{AreFirstOf}
 use Rattle.session_loops.specs.inner.Stops.{ending_of}
 use Rattle.session_loops.proofs.MadeEntries.{made-none, made-then, made-same, made-end}
 

@@ -1,19 +1,7 @@
 -- The first commands of a feed.
-use Rattle.std.proofs.Common.{◌≡◌, ℕ, List, [], ◌++◌, length, Option, Some, None, refl, ap, sym, subst, ◌∙◌, append-nil, arith, length-append}
-use Rattle.std.specs.Prelude.{IfSome}
-use Rattle.ride_model.specs.declared.command.Command.{Command}
-use Rattle.ride_ports.specs.Bytes.{Reads}
-use Rattle.ride_ports.proofs.ByteLemmas.{Reads-told}
-use Rattle.line_text.specs.declared.line_reader.answers.ReadStop.{ReadStop}
-use Rattle.command_lines.specs.Commands.{commands_of}
-use Rattle.command_lines.specs.Feeds.{IsWhole}
-use Rattle.command_lines.specs.inner.Feeds.{FeedState, HasGiven, IsStopped}
-use Rattle.command_lines.specs.declared.forms.FeedForm.{FeedForm}
-use Rattle.command_lines.specs.Limits.{AreFirst, ended_commands}
+use Rattle.session_loops.proofs.Common.{◌≡◌, ℕ, List, [], ◌++◌, length, Option, Some, None, refl, ap, sym, subst, ◌∙◌, append-nil, arith, length-append, IfSome, Command, Reads, Reads-told, ReadStop, commands_of, IsWhole, FeedState, HasGiven, IsStopped, FeedForm, AreFirst, ended_commands, given-few, given-first, given-first-of-all, AreFirstOf}
 use Rattle.command_lines.proofs.LineCommands.{ended_commands-first, first-then}
-use Rattle.command_lines.proofs.ReaderLemmas.{given-few, given-first, given-first-of-all}
 use Rattle.trip_log.proofs.limit_laws.FeedCommands.{ended-le, whole-le}
-use Rattle.session_loops.specs.Stops.{AreFirstOf}
 
 -- fewer commands
 pub fewer-first : (form : FeedForm) (feed : Option (List ℕ)) (taken : List ℕ) (few more : List Command) → AreFirst few more → AreFirstOf form feed taken more

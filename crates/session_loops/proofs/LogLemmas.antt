@@ -1,11 +1,5 @@
 -- The text of a history that goes on.
-use Rattle.std.proofs.Common.{◌≡◌, ℕ, List, [], ◌++◌, ◌-◌, length, take, drop, take-append-drop, ap, sym, ◌∙◌, append_assoc, append-nil}
-use Rattle.std.specs.Prelude.{map}
-use Rattle.std.specs.List.{concat}
-use Rattle.std.proofs.lemmas.List.{map-append, take_rest}
-use Rattle.std.proofs.lemmas.List.Folds.{concat-append}
-use Rattle.ride_model.specs.declared.entry.Entry.{Entry}
-use Rattle.ride_model.specs.Text.{entry_line, entry_lines, head_line, text_of}
+use Rattle.session_loops.proofs.Common.{◌≡◌, ℕ, List, [], ◌++◌, ◌-◌, length, take, drop, take-append-drop, ap, sym, ◌∙◌, append_assoc, append-nil, map, concat, map-append, take_rest, concat-append, Entry, entry_line, entry_lines, head_line, text_of}
 
 -- the lines of more entries
 pub entry_lines-append : (log : ℕ) (xs ys : List Entry) → entry_lines log (xs ++ ys) ≡ entry_lines log xs ++ entry_lines log ys

@@ -1,13 +1,6 @@
 -- Entries that a pass has made.
-use Rattle.std.proofs.Common.{◌≡◌, List, [], ◌∷◌, ◌++◌, refl, ap, sym, ◌∙◌, append_assoc, append-nil}
-use mathlib.Core.List.{IsPrefix}
-use Rattle.ride_model.specs.declared.entry.Ending.{Ending}
-use Rattle.ride_model.specs.declared.entry.Entry.{Entry}
-use Rattle.board_core.specs.Recorded.{end_entry}
+use Rattle.session_loops.proofs.Common.{◌≡◌, List, [], ◌∷◌, ◌++◌, refl, ap, sym, ◌∙◌, append_assoc, append-nil, IsPrefix, Ending, Entry, end_entry, Known, AddsEntry, AddsNone, actor_of, root_of, EndsWith, HasMade}
 use Rattle.turn_lock.proofs.Lists.{prefix_self, prefix_trans}
-use Rattle.fleet_board.specs.inner.Passes.{Known, AddsEntry, AddsNone, actor_of, root_of}
-use Rattle.session_loops.specs.inner.Loops.{EndsWith}
-use Rattle.session_loops.specs.inner.Making.{HasMade}
 
 -- none at first
 pub made-none : (k : Known) → HasMade k k []

@@ -1,20 +1,7 @@
 -- What a scribe has written of what its pass has seen.
-use Rattle.std.proofs.Common.{◌≡◌, ℕ, Bool, ◌+◌, ◌-◌, ◌≤◌, true, false, List, [], Result, Ok, Err, ◌++◌, length, take, drop, Option, refl, sym, ap, subst, ◌∙◌, append_assoc, append-nil, length-append, length-drop, arith}
-use Rattle.std.specs.Prelude.{All, IfOk, OnErr, OnOk, is_err, min}
-use Rattle.std.proofs.Math.Seq.{take-add}
-use Rattle.std.proofs.lemmas.List.{length-take, take-append-le, take_min}
-use Rattle.std.proofs.lemmas.List.Elements.{All-drop, All-take}
-use Rattle.ride_model.specs.declared.entry.Entry.{Entry}
-use Rattle.ride_model.specs.Text.{HasLine, entry_lines}
-use Rattle.ride_ports.specs.Count.{KeepsCount}
-use Rattle.board_core.specs.Recorded.{Recorded}
-use Rattle.fleet_board.specs.inner.Passes.{AddsNone, IsPoint, Known, root_of}
-use Rattle.fleet_board.proofs.Looking.{adds_none-then, root-stays, first-stay, seen-grows}
+use Rattle.session_loops.proofs.Common.{◌≡◌, ℕ, Bool, ◌+◌, ◌-◌, ◌≤◌, true, false, List, [], Result, Ok, Err, ◌++◌, length, take, drop, Option, refl, sym, ap, subst, ◌∙◌, append_assoc, append-nil, length-append, length-drop, arith, All, IfOk, OnErr, OnOk, is_err, min, take-add, length-take, take-append-le, take_min, All-drop, All-take, Entry, HasLine, entry_lines, KeepsCount, Recorded, AddsNone, IsPoint, Known, root_of, adds_none-then, root-stays, first-stay, seen-grows, HasPut, IsFresh, OutputState, written-prefix, written-whole, HasScribed, HasScribedSome}
 use Rattle.ride_ports.specs.declared.sources.Failed.{Failed}
-use Rattle.line_text.specs.inner.text_page.Output.{HasPut, IsFresh, OutputState}
-use Rattle.line_text.proofs.text_page.OutputLemmas.{written-prefix, written-whole}
 use Rattle.session_loops.specs.declared.scribes.Scribed.{Scribed}
-use Rattle.session_loops.specs.inner.Loops.{HasScribed, HasScribedSome}
 use Rattle.session_loops.proofs.LogLemmas.{entry_lines-append}
 
 -- the entries that a look gives, and the place behind them

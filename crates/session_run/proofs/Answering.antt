@@ -1,24 +1,6 @@
 -- A board that answers a command.
-use Rattle.std.proofs.Common.{◌≡◌, ℕ, ◌+◌, inl, inr, Bool, true, false, cond, [], ◌∷◌, ◌++◌, Some, refl, sym, ap, ◌∙◌, append-nil, append_assoc, ◌≢◌}
-use Rattle.std.specs.Prelude.{option_and_then, IsFalse}
-use Rattle.ride_model.specs.declared.command.Command.{Command}
-use Rattle.ride_model.specs.declared.entry.Entry.{Entry}
-use Rattle.ride_model.specs.declared.entry.Event.TheVariants.{Fed}
-use Rattle.ride_model.specs.declared.command.Actor.TheVariants.{Feed}
-use Rattle.ride_model.specs.declared.reply.Reply.{Reply}
-use Rattle.ride_model.specs.declared.reply.Reply.TheVariants.{Waiting, Cancelled, Freed, OnMap, Late, Picked, Dropped, Duty, Now, Asked, Noted, Refused}
-use Rattle.ride_model.specs.History.{fed_commands, awaited_after, awaited_in}
-use Rattle.ride_model.specs.History.Awaited.{any, opening}
-use Rattle.ride_model.specs.State.{State}
-use Rattle.ride_model.specs.Step.{step}
-use Rattle.command_lines.specs.Limits.{AreFirst}
-use Rattle.board_core.specs.Recorded.{Recorded, state_of}
-use Rattle.board_core.specs.inner.Recorded.{fed_entry}
-use Rattle.board_core.proofs.OpenBatches.{state-push}
-use Rattle.session_run.specs.Running.{gave_up}
-use Rattle.session_run.specs.inner.Running.{GoesOn, IsSession, IsAsked, RunsBatch, Answers, Stops}
+use Rattle.session_run.proofs.Common.{◌≡◌, ℕ, ◌+◌, inl, inr, Bool, true, false, cond, [], ◌∷◌, ◌++◌, Some, refl, sym, ap, ◌∙◌, append-nil, append_assoc, ◌≢◌, option_and_then, IsFalse, Command, Entry, Fed, Feed, Reply, Waiting, Cancelled, Freed, OnMap, Late, Picked, Dropped, Duty, Now, Asked, Noted, Refused, fed_commands, awaited_after, awaited_in, any, opening, State, step, AreFirst, Recorded, state_of, fed_entry, state-push, gave_up, GoesOn, IsSession, IsAsked, RunsBatch, Answers, Stops, is_asked, leaves-step}
 use Rattle.session_run.proofs.OneMoreEntry.{settled-push, awaited-push, gave_up-push, fed-feed, fed-other, goes-then}
-use Rattle.model_laws.proofs.history_laws.Untouched.{is_asked, leaves-step}
 
 -- what is awaited after an answer
 after-reply : (feed : ℕ) (command : Command) (reply : Reply) (b : Bool) → is_asked reply ≡ b

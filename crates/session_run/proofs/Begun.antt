@@ -1,14 +1,5 @@
 -- A session at its start.
-use Rattle.std.proofs.Common.{◌≡◌, false, List, [], refl, ap, sym, subst, ◌∙◌}
-use Rattle.ride_model.specs.declared.settings.Settings.{Settings}
-use Rattle.ride_model.specs.declared.vehicle.Vehicle.{Vehicle}
-use Rattle.ride_model.specs.Legal.{replay}
-use Rattle.ride_model.specs.Road.{RoadMap}
-use Rattle.ride_model.specs.State.{State, start_state}
-use Rattle.board_core.specs.Recorded.{Recorded, state_of}
-use Rattle.session_run.specs.Running.{IsPrompt}
-use Rattle.session_run.specs.inner.Running.{IsRunning}
-use Rattle.session_run.specs.Settled.{IsSettled}
+use Rattle.session_run.proofs.Common.{◌≡◌, false, List, [], refl, ap, sym, subst, ◌∙◌, Settings, Vehicle, replay, RoadMap, State, start_state, Recorded, state_of, IsPrompt, IsRunning, IsSettled}
 
 -- a board before anything happened is between two commands
 pub running-at-start : (board : Recorded) (roads : RoadMap) (settings : Settings) (fleet : List Vehicle) → board.start ≡ start_state roads settings fleet

@@ -1,23 +1,7 @@
 -- The sheets of histories that go on.
-use Rattle.std.proofs.Common.{◌≡◌, ℕ, true, List, [], ◌∷◌, ◌++◌, Option, Some, None, refl, sym, ap, subst, ◌∙◌, append_assoc, append-nil}
-use Rattle.std.specs.List.{cons_option}
-use Rattle.ride_model.specs.declared.command.Actor.TheVariants.{Desk}
-use Rattle.ride_model.specs.declared.entry.Entry.{Entry}
-use Rattle.ride_model.specs.declared.entry.Ending.{Ending}
-use Rattle.ride_model.specs.declared.command.Actor.TheVariants.{Feed}
-use Rattle.ride_model.specs.Batch.{next_batch}
-use Rattle.ride_model.specs.Legal.{replay}
-use Rattle.ride_model.specs.Seating.{BatchCopy}
-use Rattle.ride_model.specs.State.{State}
-use Rattle.batch_commit.specs.inner.Solved.{SolvedBatch}
-use Rattle.board_core.specs.Recorded.{Recorded, state_of, opened_entry, end_entry}
-use Rattle.board_core.specs.inner.Recorded.{committed_entry}
-use Rattle.idle_moves.specs.declared.moves.MoveSheet.{MoveSheet}
-use Rattle.idle_moves.specs.HistorySheets.{ArePaired, Commit, IsSheetOf, commit_by, commits_after, commits_of}
+use Rattle.session_run.proofs.Common.{◌≡◌, ℕ, true, List, [], ◌∷◌, ◌++◌, Option, Some, None, refl, sym, ap, subst, ◌∙◌, append_assoc, append-nil, cons_option, Desk, Entry, Ending, Feed, next_batch, replay, BatchCopy, State, SolvedBatch, Recorded, state_of, opened_entry, end_entry, committed_entry, MoveSheet, ArePaired, Commit, IsSheetOf, commit_by, commits_after, commits_of, Answered, AddsSheets, CommitsPlanned, IsPlanned, is_whole, sheets_in}
 use Rattle.idle_moves.specs.Sheet.{IsSheet}
-use Rattle.session_run.specs.declared.batches.Answered.{Answered}
 use Rattle.session_run.specs.declared.batches.Answered.TheVariants.{Whole, Wanting}
-use Rattle.session_run.specs.inner.Planning.{AddsSheets, CommitsPlanned, IsPlanned, is_whole, sheets_in}
 
 cons_option-append : {A : Type 0} (o : Option A) (xs ys : List A) → cons_option o (xs ++ ys) ≡ cons_option o xs ++ ys
 cons_option-append None xs ys = refl

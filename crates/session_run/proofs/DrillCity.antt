@@ -1,19 +1,8 @@
 -- The city of a drill.
-use Rattle.std.proofs.Common.{◌≡◌, ℕ, ◌-◌, ◌*◌, ◌<◌, ◌≤◌, List, [], ◌∷◌, ◌++◌, length, min, sym, subst, ◌∙◌, arith, length-append, Bool, false, true≢false, inl, Option, Result, Ok, Err}
-use Rattle.std.specs.Prelude.{is_err, OnErr, OnOk}
-use Rattle.std.specs.List.{flat_map, range_with_len}
-use Rattle.std.proofs.lemmas.List.FromFn.{length-map-range_with_len}
-use Rattle.ride_model.specs.declared.command.Command.{Command}
-use Rattle.ride_model.specs.declared.command.Command.TheVariants.{Ask, Clock}
-use Rattle.ride_model.specs.declared.entry.Entry.{Entry}
-use Rattle.ride_model.specs.Drill.{IsDrilled}
-use Rattle.ride_model.specs.State.{State}
-use Rattle.ride_ports.specs.Bytes.{Writes, WritesPrefix}
+use Rattle.session_run.proofs.Common.{◌≡◌, ℕ, ◌-◌, ◌*◌, ◌<◌, ◌≤◌, List, [], ◌∷◌, ◌++◌, length, min, sym, subst, ◌∙◌, arith, length-append, Bool, false, true≢false, inl, Option, Result, Ok, Err, is_err, OnErr, OnOk, flat_map, range_with_len, length-map-range_with_len, Command, Ask, Clock, Entry, IsDrilled, State, Writes, WritesPrefix, Drilled, last_steps, start_of, steps_of, steps_with, IsLogged}
 use Rattle.city_maker.specs.declared.plan.CityPlan.{CityPlan}
 use Rattle.city_maker.specs.Feed.{commands_of, group_of, groups_of, request_of, requests_in}
 use Rattle.city_maker.specs.inner.Plan.{IsPlan}
-use Rattle.city_maker.specs.Steps.{Drilled, last_steps, start_of, steps_of, steps_with}
-use Rattle.session_run.specs.Logged.{IsLogged}
 use Rattle.city_maker.proofs.AllOfPieces.{length-flat_map_range_le}
 
 -- a group has at most ten commands

@@ -1,25 +1,6 @@
 -- A drill at its end.
-use Rattle.std.proofs.Common.{◌≡◌, ◌≤◌, List, [], ◌∷◌, ◌++◌, refl, sym, ap, subst, ◌∙◌, arith, append_assoc}
-use Rattle.std.specs.Prelude.{is_some, option_and_then, find, ◌==◌, ◌&&◌, IsFalse}
-use Rattle.std.specs.List.{list_all, list_any, range_with_len}
-use Rattle.ride_model.specs.declared.command.Actor.{Actor}
-use Rattle.ride_model.specs.declared.command.Actor.TheVariants.{Desk, Feed}
-use Rattle.ride_model.specs.declared.entry.Ending.{Ending}
-use Rattle.ride_model.specs.declared.entry.Ending.TheVariants.{Whole}
-use Rattle.ride_model.specs.declared.entry.Entry.{Entry}
-use Rattle.ride_model.specs.Drill.{DrillStep, Follows, IsDrilled}
-use Rattle.ride_model.specs.Drill.Follows.{done, ended}
-use Rattle.ride_model.specs.History.{awaited_after, is_whole}
-use Rattle.ride_model.specs.Legal.{IsLegal, MayEnd, after_entry, replay}
-use Rattle.ride_model.specs.Seating.{BatchCopy}
-use Rattle.ride_model.specs.State.{State, has_ended, is_actor, start_state}
-use Rattle.model_laws.specs.history_laws.Start.{IsStart}
-use Rattle.board_core.specs.Recorded.{Recorded, end_entry, state_of}
-use Rattle.board_core.proofs.OpenBatches.{state-push}
-use Rattle.city_maker.specs.Steps.{last_steps}
-use Rattle.session_run.specs.inner.Drills.{IsDrilling}
-use Rattle.session_run.specs.Running.{IsPrompt}
-use Rattle.session_run.specs.Settled.{IsSettled}
+use Rattle.session_run.proofs.Common.{◌≡◌, ◌≤◌, List, [], ◌∷◌, ◌++◌, refl, sym, ap, subst, ◌∙◌, arith, append_assoc, is_some, option_and_then, find, ◌==◌, ◌&&◌, IsFalse, list_all, list_any, range_with_len, Actor, Desk, Feed, Ending, Whole, Entry, DrillStep, Follows, IsDrilled, done, ended, awaited_after, IsLegal, MayEnd, after_entry, replay, BatchCopy, State, has_ended, is_actor, start_state, IsStart, Recorded, end_entry, state_of, state-push, last_steps, IsDrilling, IsPrompt, IsSettled}
+use Rattle.ride_model.specs.History.{is_whole}
 use Rattle.session_run.proofs.DrillSteps.{follows-then}
 use Rattle.session_run.proofs.OneMoreEntry.{awaited-push, gave_up-push}
 

@@ -1,21 +1,7 @@
 -- The vehicles of a drill as they stand.
-use Rattle.std.proofs.Common.{◌≡◌, ℕ, ◌^◌, ◌<◌, ◌≤◌, List, ◌∷◌, Option, Some, None, length, refl, sym, ap, subst, ◌∙◌, arith}
-use Rattle.std.specs.Prelude.{All, IfSome, option_map, slice_get}
-use Rattle.std.proofs.lemmas.List.{length-map}
-use Rattle.std.proofs.lemmas.List.Elements.{All-get_or, All-map}
-use Rattle.std.proofs.lemmas.Option.{get_or_from_slice_get, slice_get-map, slice_get_within}
-use Rattle.ride_model.specs.declared.command.Command.{Command}
+use Rattle.session_run.proofs.Common.{◌≡◌, ℕ, ◌^◌, ◌<◌, ◌≤◌, List, ◌∷◌, Option, Some, None, length, refl, sym, ap, subst, ◌∙◌, arith, All, IfSome, option_map, slice_get, length-map, All-get_or, All-map, get_or_from_slice_get, slice_get-map, slice_get_within, Command, Vehicle, next_report, IsLegal, IsNode, IsRoadMap, RoadMap, vehicle_ids, IsSpelledCommand, IsLawful, IsStart, Recorded, state_of}
 use Rattle.ride_model.specs.declared.vehicle.Stop.{Stop}
-use Rattle.ride_model.specs.declared.vehicle.Vehicle.{Vehicle}
-use Rattle.ride_model.specs.Drill.{next_report}
-use Rattle.ride_model.specs.Legal.{IsLegal}
-use Rattle.ride_model.specs.Road.{IsNode, IsRoadMap, RoadMap}
-use Rattle.ride_model.specs.Seating.{vehicle_ids}
-use Rattle.ride_model.specs.Text.{IsSpelledCommand}
-use Rattle.ride_model.specs.Vehicle.{IsLawful}
-use Rattle.model_laws.specs.history_laws.Start.{IsStart}
 use Rattle.model_laws.proofs.history_laws.EveryState.{consistent}
-use Rattle.board_core.specs.Recorded.{Recorded, state_of}
 use Rattle.board_core.proofs.LegLaws.{stop_nodes}
 use Rattle.city_maker.proofs.FirstLegs.{first-leg-le}
 use Rattle.session_run.proofs.DriverReports.{report-cases}

@@ -1,30 +1,5 @@
 -- The steps of a drill, one after the other.
-use Rattle.std.proofs.Common.{◌≡◌, ℕ, ◌+◌, ◌<◌, get_or, map, take, true, false, List, [], ◌∷◌, ◌++◌, Some, None, length, refl, sym, ap, subst, ◌∙◌, arith, append_assoc, append-nil, length-append}
-use Rattle.std.specs.Prelude.{slice_get}
-use Rattle.std.specs.List.{flat_map, range_with_len}
-use Rattle.std.proofs.lemmas.Grind.{flat_map-append}
-use Rattle.std.proofs.lemmas.List.{take_more}
-use Rattle.ride_model.specs.declared.command.Actor.{Actor}
-use Rattle.ride_model.specs.declared.command.Actor.TheVariants.{Feed, Desk}
-use Rattle.ride_model.specs.declared.command.Command.{Command}
-use Rattle.ride_model.specs.declared.command.Command.TheVariants.{Ask, At, Bad, Cancel, Clock, Done, Off, On, Request}
-use Rattle.ride_model.specs.declared.entry.Entry.{Entry}
-use Rattle.ride_model.specs.declared.entry.Event.{Event}
-use Rattle.ride_model.specs.declared.entry.Event.TheVariants.{Fed, Finish, Opened, Committed, Abandoned}
-use Rattle.ride_model.specs.declared.vehicle.Vehicle.{Vehicle}
-use Rattle.ride_model.specs.Drill.{DrillStep, Follows, give, drive, entry_of, next_report}
-use Rattle.ride_model.specs.Drill.Follows.{done, given, reported, rested, ended, opened, committed}
-use Rattle.ride_model.specs.History.{fed_commands}
-use Rattle.ride_model.specs.Legal.{after_entry, replay}
-use Rattle.ride_model.specs.State.{State}
-use Rattle.ride_model.specs.Step.{step}
-use Rattle.board_core.specs.Recorded.{Recorded, state_of}
-use Rattle.board_core.specs.inner.Recorded.{fed_entry}
-use Rattle.board_core.proofs.OpenBatches.{state-push}
-use Rattle.city_maker.specs.Steps.{steps_with}
-use Rattle.session_run.specs.inner.Drills.{GoesBy, IsDrilling, IsReporting}
-use Rattle.session_run.specs.inner.Running.{AddsAnswer, Answers, AreOfABatch, IsCommit, IsOpening}
-use Rattle.model_laws.proofs.history_laws.Untouched.{is_asked}
+use Rattle.session_run.proofs.Common.{◌≡◌, ℕ, ◌+◌, ◌<◌, get_or, map, take, true, false, List, [], ◌∷◌, ◌++◌, Some, None, length, refl, sym, ap, subst, ◌∙◌, arith, append_assoc, append-nil, length-append, slice_get, flat_map, range_with_len, flat_map-append, take_more, Actor, Feed, Desk, Command, Ask, At, Bad, Cancel, Clock, Done, Off, On, Request, Entry, Event, Fed, Finish, Opened, Committed, Abandoned, Vehicle, DrillStep, Follows, give, drive, entry_of, next_report, done, given, reported, rested, ended, opened, committed, fed_commands, after_entry, replay, State, step, Recorded, state_of, fed_entry, state-push, steps_with, GoesBy, IsDrilling, IsReporting, AddsAnswer, Answers, AreOfABatch, IsCommit, IsOpening, is_asked}
 use Rattle.session_run.proofs.Answering.{applied-asked, applied-awaited, applied-none_given_up, applied-others, applied-session}
 
 -- steps after others

@@ -1,19 +1,7 @@
 -- What drivers report: it asks for nothing, and its numbers have a text.
-use Rattle.std.proofs.Common.{◌≡◌, ℕ, ◌+◌, ◌-◌, Bool, true, false, cond, List, [], ◌∷◌, Option, Some, None, refl, subst}
-use Rattle.std.specs.Prelude.{not, ◌==◌, nat_lt, nat_le}
-use Rattle.ride_model.specs.declared.command.Command.{Command}
-use Rattle.ride_model.specs.declared.command.Command.TheVariants.{At, Done}
-use Rattle.ride_model.specs.declared.reply.Reply.TheVariants.{Late, OnMap}
+use Rattle.session_run.proofs.Common.{◌≡◌, ℕ, ◌+◌, ◌-◌, Bool, true, false, cond, List, [], ◌∷◌, Option, Some, None, refl, subst, not, ◌==◌, nat_lt, nat_le, Command, At, Done, Late, OnMap, Kind, Dropoff, Pickup, Vehicle, next_report, report_of, broken_of, travel, State, placed_vehicle, at_found, at_step, done_at_stop, done_found, done_step, is_node, report, report_driving, served_reply, step, is_asked}
 use Rattle.ride_model.specs.declared.vehicle.Stop.{Stop}
-use Rattle.ride_model.specs.declared.vehicle.Kind.{Kind}
-use Rattle.ride_model.specs.declared.vehicle.Kind.TheVariants.{Dropoff, Pickup}
-use Rattle.ride_model.specs.declared.vehicle.Vehicle.{Vehicle}
-use Rattle.ride_model.specs.Drill.{next_report, report_of}
-use Rattle.ride_model.specs.Keeps.{broken_of}
-use Rattle.ride_model.specs.Road.{travel}
-use Rattle.ride_model.specs.State.{State, placed_vehicle}
-use Rattle.ride_model.specs.Step.{Answered, at_found, at_step, done_at_stop, done_found, done_step, is_node, report, report_driving, reported, served_reply, step}
-use Rattle.model_laws.proofs.history_laws.Untouched.{is_asked}
+use Rattle.ride_model.specs.Step.{Answered, reported}
 
 -- one of two answers
 either-asks_none : (b : Bool) (x y : Answered) → is_asked x.reply ≡ false → is_asked y.reply ≡ false → is_asked (cond b x y).reply ≡ false

@@ -1,20 +1,5 @@
 -- A board whose feed and desk end.
-use Rattle.std.proofs.Common.{◌≡◌, ◌≤◌, List, [], ◌∷◌, ◌++◌, refl, sym, ap, ◌∙◌, append_assoc, arith}
-use Rattle.std.specs.Prelude.{is_some, IsFalse, find, option_and_then, ◌==◌}
-use Rattle.std.specs.List.{list_any, list_all, range_with_len}
-use Rattle.ride_model.specs.declared.command.Actor.{Actor}
-use Rattle.ride_model.specs.declared.command.Actor.TheVariants.{Feed, Desk}
-use Rattle.ride_model.specs.declared.entry.Ending.{Ending}
-use Rattle.ride_model.specs.declared.entry.Ending.TheVariants.{Whole}
-use Rattle.ride_model.specs.declared.entry.Entry.{Entry}
-use Rattle.ride_model.specs.History.{awaited_after}
-use Rattle.ride_model.specs.Legal.{MayEnd}
-use Rattle.ride_model.specs.Seating.{BatchCopy}
-use Rattle.ride_model.specs.State.{State, has_ended, is_actor}
-use Rattle.board_core.specs.Recorded.{Recorded, state_of, end_entry}
-use Rattle.board_core.proofs.OpenBatches.{state-push}
-use Rattle.session_run.specs.Running.{IsPrompt}
-use Rattle.session_run.specs.inner.Running.{IsSession}
+use Rattle.session_run.proofs.Common.{◌≡◌, ◌≤◌, List, [], ◌∷◌, ◌++◌, refl, sym, ap, ◌∙◌, append_assoc, arith, is_some, IsFalse, find, option_and_then, ◌==◌, list_any, list_all, range_with_len, Actor, Feed, Desk, Ending, Whole, Entry, awaited_after, MayEnd, BatchCopy, State, has_ended, is_actor, Recorded, state_of, end_entry, state-push, IsPrompt, IsSession}
 use Rattle.session_run.proofs.OneMoreEntry.{awaited-push, gave_up-push}
 
 -- the ends of the feed and the desk leave a history prompt

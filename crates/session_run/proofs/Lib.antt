@@ -1,3 +1,4 @@
+pub mod Common
 pub mod Settling
 pub mod OneMoreEntry
 pub mod Opening

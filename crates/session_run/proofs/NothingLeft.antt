@@ -1,12 +1,5 @@
 -- What stopped a feed.
-use Rattle.std.proofs.Common.{◌≡◌, ℕ, Bool, false, List, [], sym, ◌∙◌, true≢false}
-use Rattle.std.specs.Prelude.{Option, Some, None, IfSome}
-use Rattle.line_text.specs.declared.line_reader.answers.ReadStop.TheVariants.{SourceFailed, TooLong}
-use Rattle.board_core.specs.Recorded.{Recorded}
-use Rattle.line_text.specs.declared.line_reader.stops.Stop.{Stop}
-use Rattle.line_text.specs.declared.line_reader.stops.Stop.TheVariants.{NoMemory, OfFeed}
-use Rattle.line_text.specs.inner.line_reader.FeedRuns.{is_source_failed, is_too_long}
-use Rattle.session_run.specs.inner.Reading.{HasEnded}
+use Rattle.session_run.proofs.Common.{◌≡◌, ℕ, Bool, false, List, [], sym, ◌∙◌, true≢false, Option, Some, None, IfSome, SourceFailed, TooLong, Recorded, Stop, NoMemory, OfFeed, is_source_failed, is_too_long, HasEnded}
 
 -- where neither memory nor the source was wanting, and the feed was not too long, nothing is left of it
 pub nothing-left : (log : ℕ) (left : Option (List ℕ)) (stop : Option Stop) (board : Recorded) (no_memory : Bool) (taken : List ℕ) → no_memory ≡ false

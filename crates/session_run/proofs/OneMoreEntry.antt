@@ -1,21 +1,5 @@
 -- Histories that go on by an entry.
-use Rattle.std.proofs.Common.{◌≡◌, ℕ, Bool, true, false, cond, List, [], ◌∷◌, ◌++◌, Option, Some, refl, ap, ◌∙◌, append_assoc, append-nil, ◌≢◌}
-use Rattle.std.specs.Prelude.{filter_map, option_and_then, ◌&&◌, ◌||◌}
-use Rattle.std.specs.List.{cons_option, list_all}
-use Rattle.std.proofs.lemmas.Bool.{eq-eqb, ne_eqb, and_from}
-use Rattle.std.proofs.lemmas.List.Folds.{list_any-append, list_all-append}
-use Rattle.std.proofs.lemmas.List.Sums.{fold-append}
-use Rattle.ride_model.specs.declared.command.Actor.TheVariants.{Feed, Desk}
-use Rattle.ride_model.specs.declared.command.Command.{Command}
-use Rattle.ride_model.specs.declared.entry.Entry.{Entry}
-use Rattle.ride_model.specs.History.{Awaited, entries_of, command_of, fed_commands, is_abandoned, awaited_after, awaited_in}
-use Rattle.ride_model.specs.History.Awaited.{any}
-use Rattle.ride_model.specs.State.{is_actor}
-use Rattle.board_core.specs.Recorded.{Recorded}
-use Rattle.board_core.proofs.FedEntries.{fed_commands-append}
-use Rattle.session_run.specs.Running.{gave_up}
-use Rattle.session_run.specs.inner.Running.{GoesOn}
-use Rattle.session_run.specs.Settled.{settles, IsSettled}
+use Rattle.session_run.proofs.Common.{◌≡◌, ℕ, Bool, true, false, cond, List, [], ◌∷◌, ◌++◌, Option, Some, refl, ap, ◌∙◌, append_assoc, append-nil, ◌≢◌, filter_map, option_and_then, ◌&&◌, ◌||◌, cons_option, list_all, eq-eqb, ne_eqb, and_from, list_any-append, list_all-append, fold-append, Feed, Desk, Command, Entry, Awaited, entries_of, command_of, fed_commands, is_abandoned, awaited_after, awaited_in, any, is_actor, Recorded, fed_commands-append, gave_up, GoesOn, settles, IsSettled}
 
 -- no outcome of one more entry is stale
 pub settled-push : (old new : List Entry) (entry : Entry) → new ≡ old ++ entry ∷ [] → IsSettled old → settles entry.event ≡ true

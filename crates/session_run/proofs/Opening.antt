@@ -1,31 +1,11 @@
 -- A board whose desk opens the next batch, and closes it.
-use Rattle.std.proofs.Common.{◌≡◌, ℕ, ◌+◌, Bool, true, false, cond, List, [], ◌∷◌, ◌++◌, Option, Some, None, lt-ltb, refl, sym, ap, subst, ◌∙◌, arith, append_assoc}
-use Rattle.std.specs.Prelude.{option_and_then, nat_lt, ◌==◌, IsSome, IsSomeAnd, All}
-use Rattle.ride_model.specs.declared.command.Actor.TheVariants.{Desk}
-use Rattle.ride_model.specs.declared.entry.Entry.{Entry}
-use Rattle.ride_model.specs.declared.offer.Seat.{Seat}
-use Rattle.ride_model.specs.declared.vehicle.Ride.{Ride}
-use Rattle.ride_model.specs.Batch.{was_cancelled, next_batch, after_opening, after_commit, after_abandon, outcomes_of, after_outcomes}
-use Rattle.ride_model.specs.History.{awaited_after}
-use Rattle.ride_model.specs.History.Awaited.{any}
-use Rattle.ride_model.specs.Legal.{all_feeds_ended, replay, IsLegal, IsLegalEntry, CommitsBatch}
-use Rattle.ride_model.specs.Seating.{BatchCopy, seat_offer, seating_cost}
-use Rattle.ride_model.specs.State.{State, open_batch_numbered}
-use Rattle.batch_commit.specs.inner.Solved.{SolvedBatch}
+use Rattle.session_run.proofs.Common.{◌≡◌, ℕ, ◌+◌, Bool, true, false, cond, List, [], ◌∷◌, ◌++◌, Option, Some, None, lt-ltb, refl, sym, ap, subst, ◌∙◌, arith, append_assoc, option_and_then, nat_lt, ◌==◌, IsSome, IsSomeAnd, All, Desk, Entry, Seat, Ride, was_cancelled, next_batch, after_opening, after_commit, after_abandon, outcomes_of, after_outcomes, awaited_after, any, all_feeds_ended, replay, IsLegal, IsLegalEntry, CommitsBatch, BatchCopy, seat_offer, seating_cost, State, open_batch_numbered, SolvedBatch, IsOpenBatch, Opening, Recorded, state_of, opened_entry, committed_entry, abandoned_entry, state-push, same_batch, IsAsked, IsOpened, RunsBatch, Closes, settles, stays-outcomes}
 use Rattle.model_laws.proofs.plain.Each.{of_all, all_of}
 use Rattle.model_laws.proofs.Histories.{IsLegal-parts}
 use Rattle.model_laws.proofs.RequestStates.{others-opening, abandon-is}
-use Rattle.model_laws.specs.inner.history_laws.Consistent.{IsOpenBatch}
-use Rattle.board_core.specs.declared.opening.Opening.{Opening}
 use Rattle.board_core.specs.declared.opening.Opening.TheVariants.{Batch, Idle, Ended}
 use Rattle.board_core.specs.inner.Opening.{opening_at}
-use Rattle.board_core.specs.Recorded.{Recorded, state_of, opened_entry}
-use Rattle.board_core.specs.inner.Recorded.{committed_entry, abandoned_entry}
-use Rattle.board_core.proofs.OpenBatches.{state-push, same_batch}
-use Rattle.session_run.specs.inner.Running.{IsAsked, IsOpened, RunsBatch, Closes}
-use Rattle.session_run.specs.Settled.{settles}
 use Rattle.session_run.proofs.OneMoreEntry.{settled-push, awaited-push, gave_up-push, fed-desk, goes-then}
-use Rattle.model_laws.proofs.history_laws.Untouched.{stays-outcomes}
 use Rattle.model_laws.proofs.history_laws.OpenedBatches.{opened-not_cancelled, open-found, none-left, committed-state, abandoned-state}
 use Rattle.session_run.proofs.Settling.{outcomes-settled}
 

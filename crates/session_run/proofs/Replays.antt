@@ -1,47 +1,11 @@
 -- What a session's history gives at its end.
-use Rattle.std.proofs.Common.{◌≡◌, ℕ, Bool, true, false, cond, List, [], ◌∷◌, ◌++◌, Option, Some, None, eqb, eq-eqb, refl, sym, ap, subst, ◌∙◌, append_assoc, append-nil, inl, true≢false, arith}
-use Rattle.std.specs.Prelude.{IfSome, IsTrue, filter_map, ◌&&◌}
-use Rattle.std.specs.List.{list_any, list_all, range_with_len}
-use Rattle.ride_model.specs.declared.command.Actor.{Actor}
-use Rattle.ride_model.specs.declared.command.Actor.TheVariants.{Feed, Desk}
-use Rattle.ride_model.specs.declared.command.Command.{Command}
-use Rattle.ride_model.specs.declared.entry.Ending.{Ending}
-use Rattle.ride_model.specs.declared.entry.Ending.TheVariants.{Whole, Cut}
-use Rattle.ride_model.specs.declared.entry.Entry.{Entry}
-use Rattle.ride_model.specs.declared.settings.Settings.{Settings}
-use Rattle.ride_model.specs.declared.vehicle.Vehicle.{Vehicle}
-use Rattle.ride_model.specs.Fleet.{IsFleet, MayStart}
-use Rattle.ride_model.specs.History.{ended_whole, fed_commands, is_whole, entries_of, command_of}
-use Rattle.ride_model.specs.Legal.{IsLegal, replay}
-use Rattle.ride_model.specs.Road.{RoadMap, IsRoadMap}
-use Rattle.ride_model.specs.State.{State, start_state, is_actor}
-use Rattle.ride_ports.proofs.ByteLemmas.{Reads-to_end}
-use Rattle.ride_ports.specs.Bytes.{Reads}
-use Rattle.ride_ports.specs.declared.outcome.Ran.{Ran}
-use Rattle.ride_model.specs.Text.{HasText}
-use Rattle.line_text.specs.declared.line_reader.answers.ReadStop.TheVariants.{SourceFailed, TooLong}
+use Rattle.session_run.proofs.Common.{◌≡◌, ℕ, Bool, true, false, cond, List, [], ◌∷◌, ◌++◌, Option, Some, None, eqb, eq-eqb, refl, sym, ap, subst, ◌∙◌, append_assoc, append-nil, inl, true≢false, arith, IfSome, IsTrue, filter_map, ◌&&◌, list_any, list_all, range_with_len, Actor, Feed, Desk, Command, Ending, Whole, Cut, Entry, Settings, Vehicle, IsFleet, MayStart, ended_whole, fed_commands, entries_of, command_of, IsLegal, replay, RoadMap, IsRoadMap, State, start_state, is_actor, Reads-to_end, Reads, Ran, HasText, SourceFailed, TooLong, AreFirst, ended_commands, feed_limits, new_feed, IsStart, Recorded, state_of, end_entry, state-push, fed_commands-append, HasPut, OutputState, written-prefix, written-whole, Stop, NoMemory, OfFeed, IsLogged, is_source_failed, is_too_long, AreFirstOf, ending_of, HasEnded, IsPrompt, IsSession, IsRunning, IsSettled}
+use Rattle.ride_model.specs.History.{is_whole}
 use Rattle.command_lines.specs.Commands.{commands_of}
 use Rattle.line_text.specs.line_reader.Limits.{IsTooLong, IsWithinLimits}
-use Rattle.command_lines.specs.Limits.{AreFirst, ended_commands, feed_limits, new_feed}
-use Rattle.model_laws.specs.history_laws.Start.{IsStart}
 use Rattle.model_laws.proofs.history_laws.KeptHistory.{keeps_promises}
-use Rattle.board_core.specs.Recorded.{Recorded, state_of, end_entry}
-use Rattle.board_core.proofs.OpenBatches.{state-push}
-use Rattle.board_core.proofs.FedEntries.{fed_commands-append}
-use Rattle.line_text.specs.inner.text_page.Output.{HasPut, OutputState}
-use Rattle.line_text.proofs.text_page.OutputLemmas.{written-prefix, written-whole}
-use Rattle.line_text.specs.declared.line_reader.stops.Stop.{Stop}
-use Rattle.line_text.specs.declared.line_reader.stops.Stop.TheVariants.{NoMemory, OfFeed}
-use Rattle.session_run.specs.Logged.{IsLogged}
-use Rattle.line_text.specs.inner.line_reader.FeedRuns.{is_source_failed, is_too_long}
 use Rattle.line_text.specs.line_reader.FeedRuns.{IsReadWhole}
-use Rattle.session_loops.specs.Stops.{AreFirstOf}
-use Rattle.session_loops.specs.inner.Stops.{ending_of}
-use Rattle.session_run.specs.inner.Reading.{HasEnded}
 use Rattle.session_run.specs.Replay.{IsReplay}
-use Rattle.session_run.specs.Running.{IsPrompt}
-use Rattle.session_run.specs.inner.Running.{IsSession, IsRunning}
-use Rattle.session_run.specs.Settled.{IsSettled}
 use Rattle.session_run.proofs.Ends.{ends-prompt}
 use Rattle.session_run.proofs.OneMoreEntry.{settled-push}
 

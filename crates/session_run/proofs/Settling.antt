@@ -1,18 +1,7 @@
 -- The outcomes of a batch that is committed directly after its opening.
-use Rattle.std.proofs.Common.{◌≡◌, ℕ, inl, inr, true, false, List, [], ◌∷◌, Option, Some, None, refl, ap, ◌∙◌}
-use Rattle.std.specs.Prelude.{map, nat_eq, ◌==◌, All, IsSome}
-use Rattle.std.specs.List.{list_all, IsDistinct}
-use Rattle.std.proofs.lemmas.Bool.{and_from}
-use Rattle.ride_model.specs.declared.entry.Outcome.{Outcome}
-use Rattle.ride_model.specs.declared.offer.Seat.{Seat}
-use Rattle.ride_model.specs.declared.vehicle.Ride.{Ride}
-use Rattle.ride_model.specs.Batch.{was_cancelled, seat_of, seated_outcome, outcome_by, outcome_of}
-use Rattle.ride_model.specs.Seating.{BatchCopy, vehicle_ids, seat_offer}
-use Rattle.ride_model.specs.State.{State}
-use Rattle.ride_model.specs.Vehicle.{ride_ids}
+use Rattle.session_run.proofs.Common.{◌≡◌, ℕ, inl, inr, true, false, List, [], ◌∷◌, Option, Some, None, refl, ap, ◌∙◌, map, nat_eq, ◌==◌, All, IsSome, list_all, IsDistinct, and_from, Outcome, Seat, Ride, was_cancelled, seat_of, seated_outcome, outcome_by, outcome_of, BatchCopy, vehicle_ids, seat_offer, State, ride_ids, is_settled}
 use Rattle.model_laws.proofs.plain.Among.{Among, found_among}
 use Rattle.model_laws.proofs.history_laws.StandingSeats.{seated-confirmed}
-use Rattle.session_run.specs.Settled.{is_settled}
 
 module _ (s : State) (batch : BatchCopy) (seats : List Seat) (vehicles_stand : batch.vehicles ≡ s.vehicles) (time_is : batch.time ≡ s.clock)
     (differ : IsDistinct nat_eq (vehicle_ids batch.vehicles)) (offered : All (λ seat. IsSome (seat_offer s.roads batch seat)) seats) where

@@ -1,25 +1,5 @@
 -- What was told of a session that goes on.
-use Rattle.std.proofs.Common.{◌≡◌, ℕ, Bool, true, false, cond, List, [], ◌∷◌, ◌++◌, Option, Some, None, length, take, refl, sym, ap, subst, ◌∙◌, append_assoc, append-nil}
-use Rattle.std.proofs.Math.Seq.{take-append_seam}
-use Rattle.std.specs.Prelude.{◌||◌, not}
-use Rattle.std.proofs.lemmas.List.Concat.{flat_map-append}
-use Rattle.ride_model.specs.declared.entry.Ending.{Ending}
-use Rattle.ride_model.specs.declared.entry.Entry.{Entry}
-use Rattle.ride_model.specs.Text.{text_of}
-use Rattle.ride_model.specs.declared.command.Actor.TheVariants.{Feed, Desk}
-use Rattle.board_core.specs.Recorded.{Recorded, end_entry}
-use Rattle.idle_moves.specs.declared.moves.MoveSheet.{MoveSheet}
-use Rattle.idle_moves.specs.AheadText.{ahead_text, head_line, last_line, sheet_line, sheet_lines}
-use Rattle.idle_moves.specs.HistorySheets.{AreSheetsOf}
-use Rattle.line_text.specs.inner.text_page.Output.{HasPut, OutputState}
-use Rattle.session_run.specs.declared.batches.Answered.{Answered}
-use Rattle.session_run.specs.Ahead.{sheets_text}
-use Rattle.session_run.specs.inner.SessionState.{SessionState}
-use Rattle.session_run.specs.inner.Planning.{is_whole, sheets_in}
-use Rattle.session_run.specs.inner.Reading.{HasToldAllBy, HasToldBy, IsTold, TellsSheets}
-use Rattle.session_run.specs.Running.{IsPrompt}
-use Rattle.session_run.specs.inner.Running.{GoesOn}
-use Rattle.session_run.specs.inner.Telling.{GoesOnTo, GoesOnWith}
+use Rattle.session_run.proofs.Common.{◌≡◌, ℕ, Bool, true, false, cond, List, [], ◌∷◌, ◌++◌, Option, Some, None, length, take, refl, sym, ap, subst, ◌∙◌, append_assoc, append-nil, take-append_seam, ◌||◌, not, flat_map-append, Ending, Entry, text_of, Feed, Desk, Recorded, end_entry, MoveSheet, ahead_text, head_line, last_line, sheet_line, sheet_lines, AreSheetsOf, HasPut, OutputState, Answered, sheets_text, SessionState, is_whole, sheets_in, HasToldAllBy, HasToldBy, IsTold, TellsSheets, IsPrompt, GoesOn, GoesOnTo, GoesOnWith}
 use Rattle.session_run.proofs.CommitSheets.{adds-ends}
 use Rattle.session_run.proofs.Ends.{ends-prompt}
 

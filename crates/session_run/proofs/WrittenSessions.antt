@@ -1,25 +1,5 @@
 -- What was written of a session, at its end.
-use Rattle.std.proofs.Common.{◌≡◌, ℕ, Bool, true, false, cond, inr, List, [], Option, Some, None, refl, sym, ap, subst, ◌∙◌}
-use Rattle.std.specs.Prelude.{◌||◌}
-use Rattle.ride_model.specs.declared.entry.Ending.{Ending}
-use Rattle.ride_model.specs.declared.entry.Ending.TheVariants.{Whole, Cut}
-use Rattle.ride_model.specs.State.{State}
-use Rattle.ride_model.specs.Text.{text_of}
-use Rattle.ride_ports.specs.declared.outcome.Ran.{Ran}
-use Rattle.line_text.specs.declared.line_reader.answers.ReadStop.TheVariants.{SourceFailed, TooLong}
-use Rattle.board_core.specs.Recorded.{Recorded}
-use Rattle.idle_moves.specs.declared.moves.MoveSheet.{MoveSheet}
-use Rattle.idle_moves.specs.AheadText.{ahead_text}
-use Rattle.idle_moves.specs.HistorySheets.{AreSheetsOf}
-use Rattle.line_text.specs.inner.text_page.Output.{HasPut}
-use Rattle.line_text.specs.declared.line_reader.stops.Stop.{Stop}
-use Rattle.line_text.specs.declared.line_reader.stops.Stop.TheVariants.{NoMemory, OfFeed}
-use Rattle.session_run.specs.Ahead.{IsWrittenBy, feed_ending, sheets_text}
-use Rattle.session_run.specs.Logged.{IsLogged}
-use Rattle.session_run.specs.inner.SessionState.{SessionState}
-use Rattle.line_text.specs.inner.line_reader.FeedRuns.{is_source_failed, is_too_long}
-use Rattle.session_loops.specs.inner.Stops.{ending_of}
-use Rattle.session_run.specs.inner.Reading.{HasEnded, HasToldAll, HasToldAllBy}
+use Rattle.session_run.proofs.Common.{◌≡◌, ℕ, Bool, true, false, cond, inr, List, [], Option, Some, None, refl, sym, ap, subst, ◌∙◌, ◌||◌, Ending, Whole, Cut, State, text_of, Ran, SourceFailed, TooLong, Recorded, MoveSheet, ahead_text, AreSheetsOf, HasPut, Stop, NoMemory, OfFeed, IsWrittenBy, feed_ending, sheets_text, IsLogged, SessionState, is_source_failed, is_too_long, ending_of, HasEnded, HasToldAll, HasToldAllBy}
 use Rattle.session_run.proofs.Replays.{is-logged}
 
 -- how a feed ended, by what stopped it

@@ -7,6 +7,7 @@ mod answers;
 mod batches;
 mod drills;
 mod one_feed;
+mod outset;
 mod replaying;
 mod sending;
 mod session;

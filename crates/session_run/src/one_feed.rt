@@ -1,11 +1,7 @@
 //! Sessions of one feed.
-ghost use Rattle.std.specs.Prelude.{◌≡◌, ℕ, ◌≤◌, [], false, List, Option, Some, IfOk, IfSome};
-ghost use Rattle.ride_model.specs.Fleet.{MayStart};
-ghost use Rattle.std.specs.Option.{ForSome};
+ghost use Rattle.std.specs.Prelude.{◌≡◌, ℕ, [], false, List, Option, Some, IfOk, IfSome};
 ghost use Rattle.ride_model.specs.declared.entry.Entry.{Entry};
 ghost use Rattle.ride_model.specs.History.{fed_commands};
-ghost use Rattle.ride_model.specs.State.{start_state};
-ghost use Rattle.ride_model.specs.Limits.{longest_reach};
 ghost use Rattle.ride_ports.specs.Bytes.{Reads};
 ghost use Rattle.ride_ports.specs.Count.{KeepsCount};
 ghost use Rattle.command_lines.specs.inner.Feeds.{HasGiven};
@@ -17,15 +13,13 @@ ghost use Rattle.session_run.specs.inner.Reading.{HasRun, HasTold};
 ghost use Rattle.line_text.specs.line_reader.FeedRuns.{IsReadWhole};
 ghost use Rattle.session_run.specs.Replay.{IsReplay};
 ghost use Rattle.session_run.specs.inner.Running.{IsRunning};
-ghost use Rattle.session_run.specs.inner.Writing.{reach_of};
 
+use crate::outset::Outset;
 use crate::session::Session;
-use crate::writes::Writes;
-use adaptive_roads::Roads;
 use command_lines::{FeedForm, FeedReader};
 use line_text::line_reader::{Stop, is_source_failed, is_too_long};
 use pricing_workers::workers_at_hand;
-use ride_model::{Fleet, NoMemory, Settings};
+use ride_model::NoMemory;
 use ride_ports::{Ran, Sink, Source};
 use session_loops::ending_of;
 use std::alloc::Global;
@@ -36,19 +30,14 @@ use std::thread::Threads;
 pub(crate) fn run_one_feed<R: Threads + Sync, S: Source, K: Sink>(
     rt: &R,
     alloc: Global,
-    roads: &Roads,
-    settings: Settings,
-    fleet: Fleet,
+    outset: Outset<'_>,
     feed: &mut S,
-    writes: Writes,
     out: &mut K,
 ) -> Ran
-    requires start { MayStart roads.now settings fleet }
-    requires reach_limit { ForSome (reach_of writes) (λ r. r ≤ longest_reach) }
     ensures session { (taken : List ℕ) × (entries : List Entry)
         × Reads (S.left feed.old) (S.left feed.new) taken
-        × IsReplay (start_state roads.now settings fleet) result (S.left feed.old) taken entries
-        × IsWrittenBy (reach_of writes) (start_state roads.now settings fleet) result taken entries
+        × IsReplay outset.entry.start result (S.left feed.old) taken entries
+        × IsWrittenBy outset.entry.reach outset.entry.start result taken entries
         (K.written out.old) (K.written out.new) }
     ensures to_end { result.no_memory ≡ false → IsReadWhole result
         → IfSome (S.left feed.new) (λ bytes. bytes ≡ []) }
@@ -57,9 +46,9 @@ pub(crate) fn run_one_feed<R: Threads + Sync, S: Source, K: Sink>(
     ensures sink_faults { KeepsCount result.sink_failed (K.faults out.old) (K.faults out.new) }
 {
     // These calls tell that the map and the fleet are within their limits.
-    let _nodes = roads.nodes();
-    let _vehicles = fleet.vehicles();
-    let Ok((mut session, mut reader)) = prepare(rt, alloc, roads, settings, fleet, writes) else {
+    let _nodes = outset.roads.nodes();
+    let _vehicles = outset.fleet.vehicles();
+    let Ok((mut session, mut reader)) = prepare(rt, alloc, outset) else {
         return Ran {
             sink_failed: false,
             no_memory: true,
@@ -84,26 +73,19 @@ pub(crate) fn run_one_feed<R: Threads + Sync, S: Source, K: Sink>(
 fn prepare<'r>(
     rt: &impl Threads,
     alloc: Global,
-    roads: &'r Roads,
-    settings: Settings,
-    fleet: Fleet,
-    writes: Writes,
+    outset: Outset<'r>,
 ) -> Result<(Session<'r>, FeedReader), NoMemory>
-    requires start { MayStart roads.now settings fleet }
-    requires reach_limit { ForSome (reach_of writes) (λ r. r ≤ longest_reach) }
-    ensures start { IfOk result (λ made. made.0.board.start
-        ≡ start_state roads.now settings fleet) }
+    ensures start { IfOk result (λ made. made.0.board.start ≡ outset.entry.start) }
     ensures history { IfOk result (λ made. made.0.board.history ≡ []) }
     ensures running { IfOk result (λ made. IsRunning made.0.board made.0.no_memory) }
     ensures output { IfOk result (λ made. IsFresh made.0.output) }
-    ensures reach { IfOk result (λ made. made.0.reach ≡ reach_of writes) }
-    ensures form { IfOk result (λ made. made.1.form ≡ new_feed settings.log) }
+    ensures reach { IfOk result (λ made. made.0.reach ≡ outset.entry.reach) }
+    ensures form { IfOk result (λ made. made.1.form ≡ new_feed outset.entry.start.settings.log) }
     ensures nothing_given { IfOk result
         (λ made. (left : Option (List ℕ)) → HasGiven made.1 left [] []) }
 {
-    let reader = FeedReader::new(alloc, FeedForm::new(settings.log))?;
-    let workers = workers_at_hand(rt);
-    let session = Session::new(alloc, roads, settings, fleet, workers, writes)?;
+    let reader = FeedReader::new(alloc, FeedForm::new(outset.settings.log))?;
+    let session = Session::new(alloc, outset, workers_at_hand(rt))?;
     Ok((session, reader))
 }
 

@@ -11,6 +11,7 @@ ghost use Rattle.line_text.specs.line_reader.FeedRuns.{IsReadWhole};
 ghost use Rattle.session_run.specs.Replay.{IsReplay};
 
 use crate::one_feed::run_one_feed;
+use crate::outset::Outset;
 use crate::writes::Writes;
 use adaptive_roads::Roads;
 use ride_model::{Fleet, Settings};
@@ -43,5 +44,6 @@ pub fn replay<R: Threads + Sync, S: Source, K: Sink>(
         (S.faults feed.old) (S.faults feed.new) }
     ensures sink_faults { KeepsCount result.sink_failed (K.faults out.old) (K.faults out.new) }
 {
-    run_one_feed(rt, alloc, roads, settings, fleet, feed, Writes::Log, out)
+    let outset = Outset::new(roads, settings, fleet, Writes::Log);
+    run_one_feed(rt, alloc, outset, feed, out)
 }

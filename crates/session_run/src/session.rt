@@ -1,14 +1,10 @@
 //! A board, and what is written of it.
 ghost use Rattle.std.specs.Prelude.{◌≡◌, ℕ, ◌<◌, ◌≤◌, ◌++◌, ◌∷◌, ◌||◌, [], length, take, not, false, true, if◌then◌else◌, nat_eq, IfOk, OnErr, OnOk, List, Option, Some};
-ghost use Rattle.ride_model.specs.Fleet.{MayStart};
-ghost use Rattle.std.specs.Option.{ForSome};
 ghost use Rattle.ride_model.specs.declared.command.Actor.TheVariants.{Desk, Feed};
 ghost use Rattle.ride_model.specs.declared.entry.Ending.TheVariants.{Cut, Whole};
 ghost use Rattle.ride_model.specs.History.{fed_commands};
 ghost use Rattle.ride_model.specs.Legal.{IsLegal};
-ghost use Rattle.ride_model.specs.State.{start_state};
 ghost use Rattle.ride_model.specs.Text.{HasText, IsSpelledCommand, text_of};
-ghost use Rattle.ride_model.specs.Limits.{longest_reach};
 ghost use Rattle.ride_model.specs.inner.Limits.{most_commands};
 ghost use Rattle.board_core.specs.Recorded.{Recorded, end_entry, state_of};
 ghost use Rattle.idle_moves.specs.AheadText.{last_line, sheet_lines};
@@ -17,17 +13,16 @@ ghost use Rattle.session_run.specs.inner.Planning.{is_whole, sheets_in};
 ghost use Rattle.session_run.specs.inner.Reading.{HasTold, HasToldAll, IsTold};
 ghost use Rattle.session_run.specs.inner.Telling.{GoesOnTo, GoesOnWith};
 ghost use Rattle.session_run.specs.inner.Running.{IsRunning, IsSession, Stops};
-ghost use Rattle.session_run.specs.inner.Writing.{reach_of};
 
 use crate::answers::answer;
 use crate::batches::Answered;
+use crate::outset::Outset;
 use crate::sheets::{put_end, put_reach, put_sheet};
 use crate::tools::Tools;
 use crate::writes::Writes;
-use adaptive_roads::Roads;
 use board_core::Board;
 use line_text::text_page::Output;
-use ride_model::{Actor, Command, Ending, Entry, Fleet, NoMemory, Settings};
+use ride_model::{Actor, Command, Ending, Entry, NoMemory};
 use ride_ports::Sink;
 use session_loops::{put_all, put_head};
 use std::alloc::Global;
@@ -83,23 +78,23 @@ impl<'r> Session<'r> {
     /// A session at its start, of which nothing is written.
     pub(crate) fn new(
         alloc: Global,
-        roads: &'r Roads,
-        settings: Settings,
-        fleet: Fleet,
+        outset: Outset<'r>,
         workers: usize,
-        writes: Writes,
     ) -> Result<Session<'r>, NoMemory>
         requires workers { 1 ≤ workers }
-        requires reach_limit { ForSome (reach_of writes) (λ r. r ≤ longest_reach) }
-        requires start { MayStart roads.now settings fleet }
-        ensures start { IfOk result (λ session. session.board.start
-            ≡ start_state roads.now settings fleet) }
+        ensures start { IfOk result (λ session. session.board.start ≡ outset.entry.start) }
         ensures history { IfOk result (λ session. session.board.history ≡ []) }
         ensures running { IfOk result (λ session. IsRunning session.board session.no_memory) }
         ensures output { IfOk result (λ session. IsFresh session.output) }
-        ensures reach { IfOk result (λ session. session.reach ≡ reach_of writes) }
+        ensures reach { IfOk result (λ session. session.reach ≡ outset.entry.reach) }
         ensures memory { IfOk result (λ session. session.no_memory ≡ false) }
     {
+        let Outset {
+            roads,
+            settings,
+            fleet,
+            writes,
+        } = outset;
         let tools = Tools::new(alloc, roads, workers)?;
         let output = Output::new(alloc)?;
         let board = Board::new(alloc, roads, settings, fleet, 1, 1)?;

@@ -1,8 +1,5 @@
 -- Arrivals, and when a vehicle leaves for a place.
-use Rattle.std.proofs.Common.{◌≡◌, ℕ, zero, suc, ◌+◌, ◌-◌, ◌<◌, ◌≤◌, List, [], ◌∷◌, length, get_or, refl, ◌∙◌, ap, arith}
-use Rattle.model_laws.proofs.plain.Numbers.{suc-less_one}
-use Rattle.insertion.proofs.PlanTimes.{leave-read}
-use Rattle.slack_tables.specs.inner.Search.{leave_at, last_time}
+use Rattle.slack_tables.proofs.Common.{◌≡◌, ℕ, zero, suc, ◌+◌, ◌-◌, ◌<◌, ◌≤◌, List, [], ◌∷◌, length, get_or, refl, ◌∙◌, ap, arith, suc-less_one, leave-read, leave_at, last_time}
 
 -- the last arrival
 pub last-read : (start : ℕ) (times : List ℕ) (d : ℕ) → 0 < length times → get_or times (length times - 1) d ≡ last_time start times

@@ -1,35 +1,8 @@
 -- The cheapest pair of places by the tables is a cheapest offer.
-use Rattle.std.proofs.Common.{◌≡◌, ℕ, ◌+◌, ◌-◌, ◌<◌, ◌≤◌, ◌⊎◌, inl, inr, Bool, true, false, cond, ◌&&◌, length, leb, leb-true, le-leb, refl, sym, ◌∙◌, ap, subst, arith}
-use Rattle.std.specs.Prelude.{map, Some, None, option_map}
-use Rattle.std.specs.List.{range_with_len}
-use Rattle.std.proofs.lemmas.Bool.{and_from, and_parts}
-use Rattle.std.proofs.lemmas.Option.{same_Some}
-use Rattle.model_laws.proofs.plain.Numbers.{less_or_same, le_or_lt}
-use Rattle.ride_model.specs.declared.offer.Joins.{Joins}
-use Rattle.ride_model.specs.declared.offer.Offer.{Offer}
-use Rattle.ride_model.specs.declared.settings.Settings.{Settings}
-use Rattle.ride_model.specs.declared.vehicle.Ride.{Ride}
-use Rattle.ride_model.specs.declared.vehicle.Vehicle.{Vehicle}
-use Rattle.ride_model.specs.Road.{RoadMap, least_of}
-use Rattle.ride_model.specs.Vehicle.{IsRouted}
-use Rattle.ride_model.specs.Loads.{loads_fit}
-use Rattle.ride_model.specs.Keeps.{keeps}
-use Rattle.ride_model.specs.Offers.{is_open, start_of, joins_of, offer_of, offer_of_plan, price, cost_of as plan_cost}
+use Rattle.slack_tables.proofs.Common.{◌≡◌, ℕ, ◌+◌, ◌-◌, ◌<◌, ◌≤◌, ◌⊎◌, inl, inr, Bool, true, false, cond, ◌&&◌, length, leb, leb-true, le-leb, refl, sym, ◌∙◌, ap, subst, arith, map, Some, None, option_map, range_with_len, and_from, and_parts, same_Some, less_or_same, le_or_lt, Joins, Offer, Settings, Ride, Vehicle, RoadMap, least_of, IsRouted, loads_fit, keeps, is_open, start_of, joins_of, offer_of, offer_of_plan, price, inserts-into, length-times, keeps-vehicle, Near, IsAsked, joins_near, cost_if_any, least_with_pickup, joins-law, no-places, no-room, no-legs, inserts, of-plan, new-routed, price-least, Found, Terms, PlanSlack, slack_of, terms_of, cost_at, least_at, least_from, IsFound, IsSearch}
+use Rattle.ride_model.specs.Offers.{cost_of as plan_cost}
 use Rattle.model_laws.proofs.Costs.{offer_plan}
-use Rattle.stop_plans.proofs.InsertedLegs.{inserts-into}
-use Rattle.promises.proofs.Visits.{length-times, keeps-vehicle}
-use Rattle.insertion.specs.declared.near.Near.{Near}
-use Rattle.insertion.specs.inner.Asked.{IsAsked}
-use Rattle.insertion.specs.inner.Joined.{joins_near}
-use Rattle.insertion.specs.inner.Least.{cost_if_any, least_with_pickup}
-use Rattle.insertion.proofs.OfferLaws.{joins-law, no-places, no-room, no-legs, inserts, of-plan, new-routed}
-use Rattle.insertion.proofs.LeastOffers.{price-least}
-use Rattle.slack_tables.specs.declared.found.Found.{Found}
-use Rattle.slack_tables.specs.declared.terms.Terms.{Terms}
-use Rattle.slack_tables.specs.inner.Tables.{PlanSlack}
 use Rattle.slack_tables.specs.inner.Offered.{offer_with}
-use Rattle.slack_tables.specs.inner.SlackOf.{slack_of}
-use Rattle.slack_tables.specs.inner.Search.{terms_of, cost_at, least_at, least_from, IsFound, IsSearch}
 use Rattle.slack_tables.proofs.NearTimes.{is_search}
 use Rattle.slack_tables.proofs.Ranges.{least-same, least-none}
 use Rattle.slack_tables.proofs.WithRide.{with_ride, IsWith, kept_fits}

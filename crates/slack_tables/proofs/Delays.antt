@@ -1,11 +1,5 @@
 -- Arrivals of a plan with one stop more: one arrival more, and those behind it later.
-use Rattle.std.proofs.Common.{◌≡◌, ℕ, zero, suc, ◌+◌, ◌<◌, ◌≤◌, List, [], ◌∷◌, length, slice_index, refl, ◌∙◌, ap, arith}
-use Rattle.std.specs.Prelude.{insert}
-use Rattle.model_laws.proofs.plain.Numbers.{swap-last}
-use Rattle.ride_model.specs.declared.vehicle.Stop.{Stop}
-use Rattle.ride_model.specs.Times.{times_from}
-use Rattle.stop_plans.specs.inner.Legged.{relegged, with_stop}
-use Rattle.slack_tables.specs.inner.Search.{leave_at, last_time}
+use Rattle.slack_tables.proofs.Common.{◌≡◌, ℕ, zero, suc, ◌+◌, ◌<◌, ◌≤◌, List, [], ◌∷◌, length, slice_index, refl, ◌∙◌, ap, arith, insert, swap-last, Stop, times_from, relegged, with_stop, leave_at, last_time}
 
 -- arrivals of which those from a place on are later by d
 abbrev pub delayed : ℕ → ℕ → List ℕ → List ℕ

@@ -1,14 +1,5 @@
 -- A detour takes no less time: the stop behind new ones is reached no sooner.
-use Rattle.std.proofs.Common.{◌≡◌, ℕ, zero, suc, ◌+◌, ◌<◌, ◌≤◌, List, [], ◌∷◌, length, slice_index, refl, subst, arith}
-use Rattle.std.specs.Prelude.{Some, None, IsSomeAnd}
-use Rattle.std.specs.List.{AllByRecursion}
-use Rattle.ride_model.specs.declared.vehicle.Stop.{Stop}
-use Rattle.ride_model.specs.Road.{RoadMap, IsRoadMap, travel}
-use Rattle.ride_model.specs.Vehicle.{HasLegs}
-use Rattle.ride_model.specs.Times.{times_from}
-use Rattle.model_laws.proofs.TravelTimes.{triangle}
-use Rattle.insertion.proofs.Joined.{before_place, after_place}
-use Rattle.slack_tables.specs.inner.Search.{leave_at}
+use Rattle.slack_tables.proofs.Common.{◌≡◌, ℕ, zero, suc, ◌+◌, ◌<◌, ◌≤◌, List, [], ◌∷◌, length, slice_index, refl, subst, arith, Some, None, IsSomeAnd, AllByRecursion, Stop, RoadMap, IsRoadMap, travel, HasLegs, times_from, triangle, before_place, after_place, leave_at}
 
 -- a direct way is no longer than one of two legs
 direct-le : (roads : RoadMap) (x y z a b leg : ℕ) → IsRoadMap roads → travel roads x y ≡ Some a → travel roads y z ≡ Some b

@@ -1,12 +1,5 @@
 -- What a plan with a ride more drives.
-use Rattle.std.proofs.Common.{◌≡◌, ℕ, zero, suc, ◌+◌, ◌<◌, ◌≤◌, List, [], ◌∷◌, length, slice_index, refl, sym, ◌∙◌, ap, arith}
-use Rattle.std.specs.Prelude.{insert, Some, None, unwrap_or}
-use Rattle.std.specs.List.{last_or}
-use Rattle.insertion.proofs.PlanTimes.{last-is}
-use Rattle.ride_model.specs.declared.vehicle.Stop.{Stop}
-use Rattle.ride_model.specs.declared.vehicle.Vehicle.{Vehicle}
-use Rattle.ride_model.specs.Times.{times_from, times_of, drive_of}
-use Rattle.slack_tables.specs.inner.Search.{last_time}
+use Rattle.slack_tables.proofs.Common.{◌≡◌, ℕ, zero, suc, ◌+◌, ◌<◌, ◌≤◌, List, [], ◌∷◌, length, slice_index, refl, sym, ◌∙◌, ap, arith, insert, Some, None, unwrap_or, last_or, last-is, Stop, Vehicle, times_from, times_of, drive_of, last_time}
 use Rattle.slack_tables.proofs.Delays.{delayed, length-delayed, length-insert, last-insert, last-inserted, last-delayed}
 use Rattle.slack_tables.proofs.RideRooms.{twice_delayed}
 use Rattle.slack_tables.proofs.WithRide.{arrivals_with}

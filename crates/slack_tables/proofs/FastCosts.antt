@@ -1,36 +1,5 @@
 -- The costs by the tables are those of the offers.
-use Rattle.std.proofs.Common.{◌≡◌, ℕ, ◌+◌, ◌-◌, ◌<◌, ◌≤◌, ◌⊎◌, inl, inr, Bool, true, false, cond, ◌&&◌, length, eqb, leb, le-leb, refl, sym, ◌∙◌, ap, subst, arith, slice_index}
-use Rattle.std.specs.Prelude.{Option, Some, None}
-use Rattle.std.proofs.lemmas.Bool.{eqb-true, eq-eqb, and_from}
-use Rattle.std.proofs.lemmas.List.Elements.{recursion_from_All}
-use Rattle.std.proofs.lemmas.Option.{same_Some}
-use Rattle.model_laws.proofs.plain.Numbers.{less_or_same, eqb-less, swap-last}
-use Rattle.ride_model.specs.declared.offer.Joins.{Joins}
-use Rattle.ride_model.specs.declared.offer.Offer.{Offer}
-use Rattle.ride_model.specs.declared.settings.Settings.{Settings}
-use Rattle.ride_model.specs.declared.vehicle.Ride.{Ride}
-use Rattle.ride_model.specs.declared.vehicle.Vehicle.{Vehicle}
-use Rattle.ride_model.specs.Road.{RoadMap}
-use Rattle.ride_model.specs.Vehicle.{IsRouted}
-use Rattle.ride_model.specs.Times.{times_from, times_of}
-use Rattle.ride_model.specs.Keeps.{keeps}
-use Rattle.ride_model.specs.Insertion.{pickup_of, dropoff_of}
-use Rattle.ride_model.specs.Offers.{is_open, start_of, offer_of, offer_of_plan}
-use Rattle.model_laws.proofs.TravelTimes.{travel-le}
-use Rattle.stop_plans.specs.inner.Legged.{with_leg}
-use Rattle.stop_plans.proofs.InsertedLegs.{inserts-into}
-use Rattle.promises.proofs.Visits.{length-times, times-soon}
-use Rattle.insertion.specs.declared.near.Near.{Near}
-use Rattle.insertion.specs.declared.near.NearStop.{NearStop}
-use Rattle.insertion.specs.inner.Asked.{IsAsked}
-use Rattle.insertion.specs.inner.Joined.{leg_before, leg_after, four_legs, joins_near}
-use Rattle.insertion.specs.inner.Least.{cost_if_any}
-use Rattle.insertion.proofs.OfferLaws.{no-legs, inserts, of-plan, new-routed}
-use Rattle.insertion.proofs.PlanTimes.{start-le}
-use Rattle.slack_tables.specs.declared.terms.Terms.{Terms}
-use Rattle.slack_tables.specs.inner.Tables.{PlanSlack}
-use Rattle.slack_tables.specs.inner.SlackOf.{slack_of}
-use Rattle.slack_tables.specs.inner.Search.{terms_of, leave_at, cost_at}
+use Rattle.slack_tables.proofs.Common.{◌≡◌, ℕ, ◌+◌, ◌-◌, ◌<◌, ◌≤◌, ◌⊎◌, inl, inr, Bool, true, false, cond, ◌&&◌, length, eqb, leb, le-leb, refl, sym, ◌∙◌, ap, subst, arith, slice_index, Option, Some, None, eqb-true, eq-eqb, and_from, recursion_from_All, same_Some, less_or_same, eqb-less, swap-last, Joins, Offer, Settings, Ride, Vehicle, RoadMap, IsRouted, times_from, times_of, keeps, pickup_of, dropoff_of, is_open, start_of, offer_of, offer_of_plan, travel-le, with_leg, inserts-into, length-times, times-soon, Near, NearStop, IsAsked, leg_before, leg_after, four_legs, joins_near, cost_if_any, no-legs, inserts, of-plan, new-routed, start-le, Terms, PlanSlack, slack_of, terms_of, leave_at, cost_at}
 use Rattle.slack_tables.proofs.Delays.{delayed, length-delayed, index-insert, with-two}
 use Rattle.slack_tables.proofs.WithRide.{with_ride, arrivals_with, arrivals-two, IsWith}
 use Rattle.slack_tables.proofs.Detours.{detour-one, detour-two, leave-le}

@@ -1,17 +1,5 @@
 -- When a pair of places has a cost by the tables.
-use Rattle.std.proofs.Common.{◌≡◌, ℕ, ◌+◌, ◌-◌, ◌<◌, ◌≤◌, Bool, true, false, cond, length, eqb, leb, leb-true, le-leb, refl, sym, ◌∙◌, ap, arith, slice_index}
-use Rattle.std.specs.Prelude.{Option, Some, None, option_map, option_and_then}
-use Rattle.std.proofs.lemmas.Bool.{eqb-true, eq-eqb, and_from, and_parts}
-use Rattle.std.proofs.lemmas.Option.{same_Some}
-use Rattle.model_laws.proofs.plain.Numbers.{eqb-less, less_if_differs}
-use Rattle.insertion.specs.declared.near.Near.{Near}
-use Rattle.insertion.specs.declared.near.NearStop.{NearStop}
-use Rattle.insertion.specs.inner.Joined.{leg_before, leg_after, four_legs, joins_near, to_pickup_of, after_pickup_of, to_dropoff_of, after_dropoff_of}
-use Rattle.insertion.proofs.NearLegs.{after-none}
-use Rattle.ride_model.specs.declared.offer.Joins.{Joins}
-use Rattle.slack_tables.specs.declared.terms.Terms.{Terms}
-use Rattle.slack_tables.specs.inner.Tables.{PlanSlack, room_at}
-use Rattle.slack_tables.specs.inner.Search.{leave_at, last_time, has_room_between, at_most, pickup_at, lateness, within_rooms, added, cost_of, cost_of_dropoff, cost_together, cost_apart, cost_at}
+use Rattle.slack_tables.proofs.Common.{◌≡◌, ℕ, ◌+◌, ◌-◌, ◌<◌, ◌≤◌, Bool, true, false, cond, length, eqb, leb, leb-true, le-leb, refl, sym, ◌∙◌, ap, arith, slice_index, Option, Some, None, option_map, option_and_then, eqb-true, eq-eqb, and_from, and_parts, same_Some, eqb-less, less_if_differs, Near, NearStop, leg_before, leg_after, four_legs, joins_near, to_pickup_of, after_pickup_of, to_dropoff_of, after_dropoff_of, after-none, Joins, Terms, PlanSlack, room_at, leave_at, last_time, has_room_between, at_most, pickup_at, lateness, within_rooms, added, cost_of, cost_of_dropoff, cost_together, cost_apart, cost_at}
 
 -- what a pair of places must be to have a cost, with these times of the two new stops and these delays
 pub record Judged (terms : Terms) (slack : PlanSlack) (i j pickup late dropoff delay : ℕ) : Type 0 where

@@ -1,3 +1,4 @@
+pub mod Common
 pub mod Ranges
 pub mod Visits
 pub mod Arrivals

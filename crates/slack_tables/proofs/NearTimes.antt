@@ -1,26 +1,5 @@
 -- The times near a ride: which legs they are, and that they are short.
-use Rattle.std.proofs.Common.{◌≡◌, ℕ, zero, suc, ◌≤◌, List, [], ◌∷◌, length, refl, sym, ◌∙◌, ap, subst, arith}
-use Rattle.std.specs.Prelude.{map, All, Some, None}
-use Rattle.std.specs.List.{AllByRecursion}
-use Rattle.std.proofs.lemmas.List.{length-map}
-use Rattle.std.proofs.lemmas.List.Elements.{All-from_recursion}
-use Rattle.std.proofs.lemmas.Option.{same_Some}
-use Rattle.ride_model.specs.declared.vehicle.Ride.{Ride}
-use Rattle.ride_model.specs.declared.vehicle.Stop.{Stop}
-use Rattle.ride_model.specs.declared.vehicle.Vehicle.{Vehicle}
-use Rattle.ride_model.specs.declared.settings.Settings.{Settings}
-use Rattle.ride_model.specs.Road.{RoadMap, IsRoadMap, travel}
-use Rattle.ride_model.specs.Offers.{start_of}
-use Rattle.model_laws.proofs.TravelTimes.{travel-le}
-use Rattle.promises.proofs.Visits.{length-times}
-use Rattle.insertion.specs.declared.near.Near.{Near}
-use Rattle.insertion.specs.declared.near.NearStop.{NearStop}
-use Rattle.insertion.specs.inner.Asked.{near_stop, HoldsTimes, IsAsked}
-use Rattle.insertion.specs.inner.Joined.{leg_before, leg_after}
-use Rattle.insertion.proofs.Joined.{before_place, after_place, before-noted, after-noted}
-use Rattle.insertion.proofs.PlanTimes.{start-le}
-use Rattle.slack_tables.specs.inner.SlackOf.{slack_of}
-use Rattle.slack_tables.specs.inner.Search.{terms_of, IsShort, IsNearStop, IsSearch}
+use Rattle.slack_tables.proofs.Common.{◌≡◌, ℕ, zero, suc, ◌≤◌, List, [], ◌∷◌, length, refl, sym, ◌∙◌, ap, subst, arith, map, All, Some, None, AllByRecursion, length-map, All-from_recursion, same_Some, Ride, Stop, Vehicle, Settings, RoadMap, IsRoadMap, travel, start_of, travel-le, length-times, Near, NearStop, near_stop, HoldsTimes, IsAsked, leg_before, leg_after, before_place, after_place, before-noted, after-noted, start-le, slack_of, terms_of, IsShort, IsNearStop, IsSearch}
 use Rattle.slack_tables.proofs.TableLaws.{are_tables}
 
 -- the legs near a ride are travel times

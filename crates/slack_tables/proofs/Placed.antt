@@ -1,27 +1,6 @@
 -- The offer at a pair of places costs what the tables say.
-use Rattle.std.proofs.Common.{◌≡◌, ℕ, ◌+◌, ◌-◌, ◌*◌, ◌<◌, ◌≤◌, ◌⊎◌, inl, inr, Bool, true, false, not, cond, length, eqb, refl, sym, ◌∙◌, ap, subst, arith, slice_index}
-use Rattle.std.specs.Prelude.{Some, None}
-use Rattle.std.specs.List.{list_all}
-use Rattle.std.proofs.lemmas.Bool.{eqb-true, eq-eqb, and_parts}
-use Rattle.model_laws.proofs.plain.Numbers.{less_or_same}
-use Rattle.ride_model.specs.declared.offer.Joins.{Joins}
-use Rattle.ride_model.specs.declared.settings.Settings.{Settings}
-use Rattle.ride_model.specs.declared.vehicle.Ride.{Ride}
-use Rattle.ride_model.specs.declared.vehicle.Vehicle.{Vehicle}
-use Rattle.ride_model.specs.Road.{RoadMap}
-use Rattle.ride_model.specs.Loads.{loads_fit}
-use Rattle.ride_model.specs.Times.{times_of, drive_of}
-use Rattle.ride_model.specs.Keeps.{keeps}
-use Rattle.ride_model.specs.Offers.{start_of, joins_of, offer_of_plan, cost_of as plan_cost}
-use Rattle.model_laws.proofs.AboardLoads.{range_passes, passes_range}
-use Rattle.promises.specs.inner.Arrivals.{breaks_along}
-use Rattle.promises.proofs.Visits.{length-times, keeps-vehicle}
-use Rattle.insertion.specs.declared.near.Near.{Near}
-use Rattle.insertion.specs.inner.Least.{cost_if_any}
-use Rattle.slack_tables.specs.declared.terms.Terms.{Terms}
-use Rattle.slack_tables.specs.inner.Tables.{PlanSlack, load_at}
-use Rattle.slack_tables.specs.inner.SlackOf.{slack_of}
-use Rattle.slack_tables.specs.inner.Search.{terms_of, last_time, has_room, cost_of, cost_at}
+use Rattle.slack_tables.proofs.Common.{◌≡◌, ℕ, ◌+◌, ◌-◌, ◌*◌, ◌<◌, ◌≤◌, ◌⊎◌, inl, inr, Bool, true, false, not, cond, length, eqb, refl, sym, ◌∙◌, ap, subst, arith, slice_index, Some, None, list_all, eqb-true, eq-eqb, and_parts, less_or_same, Joins, Settings, Ride, Vehicle, RoadMap, loads_fit, times_of, drive_of, keeps, start_of, joins_of, offer_of_plan, range_passes, passes_range, breaks_along, length-times, keeps-vehicle, Near, cost_if_any, Terms, PlanSlack, load_at, slack_of, terms_of, last_time, has_room, cost_of, cost_at}
+use Rattle.ride_model.specs.Offers.{cost_of as plan_cost}
 use Rattle.slack_tables.proofs.WithRide.{with_ride, arrivals_with, IsWith, Fits, kept_fits, fits_kept}
 use Rattle.slack_tables.proofs.TableLaws.{room-is, load-is}
 use Rattle.slack_tables.proofs.Drives.{drive-last, last-before, last-at-end, pickup-index}

@@ -1,10 +1,5 @@
 -- Ranges of places, and the least over them.
-use Rattle.std.proofs.Common.{◌≡◌, ℕ, zero, suc, ◌+◌, ◌-◌, ◌<◌, ◌≤◌, ◌++◌, List, [], ◌∷◌, refl, sym, ◌∙◌, ap, append_assoc, arith}
-use Rattle.std.specs.Prelude.{map, Option, None}
-use Rattle.std.specs.List.{range_with_len}
-use Rattle.ride_model.specs.Road.{lesser, least_of}
-use Rattle.slack_tables.specs.declared.trips.Trip.{Trip}
-use Rattle.slack_tables.specs.inner.Trips.{no_limit, room_of}
+use Rattle.slack_tables.proofs.Common.{◌≡◌, ℕ, zero, suc, ◌+◌, ◌-◌, ◌<◌, ◌≤◌, ◌++◌, List, [], ◌∷◌, refl, sym, ◌∙◌, ap, append_assoc, arith, map, Option, None, range_with_len, lesser, least_of, Trip, no_limit, room_of}
 
 -- a range from its first number on
 pub range-on : (n j : ℕ) → j < n → range_with_len j (n - j) ≡ j ∷ range_with_len (j + 1) (n - (j + 1))

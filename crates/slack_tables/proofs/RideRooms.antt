@@ -1,17 +1,5 @@
 -- The limits of all rides under two delays, and the rooms of their trips.
-use Rattle.std.proofs.Common.{◌≡◌, ℕ, suc, ◌+◌, ◌-◌, ◌<◌, ◌≤◌, Bool, true, false, not, cond, List, [], ◌∷◌, length, leb, leb-true, le-leb, refl, sym, ◌∙◌, ap, subst, arith}
-use Rattle.std.specs.Prelude.{map, Some, None, option_map, is_some}
-use Rattle.std.specs.List.{AllByRecursion, list_all, filter_map, cons_option}
-use Rattle.std.proofs.lemmas.Bool.{and_from, and_parts, lt-leb}
-use Rattle.ride_model.specs.declared.vehicle.Kind.TheVariants.{Pickup, Dropoff}
-use Rattle.ride_model.specs.declared.vehicle.Ride.{Ride}
-use Rattle.ride_model.specs.declared.vehicle.Stop.{Stop}
-use Rattle.ride_model.specs.Vehicle.{visits_due, visit_of, stops_of}
-use Rattle.promises.specs.inner.Arrivals.{arrival_of, boarding_of, breaks_between, breaks_trip, breaks_along}
-use Rattle.promises.proofs.Visits.{HasVisits}
-use Rattle.slack_tables.specs.declared.trips.Trip.{Trip}
-use Rattle.slack_tables.specs.declared.trips.Visit.{Visit}
-use Rattle.slack_tables.specs.inner.Trips.{first_visit, boarding_visit, trip_between, trip_of, no_limit, room_of}
+use Rattle.slack_tables.proofs.Common.{◌≡◌, ℕ, suc, ◌+◌, ◌-◌, ◌<◌, ◌≤◌, Bool, true, false, not, cond, List, [], ◌∷◌, length, leb, leb-true, le-leb, refl, sym, ◌∙◌, ap, subst, arith, map, Some, None, option_map, is_some, AllByRecursion, list_all, filter_map, cons_option, and_from, and_parts, lt-leb, Pickup, Dropoff, Ride, Stop, visits_due, visit_of, stops_of, arrival_of, boarding_of, breaks_between, breaks_trip, breaks_along, HasVisits, Trip, Visit, first_visit, boarding_visit, trip_between, trip_of, no_limit, room_of}
 use Rattle.slack_tables.proofs.Delays.{delayed}
 use Rattle.slack_tables.proofs.Visits.{arrival-visit, postponed, visit-delayed, visit-place, one-visit, two-visits}
 use Rattle.slack_tables.proofs.TripRooms.{limits_kept, kept_limits, Shift, Trips, limits_to_rooms, rooms_to_limits}

@@ -1,16 +1,5 @@
 -- A search for the cheapest pair of places, place after place.
-use Rattle.std.proofs.Common.{◌≡◌, ℕ, ◌+◌, ◌-◌, ◌<◌, ◌≤◌, ◌⊎◌, inl, inr, Bool, true, false, cond, length, eqb, refl, sym, ◌∙◌, ap, subst, arith}
-use Rattle.std.specs.Prelude.{Option, Some, None, IfSome, option_map, option_and_then}
-use Rattle.std.proofs.lemmas.Bool.{eqb-true, eq-eqb, cond_both}
-use Rattle.model_laws.proofs.plain.Numbers.{less_or_same, eqb-less}
-use Rattle.ride_model.specs.Road.{lesser}
-use Rattle.model_laws.proofs.AboardLoads.{range_passes, passes_range}
-use Rattle.insertion.specs.declared.near.Near.{Near}
-use Rattle.insertion.proofs.LeastOffers.{least-on}
-use Rattle.slack_tables.specs.declared.found.Found.{Found}
-use Rattle.slack_tables.specs.declared.terms.Terms.{Terms}
-use Rattle.slack_tables.specs.inner.Tables.{PlanSlack, load_at}
-use Rattle.slack_tables.specs.inner.Search.{has_room, has_room_between, pickup_at, lateness, cost_together, cost_apart, cost_at, least_at, cost_found, IsFound}
+use Rattle.slack_tables.proofs.Common.{◌≡◌, ℕ, ◌+◌, ◌-◌, ◌<◌, ◌≤◌, ◌⊎◌, inl, inr, Bool, true, false, cond, length, eqb, refl, sym, ◌∙◌, ap, subst, arith, Option, Some, None, IfSome, option_map, option_and_then, eqb-true, eq-eqb, cond_both, less_or_same, eqb-less, lesser, range_passes, passes_range, Near, least-on, Found, Terms, PlanSlack, load_at, has_room, has_room_between, pickup_at, lateness, cost_together, cost_apart, cost_at, least_at, cost_found, IsFound}
 use Rattle.slack_tables.proofs.Ranges.{least-none}
 
 -- the ride's load fits from a place on up to another

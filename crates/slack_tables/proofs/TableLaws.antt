@@ -1,22 +1,5 @@
 -- The tables of a lawful vehicle, entry by entry.
-use Rattle.std.proofs.Common.{◌≡◌, ℕ, zero, suc, ◌+◌, ◌-◌, ◌<◌, ◌≤◌, List, [], ◌∷◌, length, take, refl, sym, ◌∙◌, ap, subst, arith, slice_index}
-use Rattle.std.specs.Prelude.{map, slice_index_or}
-use Rattle.std.specs.List.{range_with_len}
-use Rattle.std.proofs.lemmas.List.FromFn.{length-map-range_with_len, get_or-map-range_with_len}
-use Rattle.ride_model.specs.declared.vehicle.Load.{Load}
-use Rattle.ride_model.specs.declared.vehicle.Vehicle.{Vehicle}
-use Rattle.ride_model.specs.Road.{RoadMap, IsRoadMap}
-use Rattle.ride_model.specs.Vehicle.{IsLawful}
-use Rattle.ride_model.specs.Loads.{load_after, loads_of, fits_load}
-use Rattle.ride_model.specs.Times.{times_of}
-use Rattle.model_laws.proofs.AboardLoads.{fits_throughout}
-use Rattle.std.proofs.Common.{leb, leb-true, true}
-use Rattle.std.proofs.lemmas.Bool.{and_parts}
-use Rattle.promises.proofs.Visits.{length-times, times-soon}
-use Rattle.slack_tables.specs.declared.trips.Trip.{Trip}
-use Rattle.slack_tables.specs.inner.Trips.{room_of}
-use Rattle.slack_tables.specs.inner.Tables.{load_at, room_at}
-use Rattle.slack_tables.specs.inner.SlackOf.{trips_of, rooms_of, slack_of, AreTables}
+use Rattle.slack_tables.proofs.Common.{◌≡◌, ℕ, zero, suc, ◌+◌, ◌-◌, ◌<◌, ◌≤◌, List, [], ◌∷◌, length, take, refl, sym, ◌∙◌, ap, subst, arith, slice_index, map, slice_index_or, range_with_len, length-map-range_with_len, get_or-map-range_with_len, Load, Vehicle, RoadMap, IsRoadMap, IsLawful, load_after, loads_of, fits_load, times_of, fits_throughout, leb, leb-true, true, and_parts, length-times, times-soon, Trip, room_of, load_at, room_at, trips_of, rooms_of, slack_of, AreTables}
 
 -- a row
 pub row-is : (trips : List Trip) (stops change : ℕ) → change ≤ stops

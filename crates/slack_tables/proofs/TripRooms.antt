@@ -1,10 +1,5 @@
 -- What later arrivals break of a ride's limits, and the rooms of its trip.
-use Rattle.std.proofs.Common.{◌≡◌, ℕ, suc, ◌+◌, ◌-◌, ◌<◌, ◌≤◌, ◌⊎◌, inl, inr, Bool, true, false, not, cond, ◌&&◌, ◌||◌, leb, ltb, leb-true, refl, arith}
-use Rattle.std.proofs.lemmas.Bool.Decides.{nat_tests}
-use Rattle.std.proofs.lemmas.Bool.{and_parts}
-use Rattle.model_laws.proofs.plain.Numbers.{le_or_lt}
-use Rattle.slack_tables.specs.declared.trips.Trip.{Trip}
-use Rattle.slack_tables.specs.inner.Trips.{no_limit, room_in}
+use Rattle.slack_tables.proofs.Common.{◌≡◌, ℕ, suc, ◌+◌, ◌-◌, ◌<◌, ◌≤◌, ◌⊎◌, inl, inr, Bool, true, false, not, cond, ◌&&◌, ◌||◌, leb, ltb, leb-true, refl, arith, nat_tests, and_parts, le_or_lt, Trip, no_limit, room_in}
 
 -- the limits of a ride, of one that waits also that of the pickup
 pub record InLimits (waits : Bool) (latest longest boarding dropoff : ℕ) : Type 0 where

@@ -1,18 +1,5 @@
 -- Visits of rides in a plan with one stop more, and with later arrivals.
-use Rattle.std.proofs.Common.{◌≡◌, ℕ, zero, suc, ◌+◌, ◌<◌, ◌≤◌, Bool, true, false, cond, ◌&&◌, List, [], ◌∷◌, length, drop, get_or, eqb, leb, leb-true, le-leb, refl, sym, ◌∙◌, ap, arith, add-zero, add-one}
-use Rattle.std.specs.Prelude.{map, Some, None, option_map, insert, nat_le, if◌then◌else◌}
-use Rattle.std.specs.List.{AllByRecursion}
-use Rattle.std.proofs.lemmas.Bool.{lt-leb}
-use Rattle.std.proofs.lemmas.Option.{same_Some}
-use Rattle.ride_model.specs.declared.vehicle.Kind.{Kind}
-use Rattle.ride_model.specs.declared.vehicle.Kind.TheVariants.{Pickup, Dropoff}
-use Rattle.ride_model.specs.declared.vehicle.Stop.{Stop}
-use Rattle.ride_model.specs.Vehicle.{visit_of, stops_of}
-use Rattle.stop_plans.specs.inner.First.{is_kind, is_visit}
-use Rattle.stop_plans.specs.inner.Legged.{relegged, with_stop}
-use Rattle.promises.specs.inner.Arrivals.{arrival_of}
-use Rattle.slack_tables.specs.declared.trips.Visit.{Visit}
-use Rattle.slack_tables.specs.inner.Trips.{first_visit}
+use Rattle.slack_tables.proofs.Common.{◌≡◌, ℕ, zero, suc, ◌+◌, ◌<◌, ◌≤◌, Bool, true, false, cond, ◌&&◌, List, [], ◌∷◌, length, drop, get_or, eqb, leb, leb-true, le-leb, refl, sym, ◌∙◌, ap, arith, add-zero, add-one, map, Some, None, option_map, insert, nat_le, if◌then◌else◌, AllByRecursion, lt-leb, same_Some, Kind, Pickup, Dropoff, Stop, visit_of, stops_of, is_kind, is_visit, relegged, with_stop, arrival_of, Visit, first_visit}
 use Rattle.slack_tables.proofs.Delays.{delayed}
 
 -- a stop that is not the visit

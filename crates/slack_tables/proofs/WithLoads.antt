@@ -1,13 +1,5 @@
 -- What is aboard of a plan with a ride more.
-use Rattle.std.proofs.Common.{◌≡◌, ℕ, zero, suc, ◌+◌, ◌≤◌, Bool, true, false, cond, List, [], ◌∷◌, ◌++◌, length, take, eqb, refl, sym, ◌∙◌, ap, arith, add-zero}
-use Rattle.std.specs.Prelude.{sum_by}
-use Rattle.std.specs.List.{AllByRecursion}
-use Rattle.std.proofs.lemmas.List.Sums.{sum_by-append, sum_by-cons}
-use Rattle.ride_model.specs.declared.vehicle.Load.{Load}
-use Rattle.ride_model.specs.declared.vehicle.Ride.{Ride}
-use Rattle.ride_model.specs.declared.vehicle.Stop.{Stop}
-use Rattle.ride_model.specs.Loads.{is_pickup, is_aboard_from, is_aboard_after, load_after}
-use Rattle.stop_plans.specs.inner.Legged.{relegged, with_stop}
+use Rattle.slack_tables.proofs.Common.{◌≡◌, ℕ, zero, suc, ◌+◌, ◌≤◌, Bool, true, false, cond, List, [], ◌∷◌, ◌++◌, length, take, eqb, refl, sym, ◌∙◌, ap, arith, add-zero, sum_by, AllByRecursion, sum_by-append, sum_by-cons, Load, Ride, Stop, is_pickup, is_aboard_from, is_aboard_after, load_after, relegged, with_stop}
 
 -- legs do not matter
 aboard-relegged : (aboard : Bool) (id place leg k : ℕ) (stops : List Stop)

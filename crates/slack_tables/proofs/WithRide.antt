@@ -1,34 +1,6 @@
 -- A plan with a ride more: its arrivals, and what it keeps.
-use Rattle.std.proofs.Common.{◌≡◌, ℕ, zero, suc, ◌+◌, ◌<◌, ◌≤◌, ◌⊎◌, inl, inr, Bool, true, false, not, ◌&&◌, ◌||◌, List, [], ◌∷◌, ◌++◌, length, take, eqb, ltb, refl, sym, ◌∙◌, ap, subst, arith, slice_index, add-zero}
-use Rattle.std.specs.Prelude.{insert, Option, Some, None, is_some}
-use Rattle.std.specs.List.{AllByRecursion, list_all}
-use Rattle.std.proofs.lemmas.Bool.{eqb-true, eq-eqb, and_from, and_parts}
-use Rattle.std.proofs.lemmas.List.Elements.{recursion_from_All}
-use Rattle.model_laws.proofs.plain.Numbers.{le_or_lt}
-use Rattle.ride_model.specs.declared.offer.Joins.{Joins}
-use Rattle.ride_model.specs.declared.vehicle.Kind.{Kind}
-use Rattle.ride_model.specs.declared.vehicle.Kind.TheVariants.{Pickup, Dropoff}
-use Rattle.ride_model.specs.declared.vehicle.Load.{Load}
-use Rattle.ride_model.specs.declared.vehicle.Ride.{Ride}
-use Rattle.ride_model.specs.declared.vehicle.Stop.{Stop}
-use Rattle.ride_model.specs.declared.vehicle.Vehicle.{Vehicle}
-use Rattle.ride_model.specs.Road.{RoadMap, IsRoadMap}
-use Rattle.ride_model.specs.Vehicle.{IsRouted, IsLawful}
-use Rattle.ride_model.specs.inner.Vehicle.{IsFresh}
-use Rattle.ride_model.specs.Loads.{is_aboard_from, is_aboard_after, load_after, fits_load, loads_fit}
-use Rattle.ride_model.specs.Times.{times_from, times_of}
-use Rattle.ride_model.specs.Keeps.{keeps}
-use Rattle.ride_model.specs.Insertion.{pickup_of, dropoff_of, with_plan}
-use Rattle.model_laws.proofs.AboardLoads.{FitsThroughout, fits_throughout, loads_fit-throughout, load-agrees}
+use Rattle.slack_tables.proofs.Common.{◌≡◌, ℕ, zero, suc, ◌+◌, ◌<◌, ◌≤◌, ◌⊎◌, inl, inr, Bool, true, false, not, ◌&&◌, ◌||◌, List, [], ◌∷◌, ◌++◌, length, take, eqb, ltb, refl, sym, ◌∙◌, ap, subst, arith, slice_index, add-zero, insert, Option, Some, None, is_some, AllByRecursion, list_all, eqb-true, eq-eqb, and_from, and_parts, recursion_from_All, le_or_lt, Joins, Kind, Pickup, Dropoff, Load, Ride, Stop, Vehicle, RoadMap, IsRoadMap, IsRouted, IsLawful, IsFresh, is_aboard_from, is_aboard_after, load_after, fits_load, loads_fit, times_from, times_of, keeps, pickup_of, dropoff_of, with_plan, FitsThroughout, fits_throughout, loads_fit-throughout, load-agrees, is_kind, is_visit, with_leg, with_stop, length-with_stop, arrival_of, boarding_of, breaks_trip, breaks_along, HasVisits, length-times, keeps-vehicle, no_limit, trips_of, leave_at}
 use Rattle.model_laws.proofs.Insertions.{plan-fresh}
-use Rattle.stop_plans.specs.inner.First.{is_kind, is_visit}
-use Rattle.stop_plans.specs.inner.Legged.{with_leg, with_stop}
-use Rattle.stop_plans.proofs.InsertedLegs.{length-with_stop}
-use Rattle.promises.specs.inner.Arrivals.{arrival_of, boarding_of, breaks_trip, breaks_along}
-use Rattle.promises.proofs.Visits.{HasVisits, length-times, keeps-vehicle}
-use Rattle.slack_tables.specs.inner.Trips.{no_limit}
-use Rattle.slack_tables.specs.inner.SlackOf.{trips_of}
-use Rattle.slack_tables.specs.inner.Search.{leave_at}
 use Rattle.slack_tables.proofs.Delays.{delayed, times-with, length-delayed, delayed-insert, leave-insert, length-insert}
 use Rattle.slack_tables.proofs.Visits.{arrival-skip, arrival-here, arrival-none}
 use Rattle.slack_tables.proofs.TripRooms.{limits_kept, kept_limits}

@@ -1,14 +1,5 @@
 -- Lists of who is aboard.
-use Rattle.std.proofs.Common.{◌≡◌, ℕ, zero, suc, ◌+◌, ◌*◌, ◌<◌, ◌≤◌, Bool, true, false, cond, List, [], ◌∷◌, ◌++◌, length, take, drop, get_or, eqb, refl, sym, ◌∙◌, ap, append_assoc, arith, add-one}
-use Rattle.std.specs.Prelude.{map, is_some, slice_set, ◌==◌, if◌then◌else◌}
-use Rattle.std.specs.List.{AllByRecursion, range_with_len}
-use Rattle.std.proofs.lemmas.List.Sums.{sum_by-cons}
-use Rattle.ride_model.specs.declared.vehicle.Load.{Load}
-use Rattle.ride_model.specs.declared.vehicle.Ride.{Ride}
-use Rattle.ride_model.specs.declared.vehicle.Vehicle.{Vehicle}
-use Rattle.ride_model.specs.declared.vehicle.Stop.{Stop}
-use Rattle.ride_model.specs.Loads.{is_pickup, is_aboard_from, is_aboard_after, load_after, loads_of}
-use Rattle.stop_plans.specs.inner.Aboard.{boarded, seats_aboard, chairs_aboard, load_aboard, loads_behind, IsSmall}
+use Rattle.stop_plans.proofs.Common.{◌≡◌, ℕ, zero, suc, ◌+◌, ◌*◌, ◌<◌, ◌≤◌, Bool, true, false, cond, List, [], ◌∷◌, ◌++◌, length, take, drop, get_or, eqb, refl, sym, ◌∙◌, ap, append_assoc, arith, add-one, map, is_some, slice_set, ◌==◌, if◌then◌else◌, AllByRecursion, range_with_len, sum_by-cons, Load, Ride, Vehicle, Stop, is_pickup, is_aboard_from, is_aboard_after, load_after, loads_of, boarded, seats_aboard, chairs_aboard, load_aboard, loads_behind, IsSmall}
 
 zero_plus : 0 + 1 ≡ 1
 zero_plus = refl

@@ -1,20 +1,6 @@
 -- The legs of a plan with a ride more.
-use Rattle.std.proofs.Common.{◌≡◌, ℕ, zero, suc, ◌+◌, ◌<◌, ◌≤◌, List, [], ◌∷◌, ◌++◌, length, get_or, refl, sym, ◌∙◌, ap, arith, add-one}
-use Rattle.std.specs.Prelude.{Some, None, option_map, option_and_then, insert, slice_set}
-use Rattle.std.proofs.lemmas.Option.{same_Some}
-use Rattle.ride_model.specs.declared.offer.Joins.{Joins}
-use Rattle.ride_model.specs.declared.offer.Offer.{Offer}
-use Rattle.ride_model.specs.declared.vehicle.Ride.{Ride}
-use Rattle.ride_model.specs.declared.vehicle.Stop.{Stop}
-use Rattle.ride_model.specs.declared.vehicle.Vehicle.{Vehicle}
-use Rattle.ride_model.specs.Road.{RoadMap, travel}
-use Rattle.ride_model.specs.Vehicle.{HasLegs}
-use Rattle.ride_model.specs.Insertion.{routed, pickup_of, dropoff_of, stops_with, with_plan}
-use Rattle.ride_model.specs.Offers.{leg_at, joins_of}
+use Rattle.stop_plans.proofs.Common.{◌≡◌, ℕ, zero, suc, ◌+◌, ◌<◌, ◌≤◌, List, [], ◌∷◌, ◌++◌, length, get_or, refl, sym, ◌∙◌, ap, arith, add-one, Some, None, option_map, option_and_then, insert, slice_set, same_Some, Joins, Offer, Ride, Stop, Vehicle, RoadMap, travel, HasLegs, routed, pickup_of, dropoff_of, stops_with, with_plan, leg_at, joins_of, inserted_facts, InsertsInto, with_leg, relegged, with_stop}
 use Rattle.model_laws.proofs.Routes.{routed-own}
-use Rattle.model_laws.proofs.Insertions.{inserted_facts}
-use Rattle.stop_plans.specs.inner.Change.{InsertsInto}
-use Rattle.stop_plans.specs.inner.Legged.{with_leg, relegged, with_stop}
 
 -- the first stop of a route and the route after it
 pub record RouteHead (roads : RoadMap) (at : ℕ) (stop : Stop) (stops out : List Stop) : Type 0 where

@@ -1,13 +1,5 @@
 -- The legs of a vehicle in order.
-use Rattle.std.proofs.Common.{ℕ, ◌≤◌, List, [], ◌∷◌}
-use Rattle.std.specs.Prelude.{All}
-use Rattle.std.specs.List.{AllByRecursion}
-use Rattle.std.proofs.lemmas.List.Elements.{All-from_recursion}
-use Rattle.ride_model.specs.declared.vehicle.Stop.{Stop}
-use Rattle.ride_model.specs.declared.vehicle.Vehicle.{Vehicle}
-use Rattle.ride_model.specs.Road.{RoadMap, IsRoadMap}
-use Rattle.ride_model.specs.Vehicle.{HasLegs}
-use Rattle.ride_model.specs.inner.Vehicle.{IsRoutedSomewhere}
+use Rattle.stop_plans.proofs.Common.{ℕ, ◌≤◌, List, [], ◌∷◌, All, AllByRecursion, All-from_recursion, Stop, Vehicle, RoadMap, IsRoadMap, HasLegs, IsRoutedSomewhere}
 use Rattle.model_laws.proofs.TravelTimes.{travel-le}
 
 each_leg : (roads : RoadMap) (at : ℕ) (stops : List Stop) → IsRoadMap roads → HasLegs roads at stops

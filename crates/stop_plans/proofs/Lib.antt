@@ -1,3 +1,4 @@
+pub mod Common
 pub mod Legs
 pub mod AboardLists
 pub mod InsertedLegs

@@ -1,6 +1,5 @@
 -- A list whose first elements were changed.
-use Rattle.std.proofs.Common.{◌≡◌, ℕ, zero, suc, ◌+◌, ◌<◌, List, [], ◌∷◌, ◌++◌, length, take, drop, get_or, refl, ◌∙◌, ap, arith, sym, add-one}
-use Rattle.std.specs.Prelude.{map, slice_set}
+use Rattle.stop_plans.proofs.Common.{◌≡◌, ℕ, zero, suc, ◌+◌, ◌<◌, List, [], ◌∷◌, ◌++◌, length, take, drop, get_or, refl, ◌∙◌, ap, arith, sym, add-one, map, slice_set}
 
 -- the next element is the one that was there
 pub next-of-changed : {X : Type 0} (f : X → X) (xs : List X) (n : ℕ) (d : X) → n < length xs

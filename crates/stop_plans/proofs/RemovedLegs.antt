@@ -1,27 +1,7 @@
 -- The legs of a plan with a ride less.
-use Rattle.std.proofs.Common.{◌≡◌, ℕ, zero, suc, ◌+◌, ◌<◌, ◌≤◌, ◌⊎◌, inl, inr, Bool, true, false, not, cond, ◌&&◌, List, [], ◌∷◌, ◌++◌, length, get_or, eqb, refl, sym, ◌∙◌, ap, subst, append_assoc, length-append, arith}
-use Rattle.std.proofs.lemmas.List.{length-map}
-use Rattle.std.specs.Prelude.{map, Option, Some, None, remove, ◌==◌, Contains}
-use Rattle.std.specs.List.{AllByRecursion}
-use Rattle.std.proofs.lemmas.Bool.{eq-eqb, cases_order}
-use Rattle.std.proofs.lemmas.List.Elements.{filter-append, All-contains}
-use Rattle.std.proofs.lemmas.Option.{same_Some}
-use Rattle.ride_model.specs.declared.vehicle.Kind.{Kind}
-use Rattle.ride_model.specs.declared.vehicle.Kind.TheVariants.{Pickup, Dropoff}
-use Rattle.ride_model.specs.declared.vehicle.Ride.{Ride}
-use Rattle.ride_model.specs.declared.vehicle.Stop.{Stop}
-use Rattle.ride_model.specs.declared.vehicle.Vehicle.{Vehicle}
-use Rattle.ride_model.specs.Road.{RoadMap}
-use Rattle.ride_model.specs.Vehicle.{HasLegs, IsPlanFor, visit_of, visits_due, stops_of, ride_ids}
-use Rattle.ride_model.specs.Insertion.{routed, with_plan, stops_without, rides_without, without_ride}
-use Rattle.ride_model.specs.Offers.{leg_at}
+use Rattle.stop_plans.proofs.Common.{◌≡◌, ℕ, zero, suc, ◌+◌, ◌<◌, ◌≤◌, ◌⊎◌, inl, inr, Bool, true, false, not, cond, ◌&&◌, List, [], ◌∷◌, ◌++◌, length, get_or, eqb, refl, sym, ◌∙◌, ap, subst, append_assoc, length-append, arith, length-map, map, Option, Some, None, remove, ◌==◌, Contains, AllByRecursion, eq-eqb, cases_order, filter-append, All-contains, same_Some, Kind, Pickup, Dropoff, Ride, Stop, Vehicle, RoadMap, HasLegs, IsPlanFor, visit_of, visits_due, stops_of, ride_ids, routed, with_plan, stops_without, rides_without, without_ride, leg_at, all-kept, route_without, without_ride-is, RemovesFrom, is_kind, is_visit, IsFirst, with_leg, relegged}
 use Rattle.model_laws.proofs.plain.Among.{Among, among_from_contains, contains_from_among, among_map_back}
 use Rattle.model_laws.proofs.AboardLoads.{filter-kept, filter-skipped}
-use Rattle.model_laws.proofs.Insertions.{all-kept}
-use Rattle.model_laws.proofs.Removal.{route_without, without_ride-is}
-use Rattle.stop_plans.specs.inner.Change.{RemovesFrom}
-use Rattle.stop_plans.specs.inner.First.{is_kind, is_visit, IsFirst}
-use Rattle.stop_plans.specs.inner.Legged.{with_leg, relegged}
 use Rattle.stop_plans.proofs.InsertedLegs.{route_head, behind-new}
 
 -- one stop out of a list, by its place

@@ -1,10 +1,5 @@
 -- What a comparison of bytes says.
-use Rattle.std.proofs.Common.{◌≡◌, ◌≢◌, ℕ, ◌+◌, ◌<◌, ◌≤◌, Bool, true, false, List, [], ◌∷◌, ◌++◌, length, take}
-use Rattle.std.proofs.Common.{drop, Option, Some, None, Result, Ok, Err, refl, ap, sym, subst, ◌∙◌, append_assoc, append-nil}
-use Rattle.std.specs.Prelude.{is_some, is_err, is_ok, IsTrue, OnOk, OnErr}
-use Rattle.std.proofs.Math.Seq.{take-add, take-append_seam}
-use Rattle.std.proofs.lemmas.Bool.{true≢false}
-use Rattle.std.proofs.lemmas.List.{append_cancel_left, take-take}
+use Rattle.trip_log.proofs.Common.{◌≡◌, ◌≢◌, ℕ, ◌+◌, ◌<◌, ◌≤◌, Bool, true, false, List, [], ◌∷◌, ◌++◌, length, take, drop, Option, Some, None, Result, Ok, Err, refl, ap, sym, subst, ◌∙◌, append_assoc, append-nil, is_some, is_err, is_ok, IsTrue, OnOk, OnErr, take-add, take-append_seam, true≢false, append_cancel_left, take-take}
 use Rattle.ride_ports.specs.Bytes.{Writes, WritesPrefix}
 use Rattle.ride_ports.specs.Count.{Rose}
 use Rattle.ride_ports.proofs.CountLemmas.{Rose-from_zero}

@@ -1,10 +1,5 @@
 -- The numbers of a head line stand at three places.
-use Rattle.std.proofs.Common.{◌≡◌, ◌≢◌, ℕ, ◌+◌, ◌<◌, List, [], ◌∷◌, ◌++◌, Some, None, refl, ap, sym, ◌∙◌, arith}
-use Rattle.std.specs.Prelude.{codes, decimal}
-use Rattle.std.specs.List.{join_with_byte}
-use Rattle.std.proofs.lemmas.Fmt.{decimal_digit}
-use Rattle.std.proofs.lemmas.List.{append_cancel_right}
-use Rattle.ride_model.specs.Text.{head_line, IsOneOrTwo}
+use Rattle.trip_log.proofs.Common.{◌≡◌, ◌≢◌, ℕ, ◌+◌, ◌<◌, List, [], ◌∷◌, ◌++◌, Some, None, refl, ap, sym, ◌∙◌, arith, codes, decimal, join_with_byte, decimal_digit, append_cancel_right, head_line, IsOneOrTwo}
 use Rattle.trip_log.specs.inner.Heads.{digit_of, digit_from}
 use Rattle.trip_log.proofs.ReadLemmas.{for_one_or_two}
 

@@ -1,16 +1,5 @@
 -- Items that were printed read back.
-use Rattle.std.proofs.Common.{◌≡◌, ℕ, ◌^◌, ◌<◌, ◌⊎◌, inr, List, [], ◌∷◌, ◌++◌, map, All, Option, Some, None, refl, ap, sym, ◌∙◌}
-use Rattle.std.proofs.Common.{append_assoc, append-nil, arith}
-use Rattle.std.specs.Prelude.{codes, decimal}
-use Rattle.std.proofs.lemmas.Bool.{le-leb}
-use Rattle.std.proofs.lemmas.List.Elements.{All-head, All-tail}
-use Rattle.line_text.proofs.PrintedLemmas.{number_of-decimal}
-use Rattle.ride_model.specs.declared.entry.Outcome.{Outcome}
-use Rattle.ride_model.specs.declared.entry.Outcome.TheVariants.{Confirmed, Away, Gone, Moved, Behind}
-use Rattle.ride_model.specs.declared.offer.Seat.{Seat}
-use Rattle.ride_model.specs.Text.{amount_field, outcome_field, plan_field, seat_field, IsSpelledOutcome, IsSpelledPair, IsSpelledSeat}
-use Rattle.trip_log.specs.inner.Cuts.{cut_at}
-use Rattle.trip_log.specs.inner.Items.{pair_from, place_from, places_from, seat_from, made_from, outcome_from, before_items, items_of}
+use Rattle.trip_log.proofs.Common.{◌≡◌, ℕ, ◌^◌, ◌<◌, ◌⊎◌, inr, List, [], ◌∷◌, ◌++◌, map, All, Option, Some, None, refl, ap, sym, ◌∙◌, append_assoc, append-nil, arith, codes, decimal, le-leb, All-head, All-tail, number_of-decimal, Outcome, Confirmed, Away, Gone, Moved, Behind, Seat, amount_field, outcome_field, plan_field, seat_field, IsSpelledOutcome, IsSpelledPair, IsSpelledSeat, cut_at, pair_from, place_from, places_from, seat_from, made_from, outcome_from, before_items, items_of}
 use Rattle.trip_log.proofs.CutLemmas.{cut_at-first}
 use Rattle.trip_log.proofs.SolidLemmas.{avoids-decimal}
 

@@ -1,3 +1,4 @@
+pub mod Common
 pub mod PrintsLemmas
 pub mod LineLemmas
 pub mod CutLemmas

@@ -1,12 +1,5 @@
 -- Lines, told apart by their fields.
-use Rattle.std.proofs.Common.{◌≡◌, ℕ, ◌^◌, ◌<◌, List, [], ◌∷◌, Some, refl, ap, sym, ◌∙◌, arith}
-use Rattle.std.specs.Prelude.{codes, decimal}
-use Rattle.std.specs.List.{join_with_byte, AllByRecursion}
-use Rattle.std.proofs.lemmas.List.{append_cancel_right}
-use Rattle.line_text.specs.Fields.{fields_of}
-use Rattle.line_text.specs.Numbers.{number_of}
-use Rattle.line_text.proofs.PrintedLemmas.{IsPlain, fields_of-joined, plain-decimal, number_of-decimal}
-use Rattle.ride_model.specs.Text.{line_of, head_line, IsOneOrTwo}
+use Rattle.trip_log.proofs.Common.{◌≡◌, ℕ, ◌^◌, ◌<◌, List, [], ◌∷◌, Some, refl, ap, sym, ◌∙◌, arith, codes, decimal, join_with_byte, AllByRecursion, append_cancel_right, fields_of, number_of, IsPlain, fields_of-joined, plain-decimal, number_of-decimal, line_of, head_line, IsOneOrTwo}
 
 -- equal lines of plain fields have equal fields
 pub lines-fields : (f g : List ℕ) (fs gs : List (List ℕ)) → AllByRecursion IsPlain (f ∷ fs) → AllByRecursion IsPlain (g ∷ gs)

@@ -1,22 +1,7 @@
 -- Printers in turn, and the texts of lists.
-use Rattle.std.proofs.Common.{◌≡◌, ℕ, ◌+◌, ◌<◌, List, [], ◌∷◌, ◌++◌, map, take, drop, get_or, length, Option, Result, Ok, Err, refl, ap, sym, subst, ◌∙◌}
-use Rattle.std.proofs.Common.{append_assoc, append-nil, arith}
-use Rattle.std.specs.List.{join_with_byte}
-use Rattle.std.proofs.lemmas.List.Concat.{flat_map-append}
-use Rattle.std.proofs.lemmas.List.{take-append-drop, take_more}
+use Rattle.trip_log.proofs.Common.{◌≡◌, ℕ, ◌+◌, ◌<◌, List, [], ◌∷◌, ◌++◌, map, take, drop, get_or, length, Option, Result, Ok, Err, refl, ap, sym, subst, ◌∙◌, append_assoc, append-nil, arith, join_with_byte, flat_map-append, take-append-drop, take_more, ◌≢◌, codes, decimal, Command, Request, Cancel, At, Done, On, Off, Clock, Ask, Bad, Opened, Committed, Outcome, Seat, Reply, line_of, event_fields, fed_fields, reply_fields, chairs_fields, broken_fields, plan_field, seat_field, amount_field, outcome_field, spelling_of, Prints, listed, fields_then, fields_end}
 use Rattle.ride_ports.proofs.ByteLemmas.{Writes-then, WritesPrefix-of_first, WritesPrefix-of_second}
 use Rattle.ride_ports.proofs.Counts.{KeepsCount-then}
-use Rattle.std.specs.Prelude.{◌≢◌, codes, decimal}
-use Rattle.ride_model.specs.declared.command.Command.{Command}
-use Rattle.ride_model.specs.declared.command.Command.TheVariants.{Request, Cancel, At, Done, On, Off, Clock, Ask, Bad}
-use Rattle.ride_model.specs.declared.entry.Event.TheVariants.{Opened, Committed}
-use Rattle.ride_model.specs.declared.entry.Outcome.{Outcome}
-use Rattle.ride_model.specs.declared.offer.Seat.{Seat}
-use Rattle.ride_model.specs.declared.reply.Reply.{Reply}
-use Rattle.ride_model.specs.Text.{line_of, event_fields, fed_fields, reply_fields, chairs_fields, broken_fields}
-use Rattle.ride_model.specs.Text.{plan_field, seat_field, amount_field, outcome_field}
-use Rattle.command_lines.specs.Commands.{spelling_of}
-use Rattle.trip_log.specs.inner.Prints.{Prints, listed, fields_then, fields_end}
 
 -- two printers in turn
 pub prints_then : {T U E : Type 0} {x : T} {outcome : Result U E} {a b c : Option (List ℕ)} {n m k : ℕ} {xs ys : List ℕ}

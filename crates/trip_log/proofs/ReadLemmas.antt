@@ -1,40 +1,6 @@
 -- Entries that were printed read back.
-use Rattle.std.proofs.Common.{◌≡◌, ◌≢◌, ℕ, ◌^◌, ◌<◌, ◌≤◌, ◌==◌, inr, Bool, true, false, cond, List, [], ◌∷◌, ◌++◌, length, map, All}
-use Rattle.std.proofs.Common.{Some, None, refl, ap, sym, subst, ◌∙◌, append_assoc, append-nil, arith}
-use Rattle.std.specs.Prelude.{codes, decimal}
-use Rattle.std.specs.List.{join_with_byte, AllByRecursion}
-use Rattle.std.proofs.lemmas.Bool.{le-leb, and_from, eqb-true, eqb-false}
-use Rattle.std.proofs.lemmas.Fmt.{decimal_digit}
-use Rattle.std.proofs.lemmas.List.{append_cancel_right}
-use Rattle.std.proofs.lemmas.List.Elements.{recursion_from_All}
-use Rattle.std.proofs.lemmas.List.Folds.{list_all-append}
-use Rattle.line_text.specs.Fields.{before_end, fields_of, runs_of, without_end}
-use Rattle.line_text.specs.Numbers.{number_of}
-use Rattle.line_text.proofs.PrintedLemmas.{fields_of-joined, number_of-decimal, numbers_of-decimals}
-use Rattle.ride_model.specs.declared.command.Actor.{Actor}
-use Rattle.ride_model.specs.declared.command.Actor.TheVariants.{Feed, Desk}
-use Rattle.ride_model.specs.declared.command.Command.{Command}
-use Rattle.ride_model.specs.declared.command.Command.TheVariants.{Request, Cancel, At, Done, On, Off, Clock, Ask, Bad}
-use Rattle.ride_model.specs.declared.entry.Ending.TheVariants.{Whole, Cut}
-use Rattle.ride_model.specs.declared.entry.Entry.{Entry}
-use Rattle.ride_model.specs.declared.entry.Event.{Event}
-use Rattle.ride_model.specs.declared.entry.Event.TheVariants.{Fed, Finish, Opened, Committed, Abandoned}
-use Rattle.ride_model.specs.declared.entry.Outcome.{Outcome}
-use Rattle.ride_model.specs.declared.offer.Seat.{Seat}
-use Rattle.ride_model.specs.declared.reply.Reply.{Reply}
-use Rattle.ride_model.specs.declared.reply.Reply.TheVariants.{Waiting, Cancelled, Freed, OnMap, Late, Picked, Dropped, Duty, Now, Asked}
-use Rattle.ride_model.specs.declared.reply.Reply.TheVariants.{Noted, Refused}
-use Rattle.ride_model.specs.Text.{actor_field, broken_fields, chairs_fields, command_fields, entry_line, event_fields, fed_fields}
-use Rattle.ride_model.specs.Text.{reply_fields}
-use Rattle.ride_model.specs.Text.{amount_field, outcome_field, plan_field, seat_field}
-use Rattle.ride_model.specs.Text.{HasLine, IsNotedIfBad, IsOneOrTwo, IsSpelled, IsSpelledActor, IsSpelledCommand, IsSpelledReply}
-use Rattle.ride_model.specs.Text.{IsSpelledEvent, IsSpelledOutcome, IsSpelledPair, IsSpelledSeat}
-use Rattle.command_lines.specs.Commands.{spelling_of}
+use Rattle.trip_log.proofs.Common.{◌≡◌, ◌≢◌, ℕ, ◌^◌, ◌<◌, ◌≤◌, ◌==◌, inr, Bool, true, false, cond, List, [], ◌∷◌, ◌++◌, length, map, All, Some, None, refl, ap, sym, subst, ◌∙◌, append_assoc, append-nil, arith, codes, decimal, join_with_byte, AllByRecursion, le-leb, and_from, eqb-true, eqb-false, decimal_digit, append_cancel_right, recursion_from_All, list_all-append, before_end, fields_of, runs_of, without_end, number_of, fields_of-joined, number_of-decimal, numbers_of-decimals, Actor, Feed, Desk, Command, Request, Cancel, At, Done, On, Off, Clock, Ask, Bad, Whole, Cut, Entry, Event, Fed, Finish, Opened, Committed, Abandoned, Outcome, Seat, Reply, Waiting, Cancelled, Freed, OnMap, Late, Picked, Dropped, Duty, Now, Asked, Noted, Refused, actor_field, broken_fields, chairs_fields, command_fields, entry_line, event_fields, fed_fields, reply_fields, amount_field, outcome_field, plan_field, seat_field, HasLine, IsNotedIfBad, IsOneOrTwo, IsSpelled, IsSpelledActor, IsSpelledCommand, IsSpelledReply, IsSpelledEvent, IsSpelledOutcome, IsSpelledPair, IsSpelledSeat, spelling_of, pair_from, seat_from, outcome_from, items_of, fields_then, actor_from, broken_from, commit_from, entry_from, event_from, event_of_fields, event_of_word, fed_from, kind_of, open_from, reply_from}
 use Rattle.command_lines.proofs.Printed.{reads-back}
-use Rattle.trip_log.specs.inner.Items.{pair_from, seat_from, outcome_from, items_of}
-use Rattle.trip_log.specs.inner.Prints.{fields_then}
-use Rattle.trip_log.specs.inner.Reads.{actor_from, broken_from, commit_from, entry_from, event_from, event_of_fields, event_of_word, fed_from}
-use Rattle.trip_log.specs.inner.Reads.{kind_of, open_from, reply_from}
 use Rattle.trip_log.proofs.CutLemmas.{Avoids, all-joined, cut_at-first, front_of-push}
 use Rattle.trip_log.proofs.ItemLemmas.{amount-reads, items-read, items_of-nil, no_item, outcome-reads, plan-reads, seat-reads}
 use Rattle.trip_log.proofs.PrintsLemmas.{fields_then-append, joined-then}

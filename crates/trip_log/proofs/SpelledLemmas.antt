@@ -1,41 +1,13 @@
 -- An entry that was read has a text.
-use Rattle.std.proofs.Common.{◌≡◌, ◌≢◌, ℕ, ◌^◌, ◌<◌, ◌≤◌, ◌==◌, nat_le, Bool, true, false, cond, List, [], ◌∷◌, length, All, Option, Some}
-use Rattle.std.proofs.Common.{None, option_map, refl, sym, subst, arith}
-use Rattle.std.specs.Prelude.{codes, option_and_then, IfSome}
-use Rattle.std.specs.Str.{bytes_eq}
-use Rattle.std.proofs.lemmas.Bool.{leb-true}
-use Rattle.std.proofs.lemmas.List.Elements.{All-nil, All-cons, All-from_recursion}
-use Rattle.line_text.specs.Fields.{fields_of, is_over_long, numbers_of}
-use Rattle.line_text.specs.Numbers.{number_of}
-use Rattle.line_text.proofs.PrintedLemmas.{number_of-small, numbers_of-small}
-use Rattle.ride_model.specs.declared.command.Actor.{Actor}
-use Rattle.ride_model.specs.declared.command.Actor.TheVariants.{Feed, Desk}
-use Rattle.ride_model.specs.declared.command.Command.{Command}
-use Rattle.ride_model.specs.declared.entry.Ending.TheVariants.{Whole, Cut}
-use Rattle.ride_model.specs.declared.entry.Entry.{Entry}
-use Rattle.ride_model.specs.declared.entry.Event.{Event}
-use Rattle.ride_model.specs.declared.entry.Event.TheVariants.{Finish}
-use Rattle.ride_model.specs.declared.reply.Reply.{Reply}
-use Rattle.ride_model.specs.declared.reply.Reply.TheVariants.{Noted}
-use Rattle.ride_model.specs.Text.{HasLine, IsNotedIfBad, IsSpelled, IsSpelledActor, IsSpelledCommand, IsSpelledReply, IsSpelledEvent}
-use Rattle.ride_model.specs.Text.{IsSpelledOutcome, IsSpelledPair, IsSpelledSeat}
+use Rattle.trip_log.proofs.Common.{◌≡◌, ◌≢◌, ℕ, ◌^◌, ◌<◌, ◌≤◌, ◌==◌, nat_le, Bool, true, false, cond, List, [], ◌∷◌, length, All, Option, Some, None, option_map, refl, sym, subst, arith, codes, option_and_then, IfSome, bytes_eq, leb-true, All-nil, All-cons, All-from_recursion, fields_of, is_over_long, numbers_of, number_of, number_of-small, numbers_of-small, Actor, Feed, Desk, Command, Whole, Cut, Entry, Event, Finish, Reply, Noted, HasLine, IsNotedIfBad, IsSpelled, IsSpelledActor, IsSpelledCommand, IsSpelledReply, IsSpelledEvent, IsSpelledOutcome, IsSpelledPair, IsSpelledSeat, command_from, command_of_fields, verb_of, cut_at, front_of, at_most, pair_from, place_from, places_from, seat_from, numbered_outcome, made_from, outcome_from, before_items, items_of, after_word, number_then, only_number, list_then, if_last, last_list, actor_from, plain_reply, numbered_reply, few_ids, broken_from, late_from, short_reply, reply_from, fed_from, heading_then, opened_from, open_from, committed_from, commit_from, kind_of, event_of_kind, event_of_word, event_of_fields, event_from, entry_from}
 use Rattle.command_lines.specs.declared.verbs.Verb.{Verb}
 use Rattle.command_lines.specs.declared.verbs.Verb.TheVariants.{Request as ToRequest, Cancel as ToCancel, At as ToBeAt, Done as ToBeDone}
 use Rattle.command_lines.specs.declared.verbs.Verb.TheVariants.{On as ToBeOn, Off as ToBeOff, Clock as ToClock, Batch as ToBatch}
-use Rattle.command_lines.specs.Commands.{command_from, command_of_fields, verb_of}
 use Rattle.command_lines.specs.inner.Commands.{command_of}
 use Rattle.command_lines.proofs.Spelled.{spelled_fields}
 use Rattle.trip_log.specs.declared.kinds.Kind.{Kind}
 use Rattle.trip_log.specs.declared.kinds.Kind.TheVariants.{End as ToEnd, Cut as ToCut, Bad as ToBeBad, Open as ToOpen, Commit as ToCommit}
 use Rattle.trip_log.specs.declared.kinds.Kind.TheVariants.{Abandon as ToAbandon}
-use Rattle.trip_log.specs.inner.Cuts.{cut_at, front_of}
-use Rattle.trip_log.specs.inner.Items.{at_most, pair_from, place_from, places_from, seat_from, numbered_outcome, made_from, outcome_from}
-use Rattle.trip_log.specs.inner.Items.{before_items, items_of}
-use Rattle.trip_log.specs.inner.Items.{after_word, number_then, only_number, list_then, if_last, last_list}
-use Rattle.trip_log.specs.inner.Reads.{actor_from, plain_reply, numbered_reply, few_ids, broken_from, late_from, short_reply, reply_from}
-use Rattle.trip_log.specs.inner.Reads.{fed_from}
-use Rattle.trip_log.specs.inner.Reads.{heading_then, opened_from, open_from, committed_from, commit_from, kind_of, event_of_kind, event_of_word}
-use Rattle.trip_log.specs.inner.Reads.{event_of_fields, event_from, entry_from}
 
 -- what holds of what is made of each value holds of what is made of an option
 of-and_then : {A B : Type 0} (P : B → Type 0) (next : A → Option B) (o : Option A) → ((a : A) → o ≡ Some a → IfSome (next a) P)

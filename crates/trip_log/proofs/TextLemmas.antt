@@ -1,16 +1,6 @@
 -- Texts, told apart by their lines.
-use Rattle.std.proofs.Common.{◌≡◌, ℕ, ◌<◌, ◌==◌, not, List, [], ◌∷◌, ◌++◌, length, map, All, refl, ap, sym, subst}
-use Rattle.std.proofs.Common.{◌∙◌, append_assoc, append-nil, length-append, arith}
-use Rattle.std.specs.Prelude.{codes, decimal}
-use Rattle.std.specs.List.{join_with_byte, list_all}
-use Rattle.std.proofs.lemmas.Bool.{and_parts, not-true}
-use Rattle.std.proofs.lemmas.List.Elements.{All-head, All-tail}
-use Rattle.line_text.specs.Lines.{ended_after, ended_lines, rest_after, rest_of}
+use Rattle.trip_log.proofs.Common.{◌≡◌, ℕ, ◌<◌, ◌==◌, not, List, [], ◌∷◌, ◌++◌, length, map, All, refl, ap, sym, subst, ◌∙◌, append_assoc, append-nil, length-append, arith, codes, decimal, join_with_byte, list_all, and_parts, not-true, All-head, All-tail, ended_after, ended_lines, rest_after, rest_of, Entry, actor_field, entry_line, entry_lines, event_fields, head_line, line_of, text_of, HasLine, HasText, IsOneOrTwo, front_of}
 use Rattle.line_text.proofs.LineLemmas.{HasNoEnd, ended_after-no_end, rest_after-no_end}
-use Rattle.ride_model.specs.declared.entry.Entry.{Entry}
-use Rattle.ride_model.specs.Text.{actor_field, entry_line, entry_lines, event_fields, head_line, line_of, text_of, HasLine, HasText}
-use Rattle.ride_model.specs.Text.{IsOneOrTwo}
-use Rattle.trip_log.specs.inner.Cuts.{front_of}
 use Rattle.trip_log.proofs.CutLemmas.{Avoids, all-joined, first-same, front_of-push}
 use Rattle.trip_log.proofs.LineLemmas.{heads-same}
 use Rattle.trip_log.proofs.ReadLemmas.{lines-same}

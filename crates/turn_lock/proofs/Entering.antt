@@ -1,17 +1,6 @@
 -- The start and the taking of a turn keep the rule.
-use Rattle.std.proofs.Common.{◌≡◌, ◌≢◌, ℕ, zero, suc, ◌<◌, true, false, eqb, List, [], ◌∷◌, map, length, set, get_or, sym, refl, ap, ◌∙◌, subst, arith, Option, Some, None}
-use Rattle.std.proofs.lemmas.List.Elements.{All-nil}
-use mathlib.Core.List.{IsPrefix}
-use mathlib.Core.Option.{none, some, some-injective, some-ne-none}
-use lib.ListN.{get_elem?}
+use Rattle.turn_lock.proofs.Common.{◌≡◌, ◌≢◌, ℕ, zero, suc, ◌<◌, true, false, eqb, List, [], ◌∷◌, map, length, set, get_or, sym, refl, ap, ◌∙◌, subst, arith, Option, Some, None, All-nil, IsPrefix, none, some, some-injective, some-ne-none, get_elem?, State, Me, step, Act, keeps, takes, rest, carried_after, Valid, stepped, Allows, opening, set_here, set_again, View, items_of, EndedStand, Spot, home, away, turn_of, homes_of, others_in, Stands, Leads, Fits, IsKept, after_enter, with_knowledge, first_view, Continues, Grabs}
 use prog.Atomic.{either}
-use Rattle.atomic_table.specs.Table.{State, Me, step, Act, keeps, takes, rest, carried_after, Valid, stepped, Allows, opening}
-use Rattle.atomic_table.proofs.Lists.{set_here, set_again}
-use Rattle.turn_lock.specs.declared.rule.View.{View}
-use Rattle.turn_lock.specs.inner.History.{items_of, EndedStand}
-use Rattle.turn_lock.specs.inner.Rule.{Spot, home, away, turn_of, homes_of, others_in, Stands, Leads, Fits, IsKept}
-use Rattle.turn_lock.specs.Knowledge.{after_enter}
-use Rattle.turn_lock.specs.inner.Steps.{with_knowledge, first_view, Continues, Grabs}
 use Rattle.turn_lock.proofs.Lists.{prefix_self, prefix_nil, prefix_trans, others-push, weight, some_other}
 use Rattle.turn_lock.proofs.Views.{there_is, not_both, true_else, owner_with, owner_there, moved, one_owner, steps, unmoved}
 

@@ -1,19 +1,7 @@
 -- Splitting and joining passes keep the rule.
-use Rattle.std.proofs.Common.{◌≡◌, ◌≢◌, ℕ, ◌+◌, ◌-◌, ◌<◌, ◌≤◌, true, false, List, [], ◌∷◌, ◌++◌, length, get_or, set, sym, refl, ap, ◌∙◌, subst, ⊎_elim, arith, length-set, Option, Some, None}
-use Rattle.std.proofs.lemmas.List.Elements.{All-push}
-use mathlib.Core.List.{IsPrefix}
-use mathlib.Core.Logic.{dite}
-use mathlib.Core.Option.{none, some, some-injective}
-use native.Mathlib.Decide.{dec_le}
-use lib.ListN.{get_elem?}
+use Rattle.turn_lock.proofs.Common.{◌≡◌, ◌≢◌, ℕ, ◌+◌, ◌-◌, ◌<◌, ◌≤◌, true, false, List, [], ◌∷◌, ◌++◌, length, get_or, set, sym, refl, ap, ◌∙◌, subst, ⊎_elim, arith, length-set, Option, Some, None, All-push, IsPrefix, dite, none, some, some-injective, dec_le, get_elem?, State, Me, step, keeps, Allows, Splits, Joins, set_here, set_else, set_again, at_longer, View, items_of, Spot, home, away, others_in, Stands, Leads, Fits, IsKept, left_of, right_of, both_of, spent_view, IsJoined, Looks}
 use lib.Seq.{set-get_or}
-use Rattle.atomic_table.specs.Table.{State, Me, step, keeps, Allows, Splits, Joins}
-use Rattle.atomic_table.proofs.Lists.{set_here, set_else, set_again, at_longer}
 use Rattle.turn_lock.specs.declared.rule.Ended.{Ended}
-use Rattle.turn_lock.specs.declared.rule.View.{View}
-use Rattle.turn_lock.specs.inner.History.{items_of}
-use Rattle.turn_lock.specs.inner.Rule.{Spot, home, away, others_in, Stands, Leads, Fits, IsKept}
-use Rattle.turn_lock.specs.inner.Steps.{left_of, right_of, both_of, spent_view, IsJoined, Looks}
 use Rattle.turn_lock.proofs.Lists.{prefix_self, prefix_nil, longer_is, at_push, others-set, others-push, weight, weight_other}
 use Rattle.turn_lock.proofs.Views.{there_is, none_else, true_else, owner_with, owner_here, owner_there, owner_none, each_set, moved, one_owner, stands_set, unmoved}
 

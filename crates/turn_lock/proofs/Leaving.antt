@@ -1,14 +1,6 @@
 -- Noting an item and handing on the turn keep the rule.
-use Rattle.std.proofs.Common.{◌≡◌, ◌≢◌, ℕ, ◌+◌, ◌%◌, ◌^◌, ◌<◌, true, List, [], ◌∷◌, ◌++◌, length, set, get_or, drop, sym, refl, ap, ◌∙◌, subst, arith, length-append, Option, Some, None}
+use Rattle.turn_lock.proofs.Common.{◌≡◌, ◌≢◌, ℕ, ◌+◌, ◌%◌, ◌^◌, ◌<◌, true, List, [], ◌∷◌, ◌++◌, length, set, get_or, drop, sym, refl, ap, ◌∙◌, subst, arith, length-append, Option, Some, None, IsPrefix, none, some, State, Me, step, keeps, gives, rest, stepped, Allows, set_here, View, Spot, home, away, turn_of, homes_of, others_in, Stands, Leads, Fits, IsKept, after_leave, after_note, with_knowledge, Notes, HandsOn, with_note}
 use Rattle.std.proofs.Math.Seq.{drop-append_seam}
-use mathlib.Core.List.{IsPrefix}
-use mathlib.Core.Option.{none, some}
-use Rattle.atomic_table.specs.Table.{State, Me, step, keeps, gives, rest, stepped, Allows}
-use Rattle.atomic_table.proofs.Lists.{set_here}
-use Rattle.turn_lock.specs.declared.rule.View.{View}
-use Rattle.turn_lock.specs.inner.Rule.{Spot, home, away, turn_of, homes_of, others_in, Stands, Leads, Fits, IsKept}
-use Rattle.turn_lock.specs.Knowledge.{after_leave, after_note}
-use Rattle.turn_lock.specs.inner.Steps.{with_knowledge, Notes, HandsOn, with_note}
 use Rattle.turn_lock.proofs.Lists.{prefix_self, prefix_more, prefix_trans, items_more, items_same}
 use Rattle.turn_lock.proofs.Views.{there_is, one_spot, none_else, moved, one_owner, steps}
 

@@ -1,16 +1,6 @@
 -- How the other views and the value stand while one seat steps.
-use Rattle.std.proofs.Common.{not, ◌&&◌, ◌≡◌, ◌≢◌, ℕ, zero, suc, ◌<◌, Bool, true, false, cond, eqb, List, [], ◌∷◌, length, set, sym, refl, ap, ◌∙◌, subst, ⊎_elim, arith, eq-eqb, ne_eqb, Option, Some, None}
-use mathlib.Core.List.{IsPrefix}
-use mathlib.Core.Logic.{dite}
-use mathlib.Core.Option.{none, some, some-injective, some-ne-none}
+use Rattle.turn_lock.proofs.Common.{not, ◌&&◌, ◌≡◌, ◌≢◌, ℕ, zero, suc, ◌<◌, Bool, true, false, cond, eqb, List, [], ◌∷◌, length, set, sym, refl, ap, ◌∙◌, subst, ⊎_elim, arith, eq-eqb, ne_eqb, Option, Some, None, IsPrefix, dite, none, some, some-injective, some-ne-none, ℕ_discrete, get_elem?, State, at_set, set_else, View, items_of, Spot, home, away, turn_of, homes_of, is_other, others_in, Stands, Leads, Fits, IsKept}
 use mathlib.Core.Option as maybe
-use native.Mathlib.Decide.{ℕ_discrete}
-use lib.ListN.{get_elem?}
-use Rattle.atomic_table.specs.Table.{State}
-use Rattle.atomic_table.proofs.Lists.{at_set, set_else}
-use Rattle.turn_lock.specs.declared.rule.View.{View}
-use Rattle.turn_lock.specs.inner.History.{items_of}
-use Rattle.turn_lock.specs.inner.Rule.{Spot, home, away, turn_of, homes_of, is_other, others_in, Stands, Leads, Fits, IsKept}
 use Rattle.turn_lock.proofs.Lists.{prefix_trans, others-set, weight}
 
 pub there_is : {A : Type 0} (l : List A) (i : ℕ) (a : A) → get_elem? l i ≡ some a → i < length l

@@ -1,12 +1,5 @@
 -- what is read and written where a place belongs
-use Rattle.std.proofs.Common.{◌≡◌, ℕ, ◌+◌, ◌<◌, ◌≤◌, List, [], ◌∷◌, ◌++◌, length, nat_eq, sym, ap, ◌∙◌, subst, arith, append_assoc}
-use Rattle.std.specs.Prelude.{Option, Some, None, Contains, slice_get}
-use Rattle.std.specs.List.{AllByRecursion, IsDistinct}
-use Rattle.std.proofs.lemmas.List.Elements.{Contains-append_right}
-use Rattle.link_lists.specs.inner.Family.{with_behind}
-use Rattle.link_lists.proofs.Kept.{Contains-from_get}
-use Rattle.wait_list.specs.inner.Waiting.{places_below, places_above}
-use Rattle.wait_list.specs.inner.Split.{Rises, IsSplit}
+use Rattle.wait_list.proofs.Common.{◌≡◌, ℕ, ◌+◌, ◌<◌, ◌≤◌, List, [], ◌∷◌, ◌++◌, length, nat_eq, sym, ap, ◌∙◌, subst, arith, append_assoc, Option, Some, None, Contains, slice_get, AllByRecursion, IsDistinct, Contains-append_right, with_behind, Contains-from_get, places_below, places_above, Rises, IsSplit}
 use Rattle.wait_list.proofs.Rising.{each-weaker, each-append, below-split, above-split, strictly-above, rises-insert, with_behind-split, slice_get-behind, slice_get-next, split-at}
 
 -- ---- a place that does not wait

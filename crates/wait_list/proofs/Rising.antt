@@ -1,16 +1,5 @@
 -- rising lists, and what is put into them
-use Rattle.std.proofs.Common.{◌≡◌, ◌≢◌, ℕ, zero, suc, ◌+◌, ◌<◌, ◌≤◌, Bool, true, false, cond, List, [], ◌∷◌, ◌++◌, length, get_or, filter, nat_eq, refl, sym, ap, ◌∙◌, subst, arith, inl, inr, append_assoc, length-append}
-use Rattle.std.specs.Prelude.{Contains, slice_get, nat_lt}
-use Rattle.std.specs.List.{AllByRecursion, IsDistinct}
-use Rattle.std.specs.List.Sorted.{IsStrictlyIncreasing}
-use Rattle.std.proofs.lemmas.Bool.{cases_eq, lt-ltb, le-ltb}
-use Rattle.std.proofs.lemmas.List.{append-nil}
-use Rattle.std.proofs.lemmas.List.Elements.{filter-append, All-from_recursion}
-use Rattle.link_lists.specs.inner.Family.{Family, list_at, IsHeld, with_behind}
-use Rattle.link_lists.proofs.Members.{Contains-here, Contains-there, Contains-nil, Contains-cons_cases, ByRecursion-from, ByRecursion-at, IsDistinct-first, IsDistinct-rest, with_behind-here, with_behind-other}
-use Rattle.link_lists.proofs.Kept.{held-list}
-use Rattle.wait_list.specs.inner.Waiting.{IsRising, places_below, places_above}
-use Rattle.wait_list.specs.inner.Split.{Rises, IsOneList, waiting_of}
+use Rattle.wait_list.proofs.Common.{◌≡◌, ◌≢◌, ℕ, zero, suc, ◌+◌, ◌<◌, ◌≤◌, Bool, true, false, cond, List, [], ◌∷◌, ◌++◌, length, get_or, filter, nat_eq, refl, sym, ap, ◌∙◌, subst, arith, inl, inr, append_assoc, length-append, Contains, slice_get, nat_lt, AllByRecursion, IsDistinct, IsStrictlyIncreasing, cases_eq, lt-ltb, le-ltb, append-nil, filter-append, All-from_recursion, Family, list_at, IsHeld, with_behind, Contains-here, Contains-there, Contains-nil, Contains-cons_cases, ByRecursion-from, ByRecursion-at, IsDistinct-first, IsDistinct-rest, with_behind-here, with_behind-other, held-list, IsRising, places_below, places_above, Rises, IsOneList, waiting_of}
 
 -- ---- facts of each element
 

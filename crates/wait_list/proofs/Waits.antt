@@ -1,12 +1,6 @@
 -- whether a place waits, by the lowest place that is not below it
-use Rattle.std.proofs.Common.{◌≡◌, ◌≢◌, ℕ, zero, suc, ◌-◌, ◌<◌, ◌≤◌, Bool, true, List, [], ◌∷◌, get_or, filter, sym, ap, ◌∙◌, subst, arith, inl, inr}
-use Rattle.std.specs.Prelude.{Option, Some, Contains, slice_get, nat_lt}
-use Rattle.std.specs.List.Sorted.{IsStrictlyIncreasing}
-use Rattle.std.proofs.lemmas.Bool.{ltb-true, lt-ltb, true≢false, cases_Bool, cond-true, cond-false}
+use Rattle.wait_list.proofs.Common.{◌≡◌, ◌≢◌, ℕ, zero, suc, ◌-◌, ◌<◌, ◌≤◌, Bool, true, List, [], ◌∷◌, get_or, filter, sym, ap, ◌∙◌, subst, arith, inl, inr, Option, Some, Contains, slice_get, nat_lt, IsStrictlyIncreasing, ltb-true, lt-ltb, true≢false, cases_Bool, cond-true, cond-false, Contains-here, Contains-there, Contains-nil, Contains-cons_cases, Contains-from_get, places_above}
 use Rattle.std.proofs.lemmas.List.Kept.{AllPairs-from_increasing, IsStrictlyIncreasing-filter}
-use Rattle.link_lists.proofs.Members.{Contains-here, Contains-there, Contains-nil, Contains-cons_cases}
-use Rattle.link_lists.proofs.Kept.{Contains-from_get}
-use Rattle.wait_list.specs.inner.Waiting.{places_above}
 
 -- what a filter keeps passes the test, and was there
 pub Contains-filter : (p : ℕ → Bool) (xs : List ℕ) (y : ℕ) → Contains (filter p xs) y → Contains xs y × (p y ≡ true)

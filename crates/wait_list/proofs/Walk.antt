@@ -1,9 +1,5 @@
 -- a walk from the front to where a place belongs
-use Rattle.std.proofs.Common.{◌≡◌, ℕ, suc, ◌+◌, ◌<◌, ◌≤◌, List, [], ◌∷◌, ◌++◌, length, nat_eq, refl, sym, ap, ◌∙◌, subst, arith, append_assoc, length-append}
-use Rattle.std.specs.Prelude.{Option, Some, None, slice_get}
-use Rattle.std.specs.List.{AllByRecursion, IsDistinct}
-use Rattle.link_lists.proofs.Walks.{nodes_left, nodes_left-at}
-use Rattle.wait_list.specs.inner.Split.{Rises, EndsWith, IsSplit}
+use Rattle.wait_list.proofs.Common.{◌≡◌, ℕ, suc, ◌+◌, ◌<◌, ◌≤◌, List, [], ◌∷◌, ◌++◌, length, nat_eq, refl, sym, ap, ◌∙◌, subst, arith, append_assoc, length-append, Option, Some, None, slice_get, AllByRecursion, IsDistinct, nodes_left, nodes_left-at, Rises, EndsWith, IsSplit}
 use Rattle.wait_list.proofs.Rising.{each-append, each-weaker, rises-right, slice_get-behind, slice_get-next}
 
 -- the places before the current one are below the place, and `last` is the last of them

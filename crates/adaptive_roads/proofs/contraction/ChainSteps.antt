@@ -1,7 +1,5 @@
 -- Chains while links are added, and while links that are not live are passed over.
-use Rattle.std.proofs.Common.{◌≡◌, ◌≢◌, ℕ, zero, suc, ◌<◌, ◌≤◌, inl, inr, refl, sym, ◌∙◌, ap, subst, arith}
-use Rattle.std.proofs.lemmas.Bool.{cases_eq, cases_lt}
-use Rattle.adaptive_roads.specs.inner.contraction.Chains.{IsChained}
+use Rattle.adaptive_roads.proofs.Common.{◌≡◌, ◌≢◌, ℕ, zero, suc, ◌<◌, ◌≤◌, inl, inr, refl, sym, ◌∙◌, ap, subst, arith, cases_eq, cases_lt, IsChained}
 
 -- the chain of a node begins before the end
 pub first-le : (count : ℕ) (node first next : ℕ → ℕ) (IsLive : ℕ → Type 0) → IsChained count node first next IsLive → (x : ℕ) → first x ≤ count

@@ -1,15 +1,5 @@
 -- The neighbors of a node are collected along a chain.
-use Rattle.std.proofs.Common.{◌≡◌, ◌≢◌, ℕ, suc, ◌<◌, ◌≤◌, ◌⊎◌, inl, inr, List, [], ◌∷◌, ◌++◌, length, get_or, sym, ◌∙◌, ap, subst, arith}
-use Rattle.std.specs.Prelude.{Contains}
-use Rattle.std.proofs.lemmas.Bool.{cases_eq}
-use Rattle.std.proofs.lemmas.List.Elements.{Contains-append_left, Contains-push, Contains-push_cases}
-use Rattle.road_times.specs.declared.side.Side.{Side}
-use Rattle.ride_model.specs.declared.network.RoadArc.{RoadArc}
-use Rattle.adaptive_roads.specs.declared.contraction.graph.Chain.{Chain}
-use Rattle.adaptive_roads.specs.declared.contraction.graph.Neighbor.{Neighbor}
-use Rattle.road_times.specs.declared.side.Side.TheVariants.{Out, Back}
-use Rattle.adaptive_roads.specs.declared.contraction.graph.Graph.{Graph}
-use Rattle.adaptive_roads.specs.inner.contraction.Graph.{arc_at, next_of, chain_at, firsts_in, neighbor_of, IsOnward, AreChained, IsGraph}
+use Rattle.adaptive_roads.proofs.Common.{◌≡◌, ◌≢◌, ℕ, suc, ◌<◌, ◌≤◌, ◌⊎◌, inl, inr, List, [], ◌∷◌, ◌++◌, length, get_or, sym, ◌∙◌, ap, subst, arith, Contains, cases_eq, Contains-append_left, Contains-push, Contains-push_cases, Side, RoadArc, Chain, Neighbor, Out, Back, Graph, arc_at, next_of, chain_at, firsts_in, neighbor_of, IsOnward, AreChained, IsGraph}
 
 -- the cursor names an arc of the node, or is the end of its chain
 abbrev pub IsCursor : Side → List RoadArc → ℕ → ℕ → Type 0

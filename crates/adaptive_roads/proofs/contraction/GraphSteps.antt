@@ -1,16 +1,5 @@
 -- A graph while it grows.
-use Rattle.std.proofs.Common.{◌≡◌, ◌≢◌, ℕ, suc, ◌+◌, ◌<◌, ◌≤◌, inl, inr, List, [], ◌∷◌, ◌++◌, length, get_or, set, refl, sym, ◌∙◌, ap, subst, arith, length-append}
-use Rattle.std.proofs.lemmas.Bool.{cases_eq, cases_lt}
-use Rattle.std.proofs.lemmas.List.{get_or-set_same, get_or-set_other, length-set, length_push, get_or_push, get_or_append_left}
-use Rattle.ride_model.specs.declared.network.RoadArc.{RoadArc}
-use Rattle.road_times.specs.declared.side.Side.{Side}
-use Rattle.road_times.specs.declared.side.Side.TheVariants.{Out, Back}
-use Rattle.road_times.specs.inner.Turned.{turned_arc}
-use Rattle.road_times.specs.inner.Sorting.{no_arc}
-use Rattle.adaptive_roads.specs.declared.contraction.graph.Chain.{Chain}
-use Rattle.adaptive_roads.specs.inner.contraction.Chains.{IsChained}
-use Rattle.adaptive_roads.specs.inner.contraction.Graph.{no_chain, chain_at, arc_at, next_of, IsLive, AreChained, IsFit, IsGraphOf}
-use Rattle.adaptive_roads.specs.inner.contraction.Levels.{level_in, IsOrdered}
+use Rattle.adaptive_roads.proofs.Common.{◌≡◌, ◌≢◌, ℕ, suc, ◌+◌, ◌<◌, ◌≤◌, inl, inr, List, [], ◌∷◌, ◌++◌, length, get_or, set, refl, sym, ◌∙◌, ap, subst, arith, length-append, cases_eq, cases_lt, get_or-set_same, get_or-set_other, length-set, length_push, get_or_push, get_or_append_left, RoadArc, Side, Out, Back, turned_arc, no_arc, Chain, IsChained, no_chain, chain_at, arc_at, next_of, IsLive, AreChained, IsFit, IsGraphOf, level_in, IsOrdered}
 use Rattle.adaptive_roads.proofs.contraction.ChainSteps.{chained-added, chained-fewer}
 
 -- the chains of one side after an arc was added

@@ -1,24 +1,7 @@
 -- Shortcuts, and the contraction of a node that is bypassed.
-use Rattle.std.proofs.Common.{◌≡◌, ◌≢◌, ℕ, ◌+◌, ◌<◌, ◌≤◌, inl, inr, List, [], ◌∷◌, length, get_or, sym, ◌∙◌, ap, subst, arith, length-append}
-use Rattle.std.specs.Prelude.{Contains}
-use Rattle.std.proofs.lemmas.Bool.{cases_eq}
-use Rattle.ride_model.specs.declared.network.RoadArc.{RoadArc}
-use Rattle.ride_model.specs.Road.{RoadMap}
-use Rattle.road_times.specs.declared.side.Side.{Side}
-use Rattle.road_times.specs.declared.side.Side.TheVariants.{Out, Back}
-use Rattle.road_times.specs.inner.Turned.{turned_arc}
-use Rattle.road_times.specs.inner.Sorting.{no_arc}
-use Rattle.std.proofs.lemmas.List.{get_or_default}
-use Rattle.std.proofs.lemmas.List.Elements.{Contains-get_or, Contains-append_left, Contains-push, Contains-push_cases}
-use Rattle.adaptive_roads.specs.inner.hierarchy_laws.Hierarchy.{IsHierarchy, IsApart, IsBypassed}
+use Rattle.adaptive_roads.proofs.Common.{◌≡◌, ◌≢◌, ℕ, ◌+◌, ◌<◌, ◌≤◌, inl, inr, List, [], ◌∷◌, length, get_or, sym, ◌∙◌, ap, subst, arith, length-append, Contains, cases_eq, RoadArc, RoadMap, Side, Out, Back, turned_arc, no_arc, get_or_default, Contains-get_or, Contains-append_left, Contains-push, Contains-push_cases, IsHierarchy, IsApart, IsBypassed, Neighbor, Graph, neighbor_of, IsFit, IsGraph, IsSameGraph, HasPushed, IsNeighbor, IsTakenOut, level_in, ReachesPast, IsHierarchyGraph, IsShortcut, HasShortcuts, IsIncoming, IsOutgoing, IsCovered}
 use Rattle.adaptive_roads.proofs.hierarchy_laws.Ways.{reaches-same, reaches-arc, reaches-append, reaches-mapped, reaches-carried}
 use Rattle.adaptive_roads.proofs.hierarchy_laws.Growing.{hierarchy-grown, hierarchy-taken}
-use Rattle.adaptive_roads.specs.declared.contraction.graph.Neighbor.{Neighbor}
-use Rattle.adaptive_roads.specs.declared.contraction.graph.Graph.{Graph}
-use Rattle.adaptive_roads.specs.inner.contraction.Graph.{neighbor_of, IsFit, IsGraph, IsSameGraph, HasPushed, IsNeighbor, IsTakenOut}
-use Rattle.adaptive_roads.specs.inner.contraction.Levels.{level_in}
-use Rattle.adaptive_roads.specs.inner.contraction.Witness.{ReachesPast}
-use Rattle.adaptive_roads.specs.inner.contraction.Growth.{IsHierarchyGraph, IsShortcut, HasShortcuts, IsIncoming, IsOutgoing, IsCovered}
 use Rattle.adaptive_roads.proofs.contraction.Turning.{place-of_arc}
 use Rattle.adaptive_roads.proofs.contraction.Pruning.{same-none}
 

@@ -1,17 +1,5 @@
 -- Arcs to contracted nodes are passed over.
-use Rattle.std.proofs.Common.{◌≡◌, ℕ, suc, ◌<◌, inl, inr, List, length, get_or, set, refl, sym, ◌∙◌, ap, subst, arith}
-use Rattle.std.proofs.lemmas.Bool.{cases_eq}
-use Rattle.std.proofs.lemmas.List.{get_or-set_same, get_or-set_other, length-set}
-use Rattle.ride_model.specs.declared.network.RoadArc.{RoadArc}
-use Rattle.ride_model.specs.Road.{RoadMap}
-use Rattle.road_times.specs.declared.side.Side.{Side}
-use Rattle.road_times.specs.declared.side.Side.TheVariants.{Out, Back}
-use Rattle.adaptive_roads.specs.inner.hierarchy_laws.Hierarchy.{IsHierarchyOf}
-use Rattle.adaptive_roads.specs.declared.contraction.graph.Chain.{Chain}
-use Rattle.adaptive_roads.specs.declared.contraction.graph.Graph.{Graph}
-use Rattle.adaptive_roads.specs.inner.contraction.Levels.{level_in}
-use Rattle.adaptive_roads.specs.inner.contraction.Graph.{no_chain, chain_at, arc_at, next_of, relinked, IsLive, AreChained, IsGraphOf, IsSameGraph}
-use Rattle.adaptive_roads.specs.inner.contraction.Growth.{IsHierarchyGraph}
+use Rattle.adaptive_roads.proofs.Common.{◌≡◌, ℕ, suc, ◌<◌, inl, inr, List, length, get_or, set, refl, sym, ◌∙◌, ap, subst, arith, cases_eq, get_or-set_same, get_or-set_other, length-set, RoadArc, RoadMap, Side, Out, Back, IsHierarchyOf, Chain, Graph, level_in, no_chain, chain_at, arc_at, next_of, relinked, IsLive, AreChained, IsGraphOf, IsSameGraph, IsHierarchyGraph}
 use Rattle.adaptive_roads.proofs.contraction.ChainSteps.{chained-same, chained-skipped}
 
 -- a chain whose next was written, and its next on the other side

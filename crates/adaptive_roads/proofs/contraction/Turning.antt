@@ -1,13 +1,5 @@
 -- Arcs as a search meets them.
-use Rattle.std.proofs.Common.{◌≡◌, ℕ, ◌<◌, List, length, refl, ◌∙◌, ap}
-use Rattle.std.specs.Prelude.{Contains}
-use Rattle.std.proofs.lemmas.List.{get_or_default}
-use Rattle.ride_model.specs.declared.network.RoadArc.{RoadArc}
-use Rattle.road_times.specs.declared.side.Side.{Side}
-use Rattle.road_times.specs.declared.side.Side.TheVariants.{Out, Back}
-use Rattle.road_times.specs.inner.Turned.{turned_arc}
-use Rattle.road_times.specs.inner.Sorting.{no_arc}
-use Rattle.adaptive_roads.specs.inner.contraction.Graph.{arc_at}
+use Rattle.adaptive_roads.proofs.Common.{◌≡◌, ℕ, ◌<◌, List, length, refl, ◌∙◌, ap, Contains, get_or_default, RoadArc, Side, Out, Back, turned_arc, no_arc, arc_at}
 
 pub turned-turned : (side : Side) (arc : RoadArc) → turned_arc side (turned_arc side arc) ≡ arc
 turned-turned Out arc = refl

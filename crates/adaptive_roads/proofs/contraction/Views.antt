@@ -1,15 +1,6 @@
 -- The hierarchy that a contract sees is that of the graph.
-use Rattle.std.proofs.Common.{◌≡◌, ℕ, inl, inr, Bool, false, length, sym, ◌∙◌, subst, arith}
-use Rattle.std.specs.Prelude.{Contains, All}
-use Rattle.std.proofs.lemmas.List.Elements.{All-from_get_or}
-use Rattle.ride_model.specs.Road.{RoadMap, IsArc}
-use Rattle.road_times.specs.inner.Sorting.{no_arc}
-use Rattle.adaptive_roads.specs.inner.hierarchy_laws.Hierarchy.{IsHierarchyOf}
+use Rattle.adaptive_roads.proofs.Common.{◌≡◌, ℕ, inl, inr, Bool, false, length, sym, ◌∙◌, subst, arith, Contains, All, All-from_get_or, RoadMap, IsArc, no_arc, IsHierarchyOf, Graph, level_in, IsGraph, IsContractionOf, IsFitContraction}
 use Rattle.adaptive_roads.proofs.hierarchy_laws.Growing.{hierarchy-none}
-use Rattle.adaptive_roads.specs.declared.contraction.graph.Graph.{Graph}
-use Rattle.adaptive_roads.specs.inner.contraction.Levels.{level_in}
-use Rattle.adaptive_roads.specs.inner.contraction.Graph.{IsGraph}
-use Rattle.adaptive_roads.specs.inner.contraction.Contracted.{IsContractionOf, IsFitContraction}
 use Rattle.adaptive_roads.specs.inner.contraction.View.{contracted_of}
 
 -- while no node is contracted, each has the level of the core

@@ -1,22 +1,9 @@
 -- The steps of a witness search.
-use Rattle.std.proofs.Common.{◌≡◌, ◌≢◌, ℕ, ◌+◌, ◌<◌, ◌≤◌, inl, inr, length, get_or, set, refl, sym, ◌∙◌, ap, subst, arith}
-use Rattle.std.specs.Prelude.{Option, Some, None, Contains, min, replicate}
-use Rattle.adaptive_roads.specs.inner.hierarchy_laws.Ways.{Reaches}
-use Rattle.adaptive_roads.specs.inner.hierarchy_laws.Hierarchy.{IsApart}
+use Rattle.adaptive_roads.proofs.Common.{◌≡◌, ◌≢◌, ℕ, ◌+◌, ◌<◌, ◌≤◌, inl, inr, length, get_or, set, refl, sym, ◌∙◌, ap, subst, arith, Option, Some, None, Contains, min, replicate, Reaches, IsApart, cases_eq, cases_lt, get_or-set_same, get_or-set_other, length-set, length-replicate, Contains-get_or, RoadArc, no_arc, Graph, Witness, IsGraph, level_in, IsFound, IsRoomy, IsWitness, reached_at, nothing_reached}
 use Rattle.adaptive_roads.proofs.hierarchy_laws.Ways.{reaches-same, reaches-behind}
 use Rattle.road_times.proofs.Lists.{all_none}
-use Rattle.std.proofs.lemmas.Bool.{cases_eq, cases_lt}
-use Rattle.std.proofs.lemmas.List.{get_or-set_same, get_or-set_other, length-set, length-replicate}
-use Rattle.std.proofs.lemmas.List.Elements.{Contains-get_or}
-use Rattle.ride_model.specs.declared.network.RoadArc.{RoadArc}
-use Rattle.road_times.specs.inner.Sorting.{no_arc}
 use Rattle.radix_queue.specs.inner.Queue.{key_of, lesser_key}
-use Rattle.adaptive_roads.specs.declared.contraction.graph.Graph.{Graph}
 use Rattle.adaptive_roads.specs.declared.contraction.witness.Reached.{Reached}
-use Rattle.adaptive_roads.specs.declared.contraction.witness.Witness.{Witness}
-use Rattle.adaptive_roads.specs.inner.contraction.Graph.{IsGraph}
-use Rattle.adaptive_roads.specs.inner.contraction.Levels.{level_in}
-use Rattle.adaptive_roads.specs.inner.contraction.Witness.{IsFound, IsRoomy, IsWitness, reached_at, nothing_reached}
 
 -- the key after another was offered is one of the two
 lesser-cases : (had : Option ℕ) (time key : ℕ) (Holds : ℕ → Type 0) → ((k : ℕ) → had ≡ Some k → Holds k) → Holds time

@@ -1,11 +1,5 @@
 -- Up and down reach every pair, by the highest node of a way.
-use Rattle.std.proofs.Common.{◌≡◌, ◌≢◌, ℕ, zero, suc, ◌+◌, ◌-◌, ◌<◌, ◌≤◌, inl, inr, List, [], ◌∷◌, refl, sym, ◌∙◌, ap, subst, arith}
-use Rattle.std.proofs.lemmas.Bool.{cases_eq, cases_lt}
-use Rattle.ride_model.specs.declared.network.RoadArc.{RoadArc}
-use Rattle.ride_model.specs.inner.Road.{weight_of}
-use Rattle.model_laws.proofs.Walks.{weight-cons}
-use Rattle.adaptive_roads.specs.inner.hierarchy_laws.Ways.{IsWay, Reaches}
-use Rattle.adaptive_roads.specs.inner.hierarchy_laws.Hierarchy.{IsRemaining, IsRising, IsFalling, IsHierarchy, IsUpDown}
+use Rattle.adaptive_roads.proofs.Common.{◌≡◌, ◌≢◌, ℕ, zero, suc, ◌+◌, ◌-◌, ◌<◌, ◌≤◌, inl, inr, List, [], ◌∷◌, refl, sym, ◌∙◌, ap, subst, arith, cases_eq, cases_lt, RoadArc, weight_of, weight-cons, IsWay, Reaches, IsRemaining, IsRising, IsFalling, IsHierarchy, IsUpDown}
 use Rattle.adaptive_roads.proofs.hierarchy_laws.Ways.{reaches-same, reaches-more, reaches-append, reaches-mapped, reaches-before, reaches-behind, way-mapped}
 
 -- A way among the nodes from a level upward, to a node above that level, has one by nodes above it: if it begins above the

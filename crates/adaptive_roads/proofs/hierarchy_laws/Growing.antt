@@ -1,9 +1,5 @@
 -- A hierarchy grows: by shortcuts, and by a node that leaves the core.
-use Rattle.std.proofs.Common.{◌≡◌, ◌≢◌, ℕ, ◌+◌, ◌<◌, ◌≤◌, ◌⊎◌, inl, inr, sym, ◌∙◌, ap, subst, arith}
-use Rattle.std.proofs.lemmas.Bool.{cases_eq, cases_lt}
-use Rattle.ride_model.specs.declared.network.RoadArc.{RoadArc}
-use Rattle.adaptive_roads.specs.inner.hierarchy_laws.Ways.{Reaches}
-use Rattle.adaptive_roads.specs.inner.hierarchy_laws.Hierarchy.{IsRemaining, IsHierarchy, IsApart, IsBypassed, IsRaised, flipped}
+use Rattle.adaptive_roads.proofs.Common.{◌≡◌, ◌≢◌, ℕ, ◌+◌, ◌<◌, ◌≤◌, ◌⊎◌, inl, inr, sym, ◌∙◌, ap, subst, arith, cases_eq, cases_lt, RoadArc, Reaches, IsRemaining, IsHierarchy, IsApart, IsBypassed, IsRaised, flipped}
 use Rattle.adaptive_roads.proofs.hierarchy_laws.Ways.{reaches-arc, reaches-mapped, reaches-carried, reaches-flipped}
 
 -- a map is a hierarchy of itself, of which no node is contracted

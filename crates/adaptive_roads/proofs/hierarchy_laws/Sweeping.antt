@@ -1,15 +1,5 @@
 -- The sweep computes travel times.
-use Rattle.std.proofs.Common.{◌≡◌, ℕ, ◌+◌, ◌<◌, ◌≤◌, ◌⊎◌, inl, inr, true, false, cond, List, [], ◌∷◌, ltb, refl, sym, subst, arith}
-use Rattle.std.specs.Prelude.{Option, Some, None, Contains}
-use Rattle.std.proofs.lemmas.Bool.{ltb-true, ltb-false}
-use Rattle.ride_model.specs.declared.network.RoadArc.{RoadArc}
-use Rattle.ride_model.specs.Road.{RoadMap, IsRoadMap, travel}
-use Rattle.ride_model.specs.inner.Road.{IsWalk, IsTravel, weight_of}
-use Rattle.model_laws.proofs.Walks.{weight-cons}
-use Rattle.model_laws.proofs.TravelTimes.{travel-is_travel, travel-le, travel_is_least}
-use Rattle.adaptive_roads.specs.inner.hierarchy_laws.Ways.{IsWay, Reaches}
-use Rattle.adaptive_roads.specs.inner.hierarchy_laws.Hierarchy.{IsRising, IsFalling, IsHierarchy, IsUpDown, flipped}
-use Rattle.adaptive_roads.specs.inner.hierarchy_laws.Labels.{IsLabel, IsGathered, time_of}
+use Rattle.adaptive_roads.proofs.Common.{◌≡◌, ℕ, ◌+◌, ◌<◌, ◌≤◌, ◌⊎◌, inl, inr, true, false, cond, List, [], ◌∷◌, ltb, refl, sym, subst, arith, Option, Some, None, Contains, ltb-true, ltb-false, RoadArc, RoadMap, IsRoadMap, travel, IsWalk, IsTravel, weight_of, weight-cons, travel-is_travel, travel-le, travel_is_least, IsWay, Reaches, IsRising, IsFalling, IsHierarchy, IsUpDown, flipped, IsLabel, IsGathered, time_of}
 use Rattle.adaptive_roads.proofs.hierarchy_laws.Ways.{reaches-same, reaches-carried, reaches-before, reaches-flipped, way-from_walk, walk-from_way}
 use Rattle.adaptive_roads.proofs.hierarchy_laws.Climbing.{climbs, up_down-behind, reaches-up_down}
 

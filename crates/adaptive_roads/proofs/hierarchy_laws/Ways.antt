@@ -1,13 +1,5 @@
 -- Ways, and what they weigh.
-use Rattle.std.proofs.Common.{◌≡◌, ℕ, ◌+◌, ◌≤◌, List, [], ◌∷◌, ◌++◌, refl, sym, subst, arith}
-use Rattle.std.specs.Prelude.{Contains}
-use Rattle.std.proofs.lemmas.List.Sums.{sum_by-append}
-use Rattle.ride_model.specs.declared.network.RoadArc.{RoadArc}
-use Rattle.ride_model.specs.Road.{RoadMap}
-use Rattle.ride_model.specs.inner.Road.{IsWalk, weight_of}
-use Rattle.model_laws.proofs.Walks.{weight-cons}
-use Rattle.adaptive_roads.specs.inner.hierarchy_laws.Ways.{IsWay, Reaches}
-use Rattle.adaptive_roads.specs.inner.hierarchy_laws.Hierarchy.{flipped}
+use Rattle.adaptive_roads.proofs.Common.{◌≡◌, ℕ, ◌+◌, ◌≤◌, List, [], ◌∷◌, ◌++◌, refl, sym, subst, arith, Contains, sum_by-append, RoadArc, RoadMap, IsWalk, weight_of, weight-cons, IsWay, Reaches, flipped}
 
 -- one way after another
 pub way-append : (Kind : RoadArc → Type 0) (x y z : ℕ) (first second : List RoadArc) → IsWay Kind x y first → IsWay Kind y z second

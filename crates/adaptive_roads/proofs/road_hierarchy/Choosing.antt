@@ -1,23 +1,6 @@
 -- Which nodes are selected, from the highest down.
-use Rattle.std.proofs.Common.{◌≡◌, ℕ, ◌+◌, ◌-◌, ◌<◌, ◌≤◌, inl, inr, Bool, List, [], ◌∷◌, ◌++◌, length, set, refl, sym, ◌∙◌, ap, subst, arith, length-append}
-use Rattle.std.specs.Prelude.{map, All, slice_range}
-use Rattle.std.proofs.lemmas.Bool.{cases_eq}
-use Rattle.std.proofs.lemmas.List.{get_or-append-add, get_or-map, length-map}
-use Rattle.std.proofs.lemmas.List.Elements.{All-from_get_or}
-use Rattle.ride_model.specs.declared.network.RoadArc.{RoadArc}
-use Rattle.road_times.specs.declared.side.Side.{Side}
-use Rattle.adaptive_roads.specs.inner.hierarchy_laws.Hierarchy.{IsFalling}
-use Rattle.adaptive_roads.specs.inner.contraction.Levels.{level_in}
-use Rattle.adaptive_roads.specs.inner.contraction.Contracted.{Contracted, IsFitContraction}
-use Rattle.adaptive_roads.specs.declared.road_hierarchy.descents.Upper.{Upper}
-use Rattle.adaptive_roads.specs.declared.road_hierarchy.selected.Step.{Step}
+use Rattle.adaptive_roads.proofs.Common.{◌≡◌, ℕ, ◌+◌, ◌-◌, ◌<◌, ◌≤◌, inl, inr, Bool, List, [], ◌∷◌, ◌++◌, length, set, refl, sym, ◌∙◌, ap, subst, arith, length-append, map, All, slice_range, cases_eq, get_or-append-add, get_or-map, length-map, All-from_get_or, RoadArc, Side, IsFalling, level_in, Contracted, IsFitContraction, Upper, Step, IsLinkBy, start_at, IsIn, no_upper, upper_at, IsUpperOf, AreDescents, IsMarked, node_at, AreClosed, no_step, step_at, step_from, IsSelecting, IsSelectingOf, IsFrom, AreLaidOut, IsSelectionOf, selection_of, IsWhole}
 use Rattle.adaptive_roads.specs.declared.road_hierarchy.selected.Selecting.{Selecting}
-use Rattle.adaptive_roads.specs.inner.road_hierarchy.Links.{IsLinkBy}
-use Rattle.adaptive_roads.specs.inner.road_hierarchy.Parts.{start_at, IsIn}
-use Rattle.adaptive_roads.specs.inner.road_hierarchy.Descents.{no_upper, upper_at, IsUpperOf, AreDescents}
-use Rattle.adaptive_roads.specs.inner.road_hierarchy.Marks.{IsMarked, node_at, AreClosed}
-use Rattle.adaptive_roads.specs.inner.road_hierarchy.Selection.{no_step, step_at, step_from, IsSelecting, IsSelectingOf, IsFrom, AreLaidOut, IsSelectionOf, selection_of}
-use Rattle.adaptive_roads.specs.inner.road_hierarchy.Packed.{IsWhole}
 use Rattle.adaptive_roads.proofs.road_hierarchy.Parts.{slice-at, length-slice, parts-none}
 use Rattle.adaptive_roads.proofs.road_hierarchy.Marking.{node-of_level, link-inside, upper-higher}
 use Rattle.adaptive_roads.proofs.road_hierarchy.Selecting.{AreNewSteps, same-arc, selecting-added, steps-kept, selecting-few}

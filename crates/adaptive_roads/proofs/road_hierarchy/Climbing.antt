@@ -1,26 +1,6 @@
 -- The climb, level by level.
-use Rattle.std.proofs.Common.{◌≡◌, ◌≢◌, ℕ, zero, suc, ◌+◌, ◌-◌, ◌<◌, ◌≤◌, ◌⊎◌, inl, inr, List, [], ◌∷◌, length, set, refl, sym, ◌∙◌, ap, subst, arith}
-use Rattle.std.specs.Prelude.{slice_range}
-use Rattle.std.proofs.lemmas.Bool.{cases_eq, cases_lt}
-use Rattle.std.proofs.lemmas.List.{get_or-set_same, get_or-set_other, length-set, get_or_past}
-use Rattle.ride_model.specs.declared.network.RoadArc.{RoadArc}
-use Rattle.ride_model.specs.inner.Road.{weight_of}
-use Rattle.model_laws.proofs.Walks.{weight-cons}
-use Rattle.road_times.specs.declared.side.Side.{Side}
-use Rattle.road_times.specs.declared.side.Side.TheVariants.{Out, Back}
-use Rattle.adaptive_roads.specs.inner.hierarchy_laws.Ways.{IsWay, Reaches}
-use Rattle.adaptive_roads.specs.inner.hierarchy_laws.Hierarchy.{IsRising, IsFalling, flipped}
+use Rattle.adaptive_roads.proofs.Common.{◌≡◌, ◌≢◌, ℕ, zero, suc, ◌+◌, ◌-◌, ◌<◌, ◌≤◌, ◌⊎◌, inl, inr, List, [], ◌∷◌, length, set, refl, sym, ◌∙◌, ap, subst, arith, slice_range, cases_eq, cases_lt, get_or-set_same, get_or-set_other, length-set, get_or_past, RoadArc, weight_of, weight-cons, Side, Out, Back, IsWay, Reaches, IsRising, IsFalling, flipped, level_in, Contracted, IsFitContraction, Upper, IsLinkBy, start_at, IsIn, AreParts, node_at, no_upper, upper_at, AreDescents, IsWhole, never, level_of, IsRelaxed, IsStep, IsClimb, opposite, AreClimbs}
 use Rattle.adaptive_roads.proofs.hierarchy_laws.Ways.{reaches-same, reaches-behind}
-use Rattle.adaptive_roads.specs.inner.contraction.Levels.{level_in}
-use Rattle.adaptive_roads.specs.inner.contraction.Contracted.{Contracted, IsFitContraction}
-use Rattle.adaptive_roads.specs.declared.road_hierarchy.descents.Upper.{Upper}
-use Rattle.adaptive_roads.specs.inner.road_hierarchy.Links.{IsLinkBy}
-use Rattle.adaptive_roads.specs.inner.road_hierarchy.Parts.{start_at, IsIn, AreParts}
-use Rattle.adaptive_roads.specs.inner.road_hierarchy.Marks.{node_at}
-use Rattle.adaptive_roads.specs.inner.road_hierarchy.Descents.{no_upper, upper_at, AreDescents}
-use Rattle.adaptive_roads.specs.inner.road_hierarchy.Packed.{IsWhole}
-use Rattle.adaptive_roads.specs.inner.road_hierarchy.Sweep.{never}
-use Rattle.adaptive_roads.specs.inner.road_hierarchy.Climb.{level_of, IsRelaxed, IsStep, IsClimb, opposite, AreClimbs}
 use Rattle.adaptive_roads.proofs.road_hierarchy.Parts.{slice-at, length-slice}
 use Rattle.adaptive_roads.proofs.road_hierarchy.Marking.{node-of_level, link-inside, upper-higher}
 

@@ -1,13 +1,5 @@
 -- The sweep, place by place.
-use Rattle.std.proofs.Common.{◌≡◌, ◌≢◌, ℕ, ◌+◌, ◌-◌, ◌<◌, ◌≤◌, ◌⊎◌, inl, inr, List, length, set, sym, ◌∙◌, ap, subst, arith}
-use Rattle.std.specs.Prelude.{slice_range}
-use Rattle.std.proofs.lemmas.Bool.{cases_lt}
-use Rattle.std.proofs.lemmas.List.{get_or-set_same, get_or-set_other}
-use Rattle.adaptive_roads.specs.declared.road_hierarchy.selected.Step.{Step}
-use Rattle.adaptive_roads.specs.inner.road_hierarchy.Parts.{start_at, IsIn, AreParts}
-use Rattle.adaptive_roads.specs.inner.road_hierarchy.Marks.{node_at}
-use Rattle.adaptive_roads.specs.inner.road_hierarchy.Selection.{no_step, step_at, ComeEarlier}
-use Rattle.adaptive_roads.specs.inner.road_hierarchy.Sweep.{never, through, IsSwept}
+use Rattle.adaptive_roads.proofs.Common.{◌≡◌, ◌≢◌, ℕ, ◌+◌, ◌-◌, ◌<◌, ◌≤◌, ◌⊎◌, inl, inr, List, length, set, sym, ◌∙◌, ap, subst, arith, slice_range, cases_lt, get_or-set_same, get_or-set_other, Step, start_at, IsIn, AreParts, node_at, no_step, step_at, ComeEarlier, never, through, IsSwept}
 use Rattle.adaptive_roads.proofs.road_hierarchy.Parts.{slice-at, length-slice}
 
 -- a write at a later place

@@ -1,9 +1,5 @@
 -- The upper ends of one level, as a part of all.
-use Rattle.std.proofs.Common.{◌≡◌, ℕ, ◌+◌, ◌-◌, ◌<◌, List, length, ◌∙◌, ap, arith}
-use Rattle.std.specs.Prelude.{slice_range}
-use Rattle.adaptive_roads.specs.declared.road_hierarchy.descents.Upper.{Upper}
-use Rattle.adaptive_roads.specs.inner.road_hierarchy.Parts.{start_at, IsIn, AreParts}
-use Rattle.adaptive_roads.specs.inner.road_hierarchy.Descents.{no_upper, upper_at}
+use Rattle.adaptive_roads.proofs.Common.{◌≡◌, ℕ, ◌+◌, ◌-◌, ◌<◌, List, length, ◌∙◌, ap, arith, slice_range, Upper, start_at, IsIn, AreParts, no_upper, upper_at}
 use Rattle.adaptive_roads.proofs.road_hierarchy.Parts.{slice-at, length-slice}
 
 pub record IsPart (starts : List ℕ) (uppers part : List Upper) (level : ℕ) : Type 0 where

@@ -1,21 +1,5 @@
 -- Marks, closed from the lowest node on.
-use Rattle.std.proofs.Common.{◌≡◌, ◌≢◌, ℕ, ◌+◌, ◌-◌, ◌<◌, ◌≤◌, inl, inr, List, length, refl, sym, ◌∙◌, ap, subst, arith, Bool}
-use Rattle.std.specs.Prelude.{slice_range}
-use Rattle.std.proofs.lemmas.Bool.{cases_lt}
-use Rattle.std.proofs.lemmas.List.Elements.{All-contains}
-use Rattle.ride_model.specs.declared.network.RoadArc.{RoadArc}
-use Rattle.ride_model.specs.Road.{IsArc}
-use Rattle.road_times.specs.declared.side.Side.{Side}
-use Rattle.road_times.specs.declared.side.Side.TheVariants.{Out, Back}
-use Rattle.road_times.specs.inner.Turned.{turned_arc}
-use Rattle.adaptive_roads.specs.inner.hierarchy_laws.Hierarchy.{IsFalling}
-use Rattle.adaptive_roads.specs.inner.contraction.Levels.{level_in, IsOrdered}
-use Rattle.adaptive_roads.specs.inner.contraction.Contracted.{Contracted, IsFitContraction}
-use Rattle.adaptive_roads.specs.declared.road_hierarchy.descents.Upper.{Upper}
-use Rattle.adaptive_roads.specs.inner.road_hierarchy.Links.{IsLinkBy}
-use Rattle.adaptive_roads.specs.inner.road_hierarchy.Parts.{start_at, IsIn, AreParts}
-use Rattle.adaptive_roads.specs.inner.road_hierarchy.Descents.{no_upper, upper_at, AreDescents}
-use Rattle.adaptive_roads.specs.inner.road_hierarchy.Marks.{IsMarked, node_at, AreClosedBelow, AreClosed}
+use Rattle.adaptive_roads.proofs.Common.{◌≡◌, ◌≢◌, ℕ, ◌+◌, ◌-◌, ◌<◌, ◌≤◌, inl, inr, List, length, refl, sym, ◌∙◌, ap, subst, arith, Bool, slice_range, cases_lt, All-contains, RoadArc, IsArc, Side, Out, Back, turned_arc, IsFalling, level_in, IsOrdered, Contracted, IsFitContraction, Upper, IsLinkBy, start_at, IsIn, AreParts, no_upper, upper_at, AreDescents, IsMarked, node_at, AreClosedBelow, AreClosed}
 use Rattle.adaptive_roads.proofs.road_hierarchy.Parts.{slice-at, length-slice}
 use Rattle.adaptive_roads.proofs.road_hierarchy.LevelParts.{IsPart, part-of}
 

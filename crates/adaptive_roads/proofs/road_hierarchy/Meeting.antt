@@ -1,24 +1,7 @@
 -- Two climbs meet at the highest node of a least way.
-use Rattle.std.proofs.Common.{◌≡◌, ℕ, ◌+◌, ◌<◌, ◌≤◌, inl, inr, List, [], ◌∷◌, length, ◌∙◌, ap, subst, arith}
-use Rattle.std.specs.Prelude.{Contains}
-use Rattle.std.proofs.lemmas.Bool.{cases_eq, cases_lt}
-use Rattle.ride_model.specs.declared.network.RoadArc.{RoadArc}
-use Rattle.ride_model.specs.Road.{RoadMap, IsRoadMap, travel}
-use Rattle.model_laws.proofs.TravelTimes.{travel-le}
-use Rattle.road_times.specs.declared.side.Side.TheVariants.{Out, Back}
-use Rattle.adaptive_roads.specs.inner.hierarchy_laws.Ways.{IsWay, Reaches}
-use Rattle.adaptive_roads.specs.inner.hierarchy_laws.Hierarchy.{IsRising, IsFalling, flipped}
-use Rattle.adaptive_roads.specs.inner.hierarchy_laws.Labels.{IsLabel, time_of}
+use Rattle.adaptive_roads.proofs.Common.{◌≡◌, ℕ, ◌+◌, ◌<◌, ◌≤◌, inl, inr, List, [], ◌∷◌, length, ◌∙◌, ap, subst, arith, Contains, cases_eq, cases_lt, RoadArc, RoadMap, IsRoadMap, travel, travel-le, Out, Back, IsWay, Reaches, IsRising, IsFalling, flipped, IsLabel, time_of, level_in, Contracted, IsContractionOf, IsFitContraction, IsLinkBy, node_at, IsWhole, never, label_for, AreClimbs, IsMeeting}
 use Rattle.adaptive_roads.proofs.hierarchy_laws.Ways.{reaches-append, reaches-carried, reaches-mapped, reaches-flipped}
 use Rattle.adaptive_roads.proofs.hierarchy_laws.Climbing.{climbs}
-use Rattle.adaptive_roads.specs.inner.contraction.Levels.{level_in}
-use Rattle.adaptive_roads.specs.inner.contraction.Contracted.{Contracted, IsContractionOf, IsFitContraction}
-use Rattle.adaptive_roads.specs.inner.road_hierarchy.Links.{IsLinkBy}
-use Rattle.adaptive_roads.specs.inner.road_hierarchy.Marks.{node_at}
-use Rattle.adaptive_roads.specs.inner.road_hierarchy.Packed.{IsWhole}
-use Rattle.adaptive_roads.specs.inner.road_hierarchy.Sweep.{never, label_for}
-use Rattle.adaptive_roads.specs.inner.road_hierarchy.Climb.{AreClimbs}
-use Rattle.adaptive_roads.specs.inner.road_hierarchy.Meet.{IsMeeting}
 use Rattle.adaptive_roads.proofs.road_hierarchy.Marking.{link-inside}
 use Rattle.adaptive_roads.proofs.road_hierarchy.Sweeping.{label-unique, label-of_travel, label_for-le, time-of_label}
 

@@ -1,31 +1,7 @@
 -- The arcs of a contraction of all nodes, packed by the levels of their lower ends.
-use Rattle.std.proofs.Common.{◌≡◌, ◌≢◌, ℕ, zero, suc, ◌+◌, ◌-◌, ◌<◌, ◌≤◌, inl, inr, true, false, eqb, List, [], ◌∷◌, length, get_or, refl, sym, ◌∙◌, ap, subst, arith}
-use Rattle.std.specs.Prelude.{Contains, map, flat_map, ◌↔◌}
-use Rattle.std.specs.List.{list_any}
-use Rattle.std.proofs.lemmas.Bool.{cases_eq, cases_lt, eqb-true, ne_eqb}
-use Rattle.std.proofs.lemmas.Map.Keys.{IsDistinct-from_apart}
-use Rattle.std.proofs.lemmas.Map.Steps.{length-le_from_distinct_below}
-use Rattle.std.proofs.lemmas.Map.Views.{Contains-from_any}
-use Rattle.std.proofs.lemmas.List.{get_or-map, length-map, get_or_default}
-use Rattle.std.proofs.lemmas.List.Elements.{All-contains, All-from_get_or, Contains-get_or, Contains-append_left, Contains-append_right, Contains-append_cases, Contains-push, Contains-push_cases}
-use Rattle.ride_model.specs.declared.network.RoadArc.{RoadArc}
-use Rattle.ride_model.specs.Road.{RoadMap, IsArc}
-use Rattle.road_times.specs.declared.side.Side.{Side}
-use Rattle.road_times.specs.declared.side.Side.TheVariants.{Out, Back}
-use Rattle.road_times.specs.inner.Turned.{turned_arc}
-use Rattle.road_times.specs.inner.Sorting.{no_arc}
-use Rattle.adaptive_roads.specs.inner.hierarchy_laws.Ways.{Reaches}
-use Rattle.adaptive_roads.specs.inner.hierarchy_laws.Hierarchy.{IsFalling, IsRemaining, IsHierarchy}
+use Rattle.adaptive_roads.proofs.Common.{◌≡◌, ◌≢◌, ℕ, zero, suc, ◌+◌, ◌-◌, ◌<◌, ◌≤◌, inl, inr, true, false, eqb, List, [], ◌∷◌, length, get_or, refl, sym, ◌∙◌, ap, subst, arith, Contains, map, flat_map, ◌↔◌, list_any, cases_eq, cases_lt, eqb-true, ne_eqb, IsDistinct-from_apart, length-le_from_distinct_below, Contains-from_any, get_or-map, length-map, get_or_default, All-contains, All-from_get_or, Contains-get_or, Contains-append_left, Contains-append_right, Contains-append_cases, Contains-push, Contains-push_cases, RoadArc, RoadMap, IsArc, Side, Out, Back, turned_arc, no_arc, Reaches, IsFalling, IsRemaining, IsHierarchy, level_in, IsOrdered, Contracted, IsContractionOf, IsFitContraction, Upper, IsLinkBy, HaveLevels, start_at, IsIn, node_at, upper_of, no_upper, upper_at, AreDescents, arc_below, uppers_at, arcs_below, hierarchy_of, IsPacked, IsPackingOf}
 use Rattle.adaptive_roads.proofs.hierarchy_laws.Ways.{reaches-same, reaches-arc, reaches-carried}
-use Rattle.adaptive_roads.specs.inner.contraction.Levels.{level_in, IsOrdered}
-use Rattle.adaptive_roads.specs.inner.contraction.Contracted.{Contracted, IsContractionOf, IsFitContraction}
-use Rattle.adaptive_roads.specs.declared.road_hierarchy.descents.Upper.{Upper}
 use Rattle.adaptive_roads.specs.declared.road_hierarchy.descents.Descents.{Descents}
-use Rattle.adaptive_roads.specs.inner.road_hierarchy.Links.{IsLinkBy, HaveLevels}
-use Rattle.adaptive_roads.specs.inner.road_hierarchy.Parts.{start_at, IsIn}
-use Rattle.adaptive_roads.specs.inner.road_hierarchy.Marks.{node_at}
-use Rattle.adaptive_roads.specs.inner.road_hierarchy.Descents.{upper_of, no_upper, upper_at, AreDescents}
-use Rattle.adaptive_roads.specs.inner.road_hierarchy.Packed.{arc_below, uppers_at, arcs_below, hierarchy_of, IsPacked, IsPackingOf}
 use Rattle.adaptive_roads.proofs.road_hierarchy.Parts.{slice-at, length-slice}
 use Rattle.adaptive_roads.proofs.contraction.Turning.{turned-turned}
 use Rattle.adaptive_roads.proofs.road_hierarchy.Marking.{falls-low, node-of_level}

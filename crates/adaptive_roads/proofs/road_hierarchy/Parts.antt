@@ -1,9 +1,5 @@
 -- Parts of flat arrays, one after another.
-use Rattle.std.proofs.Common.{◌≡◌, ℕ, ◌+◌, ◌-◌, ◌<◌, ◌≤◌, inl, inr, List, [], ◌∷◌, ◌++◌, length, get_or, drop, refl, ◌∙◌, ap, arith}
-use Rattle.std.specs.Prelude.{slice_range}
-use Rattle.std.proofs.lemmas.Bool.{cases_lt}
-use Rattle.std.proofs.lemmas.List.{get_or_append_left, get_or_push, length_push, get_or-take, get_or-drop, length-take, length-drop}
-use Rattle.adaptive_roads.specs.inner.road_hierarchy.Parts.{start_at, IsIn, AreParts}
+use Rattle.adaptive_roads.proofs.Common.{◌≡◌, ℕ, ◌+◌, ◌-◌, ◌<◌, ◌≤◌, inl, inr, List, [], ◌∷◌, ◌++◌, length, get_or, drop, refl, ◌∙◌, ap, arith, slice_range, cases_lt, get_or_append_left, get_or_push, length_push, get_or-take, get_or-drop, length-take, length-drop, start_at, IsIn, AreParts}
 
 pub parts-none : AreParts 0 (0 ∷ []) 0
 parts-none = record {

@@ -1,18 +1,5 @@
 -- Nodes are selected one by one, the highest first.
-use Rattle.std.proofs.Common.{◌≡◌, ◌≢◌, ℕ, zero, suc, ◌+◌, ◌<◌, ◌≤◌, inl, inr, Bool, true, false, eqb, List, [], ◌∷◌, ◌++◌, length, get_or, set, refl, sym, ◌∙◌, ap, subst, arith}
-use Rattle.std.specs.Prelude.{map}
-use Rattle.std.specs.List.{list_any, IsDistinct}
-use Rattle.std.proofs.lemmas.Bool.{cases_eq, cases_lt, eqb-true, ne_eqb}
-use Rattle.std.proofs.lemmas.List.{get_or_append_left, get_or_push, length_push, get_or-map, length-map, get_or-set_same, get_or-set_other, length-set, same_lists, get_or_default}
-use Rattle.std.proofs.lemmas.Map.Keys.{IsDistinct-from_apart}
-use Rattle.std.proofs.lemmas.Map.Steps.{length-le_from_distinct_below}
-use Rattle.std.proofs.lemmas.Map.Views.{Contains-from_any}
-use Rattle.ride_model.specs.declared.network.RoadArc.{RoadArc}
-use Rattle.adaptive_roads.specs.inner.hierarchy_laws.Hierarchy.{IsFalling}
-use Rattle.adaptive_roads.specs.declared.road_hierarchy.selected.Step.{Step}
-use Rattle.adaptive_roads.specs.inner.road_hierarchy.Parts.{IsIn, AreParts}
-use Rattle.adaptive_roads.specs.inner.road_hierarchy.Marks.{node_at}
-use Rattle.adaptive_roads.specs.inner.road_hierarchy.Selection.{no_step, step_at, arc_of, IsFree, IsSelecting}
+use Rattle.adaptive_roads.proofs.Common.{◌≡◌, ◌≢◌, ℕ, zero, suc, ◌+◌, ◌<◌, ◌≤◌, inl, inr, Bool, true, false, eqb, List, [], ◌∷◌, ◌++◌, length, get_or, set, refl, sym, ◌∙◌, ap, subst, arith, map, list_any, IsDistinct, cases_eq, cases_lt, eqb-true, ne_eqb, get_or_append_left, get_or_push, length_push, get_or-map, length-map, get_or-set_same, get_or-set_other, length-set, same_lists, get_or_default, IsDistinct-from_apart, length-le_from_distinct_below, Contains-from_any, RoadArc, IsFalling, Step, IsIn, AreParts, node_at, no_step, step_at, arc_of, IsFree, IsSelecting}
 use Rattle.adaptive_roads.proofs.road_hierarchy.Parts.{parts-added, in-before, in-after, in-last, last-in, in-within}
 
 -- the steps behind the first so many are the arcs that lead down to a node, from nodes that are selected

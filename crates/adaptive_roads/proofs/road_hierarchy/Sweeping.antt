@@ -1,30 +1,9 @@
 -- The labels of a sweep are travel times.
-use Rattle.std.proofs.Common.{◌≡◌, ℕ, zero, suc, ◌+◌, ◌<◌, ◌≤◌, inl, inr, true, false, cond, ltb, List, length, get_or, refl, sym, ◌∙◌, ap, subst, arith}
-use Rattle.std.specs.Prelude.{Option, Some, None, Contains, map, All}
-use Rattle.std.proofs.lemmas.List.{get_or-map, length-map, same_lists}
-use Rattle.ride_model.specs.declared.network.RoadArc.{RoadArc}
-use Rattle.ride_model.specs.Road.{RoadMap, IsRoadMap, travel}
-use Rattle.ride_model.specs.inner.Road.{IsTravel}
-use Rattle.model_laws.proofs.TravelTimes.{travel_is_least, travel-le}
-use Rattle.road_times.specs.declared.side.Side.{Side}
-use Rattle.road_times.specs.declared.side.Side.TheVariants.{Out, Back}
-use Rattle.road_times.specs.inner.Turned.{travel_by}
-use Rattle.adaptive_roads.specs.inner.hierarchy_laws.Ways.{Reaches}
-use Rattle.adaptive_roads.specs.inner.hierarchy_laws.Hierarchy.{IsRising, IsHierarchy, IsUpDown}
-use Rattle.adaptive_roads.specs.inner.hierarchy_laws.Labels.{IsLabel, IsGathered, time_of}
+use Rattle.adaptive_roads.proofs.Common.{◌≡◌, ℕ, zero, suc, ◌+◌, ◌<◌, ◌≤◌, inl, inr, true, false, cond, ltb, List, length, get_or, refl, sym, ◌∙◌, ap, subst, arith, Option, Some, None, Contains, map, All, get_or-map, length-map, same_lists, RoadArc, RoadMap, IsRoadMap, travel, IsTravel, travel_is_least, travel-le, Side, Out, Back, travel_by, Reaches, IsRising, IsHierarchy, IsUpDown, IsLabel, IsGathered, time_of, level_in, Contracted, IsContractionOf, Step, IsLinkBy, IsIn, node_at, AreClimbs, step_at, arc_of, AreStepsOf, ComeEarlier, never, label_for, climb_to, through, IsSwept}
 use Rattle.adaptive_roads.proofs.hierarchy_laws.Ways.{reaches-carried, reaches-flipped, way-from_walk, walk-from_way}
 use Rattle.adaptive_roads.proofs.hierarchy_laws.Climbing.{climbs, reaches-up_down}
 use Rattle.adaptive_roads.proofs.hierarchy_laws.Growing.{hierarchy-flipped}
 use Rattle.adaptive_roads.proofs.hierarchy_laws.Sweeping.{gathered}
-use Rattle.adaptive_roads.specs.inner.contraction.Levels.{level_in}
-use Rattle.adaptive_roads.specs.inner.contraction.Contracted.{Contracted, IsContractionOf}
-use Rattle.adaptive_roads.specs.declared.road_hierarchy.selected.Step.{Step}
-use Rattle.adaptive_roads.specs.inner.road_hierarchy.Links.{IsLinkBy}
-use Rattle.adaptive_roads.specs.inner.road_hierarchy.Parts.{IsIn}
-use Rattle.adaptive_roads.specs.inner.road_hierarchy.Marks.{node_at}
-use Rattle.adaptive_roads.specs.inner.road_hierarchy.Climb.{AreClimbs}
-use Rattle.adaptive_roads.specs.inner.road_hierarchy.Selection.{step_at, arc_of, AreStepsOf, ComeEarlier}
-use Rattle.adaptive_roads.specs.inner.road_hierarchy.Sweep.{never, label_for, climb_to, through, IsSwept}
 
 -- a label of the same weights
 label-same : (limit label : ℕ) (Weighs Others : ℕ → Type 0) → ((weight : ℕ) → Weighs weight → Others weight) → ((weight : ℕ) → Others weight → Weighs weight)

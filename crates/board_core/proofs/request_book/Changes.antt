@@ -1,22 +1,7 @@
 -- What is kept stays so where a request is accepted, or its state is set.
-use Rattle.std.proofs.Common.{◌≡◌, ℕ, ◌+◌, ◌<◌, ◌≤◌, zero, suc, true, List, [], ◌∷◌, ◌++◌, length, Some, None, slice_get, eqb, refl, sym, ap, subst, ◌∙◌, arith}
-use Rattle.std.specs.Prelude.{slice_index_or}
-use Rattle.std.specs.List.{IsDistinct}
-use Rattle.std.specs.Map.{keys_of, values_of}
-use Rattle.std.proofs.lemmas.List.{length-append, map-append}
-use Rattle.std.proofs.lemmas.List.Elements.{recursion_from_All, All-from_recursion, All-append}
-use Rattle.std.proofs.lemmas.Option.{slice_get_within}
-use Rattle.indexmap.specs.IndexMap.{set_value_at}
-use Rattle.ride_model.specs.declared.reply.RequestState.{RequestState}
+use Rattle.board_core.proofs.Common.{◌≡◌, ℕ, ◌+◌, ◌<◌, ◌≤◌, zero, suc, true, List, [], ◌∷◌, ◌++◌, length, Some, None, slice_get, eqb, refl, sym, ap, subst, ◌∙◌, arith, slice_index_or, IsDistinct, keys_of, values_of, length-append, map-append, recursion_from_All, All-from_recursion, All-append, slice_get_within, set_value_at, RequestState, Ride, AcceptedRequest, is_waiting, Accepted, IsBook, request_of, with_state, request_in, requests_in, waiting_places, IsKept, marked}
 use Rattle.ride_model.specs.declared.reply.RequestState.TheVariants.{Waiting as WaitingState}
-use Rattle.ride_model.specs.declared.vehicle.Ride.{Ride}
-use Rattle.ride_model.specs.State.{AcceptedRequest}
-use Rattle.ride_model.specs.Batch.{is_waiting}
 use Rattle.wait_list.specs.inner.Waiting.{Waiting}
-use Rattle.board_core.specs.declared.request_book.Accepted.{Accepted}
-use Rattle.board_core.specs.inner.request_book.Book.{IsBook, request_of, with_state}
-use Rattle.board_core.specs.inner.request_book.Kept.{request_in, requests_in, waiting_places, IsKept}
-use Rattle.board_core.specs.inner.request_book.Marked.{marked}
 use Rattle.board_core.proofs.request_book.Entries.{IsKeyed, request_by, distinct-push, set-at, requests-set, keyed-set, ids-with_state, length-with_state}
 use Rattle.board_core.proofs.request_book.Places.{places-push, places-marked}
 

@@ -1,17 +1,6 @@
 -- Entries whose keys are the ids of their rides.
-use Rattle.std.proofs.Common.{◌≡◌, ℕ, zero, suc, Bool, true, false, cond, List, [], ◌∷◌, ◌++◌, length, Option, Some, None, slice_get, eqb, refl, sym, ap, subst, ◌∙◌, arith}
-use Rattle.std.specs.Prelude.{map, slice_set, option_map, slice_index_or}
-use Rattle.std.specs.List.{AllByRecursion, IsDistinct}
-use Rattle.std.specs.Map.{lookup, keys_of, values_of}
-use Rattle.std.proofs.lemmas.Bool.{eqb-true}
-use Rattle.model_laws.proofs.plain.Numbers.{eqb-comm}
-use Rattle.indexmap.specs.IndexMap.{set_value_at}
-use Rattle.ride_model.specs.declared.reply.RequestState.{RequestState}
-use Rattle.ride_model.specs.declared.vehicle.Ride.{Ride}
-use Rattle.ride_model.specs.State.{AcceptedRequest}
-use Rattle.board_core.specs.declared.request_book.Accepted.{Accepted}
-use Rattle.board_core.specs.inner.request_book.Book.{request_of, with_state}
-use Rattle.board_core.specs.inner.request_book.Kept.{request_in, requests_in}
+use Rattle.board_core.proofs.Common.{◌≡◌, ℕ, zero, suc, Bool, true, false, cond, List, [], ◌∷◌, ◌++◌, length, Option, Some, None, slice_get, eqb, refl, sym, ap, subst, ◌∙◌, arith, map, slice_set, option_map, slice_index_or, AllByRecursion, lookup, keys_of, values_of, eqb-true, eqb-comm, set_value_at, RequestState, Ride, AcceptedRequest, Accepted, request_of, with_state, request_in, requests_in}
+use Rattle.std.specs.List.{IsDistinct}
 
 -- a key is the id of its ride
 abbrev pub IsKeyed : ℕ × Accepted → Type 0

@@ -1,16 +1,7 @@
 -- The places of the requests that wait.
-use Rattle.std.proofs.Common.{◌≡◌, ℕ, ◌+◌, ◌<◌, ◌≤◌, zero, suc, Bool, true, false, cond, List, [], ◌∷◌, ◌++◌, length, Some, Contains, slice_get, ltb, refl, sym, ap, ◌∙◌, subst, inl, inr, arith, true≢false}
-use Rattle.std.specs.Prelude.{slice_set, IsTrue, ◌↔◌}
-use Rattle.std.specs.List.{AllByRecursion}
-use Rattle.std.proofs.lemmas.Bool.{lt-ltb, le-ltb}
+use Rattle.board_core.proofs.Common.{◌≡◌, ℕ, ◌+◌, ◌<◌, ◌≤◌, zero, suc, Bool, true, false, cond, List, [], ◌∷◌, ◌++◌, length, Some, Contains, slice_get, ltb, refl, sym, ap, ◌∙◌, subst, inl, inr, arith, true≢false, slice_set, IsTrue, ◌↔◌, AllByRecursion, lt-ltb, le-ltb, places_below, places_above, each-weaker, filter-all, filter-none, AcceptedRequest, is_waiting, waiting_places, marked}
 use Rattle.link_lists.specs.inner.Family.{without}
 use Rattle.link_lists.proofs.Members.{Contains-here, Contains-there, Contains-cons_cases, ByRecursion-at, without-same, without-other, without-absent}
-use Rattle.wait_list.specs.inner.Waiting.{places_below, places_above}
-use Rattle.wait_list.proofs.Rising.{each-weaker, filter-all, filter-none}
-use Rattle.ride_model.specs.State.{AcceptedRequest}
-use Rattle.ride_model.specs.Batch.{is_waiting}
-use Rattle.board_core.specs.inner.request_book.Kept.{waiting_places}
-use Rattle.board_core.specs.inner.request_book.Marked.{marked}
 
 -- no place is below the first
 pub places-from : (place : ℕ) (requests : List AcceptedRequest) → AllByRecursion (λ other. place ≤ other) (waiting_places place requests)

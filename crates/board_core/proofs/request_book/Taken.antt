@@ -1,17 +1,6 @@
 -- The rides at the places that wait.
-use Rattle.std.proofs.Common.{◌≡◌, ℕ, ◌+◌, ◌<◌, ◌≤◌, zero, suc, Bool, true, false, cond, List, [], ◌∷◌, ◌++◌, length, Some, None, slice_get, ltb, refl, sym, ap, ◌∙◌, subst, arith, add-zero}
-use Rattle.std.specs.Prelude.{map, filter, take}
-use Rattle.std.specs.List.{AllByRecursion}
-use Rattle.std.proofs.lemmas.Bool.{lt-ltb, le-ltb}
-use Rattle.std.proofs.lemmas.List.{take_all, take-map}
-use Rattle.wait_list.specs.inner.Split.{Rises}
-use Rattle.wait_list.specs.inner.Waiting.{places_above}
-use Rattle.wait_list.proofs.Rising.{each-weaker, filter-all}
-use Rattle.ride_model.specs.declared.vehicle.Ride.{Ride}
-use Rattle.ride_model.specs.State.{AcceptedRequest}
-use Rattle.ride_model.specs.Batch.{is_waiting}
-use Rattle.board_core.specs.inner.request_book.Book.{waiting_of}
-use Rattle.board_core.specs.inner.request_book.Kept.{waiting_places}
+use Rattle.board_core.proofs.Common.{◌≡◌, ℕ, ◌+◌, ◌<◌, ◌≤◌, zero, suc, Bool, true, false, cond, List, [], ◌∷◌, ◌++◌, length, Some, None, slice_get, ltb, refl, sym, ap, ◌∙◌, subst, arith, add-zero, map, take, AllByRecursion, lt-ltb, le-ltb, take_all, take-map, Rises, places_above, each-weaker, filter-all, Ride, AcceptedRequest, is_waiting, waiting_of, waiting_places}
+use Rattle.std.specs.Prelude.{filter}
 use Rattle.board_core.proofs.request_book.Places.{places-from, places-below}
 
 -- the ride of the request at a place

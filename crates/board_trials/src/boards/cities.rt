@@ -1,7 +1,7 @@
 //! A generated city: two desks at once and the audit of their log, its first batch by both searches, and a drill of a smaller one.
 ghost use Rattle.std.specs.Prelude.{[]};
-ghost use Rattle.ride_model.specs.Fleet.{MayStart};
 
+use super::Town;
 use super::days::is_spelled;
 use super::searches::expect_first_batch;
 use adaptive_roads::Roads;
@@ -9,7 +9,7 @@ use city_maker::{City, CityPlan, make_city};
 use command_lines::print_command;
 use live_sessions::{Outset, serve};
 use log_audit::{Verdict, audit};
-use ride_model::{Command, Fleet, Settings};
+use ride_model::Command;
 use ride_ports::{MemSink, MemSource, OpenGate, write_all};
 use session_run::drill;
 use std::alloc::Global;
@@ -64,14 +64,15 @@ fn put_riders(rt: &impl Abort, commands: &[Command], feed: &mut MemSink<'_>) {
 fn serve_riders<R: Threads + Wait + Sync + Abort>(
     rt: &R,
     alloc: Global,
-    roads: &Roads,
-    settings: Settings,
-    fleet: Fleet,
+    town: Town<'_>,
     riders: &[u8],
     log: &mut MemSink<'_>,
-)
-    requires start { MayStart roads.now settings fleet }
-{
+) {
+    let Town {
+        roads,
+        settings,
+        fleet,
+    } = town;
     let mut riders = MemSource::new(riders, &[], &[]);
     let mut drivers = MemSource::new(b"", &[], &[]);
     let outset = Outset {
@@ -94,16 +95,12 @@ fn serve_riders<R: Threads + Wait + Sync + Abort>(
 }
 
 /// The log is right, of a hundred requests, twelve batches that are asked for, opened and committed, two feeds and two desks.
-fn expect_audit<R: Threads + Sync + Abort>(
-    rt: &R,
-    alloc: Global,
-    roads: &Roads,
-    settings: Settings,
-    fleet: Fleet,
-    log: &[u8],
-)
-    requires start { MayStart roads.now settings fleet }
-{
+fn expect_audit<R: Threads + Sync + Abort>(rt: &R, alloc: Global, town: Town<'_>, log: &[u8]) {
+    let Town {
+        roads,
+        settings,
+        fleet,
+    } = town;
     let mut source = MemSource::new(log, &[], &[]);
     match audit(rt, alloc, roads, settings, fleet, &mut source) {
         Ok(Verdict::Yes(totals)) => assert!(rt; totals.entries == 140 && totals.finished),
@@ -130,16 +127,19 @@ fn on_city<R: Threads + Wait + Sync + Abort + AllocGlobal>(
     let Ok(roads) = Roads::new(alloc, &network) else {
         panic!(rt; "there is memory");
     };
+    let town = Town {
+        roads: &roads,
+        settings,
+        fleet,
+    };
     match trial {
-        Trial::Search => {
-            expect_first_batch(rt, alloc, &roads, settings, fleet, commands.items());
-        }
+        Trial::Search => expect_first_batch(rt, alloc, town, commands.items()),
         Trial::Serve => {
             let mut riders = MemSink::new(alloc, 100_000, &[], &[]).expect(rt, "there is memory");
             put_riders(rt, commands.items(), &mut riders);
-            serve_riders(rt, alloc, &roads, settings, fleet, riders.written(), log);
+            serve_riders(rt, alloc, town, riders.written(), log);
         }
-        Trial::Audit => expect_audit(rt, alloc, &roads, settings, fleet, log.written()),
+        Trial::Audit => expect_audit(rt, alloc, town, log.written()),
     }
 }
 

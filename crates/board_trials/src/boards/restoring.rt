@@ -1,15 +1,10 @@
 //! Logs of one vehicle that are read back: the board that their whole lines give, and the line that was due in place of a wrong one.
 ghost use Rattle.std.specs.Prelude.{◌≡◌};
-ghost use Rattle.ride_model.specs.declared.settings.Settings.{Settings};
-ghost use Rattle.ride_model.specs.Fleet.{MayStart};
-ghost use Rattle.ride_model.specs.Settings.{IsSettings};
 
-use super::roads;
+use super::{Town, roads, small_town};
 use adaptive_roads::Roads;
 use batch_commit::Batch;
 use log_audit::{Restoration, Restored, due_line, restore};
-use plan_trials::trial_town::settings;
-use ride_model::{Fleet, Settings};
 use ride_ports::SureSource;
 use std::alloc::Global;
 use std::process::Abort;
@@ -82,16 +77,12 @@ static CASES: [Case; 8] = [
 ];
 
 /// The log gives this back.
-fn expect_given<R: Threads + Sync + Abort>(
-    rt: &R,
-    alloc: Global,
-    roads: &Roads,
-    settings: Settings,
-    fleet: Fleet,
-    case: Case,
-)
-    requires start { MayStart roads.now settings fleet }
-{
+fn expect_given<R: Threads + Sync + Abort>(rt: &R, alloc: Global, town: Town<'_>, case: Case) {
+    let Town {
+        roads,
+        settings,
+        fleet,
+    } = town;
     let mut log = SureSource::new(case.log.as_bytes());
     match restore(rt, alloc, roads, settings, fleet, &mut log) {
         Ok(given) => expect_same(rt, given, case.given),
@@ -124,16 +115,12 @@ fn number_of(batch: &Option<Batch>) -> u64 {
 }
 
 /// This line was due.
-fn expect_due<R: Threads + Sync + Abort>(
-    rt: &R,
-    alloc: Global,
-    roads: &Roads,
-    settings: Settings,
-    fleet: Fleet,
-    case: Case,
-)
-    requires start { MayStart roads.now settings fleet }
-{
+fn expect_due<R: Threads + Sync + Abort>(rt: &R, alloc: Global, town: Town<'_>, case: Case) {
+    let Town {
+        roads,
+        settings,
+        fleet,
+    } = town;
     let mut log = SureSource::new(case.log.as_bytes());
     match due_line(rt, alloc, roads, settings, fleet, &mut log) {
         Ok(Some(line)) => assert!(rt; line.as_slice() == case.due.as_bytes()),
@@ -142,26 +129,15 @@ fn expect_due<R: Threads + Sync + Abort>(
     }
 }
 
-/// A new fleet of the town.
-fn new_fleet(rt: &impl Abort, alloc: Global, roads: &Roads) -> Fleet
-    requires { roads.now.nodes ≡ 4 }
-    ensures { (settings : Settings) → IsSettings settings → MayStart roads.now settings result }
-{
-    let Ok(fleet) = plan_trials::trial_town::fleet(alloc, roads) else {
-        panic!(rt; "there is memory");
-    };
-    fleet
-}
-
-// A log, and a fleet that it is over, for each of both calls.
+// A log, and a town that it is over, for each of both calls.
 fn expect_case<R: Threads + Sync + Abort + AllocGlobal>(rt: &R, roads: &Roads, case: &Case)
     requires { roads.now.nodes ≡ 4 }
 {
     let alloc = rt.alloc();
-    let fleet = new_fleet(rt, alloc, roads);
-    expect_given(rt, alloc, roads, settings(1), fleet, *case);
-    let fleet = new_fleet(rt, alloc, roads);
-    expect_due(rt, alloc, roads, settings(1), fleet, *case);
+    let town = small_town(rt, alloc, roads);
+    expect_given(rt, alloc, town, *case);
+    let town = small_town(rt, alloc, roads);
+    expect_due(rt, alloc, town, *case);
 }
 
 #[test]

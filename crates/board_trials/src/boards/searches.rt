@@ -1,16 +1,16 @@
 //! Both ways to search a pair's places, over the first batch of a generated city.
 ghost use Rattle.std.specs.Prelude.{◌≡◌, ◌≤◌, ◌<◌, Some, IfOk, length};
-ghost use Rattle.ride_model.specs.Fleet.{MayStart};
 ghost use Rattle.ride_model.specs.Seating.{BatchCopy};
 ghost use Rattle.ride_model.specs.State.{open_batch_numbered};
 ghost use Rattle.board_core.specs.Recorded.{state_of};
 
+use super::Town;
 use super::days::{open, tell};
 use adaptive_roads::Roads;
 use batch_commit::{Batch, PriceTable};
 use board_core::{Board, Opening};
 use pricing_workers::{Pricer, Search, price_batch_by};
-use ride_model::{Command, Fleet, NoMemory, Settings};
+use ride_model::{Command, NoMemory};
 use ride_ports::OpenGate;
 use std::alloc::Global;
 use std::process::Abort;
@@ -129,17 +129,18 @@ fn first_batch(
     }
 }
 
-/// The first batch of a city's feed, on a new board.
+/// The first batch of a town's feed, on a new board.
 pub(super) fn expect_first_batch<R: Threads + Sync + Abort>(
     rt: &R,
     alloc: Global,
-    roads: &Roads,
-    settings: Settings,
-    fleet: Fleet,
+    town: Town<'_>,
     commands: &[Command],
-)
-    requires start { MayStart roads.now settings fleet }
-{
+) {
+    let Town {
+        roads,
+        settings,
+        fleet,
+    } = town;
     // A clock, the eight requests of a group, and what asks for their batch.
     assert!(rt; commands.len() >= 10);
     let Ok(mut board) = Board::new(alloc, roads, settings, fleet, 1, 1) else {

@@ -1,5 +1,5 @@
 -- What the readers of maps and fleet files answer over bytes.
-use Rattle.std.specs.Prelude.{◌≡◌, ℕ, ⊤, List, Option, Some, None, Result, Ok, Err, MatchResult, IfSome, []}
+use Rattle.std.specs.Prelude.{◌≡◌, ℕ, List, Option, Some, None, Result, Ok, MatchResult, IfSome, []}
 use Rattle.ride_model.specs.Road.{RoadMap}
 use Rattle.ride_model.specs.declared.settings.Settings.{Settings}
 use Rattle.ride_model.specs.declared.vehicle.Vehicle.{Vehicle}
@@ -10,7 +10,7 @@ use Rattle.fleet_file.specs.declared.errors.FleetError.{FleetError}
 use Rattle.fleet_file.specs.declared.errors.FleetError.TheVariants.{TooLong as FleetTooLong, ReadFault as FleetReadFault, NoMemory as NoMemoryForFleet}
 use Rattle.fleet_file.specs.FleetText.{fleet_format, fleet_text}
 use Rattle.dispatcher.specs.inner.Readings.{AsksOnce, stop_in}
-use Rattle.dispatcher.specs.Refusals.{IsOfMap, IsOfFleet}
+use Rattle.dispatcher.specs.Meanings.{StopsMap, StopsFleet}
 use Rattle.dispatcher.specs.Shelves.{Shelved, told_bytes}
 use Rattle.dispatcher.specs.declared.stop.Stop.{Stop}
 use Rattle.dispatcher.specs.declared.stop.Stop.TheVariants.{NoMemory, ShelfFault, LimitPassed, MapRefused, FleetRefused}
@@ -28,26 +28,10 @@ stop_of_fleet FleetReadFault = ShelfFault
 stop_of_fleet NoMemoryForFleet = NoMemory
 stop_of_fleet e = FleetRefused e
 
--- why the reading of a map stopped: want of memory or a fault, or what its bytes are a text of
-abbrev pub StopsMap : Option (List ℕ) → Stop → Type 0
-StopsMap told NoMemory = ⊤
-StopsMap told ShelfFault = ⊤
-StopsMap told LimitPassed = IfSome told (λ bytes. map_text bytes ≡ Err TooLong)
-StopsMap told (MapRefused e) = IsOfMap e × IfSome told (λ bytes. map_text bytes ≡ Err e)
-StopsMap told _ = ⊥
-
 -- the answer of a map's reading is that of its bytes, unless memory ran out or the source failed
 abbrev pub ReadsMap : Option (List ℕ) → Result RoadMap Stop → Type 0
 ReadsMap told outcome =
     MatchResult outcome (λ network. IfSome told (λ bytes. map_text bytes ≡ Ok network)) (StopsMap told)
-
--- why the reading of a fleet file over a map of so many nodes stopped
-abbrev pub StopsFleet : ℕ → Option (List ℕ) → Stop → Type 0
-StopsFleet nodes told NoMemory = ⊤
-StopsFleet nodes told ShelfFault = ⊤
-StopsFleet nodes told LimitPassed = IfSome told (λ bytes. fleet_text nodes bytes ≡ Err FleetTooLong)
-StopsFleet nodes told (FleetRefused e) = IsOfFleet e × IfSome told (λ bytes. fleet_text nodes bytes ≡ Err e)
-StopsFleet nodes told _ = ⊥
 
 -- the answer of a fleet file's reading is that of its bytes, unless memory ran out or the source failed
 abbrev pub ReadsFleet : ℕ → Option (List ℕ) → Result (Settings × List Vehicle) Stop → Type 0

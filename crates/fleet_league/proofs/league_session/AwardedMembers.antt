@@ -1,25 +1,7 @@
 -- A company of a league is awarded its part of a round.
-use Rattle.std.proofs.Common.{◌≡◌, ◌≢◌, ℕ, Bool, true, false, sym, arith, List, [], ◌∷◌, ◌++◌, refl, ap, subst, ◌∙◌, append_assoc}
-use Rattle.std.specs.Prelude.{All, Contains}
-use Rattle.ride_model.specs.declared.entry.Entry.{Entry}
-use Rattle.ride_model.specs.declared.vehicle.Ride.{Ride}
-use Rattle.ride_model.specs.Legal.{IsLegal, replay}
-use Rattle.ride_model.specs.State.{State, accepted_request}
-use Rattle.ride_model.specs.Text.{IsSpelled, IsSpelledCommand}
-use Rattle.model_laws.proofs.plain.Among.{among_from_contains}
-use Rattle.model_laws.proofs.plain.Each.{of_all}
-use Rattle.model_laws.proofs.Histories.{IsLegal-parts, replay-append}
-use Rattle.board_core.specs.Recorded.{state_of}
-use Rattle.fleet_league.specs.declared.briefs.Brief.{Brief}
-use Rattle.fleet_league.specs.declared.briefs.Win.{Win}
-use Rattle.fleet_league.specs.Awards.{AddsAward, won_rides, asking_entries, confirming_entry, opening_entry, request_of}
-use Rattle.fleet_league.specs.inner.Companies.{CompanyState, report_count}
-use Rattle.fleet_league.specs.inner.league_session.LeagueBoards.{IsPlayed}
+use Rattle.fleet_league.proofs.Common.{◌≡◌, ◌≢◌, ℕ, Bool, true, false, sym, arith, List, [], ◌∷◌, ◌++◌, refl, ap, subst, ◌∙◌, append_assoc, All, Contains, Entry, Ride, IsLegal, replay, State, accepted_request, IsSpelled, IsSpelledCommand, among_from_contains, of_all, IsLegal-parts, replay-append, state_of, Brief, Win, AddsAward, won_rides, asking_entries, confirming_entry, opening_entry, request_of, CompanyState, report_count, IsPlayed, is_of, is_of-among, of_rides, IsAwarded}
 use Rattle.fleet_league.proofs.Awarded.{reports-award}
 use Rattle.fleet_league.proofs.WonOnly.{won-only}
-use Rattle.model_laws.specs.inner.Requests.{is_of}
-use Rattle.model_laws.proofs.history_laws.Opening.{is_of-among, of_rides}
-use Rattle.fleet_league.specs.league_session.League.{IsAwarded}
 
 -- a ride whose request has a text
 pub id-spelled : (log : ℕ) (ride : Ride) → IsSpelledCommand log (request_of ride) → IsSpelled ride.id

@@ -1,41 +1,9 @@
 -- A company's board stays beside the desk, and a round between them may be played.
-use Rattle.std.proofs.Common.{◌≡◌, ℕ, ◌+◌, ◌<◌, ◌≤◌, ◌||◌, inl, inr, Bool, true, false, cond, List, [], ◌∷◌, ◌++◌, length, take, eqb, Option, Some, None, refl, sym, ap, subst, ◌∙◌, arith, append_assoc, append-nil, length-append, length-take}
-use Rattle.std.specs.Prelude.{◌==◌, find, option_map, is_some, nat_eq}
-use Rattle.std.specs.Cmp.{IsEquivalence}
-use Rattle.std.specs.List.{IsDistinct}
+use Rattle.fleet_league.proofs.Common.{◌≡◌, ℕ, ◌+◌, ◌<◌, ◌≤◌, ◌||◌, inl, inr, Bool, true, false, cond, List, [], ◌∷◌, ◌++◌, length, take, eqb, Option, Some, None, refl, sym, ap, subst, ◌∙◌, arith, append_assoc, append-nil, length-append, length-take, ◌==◌, find, option_map, is_some, nat_eq, IsEquivalence, IsDistinct, eqb-true, eq-eqb, ne_eqb, length-map, IsDistinct-head, IsDistinct-tail, or-true, Command, RequestState, Waiting, InBatch, Aboard, Away, Cancelled, Settings, Ride, is_waiting, waiting_rides, RoadMap, State, AcceptedRequest, accepted_request, request_state, step, IsSpelledCommand, IsRide, ride_ids, is_of, Among, among_map_back, of_each, of_all, all_of, distinct-push, request_state-marked, state_if_there, state_in, with_request_states-is, request_ids, found_by, of_rides, waits_in, Recorded, state_of, request_of, CompanyState, is_report, after_round, MayPlay, IsBeside, IsDesk, IsMember, IsPlayed, is_riders, IsNewRide}
 use Rattle.std.specs.Set.{is_member}
-use Rattle.std.proofs.lemmas.Bool.{eqb-true, eq-eqb, ne_eqb}
-use Rattle.std.proofs.lemmas.List.{length-map}
-use Rattle.std.proofs.lemmas.Map.Keys.{IsDistinct-head, IsDistinct-tail}
 use Rattle.std.proofs.lemmas.Map.Made.{length-le_from_is_member}
-use Rattle.std.proofs.Math.Bool.{or-true}
-use Rattle.ride_model.specs.declared.command.Command.{Command}
-use Rattle.ride_model.specs.declared.reply.RequestState.{RequestState}
-use Rattle.ride_model.specs.declared.reply.RequestState.TheVariants.{Waiting, InBatch, Confirmed, Aboard, Done, Away, Cancelled}
-use Rattle.ride_model.specs.declared.settings.Settings.{Settings}
-use Rattle.ride_model.specs.declared.vehicle.Ride.{Ride}
-use Rattle.ride_model.specs.Batch.{is_waiting, waiting_rides}
-use Rattle.ride_model.specs.Road.{RoadMap}
-use Rattle.ride_model.specs.State.{State, AcceptedRequest, accepted_request, request_state}
-use Rattle.ride_model.specs.Step.{step}
-use Rattle.ride_model.specs.Text.{IsSpelledCommand}
-use Rattle.ride_model.specs.Vehicle.{IsRide, ride_ids}
-use Rattle.model_laws.specs.inner.Requests.{is_of}
-use Rattle.model_laws.proofs.plain.Among.{Among, among_map_back}
+use Rattle.ride_model.specs.declared.reply.RequestState.TheVariants.{Confirmed, Done}
 use Rattle.model_laws.proofs.plain.Numbers.{eqb-comm}
-use Rattle.model_laws.proofs.plain.Each.{of_each, of_all, all_of}
-use Rattle.model_laws.proofs.plain.Lists.{distinct-push}
-use Rattle.model_laws.proofs.RequestStates.{request_state-marked, state_if_there, state_in, with_request_states-is}
-use Rattle.model_laws.specs.inner.history_laws.Consistent.{request_ids}
-use Rattle.model_laws.proofs.history_laws.Lookups.{found_by}
-use Rattle.model_laws.proofs.history_laws.Opening.{of_rides, waits_in}
-use Rattle.board_core.specs.Recorded.{Recorded, state_of}
-use Rattle.fleet_league.specs.Awards.{request_of}
-use Rattle.fleet_league.specs.inner.Companies.{CompanyState, is_report}
-use Rattle.fleet_league.specs.league_session.League.{after_round}
-use Rattle.fleet_league.specs.inner.Winning.{MayPlay}
-use Rattle.fleet_league.specs.inner.league_session.LeagueBoards.{IsBeside, IsDesk, IsMember, IsPlayed, is_riders}
-use Rattle.fleet_league.specs.inner.Prices.{IsNewRide}
 use Rattle.fleet_league.proofs.league_session.Desks.{found-marked, tame-step}
 use Rattle.fleet_league.proofs.Legality.{IsLegalBoard, sure}
 use Rattle.fleet_league.proofs.PricedQuotes.{among_append_back}

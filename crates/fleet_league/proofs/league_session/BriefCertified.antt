@@ -1,45 +1,11 @@
 -- A company's part of a round is certified over its own prices.
-use Rattle.std.proofs.Common.{◌≡◌, ℕ, zero, suc, ◌+◌, ◌<◌, ◌≤◌, ◌⊎◌, inl, inr, Bool, true, false, cond, List, [], ◌∷◌, length, get_or, eqb, refl, sym, ◌∙◌, ap, subst, arith}
-use Rattle.std.specs.Prelude.{◌-◌, ◌==◌, map, All, Contains, Option, Some, None, IfSome, option_map, option_and_then}
-use Rattle.std.specs.List.{filter, filter_map, range_with_len, sum_by, zip, IsDistinct}
-use Rattle.std.proofs.lemmas.Bool.{cases_lt, eq-eqb, ne_eqb, eqb-true, false≢true}
-use Rattle.std.proofs.lemmas.List.{length-map, get_or-map}
-use Rattle.std.proofs.lemmas.List.Elements.{All-from_recursion, Contains-get_or}
-use Rattle.std.proofs.lemmas.List.FromFn.{fill_by_all, get_or-range_with_len, length-range_with_len}
-use Rattle.std.proofs.lemmas.Option.{slice_get-get_or}
+use Rattle.fleet_league.proofs.Common.{◌≡◌, ℕ, zero, suc, ◌+◌, ◌<◌, ◌≤◌, ◌⊎◌, inl, inr, Bool, true, false, cond, List, [], ◌∷◌, length, get_or, eqb, refl, sym, ◌∙◌, ap, subst, arith, ◌-◌, ◌==◌, map, All, Contains, Option, Some, None, IfSome, option_map, option_and_then, filter, filter_map, range_with_len, sum_by, zip, IsDistinct, cases_lt, eq-eqb, ne_eqb, eqb-true, false≢true, length-map, get_or-map, All-from_recursion, Contains-get_or, fill_by_all, get_or-range_with_len, length-range_with_len, slice_get-get_or, Ride, Vehicle, price, vehicle_ids, State, ride_ids, Among, among_filter_back, among_from_contains, among_map_back, all_of, any-default, distinct-filter_by, Paired, GridCells, amount_alone, amounts_over, column_of, pairing_cost, price_at, row_cost, CertifiesPairing, element, same-place, row-of-column, pay_at, each-gathered, gathered-in_order, pay-cases, pay-amount, Win, RoundColumn, won_rides, won_column, won_columns, IsCertifiedOver, commit_cost, prices_of, is_chosen, chosen_columns, rows_into, IsPart, KeepsColumns, StandsFrom, brief_of, column_in, own_pay_of, paid_columns, row_of, rows_of, win_of}
 use Rattle.std.proofs.lemmas.Slice.Zip.{get_or-zip}
-use Rattle.ride_model.specs.declared.vehicle.Ride.{Ride}
-use Rattle.ride_model.specs.declared.vehicle.Vehicle.{Vehicle}
-use Rattle.ride_model.specs.Offers.{price}
-use Rattle.ride_model.specs.Seating.{vehicle_ids}
-use Rattle.ride_model.specs.State.{State}
-use Rattle.ride_model.specs.Vehicle.{ride_ids}
-use Rattle.model_laws.proofs.plain.Among.{Among, among_filter_back, among_from_contains, among_map_back}
-use Rattle.model_laws.proofs.plain.Each.{all_of}
-use Rattle.model_laws.proofs.plain.Lists.{any-default}
-use Rattle.model_laws.proofs.history_laws.Lookups.{distinct-filter_by}
 use Rattle.model_laws.proofs.history_laws.Raised.{length-filter-le}
-use Rattle.dual_check.specs.declared.paired.Paired.{Paired}
-use Rattle.dual_check.specs.Cells.{GridCells, cell_at}
-use Rattle.dual_check.specs.inner.Costs.{amount_alone, amounts_over}
-use Rattle.dual_check.specs.Grid.{column_of, pairing_cost, price_at, row_cost, CertifiesPairing}
+use Rattle.dual_check.specs.Cells.{cell_at}
 use Rattle.dual_check.specs.inner.Orders.{item_of, StandsInOrder}
-use Rattle.dual_check.proofs.DifferentIds.{element, same-place}
 use Rattle.dual_check.proofs.ItemOrders.{map-map}
-use Rattle.dual_check.proofs.PairingParts.{row-of-column}
-use Rattle.hungarian.specs.Seats.{pay_at}
-use Rattle.hungarian.proofs.Gathering.{each-gathered, gathered-in_order}
-use Rattle.hungarian.proofs.BatchCertificates.{pay-cases, pay-amount}
-use Rattle.fleet_league.specs.declared.briefs.Win.{Win}
-use Rattle.fleet_league.specs.declared.league_session.rows.RoundColumn.{RoundColumn}
 use Rattle.fleet_league.specs.declared.league_session.rows.RoundRow.{RoundRow}
-use Rattle.fleet_league.specs.Awards.{won_rides, won_column, won_columns}
-use Rattle.fleet_league.specs.inner.Awards.{IsCertifiedOver}
-use Rattle.fleet_league.specs.inner.league_session.League.{commit_cost}
-use Rattle.fleet_league.specs.Prices.{prices_of}
-use Rattle.fleet_league.specs.inner.Restriction.{is_chosen, chosen_columns, rows_into, IsPart, KeepsColumns}
-use Rattle.fleet_league.specs.Round.{StandsFrom}
-use Rattle.fleet_league.specs.league_session.RoundParts.{brief_of, column_in, own_pay_of, paid_columns, row_of, rows_of, win_of}
 use Rattle.fleet_league.proofs.CertifiedWins.{has-column, price-cell}
 use Rattle.fleet_league.proofs.Restricted.{restricted-certifies, restricted-cost}
 use Rattle.fleet_league.proofs.league_session.Windows.{filter-window, gathered-by_place, gathered-kept, gathered-same, gathered-window}

@@ -1,28 +1,5 @@
 -- The requests of a batch are cancelled one after another, and the batch is given up.
-use Rattle.std.proofs.Common.{◌≡◌, ℕ, ◌+◌, ◌<◌, Bool, true, false, cond, not, inl, inr, List, [], ◌∷◌, ◌++◌, length, take, get_or, eqb, Some, None, refl, sym, ap, ◌∙◌, arith, length-append}
-use Rattle.std.specs.Prelude.{map, find, option_map, All}
-use Rattle.std.specs.List.{filter, IsDistinct}
-use Rattle.std.proofs.lemmas.List.{get_or-map, get_or-take, length-map, length-take-le, take_more}
-use Rattle.std.proofs.lemmas.List.Sums.{fold-append}
-use Rattle.ride_model.specs.declared.command.Command.{Command}
-use Rattle.ride_model.specs.declared.command.Command.TheVariants.{Cancel}
-use Rattle.ride_model.specs.declared.reply.RequestState.{RequestState}
-use Rattle.ride_model.specs.declared.reply.RequestState.TheVariants.{Cancelled, InBatch, Waiting}
-use Rattle.ride_model.specs.declared.vehicle.Ride.{Ride}
-use Rattle.ride_model.specs.Batch.{after_abandon, after_opening, standing_rides, with_request_states}
-use Rattle.ride_model.specs.History.{fed_commands}
-use Rattle.ride_model.specs.Seating.{BatchCopy}
-use Rattle.ride_model.specs.State.{State, AcceptedRequest, is_batch, request_state, with_request_state}
-use Rattle.ride_model.specs.Step.{Answered, cancel_step, cancelled}
-use Rattle.ride_model.specs.Vehicle.{ride_ids}
-use Rattle.model_laws.specs.inner.Requests.{is_in, is_of}
-use Rattle.model_laws.proofs.plain.Among.{Among, contains_from_among}
-use Rattle.model_laws.proofs.RequestStates.{abandon-is, marked, opening-is, request_state-marked, state_if_there, with_request_states-is}
-use Rattle.model_laws.proofs.history_laws.Opening.{is_of-among, of_rides}
-use Rattle.dual_check.proofs.DifferentIds.{same-place}
-use Rattle.board_core.specs.Recorded.{Recorded, state_of}
-use Rattle.board_core.specs.inner.Recorded.{fed_entry}
-use Rattle.board_core.proofs.OpenBatches.{state-push}
+use Rattle.fleet_league.proofs.Common.{◌≡◌, ℕ, ◌+◌, ◌<◌, Bool, true, false, cond, not, inl, inr, List, [], ◌∷◌, ◌++◌, length, take, get_or, eqb, Some, None, refl, sym, ap, ◌∙◌, arith, length-append, map, find, option_map, All, filter, IsDistinct, get_or-map, get_or-take, length-map, length-take-le, take_more, fold-append, Command, Cancel, RequestState, Cancelled, InBatch, Waiting, Ride, after_abandon, after_opening, standing_rides, with_request_states, fed_commands, BatchCopy, State, AcceptedRequest, is_batch, request_state, with_request_state, Answered, cancel_step, cancelled, ride_ids, is_in, is_of, Among, contains_from_among, abandon-is, marked, opening-is, request_state-marked, state_if_there, with_request_states-is, is_of-among, of_rides, same-place, Recorded, state_of, fed_entry, state-push}
 use Rattle.board_core.proofs.Steps.{cancel-by_state}
 use Rattle.fleet_league.proofs.Reports.{fed-push}
 

@@ -1,36 +1,7 @@
 -- The desk of a league's requests, from line to line.
-use Rattle.std.proofs.Common.{◌≡◌, ℕ, ◌+◌, inl, inr, Bool, true, false, cond, not, List, [], ◌∷◌, ◌++◌, length, Option, Some, None, Result, Ok, Err, refl, sym, ap, subst, ◌∙◌, arith, length-append}
-use Rattle.std.specs.Prelude.{◌==◌, ◌&&◌, ◌||◌, find, map, option_map, nat_le, nat_lt, is_some, All, OnOk}
+use Rattle.fleet_league.proofs.Common.{◌≡◌, ℕ, ◌+◌, inl, inr, Bool, true, false, cond, not, List, [], ◌∷◌, ◌++◌, length, Option, Some, None, Result, Ok, Err, refl, sym, ap, subst, ◌∙◌, arith, length-append, ◌==◌, ◌&&◌, ◌||◌, find, map, option_map, nat_le, nat_lt, is_some, All, OnOk, option_or, find-append, AllocError, Command, Request, Cancel, At, Done, On, Off, Clock, Ask, Bad, Reply, Refused, RequestState, Waiting, InBatch, Aboard, Away, Cancelled, Settings, Ride, Vehicle, IsFleet, MayStart, fed_commands, replay, RoadMap, IsSettings, State, AcceptedRequest, accepted_request, placed_vehicle, start_state, Answered, cancel_by_state, cancel_found, cancel_step, freed, is_node, request_step, step, with_accepted, IsSpelledCommand, among_map_back, of_all, all_of, marked, request_state-marked, state_if_there, state_in, leaves-step, Recorded, state_of, fed_entry, state-push, request_of, IsDesk, is_riders}
 use Rattle.std.specs.List.{IsDistinct}
-use Rattle.std.specs.Option.{option_or}
-use Rattle.std.proofs.lemmas.List.Folds.{find-append}
-use Rattle.std.specs.declared.alloc.AllocError.{AllocError}
-use Rattle.ride_model.specs.declared.command.Command.{Command}
-use Rattle.ride_model.specs.declared.command.Command.TheVariants.{Request, Cancel, At, Done, On, Off, Clock, Ask, Bad}
-use Rattle.ride_model.specs.declared.reply.Reply.{Reply}
-use Rattle.ride_model.specs.declared.reply.Reply.TheVariants.{Refused}
-use Rattle.ride_model.specs.declared.reply.RequestState.{RequestState}
-use Rattle.ride_model.specs.declared.reply.RequestState.TheVariants.{Waiting, InBatch, Confirmed, Aboard, Done as DoneState, Away, Cancelled}
-use Rattle.ride_model.specs.declared.settings.Settings.{Settings}
-use Rattle.ride_model.specs.declared.vehicle.Ride.{Ride}
-use Rattle.ride_model.specs.declared.vehicle.Vehicle.{Vehicle}
-use Rattle.ride_model.specs.Fleet.{IsFleet, MayStart}
-use Rattle.ride_model.specs.History.{fed_commands}
-use Rattle.ride_model.specs.Legal.{replay}
-use Rattle.ride_model.specs.Road.{RoadMap}
-use Rattle.ride_model.specs.Settings.{IsSettings}
-use Rattle.ride_model.specs.State.{State, AcceptedRequest, accepted_request, placed_vehicle, start_state}
-use Rattle.ride_model.specs.Step.{Answered, cancel_by_state, cancel_found, cancel_step, freed, is_node, request_step, step, with_accepted}
-use Rattle.ride_model.specs.Text.{IsSpelledCommand}
-use Rattle.model_laws.proofs.plain.Among.{among_map_back}
-use Rattle.model_laws.proofs.plain.Each.{of_all, all_of}
-use Rattle.model_laws.proofs.RequestStates.{marked, request_state-marked, state_if_there, state_in}
-use Rattle.model_laws.proofs.history_laws.Untouched.{leaves-step}
-use Rattle.board_core.specs.Recorded.{Recorded, state_of}
-use Rattle.board_core.specs.inner.Recorded.{fed_entry}
-use Rattle.board_core.proofs.OpenBatches.{state-push}
-use Rattle.fleet_league.specs.Awards.{request_of}
-use Rattle.fleet_league.specs.inner.league_session.LeagueBoards.{IsDesk, is_riders}
+use Rattle.ride_model.specs.declared.reply.RequestState.TheVariants.{Confirmed, Done as DoneState}
 use Rattle.fleet_league.proofs.PricedQuotes.{among_append_back}
 use Rattle.fleet_league.proofs.Reports.{fed-push}
 

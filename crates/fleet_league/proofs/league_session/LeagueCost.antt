@@ -1,26 +1,6 @@
 -- The commits of a round cost the least, together with a penalty for each request that is left out.
-use Rattle.std.proofs.Common.{◌≡◌, ℕ, ◌+◌, ◌*◌, ◌<◌, ◌⊎◌, inl, inr, Bool, true, false, List, [], ◌∷◌, length, get_or, Option, Some, None, refl, sym, ap, ◌∙◌, arith, mul_comm}
-use Rattle.std.specs.Prelude.{◌==◌, map}
-use Rattle.std.specs.List.{filter, range_with_len, sum_by, AllByRecursion}
-use Rattle.std.proofs.lemmas.Bool.{eq-eqb, ne_eqb}
-use Rattle.std.proofs.lemmas.List.Sums.{sum_by-cons}
-use Rattle.std.proofs.lemmas.List.FromFn.{length-range_with_len}
-use native.Mathlib.Nat.{add-mul}
-use Rattle.ride_model.specs.declared.vehicle.Ride.{Ride}
+use Rattle.fleet_league.proofs.Common.{◌≡◌, ℕ, ◌+◌, ◌*◌, ◌<◌, ◌⊎◌, inl, inr, Bool, true, false, List, [], ◌∷◌, length, get_or, Option, Some, None, refl, sym, ap, ◌∙◌, arith, mul_comm, ◌==◌, map, filter, range_with_len, sum_by, AllByRecursion, eq-eqb, ne_eqb, sum_by-cons, length-range_with_len, add-mul, Ride, Paired, column_of, pairing_cost, row_cost, each-range, sum_by-times, state_of, Brief, RoundColumn, Quote, CompanyState, commit_cost, quotes_of, round_columns, round_rows, is_chosen, IsRound, company_prices, brief_of, union_columns}
 use Rattle.model_laws.proofs.AboardLoads.{filter-kept, filter-skipped}
-use Rattle.dual_check.specs.declared.paired.Paired.{Paired}
-use Rattle.dual_check.specs.Grid.{column_of, pairing_cost, row_cost}
-use Rattle.dual_check.proofs.CertifiedPairings.{each-range, sum_by-times}
-use Rattle.board_core.specs.Recorded.{state_of}
-use Rattle.fleet_league.specs.declared.briefs.Brief.{Brief}
-use Rattle.fleet_league.specs.declared.league_session.rows.RoundColumn.{RoundColumn}
-use Rattle.fleet_league.specs.declared.quotes.Quote.{Quote}
-use Rattle.fleet_league.specs.inner.Companies.{CompanyState}
-use Rattle.fleet_league.specs.inner.league_session.League.{commit_cost}
-use Rattle.fleet_league.specs.league_session.League.{quotes_of, round_columns, round_rows}
-use Rattle.fleet_league.specs.inner.Restriction.{is_chosen}
-use Rattle.fleet_league.specs.Round.{IsRound, company_prices}
-use Rattle.fleet_league.specs.league_session.RoundParts.{brief_of, union_columns}
 use Rattle.fleet_league.proofs.league_session.BriefCertified.{brief-cost, chosen-at, no_column, pairing_each, won-each}
 use Rattle.fleet_league.proofs.league_session.PlayedRounds.{AreMet, either-company, share-first, share-second}
 

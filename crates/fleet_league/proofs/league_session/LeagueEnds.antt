@@ -1,27 +1,12 @@
 -- What a league has written when its feed ended or was stopped.
-use Rattle.std.proofs.Common.{◌≡◌, ℕ, true, false, List, [], ◌++◌, inl, inr, Option, Some, None, Err, refl, subst}
+use Rattle.fleet_league.proofs.Common.{◌≡◌, ℕ, true, false, List, [], ◌++◌, inl, inr, Option, Some, None, Err, refl, subst, HasRun, is_source_failed, ran_of, KeepsCount, are-taken, Ending, Whole, Settings, Vehicle, RoadMap, WritesPrefix-of_first, feed_limits, HasPut, OutputState, written-prefix, written-whole, IsLeagued, IsTextOf, ended_text, ending_of, with_ending, last_line}
 use Rattle.line_text.specs.declared.line_reader.stops.Stop.{Stop}
 use Rattle.line_text.specs.declared.line_reader.stops.Stop.TheVariants.{NoMemory, OfFeed}
 use Rattle.line_text.specs.declared.line_reader.answers.NextLine.{NextLine}
 use Rattle.line_text.specs.declared.line_reader.answers.ReadStop.{ReadStop}
 use Rattle.line_text.specs.declared.line_reader.answers.ReadStop.TheVariants.{SourceFailed, TooLong}
-use Rattle.line_text.specs.inner.line_reader.FeedRuns.{HasRun, is_source_failed, ran_of}
 use Rattle.line_text.specs.inner.line_reader.Reader.{is_fault}
-use Rattle.ride_ports.specs.Count.{KeepsCount}
-use Rattle.line_text.proofs.line_reader.FeedLines.{are-taken}
-use Rattle.ride_model.specs.declared.entry.Ending.{Ending}
-use Rattle.ride_model.specs.declared.entry.Ending.TheVariants.{Whole}
-use Rattle.ride_model.specs.declared.settings.Settings.{Settings}
-use Rattle.ride_model.specs.declared.vehicle.Vehicle.{Vehicle}
-use Rattle.ride_model.specs.Road.{RoadMap}
 use Rattle.ride_ports.specs.Bytes.{Writes, WritesPrefix}
-use Rattle.ride_ports.proofs.ByteLemmas.{WritesPrefix-of_first}
-use Rattle.command_lines.specs.Limits.{feed_limits}
-use Rattle.line_text.specs.inner.text_page.Output.{HasPut, OutputState}
-use Rattle.line_text.proofs.text_page.OutputLemmas.{written-prefix, written-whole}
-use Rattle.fleet_league.specs.league_session.Leagued.{IsLeagued, IsTextOf}
-use Rattle.fleet_league.specs.inner.league_session.LeagueRuns.{ended_text, ending_of, with_ending}
-use Rattle.fleet_league.specs.league_session.LeagueTexts.{last_line}
 
 -- a stop of the source is a fault of it
 pub fault-stops : (stop : ReadStop) (before after : ℕ) → KeepsCount (is_fault {T = NextLine} (Err stop)) before after

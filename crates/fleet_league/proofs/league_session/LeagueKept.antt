@@ -1,22 +1,5 @@
 -- A league stays in order from line to line.
-use Rattle.std.proofs.Common.{Result, Ok, Err, ◌≡◌, ℕ, ◌+◌, true, List, [], length, refl, sym, ap, subst, ◌∙◌, arith}
-use Rattle.std.specs.Prelude.{is_some, OnOk}
-use Rattle.ride_model.specs.declared.vehicle.Vehicle.{Vehicle}
-use Rattle.ride_model.specs.Road.{RoadMap}
-use Rattle.ride_model.specs.Legal.{replay}
-use Rattle.ride_model.specs.declared.command.Command.{Command}
-use Rattle.ride_model.specs.declared.command.Command.TheVariants.{Request, Cancel, At, Done, On, Off, Clock, Ask, Bad}
-use Rattle.ride_model.specs.declared.settings.Settings.{Settings}
-use Rattle.ride_model.specs.declared.vehicle.Ride.{Ride}
-use Rattle.ride_model.specs.History.{entries_of, fed_commands}
-use Rattle.ride_model.specs.State.{State, accepted_request, start_state}
-use Rattle.ride_model.specs.Step.{step}
-use Rattle.ride_model.specs.Text.{IsSpelledCommand}
-use Rattle.board_core.specs.Recorded.{Recorded, state_of}
-use Rattle.fleet_league.specs.inner.Companies.{CompanyState, is_report, report_count}
-use Rattle.fleet_league.specs.league_session.Feed.{is_driver_report}
-use Rattle.fleet_league.specs.league_session.League.{after_round, league_start}
-use Rattle.fleet_league.specs.inner.league_session.LeagueBoards.{IsBeside, IsDesk, IsLeague, IsMember, IsPlayed, IsReported, LeagueBoards, is_riders, league_of}
+use Rattle.fleet_league.proofs.Common.{Result, Ok, Err, ◌≡◌, ℕ, ◌+◌, true, List, [], length, refl, sym, ap, subst, ◌∙◌, arith, is_some, OnOk, Vehicle, RoadMap, replay, Command, Request, Cancel, At, Done, On, Off, Clock, Ask, Bad, Settings, Ride, entries_of, fed_commands, State, accepted_request, start_state, step, IsSpelledCommand, Recorded, state_of, CompanyState, is_report, report_count, is_driver_report, after_round, league_start, IsBeside, IsDesk, IsLeague, IsMember, IsPlayed, IsReported, LeagueBoards, is_riders, league_of}
 use Rattle.fleet_league.proofs.league_session.Beside.{AreWaiting, beside-answered, beside-played, beside-reported}
 
 -- a driver's report is a report

@@ -1,14 +1,5 @@
 -- The companies of a league, after reports.
-use Rattle.std.proofs.Common.{◌≡◌, ◌+◌, cond, [], ◌∷◌, ◌++◌, true, Result, Ok, Err, ap, ◌∙◌}
-use Rattle.std.specs.Prelude.{OnOk}
-use Rattle.std.specs.declared.alloc.AllocError.{AllocError}
-use Rattle.ride_model.specs.declared.command.Command.{Command}
-use Rattle.ride_model.specs.declared.reply.Reply.{Reply}
-use Rattle.board_core.specs.Recorded.{Recorded, state_of}
-use Rattle.board_core.specs.inner.Recorded.{fed_entry}
-use Rattle.board_core.proofs.OpenBatches.{state-push}
-use Rattle.fleet_league.specs.inner.Companies.{CompanyState, is_report, report_count}
-use Rattle.fleet_league.specs.inner.league_session.LeagueBoards.{IsReported, IsSound}
+use Rattle.fleet_league.proofs.Common.{◌≡◌, ◌+◌, cond, [], ◌∷◌, ◌++◌, true, Result, Ok, Err, ap, ◌∙◌, OnOk, AllocError, Command, Reply, Recorded, state_of, fed_entry, state-push, CompanyState, is_report, report_count, IsReported, IsSound}
 use Rattle.fleet_league.proofs.Legality.{IsLegalBoard, board-fleet, board-settings}
 use Rattle.fleet_league.proofs.Reports.{reports-push}
 

@@ -1,40 +1,5 @@
 -- A league's desk opens a round, and closes it.
-use Rattle.std.proofs.Common.{◌≡◌, ℕ, ◌+◌, ◌≤◌, cond, List, [], ◌∷◌, ◌++◌, length, take, Option, Some, None, refl, sym, ap, subst, ◌∙◌, arith, append-nil}
-use Rattle.std.specs.Prelude.{map, option_map, All}
-use Rattle.std.specs.List.{filter}
-use Rattle.std.proofs.lemmas.Bool.{lt-ltb}
-use Rattle.ride_model.specs.declared.command.Actor.TheVariants.{Desk}
-use Rattle.ride_model.specs.declared.command.Command.TheVariants.{Ask}
-use Rattle.ride_model.specs.declared.entry.Entry.{Entry}
-use Rattle.ride_model.specs.declared.entry.Event.{Event}
-use Rattle.ride_model.specs.declared.entry.Event.TheVariants.{Abandoned}
-use Rattle.ride_model.specs.declared.reply.RequestState.{RequestState}
-use Rattle.ride_model.specs.declared.reply.RequestState.TheVariants.{Cancelled, InBatch}
-use Rattle.ride_model.specs.declared.vehicle.Ride.{Ride}
-use Rattle.ride_model.specs.Batch.{after_abandon, after_opening, is_waiting, next_batch, waiting_rides, with_request_states}
-use Rattle.ride_model.specs.History.{entries_of, fed_commands}
-use Rattle.ride_model.specs.Legal.{all_feeds_ended}
-use Rattle.ride_model.specs.Seating.{BatchCopy}
-use Rattle.ride_model.specs.State.{State, AcceptedRequest, open_batch_numbered, request_state}
-use Rattle.ride_model.specs.Step.{Answered}
-use Rattle.ride_model.specs.Text.{IsSpelled, IsSpelledCommand}
-use Rattle.model_laws.specs.inner.Requests.{is_of}
-use Rattle.model_laws.proofs.plain.Among.{among_filter_back, among_map_back}
-use Rattle.model_laws.proofs.plain.Each.{of_all, all_of}
-use Rattle.model_laws.proofs.RequestStates.{marked, others-opening, request_state-opening, with_request_states-is}
-use Rattle.model_laws.specs.inner.history_laws.Consistent.{IsInBatch, IsOpenBatch}
-use Rattle.model_laws.proofs.history_laws.Lookups.{among_take}
-use Rattle.model_laws.proofs.history_laws.Opening.{is_of-among}
-use Rattle.model_laws.proofs.history_laws.OpenedBatches.{none-left, abandoned-state, open-found}
-use Rattle.board_core.specs.declared.opening.Opening.TheVariants.{Batch, Ended, Idle}
-use Rattle.board_core.specs.inner.Opening.{opening_at}
-use Rattle.board_core.specs.Recorded.{Recorded, state_of, opened_entry}
-use Rattle.board_core.specs.inner.Recorded.{abandoned_entry, fed_entry}
-use Rattle.board_core.proofs.FedEntries.{fed_commands-append}
-use Rattle.board_core.proofs.OpenBatches.{state-push}
-use Rattle.fleet_league.specs.Awards.{request_of}
-use Rattle.fleet_league.specs.league_session.League.{after_round}
-use Rattle.fleet_league.specs.inner.league_session.LeagueBoards.{HasOpened, IsDesk}
+use Rattle.fleet_league.proofs.Common.{◌≡◌, ℕ, ◌+◌, ◌≤◌, cond, List, [], ◌∷◌, ◌++◌, length, take, Option, Some, None, refl, sym, ap, subst, ◌∙◌, arith, append-nil, map, option_map, All, filter, lt-ltb, Desk, Ask, Entry, Event, Abandoned, RequestState, Cancelled, InBatch, Ride, after_abandon, after_opening, is_waiting, next_batch, waiting_rides, with_request_states, entries_of, fed_commands, all_feeds_ended, BatchCopy, State, AcceptedRequest, open_batch_numbered, request_state, Answered, IsSpelled, IsSpelledCommand, is_of, among_filter_back, among_map_back, of_all, all_of, marked, others-opening, request_state-opening, with_request_states-is, IsInBatch, IsOpenBatch, among_take, is_of-among, none-left, abandoned-state, open-found, Batch, Ended, Idle, opening_at, Recorded, state_of, opened_entry, abandoned_entry, fed_entry, fed_commands-append, state-push, request_of, after_round, HasOpened, IsDesk}
 use Rattle.fleet_league.proofs.league_session.AwardedMembers.{id-spelled}
 use Rattle.fleet_league.proofs.league_session.Cancelling.{closed-state}
 use Rattle.fleet_league.proofs.league_session.Desks.{AreSpelled, spelled-marked}

@@ -1,27 +1,5 @@
 -- A round of two companies gives each a part that it may be awarded.
-use Rattle.std.proofs.Common.{◌⊎◌, ◌≡◌, ℕ, ◌+◌, ◌<◌, ◌≤◌, inl, inr, List, ◌++◌, length, get_or, refl, sym, ap, subst, ◌∙◌, arith, append-nil, length-append}
-use Rattle.std.specs.Prelude.{◌-◌, map}
-use Rattle.std.proofs.lemmas.Bool.{cases_lt}
-use Rattle.std.proofs.lemmas.List.{get_or_append_left, get_or-append-add, get_or-map, length-map}
-use Rattle.ride_model.specs.declared.vehicle.Ride.{Ride}
-use Rattle.ride_model.specs.declared.vehicle.Vehicle.{Vehicle}
-use Rattle.ride_model.specs.Legal.{versions_of}
-use Rattle.ride_model.specs.Seating.{vehicle_ids}
-use Rattle.ride_model.specs.State.{State}
-use Rattle.dual_check.specs.declared.paired.Paired.{Paired}
-use Rattle.dual_check.proofs.DifferentIds.{element}
-use Rattle.board_core.specs.Recorded.{state_of}
-use Rattle.fleet_league.specs.declared.briefs.Brief.{Brief}
-use Rattle.fleet_league.specs.declared.league_session.rows.RoundColumn.{RoundColumn}
-use Rattle.fleet_league.specs.declared.league_session.sheets.RoundSheet.{RoundSheet}
-use Rattle.fleet_league.specs.declared.quotes.Quote.{Quote}
-use Rattle.fleet_league.specs.inner.Companies.{CompanyState}
-use Rattle.fleet_league.specs.league_session.League.{IsRoundOf, quotes_of}
-use Rattle.fleet_league.specs.inner.Winning.{MayPlay, MayWin}
-use Rattle.fleet_league.specs.inner.league_session.LeagueBoards.{IsSound}
-use Rattle.fleet_league.specs.Prices.{prices_of}
-use Rattle.fleet_league.specs.Round.{IsRound, company_prices}
-use Rattle.fleet_league.specs.league_session.RoundParts.{column_of_plan, union_columns}
+use Rattle.fleet_league.proofs.Common.{◌⊎◌, ◌≡◌, ℕ, ◌+◌, ◌<◌, ◌≤◌, inl, inr, List, ◌++◌, length, get_or, refl, sym, ap, subst, ◌∙◌, arith, append-nil, length-append, ◌-◌, map, cases_lt, get_or_append_left, get_or-append-add, get_or-map, length-map, Ride, Vehicle, versions_of, vehicle_ids, State, Paired, element, state_of, Brief, RoundColumn, RoundSheet, Quote, CompanyState, IsRoundOf, quotes_of, MayPlay, MayWin, IsSound, prices_of, IsRound, company_prices, column_of_plan, union_columns}
 use Rattle.fleet_league.proofs.league_session.BriefCertified.{IsBlock, IsShare, brief-certified, brief-rides}
 
 -- the columns of two fleets

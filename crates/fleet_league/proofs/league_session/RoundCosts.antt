@@ -1,12 +1,5 @@
 -- What a round costs, by its prices and pays.
-use Rattle.std.proofs.Common.{◌≡◌, ℕ, ◌*◌, ◌<◌, ◌≤◌, ◌^◌, List, [], ◌∷◌, length, get_or, refl, sym, ap, ◌∙◌, arith}
-use Rattle.std.specs.Prelude.{sum, Option}
-use Rattle.std.specs.List.{sum_by}
-use Rattle.std.proofs.lemmas.List.{map-id}
-use Rattle.std.proofs.lemmas.List.Sums.{sum-map, sum_by-le}
-use Rattle.std.proofs.Math.Nat.{mul-le-mul}
-use Rattle.dual_check.specs.Cells.{GridCells}
-use Rattle.dual_check.specs.Grid.{CertifiesPairing}
+use Rattle.fleet_league.proofs.Common.{◌≡◌, ℕ, ◌*◌, ◌<◌, ◌≤◌, ◌^◌, List, [], ◌∷◌, length, get_or, refl, sym, ap, ◌∙◌, arith, sum, Option, sum_by, map-id, sum-map, sum_by-le, mul-le-mul, GridCells, CertifiesPairing}
 
 sum-is : (xs : List ℕ) → sum xs ≡ sum_by (λ x. x) xs
 sum-is xs = ap sum (sym (map-id xs)) ∙ sum-map (λ x. x) xs

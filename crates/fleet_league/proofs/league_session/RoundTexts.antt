@@ -1,14 +1,8 @@
 -- The text of a round's line.
-use Rattle.std.proofs.Common.{◌≡◌, ℕ, List, [], ◌∷◌, ◌++◌, map, ap, sym, ◌∙◌, append_assoc}
-use Rattle.std.specs.Prelude.{codes, decimal}
-use Rattle.ride_model.specs.declared.entry.Outcome.{Outcome}
-use Rattle.ride_model.specs.Text.{amount_field, outcome_field}
+use Rattle.fleet_league.proofs.Common.{◌≡◌, ℕ, List, [], ◌∷◌, ◌++◌, map, ap, sym, ◌∙◌, append_assoc, codes, decimal, Outcome, amount_field, outcome_field, fields_then-append, fields_then-map, fields_then-more, line-fields, RoundSheet, award_field, pay_field, round_line}
 use Rattle.trip_log.specs.inner.Prints.{fields_then, listed}
-use Rattle.trip_log.proofs.PrintsLemmas.{fields_then-append, fields_then-map, fields_then-more, line-fields}
 use Rattle.fleet_league.specs.declared.league_session.sheets.RoundAward.{RoundAward}
 use Rattle.fleet_league.specs.declared.league_session.sheets.RoundPay.{RoundPay}
-use Rattle.fleet_league.specs.declared.league_session.sheets.RoundSheet.{RoundSheet}
-use Rattle.fleet_league.specs.league_session.LeagueTexts.{award_field, pay_field, round_line}
 
 -- a word and items after fields
 items-then : {X : Type 0} (fields : List (List ℕ)) (word : List ℕ) (field : X → List ℕ) (items : List X) (rest : List ℕ)

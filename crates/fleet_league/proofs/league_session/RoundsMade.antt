@@ -1,22 +1,5 @@
 -- A league makes a round: both companies may play it, and the league stays in order.
-use Rattle.std.proofs.Common.{◌≡◌, ℕ, ◌+◌, ◌<◌, ◌≤◌, true, List, length, take, sym, ap, subst, ◌∙◌, arith}
-use Rattle.std.specs.Prelude.{nat_eq, nat_lt}
-use Rattle.std.specs.List.{IsDistinct}
-use Rattle.std.proofs.lemmas.Bool.{lt-ltb}
-use Rattle.ride_model.specs.declared.command.Command.TheVariants.{Ask}
-use Rattle.ride_model.specs.declared.settings.Settings.{Settings}
-use Rattle.ride_model.specs.declared.vehicle.Ride.{Ride}
-use Rattle.ride_model.specs.Batch.{waiting_rides}
-use Rattle.ride_model.specs.History.{fed_commands}
-use Rattle.ride_model.specs.State.{State}
-use Rattle.ride_model.specs.Vehicle.{ride_ids}
-use Rattle.board_core.specs.Recorded.{state_of}
-use Rattle.fleet_league.specs.declared.league_session.lines.FeedLine.TheVariants.{League}
-use Rattle.fleet_league.specs.declared.league_session.sheets.RoundSheet.{RoundSheet}
-use Rattle.fleet_league.specs.declared.league_session.sheets.Told.TheVariants.{Round}
-use Rattle.fleet_league.specs.league_session.League.{PlaysRound, TakesLine, after_round}
-use Rattle.fleet_league.specs.inner.Winning.{MayPlay}
-use Rattle.fleet_league.specs.inner.league_session.LeagueBoards.{IsDesk, IsLeague, IsPlayed, LeagueBoards, league_of}
+use Rattle.fleet_league.proofs.Common.{◌≡◌, ℕ, ◌+◌, ◌<◌, ◌≤◌, true, List, length, take, sym, ap, subst, ◌∙◌, arith, nat_eq, nat_lt, IsDistinct, lt-ltb, Ask, Settings, Ride, waiting_rides, fed_commands, State, ride_ids, state_of, League, RoundSheet, Round, PlaysRound, TakesLine, after_round, MayPlay, IsDesk, IsLeague, IsPlayed, LeagueBoards, league_of}
 use Rattle.fleet_league.proofs.league_session.Beside.{AreWaiting, first-waiting, may-play}
 use Rattle.fleet_league.proofs.league_session.LeagueKept.{member-played}
 use Rattle.fleet_league.proofs.Legality.{IsLegalBoard, board-settings}

@@ -1,17 +1,5 @@
 -- What is put of a league's text, line by line.
-use Rattle.std.proofs.Common.{◌≡◌, ℕ, ◌+◌, List, [], ◌∷◌, ◌++◌, length, Option, Some, None, refl, ap, sym, subst, ◌∙◌, arith, length-append}
-use Rattle.ride_model.specs.Text.{IsOneOrTwo}
-use Rattle.line_text.specs.Lines.{ended_after, ended_lines}
-use Rattle.line_text.specs.inner.text_page.Output.{HasPut, OutputState, Puts}
-use Rattle.line_text.proofs.text_page.OutputLemmas.{puts-none, puts-then}
-use Rattle.fleet_league.specs.declared.league_session.lines.FeedLine.{FeedLine}
-use Rattle.fleet_league.specs.declared.league_session.scribe.Scribe.{Scribe}
-use Rattle.fleet_league.specs.declared.league_session.sheets.Told.{Told}
-use Rattle.fleet_league.specs.league_session.Feed.{said_by, said_from}
-use Rattle.fleet_league.specs.league_session.League.{LeagueState, TakesLine}
-use Rattle.fleet_league.specs.inner.league_session.LeagueBoards.{IsLeague, league_of}
-use Rattle.fleet_league.specs.inner.league_session.LeagueRuns.{HasTold, IsScribe}
-use Rattle.fleet_league.specs.league_session.LeagueTexts.{told_line}
+use Rattle.fleet_league.proofs.Common.{◌≡◌, ℕ, ◌+◌, List, [], ◌∷◌, ◌++◌, length, Option, Some, None, refl, ap, sym, subst, ◌∙◌, arith, length-append, IsOneOrTwo, ended_after, ended_lines, HasPut, OutputState, Puts, puts-none, puts-then, FeedLine, Scribe, Told, said_by, said_from, LeagueState, TakesLine, IsLeague, league_of, HasTold, IsScribe, told_line}
 use Rattle.fleet_league.proofs.league_session.ToldLines.{tells-blank, tells-none, tells-said}
 
 -- only what was put has changed

@@ -1,10 +1,5 @@
 -- The text of a league, line by line.
-use Rattle.std.proofs.Common.{◌≡◌, ℕ, suc, ◌+◌, List, [], ◌∷◌, ◌++◌, length, Option, Some, None, refl, sym, ap, subst, ◌∙◌, arith, append_assoc, append-nil}
-use Rattle.fleet_league.specs.declared.league_session.lines.FeedLine.{FeedLine}
-use Rattle.fleet_league.specs.declared.league_session.sheets.Told.{Told}
-use Rattle.fleet_league.specs.league_session.Feed.{before, said_by, said_from, said_in}
-use Rattle.fleet_league.specs.league_session.League.{LeagueState, TakesLine, TellsLines}
-use Rattle.fleet_league.specs.league_session.LeagueTexts.{told_line}
+use Rattle.fleet_league.proofs.Common.{◌≡◌, ℕ, suc, ◌+◌, List, [], ◌∷◌, ◌++◌, length, Option, Some, None, refl, sym, ap, subst, ◌∙◌, arith, append_assoc, append-nil, cons_option, FeedLine, Told, said_by, said_from, said_in, LeagueState, TakesLine, TellsLines, told_line}
 
 -- no line has a text
 pub tells-none : (log : ℕ) (s : LeagueState) → TellsLines log s [] s []
@@ -35,21 +30,21 @@ tells-more log old new after (first ∷ lines) line told text (between, first_to
 
 -- what lines say, with one line more
 pub said-push : (log number : ℕ) (lines : List (List ℕ)) (line : List ℕ)
-    → said_from log number (lines ++ line ∷ []) ≡ said_from log number lines ++ before (said_by log (number + length lines) line) []
+    → said_from log number (lines ++ line ∷ []) ≡ said_from log number lines ++ cons_option (said_by log (number + length lines) line) []
 unfolding said_from
-said-push log number [] line = ap (λ (n : ℕ). before (said_by log n line) []) (same number)
+said-push log number [] line = ap (λ (n : ℕ). cons_option (said_by log n line) []) (same number)
   where
     same : (n : ℕ) → n ≡ n + 0
     same n = omega arith
 said-push log number (first ∷ lines) line =
-    ap (before (said_by log number first)) (said-push log (number + 1) lines line
-    ∙ ap (λ (n : ℕ). said_from log (number + 1) lines ++ before (said_by log n line) []) (next number (length lines)))
-    ∙ moved (said_by log number first) (said_from log (number + 1) lines) (before (said_by log (number + suc (length lines)) line) [])
+    ap (cons_option (said_by log number first)) (said-push log (number + 1) lines line
+    ∙ ap (λ (n : ℕ). said_from log (number + 1) lines ++ cons_option (said_by log n line) []) (next number (length lines)))
+    ∙ moved (said_by log number first) (said_from log (number + 1) lines) (cons_option (said_by log (number + suc (length lines)) line) [])
   where
     next : (n m : ℕ) → (n + 1) + m ≡ n + suc m
     next n m = omega arith
 
-    moved : (o : Option FeedLine) (xs ys : List FeedLine) → before o (xs ++ ys) ≡ before o xs ++ ys
+    moved : (o : Option FeedLine) (xs ys : List FeedLine) → cons_option o (xs ++ ys) ≡ cons_option o xs ++ ys
     moved None xs ys = refl
     moved (Some x) xs ys = refl
 
@@ -58,7 +53,7 @@ pub tells-blank : (log : ℕ) (old new : LeagueState) (lines : List (List ℕ)) 
     → TellsLines log old (said_in log lines) new text → TellsLines log old (said_in log (lines ++ line ∷ [])) new text
 tells-blank log old new lines line text is tells =
     subst (λ (said : List FeedLine). TellsLines log old said new text)
-    (sym (said-push log 1 lines line ∙ ap (λ o. said_in log lines ++ before o []) is ∙ append-nil (said_in log lines))) tells
+    (sym (said-push log 1 lines line ∙ ap (λ o. said_in log lines ++ cons_option o []) is ∙ append-nil (said_in log lines))) tells
 
 -- a line that says something adds what becomes of it
 pub tells-said : (log : ℕ) (old new after : LeagueState) (lines : List (List ℕ)) (line text : List ℕ) (said : FeedLine) (told : Told)
@@ -66,5 +61,5 @@ pub tells-said : (log : ℕ) (old new after : LeagueState) (lines : List (List �
     → TellsLines log old (said_in log (lines ++ line ∷ [])) after (text ++ told_line log said told)
 tells-said log old new after lines line text said told is tells takes =
     subst (λ (all : List FeedLine). TellsLines log old all after (text ++ told_line log said told))
-    (sym (said-push log 1 lines line ∙ ap (λ o. said_in log lines ++ before o []) is))
+    (sym (said-push log 1 lines line ∙ ap (λ o. said_in log lines ++ cons_option o []) is))
     (tells-more log old new after (said_in log lines) said told text tells takes)

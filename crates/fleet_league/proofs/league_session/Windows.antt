@@ -1,8 +1,5 @@
 -- Lists gathered by place, where only the places of one window count.
-use Rattle.std.proofs.Common.{◌≡◌, ℕ, zero, suc, ◌+◌, ◌<◌, ◌≤◌, ◌⊎◌, inl, inr, Bool, true, false, cond, List, [], ◌∷◌, ◌++◌, length, get_or, refl, sym, ◌∙◌, ap, subst, arith}
-use Rattle.std.specs.Prelude.{◌-◌, map, Option, Some, None}
-use Rattle.std.specs.List.{filter, filter_map, cons_option, range_with_len}
-use Rattle.std.proofs.lemmas.List.Elements.{filter_map-append}
+use Rattle.fleet_league.proofs.Common.{◌≡◌, ℕ, zero, suc, ◌+◌, ◌<◌, ◌≤◌, ◌⊎◌, inl, inr, Bool, true, false, cond, List, [], ◌∷◌, ◌++◌, length, get_or, refl, sym, ◌∙◌, ap, subst, arith, ◌-◌, map, Option, Some, None, filter, filter_map, cons_option, range_with_len, filter_map-append}
 
 -- places from one on, in two parts
 pub range-parts : (a m n : ℕ) → range_with_len a (m + n) ≡ range_with_len a m ++ range_with_len (a + m) n

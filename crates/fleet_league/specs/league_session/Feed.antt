@@ -1,11 +1,12 @@
 -- What the lines of a league's feed say.
-use Rattle.std.specs.Prelude.{ℕ, ◌+◌, if◌then◌else◌, Bool, true, false, List, [], ◌∷◌, Option, Some, None, option_and_then, option_map, unwrap_or, codes}
+use Rattle.std.specs.Prelude.{ℕ, ◌+◌, if◌then◌else◌, Bool, true, false, List, [], ◌∷◌, Option, Some, None, option_and_then, option_map, codes}
 use Rattle.std.specs.Str.{bytes_eq}
+use Rattle.std.specs.List.{cons_option}
 use Rattle.line_text.specs.Fields.{words_of}
 use Rattle.line_text.specs.Numbers.{number_of}
 use Rattle.ride_model.specs.declared.command.Command.{Command}
 use Rattle.ride_model.specs.declared.command.Command.TheVariants.{Request, Cancel, At, Done, On, Off, Clock, Ask, Bad}
-use Rattle.command_lines.specs.Commands.{command_of_fields}
+use Rattle.command_lines.specs.Commands.{command_of_fields, said_by_words}
 use Rattle.fleet_league.specs.declared.league_session.lines.FeedLine.{FeedLine}
 use Rattle.fleet_league.specs.declared.league_session.lines.FeedLine.TheVariants.{League, Company}
 
@@ -50,25 +51,14 @@ line_of_fields log [] = None
 line_of_fields log (word ∷ fields) =
     if bytes_eq word (codes "company") then company_line_of log fields else league_line_of log (word ∷ fields)
 
--- what a line says by its words: nothing where it is blank or a comment
-abbrev pub said_by_words : ℕ → ℕ → Option (List (List ℕ)) → Option FeedLine
-said_by_words log number None = Some (League (Bad number))
-said_by_words log number (Some []) = None
-said_by_words log number (Some (word ∷ fields)) = Some (unwrap_or (line_of_fields log (word ∷ fields)) (League (Bad number)))
-
 -- what the line of this number says. Comments begin with `#`
 abbrev pub said_by : ℕ → ℕ → List ℕ → Option FeedLine
-said_by log number line = said_by_words log number (words_of 35 line)
-
--- what a line says, where it says something, before others
-abbrev pub before : Option FeedLine → List FeedLine → List FeedLine
-before None lines = lines
-before (Some line) lines = line ∷ lines
+said_by log number line = said_by_words (line_of_fields log) (League (Bad number)) (words_of 35 line)
 
 -- what lines say of which the first has this number
 unfoldable pub said_from : ℕ → ℕ → List (List ℕ) → List FeedLine
 said_from log number [] = []
-said_from log number (line ∷ lines) = before (said_by log number line) (said_from log (number + 1) lines)
+said_from log number (line ∷ lines) = cons_option (said_by log number line) (said_from log (number + 1) lines)
 
 -- what the lines of a feed say that are neither blank nor comments, in order
 abbrev pub said_in : ℕ → List (List ℕ) → List FeedLine

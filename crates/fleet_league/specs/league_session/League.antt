@@ -15,7 +15,7 @@ use Rattle.ride_model.specs.Road.{RoadMap}
 use Rattle.ride_model.specs.State.{State, request_state, start_state}
 use Rattle.ride_model.specs.Step.{step}
 use Rattle.ride_model.specs.Limits.{most_batches}
-use Rattle.ride_model.specs.Refusals.{batches_full}
+use Rattle.ride_model.specs.Refusals.{batches_full, code_of, unknown_company}
 use Rattle.dual_check.specs.declared.paired.Paired.{Paired}
 use Rattle.dual_check.specs.Grid.{pairing_cost}
 use Rattle.fleet_league.specs.declared.briefs.Brief.{Brief}
@@ -82,23 +82,19 @@ clock_answer s time = record {
   reply = (step s.first (Clock time)).reply;
 }
 
--- why a report to a company that is none is refused
-abbrev pub unknown_company : ℕ
-unknown_company = 18
-
 -- a report goes to the company of its number, if there is one
 abbrev pub report_answer : LeagueState → ℕ → Command → LeagueAnswer
 report_answer s company command =
     if company == 1 then by_first s command
     else if company == 2 then by_second s command
-    else record { league = s; reply = Refused unknown_company }
+    else record { league = s; reply = Refused (code_of unknown_company) }
 
 -- a line that makes no round
 abbrev pub league_answer : LeagueState → FeedLine → LeagueAnswer
 league_answer s (League (Request id from to seats latest longest chairs)) = by_desk s (Request id from to seats latest longest chairs)
 league_answer s (League (Cancel id)) = cancel_answer s id
 league_answer s (League (Clock time)) = clock_answer s time
-league_answer s (League Ask) = record { league = s; reply = Refused batches_full }
+league_answer s (League Ask) = record { league = s; reply = Refused (code_of batches_full) }
 league_answer s (League _) = record { league = s; reply = Noted }
 league_answer s (Company company command) = report_answer s company command
 

@@ -6,8 +6,7 @@ ghost use Rattle.ride_model.specs.declared.vehicle.Ride.{Ride};
 ghost use Rattle.ride_model.specs.Batch.{waiting_rides, with_request_states};
 ghost use Rattle.ride_model.specs.History.{fed_commands};
 ghost use Rattle.ride_model.specs.Seating.{BatchCopy};
-ghost use Rattle.ride_model.specs.Settings.{IsSettings};
-ghost use Rattle.ride_model.specs.State.{State, request_state, start_state};
+ghost use Rattle.ride_model.specs.State.{State, request_state};
 ghost use Rattle.ride_model.specs.Step.{step};
 ghost use Rattle.ride_model.specs.Text.{IsSpelled, IsSpelledCommand};
 ghost use Rattle.ride_model.specs.Vehicle.{ride_ids};
@@ -18,11 +17,11 @@ ghost use Rattle.board_core.specs.Recorded.{state_of};
 ghost use Rattle.fleet_league.specs.league_session.League.{after_round};
 ghost use Rattle.fleet_league.specs.inner.league_session.LeagueBoards.{HasOpened, IsDesk, is_riders};
 
-use adaptive_roads::Roads;
+use crate::league_session::outset::Outset;
 use batch_commit::Batch;
 use board_core::{Board, Opening};
 use ride_model::limits::MOST_BATCHES;
-use ride_model::{Command, Fleet, NoMemory, Reply, Ride, Settings};
+use ride_model::{Command, Fleet, NoMemory, Reply, Ride};
 use std::alloc::Global;
 use std::marker::Model;
 
@@ -42,18 +41,13 @@ impl<'r> Model for RequestDesk<'r> {
 
 impl<'r> RequestDesk<'r> {
     /// A desk without requests.
-    pub(crate) fn new(
-        alloc: Global,
-        roads: &'r Roads,
-        settings: Settings,
-    ) -> Result<RequestDesk<'r>, NoMemory>
-        requires settings { IsSettings settings }
-        ensures start { IfOk result (λ desk. desk.start ≡ start_state roads.now settings []) }
+    pub(crate) fn new(alloc: Global, outset: &Outset<'r>) -> Result<RequestDesk<'r>, NoMemory>
+        ensures start { IfOk result (λ desk. desk.start ≡ outset.now.desk) }
         ensures history { IfOk result (λ desk. desk.history ≡ []) }
         ensures fits { IfOk result IsDesk }
     {
         let nobody = Fleet::new(Vec::new(alloc));
-        let board = Board::new(alloc, roads, settings, nobody, 1, 1)?;
+        let board = Board::new(alloc, outset.roads, outset.settings, nobody, 1, 1)?;
         Ok(RequestDesk { board })
     }
 

@@ -1,7 +1,5 @@
 //! The companies of a league.
-ghost use Rattle.std.specs.Prelude.{◌≡◌, ◌<◌, [], IfOk, OnOk, IsTrue};
-ghost use Rattle.ride_model.specs.Fleet.{MayStart};
-ghost use Rattle.ride_model.specs.State.{start_state};
+ghost use Rattle.std.specs.Prelude.{◌≡◌, ◌<◌, IfOk, OnOk, IsTrue};
 ghost use Rattle.ride_model.specs.Step.{step};
 ghost use Rattle.ride_model.specs.Text.{IsSpelledCommand};
 ghost use Rattle.batch_commit.specs.inner.Table.{IsTableOf};
@@ -19,7 +17,7 @@ use adaptive_roads::Roads;
 use batch_commit::PriceTable;
 use board_core::Board;
 use pricing_workers::Pricer;
-use ride_model::{Command, Fleet, Reply, Ride, Settings};
+use ride_model::{Command, Reply, Ride};
 use std::alloc::Global;
 use std::marker::Model;
 use std::thread::Threads;
@@ -55,21 +53,16 @@ impl Drop for Member<'_> {
 }
 
 impl<'r> Member<'r> {
-    /// A company of a fleet, which is open.
+    /// A company over these roads, with a pricer of its own.
     pub(crate) fn new(
         alloc: Global,
         roads: &'r Roads,
-        settings: Settings,
-        fleet: Fleet,
+        company: Company<'r>,
     ) -> Result<Member<'r>, NoMemory>
-        requires start { MayStart roads.now settings fleet }
-        ensures start { IfOk result (λ member. member.board.start
-            ≡ start_state roads.now settings fleet) }
-        ensures history { IfOk result (λ member. member.board.history ≡ []) }
-        ensures open { IfOk result (λ member. IsTrue member.is_open) }
+        requires same_roads { company.board.start.roads ≡ roads.now }
+        ensures { IfOk result (λ member. member ≡ company.entry) }
     {
         let pricer = Box::new(alloc, Pricer::new(alloc, roads, 1)?)?;
-        let company = Company::new(alloc, roads, settings, fleet)?;
         Ok(Member {
             alloc,
             company,

@@ -1,26 +1,25 @@
 //! A league that takes a feed line by line, with its text on the way out.
 ghost use Rattle.std.specs.Prelude.{◌≡◌, ◌<◌, ◌++◌, ◌∷◌, ℕ, [], List, Option, IfOk, OnOk, MatchResult, take, true, false};
-ghost use Rattle.ride_model.specs.Fleet.{MayStart};
 ghost use Rattle.line_text.specs.Fields.{is_over_long};
 ghost use Rattle.ride_model.specs.Text.{IsOneOrTwo};
 ghost use Rattle.line_text.specs.inner.text_page.Output.{HasPut, OutputState, Puts};
 ghost use Rattle.command_lines.specs.Limits.{most_lines};
 ghost use Rattle.fleet_league.specs.inner.league_session.Feed.{IsSpelledLine};
-ghost use Rattle.fleet_league.specs.league_session.League.{LeagueState, league_start};
+ghost use Rattle.fleet_league.specs.league_session.League.{LeagueState};
 ghost use Rattle.fleet_league.specs.inner.league_session.LeagueBoards.{league_of};
 ghost use Rattle.fleet_league.specs.inner.league_session.LeagueRuns.{HasTold, IsNew, IsScribe, PutsText, ended_text};
 ghost use Rattle.fleet_league.specs.league_session.LeagueTexts.{head_line, told_line};
 
 use crate::league_session::lines::FeedLine;
+use crate::league_session::outset::Outset;
 use crate::league_session::printing::{head_line, last_line, print_told};
 use crate::league_session::reading::read_line;
 use crate::league_session::sheets::Told;
 use crate::league_session::state::League;
 use crate::league_session::stops::ending_of;
-use adaptive_roads::Roads;
 use line_text::line_reader::Stop;
 use line_text::text_page::Output;
-use ride_model::{Fleet, NoMemory, Settings};
+use ride_model::NoMemory;
 use ride_ports::Sink;
 use std::alloc::Global;
 use std::thread::Threads;
@@ -48,24 +47,16 @@ impl Drop for Scribe<'_> {
 
 impl<'r> Scribe<'r> {
     /// A league at its start, of which nothing was put out.
-    pub(crate) fn new(
-        alloc: Global,
-        roads: &'r Roads,
-        settings: Settings,
-        first: Fleet,
-        second: Fleet,
-    ) -> Result<Scribe<'r>, NoMemory>
-        requires first { MayStart roads.now settings first }
-        requires second { MayStart roads.now settings second }
+    pub(crate) fn new(alloc: Global, outset: Outset<'r>) -> Result<Scribe<'r>, NoMemory>
         ensures nothing_done { IfOk result IsNew }
-        ensures start { IfOk result (λ scribe. league_of scribe.league
-            ≡ league_start roads.now settings first second) }
+        ensures start { IfOk result (λ scribe. league_of scribe.league ≡ outset.entry) }
     {
         let output = Output::new(alloc)?;
-        let league = League::new(alloc, roads, settings, first, second)?;
+        let log = outset.settings.log;
+        let league = League::new(alloc, outset)?;
         Ok(Scribe {
             output,
-            log: settings.log,
+            log,
             lines: 0,
             league,
         })

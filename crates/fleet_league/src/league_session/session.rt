@@ -10,11 +10,11 @@ ghost use Rattle.line_text.specs.line_reader.Limits.{IsWithinLimits};
 ghost use Rattle.line_text.specs.inner.line_reader.Reader.{HasGiven};
 ghost use Rattle.command_lines.specs.Limits.{feed_limits};
 ghost use Rattle.line_text.specs.inner.text_page.Output.{HasPut};
-ghost use Rattle.fleet_league.specs.league_session.League.{league_start};
 ghost use Rattle.fleet_league.specs.inner.league_session.LeagueBoards.{league_of};
 ghost use Rattle.fleet_league.specs.inner.league_session.LeagueRuns.{IsNew, IsScribe, PutsText, ended_text};
 ghost use Rattle.fleet_league.specs.league_session.Leagued.{IsLeagueText, IsLeagued};
 
+use crate::league_session::outset::Outset;
 use crate::league_session::scribe::Scribe;
 use adaptive_roads::Roads;
 use command_lines::FEED_LIMITS;
@@ -55,7 +55,8 @@ pub fn league<R: Threads + Sync, S: Source, K: Sink>(
         (S.faults feed.old) (S.faults feed.new) }
     ensures sink_faults { KeepsCount result.sink_failed (K.faults out.old) (K.faults out.new) }
 {
-    let Ok((mut reader, mut scribe)) = begin(alloc, roads, settings, first, second) else {
+    let outset = Outset::new(roads, settings, first, second);
+    let Ok((mut reader, mut scribe)) = begin(alloc, outset) else {
         return ran_of(Some(Stop::NoMemory), false);
     };
     let stop = run_feed(rt, &mut reader, &mut scribe, feed, out);
@@ -64,24 +65,15 @@ pub fn league<R: Threads + Sync, S: Source, K: Sink>(
 }
 
 // A reader of a feed and a scribe, at their start.
-fn begin<'r>(
-    alloc: Global,
-    roads: &'r Roads,
-    settings: Settings,
-    first: Fleet,
-    second: Fleet,
-) -> Result<(LineReader, Scribe<'r>), NoMemory>
-    requires first { MayStart roads.now settings first }
-    requires second { MayStart roads.now settings second }
+fn begin<'r>(alloc: Global, outset: Outset<'r>) -> Result<(LineReader, Scribe<'r>), NoMemory>
     ensures limits { IfOk result (λ made. made.0.limits ≡ feed_limits) }
     ensures nothing_given { IfOk result (λ made. HasGiven made.0 []) }
     ensures nothing_pending { IfOk result (λ made. made.0.pending ≡ []) }
     ensures nothing_done { IfOk result (λ made. IsNew made.1) }
-    ensures start { IfOk result (λ made. league_of made.1.league
-        ≡ league_start roads.now settings first second) }
+    ensures start { IfOk result (λ made. league_of made.1.league ≡ outset.entry) }
 {
     let reader = LineReader::new(alloc, FEED_LIMITS)?;
-    let scribe = Scribe::new(alloc, roads, settings, first, second)?;
+    let scribe = Scribe::new(alloc, outset)?;
     Ok((reader, scribe))
 }
 

@@ -1,24 +1,23 @@
 //! A league, and what each line of its feed makes of it.
-ghost use Rattle.std.specs.Prelude.{◌≡◌, ◌≢◌, ◌<◌, ◌+◌, ℕ, [], IfOk, OnOk, IsTrue};
-ghost use Rattle.ride_model.specs.Fleet.{MayStart};
+ghost use Rattle.std.specs.Prelude.{◌≡◌, ◌≢◌, ◌<◌, ◌+◌, ℕ, IfOk, OnOk, IsTrue};
 ghost use Rattle.ride_model.specs.declared.command.Command.TheVariants.{Ask};
-ghost use Rattle.ride_model.specs.State.{start_state};
 ghost use Rattle.ride_model.specs.Text.{IsSpelled, IsSpelledCommand};
 ghost use Rattle.command_lines.specs.Limits.{most_lines};
 ghost use Rattle.fleet_league.specs.declared.league_session.lines.FeedLine.TheVariants.{League as OfLeague};
 ghost use Rattle.fleet_league.specs.inner.league_session.Feed.{IsSpelledLine};
 ghost use Rattle.fleet_league.specs.league_session.Feed.{is_driver_report};
-ghost use Rattle.fleet_league.specs.league_session.League.{TakesLine, cancel_answer, clock_answer, league_answer, league_start, report_answer};
+ghost use Rattle.fleet_league.specs.league_session.League.{TakesLine, cancel_answer, clock_answer, league_answer, report_answer};
 ghost use Rattle.fleet_league.specs.inner.league_session.LeagueBoards.{HasAnswered, IsLeague, league_of};
 
+use crate::Company;
 use crate::league_session::desk::RequestDesk;
 use crate::league_session::lines::FeedLine;
 use crate::league_session::members::Member;
+use crate::league_session::outset::Outset;
 use crate::league_session::playing::play;
 use crate::league_session::sheets::Told;
-use adaptive_roads::Roads;
 use ride_model::refusals::BATCHES_FULL;
-use ride_model::{Command, Fleet, NoMemory, Reply, Settings};
+use ride_model::{Command, NoMemory, Reply};
 use std::alloc::Global;
 use std::marker::Model;
 use std::thread::Threads;
@@ -63,25 +62,21 @@ impl<'r> Model for League<'r> {
 }
 
 impl<'r> League<'r> {
-    /// A league at its start, of two fleets over one map, with the same settings.
-    pub(crate) fn new(
-        alloc: Global,
-        roads: &'r Roads,
-        settings: Settings,
-        first: Fleet,
-        second: Fleet,
-    ) -> Result<League<'r>, NoMemory>
-        requires first { MayStart roads.now settings first }
-        requires second { MayStart roads.now settings second }
-        ensures start { IfOk result (λ league. league_of league
-            ≡ league_start roads.now settings first second) }
+    /// A league at its start.
+    pub(crate) fn new(alloc: Global, outset: Outset<'r>) -> Result<League<'r>, NoMemory>
+        ensures start { IfOk result (λ league. league_of league ≡ outset.entry) }
         ensures fits { IfOk result (IsLeague 0) }
-        ensures desk { IfOk result (λ league. league.desk.start
-            ≡ start_state roads.now settings []) }
+        ensures desk { IfOk result (λ league. league.desk.start ≡ outset.entry.desk) }
     {
-        let desk = RequestDesk::new(alloc, roads, settings)?;
-        let first = Member::new(alloc, roads, settings, first)?;
-        let second = Member::new(alloc, roads, settings, second)?;
+        let desk = RequestDesk::new(alloc, &outset)?;
+        let Outset {
+            roads,
+            settings,
+            first,
+            second,
+        } = outset;
+        let first = Member::new(alloc, roads, Company::new(alloc, roads, settings, first)?)?;
+        let second = Member::new(alloc, roads, Company::new(alloc, roads, settings, second)?)?;
         Ok(League {
             alloc,
             penalty: settings.penalty,

@@ -1,24 +1,12 @@
 -- The lines of a feed that were taken when it ended or was stopped.
-use Rattle.std.proofs.Common.{◌≡◌, ◌≢◌, ℕ, ◌<◌, Bool, true, false, nat_lt, take, List, [], ◌∷◌, ◌++◌, length, Option, Some, None, Result, Ok, Err, refl, ap, sym, subst, ◌∙◌, arith, append_assoc, append-nil, length-append}
-use Rattle.std.specs.Prelude.{IfSome, MatchResult}
-use Rattle.std.proofs.lemmas.Bool.{false_from_ne_true}
+use Rattle.line_text.proofs.Common.{◌≡◌, ◌≢◌, ℕ, ◌<◌, Bool, true, false, nat_lt, take, List, [], ◌∷◌, ◌++◌, length, Option, Some, None, Result, Ok, Err, refl, ap, sym, subst, ◌∙◌, arith, append_assoc, append-nil, length-append, IfSome, MatchResult, false_from_ne_true, ended_lines, last_line, lines_of, rest_of, Reads, Reads-none, Reads-then, Reads-to_end, Reads-told, NextLine, Line, Unfinished, End, ReadStop, SourceFailed, TooLong, Limits, IsTooLong, IsWithinLimits, lines_within, HasGiven, ReaderState, IsAtEnd, IsNext, IsNextLine, IsShown, IsStopped}
 use mathlib.Core.List.{IsPrefix}
-use Rattle.line_text.specs.Lines.{ended_lines, last_line, lines_of, rest_of}
 use Rattle.line_text.proofs.LineLemmas.{last_line-some}
-use Rattle.ride_ports.specs.Bytes.{Reads}
 use Rattle.ride_ports.specs.declared.outcome.Ran.{Ran}
-use Rattle.ride_ports.proofs.ByteLemmas.{Reads-none, Reads-then, Reads-to_end, Reads-told}
-use Rattle.line_text.specs.declared.line_reader.answers.NextLine.{NextLine}
-use Rattle.line_text.specs.declared.line_reader.answers.NextLine.TheVariants.{Line, Unfinished, End}
-use Rattle.line_text.specs.declared.line_reader.answers.ReadStop.{ReadStop}
-use Rattle.line_text.specs.declared.line_reader.answers.ReadStop.TheVariants.{SourceFailed, TooLong}
-use Rattle.line_text.specs.declared.line_reader.limits.Limits.{Limits}
 use Rattle.line_text.specs.declared.line_reader.stops.Stop.{Stop}
 use Rattle.line_text.specs.declared.line_reader.stops.Stop.TheVariants.{NoMemory, OfFeed}
 use Rattle.line_text.specs.inner.line_reader.FeedRuns.{HasRun, IsBetween, IsEnded, ran_of}
 use Rattle.line_text.specs.line_reader.FeedRuns.{AreFirstLines, IsReadWhole, IsUnhindered}
-use Rattle.line_text.specs.line_reader.Limits.{IsTooLong, IsWithinLimits, lines_within}
-use Rattle.line_text.specs.inner.line_reader.Reader.{HasGiven, ReaderState, IsAtEnd, IsNext, IsNextLine, IsShown, IsStopped}
 use Rattle.line_text.proofs.line_reader.LineParts.{ended-after_whole, first-within}
 
 -- whole lines are the first lines of them and more bytes

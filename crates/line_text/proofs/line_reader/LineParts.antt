@@ -1,22 +1,9 @@
 -- The lines of a text that comes in parts.
-use Rattle.std.proofs.Common.{◌≡◌, ◌≢◌, ℕ, zero, suc, ◌+◌, ◌-◌, ◌^◌, ◌<◌, ◌≤◌, min, inl, inr, Bool, true, false, cond, ◌==◌, List, [], ◌∷◌, ◌++◌, length, take, drop, Option, refl, ap, sym, subst, ◌∙◌, arith, append_assoc, append-nil, length-append, nat_lt, take_all}
-use Rattle.std.specs.Prelude.{IfSome}
-use Rattle.std.specs.List.{AllByRecursion, flat_map}
-use Rattle.std.proofs.Math.Seq.{take-append_seam}
-use Rattle.std.proofs.lemmas.Bool.{eqb-true, eqb-false}
+use Rattle.line_text.proofs.Common.{◌≡◌, ◌≢◌, ℕ, zero, suc, ◌+◌, ◌-◌, ◌^◌, ◌<◌, ◌≤◌, min, inl, inr, Bool, true, false, cond, ◌==◌, List, [], ◌∷◌, ◌++◌, length, take, drop, Option, refl, ap, sym, subst, ◌∙◌, arith, append_assoc, append-nil, length-append, nat_lt, take_all, IfSome, AllByRecursion, flat_map, take-append_seam, eqb-true, eqb-false, append_cancel_left, take-append-drop, CutterState, HasTaken, EndsLine, Continues, ended_after, rest_after, ended_lines, rest_of, last_line, lines_of, NextLine, Line, Unfinished, End, ReadStop, SourceFailed, TooLong, Limits, IsTooLong, IsWithinLimits, lines_within, ReaderState, HasGiven, IsAtEnd, IsNextLine, IsNext, IsShown, IsStopped, IsLast, IsFilled, IsCutOff}
 use Rattle.std.proofs.lemmas.Grind.{flat_map-append}
-use Rattle.std.proofs.lemmas.List.{append_cancel_left, take-append-drop}
 use Rattle.line_text.proofs.TextLemmas.{some_bytes}
-use Rattle.line_text.specs.inner.Cutter.{CutterState, HasTaken, EndsLine, Continues}
-use Rattle.line_text.specs.Lines.{ended_after, rest_after, ended_lines, rest_of, last_line, lines_of}
 use Rattle.line_text.proofs.LineLemmas.{ended_lines-append, lines-grow, rest_after-append, some-line}
-use Rattle.line_text.specs.declared.line_reader.answers.NextLine.{NextLine}
-use Rattle.line_text.specs.declared.line_reader.answers.NextLine.TheVariants.{Line, Unfinished, End}
-use Rattle.line_text.specs.declared.line_reader.answers.ReadStop.{ReadStop}
-use Rattle.line_text.specs.declared.line_reader.answers.ReadStop.TheVariants.{SourceFailed, TooLong}
-use Rattle.line_text.specs.declared.line_reader.limits.Limits.{Limits}
-use Rattle.line_text.specs.line_reader.Limits.{IsTooLong, IsWithinLimits, lines_within}
-use Rattle.line_text.specs.inner.line_reader.Reader.{ReaderState, HasRead, HasGiven, IsAtEnd, IsNextLine, IsNext, IsShown, IsStopped, IsLast, IsFilled, IsCutOff}
+use Rattle.line_text.specs.inner.line_reader.Reader.{HasRead}
 use Rattle.line_text.specs.line_reader.Reader.{HasNoLf}
 
 -- nothing is read at first

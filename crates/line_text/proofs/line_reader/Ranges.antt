@@ -1,7 +1,5 @@
 -- The unused part of a buffer.
-use Rattle.std.proofs.Common.{◌≡◌, ℕ, ◌+◌, ◌-◌, ◌≤◌, List, length, take, drop, ap, sym, ◌∙◌, arith, length-drop, length-take-le}
-use Rattle.std.specs.List.{slice_range}
-use Rattle.std.proofs.lemmas.List.{drop-take, drop-drop}
+use Rattle.line_text.proofs.Common.{◌≡◌, ℕ, ◌+◌, ◌-◌, ◌≤◌, List, length, take, drop, ap, sym, ◌∙◌, arith, length-drop, length-take-le, slice_range, drop-take, drop-drop}
 
 -- a range without its first elements
 pub used-up : (xs : List ℕ) (start end used : ℕ) → start ≤ end → end ≤ length xs → used ≤ length (slice_range xs start end)

@@ -1,11 +1,6 @@
 -- What was put out after more bytes.
-use Rattle.std.proofs.Common.{◌≡◌, ℕ, true, false, List, [], ◌++◌, Option, Result, Ok, Err, ap, sym, subst, ◌∙◌, append_assoc, append-nil}
-use Rattle.std.specs.Prelude.{OnOk, OnErr, is_err}
-use Rattle.ride_ports.specs.Bytes.{Writes, WritesPrefix}
-use Rattle.ride_ports.specs.Count.{KeepsCount}
-use Rattle.ride_ports.proofs.ByteLemmas.{Writes-none, Writes-then, WritesPrefix-of_first, WritesPrefix-of_second}
+use Rattle.line_text.proofs.Common.{◌≡◌, ℕ, true, false, List, [], ◌++◌, Option, Result, Ok, Err, ap, sym, subst, ◌∙◌, append_assoc, append-nil, OnOk, OnErr, is_err, Writes, WritesPrefix, KeepsCount, Writes-none, Writes-then, WritesPrefix-of_first, WritesPrefix-of_second, HasPut, IsFresh, OutputState, Puts}
 use Rattle.ride_ports.proofs.Counts.{KeepsCount-none, KeepsCount-then}
-use Rattle.line_text.specs.inner.text_page.Output.{HasPut, IsFresh, OutputState, Puts}
 
 -- what was put, where the sink has not failed
 record Standing (before now : Option (List ℕ)) (faults n : ℕ) (page text : List ℕ) : Type 0 where

@@ -1,10 +1,5 @@
 -- Texts that print themselves onto an output's page.
-use Rattle.std.proofs.Common.{◌≡◌, ℕ, Bool, true, false, cond, List, [], ◌∷◌, ◌++◌, length, take, Option, Some, None, Result, Ok, Err, refl, ap, sym, subst, ◌∙◌}
-use Rattle.std.specs.Prelude.{OnErr, OnOk, is_err, is_ok}
-use Rattle.ride_ports.specs.Bytes.{Writes, WritesPrefix}
-use Rattle.ride_ports.specs.Count.{KeepsCount}
-use Rattle.ride_ports.proofs.ByteLemmas.{Writes-told}
-use Rattle.line_text.specs.inner.text_page.Output.{HasPut, OutputState, told_page}
+use Rattle.line_text.proofs.Common.{◌≡◌, ℕ, Bool, true, false, cond, List, [], ◌∷◌, ◌++◌, length, take, Option, Some, None, Result, Ok, Err, refl, ap, sym, subst, ◌∙◌, OnErr, OnOk, is_err, is_ok, Writes, WritesPrefix, KeepsCount, Writes-told, HasPut, OutputState, told_page}
 use Rattle.line_text.proofs.text_page.OutputLemmas.{put-printed}
 
 -- an output whose sink has not failed tells its page, and one that tells a page has not failed

@@ -1,21 +1,6 @@
 -- What is kept is kept where a request is accepted; and by each command.
-use Rattle.std.proofs.Common.{◌≡◌, ℕ, ◌+◌, ◌≤◌, ◌&&◌, ◌||◌, ◌⊎◌, Bool, true, false, not, cond, inl, inr, List, [], ◌∷◌, ◌++◌, length, eqb, ltb-false, refl, sym, ap, subst, arith, length-append}
-use Rattle.std.specs.Prelude.{map, max, Some, None, is_some, find, ◌==◌, nat_le, nat_lt, nat_eq, ⊤}
-use Rattle.std.specs.List.{IsDistinct, AllByRecursion}
-use Rattle.std.proofs.lemmas.Bool.{eqb-false, leb-false, or_parts, not-false, and_parts}
-use Rattle.std.proofs.lemmas.Map.Keys.{IsDistinct-head, IsDistinct-tail, IsDistinct-cons}
-use Rattle.std.proofs.lemmas.List.{map-append}
-use Rattle.ride_model.specs.declared.command.Command.{Command}
-use Rattle.ride_model.specs.declared.command.Command.TheVariants.{Request, Cancel, At, Done, On, Off, Clock, Ask, Bad}
+use Rattle.model_laws.proofs.Common.{◌≡◌, ℕ, ◌+◌, ◌≤◌, ◌&&◌, ◌||◌, ◌⊎◌, Bool, true, false, not, cond, inl, inr, List, [], ◌∷◌, ◌++◌, length, eqb, ltb-false, refl, sym, ap, subst, arith, length-append, map, max, Some, None, is_some, find, ◌==◌, nat_le, nat_lt, nat_eq, ⊤, IsDistinct, AllByRecursion, eqb-false, leb-false, or_parts, not-false, and_parts, IsDistinct-head, IsDistinct-tail, IsDistinct-cons, map-append, Command, Request, Cancel, At, Done, On, Off, Clock, Ask, Bad, Ride, Vehicle, find_vehicle, State, AcceptedRequest, accepted_request, placed_vehicle, is_node, with_accepted, request_step, cancel_step, at_step, done_step, duty_step, clock_step, ask_step, step, IsRide, ride_ids, IsStart, request_ids, promised_as, vehicle_of_request}
 use Rattle.ride_model.specs.declared.reply.RequestState.TheVariants.{Waiting as WaitingState}
-use Rattle.ride_model.specs.declared.vehicle.Ride.{Ride}
-use Rattle.ride_model.specs.declared.vehicle.Vehicle.{Vehicle}
-use Rattle.ride_model.specs.Seating.{find_vehicle}
-use Rattle.ride_model.specs.State.{State, AcceptedRequest, accepted_request, placed_vehicle}
-use Rattle.ride_model.specs.Step.{is_node, with_accepted, request_step, cancel_step, at_step, done_step, duty_step, clock_step, ask_step, step}
-use Rattle.ride_model.specs.Vehicle.{IsRide, ride_ids}
-use Rattle.model_laws.specs.history_laws.Start.{IsStart}
-use Rattle.model_laws.specs.inner.history_laws.Consistent.{request_ids, promised_as, vehicle_of_request}
 use Rattle.model_laws.proofs.plain.Among.{Among, among_push_back}
 use Rattle.model_laws.proofs.plain.Lists.{distinct-push}
 use Rattle.model_laws.proofs.history_laws.Lookups.{fresh_by}

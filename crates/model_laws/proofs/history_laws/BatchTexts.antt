@@ -1,28 +1,6 @@
 -- Openings, commits and abandons have a text.
-use Rattle.std.proofs.Common.{◌≡◌, ℕ, ◌<◌, ◌≤◌, ◌^◌, ◌&&◌, Bool, true, false, not, cond, inl, inr, List, [], ◌∷◌, length, eqb, leb, ltb-true, refl, sym, ◌∙◌, ap, subst, arith}
-use Rattle.std.specs.Prelude.{Option, Some, None, is_some, sum_by, ◌==◌, nat_lt, All, IsSome}
-use Rattle.std.specs.List.{list_all, AllByRecursion}
-use Rattle.std.proofs.lemmas.List.{length-map}
-use Rattle.std.proofs.lemmas.List.Elements.{recursion_from_All}
-use Rattle.std.proofs.lemmas.List.Sums.{sum_by-cons}
-use Rattle.ride_model.specs.declared.command.Actor.TheVariants.{Desk}
-use Rattle.ride_model.specs.declared.entry.Outcome.{Outcome}
-use Rattle.ride_model.specs.declared.entry.Outcome.TheVariants.{Confirmed, Moved, Behind}
-use Rattle.ride_model.specs.declared.offer.Seat.{Seat}
-use Rattle.ride_model.specs.declared.vehicle.Ride.{Ride}
-use Rattle.ride_model.specs.declared.vehicle.Vehicle.{Vehicle}
-use Rattle.ride_model.specs.Batch.{may_open, next_batch, seat_of, version_of, priced_start, was_cancelled, outcome_by, outcome_of, outcomes_of}
-use Rattle.ride_model.specs.Insertion.{stops_with}
-use Rattle.ride_model.specs.Legal.{NamesBatch, CommitsBatch, versions_of}
-use Rattle.ride_model.specs.Offers.{start_of}
-use Rattle.ride_model.specs.Keeps.{keeps, keeps_ride}
-use Rattle.ride_model.specs.Loads.{loads_fit}
-use Rattle.ride_model.specs.Seating.{BatchCopy, Certifies, has_amount, find_vehicle, vehicle_ids, seat_offer}
-use Rattle.ride_model.specs.State.{State, AcceptedRequest, has_ended, open_batch_of}
-use Rattle.ride_model.specs.Text.{IsSpelled, IsSpelledSeat, IsSpelledPair, IsSpelledOutcome}
-use Rattle.ride_model.specs.Vehicle.{IsLawful, ride_ids}
-use Rattle.model_laws.specs.history_laws.Start.{IsStart}
-use Rattle.model_laws.specs.inner.history_laws.Consistent.{IsInBatch, IsOpenBatch}
+use Rattle.model_laws.proofs.Common.{◌≡◌, ℕ, ◌<◌, ◌≤◌, ◌^◌, ◌&&◌, Bool, true, false, not, cond, inl, inr, List, [], ◌∷◌, length, eqb, leb, ltb-true, refl, sym, ◌∙◌, ap, subst, arith, Option, Some, None, is_some, ◌==◌, nat_lt, All, IsSome, list_all, AllByRecursion, length-map, recursion_from_All, sum_by-cons, Desk, Outcome, Confirmed, Moved, Behind, Seat, Ride, Vehicle, may_open, next_batch, seat_of, version_of, priced_start, was_cancelled, outcome_by, outcome_of, outcomes_of, stops_with, NamesBatch, CommitsBatch, versions_of, start_of, keeps, keeps_ride, loads_fit, BatchCopy, Certifies, has_amount, find_vehicle, vehicle_ids, seat_offer, State, AcceptedRequest, has_ended, open_batch_of, IsSpelled, IsSpelledSeat, IsSpelledPair, IsSpelledOutcome, IsLawful, ride_ids, IsStart, IsInBatch, IsOpenBatch, leb-true, and_parts}
+use Rattle.std.specs.Prelude.{sum_by}
 use Rattle.model_laws.proofs.plain.Among.{Among, among_map, among_map_back, among_filter_back, found_among}
 use Rattle.model_laws.proofs.AboardLoads.{length-same}
 use Rattle.model_laws.proofs.BatchSums.{seating_cost-lt}
@@ -38,7 +16,6 @@ use Rattle.model_laws.proofs.history_laws.Invariant.{Inv, map_of}
 use Rattle.model_laws.proofs.history_laws.Opening.{waits_in}
 use Rattle.model_laws.proofs.history_laws.Confirming.{start-fits, priced_start-found}
 use Rattle.model_laws.proofs.history_laws.Replies.{vehicle_spelled}
-use Rattle.std.proofs.lemmas.Bool.{leb-true, and_parts}
 
 -- a term of a sum is at most the sum
 term-le : {X : Type 0} (f : X → ℕ) (xs : List X) (x : X) → Among x xs → f x ≤ sum_by f xs

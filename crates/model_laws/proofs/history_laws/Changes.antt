@@ -1,18 +1,5 @@
 -- Changes of vehicles and of requests' states, which keep what is kept.
-use Rattle.std.proofs.Common.{◌≡◌, ℕ, ◌+◌, ◌≤◌, ◌||◌, Bool, true, List, length, refl, sym, ◌∙◌, ap, subst, arith}
-use Rattle.std.specs.Prelude.{map, Some, option_map, ◌==◌, nat_eq}
-use Rattle.std.specs.List.{IsDistinct}
-use Rattle.std.proofs.lemmas.List.{length-map}
-use Rattle.ride_model.specs.declared.reply.RequestState.{RequestState}
-use Rattle.ride_model.specs.declared.vehicle.Ride.{Ride}
-use Rattle.ride_model.specs.declared.vehicle.Vehicle.{Vehicle}
-use Rattle.ride_model.specs.Batch.{is_in_batch, is_cancelled}
-use Rattle.ride_model.specs.Seating.{BatchCopy, find_vehicle}
-use Rattle.ride_model.specs.inner.Seating.{IsBatchOver}
-use Rattle.ride_model.specs.State.{State, AcceptedRequest}
-use Rattle.ride_model.specs.Vehicle.{IsRide, IsLawful, ride_ids}
-use Rattle.model_laws.specs.inner.history_laws.Closing.{is_closed}
-use Rattle.model_laws.specs.inner.history_laws.Consistent.{promised_as, vehicle_of_request, IsInBatch, IsEarlier, AreEarlier, IsOpenBatch}
+use Rattle.model_laws.proofs.Common.{◌≡◌, ℕ, ◌+◌, ◌≤◌, ◌||◌, Bool, true, List, length, refl, sym, ◌∙◌, ap, subst, arith, map, Some, option_map, ◌==◌, nat_eq, IsDistinct, length-map, RequestState, Ride, Vehicle, is_in_batch, is_cancelled, BatchCopy, find_vehicle, IsBatchOver, State, AcceptedRequest, IsRide, IsLawful, ride_ids, is_closed, promised_as, vehicle_of_request, IsInBatch, IsEarlier, AreEarlier, IsOpenBatch}
 use Rattle.model_laws.proofs.plain.Among.{Among, among_map_back, found_among}
 use Rattle.model_laws.proofs.plain.Each.{of_all, all_of}
 use Rattle.model_laws.proofs.history_laws.Lookups.{find-map, ids-map}

@@ -1,42 +1,7 @@
 -- A request is closed at most once.
-use Rattle.std.proofs.Common.{◌≡◌, ℕ, ◌+◌, ◌-◌, ◌≤◌, ◌&&◌, ◌||◌, ◌⊎◌, Bool, true, false, not, cond, inl, inr, List, [], ◌∷◌, length, eqb, refl, sym, ◌∙◌, ap, subst, arith}
-use Rattle.std.specs.Prelude.{map, Option, Some, None, is_some, count_by, ◌==◌, nat_le, nat_lt, IsSomeAnd}
-use Rattle.std.specs.List.{AllByRecursion, IsDistinct}
-use Rattle.std.proofs.lemmas.Bool.{eqb-true}
-use Rattle.std.proofs.lemmas.List.Sums.{sum_by-cons}
-use Rattle.std.proofs.lemmas.Map.Keys.{IsDistinct-head, IsDistinct-tail}
-use Rattle.std.proofs.Math.Bool.{or-false}
-use Rattle.ride_model.specs.declared.command.Actor.{Actor}
-use Rattle.ride_model.specs.declared.command.Actor.TheVariants.{Feed, Desk}
-use Rattle.ride_model.specs.declared.command.Command.{Command}
-use Rattle.ride_model.specs.declared.command.Command.TheVariants.{Request, Cancel, At, Done, On, Off, Clock, Ask, Bad}
-use Rattle.ride_model.specs.declared.entry.Entry.{Entry}
-use Rattle.ride_model.specs.declared.entry.Event.{Event}
-use Rattle.ride_model.specs.declared.entry.Event.TheVariants.{Fed, Finish, Opened, Committed, Abandoned}
-use Rattle.ride_model.specs.declared.entry.Outcome.{Outcome}
-use Rattle.ride_model.specs.declared.entry.Outcome.TheVariants.{Confirmed as ConfirmedState, Away as AwayState, Gone, Moved, Behind}
-use Rattle.ride_model.specs.declared.offer.Seat.{Seat}
-use Rattle.ride_model.specs.declared.reply.Reply.TheVariants.{OnMap, Late}
-use Rattle.ride_model.specs.declared.reply.RequestState.{RequestState}
-use Rattle.ride_model.specs.declared.reply.RequestState.TheVariants.{Waiting, InBatch, Confirmed, Aboard, Done as DoneState, Away, Cancelled}
-use Rattle.ride_model.specs.declared.vehicle.Kind.{Kind}
-use Rattle.ride_model.specs.declared.vehicle.Kind.TheVariants.{Pickup, Dropoff}
-use Rattle.ride_model.specs.declared.vehicle.Ride.{Ride}
-use Rattle.ride_model.specs.declared.vehicle.Stop.{Stop}
-use Rattle.ride_model.specs.declared.vehicle.Vehicle.{Vehicle}
-use Rattle.ride_model.specs.Batch.{is_in_batch, is_cancelled, was_cancelled, seat_of, outcome_by, outcome_of, outcomes_of, after_commit}
-use Rattle.ride_model.specs.History.{is_away}
-use Rattle.ride_model.specs.Legal.{CommitsBatch, IsLegalEvent, IsLegal, after_event, after_entry}
-use Rattle.ride_model.specs.Insertion.{without_ride}
-use Rattle.ride_model.specs.Keeps.{broken_of}
-use Rattle.ride_model.specs.Road.{travel}
-use Rattle.ride_model.specs.Seating.{BatchCopy}
-use Rattle.ride_model.specs.State.{State, AcceptedRequest, accepted_request, placed_vehicle, with_vehicle, with_request_state, open_batch_numbered}
-use Rattle.ride_model.specs.Step.{Answered, is_node, raised, freed, cancel_by_state, cancel_found, cancel_step, reported, report, report_driving, at_found, at_step, served, served_reply, served_state, done_at_stop, done_found, done_step, duty_found, duty_step, clock_step, ask_step, request_step, step}
-use Rattle.ride_model.specs.Vehicle.{ride_ids}
-use Rattle.model_laws.specs.history_laws.Start.{IsStart}
-use Rattle.model_laws.specs.inner.history_laws.Closing.{is_closed, closings_in, closings_of}
-use Rattle.model_laws.specs.inner.history_laws.Consistent.{promised_as, IsInBatch}
+use Rattle.model_laws.proofs.Common.{◌≡◌, ℕ, ◌+◌, ◌-◌, ◌≤◌, ◌&&◌, ◌||◌, ◌⊎◌, Bool, true, false, not, cond, inl, inr, List, [], ◌∷◌, length, eqb, refl, sym, ◌∙◌, ap, subst, arith, map, Option, Some, None, is_some, count_by, ◌==◌, nat_le, nat_lt, IsSomeAnd, AllByRecursion, IsDistinct, eqb-true, sum_by-cons, IsDistinct-head, IsDistinct-tail, or-false, Actor, Feed, Desk, Command, Request, Cancel, At, Done, On, Off, Clock, Ask, Bad, Entry, Event, Fed, Finish, Opened, Committed, Abandoned, Outcome, Gone, Moved, Behind, Seat, OnMap, Late, RequestState, Waiting, InBatch, Aboard, Away, Cancelled, Kind, Pickup, Dropoff, Ride, Stop, Vehicle, is_in_batch, is_cancelled, was_cancelled, seat_of, outcome_by, outcome_of, outcomes_of, after_commit, is_away, CommitsBatch, IsLegalEvent, IsLegal, after_event, after_entry, without_ride, broken_of, travel, BatchCopy, State, AcceptedRequest, accepted_request, placed_vehicle, with_vehicle, with_request_state, open_batch_numbered, Answered, is_node, raised, freed, cancel_by_state, cancel_found, cancel_step, reported, report, report_driving, at_found, at_step, served, served_reply, served_state, done_at_stop, done_found, done_step, duty_found, duty_step, clock_step, ask_step, request_step, step, ride_ids, IsStart, is_closed, closings_in, closings_of, promised_as, IsInBatch}
+use Rattle.ride_model.specs.declared.entry.Outcome.TheVariants.{Confirmed as ConfirmedState, Away as AwayState}
+use Rattle.ride_model.specs.declared.reply.RequestState.TheVariants.{Confirmed, Done as DoneState}
 use Rattle.model_laws.proofs.plain.Among.{Among, among_map_back}
 use Rattle.model_laws.proofs.plain.Each.{of_all}
 use Rattle.model_laws.proofs.history_laws.Invariant.{find_request, Inv, Goes}

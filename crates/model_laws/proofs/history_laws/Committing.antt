@@ -1,35 +1,11 @@
 -- What is kept is kept by a commit, one outcome after the other.
-use Rattle.std.proofs.Common.{◌≡◌, ℕ, ◌||◌, ◌⊎◌, Bool, true, false, not, cond, inl, inr, List, [], ◌∷◌, ◌++◌, length, eqb, refl, sym, ◌∙◌, ap, subst, arith}
-use Rattle.std.specs.Prelude.{map, Option, Some, None, option_map, find, ◌==◌, nat_eq, nat_lt, All, IsSome}
-use Rattle.std.specs.List.{IsDistinct}
-use Rattle.std.proofs.lemmas.Bool.{eqb-true, eq-eqb, ne_eqb}
-use Rattle.ride_model.specs.declared.entry.Outcome.{Outcome}
-use Rattle.ride_model.specs.declared.entry.Outcome.TheVariants.{Confirmed, Away, Gone, Moved, Behind}
-use Rattle.ride_model.specs.declared.offer.Seat.{Seat}
-use Rattle.ride_model.specs.declared.reply.RequestState.{RequestState}
+use Rattle.model_laws.proofs.Common.{◌≡◌, ℕ, ◌||◌, ◌⊎◌, Bool, true, false, not, cond, inl, inr, List, [], ◌∷◌, ◌++◌, length, eqb, refl, sym, ◌∙◌, ap, subst, arith, map, Option, Some, None, option_map, find, ◌==◌, nat_eq, nat_lt, All, IsSome, IsDistinct, eqb-true, eq-eqb, ne_eqb, Outcome, Confirmed, Gone, Moved, Behind, Seat, RequestState, Settings, Ride, Vehicle, is_in_batch, is_cancelled, seat_of, version_of, priced_start, outcome_by, was_cancelled, outcome_of, with_confirmed, confirm, after_outcome, after_outcomes, without_batch, after_commit, BatchCopy, IsSeating, find_vehicle, seat_offer, State, AcceptedRequest, placed_vehicle, with_vehicle, with_request_state, with_plan, start_of, offer_of, raised, IsRide, ride_ids, IsFresh, IsStart, is_closed, promised_state, promised_as, vehicle_of_request, IsInBatch, IsOpenBatch, IsDistinct-head, IsDistinct-tail, same_Some, or-false, map-append}
+use Rattle.ride_model.specs.declared.entry.Outcome.TheVariants.{Away}
 use Rattle.ride_model.specs.declared.reply.RequestState.TheVariants.{Waiting as WaitingState, Confirmed as ConfirmedState, Away as AwayState}
-use Rattle.ride_model.specs.declared.settings.Settings.{Settings}
-use Rattle.ride_model.specs.declared.vehicle.Ride.{Ride}
-use Rattle.ride_model.specs.declared.vehicle.Vehicle.{Vehicle}
-use Rattle.ride_model.specs.Batch.{is_in_batch, is_cancelled, seat_of, version_of, priced_start, outcome_by, was_cancelled, outcome_of, with_confirmed, confirm, after_outcome, after_outcomes, without_batch, after_commit}
-use Rattle.ride_model.specs.Seating.{BatchCopy, IsSeating, find_vehicle, seat_offer}
-use Rattle.ride_model.specs.State.{State, AcceptedRequest, placed_vehicle, with_vehicle, with_request_state}
-use Rattle.ride_model.specs.Insertion.{with_plan}
-use Rattle.ride_model.specs.Offers.{start_of, offer_of}
-use Rattle.ride_model.specs.Step.{raised}
-use Rattle.ride_model.specs.Vehicle.{IsRide, ride_ids}
-use Rattle.ride_model.specs.inner.Vehicle.{IsFresh}
-use Rattle.model_laws.specs.history_laws.Start.{IsStart}
-use Rattle.model_laws.specs.inner.history_laws.Closing.{is_closed}
-use Rattle.model_laws.specs.inner.history_laws.Consistent.{promised_state, promised_as, vehicle_of_request, IsInBatch, IsOpenBatch}
 use Rattle.model_laws.proofs.plain.Among.{Among, among_map, contains_from_among, among_push_back, found_among}
 use Rattle.model_laws.proofs.plain.Numbers.{eqb-comm}
 use Rattle.model_laws.proofs.plain.Each.{of_each, of_all}
 use Rattle.model_laws.proofs.OfferPrices.{among_append}
-use Rattle.std.proofs.lemmas.Map.Keys.{IsDistinct-head, IsDistinct-tail}
-use Rattle.std.proofs.lemmas.Option.{same_Some}
-use Rattle.std.proofs.Math.Bool.{or-false}
-use Rattle.std.proofs.lemmas.List.{map-append}
 use Rattle.model_laws.proofs.Certificates.{seat_facts}
 use Rattle.model_laws.proofs.RequestStates.{marked, marked-ride}
 use Rattle.model_laws.proofs.history_laws.Lookups.{find-map, found_by, put, put-id, Placed}

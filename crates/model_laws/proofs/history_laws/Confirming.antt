@@ -1,28 +1,5 @@
 -- A vehicle with a confirmed ride is lawful.
-use Rattle.std.proofs.Common.{◌≡◌, ℕ, ◌+◌, ◌≤◌, ◌&&◌, Bool, true, false, cond, List, [], ◌∷◌, ◌++◌, length, leb, leb-true, refl, ◌∙◌, ap, subst, arith}
-use Rattle.std.specs.Prelude.{max, Some, None, option_map, unwrap_or, IfSome}
-use Rattle.std.specs.List.{list_all}
-use Rattle.std.proofs.lemmas.List.Elements.{All-weaker}
-use Rattle.std.proofs.lemmas.Option.{IfSome_then}
-use Rattle.std.proofs.lemmas.Bool.{and_parts}
-use Rattle.ride_model.specs.declared.offer.Offer.{Offer}
-use Rattle.ride_model.specs.declared.offer.Seat.{Seat}
-use Rattle.ride_model.specs.declared.settings.Settings.{Settings}
-use Rattle.ride_model.specs.declared.vehicle.Ride.{Ride}
-use Rattle.ride_model.specs.declared.vehicle.Stop.{Stop}
-use Rattle.ride_model.specs.declared.vehicle.Vehicle.{Vehicle}
-use Rattle.ride_model.specs.Batch.{priced_start, version_of, with_confirmed}
-use Rattle.ride_model.specs.Insertion.{with_plan, inserted}
-use Rattle.ride_model.specs.Keeps.{keeps, keeps_ride}
-use Rattle.ride_model.specs.Loads.{loads_fit}
-use Rattle.ride_model.specs.Offers.{is_idle, start_of, offer_of}
-use Rattle.ride_model.specs.Road.{RoadMap}
-use Rattle.ride_model.specs.Seating.{BatchCopy, find_vehicle}
-use Rattle.ride_model.specs.Settings.{IsSettings}
-use Rattle.ride_model.specs.State.{State}
-use Rattle.ride_model.specs.Step.{raised}
-use Rattle.ride_model.specs.Vehicle.{IsRide, IsRouted, IsLawful}
-use Rattle.ride_model.specs.inner.Vehicle.{IsFresh}
+use Rattle.model_laws.proofs.Common.{◌≡◌, ℕ, ◌+◌, ◌≤◌, ◌&&◌, Bool, true, false, cond, List, [], ◌∷◌, ◌++◌, length, leb, leb-true, refl, ◌∙◌, ap, subst, arith, max, Some, None, option_map, unwrap_or, IfSome, list_all, All-weaker, IfSome_then, and_parts, Offer, Seat, Settings, Ride, Stop, Vehicle, priced_start, version_of, with_confirmed, with_plan, inserted, keeps, keeps_ride, loads_fit, is_idle, start_of, offer_of, RoadMap, BatchCopy, find_vehicle, IsSettings, State, raised, IsRide, IsRouted, IsLawful, IsFresh}
 use Rattle.model_laws.proofs.plain.Among.{Among}
 use Rattle.model_laws.proofs.Costs.{offer_plan}
 use Rattle.model_laws.proofs.Insertions.{routed-with, inserted_facts}

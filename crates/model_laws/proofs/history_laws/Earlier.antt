@@ -1,10 +1,5 @@
 -- Earlier and later records of the vehicles of a fleet.
-use Rattle.std.proofs.Common.{◌≡◌, ℕ, ◌+◌, Bool, true, false, cond, inl, inr, List, [], ◌∷◌, eqb, refl, sym, ◌∙◌, ap, subst, arith}
-use Rattle.std.specs.Prelude.{map, Some}
-use Rattle.std.proofs.lemmas.Option.{same_Some}
-use Rattle.ride_model.specs.declared.vehicle.Vehicle.{Vehicle}
-use Rattle.ride_model.specs.Seating.{find_vehicle}
-use Rattle.model_laws.specs.inner.history_laws.Consistent.{IsEarlier, AreEarlier}
+use Rattle.model_laws.proofs.Common.{◌≡◌, ℕ, ◌+◌, Bool, true, false, cond, inl, inr, List, [], ◌∷◌, eqb, refl, sym, ◌∙◌, ap, subst, arith, map, Some, same_Some, Vehicle, find_vehicle, IsEarlier, AreEarlier}
 use Rattle.model_laws.proofs.plain.Among.{Among}
 
 -- a record is an earlier one of itself

@@ -1,24 +1,6 @@
 -- What one event does to the ends, to the open batches, and to the numbers of batches that were asked for and opened.
-use Rattle.std.proofs.Common.{◌≡◌, ℕ, Bool, true, false, not, ◌&&◌, cond, List, [], ◌∷◌, ◌++◌, Option, Some, None, eqb, refl, sym, ap, ◌∙◌}
-use Rattle.std.specs.Prelude.{find, ◌==◌}
-use Rattle.std.specs.List.{filter}
-use Rattle.std.specs.Option.{option_or}
-use Rattle.std.proofs.lemmas.Bool.{eq-eqb}
-use Rattle.std.proofs.lemmas.List.{append-nil}
-use Rattle.std.proofs.lemmas.List.Folds.{find-append}
-use Rattle.ride_model.specs.declared.command.Actor.{Actor}
-use Rattle.ride_model.specs.declared.command.Actor.TheVariants.{Feed, Desk}
-use Rattle.ride_model.specs.declared.command.Command.{Command}
-use Rattle.ride_model.specs.declared.entry.Ending.{Ending}
-use Rattle.ride_model.specs.declared.entry.Event.{Event}
-use Rattle.ride_model.specs.declared.entry.Event.TheVariants.{Fed, Finish, Opened, Committed, Abandoned}
-use Rattle.ride_model.specs.declared.reply.Reply.{Reply}
-use Rattle.ride_model.specs.Batch.{next_batch, after_opening, after_outcomes, after_commit, after_abandon}
-use Rattle.ride_model.specs.Legal.{after_event}
-use Rattle.ride_model.specs.Seating.{BatchCopy}
-use Rattle.ride_model.specs.State.{State, is_actor, is_batch, open_batch_numbered}
+use Rattle.model_laws.proofs.Common.{◌≡◌, ℕ, Bool, true, false, not, ◌&&◌, cond, List, [], ◌∷◌, ◌++◌, Option, Some, None, eqb, refl, sym, ap, ◌∙◌, find, ◌==◌, filter, option_or, eq-eqb, append-nil, find-append, Actor, Feed, Desk, Command, Ending, Event, Fed, Finish, Opened, Committed, Abandoned, Reply, next_batch, after_opening, after_outcomes, after_commit, after_abandon, after_event, BatchCopy, State, is_actor, is_batch, open_batch_numbered, is_fed}
 use Rattle.model_laws.proofs.RequestStates.{others-opening, abandon-is}
-use Rattle.model_laws.specs.history_laws.Start.{is_fed}
 use Rattle.model_laws.proofs.history_laws.Leaving.{open_batch}
 use Rattle.model_laws.proofs.history_laws.Untouched.{leaves-step, stays-outcomes}
 

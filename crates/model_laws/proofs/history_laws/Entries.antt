@@ -1,19 +1,5 @@
 -- What is kept is kept by each entry, and holds at the start.
-use Rattle.std.proofs.Common.{◌≡◌, ℕ, ◌+◌, cond, [], length, refl, sym, ◌∙◌, ap, subst, arith}
-use Rattle.std.specs.Prelude.{map, Option, Some, None, nat_eq, IsSome, IsSomeAnd}
-use Rattle.std.specs.List.{IsDistinct}
-use Rattle.ride_model.specs.declared.command.Actor.{Actor}
-use Rattle.ride_model.specs.declared.command.Actor.TheVariants.{Feed, Desk}
-use Rattle.ride_model.specs.declared.entry.Ending.{Ending}
-use Rattle.ride_model.specs.declared.entry.Event.{Event}
-use Rattle.ride_model.specs.declared.entry.Event.TheVariants.{Fed, Finish, Opened, Committed, Abandoned}
-use Rattle.ride_model.specs.declared.vehicle.Ride.{Ride}
-use Rattle.ride_model.specs.declared.vehicle.Vehicle.{Vehicle}
-use Rattle.ride_model.specs.Legal.{CommitsBatch, IsLegalEvent, after_event}
-use Rattle.ride_model.specs.Seating.{BatchCopy}
-use Rattle.ride_model.specs.State.{State, AcceptedRequest, with_end, open_batch_numbered}
-use Rattle.ride_model.specs.Vehicle.{IsLawful, visits_due, visit_of, stops_of}
-use Rattle.model_laws.specs.history_laws.Start.{IsStart, is_fed}
+use Rattle.model_laws.proofs.Common.{◌≡◌, ℕ, ◌+◌, cond, [], length, refl, sym, ◌∙◌, ap, subst, arith, map, Option, Some, None, nat_eq, IsSome, IsSomeAnd, IsDistinct, Actor, Feed, Desk, Ending, Event, Fed, Finish, Opened, Committed, Abandoned, Ride, Vehicle, CommitsBatch, IsLegalEvent, after_event, BatchCopy, State, AcceptedRequest, with_end, open_batch_numbered, IsLawful, visits_due, visit_of, stops_of, IsStart, is_fed}
 use Rattle.model_laws.proofs.plain.Among.{Among}
 use Rattle.model_laws.proofs.plain.Each.{of_all}
 use Rattle.model_laws.proofs.history_laws.Lookups.{distinct_nil}

@@ -1,20 +1,5 @@
 -- The state of every legal history is consistent, and each vehicle goes on from state to state.
-use Rattle.std.proofs.Common.{◌≡◌, ℕ, ◌+◌, List, [], ◌∷◌, ◌++◌, sym, ◌∙◌, ap, subst, arith}
-use Rattle.std.specs.Prelude.{Some, All, Contains, ⊤}
-use Rattle.std.proofs.lemmas.List.Elements.{All-head, All-tail}
-use Rattle.std.proofs.lemmas.List.Sums.{sum_by-cons}
-use Rattle.std.proofs.lemmas.Option.{same_Some}
-use Rattle.ride_model.specs.declared.command.Command.TheVariants.{Request, Cancel, At, Done, On, Off, Clock, Ask, Bad}
-use Rattle.ride_model.specs.declared.entry.Entry.{Entry}
-use Rattle.ride_model.specs.declared.entry.Event.{Event}
-use Rattle.ride_model.specs.declared.entry.Event.TheVariants.{Fed, Finish, Opened, Committed, Abandoned}
-use Rattle.ride_model.specs.declared.vehicle.Vehicle.{Vehicle}
-use Rattle.ride_model.specs.Legal.{IsLegal, after_entry, replay}
-use Rattle.ride_model.specs.Seating.{find_vehicle}
-use Rattle.ride_model.specs.State.{State}
-use Rattle.model_laws.specs.history_laws.Start.{IsStart}
-use Rattle.model_laws.specs.inner.history_laws.Start.{fed_total}
-use Rattle.model_laws.specs.inner.history_laws.Consistent.{IsConsistent}
+use Rattle.model_laws.proofs.Common.{◌≡◌, ℕ, ◌+◌, List, [], ◌∷◌, ◌++◌, sym, ◌∙◌, ap, subst, arith, Some, All, Contains, ⊤, All-head, All-tail, sum_by-cons, same_Some, Request, Cancel, At, Done, On, Off, Clock, Ask, Bad, Entry, Event, Fed, Finish, Opened, Committed, Abandoned, Vehicle, IsLegal, after_entry, replay, find_vehicle, State, IsStart, fed_total, IsConsistent}
 use Rattle.model_laws.proofs.plain.Among.{among_from_contains}
 use Rattle.model_laws.proofs.plain.Each.{all_of}
 use Rattle.model_laws.proofs.Histories.{replay-append, IsLegal-parts}

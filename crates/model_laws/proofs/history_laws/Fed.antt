@@ -1,23 +1,6 @@
 -- What is kept is kept by each command that a feed gives.
-use Rattle.std.proofs.Common.{◌≡◌, ℕ, ◌+◌, ◌≤◌, ◌||◌, ◌⊎◌, Bool, true, false, not, cond, inl, inr, List, [], ◌∷◌, length, eqb, ltb-false, refl, sym, ◌∙◌, ap, subst, arith}
-use Rattle.std.specs.Prelude.{Contains, Option, Some, None, slice_set, ◌==◌, nat_lt}
-use Rattle.std.proofs.lemmas.Bool.{eqb-true, not-true, or_parts, not-false}
-use Rattle.std.proofs.lemmas.Option.{same_Some}
-use Rattle.ride_model.specs.declared.reply.RequestState.{RequestState}
-use Rattle.ride_model.specs.declared.reply.RequestState.TheVariants.{Waiting as WaitingState, InBatch, Confirmed, Aboard, Done as DoneState, Away, Cancelled as CancelledState}
-use Rattle.ride_model.specs.declared.vehicle.Kind.{Kind}
-use Rattle.ride_model.specs.declared.vehicle.Kind.TheVariants.{Pickup, Dropoff}
-use Rattle.ride_model.specs.declared.vehicle.Ride.{Ride}
-use Rattle.ride_model.specs.declared.vehicle.Stop.{Stop}
-use Rattle.ride_model.specs.declared.vehicle.Vehicle.{Vehicle}
-use Rattle.ride_model.specs.Road.{travel}
-use Rattle.ride_model.specs.Insertion.{routed, without_ride, rides_without}
-use Rattle.ride_model.specs.State.{State, AcceptedRequest, accepted_request, placed_vehicle, with_vehicle, with_request_state}
-use Rattle.ride_model.specs.Step.{Answered, is_node, raised, cancelled, freed, cancel_by_state, cancel_found, reported, report, report_driving, at_found, rides_with_picked, served, served_state, done_at_stop, done_found, duty_found}
-use Rattle.ride_model.specs.Vehicle.{IsPlanFor, ride_ids}
-use Rattle.model_laws.specs.history_laws.Start.{IsStart}
-use Rattle.model_laws.specs.inner.history_laws.Closing.{is_closed}
-use Rattle.model_laws.specs.inner.history_laws.Consistent.{promised_state, promised_as, vehicle_of_request}
+use Rattle.model_laws.proofs.Common.{◌≡◌, ℕ, ◌+◌, ◌≤◌, ◌||◌, ◌⊎◌, Bool, true, false, not, cond, inl, inr, List, [], ◌∷◌, length, eqb, ltb-false, refl, sym, ◌∙◌, ap, subst, arith, Contains, Option, Some, None, slice_set, ◌==◌, nat_lt, eqb-true, not-true, or_parts, not-false, same_Some, RequestState, InBatch, Aboard, Away, Kind, Pickup, Dropoff, Ride, Stop, Vehicle, travel, routed, without_ride, rides_without, State, AcceptedRequest, accepted_request, placed_vehicle, with_vehicle, with_request_state, Answered, is_node, raised, cancelled, freed, cancel_by_state, cancel_found, reported, report, report_driving, at_found, rides_with_picked, served, served_state, done_at_stop, done_found, duty_found, IsPlanFor, ride_ids, IsStart, is_closed, promised_state, promised_as, vehicle_of_request}
+use Rattle.ride_model.specs.declared.reply.RequestState.TheVariants.{Waiting as WaitingState, Confirmed, Done as DoneState, Cancelled as CancelledState}
 use Rattle.model_laws.proofs.plain.Among.{Among, among_from_contains, among_map, among_map_back, among_filter, among_filter_back, found_among}
 use Rattle.model_laws.proofs.plain.Each.{of_all}
 use Rattle.model_laws.proofs.PlanStops.{ids-without}

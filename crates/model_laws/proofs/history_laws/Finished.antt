@@ -1,28 +1,8 @@
 -- A history in which every actor ended whole and none gave a batch up is finished.
-use Rattle.std.proofs.Common.{◌≡◌, ℕ, ◌+◌, ◌<◌, ◌≤◌, Bool, true, false, ◌||◌, ◌&&◌, not, cond, ◌⊎◌, inl, inr, List, [], ◌∷◌, ◌++◌, Option, Some, None, eqb, refl, sym, ap, subst, ◌∙◌, arith}
-use Rattle.std.specs.Prelude.{find, ◌==◌, nat_lt, is_some, IsSome, IsNone, IsSomeAnd}
-use Rattle.std.specs.List.{filter, list_any, list_all, range_with_len}
-use Rattle.std.proofs.lemmas.Bool.{eqb-true, eq-eqb, not-true, and_parts, or_cases}
-use Rattle.std.proofs.lemmas.List.Folds.{list_any-append}
-use Rattle.std.proofs.Math.Bool.{or-false, and-false}
-use Rattle.ride_model.specs.declared.command.Actor.{Actor}
-use Rattle.ride_model.specs.declared.command.Actor.TheVariants.{Feed, Desk}
-use Rattle.ride_model.specs.declared.entry.Ending.{Ending}
-use Rattle.ride_model.specs.declared.entry.Ending.TheVariants.{Whole, Cut}
-use Rattle.ride_model.specs.declared.entry.Entry.{Entry}
-use Rattle.ride_model.specs.declared.entry.Event.{Event}
-use Rattle.ride_model.specs.declared.entry.Event.TheVariants.{Fed, Finish, Opened, Committed, Abandoned}
-use Rattle.ride_model.specs.History.{entries_of, ended_whole, is_whole, is_abandoned, IsFinished}
-use Rattle.ride_model.specs.Legal.{after_event, after_entry, replay, IsLegal, IsLegalEvent, IsNumbered, MayEnd}
-use Rattle.ride_model.specs.Seating.{BatchCopy}
-use Rattle.ride_model.specs.State.{State, is_actor, has_ended, open_batch_of, open_batch_numbered}
+use Rattle.model_laws.proofs.Common.{◌≡◌, ℕ, ◌+◌, ◌<◌, ◌≤◌, Bool, true, false, ◌||◌, ◌&&◌, not, cond, ◌⊎◌, inl, inr, List, [], ◌∷◌, ◌++◌, Option, Some, None, eqb, refl, sym, ap, subst, ◌∙◌, arith, find, ◌==◌, nat_lt, is_some, IsSome, IsNone, IsSomeAnd, filter, list_any, list_all, range_with_len, eqb-true, eq-eqb, not-true, and_parts, or_cases, list_any-append, or-false, and-false, Actor, Feed, Desk, Ending, Whole, Cut, Entry, Event, Fed, Finish, Opened, Committed, Abandoned, entries_of, ended_whole, is_whole, is_abandoned, IsFinished, after_event, after_entry, replay, IsLegal, IsLegalEvent, IsNumbered, MayEnd, BatchCopy, State, is_actor, has_ended, open_batch_of, open_batch_numbered, IsOpenBatch, IsConsistent, is_whole_end, has_whole_end, gives_up, AllWhole, IsStart, fed_total}
 use Rattle.model_laws.proofs.plain.Among.{Among, among_filter}
 use Rattle.model_laws.proofs.plain.Each.{of_all}
 use Rattle.model_laws.proofs.Histories.{IsLegal-parts}
-use Rattle.model_laws.specs.inner.history_laws.Consistent.{IsOpenBatch, IsConsistent}
-use Rattle.model_laws.specs.inner.history_laws.Finishing.{is_whole_end, has_whole_end, gives_up, AllWhole}
-use Rattle.model_laws.specs.history_laws.Start.{IsStart}
-use Rattle.model_laws.specs.inner.history_laws.Start.{fed_total}
 use Rattle.model_laws.proofs.history_laws.EveryState.{consistent}
 use Rattle.model_laws.proofs.history_laws.Effects.{ends_in, is_opened, effect}
 use Rattle.model_laws.proofs.history_laws.Leaving.{open_batch}

@@ -1,25 +1,7 @@
 -- Every legal history has a text.
-use Rattle.std.proofs.Common.{◌≡◌, ℕ, ◌+◌, ◌≤◌, ◌⊎◌, Bool, true, false, cond, inl, inr, List, [], ◌∷◌, length, refl, sym, ◌∙◌, ap, subst, arith}
-use Rattle.std.specs.Prelude.{Option, Some, None, filter_map, All, IsSome, IsSomeAnd}
-use Rattle.std.specs.List.{filter, AllByRecursion}
-use Rattle.std.proofs.lemmas.Bool.{eq-eqb}
-use Rattle.std.proofs.lemmas.List.Elements.{All-from_recursion, All-head, All-tail}
-use Rattle.std.proofs.lemmas.List.Sums.{sum_by-cons}
+use Rattle.model_laws.proofs.Common.{◌≡◌, ℕ, ◌+◌, ◌≤◌, ◌⊎◌, Bool, true, false, cond, inl, inr, List, [], ◌∷◌, length, refl, sym, ◌∙◌, ap, subst, arith, Option, Some, None, All, IsSome, IsSomeAnd, filter, AllByRecursion, eq-eqb, All-from_recursion, All-head, All-tail, sum_by-cons, Actor, Feed, Desk, Command, Request, Cancel, At, Done, On, Off, Clock, Ask, Bad, Entry, Event, Fed, Finish, Opened, Committed, Abandoned, entries_of, command_of, fed_commands, IsNumbered, CommitsBatch, IsLegalEvent, IsLegal, after_entry, BatchCopy, State, is_actor, open_batch_numbered, IsSpelled, IsOneOrTwo, IsSpelledActor, IsSpelledReply, IsNotedIfBad, IsSpelledEvent, HasLine, HasText, IsStart, is_fed, fed_total, IsFedSpelled, IsFedWithin}
+use Rattle.std.specs.Prelude.{filter_map}
 use Rattle.model_laws.proofs.plain.Numbers.{one_of_two}
-use Rattle.ride_model.specs.declared.command.Actor.{Actor}
-use Rattle.ride_model.specs.declared.command.Actor.TheVariants.{Feed, Desk}
-use Rattle.ride_model.specs.declared.command.Command.{Command}
-use Rattle.ride_model.specs.declared.command.Command.TheVariants.{Request, Cancel, At, Done, On, Off, Clock, Ask, Bad}
-use Rattle.ride_model.specs.declared.entry.Entry.{Entry}
-use Rattle.ride_model.specs.declared.entry.Event.{Event}
-use Rattle.ride_model.specs.declared.entry.Event.TheVariants.{Fed, Finish, Opened, Committed, Abandoned}
-use Rattle.ride_model.specs.History.{entries_of, command_of, fed_commands}
-use Rattle.ride_model.specs.Legal.{IsNumbered, CommitsBatch, IsLegalEvent, IsLegal, after_entry}
-use Rattle.ride_model.specs.Seating.{BatchCopy}
-use Rattle.ride_model.specs.State.{State, is_actor, open_batch_numbered}
-use Rattle.ride_model.specs.Text.{IsSpelled, IsOneOrTwo, IsSpelledActor, IsSpelledReply, IsNotedIfBad, IsSpelledEvent, HasLine, HasText}
-use Rattle.model_laws.specs.history_laws.Start.{IsStart, is_fed}
-use Rattle.model_laws.specs.inner.history_laws.Start.{fed_total, IsFedSpelled, IsFedWithin}
 use Rattle.model_laws.proofs.history_laws.Invariant.{Inv}
 use Rattle.model_laws.proofs.history_laws.Leaving.{open_batch}
 use Rattle.model_laws.proofs.history_laws.Entries.{start_inv, IsFineEvent, fed_in, event_goes}

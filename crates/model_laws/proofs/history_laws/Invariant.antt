@@ -1,19 +1,5 @@
 -- What is kept by each entry of a legal history, in the form in which the proofs use it.
-use Rattle.std.proofs.Common.{◌≡◌, ℕ, ◌+◌, ◌<◌, ◌≤◌, ◌^◌, true, List, length, refl, sym, ap, subst, arith}
-use Rattle.std.specs.Prelude.{map, Option, Some, None, find, ◌==◌, Contains, nat_eq, IfSome, IsSomeAnd}
-use Rattle.std.specs.List.{IsDistinct}
-use Rattle.std.proofs.lemmas.List.{length-map}
-use Rattle.ride_model.specs.declared.vehicle.Ride.{Ride}
-use Rattle.ride_model.specs.declared.vehicle.Vehicle.{Vehicle}
-use Rattle.ride_model.specs.Fleet.{IsFleet}
-use Rattle.ride_model.specs.Road.{IsRoadMap}
-use Rattle.ride_model.specs.Seating.{BatchCopy, find_vehicle, vehicle_ids}
-use Rattle.ride_model.specs.Settings.{IsSettings}
-use Rattle.ride_model.specs.State.{State, AcceptedRequest}
-use Rattle.ride_model.specs.Vehicle.{IsRide, IsLawful, ride_ids}
-use Rattle.model_laws.specs.history_laws.Start.{IsStart}
-use Rattle.model_laws.specs.inner.history_laws.Closing.{is_closed}
-use Rattle.model_laws.specs.inner.history_laws.Consistent.{request_ids, promised_as, vehicle_of_request, IsWithVehicle, AreEarlier, IsOpenBatch, IsConsistent}
+use Rattle.model_laws.proofs.Common.{◌≡◌, ℕ, ◌+◌, ◌<◌, ◌≤◌, ◌^◌, true, List, length, refl, sym, ap, subst, arith, map, Option, Some, None, find, ◌==◌, Contains, nat_eq, IfSome, IsSomeAnd, IsDistinct, length-map, Ride, Vehicle, IsFleet, IsRoadMap, BatchCopy, find_vehicle, vehicle_ids, IsSettings, State, AcceptedRequest, IsRide, IsLawful, ride_ids, IsStart, is_closed, request_ids, promised_as, vehicle_of_request, IsWithVehicle, AreEarlier, IsOpenBatch, IsConsistent}
 use Rattle.model_laws.proofs.plain.Among.{Among, contains_from_among, among_map, among_map_back}
 use Rattle.model_laws.proofs.plain.Each.{of_all, all_of}
 

@@ -1,14 +1,5 @@
 -- What the times of a vehicle keep: the limits of its rides that were not named late.
-use Rattle.std.proofs.Common.{◌≡◌, ℕ, ◌+◌, ◌&&◌, ◌||◌, Bool, true, false, cond, inl, inr, List, [], ◌∷◌, ◌++◌, eqb, leb, leb-true, ltb, le-ltb, refl, sym, ◌∙◌, ap, subst}
-use Rattle.std.specs.Prelude.{map, Option, Some, None, slice_set, ◌==◌}
-use Rattle.std.specs.List.{list_all, filter}
-use Rattle.std.proofs.lemmas.Bool.{eq-eqb, or_parts, or_from, and_parts}
-use Rattle.std.proofs.lemmas.List.Folds.{list_any-append}
-use Rattle.ride_model.specs.declared.vehicle.Ride.{Ride}
-use Rattle.ride_model.specs.declared.vehicle.Stop.{Stop}
-use Rattle.ride_model.specs.declared.vehicle.Vehicle.{Vehicle}
-use Rattle.ride_model.specs.Keeps.{is_pickup_at, is_dropoff_at, keeps_visits, keeps_ride, breaks_visits, breaks_ride, broken_of}
-use Rattle.ride_model.specs.Promises.{is_late}
+use Rattle.model_laws.proofs.Common.{◌≡◌, ℕ, ◌+◌, ◌&&◌, ◌||◌, Bool, true, false, cond, inl, inr, List, [], ◌∷◌, ◌++◌, eqb, leb, leb-true, ltb, le-ltb, refl, sym, ◌∙◌, ap, subst, map, Option, Some, None, slice_set, ◌==◌, list_all, filter, eq-eqb, or_parts, or_from, and_parts, list_any-append, Ride, Stop, Vehicle, is_pickup_at, is_dropoff_at, keeps_visits, keeps_ride, breaks_visits, breaks_ride, broken_of, is_late}
 use Rattle.model_laws.proofs.plain.Among.{Among, among_map, among_map_back, among_filter}
 use Rattle.model_laws.proofs.history_laws.Lookups.{put, Placed}
 

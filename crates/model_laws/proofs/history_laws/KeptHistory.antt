@@ -1,24 +1,6 @@
 -- Every legal history keeps its promises.
-use Rattle.std.proofs.Common.{◌≡◌, ℕ, ◌+◌, false, List, [], ◌∷◌, ◌++◌, refl, sym, ◌∙◌, subst}
-use Rattle.std.specs.Prelude.{Option, Some, None, IsSome, IsSomeAnd}
+use Rattle.model_laws.proofs.Common.{◌≡◌, ℕ, ◌+◌, false, List, [], ◌∷◌, ◌++◌, refl, sym, ◌∙◌, subst, Option, Some, None, IsSome, IsSomeAnd, Actor, Feed, Desk, Entry, Event, Fed, Finish, Opened, Committed, Abandoned, Reply, Settings, Ride, Vehicle, next_batch, breaks_ride, CommitsBatch, IsLegalEvent, IsLegal, after_event, after_entry, is_late, broken_by, KeepsEvent, KeepsTimes, KeepsState, KeepsFrom, KeepsPromises, BatchCopy, State, open_batch_numbered, IsLawful, IsStart}
 use Rattle.model_laws.proofs.plain.Each.{of_all, all_of}
-use Rattle.ride_model.specs.declared.command.Actor.{Actor}
-use Rattle.ride_model.specs.declared.command.Actor.TheVariants.{Feed, Desk}
-use Rattle.ride_model.specs.declared.entry.Entry.{Entry}
-use Rattle.ride_model.specs.declared.entry.Event.{Event}
-use Rattle.ride_model.specs.declared.entry.Event.TheVariants.{Fed, Finish, Opened, Committed, Abandoned}
-use Rattle.ride_model.specs.declared.reply.Reply.{Reply}
-use Rattle.ride_model.specs.declared.settings.Settings.{Settings}
-use Rattle.ride_model.specs.declared.vehicle.Ride.{Ride}
-use Rattle.ride_model.specs.declared.vehicle.Vehicle.{Vehicle}
-use Rattle.ride_model.specs.Batch.{next_batch}
-use Rattle.ride_model.specs.Keeps.{breaks_ride}
-use Rattle.ride_model.specs.Legal.{CommitsBatch, IsLegalEvent, IsLegal, after_event, after_entry}
-use Rattle.ride_model.specs.Promises.{is_late, broken_by, KeepsEvent, KeepsTimes, KeepsState, KeepsFrom, KeepsPromises}
-use Rattle.ride_model.specs.Seating.{BatchCopy}
-use Rattle.ride_model.specs.State.{State, open_batch_numbered}
-use Rattle.ride_model.specs.Vehicle.{IsLawful}
-use Rattle.model_laws.specs.history_laws.Start.{IsStart}
 use Rattle.model_laws.proofs.RequestStates.{opening-is, abandon-is}
 use Rattle.model_laws.proofs.history_laws.Invariant.{Inv}
 use Rattle.model_laws.proofs.history_laws.Kept.{AllKeep, all_keep-more}

@@ -1,21 +1,5 @@
 -- A report that is not late breaks no limit, and a late one names the rides whose limits it breaks.
-use Rattle.std.proofs.Common.{◌≡◌, ℕ, ◌+◌, ◌-◌, ◌≤◌, Bool, true, false, not, cond, List, [], ◌∷◌, ◌++◌, leb, leb-true, refl, sym, ◌∙◌, ap, subst, arith}
-use Rattle.std.specs.Prelude.{Option, Some, None, slice_set, ◌==◌, nat_lt}
-use Rattle.std.specs.List.{filter}
-use Rattle.ride_model.specs.declared.command.Command.{Command}
-use Rattle.ride_model.specs.declared.entry.Event.TheVariants.{Fed}
-use Rattle.ride_model.specs.declared.reply.Reply.TheVariants.{OnMap, Late}
-use Rattle.ride_model.specs.declared.vehicle.Stop.{Stop}
-use Rattle.ride_model.specs.declared.vehicle.Vehicle.{Vehicle}
-use Rattle.ride_model.specs.Keeps.{breaks_visits, broken_of}
-use Rattle.ride_model.specs.Promises.{broken_by}
-use Rattle.ride_model.specs.Road.{travel}
-use Rattle.ride_model.specs.Vehicle.{IsRouted}
-use Rattle.ride_model.specs.Insertion.{routed}
-use Rattle.ride_model.specs.State.{State, placed_vehicle}
-use Rattle.ride_model.specs.Step.{Answered, is_node, raised, reported, report, report_driving, at_found}
-use Rattle.model_laws.specs.history_laws.Start.{IsStart}
-use Rattle.model_laws.specs.inner.Sooner.{AllSooner}
+use Rattle.model_laws.proofs.Common.{◌≡◌, ℕ, ◌+◌, ◌-◌, ◌≤◌, Bool, true, false, not, cond, List, [], ◌∷◌, ◌++◌, leb, leb-true, refl, sym, ◌∙◌, ap, subst, arith, Option, Some, None, slice_set, ◌==◌, nat_lt, filter, Command, Fed, OnMap, Late, Stop, Vehicle, breaks_visits, broken_of, broken_by, travel, IsRouted, routed, State, placed_vehicle, Answered, is_node, raised, reported, report, report_driving, at_found, IsStart, AllSooner}
 use Rattle.model_laws.proofs.plain.Among.{Among}
 use Rattle.model_laws.proofs.Routes.{with_leg, sooner-filter, visits_from}
 use Rattle.model_laws.proofs.Removal.{breaks-sooner}

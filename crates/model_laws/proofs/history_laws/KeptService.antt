@@ -1,24 +1,5 @@
 -- A served stop of a ride that was not named late is in time, and the times of the stops that are left stay as they were.
-use Rattle.std.proofs.Common.{◌≡◌, ℕ, ◌+◌, ◌≤◌, ◌||◌, Bool, true, false, not, cond, List, [], ◌∷◌, ◌++◌, eqb, ltb, ltb-false, refl, sym, ◌∙◌, ap, subst, arith}
-use Rattle.std.specs.Prelude.{map, Option, Some, None, slice_set, ◌==◌, nat_lt, IfSome}
-use Rattle.std.specs.List.{filter}
-use Rattle.std.proofs.lemmas.Bool.{eqb-true, not-true, or_parts, not-false}
-use Rattle.std.proofs.lemmas.Option.{same_Some}
-use Rattle.ride_model.specs.declared.command.Command.TheVariants.{Done}
-use Rattle.ride_model.specs.declared.entry.Event.TheVariants.{Fed}
-use Rattle.ride_model.specs.declared.vehicle.Kind.{Kind}
-use Rattle.ride_model.specs.declared.vehicle.Kind.TheVariants.{Pickup, Dropoff}
-use Rattle.ride_model.specs.declared.vehicle.Ride.{Ride}
-use Rattle.ride_model.specs.declared.vehicle.Stop.{Stop}
-use Rattle.ride_model.specs.declared.vehicle.Vehicle.{Vehicle}
-use Rattle.ride_model.specs.Keeps.{breaks_visits}
-use Rattle.ride_model.specs.Promises.{broken_by, is_late, KeepsPickup, KeepsDropoff, KeepsEvent}
-use Rattle.ride_model.specs.Road.{travel}
-use Rattle.ride_model.specs.Seating.{find_ride, find_vehicle}
-use Rattle.ride_model.specs.State.{State, placed_vehicle}
-use Rattle.ride_model.specs.Step.{Answered, raised, served, served_reply, done_at_stop, done_found}
-use Rattle.ride_model.specs.Vehicle.{IsPlanFor, IsRouted, HasLegs, visits_due, visit_of, stops_of}
-use Rattle.model_laws.specs.history_laws.Start.{IsStart}
+use Rattle.model_laws.proofs.Common.{◌≡◌, ℕ, ◌+◌, ◌≤◌, ◌||◌, Bool, true, false, not, cond, List, [], ◌∷◌, ◌++◌, eqb, ltb, ltb-false, refl, sym, ◌∙◌, ap, subst, arith, map, Option, Some, None, slice_set, ◌==◌, nat_lt, IfSome, filter, eqb-true, not-true, or_parts, not-false, same_Some, Done, Fed, Kind, Pickup, Dropoff, Ride, Stop, Vehicle, breaks_visits, broken_by, is_late, KeepsPickup, KeepsDropoff, KeepsEvent, travel, find_ride, find_vehicle, State, placed_vehicle, Answered, raised, served, served_reply, done_at_stop, done_found, IsPlanFor, IsRouted, HasLegs, visits_due, visit_of, stops_of, IsStart}
 use Rattle.model_laws.proofs.plain.Among.{Among, among_map_back, among_filter_back, found_among}
 use Rattle.model_laws.proofs.plain.Numbers.{eqb-comm}
 use Rattle.model_laws.proofs.AboardLoads.{filter-kept, filter-skipped}

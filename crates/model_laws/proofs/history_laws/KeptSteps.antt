@@ -1,20 +1,6 @@
 -- Each command keeps what was promised, but for the rides that its reply names as broken.
-use Rattle.std.proofs.Common.{◌≡◌, ℕ, ◌+◌, ◌&&◌, ◌||◌, Bool, true, false, not, List, [], ◌++◌, eqb, refl}
-use Rattle.std.specs.Prelude.{Option, Some, None, is_some, length, ◌==◌, nat_le, nat_lt}
-use Rattle.std.proofs.lemmas.Bool.{not-true}
-use Rattle.ride_model.specs.declared.command.Command.{Command}
-use Rattle.ride_model.specs.declared.command.Command.TheVariants.{Request, Cancel, At, Done, On, Off, Clock, Ask, Bad}
-use Rattle.ride_model.specs.declared.entry.Event.TheVariants.{Fed}
-use Rattle.ride_model.specs.declared.reply.RequestState.{RequestState}
-use Rattle.ride_model.specs.declared.reply.RequestState.TheVariants.{Waiting as WaitingState, InBatch, Confirmed, Aboard, Done as DoneState, Away, Cancelled as CancelledState}
-use Rattle.ride_model.specs.declared.vehicle.Ride.{Ride}
-use Rattle.ride_model.specs.declared.vehicle.Vehicle.{Vehicle}
-use Rattle.ride_model.specs.Insertion.{without_ride}
-use Rattle.ride_model.specs.Promises.{KeepsEvent}
-use Rattle.ride_model.specs.State.{State, AcceptedRequest, accepted_request, placed_vehicle}
-use Rattle.ride_model.specs.Step.{is_node, raised, freed, cancel_by_state, cancel_found, duty_found, request_step, cancel_step, at_step, done_step, duty_step, clock_step, ask_step, step}
-use Rattle.ride_model.specs.Vehicle.{IsRouted}
-use Rattle.model_laws.specs.history_laws.Start.{IsStart}
+use Rattle.model_laws.proofs.Common.{◌≡◌, ℕ, ◌+◌, ◌&&◌, ◌||◌, Bool, true, false, not, List, [], ◌++◌, eqb, refl, Option, Some, None, is_some, length, ◌==◌, nat_le, nat_lt, not-true, Command, Request, Cancel, At, Done, On, Off, Clock, Ask, Bad, Fed, RequestState, InBatch, Aboard, Away, Ride, Vehicle, without_ride, KeepsEvent, State, AcceptedRequest, accepted_request, placed_vehicle, is_node, raised, freed, cancel_by_state, cancel_found, duty_found, request_step, cancel_step, at_step, done_step, duty_step, clock_step, ask_step, step, IsRouted, IsStart}
+use Rattle.ride_model.specs.declared.reply.RequestState.TheVariants.{Waiting as WaitingState, Confirmed, Done as DoneState, Cancelled as CancelledState}
 use Rattle.model_laws.proofs.plain.Among.{among_filter_back}
 use Rattle.model_laws.proofs.Removal.{breaks_ride-without}
 use Rattle.model_laws.proofs.history_laws.Invariant.{Inv, map_of}

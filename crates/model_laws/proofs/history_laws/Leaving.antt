@@ -1,18 +1,6 @@
 -- What is kept is kept where an open batch is taken out, and where it is given up.
-use Rattle.std.proofs.Common.{◌≡◌, ℕ, ◌+◌, ◌≤◌, ◌||◌, Bool, true, false, not, cond, inl, inr, List, [], ◌∷◌, length, eqb, refl, sym, ◌∙◌, ap, subst, arith}
-use Rattle.std.specs.Prelude.{Some, None, option_map, find, ◌==◌}
-use Rattle.std.specs.List.{filter}
-use Rattle.std.proofs.lemmas.Bool.{eqb-true, eq-eqb, not-true, and_from, and_parts}
-use Rattle.std.proofs.lemmas.Option.{same_Some}
-use Rattle.ride_model.specs.declared.reply.RequestState.{RequestState}
-use Rattle.ride_model.specs.declared.reply.RequestState.TheVariants.{Waiting, InBatch, Confirmed, Aboard, Done, Away, Cancelled}
-use Rattle.ride_model.specs.declared.vehicle.Ride.{Ride}
-use Rattle.ride_model.specs.Batch.{is_in_batch, standing_rides, without_batch, after_abandon}
-use Rattle.ride_model.specs.Seating.{BatchCopy}
-use Rattle.ride_model.specs.State.{State, AcceptedRequest, is_batch, request_state, open_batch_numbered}
-use Rattle.model_laws.specs.inner.history_laws.Closing.{is_closed}
-use Rattle.model_laws.specs.inner.history_laws.Consistent.{vehicle_of_request}
-use Rattle.model_laws.specs.inner.Requests.{is_of, is_in}
+use Rattle.model_laws.proofs.Common.{◌≡◌, ℕ, ◌+◌, ◌≤◌, ◌||◌, Bool, true, false, not, cond, inl, inr, List, [], ◌∷◌, length, eqb, refl, sym, ◌∙◌, ap, subst, arith, Some, None, option_map, find, ◌==◌, filter, eqb-true, eq-eqb, not-true, and_from, and_parts, same_Some, RequestState, Waiting, InBatch, Aboard, Away, Cancelled, Ride, is_in_batch, standing_rides, without_batch, after_abandon, BatchCopy, State, AcceptedRequest, is_batch, request_state, open_batch_numbered, is_closed, vehicle_of_request, is_of, is_in}
+use Rattle.ride_model.specs.declared.reply.RequestState.TheVariants.{Confirmed, Done}
 use Rattle.model_laws.proofs.plain.Among.{Among, among_filter_back, found_among}
 use Rattle.model_laws.proofs.AboardLoads.{filter-skipped}
 use Rattle.model_laws.proofs.RequestStates.{abandon-is}

@@ -1,13 +1,6 @@
 -- Lists whose elements are found by an id of theirs, and maps that change no id.
-use Rattle.std.proofs.Common.{◌≡◌, ℕ, zero, suc, ◌+◌, Bool, true, false, cond, inl, inr, List, [], ◌∷◌, take, eqb, refl, sym, ◌∙◌, ap, subst, arith}
-use Rattle.std.specs.Prelude.{map, Some, option_map, is_some, find, slice_set, ◌==◌, All}
-use Rattle.std.specs.List.{AllByRecursion, IsDistinct, enumerate_from, filter}
-use Rattle.std.proofs.lemmas.Bool.{eqb-true, eq-eqb, ne_eqb}
-use Rattle.std.proofs.lemmas.List.Elements.{All-from_recursion, All-contains}
-use Rattle.std.proofs.lemmas.Map.Keys.{IsDistinct-head, IsDistinct-tail, IsDistinct-cons}
-use Rattle.std.proofs.lemmas.Option.{same_Some}
-use Rattle.ride_model.specs.declared.vehicle.Vehicle.{Vehicle}
-use Rattle.ride_model.specs.Seating.{find_vehicle, vehicle_ids}
+use Rattle.model_laws.proofs.Common.{◌≡◌, ℕ, zero, suc, ◌+◌, Bool, true, false, cond, inl, inr, List, [], ◌∷◌, take, eqb, refl, sym, ◌∙◌, ap, subst, arith, map, Some, option_map, is_some, find, slice_set, ◌==◌, All, AllByRecursion, enumerate_from, filter, eqb-true, eq-eqb, ne_eqb, All-from_recursion, All-contains, IsDistinct-head, IsDistinct-tail, IsDistinct-cons, same_Some, Vehicle, find_vehicle, vehicle_ids}
+use Rattle.std.specs.List.{IsDistinct}
 use Rattle.model_laws.proofs.plain.Among.{Among, contains_from_among, among_map}
 use Rattle.model_laws.proofs.plain.Each.{of_each, of_all, all_of}
 

@@ -1,17 +1,5 @@
 -- A change of one vehicle with the request of one of its rides.
-use Rattle.std.proofs.Common.{◌≡◌, ℕ, ◌+◌, ◌≤◌, ◌⊎◌, Bool, true, false, cond, inl, inr, length, eqb, refl, sym, ◌∙◌, ap, subst, arith}
-use Rattle.std.specs.Prelude.{map, Some, None, option_map, ◌==◌}
-use Rattle.std.proofs.lemmas.Bool.{eqb-true, eq-eqb}
-use Rattle.std.proofs.lemmas.Option.{same_Some}
-use Rattle.ride_model.specs.declared.reply.RequestState.{RequestState}
-use Rattle.ride_model.specs.declared.vehicle.Ride.{Ride}
-use Rattle.ride_model.specs.declared.vehicle.Vehicle.{Vehicle}
-use Rattle.ride_model.specs.Seating.{BatchCopy, find_vehicle}
-use Rattle.ride_model.specs.State.{State, AcceptedRequest, with_vehicle, with_request_state}
-use Rattle.ride_model.specs.Vehicle.{IsLawful, ride_ids}
-use Rattle.model_laws.specs.inner.history_laws.Closing.{is_closed}
-use Rattle.model_laws.specs.inner.history_laws.Consistent.{IsEarlier, promised_as, vehicle_of_request}
-use Rattle.model_laws.specs.history_laws.Start.{IsStart}
+use Rattle.model_laws.proofs.Common.{◌≡◌, ℕ, ◌+◌, ◌≤◌, ◌⊎◌, Bool, true, false, cond, inl, inr, length, eqb, refl, sym, ◌∙◌, ap, subst, arith, map, Some, None, option_map, ◌==◌, eqb-true, eq-eqb, same_Some, RequestState, Ride, Vehicle, BatchCopy, find_vehicle, State, AcceptedRequest, with_vehicle, with_request_state, IsLawful, ride_ids, is_closed, IsEarlier, promised_as, vehicle_of_request, IsStart}
 use Rattle.model_laws.proofs.plain.Among.{Among, found_among}
 use Rattle.model_laws.proofs.RequestStates.{marked, marked-ride}
 use Rattle.model_laws.proofs.history_laws.Lookups.{found_by, put, put-id, Placed}

@@ -1,20 +1,6 @@
 -- A batch that was just opened, and an open one that is closed.
-use Rattle.std.proofs.Common.{◌≡◌, ℕ, Bool, true, false, not, cond, List, [], ◌∷◌, Option, Some, None, refl, ap, ◌∙◌}
-use Rattle.std.specs.Prelude.{option_map, find}
-use Rattle.std.specs.List.{filter}
-use Rattle.std.specs.Option.{option_map_or}
+use Rattle.model_laws.proofs.Common.{◌≡◌, ℕ, Bool, true, false, not, cond, List, [], ◌∷◌, Option, Some, None, refl, ap, ◌∙◌, option_map, find, filter, option_map_or, Desk, Committed, Abandoned, Outcome, Seat, RequestState, InBatch, Ride, is_cancelled, was_cancelled, after_opening, after_commit, after_abandon, after_event, BatchCopy, State, request_state, open_batch_numbered, is_batch}
 use Rattle.model_laws.proofs.plain.Among.{Among}
-use Rattle.ride_model.specs.declared.command.Actor.TheVariants.{Desk}
-use Rattle.ride_model.specs.declared.entry.Event.TheVariants.{Committed, Abandoned}
-use Rattle.ride_model.specs.declared.entry.Outcome.{Outcome}
-use Rattle.ride_model.specs.declared.offer.Seat.{Seat}
-use Rattle.ride_model.specs.declared.reply.RequestState.{RequestState}
-use Rattle.ride_model.specs.declared.reply.RequestState.TheVariants.{InBatch}
-use Rattle.ride_model.specs.declared.vehicle.Ride.{Ride}
-use Rattle.ride_model.specs.Batch.{is_cancelled, was_cancelled, after_opening, after_commit, after_abandon}
-use Rattle.ride_model.specs.Legal.{after_event}
-use Rattle.ride_model.specs.Seating.{BatchCopy}
-use Rattle.ride_model.specs.State.{State, request_state, open_batch_numbered, is_batch}
 use Rattle.model_laws.proofs.RequestStates.{request_state-opening}
 use Rattle.model_laws.proofs.history_laws.Leaving.{is_batch-own}
 use Rattle.model_laws.proofs.history_laws.Opening.{is_of-among}

@@ -1,26 +1,6 @@
 -- What is kept is kept by the opening of a batch.
-use Rattle.std.proofs.Common.{◌≡◌, ℕ, zero, suc, ◌+◌, ◌&&◌, ◌||◌, ◌⊎◌, Bool, true, false, not, inl, inr, List, [], ◌∷◌, ◌++◌, take, eqb, ltb-true, refl, sym, ◌∙◌, ap, subst, arith, length-append, length-take}
-use Rattle.std.specs.Prelude.{map, Some, None, option_map, is_some, nat_lt, nat_eq, All}
-use Rattle.std.specs.List.{filter, IsDistinct}
-use Rattle.std.proofs.lemmas.Bool.{eqb-true, eq-eqb, ne_eqb, not-true, and_parts}
-use Rattle.std.proofs.lemmas.Option.{same_Some}
-use Rattle.std.proofs.lemmas.List.{map-append}
-use Rattle.ride_model.specs.declared.command.Actor.TheVariants.{Desk}
-use Rattle.ride_model.specs.declared.reply.RequestState.{RequestState}
-use Rattle.ride_model.specs.declared.reply.RequestState.TheVariants.{Waiting, InBatch, Confirmed, Aboard, Done, Away, Cancelled}
-use Rattle.ride_model.specs.declared.vehicle.Ride.{Ride}
-use Rattle.ride_model.specs.declared.vehicle.Vehicle.{Vehicle}
-use Rattle.ride_model.specs.Batch.{is_waiting, waiting_rides, may_open, next_batch, after_opening}
-use Rattle.ride_model.specs.Legal.{IsNumbered}
-use Rattle.ride_model.specs.Seating.{BatchCopy}
-use Rattle.ride_model.specs.inner.Seating.{IsBatchOver}
-use Rattle.ride_model.specs.State.{State, AcceptedRequest, has_ended, open_batch_of}
-use Rattle.ride_model.specs.Vehicle.{IsRide, IsRouted, IsLawful, ride_ids}
-use Rattle.ride_model.specs.inner.Vehicle.{IsFresh}
-use Rattle.model_laws.specs.history_laws.Start.{IsStart}
-use Rattle.model_laws.specs.inner.history_laws.Closing.{is_closed}
-use Rattle.model_laws.specs.inner.history_laws.Consistent.{promised_as, vehicle_of_request, IsInBatch, IsOpenBatch}
-use Rattle.model_laws.specs.inner.Requests.{is_of}
+use Rattle.model_laws.proofs.Common.{◌≡◌, ℕ, zero, suc, ◌+◌, ◌&&◌, ◌||◌, ◌⊎◌, Bool, true, false, not, inl, inr, List, [], ◌∷◌, ◌++◌, take, eqb, ltb-true, refl, sym, ◌∙◌, ap, subst, arith, length-append, length-take, map, Some, None, option_map, is_some, nat_lt, nat_eq, All, filter, IsDistinct, eqb-true, eq-eqb, ne_eqb, not-true, and_parts, same_Some, map-append, Desk, RequestState, Waiting, InBatch, Aboard, Away, Cancelled, Ride, Vehicle, is_waiting, waiting_rides, may_open, next_batch, after_opening, IsNumbered, BatchCopy, IsBatchOver, State, AcceptedRequest, has_ended, open_batch_of, IsRide, IsRouted, IsLawful, ride_ids, IsFresh, IsStart, is_closed, promised_as, vehicle_of_request, IsInBatch, IsOpenBatch, is_of}
+use Rattle.ride_model.specs.declared.reply.RequestState.TheVariants.{Confirmed, Done}
 use Rattle.model_laws.proofs.plain.Among.{Among, among_from_contains, among_map_back, among_filter_back, among_push_back}
 use Rattle.model_laws.proofs.plain.Each.{all_of}
 use Rattle.model_laws.proofs.plain.Lists.{distinct-push}

@@ -1,23 +1,6 @@
 -- What the entries of others leave as it was, and what stays once no batch is to come.
-use Rattle.std.proofs.Common.{◌≡◌, ℕ, ◌+◌, ◌<◌, ◌≤◌, Bool, true, false, ◌||◌, ◌&&◌, not, cond, List, [], ◌∷◌, ◌++◌, Option, Some, None, eqb, refl, sym, ap, subst, ◌∙◌, zero, suc, ltb-true, arith}
-use Rattle.std.specs.Prelude.{find, ◌==◌, nat_lt, is_some}
-use Rattle.std.specs.List.{filter, list_any, list_all, range_with_len}
-use Rattle.std.proofs.lemmas.Bool.{eqb-true, and_from, and_parts}
-use Rattle.std.proofs.lemmas.List.Folds.{list_any-append}
-use Rattle.std.proofs.Math.Bool.{or-false}
+use Rattle.model_laws.proofs.Common.{◌≡◌, ℕ, ◌+◌, ◌<◌, ◌≤◌, Bool, true, false, ◌||◌, ◌&&◌, not, cond, List, [], ◌∷◌, ◌++◌, Option, Some, None, eqb, refl, sym, ap, subst, ◌∙◌, zero, suc, ltb-true, arith, find, ◌==◌, nat_lt, is_some, filter, list_any, list_all, range_with_len, eqb-true, and_from, and_parts, list_any-append, or-false, Actor, Feed, Desk, Ending, Entry, Event, Fed, Finish, Opened, Committed, Abandoned, may_open, entries_of, after_event, after_entry, replay, IsLegal, IsLegalEvent, IsNumbered, all_feeds_ended, BatchCopy, State, is_actor, has_ended, open_batch_of, is_fed}
 use Rattle.model_laws.proofs.plain.Numbers.{eqb-comm}
-use Rattle.ride_model.specs.declared.command.Actor.{Actor}
-use Rattle.ride_model.specs.declared.command.Actor.TheVariants.{Feed, Desk}
-use Rattle.ride_model.specs.declared.entry.Ending.{Ending}
-use Rattle.ride_model.specs.declared.entry.Entry.{Entry}
-use Rattle.ride_model.specs.declared.entry.Event.{Event}
-use Rattle.ride_model.specs.declared.entry.Event.TheVariants.{Fed, Finish, Opened, Committed, Abandoned}
-use Rattle.ride_model.specs.Batch.{may_open}
-use Rattle.ride_model.specs.History.{entries_of}
-use Rattle.ride_model.specs.Legal.{after_event, after_entry, replay, IsLegal, IsLegalEvent, IsNumbered, all_feeds_ended}
-use Rattle.ride_model.specs.Seating.{BatchCopy}
-use Rattle.ride_model.specs.State.{State, is_actor, has_ended, open_batch_of}
-use Rattle.model_laws.specs.history_laws.Start.{is_fed}
 use Rattle.model_laws.proofs.history_laws.Effects.{ends_in, is_opened, Effect, effect}
 
 -- the same with the two actors in turn

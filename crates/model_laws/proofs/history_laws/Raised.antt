@@ -1,20 +1,5 @@
 -- Vehicles that stay lawful: raised, on or off duty, reported, and without a ride.
-use Rattle.std.proofs.Common.{◌≡◌, ℕ, ◌+◌, ◌≤◌, Bool, true, not, List, ◌∷◌, length, eqb, leb, leb-true, refl, sym, ◌∙◌, ap, subst, arith}
-use Rattle.std.specs.Prelude.{Some, unwrap_or, IfSome}
-use Rattle.std.specs.List.{filter}
-use Rattle.std.proofs.lemmas.List.Elements.{All-weaker}
-use Rattle.std.proofs.lemmas.List.Filters.{length-filter_both}
-use Rattle.std.proofs.lemmas.Option.{IfSome_then}
-use Rattle.std.proofs.lemmas.Bool.{and_parts}
-use Rattle.ride_model.specs.declared.vehicle.Ride.{Ride}
-use Rattle.ride_model.specs.declared.vehicle.Stop.{Stop}
-use Rattle.ride_model.specs.declared.vehicle.Vehicle.{Vehicle}
-use Rattle.ride_model.specs.Road.{RoadMap, IsRoadMap, IsNode, travel}
-use Rattle.ride_model.specs.Vehicle.{HasLegs, IsRouted, IsLawful}
-use Rattle.ride_model.specs.Loads.{fits_load}
-use Rattle.ride_model.specs.Insertion.{routed, with_plan, stops_without, without_ride}
-use Rattle.ride_model.specs.State.{State}
-use Rattle.ride_model.specs.Step.{raised, is_node, reported}
+use Rattle.model_laws.proofs.Common.{◌≡◌, ℕ, ◌+◌, ◌≤◌, Bool, true, not, List, ◌∷◌, length, eqb, leb, leb-true, refl, sym, ◌∙◌, ap, subst, arith, Some, unwrap_or, IfSome, filter, All-weaker, length-filter_both, IfSome_then, and_parts, Ride, Stop, Vehicle, RoadMap, IsRoadMap, IsNode, travel, HasLegs, IsRouted, IsLawful, fits_load, routed, with_plan, stops_without, without_ride, State, raised, is_node, reported}
 use Rattle.model_laws.proofs.Routes.{with_leg, routed-cons, routed-has_legs, routed-own}
 use Rattle.model_laws.proofs.PlanStops.{unlegged-routed, plan-same}
 use Rattle.model_laws.proofs.AboardLoads.{fits_throughout, loads_fit-throughout, load-same, length-same}

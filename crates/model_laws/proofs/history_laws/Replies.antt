@@ -1,31 +1,11 @@
 -- Replies have a text.
-use Rattle.std.proofs.Common.{◌≡◌, ◌≢◌, ℕ, ◌+◌, ◌-◌, ◌<◌, ◌≤◌, ◌^◌, ◌&&◌, ◌||◌, Bool, true, false, not, cond, List, [], ◌∷◌, length, eqb, ltb-false, leb-false, refl, subst, arith}
-use Rattle.std.specs.Prelude.{Option, Some, None, is_some, ◌==◌, nat_le, nat_lt, All}
-use Rattle.std.specs.List.{filter}
-use Rattle.std.proofs.lemmas.List.{length-map}
-use Rattle.ride_model.specs.declared.command.Command.{Command}
-use Rattle.ride_model.specs.declared.command.Command.TheVariants.{Request, Cancel, At, Done, On, Off, Clock, Ask, Bad}
-use Rattle.ride_model.specs.declared.reply.Reply.{Reply}
-use Rattle.ride_model.specs.declared.reply.Reply.TheVariants.{OnMap, Late, Noted, Refused}
-use Rattle.ride_model.specs.declared.reply.RequestState.{RequestState}
-use Rattle.ride_model.specs.declared.reply.RequestState.TheVariants.{Waiting as WaitingState, InBatch, Confirmed, Aboard, Done as DoneState, Away, Cancelled as CancelledState}
-use Rattle.ride_model.specs.declared.vehicle.Kind.{Kind}
-use Rattle.ride_model.specs.declared.vehicle.Kind.TheVariants.{Pickup, Dropoff}
-use Rattle.ride_model.specs.declared.vehicle.Ride.{Ride}
-use Rattle.ride_model.specs.declared.vehicle.Stop.{Stop}
-use Rattle.ride_model.specs.declared.vehicle.Vehicle.{Vehicle}
-use Rattle.ride_model.specs.Road.{travel}
-use Rattle.ride_model.specs.Keeps.{breaks_ride, broken_of}
-use Rattle.ride_model.specs.State.{State, AcceptedRequest, accepted_request, placed_vehicle}
-use Rattle.ride_model.specs.Step.{Answered, is_node, freed, cancel_by_state, cancel_found, cancel_step, reported, report, report_driving, at_found, at_step, served_reply, done_at_stop, done_found, done_step, duty_found, duty_step, clock_step, ask_step, request_step, step}
-use Rattle.ride_model.specs.Text.{IsSpelled, IsSpelledReply, IsNotedIfBad}
-use Rattle.model_laws.specs.history_laws.Start.{IsStart}
+use Rattle.model_laws.proofs.Common.{◌≡◌, ◌≢◌, ℕ, ◌+◌, ◌-◌, ◌<◌, ◌≤◌, ◌^◌, ◌&&◌, ◌||◌, Bool, true, false, not, cond, List, [], ◌∷◌, length, eqb, ltb-false, leb-false, refl, subst, arith, Option, Some, None, is_some, ◌==◌, nat_le, nat_lt, All, filter, length-map, Command, Request, Cancel, At, Done, On, Off, Clock, Ask, Bad, Reply, OnMap, Late, Noted, Refused, RequestState, InBatch, Aboard, Away, Kind, Pickup, Dropoff, Ride, Stop, Vehicle, travel, breaks_ride, broken_of, State, AcceptedRequest, accepted_request, placed_vehicle, Answered, is_node, freed, cancel_by_state, cancel_found, cancel_step, reported, report, report_driving, at_found, at_step, served_reply, done_at_stop, done_found, done_step, duty_found, duty_step, clock_step, ask_step, request_step, step, IsSpelled, IsSpelledReply, IsNotedIfBad, IsStart, promised_as}
+use Rattle.ride_model.specs.declared.reply.RequestState.TheVariants.{Waiting as WaitingState, Confirmed, Done as DoneState, Cancelled as CancelledState}
 use Rattle.model_laws.proofs.plain.Among.{Among, among_map_back, among_filter_back, found_among}
 use Rattle.model_laws.proofs.plain.Each.{of_all, all_of}
 use Rattle.model_laws.proofs.TravelTimes.{travel-le}
 use Rattle.model_laws.proofs.FewRides.{few-rides}
 use Rattle.model_laws.proofs.history_laws.Invariant.{Inv, map_of, fleet_of}
-use Rattle.model_laws.specs.inner.history_laws.Consistent.{promised_as}
 use Rattle.model_laws.proofs.history_laws.Fed.{answer_by, found_at, stop_ride}
 use Rattle.model_laws.proofs.history_laws.Raised.{length-filter-le}
 

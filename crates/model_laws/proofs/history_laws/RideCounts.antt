@@ -1,18 +1,5 @@
 -- A vehicle has at most as many rides as stops.
-use Rattle.std.proofs.Common.{◌≡◌, ℕ, ◌≤◌, false, not, inl, inr, List, [], ◌∷◌, length, eqb, refl, sym, ◌∙◌, ap, arith}
-use Rattle.std.specs.Prelude.{map, Option, Some, None, ◌==◌, All}
-use Rattle.std.specs.List.{IsDistinct}
-use Rattle.std.proofs.lemmas.List.Filters.{length-filter_both}
-use Rattle.std.proofs.lemmas.Map.Keys.{IsDistinct-head, IsDistinct-tail}
-use Rattle.ride_model.specs.declared.entry.Entry.{Entry}
-use Rattle.ride_model.specs.declared.vehicle.Ride.{Ride}
-use Rattle.ride_model.specs.declared.vehicle.Stop.{Stop}
-use Rattle.ride_model.specs.declared.vehicle.Vehicle.{Vehicle}
-use Rattle.ride_model.specs.Legal.{IsLegal, replay}
-use Rattle.ride_model.specs.State.{State}
-use Rattle.ride_model.specs.Vehicle.{IsPlanFor, visits_due, visit_of, stops_of, ride_ids}
-use Rattle.ride_model.specs.Insertion.{stops_without}
-use Rattle.model_laws.specs.history_laws.Start.{IsStart}
+use Rattle.model_laws.proofs.Common.{◌≡◌, ℕ, ◌≤◌, false, not, inl, inr, List, [], ◌∷◌, length, eqb, refl, sym, ◌∙◌, ap, arith, map, Option, Some, None, ◌==◌, All, IsDistinct, length-filter_both, IsDistinct-head, IsDistinct-tail, Entry, Ride, Stop, Vehicle, IsLegal, replay, State, IsPlanFor, visits_due, visit_of, stops_of, ride_ids, stops_without, IsStart}
 use Rattle.model_laws.proofs.plain.Among.{Among, among_map}
 use Rattle.model_laws.proofs.plain.Numbers.{eqb-comm}
 use Rattle.model_laws.proofs.plain.Each.{of_each, of_all, all_of}

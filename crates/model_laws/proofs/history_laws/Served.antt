@@ -1,20 +1,5 @@
 -- A vehicle that has served its first stop is lawful.
-use Rattle.std.proofs.Common.{◌≡◌, ℕ, suc, ◌+◌, ◌≤◌, Bool, true, false, not, cond, inl, List, [], ◌∷◌, length, take, eqb, refl, sym, ◌∙◌, ap, subst, arith}
-use Rattle.std.specs.Prelude.{map, Option, Some, None, is_some, All, Contains, IfSome, nat_eq, ◌==◌}
-use Rattle.std.specs.List.{sum_by, AllByRecursion, IsDistinct}
-use Rattle.std.proofs.lemmas.Bool.{eq-eqb}
-use Rattle.std.proofs.lemmas.List.Elements.{All-weaker, All-tail, All-filter}
-use Rattle.std.proofs.lemmas.Option.{IfSome_then}
-use Rattle.ride_model.specs.declared.vehicle.Kind.{Kind}
-use Rattle.ride_model.specs.declared.vehicle.Kind.TheVariants.{Pickup, Dropoff}
-use Rattle.ride_model.specs.declared.vehicle.Ride.{Ride}
-use Rattle.ride_model.specs.declared.vehicle.Stop.{Stop}
-use Rattle.ride_model.specs.declared.vehicle.Vehicle.{Vehicle}
-use Rattle.ride_model.specs.Road.{RoadMap}
-use Rattle.ride_model.specs.Vehicle.{IsRide, IsLawful, IsPlanFor, HasLegs, visits_due, visit_of, stops_of, ride_ids}
-use Rattle.ride_model.specs.Loads.{is_pickup, is_aboard_from, is_aboard_after, load_after, fits_load}
-use Rattle.ride_model.specs.Insertion.{with_plan, stops_without, rides_without}
-use Rattle.ride_model.specs.Step.{rides_with_picked}
+use Rattle.model_laws.proofs.Common.{◌≡◌, ℕ, suc, ◌+◌, ◌≤◌, Bool, true, false, not, cond, inl, List, [], ◌∷◌, length, take, eqb, refl, sym, ◌∙◌, ap, subst, arith, map, Option, Some, None, is_some, All, Contains, IfSome, nat_eq, ◌==◌, sum_by, AllByRecursion, IsDistinct, eq-eqb, All-weaker, All-tail, All-filter, IfSome_then, Kind, Pickup, Dropoff, Ride, Stop, Vehicle, RoadMap, IsRide, IsLawful, IsPlanFor, HasLegs, visits_due, visit_of, stops_of, ride_ids, is_pickup, is_aboard_from, is_aboard_after, load_after, fits_load, with_plan, stops_without, rides_without, rides_with_picked}
 use Rattle.model_laws.proofs.plain.Among.{Among, among_from_contains, among_map_back}
 use Rattle.model_laws.proofs.AboardLoads.{fits_throughout, loads_fit-throughout, fits-without, filter-kept, filter-skipped}
 use Rattle.model_laws.proofs.Insertions.{all-kept}

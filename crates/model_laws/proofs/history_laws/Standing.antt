@@ -1,25 +1,5 @@
 -- Closed requests stay closed, and the vehicles of confirmed seats are as their copies.
-use Rattle.std.proofs.Common.{◌≡◌, ℕ, ◌+◌, Bool, true, false, not, cond, List, ◌∷◌, ◌++◌, eqb, refl, sym, ◌∙◌, ap, subst}
-use Rattle.std.specs.Prelude.{map, Option, Some, None, option_map, nat_eq, nat_lt, Contains, IsSome, IsSomeAnd}
-use Rattle.std.specs.List.{IsDistinct}
-use Rattle.std.proofs.lemmas.Option.{same_Some}
-use Rattle.ride_model.specs.declared.command.Actor.TheVariants.{Desk}
-use Rattle.ride_model.specs.declared.entry.Entry.{Entry}
-use Rattle.ride_model.specs.declared.entry.Event.TheVariants.{Committed}
-use Rattle.ride_model.specs.declared.entry.Outcome.{Outcome}
-use Rattle.ride_model.specs.declared.entry.Outcome.TheVariants.{Confirmed, Moved, Behind}
-use Rattle.ride_model.specs.declared.offer.Seat.{Seat}
-use Rattle.ride_model.specs.declared.reply.RequestState.{RequestState}
-use Rattle.ride_model.specs.declared.vehicle.Vehicle.{Vehicle}
-use Rattle.ride_model.specs.Batch.{seat_of, version_of, priced_start, was_cancelled, outcome_by, outcome_of}
-use Rattle.ride_model.specs.Legal.{CommitsBatch, IsLegal, replay}
-use Rattle.ride_model.specs.Seating.{BatchCopy, find_vehicle, seat_offer, has_seat}
-use Rattle.ride_model.specs.State.{State, AcceptedRequest, request_state, open_batch_numbered}
-use Rattle.ride_model.specs.Vehicle.{ride_ids}
-use Rattle.model_laws.specs.history_laws.Start.{IsStart}
-use Rattle.model_laws.specs.inner.history_laws.Start.{fed_total}
-use Rattle.model_laws.specs.inner.history_laws.Closing.{is_closed}
-use Rattle.model_laws.specs.inner.history_laws.Consistent.{IsOpenBatch}
+use Rattle.model_laws.proofs.Common.{◌≡◌, ℕ, ◌+◌, Bool, true, false, not, cond, List, ◌∷◌, ◌++◌, eqb, refl, sym, ◌∙◌, ap, subst, map, Option, Some, None, option_map, nat_eq, nat_lt, Contains, IsSome, IsSomeAnd, IsDistinct, same_Some, Desk, Entry, Committed, Outcome, Confirmed, Moved, Behind, Seat, RequestState, Vehicle, seat_of, version_of, priced_start, was_cancelled, outcome_by, outcome_of, CommitsBatch, IsLegal, replay, BatchCopy, find_vehicle, seat_offer, has_seat, State, AcceptedRequest, request_state, open_batch_numbered, ride_ids, IsStart, fed_total, is_closed, IsOpenBatch}
 use Rattle.model_laws.proofs.history_laws.Entries.{IsFineEvent}
 use Rattle.model_laws.proofs.plain.Among.{Among, among_from_contains, among_map_back}
 use Rattle.model_laws.proofs.plain.Each.{of_all, all_of}

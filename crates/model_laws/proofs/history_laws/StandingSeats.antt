@@ -1,16 +1,5 @@
 -- A seat of a batch over vehicles that stand as they were copied is confirmed.
-use Rattle.std.proofs.Common.{◌≡◌, ◌≤◌, not, Bool, true, false, cond, List, eqb, ltb, le-ltb, refl, sym, ap, ◌∙◌}
-use Rattle.std.specs.Prelude.{All, Some, IsSome, nat_eq}
-use Rattle.std.specs.List.{IsDistinct}
-use Rattle.std.proofs.lemmas.Bool.{eq-eqb}
-use Rattle.ride_model.specs.declared.entry.Outcome.{Outcome}
-use Rattle.ride_model.specs.declared.entry.Outcome.TheVariants.{Confirmed}
-use Rattle.ride_model.specs.declared.offer.Seat.{Seat}
-use Rattle.ride_model.specs.declared.vehicle.Vehicle.{Vehicle}
-use Rattle.ride_model.specs.Batch.{seated_outcome, priced_start, version_of}
-use Rattle.ride_model.specs.Offers.{start_of}
-use Rattle.ride_model.specs.Seating.{BatchCopy, find_vehicle, seat_offer, vehicle_ids}
-use Rattle.ride_model.specs.State.{State}
+use Rattle.model_laws.proofs.Common.{◌≡◌, ◌≤◌, not, Bool, true, false, cond, List, eqb, ltb, le-ltb, refl, sym, ap, ◌∙◌, All, Some, IsSome, nat_eq, IsDistinct, eq-eqb, Outcome, Confirmed, Seat, Vehicle, seated_outcome, priced_start, version_of, start_of, BatchCopy, find_vehicle, seat_offer, vehicle_ids, State}
 use Rattle.model_laws.proofs.plain.Among.{Among}
 use Rattle.model_laws.proofs.plain.Each.{of_all}
 use Rattle.model_laws.proofs.Certificates.{seat_facts}

@@ -1,26 +1,7 @@
 -- A commit leaves each vehicle whose version is not that of the batch's copy.
-use Rattle.std.proofs.Common.{◌≡◌, ◌≢◌, ℕ, Bool, true, false, not, cond, List, [], ◌∷◌, ◌++◌, Option, Some, None, eqb, refl, sym, ap, subst, ◌∙◌}
-use Rattle.std.specs.Prelude.{map, nat_lt, option_map, unwrap_or, ◌==◌}
-use Rattle.std.specs.List.{IsDistinct}
-use Rattle.std.proofs.lemmas.Bool.{eqb-true, ne_eqb}
-use Rattle.ride_model.specs.declared.command.Actor.TheVariants.{Desk}
-use Rattle.ride_model.specs.declared.entry.Entry.{Entry}
-use Rattle.ride_model.specs.declared.entry.Event.TheVariants.{Committed}
-use Rattle.ride_model.specs.declared.entry.Outcome.{Outcome}
-use Rattle.ride_model.specs.declared.entry.Outcome.TheVariants.{Confirmed, Away, Gone, Moved, Behind}
-use Rattle.ride_model.specs.declared.offer.Seat.{Seat}
-use Rattle.ride_model.specs.declared.vehicle.Ride.{Ride}
-use Rattle.ride_model.specs.declared.vehicle.Stop.{Stop}
-use Rattle.ride_model.specs.declared.vehicle.Vehicle.{Vehicle}
-use Rattle.ride_model.specs.Batch.{seat_of, version_of, priced_start, was_cancelled, outcome_by, outcome_of, with_confirmed, after_outcome, after_outcomes, after_commit}
-use Rattle.ride_model.specs.Insertion.{with_plan, routed, stops_with}
-use Rattle.ride_model.specs.Legal.{IsLegal, replay}
-use Rattle.ride_model.specs.Offers.{is_idle}
-use Rattle.ride_model.specs.Seating.{BatchCopy, find_vehicle, vehicle_ids}
-use Rattle.ride_model.specs.State.{State, placed_vehicle, open_batch_numbered}
-use Rattle.ride_model.specs.Step.{raised}
+use Rattle.model_laws.proofs.Common.{◌≡◌, ◌≢◌, ℕ, Bool, true, false, not, cond, List, [], ◌∷◌, ◌++◌, Option, Some, None, eqb, refl, sym, ap, subst, ◌∙◌, map, nat_lt, option_map, unwrap_or, ◌==◌, IsDistinct, eqb-true, ne_eqb, Desk, Entry, Committed, Outcome, Confirmed, Gone, Moved, Behind, Seat, Ride, Stop, Vehicle, seat_of, version_of, priced_start, was_cancelled, outcome_by, outcome_of, with_confirmed, after_outcome, after_outcomes, after_commit, with_plan, routed, stops_with, IsLegal, replay, is_idle, BatchCopy, find_vehicle, vehicle_ids, State, placed_vehicle, open_batch_numbered, raised, IsStart}
+use Rattle.ride_model.specs.declared.entry.Outcome.TheVariants.{Away}
 use Rattle.model_laws.proofs.Histories.{replay-push}
-use Rattle.model_laws.specs.history_laws.Start.{IsStart}
 use Rattle.model_laws.proofs.history_laws.Committing.{put_elsewhere}
 use Rattle.model_laws.proofs.history_laws.EveryState.{consistent}
 use Rattle.model_laws.proofs.history_laws.Lookups.{ids-map, put, put-id, Placed, placed_is}

@@ -1,27 +1,9 @@
 -- What answers to commands and outcomes of batches leave as it was: who has ended, which batches are open, and how many
 -- were opened; and how many were asked for, but for an accepted ask.
-use Rattle.std.proofs.Common.{◌≡◌, ℕ, ◌+◌, ◌-◌, Bool, true, false, cond, List, [], ◌∷◌, Option, Some, None, refl, ◌∙◌}
-use Rattle.std.specs.Prelude.{is_some, not, nat_lt, nat_le, max, length, ◌&&◌, ◌||◌, ◌==◌}
-use Rattle.ride_model.specs.declared.command.Command.{Command}
-use Rattle.ride_model.specs.declared.command.Command.TheVariants.{Request, Cancel, At, Done, On, Off, Clock, Ask, Bad}
-use Rattle.ride_model.specs.declared.entry.Outcome.{Outcome}
-use Rattle.ride_model.specs.declared.entry.Outcome.TheVariants.{Confirmed as ConfirmedOutcome, Away as AwayOutcome, Gone, Moved, Behind}
-use Rattle.ride_model.specs.declared.offer.Seat.{Seat}
-use Rattle.ride_model.specs.declared.reply.Reply.{Reply}
-use Rattle.ride_model.specs.declared.reply.Reply.TheVariants.{Waiting as WaitingState, Asked, Now, OnMap, Late, Refused}
-use Rattle.ride_model.specs.declared.reply.RequestState.{RequestState}
-use Rattle.ride_model.specs.declared.reply.RequestState.TheVariants.{Waiting, InBatch, Confirmed, Aboard, Done as DoneState, Away, Cancelled}
-use Rattle.ride_model.specs.declared.vehicle.Kind.{Kind}
-use Rattle.ride_model.specs.declared.vehicle.Kind.TheVariants.{Pickup, Dropoff}
-use Rattle.ride_model.specs.declared.vehicle.Ride.{Ride}
-use Rattle.ride_model.specs.declared.vehicle.Stop.{Stop}
-use Rattle.ride_model.specs.declared.vehicle.Vehicle.{Vehicle}
-use Rattle.ride_model.specs.Batch.{confirm, outcome_of, seat_of, after_outcome, after_outcomes}
-use Rattle.ride_model.specs.Keeps.{broken_of}
-use Rattle.ride_model.specs.Road.{travel}
-use Rattle.ride_model.specs.Seating.{BatchCopy}
-use Rattle.ride_model.specs.State.{State, AcceptedRequest, accepted_request, placed_vehicle}
-use Rattle.ride_model.specs.Step.{Answered, cancel_by_state, cancel_found, cancel_step, freed, reported, report, report_driving, at_found, at_step, served_reply, done_at_stop, done_found, done_step, duty_found, duty_step, clock_step, ask_step, request_step, is_node, with_accepted, step}
+use Rattle.model_laws.proofs.Common.{◌≡◌, ℕ, ◌+◌, ◌-◌, Bool, true, false, cond, List, [], ◌∷◌, Option, Some, None, refl, ◌∙◌, is_some, not, nat_lt, nat_le, max, length, ◌&&◌, ◌||◌, ◌==◌, Command, Request, Cancel, At, Done, On, Off, Clock, Ask, Bad, Outcome, Gone, Moved, Behind, Seat, Reply, Asked, Now, OnMap, Late, Refused, RequestState, Waiting, InBatch, Aboard, Away, Cancelled, Kind, Pickup, Dropoff, Ride, Stop, Vehicle, confirm, outcome_of, seat_of, after_outcome, after_outcomes, broken_of, travel, BatchCopy, State, AcceptedRequest, accepted_request, placed_vehicle, Answered, cancel_by_state, cancel_found, cancel_step, freed, reported, report, report_driving, at_found, at_step, served_reply, done_at_stop, done_found, done_step, duty_found, duty_step, clock_step, ask_step, request_step, is_node, with_accepted, step}
+use Rattle.ride_model.specs.declared.entry.Outcome.TheVariants.{Confirmed as ConfirmedOutcome, Away as AwayOutcome}
+use Rattle.ride_model.specs.declared.reply.Reply.TheVariants.{Waiting as WaitingState}
+use Rattle.ride_model.specs.declared.reply.RequestState.TheVariants.{Confirmed, Done as DoneState}
 
 -- whether a reply is to an accepted ask
 abbrev pub is_asked : Reply → Bool

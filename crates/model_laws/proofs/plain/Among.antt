@@ -1,8 +1,6 @@
 -- Membership by recursion on the list.
-use Rattle.std.proofs.Common.{◌≡◌, zero, suc, ◌⊎◌, inl, inr, Bool, true, false, cond, List, [], ◌∷◌, refl, sym, ◌∙◌, ap, arith, ◌++◌}
-use Rattle.std.specs.List.{Contains, filter}
-use Rattle.std.specs.Prelude.{map, Some, find}
-use Rattle.std.proofs.lemmas.Option.{same_Some}
+use Rattle.model_laws.proofs.Common.{◌≡◌, zero, suc, ◌⊎◌, inl, inr, Bool, true, false, cond, List, [], ◌∷◌, refl, sym, ◌∙◌, ap, arith, ◌++◌, filter, map, Some, find, same_Some}
+use Rattle.std.specs.List.{Contains}
 
 -- x is one of the elements
 abbrev pub Among : {X : Type 0} → X → List X → Type 0

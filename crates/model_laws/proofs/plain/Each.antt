@@ -1,8 +1,5 @@
 -- What holds of each element of a list.
-use Rattle.std.proofs.Common.{ℕ, zero, suc, Bool, true, false, cond, inl, inr, List, [], ◌∷◌, ◌++◌, refl, subst, rules}
-use Rattle.std.specs.Prelude.{take, drop, All, IfSome, find, Some}
-use Rattle.std.specs.List.{filter, AllByRecursion}
-use Rattle.std.proofs.lemmas.List.Elements.{All-contains, All-from_recursion, All-tail}
+use Rattle.model_laws.proofs.Common.{ℕ, zero, suc, Bool, true, false, cond, inl, inr, List, [], ◌∷◌, ◌++◌, refl, subst, rules, take, drop, All, IfSome, find, Some, filter, AllByRecursion, All-contains, All-from_recursion, All-tail}
 use Rattle.model_laws.proofs.plain.Among.{Among, contains_from_among}
 
 -- of one that is among them

@@ -1,7 +1,6 @@
 -- Filters of lists, and tests of whether any element passes.
-use Rattle.std.proofs.Common.{◌≡◌, Bool, true, false, List, [], ◌∷◌, ◌++◌, refl, ap}
-use Rattle.std.specs.Prelude.{filter, ◌||◌, ◌&&◌}
-use Rattle.std.specs.List.{AllByRecursion, list_any}
+use Rattle.model_laws.proofs.Common.{◌≡◌, Bool, true, false, List, [], ◌∷◌, ◌++◌, refl, ap, ◌||◌, ◌&&◌, AllByRecursion, list_any}
+use Rattle.std.specs.Prelude.{filter}
 
 -- two filters come in either order
 pub filter-filter : {X : Type 0} (p q : X → Bool) (xs : List X) → filter p (filter q xs) ≡ filter q (filter p xs)

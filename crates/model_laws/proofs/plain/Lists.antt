@@ -1,10 +1,5 @@
 -- Lists, whatever their elements.
-use Rattle.std.proofs.Common.{◌≡◌, ℕ, suc, ◌<◌, ◌≤◌, List, [], ◌∷◌, length, get_or, eqb, refl, arith, ◌++◌, inl, inr}
-use Rattle.std.specs.Prelude.{Option, Some, None}
-use Rattle.std.specs.List.{cons_option, filter, filter_map, IsDistinct}
-use Rattle.std.specs.Prelude.{Bool, true, false, cond}
-use Rattle.std.proofs.lemmas.Map.Keys.{IsDistinct-head, IsDistinct-tail, IsDistinct-cons}
-use Rattle.std.proofs.lemmas.Option.{slice_get-get_or}
+use Rattle.model_laws.proofs.Common.{◌≡◌, ℕ, suc, ◌<◌, ◌≤◌, List, [], ◌∷◌, length, get_or, eqb, refl, arith, ◌++◌, inl, inr, Option, Some, None, cons_option, filter, filter_map, IsDistinct, Bool, true, false, cond, IsDistinct-head, IsDistinct-tail, IsDistinct-cons, slice_get-get_or}
 use Rattle.model_laws.proofs.plain.Each.{each-filter, each-append}
 use Rattle.model_laws.proofs.plain.Among.{Among}
 

@@ -1,6 +1,5 @@
 -- Options.
-use Rattle.std.proofs.Common.{◌≡◌, true, false, refl}
-use Rattle.std.specs.Prelude.{Option, Some, None, is_none, is_some}
+use Rattle.model_laws.proofs.Common.{◌≡◌, true, false, refl, Option, Some, None, is_none, is_some}
 
 pub none_from_not_some : {A : Type 0} (o : Option A) → ((x : A) → o ≡ Some x → ⊥) → o ≡ None
 none_from_not_some None h = refl

@@ -123,15 +123,9 @@ fn mem_shelf_counts(rt: &impl Abort, alloc: Global) -> bool {
         },
     ];
     let mut shelf = MemShelf::new(alloc, &files, &[4]);
-    let mut feed = shelf
-        .bring(name(rt, alloc, "feed"))
-        .ok()
-        .expect(rt, "the feed");
+    let mut feed = shelf.bring(name(rt, alloc, "feed")).expect(rt, "the feed");
     let fed = gives(&mut feed, 8, Ok(b"ba")) & gives(&mut feed, 8, Err(Failed));
-    let mut map = shelf
-        .bring(name(rt, alloc, "map"))
-        .ok()
-        .expect(rt, "the map");
+    let mut map = shelf.bring(name(rt, alloc, "map")).expect(rt, "the map");
     let read = gives(&mut map, 8, Ok(b"p sp 2 1"));
     let missing = shelf.bring(name(rt, alloc, "fleet")).is_err();
     let failed = shelf.bring(name(rt, alloc, "map")).is_err();
@@ -150,16 +144,10 @@ fn sure_shelf_brings(rt: &impl Abort, alloc: Global) -> bool {
         bytes: MAP,
     }];
     let mut shelf = SureShelf::new(alloc, &files);
-    let mut map = shelf
-        .bring(name(rt, alloc, "map"))
-        .ok()
-        .expect(rt, "the map");
+    let mut map = shelf.bring(name(rt, alloc, "map")).expect(rt, "the map");
     let whole = gives_all(&mut map, MAP);
     shelf.give_back(map);
-    let mut feed = shelf
-        .bring(name(rt, alloc, "feed"))
-        .ok()
-        .expect(rt, "the feed");
+    let mut feed = shelf.bring(name(rt, alloc, "feed")).expect(rt, "the feed");
     let empty = gives(&mut feed, 8, Ok(b""));
     shelf.give_back(feed);
     whole & empty
@@ -185,15 +173,11 @@ where
     let mut shelf = FileShelf::new(rt);
     let mut map = shelf
         .bring(name(rt, alloc, "a_file_of_the_test"))
-        .ok()
         .expect(rt, "the file");
     let whole = gives_all(&mut map, MAP);
     let missing = shelf.bring(name(rt, alloc, "no_file_of_the_test")).is_err();
     let opened = (shelf.faults(), failed_last(&shelf));
-    let mut folder = shelf
-        .bring(name(rt, alloc, "."))
-        .ok()
-        .expect(rt, "the folder");
+    let mut folder = shelf.bring(name(rt, alloc, ".")).expect(rt, "the folder");
     let failed = gives(&mut folder, 8, Err(Failed)) & gives(&mut folder, 8, Err(Failed));
     let faults = folder.faults();
     shelf.give_back(map);

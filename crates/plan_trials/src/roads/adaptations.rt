@@ -1,6 +1,5 @@
 //! A one-way ring of nine nodes, ten seconds from each to the next: it is searched, contracted, swept and climbed.
 ghost use Rattle.std.specs.Prelude.{◌≡◌, length};
-ghost use Rattle.ride_model.specs.Road.{IsNode};
 
 use adaptive_roads::{BatchRoads, Roads, Scratch, TravelTimes};
 use ride_model::{Network, RoadArc};
@@ -44,46 +43,37 @@ fn row_around(node: u32, side: Side) -> [Option<u64>; 4] {
     })
 }
 
-/// Whether a row of a node is the one around the ring.
-fn has_row(roads: &BatchRoads, scratch: &mut Scratch, node: u32, side: Side) -> bool
-    requires scratch { scratch.old.nodes ≡ roads.now.roads.nodes }
-    requires node { IsNode roads.now.roads node }
-    requires wanted { length roads.now.wanted ≡ 4 }
-    ensures scratch { scratch.new ≡ scratch.old }
-{
-    let mut row = [None; 4];
-    roads.rows(scratch, node, side, &mut row);
-    row == row_around(node, side)
+/// Whether both rows of a node, and its times to nodes 7 and 9, are those around the ring.
+fn are_around(
+    node: u32,
+    out: [Option<u64>; 4],
+    back: [Option<u64>; 4],
+    times: [Option<u64>; 2],
+) -> bool {
+    out == row_around(node, Side::Out)
+        && back == row_around(node, Side::Back)
+        && times == [around(node, 7), around(node, 9)]
 }
 
-/// Both rows of a node, and its times to two nodes.
-fn expect_node(rt: &impl Abort, roads: &BatchRoads, scratch: &mut Scratch, node: u32)
-    requires scratch { scratch.old.nodes ≡ roads.now.roads.nodes }
-    requires node { IsNode roads.now.roads node }
-    requires wanted { length roads.now.wanted ≡ 4 }
-    requires nodes { roads.now.roads.nodes ≡ 9 }
-    ensures scratch { scratch.new ≡ scratch.old }
+/// Both rows of each node, and its times to two nodes, by one scratch. Returns whether the scratch tells of settled nodes, which it does once.
+fn expect_nodes(rt: &impl Abort, alloc: Global, roads: &Roads, towards: &BatchRoads) -> bool
+    requires nodes { (roads.now.nodes ≡ 9) × (towards.now.roads.nodes ≡ 9) }
+    requires wanted { length towards.now.wanted ≡ 4 }
 {
-    let has_rows = has_row(roads, scratch, node, Side::Out)
-        && has_row(roads, scratch, node, Side::Back);
-    let seven = roads.time(scratch, node, 7);
-    let nine = roads.time(scratch, node, 9);
-    assert!(rt;
-        has_rows && seven == around(node, 7) && nine == around(node, 9),
-        "node {node}"
-    );
-}
-
-/// Both rows and the times of each node.
-fn expect_nodes(rt: &impl Abort, roads: &BatchRoads, scratch: &mut Scratch)
-    requires scratch { scratch.old.nodes ≡ roads.now.roads.nodes }
-    requires wanted { length roads.now.wanted ≡ 4 }
-    requires nodes { roads.now.roads.nodes ≡ 9 }
-    ensures { scratch.new ≡ scratch.old }
-{
-    for node in 0..NODES {
-        expect_node(rt, roads, scratch, 1 + node);
+    let mut scratch = Scratch::new(alloc, roads).expect(rt, "there is memory");
+    for place in 0..NODES {
+        let node = 1 + place;
+        let mut out = [None; 4];
+        towards.rows(&mut scratch, node, Side::Out, &mut out);
+        let mut back = [None; 4];
+        towards.rows(&mut scratch, node, Side::Back, &mut back);
+        let seven = towards.time(&mut scratch, node, 7);
+        let nine = towards.time(&mut scratch, node, 9);
+        assert!(rt; are_around(node, out, back, [seven, nine]), "node {node}");
     }
+    let is_searched = scratch.take_settled() > 0;
+    assert!(rt; scratch.take_settled() == 0);
+    is_searched
 }
 
 /// Times from a node to each.
@@ -105,11 +95,8 @@ fn expect_times(rt: &impl Abort, alloc: Global, times: &mut TravelTimes, by_swee
     times.look();
     expect_around(rt, times);
     let towards = times.towards(&WANTED);
-    let mut scratch = Scratch::new(alloc, times.roads()).expect(rt, "there is memory");
-    expect_nodes(rt, &towards, &mut scratch);
-    let is_searched = scratch.take_settled() > 0;
-    let is_counted_anew = scratch.take_settled() == 0;
-    assert!(rt; towards.is_swept() == by_sweeps && is_searched != by_sweeps && is_counted_anew);
+    let is_searched = expect_nodes(rt, alloc, times.roads(), &towards);
+    assert!(rt; towards.is_swept() == by_sweeps && is_searched != by_sweeps);
 }
 
 /// A hierarchy is made once what was searched and what is wanted come to enough, and not before; who looks has it then, also who asked

@@ -122,22 +122,22 @@ fn map_of(rt: &impl Abort, alloc: Global, case: &Case) -> Network
 // Compares the rows of a side by sweeps with those by searches.
 fn compare_rows(
     rt: &impl Abort,
+    alloc: Global,
     roads: &Roads,
-    search: &mut Scratch,
     hierarchy: &Hierarchy,
     selected: &Selected,
     room: &mut SweepRoom,
     side: Side,
 )
     requires nodes { (hierarchy.now.nodes ≡ 60) × (roads.now.nodes ≡ 60) }
-    requires search { search.old.nodes ≡ 60 }
     requires selected { IsSelectionOf hierarchy.now selected.now }
     requires wanted { length selected.now.wanted ≡ 4 }
     requires room { 60 + length selected.now.nodes ≤ room.old.places }
 {
+    let mut search = Scratch::new(alloc, roads).expect(rt, "there is memory");
     for place in 0..NODES {
         let mut times = [None; 4];
-        roads.rows(search, place + 1, side, &WANTED, &mut times);
+        roads.rows(&mut search, place + 1, side, &WANTED, &mut times);
         let mut row = [None; 4];
         hierarchy.row_in(selected, room, place + 1, &mut row);
         assert!(rt; row == times, "from place {place}");
@@ -151,16 +151,7 @@ fn expect_same(rt: &impl Abort, alloc: Global, roads: &Roads, hierarchy: &Hierar
     let selected = Selected::of(alloc, hierarchy, side, &WANTED).expect(rt, "there is memory");
     let places = NODES as usize + selected.count();
     let mut room = SweepRoom::new(alloc, places).expect(rt, "there is memory");
-    let mut search = Scratch::new(alloc, roads).expect(rt, "there is memory");
-    compare_rows(
-        rt,
-        roads,
-        &mut search,
-        hierarchy,
-        &selected,
-        &mut room,
-        side,
-    );
+    compare_rows(rt, alloc, roads, hierarchy, &selected, &mut room, side);
 }
 
 // The hierarchy of a map, if its contraction does not grow too much.
@@ -192,23 +183,25 @@ fn expect_case(rt: &impl Abort, alloc: Global, case: &Case) {
 }
 
 // All rows of a batch, which are those of searches.
-fn compare_searches(rt: &impl Abort, batch: &BatchRoads, searched: &Roads, rooms: &mut Rooms)
-    requires nodes { (batch.now.roads.nodes ≡ 60) × (searched.now.nodes ≡ 60) }
+fn compare_searches(
+    rt: &impl Abort,
+    alloc: Global,
+    times: &mut TravelTimes,
+    batch: &BatchRoads,
+    roads: &Roads,
+)
+    requires nodes { (times.old.nodes ≡ 60) × (roads.now.nodes ≡ 60) }
+    requires batch { batch.now.roads ≡ times.old }
     requires wanted { length batch.now.wanted ≡ 4 }
-    requires rooms { (rooms.old.adaptive.nodes ≡ 60) × (rooms.old.search.nodes ≡ 60) }
 {
+    let mut search = Scratch::new(alloc, roads).expect(rt, "there is memory");
     for place in 0..NODES {
         let mut row = [None; 4];
-        batch.rows(&mut rooms.adaptive, place + 1, Side::Back, &mut row);
-        let mut times = [None; 4];
-        searched.rows(
-            &mut rooms.search,
-            place + 1,
-            Side::Back,
-            &WANTED,
-            &mut times,
-        );
-        assert!(rt; row == times, "to place {place}");
+        times.row(batch, place + 1, Side::Back, &mut row);
+        let mut searched = [None; 4];
+        roads.rows(&mut search, place + 1, Side::Back, &WANTED, &mut searched);
+        let first = roads.time(&mut search, WANTED[0], place + 1);
+        assert!(rt; row == searched && first == searched[0], "to place {place}");
     }
 }
 
@@ -219,28 +212,17 @@ fn sweeps_and_searches_give_the_same_rows(rt: HostRuntime) {
     }
 }
 
-// What roads that adapt are asked with, and what searches are.
-#[derive(Drop)]
-struct Rooms {
-    adaptive: adaptive_roads::Scratch,
-    search: Scratch,
-}
-
 // All rows of roads that may have adapted, which are those of searches. Returns whether they come by sweeps.
 fn adapts(rt: &impl Abort, alloc: Global, map: &Network) -> bool
     requires { map.now.nodes ≡ 60 }
 {
     let searched = Roads::new(alloc, map).expect(rt, "there is memory");
     let roads = adaptive_roads::Roads::new(alloc, map).expect(rt, "there is memory");
-    let mut rooms = Rooms {
-        adaptive: adaptive_roads::Scratch::new(alloc, &roads).expect(rt, "there is memory"),
-        search: Scratch::new(alloc, &searched).expect(rt, "there is memory"),
-    };
     let mut times = TravelTimes::new(alloc, &roads).expect(rt, "there is memory");
     roads.prepare_for(alloc, 120);
     times.look();
     let batch = times.towards(&WANTED);
-    compare_searches(rt, &batch, &searched, &mut rooms);
+    compare_searches(rt, alloc, &mut times, &batch, &searched);
     batch.is_swept()
 }
 

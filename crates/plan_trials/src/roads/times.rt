@@ -1,21 +1,24 @@
-//! Small maps, searched.
-ghost use Rattle.std.specs.Prelude.{◌≡◌, ◌<◌, ◌≤◌, length, All};
+//! Small maps, searched: no hierarchy of them is made.
+ghost use Rattle.std.specs.Prelude.{◌≡◌, ◌<◌, length};
 
 use super::maps::{MAPS, NO, SMALL, SMALL_TIMES, all_nodes, expect_line, network};
-use road_times::*;
+use adaptive_roads::{BatchRoads, Roads, TravelTimes};
+use road_times::Side;
 use std::alloc::Global;
 use std::process::Abort;
 
+/// Two of the wanted nodes are wanted twice.
+const WANTED: [u32; 5] = [3, 1, 2, 3, 1];
+
 // Compares the times from a node to each with a line of the table.
-fn expect_times(rt: &impl Abort, roads: &Roads, scratch: &mut Scratch, place: u32, table: &[u64])
-    requires scratch { scratch.old.nodes ≡ roads.now.nodes }
-    requires within { place < roads.now.nodes }
-    ensures { scratch.new ≡ scratch.old }
+fn expect_times(rt: &impl Abort, times: &mut TravelTimes, place: u32, table: &[u64])
+    requires within { place < times.old.nodes }
+    ensures { times.new ≡ times.old }
 {
-    let nodes = roads.nodes();
+    let nodes = times.roads().nodes();
     let first = (place as usize).wrapping_mul(nodes as usize);
     for other in 0..nodes {
-        let time = roads.time(scratch, place + 1, other + 1).unwrap_or(NO);
+        let time = times.time(place + 1, other + 1).unwrap_or(NO);
         let wanted = table.get(first.wrapping_add(other as usize));
         let is_wanted = Some(time) == wanted.copied();
         assert!(rt; is_wanted, "from {place} to {other}");
@@ -25,52 +28,50 @@ fn expect_times(rt: &impl Abort, roads: &Roads, scratch: &mut Scratch, place: u3
 // Compares the rows of a node with the lines of the table, and with its columns.
 fn expect_rows(
     rt: &impl Abort,
-    roads: &Roads,
-    scratch: &mut Scratch,
+    times: &mut TravelTimes,
+    towards: &BatchRoads,
     place: u32,
-    wanted: &[u32],
     row: &mut [Option<u64>],
     table: &[u64],
 )
-    requires scratch { scratch.old.nodes ≡ roads.now.nodes }
-    requires within { place < roads.now.nodes }
-    requires wanted { All (λ node. (1 ≤ node) × (node ≤ roads.now.nodes)) wanted.now }
-    requires places { length row.old ≡ length wanted.now }
-    ensures scratch { scratch.new ≡ scratch.old }
+    requires roads { towards.now.roads ≡ times.old }
+    requires within { place < times.old.nodes }
+    requires places { length row.old ≡ length towards.now.wanted }
+    ensures times { times.new ≡ times.old }
     ensures places { length row.new ≡ length row.old }
 {
     // This call tells that the number of a node fits.
-    let _nodes = roads.nodes();
-    roads.rows(scratch, place + 1, Side::Out, wanted, row);
+    let _nodes = times.roads().nodes();
+    times.row(towards, place + 1, Side::Out, row);
     expect_line(rt, row, table, Side::Out, place);
-    roads.rows(scratch, place + 1, Side::Back, wanted, row);
+    times.row(towards, place + 1, Side::Back, row);
     expect_line(rt, row, table, Side::Back, place);
 }
 
 // Compares all rows and times with the table.
 fn compare(
     rt: &impl Abort,
-    roads: &Roads,
-    scratch: &mut Scratch,
-    wanted: &[u32],
+    times: &mut TravelTimes,
+    towards: &BatchRoads,
     row: &mut [Option<u64>],
     table: &[u64],
 )
-    requires scratch { scratch.old.nodes ≡ roads.now.nodes }
-    requires wanted { All (λ node. (1 ≤ node) × (node ≤ roads.now.nodes)) wanted.now }
-    requires places { length row.old ≡ length wanted.now }
+    requires roads { towards.now.roads ≡ times.old }
+    requires places { length row.old ≡ length towards.now.wanted }
 {
-    for place in 0..roads.nodes() {
-        expect_rows(rt, roads, scratch, place, wanted, row, table);
-        expect_times(rt, roads, scratch, place, table);
+    for place in 0..times.roads().nodes() {
+        expect_rows(rt, times, towards, place, row, table);
+        expect_times(rt, times, place, table);
     }
 }
 
+// Compares all rows and times of roads, which are searched, with the table.
 fn expect_table(rt: &impl Abort, alloc: Global, roads: &Roads, table: &[u64]) {
     let wanted = all_nodes(rt, alloc, roads.nodes());
     let mut row = vec![in alloc; None; wanted.len()].expect(rt, "there is memory");
-    let mut scratch = Scratch::new(alloc, roads).expect(rt, "there is memory");
-    compare(rt, roads, &mut scratch, &wanted, &mut row, table);
+    let mut times = TravelTimes::new(alloc, roads).expect(rt, "there is memory");
+    let towards = times.towards(&wanted);
+    compare(rt, &mut times, &towards, &mut row, table);
 }
 
 // The roads of a map of these arcs.
@@ -82,41 +83,34 @@ fn roads_of(rt: &impl Abort, alloc: Global, nodes: u32, arcs: &[(u32, u32, u32)]
 }
 
 // Compares the row of node 2 of three, with nodes that are wanted twice.
-fn expect_wanted(
-    rt: &impl Abort,
-    roads: &Roads,
-    scratch: &mut Scratch,
-    side: Side,
-    times: &[Option<u64>; 5],
-)
-    requires scratch { scratch.old.nodes ≡ roads.now.nodes }
-    requires nodes { roads.now.nodes ≡ 3 }
-    ensures { scratch.new ≡ scratch.old }
+fn expect_wanted(rt: &impl Abort, times: &mut TravelTimes, side: Side, row: &[Option<u64>; 5])
+    requires { times.old.nodes ≡ 3 }
+    ensures { times.new ≡ times.old }
 {
-    let mut row = [None; 5];
-    roads.rows(scratch, 2, side, &[3, 1, 2, 3, 1], &mut row);
-    assert!(rt; row == *times);
+    let towards = times.towards(&WANTED);
+    let mut found = [None; 5];
+    times.row(&towards, 2, side, &mut found);
+    assert!(rt; found == *row);
 }
 
 fn expect_absent(rt: &impl Abort, alloc: Global, roads: &Roads)
     requires { roads.now.nodes ≡ 3 }
 {
-    let mut scratch = Scratch::new(alloc, roads).expect(rt, "there is memory");
+    let mut times = TravelTimes::new(alloc, roads).expect(rt, "there is memory");
     let out = [Some(60), None, Some(0), Some(60), None];
-    expect_wanted(rt, roads, &mut scratch, Side::Out, &out);
+    expect_wanted(rt, &mut times, Side::Out, &out);
     let back = [None, Some(60), Some(0), None, Some(60)];
-    expect_wanted(rt, roads, &mut scratch, Side::Back, &back);
+    expect_wanted(rt, &mut times, Side::Back, &back);
 }
 
 // Compares many times of the first map with its table, by one scratch.
-fn expect_many(rt: &impl Abort, roads: &Roads, scratch: &mut Scratch)
-    requires scratch { scratch.old.nodes ≡ roads.now.nodes }
-    requires nodes { roads.now.nodes ≡ 8 }
+fn expect_many(rt: &impl Abort, times: &mut TravelTimes)
+    requires { times.old.nodes ≡ 8 }
 {
     for turn in 0..1_000u32 {
         let x = turn % 8;
         let y = turn / 8 % 8;
-        let time = roads.time(scratch, x + 1, y + 1).unwrap_or(NO);
+        let time = times.time(x + 1, y + 1).unwrap_or(NO);
         assert!(rt; time == SMALL_TIMES[(8 * x + y) as usize], "turn {turn}");
     }
 }
@@ -125,8 +119,8 @@ fn expect_turns(rt: &impl Abort, alloc: Global, roads: &Roads)
     requires { roads.now.nodes ≡ 8 }
 {
     assert!(rt; roads.nodes() == 8);
-    let mut scratch = Scratch::new(alloc, roads).expect(rt, "there is memory");
-    expect_many(rt, roads, &mut scratch);
+    let mut times = TravelTimes::new(alloc, roads).expect(rt, "there is memory");
+    expect_many(rt, &mut times);
 }
 
 #[test]

@@ -1,24 +1,12 @@
 -- The logs of sessions are within the limits of an audit.
-use Rattle.std.proofs.Common.{◌≡◌, ℕ, ◌-◌, ◌≤◌, ◌++◌, ◌⊎◌, inl, inr, Bool, true, false, List, Option, Result, Ok, length, ap, sym, subst, arith, length-append}
+use Rattle.resumption.proofs.Common.{◌≡◌, ℕ, ◌-◌, ◌≤◌, ◌++◌, ◌⊎◌, inl, inr, Bool, true, false, List, Option, Result, Ok, length, ap, sym, subst, arith, length-append, cases_Bool, Ran, Entry, command_of, fed_commands, State, text_of, feed_limits, most_lines, new_feed, fed_commands-append, HasResumed, HaveFewCommands, IsFeedAfter, form_after, FeedRun, HasServed, IsFeedOf, AuditFault, IsAnswer}
 use Rattle.std.specs.Prelude.{filter_map}
-use Rattle.std.proofs.lemmas.Bool.{cases_Bool}
-use Rattle.ride_ports.specs.declared.outcome.Ran.{Ran}
 use Rattle.model_laws.proofs.plain.Numbers.{one_of_two}
-use Rattle.ride_model.specs.declared.entry.Entry.{Entry}
-use Rattle.ride_model.specs.History.{command_of, fed_commands}
-use Rattle.ride_model.specs.State.{State}
-use Rattle.ride_model.specs.Text.{text_of}
-use Rattle.command_lines.specs.Limits.{feed_limits, most_lines, new_feed}
 use Rattle.board_core.specs.declared.board.totals.Totals.{Totals}
 use Rattle.board_core.specs.Totals.{AreTotalsOf}
-use Rattle.board_core.proofs.FedEntries.{fed_commands-append}
 use Rattle.session_run.specs.Replay.{IsReplay}
-use Rattle.live_sessions.specs.Resuming.{HasResumed, HaveFewCommands, IsFeedAfter, form_after}
-use Rattle.live_sessions.specs.Serving.{FeedRun, HasServed, IsFeedOf}
-use Rattle.log_audit.specs.declared.verdict.AuditFault.{AuditFault}
 use Rattle.log_audit.specs.declared.verdict.Verdict.{Verdict}
 use Rattle.log_audit.specs.declared.verdict.Verdict.TheVariants.{Yes}
-use Rattle.log_audit.specs.Audit.{IsAnswer}
 use Rattle.log_audit.specs.Limits.{IsTooLong}
 use Rattle.log_audit.proofs.AuditLimits.{answered-yes, text-within}
 

@@ -1,5 +1,4 @@
-use Rattle.std.proofs.Common.{rules}
-use Rattle.std.specs.Prelude.{string_bytes}
+use Rattle.run_words.proofs.Common.{rules, string_bytes}
 use Rattle.run_words.proofs.FirstWord.{no-word}
 use Rattle.run_words.proofs.first_word.Goals as goal
 

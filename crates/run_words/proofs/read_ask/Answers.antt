@@ -1,8 +1,4 @@
-use Rattle.std.proofs.Common.{◌∙◌, ap, map, sym}
-use Rattle.std.specs.Prelude.{string_bytes}
-use Rattle.clap.specs.Faults.{is_simple_and_free}
-use Rattle.clap.specs.Matches.{first_value, found_of}
-use Rattle.run_words.specs.Words.{command_by_word, value_of}
+use Rattle.run_words.proofs.Common.{◌∙◌, ap, map, sym, string_bytes, is_simple_and_free, first_value, found_of, command_by_word, value_of}
 use Rattle.run_words.proofs.WordValues.{same-asked, simple}
 use Rattle.run_words.proofs.read_ask.Goals as goal
 

@@ -1,19 +1,5 @@
 -- How many bytes the lines of a batch have.
-use Rattle.std.proofs.Common.{◌≡◌, ℕ, ◌+◌, ◌*◌, ◌≤◌, List, [], ◌∷◌, ◌++◌, length, ap, arith}
-use Rattle.std.specs.Prelude.{codes, decimal, map, All}
-use Rattle.std.proofs.lemmas.List.{length-map, length-take}
-use Rattle.std.proofs.lemmas.List.Elements.{recursion_from_All}
-use Rattle.ride_model.specs.declared.entry.Event.TheVariants.{Opened, Committed}
-use Rattle.ride_model.specs.declared.entry.Outcome.{Outcome}
-use Rattle.ride_model.specs.declared.offer.Seat.{Seat}
-use Rattle.ride_model.specs.declared.vehicle.Ride.{Ride}
-use Rattle.ride_model.specs.declared.vehicle.Vehicle.{Vehicle}
-use Rattle.ride_model.specs.Batch.{next_batch, outcome_of, waiting_rides}
-use Rattle.ride_model.specs.Legal.{CommitsBatch, NamesBatch}
-use Rattle.ride_model.specs.Seating.{BatchCopy, has_amount, has_seat, vehicle_ids}
-use Rattle.ride_model.specs.State.{State}
-use Rattle.ride_model.specs.Text.{IsSpelled, IsSpelledOutcome, IsSpelledPair, IsSpelledSeat, amount_field, event_fields, outcome_field, plan_field, seat_field}
-use Rattle.ride_model.specs.Vehicle.{ride_ids}
+use Rattle.trip_log.proofs.Common.{◌≡◌, ℕ, ◌+◌, ◌*◌, ◌≤◌, List, [], ◌∷◌, ◌++◌, length, ap, arith, codes, decimal, map, All, length-map, length-take, recursion_from_All, Opened, Committed, Outcome, Seat, Ride, Vehicle, next_batch, outcome_of, waiting_rides, CommitsBatch, NamesBatch, BatchCopy, has_amount, has_seat, vehicle_ids, State, IsSpelled, IsSpelledOutcome, IsSpelledPair, IsSpelledSeat, amount_field, event_fields, outcome_field, plan_field, seat_field, ride_ids}
 use Rattle.model_laws.proofs.history_laws.Raised.{length-filter-le}
 use Rattle.trip_log.proofs.limit_laws.Sizes.{size_of, size-append, size-map, number-le, plan-le, amount-le, seat-le, outcome-le}
 

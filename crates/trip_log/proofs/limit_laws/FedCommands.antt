@@ -1,20 +1,5 @@
 -- The commands of a history are those of its feeds.
-use Rattle.std.proofs.Common.{◌≡◌, ℕ, ◌+◌, ◌*◌, ◌≤◌, Bool, true, false, cond, inl, inr, List, [], ◌∷◌, length, refl, sym, subst, arith}
-use Rattle.std.specs.Prelude.{filter_map}
-use Rattle.std.specs.List.{filter}
-use Rattle.std.proofs.lemmas.List.Sums.{sum_by-cons}
-use Rattle.model_laws.proofs.plain.Numbers.{one_of_two}
-use Rattle.ride_model.specs.declared.command.Actor.{Actor}
-use Rattle.ride_model.specs.declared.command.Actor.TheVariants.{Feed, Desk}
-use Rattle.ride_model.specs.declared.entry.Entry.{Entry}
-use Rattle.ride_model.specs.declared.entry.Event.{Event}
-use Rattle.ride_model.specs.declared.entry.Event.TheVariants.{Fed, Finish, Opened, Committed, Abandoned}
-use Rattle.ride_model.specs.History.{entries_of, command_of, fed_commands}
-use Rattle.ride_model.specs.Legal.{IsLegal, IsLegalEvent, IsNumbered, after_entry}
-use Rattle.ride_model.specs.State.{State, is_actor}
-use Rattle.ride_model.specs.Text.{IsOneOrTwo}
-use Rattle.model_laws.specs.inner.history_laws.Start.{fed_total}
-use Rattle.model_laws.proofs.history_laws.Entries.{fed_in}
+use Rattle.trip_log.proofs.Common.{◌≡◌, ℕ, ◌+◌, ◌*◌, ◌≤◌, Bool, true, false, cond, inl, inr, List, [], ◌∷◌, length, refl, sym, subst, arith, filter_map, filter, sum_by-cons, one_of_two, Actor, Feed, Desk, Entry, Event, Fed, Finish, Opened, Committed, Abandoned, entries_of, command_of, fed_commands, IsLegal, IsLegalEvent, IsNumbered, after_entry, State, is_actor, IsOneOrTwo, fed_total, fed_in}
 
 -- how many commands of a feed an event answers
 abbrev fed_of : ℕ → Actor → Event → ℕ

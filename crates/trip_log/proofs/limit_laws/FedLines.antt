@@ -1,22 +1,6 @@
 -- How many bytes the line of a command has.
-use Rattle.std.proofs.Common.{ℕ, ◌+◌, ◌≤◌, ◌&&◌, ◌||◌, Bool, true, false, not, cond, List, [], ◌∷◌, ◌++◌, length, arith}
-use Rattle.std.specs.Prelude.{codes, decimal, Option, Some, None, is_some, ◌==◌, nat_le, nat_lt, All}
-use Rattle.std.proofs.lemmas.List.Elements.{recursion_from_All}
-use Rattle.ride_model.specs.declared.command.Actor.{Actor}
-use Rattle.ride_model.specs.declared.command.Actor.TheVariants.{Feed, Desk}
-use Rattle.ride_model.specs.declared.command.Command.{Command}
-use Rattle.ride_model.specs.declared.command.Command.TheVariants.{Request, Cancel, At, Done, On, Off, Clock, Ask, Bad}
-use Rattle.ride_model.specs.declared.reply.Reply.{Reply}
-use Rattle.ride_model.specs.declared.reply.Reply.TheVariants.{Waiting, Cancelled, Freed, OnMap, Late, Picked, Dropped, Duty, Now, Asked, Noted, Refused}
-use Rattle.ride_model.specs.declared.reply.RequestState.{RequestState}
-use Rattle.ride_model.specs.declared.reply.RequestState.TheVariants.{Waiting as WaitingState, InBatch, Confirmed, Aboard, Done as DoneState, Away, Cancelled as CancelledState}
-use Rattle.ride_model.specs.declared.vehicle.Kind.{Kind}
-use Rattle.ride_model.specs.declared.vehicle.Kind.TheVariants.{Pickup, Dropoff}
-use Rattle.ride_model.specs.declared.vehicle.Stop.{Stop}
-use Rattle.ride_model.specs.declared.vehicle.Vehicle.{Vehicle}
-use Rattle.ride_model.specs.State.{State, AcceptedRequest, accepted_request, placed_vehicle}
-use Rattle.ride_model.specs.Step.{Answered, is_node, freed, cancel_by_state, cancel_found, cancel_step, served_reply, done_at_stop, done_found, done_step, duty_found, duty_step, clock_step, ask_step, request_step, step}
-use Rattle.ride_model.specs.Text.{IsSpelled, IsSpelledActor, IsSpelledCommand, IsSpelledReply, actor_field, broken_fields, chairs_fields, command_fields, fed_fields, reply_fields}
+use Rattle.trip_log.proofs.Common.{ℕ, ◌+◌, ◌≤◌, ◌&&◌, ◌||◌, Bool, true, false, not, cond, List, [], ◌∷◌, ◌++◌, length, arith, codes, decimal, Option, Some, None, is_some, ◌==◌, nat_le, nat_lt, All, recursion_from_All, Actor, Feed, Desk, Command, Request, Cancel, At, Done, On, Off, Clock, Ask, Bad, Reply, Waiting, Cancelled, Freed, OnMap, Late, Picked, Dropped, Duty, Now, Asked, Noted, Refused, RequestState, InBatch, Aboard, Kind, Pickup, Dropoff, Stop, Vehicle, State, AcceptedRequest, accepted_request, placed_vehicle, Answered, is_node, freed, cancel_by_state, cancel_found, cancel_step, served_reply, done_at_stop, done_found, done_step, duty_found, duty_step, clock_step, ask_step, request_step, step, IsSpelled, IsSpelledActor, IsSpelledCommand, IsSpelledReply, actor_field, broken_fields, chairs_fields, command_fields, fed_fields, reply_fields}
+use Rattle.ride_model.specs.declared.reply.RequestState.TheVariants.{Waiting as WaitingState, Confirmed, Done as DoneState, Away, Cancelled as CancelledState}
 use Rattle.trip_log.proofs.limit_laws.Sizes.{size_of, size-append, size-map, digit-le, number-le}
 
 -- an actor has a letter and a digit

@@ -1,10 +1,6 @@
 -- A feed within its limits gives no more commands than it may have lines.
-use Rattle.std.proofs.Common.{ℕ, ◌≤◌, List, length, take, ap, arith, length-append}
-use Rattle.std.proofs.lemmas.List.{length-take}
-use Rattle.line_text.specs.Lines.{ended_lines, lines_of}
+use Rattle.trip_log.proofs.Common.{ℕ, ◌≤◌, List, length, take, ap, arith, length-append, length-take, ended_lines, lines_of, Command, commands_from, commands_of}
 use Rattle.line_text.specs.line_reader.Limits.{IsWithinLimits}
-use Rattle.ride_model.specs.declared.command.Command.{Command}
-use Rattle.command_lines.specs.Commands.{commands_from, commands_of}
 use Rattle.command_lines.specs.declared.forms.FeedForm.{FeedForm}
 use Rattle.command_lines.specs.Limits.{AreFirst, ended_commands, limits_of}
 use Rattle.command_lines.proofs.LineCommands.{length-commands_from-le}

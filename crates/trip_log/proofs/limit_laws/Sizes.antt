@@ -1,12 +1,5 @@
 -- How many bytes fields have.
-use Rattle.std.proofs.Common.{◌≡◌, ℕ, suc, ◌+◌, ◌*◌, ◌<◌, ◌≤◌, ◌^◌, List, [], ◌∷◌, ◌++◌, length, mul-suc, arith, length-append}
-use Rattle.std.specs.Prelude.{codes, decimal, map}
-use Rattle.std.specs.List.{AllByRecursion, join_with_byte}
-use Rattle.std.proofs.lemmas.Fmt.{length-decimal-le}
-use Rattle.ride_model.specs.declared.entry.Outcome.{Outcome}
-use Rattle.ride_model.specs.declared.entry.Outcome.TheVariants.{Confirmed, Away, Gone, Moved, Behind}
-use Rattle.ride_model.specs.declared.offer.Seat.{Seat}
-use Rattle.ride_model.specs.Text.{IsSpelled, IsSpelledOutcome, IsSpelledPair, IsSpelledSeat, amount_field, line_of, outcome_field, plan_field, seat_field}
+use Rattle.trip_log.proofs.Common.{◌≡◌, ℕ, suc, ◌+◌, ◌*◌, ◌<◌, ◌≤◌, ◌^◌, List, [], ◌∷◌, ◌++◌, length, mul-suc, arith, length-append, codes, decimal, map, AllByRecursion, join_with_byte, length-decimal-le, Outcome, Confirmed, Away, Gone, Moved, Behind, Seat, IsSpelled, IsSpelledOutcome, IsSpelledPair, IsSpelledSeat, amount_field, line_of, outcome_field, plan_field, seat_field}
 
 -- the bytes of fields, each with one byte after it
 abbrev pub size_of : List (List ℕ) → ℕ

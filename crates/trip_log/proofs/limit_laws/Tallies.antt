@@ -1,30 +1,7 @@
 -- How many entries of each kind a legal history has.
-use Rattle.std.proofs.Common.{◌≡◌, ℕ, ◌+◌, ◌*◌, ◌≤◌, ◌⊎◌, Bool, true, false, ◌||◌, not, cond, inl, inr, List, [], ◌∷◌, length, refl, ap, ◌∙◌, arith, length-append}
-use Rattle.std.specs.Prelude.{Option, Some, None, IsSome, IsSomeAnd}
-use Rattle.std.specs.List.{filter, list_any}
-use Rattle.std.proofs.lemmas.Bool.{eq-eqb}
-use Rattle.std.proofs.lemmas.List.Folds.{list_any-append}
-use Rattle.std.proofs.lemmas.List.Sums.{sum_by-cons}
-use Rattle.std.proofs.Math.Bool.{or-true}
-use Rattle.model_laws.proofs.plain.Numbers.{one_of_two}
-use Rattle.ride_model.specs.declared.command.Actor.{Actor}
-use Rattle.ride_model.specs.declared.command.Actor.TheVariants.{Feed, Desk}
-use Rattle.ride_model.specs.declared.entry.Ending.{Ending}
-use Rattle.ride_model.specs.declared.entry.Entry.{Entry}
-use Rattle.ride_model.specs.declared.entry.Event.{Event}
-use Rattle.ride_model.specs.declared.entry.Event.TheVariants.{Fed, Finish, Opened, Committed, Abandoned}
-use Rattle.ride_model.specs.Batch.{next_batch, after_commit, after_abandon}
-use Rattle.ride_model.specs.Legal.{CommitsBatch, IsLegal, IsLegalEvent, IsNumbered, after_entry, after_event, replay}
-use Rattle.ride_model.specs.Seating.{BatchCopy}
-use Rattle.ride_model.specs.State.{State, has_ended, is_actor, is_batch, open_batch_numbered}
-use Rattle.ride_model.specs.Text.{IsOneOrTwo}
+use Rattle.trip_log.proofs.Common.{◌≡◌, ℕ, ◌+◌, ◌*◌, ◌≤◌, ◌⊎◌, Bool, true, false, ◌||◌, not, cond, inl, inr, List, [], ◌∷◌, length, refl, ap, ◌∙◌, arith, length-append, Option, Some, None, IsSome, IsSomeAnd, filter, list_any, eq-eqb, list_any-append, sum_by-cons, or-true, one_of_two, Actor, Feed, Desk, Ending, Entry, Event, Fed, Finish, Opened, Committed, Abandoned, next_batch, after_commit, after_abandon, CommitsBatch, IsLegal, IsLegalEvent, IsNumbered, after_entry, after_event, replay, BatchCopy, State, has_ended, is_actor, is_batch, open_batch_numbered, IsOneOrTwo, IsStart, fed_total, fed_in, consistent, open_batch, fewer-filter, is_batch-own}
 use Rattle.model_laws.proofs.RequestStates.{others-opening, abandon-is}
-use Rattle.model_laws.specs.history_laws.Start.{IsStart}
-use Rattle.model_laws.specs.inner.history_laws.Start.{fed_total}
 use Rattle.model_laws.proofs.history_laws.Effects.{effect}
-use Rattle.model_laws.proofs.history_laws.Entries.{fed_in}
-use Rattle.model_laws.proofs.history_laws.EveryState.{consistent}
-use Rattle.model_laws.proofs.history_laws.Leaving.{open_batch, fewer-filter, is_batch-own}
 use Rattle.model_laws.proofs.history_laws.Others.{ended-stays}
 use Rattle.model_laws.proofs.history_laws.Untouched.{leaves-step, stays-outcomes}
 

@@ -1,16 +1,5 @@
 -- The lines of a text.
-use Rattle.std.proofs.Common.{◌≡◌, ℕ, ◌+◌, ◌-◌, ◌≤◌, List, [], ◌∷◌, ◌++◌, length, ap, sym, subst, ◌∙◌, append-nil, arith}
-use Rattle.std.specs.Prelude.{map, All}
-use Rattle.std.specs.List.{AllByRecursion}
-use Rattle.std.proofs.lemmas.List.{length-map, length-take}
-use Rattle.std.proofs.lemmas.List.Elements.{All-from_recursion}
-use Rattle.line_text.specs.Lines.{ended_lines, last_line, lines_of}
-use Rattle.ride_model.specs.declared.entry.Entry.{Entry}
-use Rattle.ride_model.specs.Legal.{IsLegal}
-use Rattle.ride_model.specs.State.{State}
-use Rattle.ride_model.specs.Text.{HasText, entry_line, head_line, text_of}
-use Rattle.model_laws.specs.history_laws.Start.{IsStart}
-use Rattle.trip_log.specs.inner.Cuts.{front_of}
+use Rattle.trip_log.proofs.Common.{◌≡◌, ℕ, ◌+◌, ◌-◌, ◌≤◌, List, [], ◌∷◌, ◌++◌, length, ap, sym, subst, ◌∙◌, append-nil, arith, map, All, AllByRecursion, length-map, length-take, All-from_recursion, ended_lines, last_line, lines_of, Entry, IsLegal, State, HasText, entry_line, head_line, text_of, IsStart, front_of}
 use Rattle.trip_log.proofs.TextLemmas.{cut-text, rest-text}
 use Rattle.trip_log.proofs.limit_laws.Texts.{head-le, short-lines}
 

@@ -1,26 +1,6 @@
 -- How many bytes the text of a legal history has.
-use Rattle.std.proofs.Common.{◌≡◌, ℕ, ◌+◌, ◌*◌, ◌≤◌, List, [], ◌∷◌, length, refl, sym, subst, arith, length-append}
-use Rattle.std.specs.Prelude.{codes, decimal, All, Option, Some, None, IsSomeAnd}
-use Rattle.std.specs.List.{AllByRecursion}
-use Rattle.std.proofs.lemmas.List.Elements.{All-from_recursion, recursion_from_All}
-use Rattle.std.proofs.lemmas.List.Sums.{sum_by-cons}
-use Rattle.ride_model.specs.declared.command.Actor.{Actor}
-use Rattle.ride_model.specs.declared.command.Actor.TheVariants.{Feed, Desk}
-use Rattle.ride_model.specs.declared.entry.Ending.TheVariants.{Whole, Cut}
-use Rattle.ride_model.specs.declared.entry.Entry.{Entry}
-use Rattle.ride_model.specs.declared.entry.Event.{Event}
-use Rattle.ride_model.specs.declared.entry.Event.TheVariants.{Fed, Finish, Opened, Committed, Abandoned}
-use Rattle.ride_model.specs.declared.reply.Reply.{Reply}
-use Rattle.ride_model.specs.Legal.{CommitsBatch, IsLegal, IsLegalEntry, IsLegalEvent, after_entry, replay}
-use Rattle.ride_model.specs.Seating.{BatchCopy}
-use Rattle.ride_model.specs.State.{State, open_batch_numbered}
-use Rattle.ride_model.specs.Text.{HasLine, HasText, IsOneOrTwo, IsSpelledEvent, IsSpelledReply, actor_field, entry_line, entry_lines, event_fields, fed_fields, head_line, text_of}
-use Rattle.model_laws.specs.history_laws.Start.{IsStart}
-use Rattle.model_laws.specs.inner.history_laws.Start.{fed_total}
-use Rattle.model_laws.proofs.history_laws.Entries.{event_goes, fed_in, start_inv}
-use Rattle.model_laws.proofs.history_laws.EveryState.{any_fine, any_id, legal_goes}
+use Rattle.trip_log.proofs.Common.{◌≡◌, ℕ, ◌+◌, ◌*◌, ◌≤◌, List, [], ◌∷◌, length, refl, sym, subst, arith, length-append, codes, decimal, All, Option, Some, None, IsSomeAnd, AllByRecursion, All-from_recursion, recursion_from_All, sum_by-cons, Actor, Feed, Desk, Whole, Cut, Entry, Event, Fed, Finish, Opened, Committed, Abandoned, Reply, CommitsBatch, IsLegal, IsLegalEntry, IsLegalEvent, after_entry, replay, BatchCopy, State, open_batch_numbered, HasLine, HasText, IsOneOrTwo, IsSpelledEvent, IsSpelledReply, actor_field, entry_line, entry_lines, event_fields, fed_fields, head_line, text_of, IsStart, fed_total, event_goes, fed_in, start_inv, any_fine, any_id, legal_goes, open_batch}
 use Rattle.model_laws.proofs.history_laws.Invariant.{Inv, fleet_of, settings_of}
-use Rattle.model_laws.proofs.history_laws.Leaving.{open_batch}
 use Rattle.trip_log.proofs.limit_laws.BatchLines.{opened-le, committed-le}
 use Rattle.trip_log.proofs.limit_laws.FedLines.{actor-le, fed-le}
 use Rattle.trip_log.proofs.limit_laws.Sizes.{size_of, size-line, digit-le, number-le}

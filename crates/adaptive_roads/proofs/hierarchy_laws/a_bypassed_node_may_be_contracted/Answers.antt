@@ -1,4 +1,4 @@
-use Rattle.std.specs.Prelude.{Contains}
+use Rattle.adaptive_roads.proofs.Common.{Contains}
 use Rattle.adaptive_roads.proofs.hierarchy_laws.Growing.{hierarchy-taken}
 use Rattle.adaptive_roads.proofs.hierarchy_laws.a_bypassed_node_may_be_contracted.Goals as goal
 

@@ -1,4 +1,4 @@
-use Rattle.std.specs.Prelude.{Contains}
+use Rattle.adaptive_roads.proofs.Common.{Contains}
 use Rattle.adaptive_roads.proofs.hierarchy_laws.Growing.{hierarchy-flipped}
 use Rattle.adaptive_roads.proofs.hierarchy_laws.Sweeping.{travel-flipped}
 use Rattle.adaptive_roads.proofs.hierarchy_laws.a_hierarchy_may_be_turned_round.Goals as goal

@@ -1,4 +1,4 @@
-use Rattle.std.specs.Prelude.{Contains}
+use Rattle.adaptive_roads.proofs.Common.{Contains}
 use Rattle.adaptive_roads.proofs.hierarchy_laws.Climbing.{climbs}
 use Rattle.adaptive_roads.proofs.hierarchy_laws.every_way_climbs_and_descends.Goals as goal
 

@@ -1,4 +1,4 @@
-use Rattle.std.specs.Prelude.{Contains}
+use Rattle.adaptive_roads.proofs.Common.{Contains}
 use Rattle.adaptive_roads.proofs.hierarchy_laws.Sweeping.{swept-is_travel}
 use Rattle.adaptive_roads.proofs.hierarchy_laws.labels_are_travel_times.Goals as goal
 

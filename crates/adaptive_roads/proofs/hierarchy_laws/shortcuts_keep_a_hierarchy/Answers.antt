@@ -1,4 +1,4 @@
-use Rattle.std.specs.Prelude.{Contains}
+use Rattle.adaptive_roads.proofs.Common.{Contains}
 use Rattle.adaptive_roads.proofs.hierarchy_laws.Growing.{hierarchy-grown}
 use Rattle.adaptive_roads.proofs.hierarchy_laws.shortcuts_keep_a_hierarchy.Goals as goal
 

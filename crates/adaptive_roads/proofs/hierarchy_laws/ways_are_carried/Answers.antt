@@ -1,5 +1,4 @@
-use Rattle.std.proofs.Common.{arith}
-use Rattle.std.specs.Prelude.{Contains}
+use Rattle.adaptive_roads.proofs.Common.{arith, Contains}
 use Rattle.adaptive_roads.proofs.hierarchy_laws.Ways.{reaches-carried, way-from_walk}
 use Rattle.adaptive_roads.proofs.hierarchy_laws.ways_are_carried.Goals as goal
 

@@ -1,5 +1,4 @@
-use Rattle.std.proofs.Common.{arith}
-use Rattle.std.proofs.lemmas.Slice.Eq.{slice_eq-Decides}
+use Rattle.adaptive_roads.proofs.Common.{arith, slice_eq-Decides}
 use Rattle.adaptive_roads.proofs.Networks.{arc-decides, map-decides}
 use Rattle.adaptive_roads.proofs.made.are_same.Goals as goal
 

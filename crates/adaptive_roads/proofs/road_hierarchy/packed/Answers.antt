@@ -1,6 +1,4 @@
-use Rattle.std.proofs.Common.{◌≡◌, length, refl, arith}
-use Rattle.road_times.specs.declared.side.Side.TheVariants.{Out, Back}
-use Rattle.adaptive_roads.specs.inner.road_hierarchy.Packed.{levelled}
+use Rattle.adaptive_roads.proofs.Common.{◌≡◌, length, refl, arith, Out, Back, levelled}
 use Rattle.adaptive_roads.proofs.road_hierarchy.Packing.{descents-at, made-packed, made-packing}
 use Rattle.adaptive_roads.proofs.road_hierarchy.packed.Goals as goal
 

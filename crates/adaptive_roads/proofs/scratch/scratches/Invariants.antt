@@ -1,5 +1,4 @@
-use Rattle.std.proofs.Common.{◌≡◌, length}
-use Rattle.std.specs.Prelude.{All}
+use Rattle.adaptive_roads.proofs.Common.{◌≡◌, length, All}
 use Rattle.adaptive_roads.proofs.scratch.scratches.Given as goal
 
 -- as many as were counted, each for the map

@@ -1,5 +1,4 @@
-use Rattle.std.proofs.Common.{◌≡◌, ℕ, take}
-use Rattle.batch_commit.specs.inner.Answer.{undecided}
+use Rattle.batch_commit.proofs.Common.{◌≡◌, ℕ, take, undecided}
 use Rattle.batch_commit.proofs.answers.undecided_outcomes.Given as goal
 
 -- the outcomes so far

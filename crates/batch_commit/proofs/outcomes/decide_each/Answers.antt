@@ -1,10 +1,4 @@
-use Rattle.std.proofs.Common.{◌≡◌, ◌+◌, ◌<◌, ℕ, length, take, get_or, map, sym, ◌∙◌, ap, subst, arith}
-use Rattle.std.proofs.lemmas.List.{length-map}
-use Rattle.ride_model.specs.declared.entry.Outcome.{Outcome}
-use Rattle.ride_model.specs.declared.vehicle.Ride.{Ride}
-use Rattle.ride_model.specs.State.{State}
-use Rattle.ride_model.specs.Vehicle.{ride_ids}
-use Rattle.ride_model.specs.Batch.{outcome_of, outcomes_of}
+use Rattle.batch_commit.proofs.Common.{◌≡◌, ◌+◌, ◌<◌, ℕ, length, take, get_or, map, sym, ◌∙◌, ap, subst, arith, length-map, Outcome, Ride, State, ride_ids, outcome_of, outcomes_of}
 use Rattle.batch_commit.proofs.Decided.{decided-more, ids-stay, get_or-map, next-outcome}
 use Rattle.batch_commit.proofs.outcomes.decide_each.Goals as goal
 

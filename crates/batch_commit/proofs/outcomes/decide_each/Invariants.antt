@@ -1,9 +1,4 @@
-use Rattle.std.proofs.Common.{◌≡◌, ℕ, length, take, map}
-use Rattle.ride_model.specs.declared.entry.Outcome.{Outcome}
-use Rattle.ride_model.specs.State.{State}
-use Rattle.ride_model.specs.Vehicle.{ride_ids}
-use Rattle.ride_model.specs.Batch.{outcomes_of}
-use Rattle.batch_commit.specs.inner.Solved.{StandsSo}
+use Rattle.batch_commit.proofs.Common.{◌≡◌, ℕ, length, take, map, Outcome, State, ride_ids, outcomes_of, StandsSo}
 use Rattle.batch_commit.proofs.outcomes.decide_each.Given as goal
 
 -- those so far are decided

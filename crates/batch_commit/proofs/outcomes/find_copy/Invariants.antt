@@ -1,6 +1,4 @@
-use Rattle.std.proofs.Common.{◌≡◌, drop}
-use Rattle.std.specs.Prelude.{find, ◌==◌}
-use Rattle.ride_model.specs.declared.vehicle.Vehicle.{Vehicle}
+use Rattle.batch_commit.proofs.Common.{◌≡◌, drop, find, ◌==◌, Vehicle}
 use Rattle.batch_commit.proofs.outcomes.find_copy.Given as goal
 
 -- what is found in all is what is found in those that are left

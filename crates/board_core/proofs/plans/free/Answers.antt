@@ -1,13 +1,4 @@
-use Rattle.std.proofs.Common.{◌≡◌, ◌-◌, sym, ◌∙◌, ap, subst, arith}
-use Rattle.std.specs.Prelude.{All}
-use Rattle.ride_model.specs.declared.vehicle.Vehicle.{Vehicle}
-use Rattle.ride_model.specs.declared.vehicle.Kind.TheVariants.{Pickup, Dropoff}
-use Rattle.ride_model.specs.Road.{RoadMap, IsNode}
-use Rattle.ride_model.specs.Step.{raised}
-use Rattle.stop_plans.specs.inner.Change.{RemovesFrom}
-use Rattle.stop_plans.specs.inner.First.{IsFirst, is_visit}
-use Rattle.board_core.specs.inner.Given.{Given}
-use Rattle.board_core.specs.inner.Legs.{nodes_without, leg_along}
+use Rattle.board_core.proofs.Common.{◌≡◌, ◌-◌, sym, ◌∙◌, ap, subst, arith, All, Vehicle, Pickup, Dropoff, RoadMap, IsNode, raised, RemovesFrom, IsFirst, is_visit, Given, nodes_without, leg_along}
 use Rattle.board_core.proofs.LegLaws.{plan_nodes}
 use Rattle.board_core.proofs.Freed.{Frees, frees}
 use Rattle.board_core.proofs.plans.free.Goals as goal

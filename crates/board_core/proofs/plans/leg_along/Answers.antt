@@ -1,5 +1,4 @@
-use Rattle.std.proofs.Common.{sym, ◌∙◌, ap, arith}
-use Rattle.std.specs.Prelude.{unwrap_or}
+use Rattle.board_core.proofs.Common.{sym, ◌∙◌, ap, arith, unwrap_or}
 use Rattle.board_core.proofs.LegLaws.{leg-past, leg-within}
 use Rattle.board_core.proofs.plans.leg_along.Goals as goal
 

@@ -1,6 +1,4 @@
-use Rattle.std.proofs.Common.{◌≡◌, ℕ, ◌<◌, false, get_or}
-use Rattle.ride_model.specs.declared.vehicle.Stop.{Stop}
-use Rattle.stop_plans.specs.inner.First.{is_visit}
+use Rattle.board_core.proofs.Common.{◌≡◌, ℕ, ◌<◌, false, get_or, Stop, is_visit}
 use Rattle.board_core.proofs.plans.place_of.Given as goal
 
 -- no stop so far is the visit

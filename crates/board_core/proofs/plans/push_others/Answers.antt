@@ -1,6 +1,4 @@
-use Rattle.std.proofs.Common.{length, take, map, length-append, ap, arith}
-use Rattle.ride_model.specs.declared.vehicle.Stop.{Stop}
-use Rattle.ride_model.specs.Insertion.{stops_without}
+use Rattle.board_core.proofs.Common.{length, take, map, length-append, ap, arith, Stop, stops_without}
 use Rattle.board_core.proofs.LegLaws.{few-others}
 use Rattle.board_core.proofs.plans.push_others.Goals as goal
 

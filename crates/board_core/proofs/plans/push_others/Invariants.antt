@@ -1,6 +1,4 @@
-use Rattle.std.proofs.Common.{◌≡◌, ◌++◌, take, map}
-use Rattle.ride_model.specs.declared.vehicle.Stop.{Stop}
-use Rattle.ride_model.specs.Insertion.{stops_without}
+use Rattle.board_core.proofs.Common.{◌≡◌, ◌++◌, take, map, Stop, stops_without}
 use Rattle.board_core.proofs.plans.push_others.Given as goal
 
 -- the nodes so far

@@ -1,5 +1,4 @@
-use Rattle.std.proofs.Common.{ap, arith}
-use Rattle.ride_model.specs.declared.vehicle.Vehicle.{Vehicle}
+use Rattle.board_core.proofs.Common.{ap, arith, Vehicle}
 use Rattle.board_core.proofs.Served.{version-served}
 use Rattle.board_core.proofs.plans.serve.Goals as goal
 

@@ -1,4 +1,4 @@
-use Rattle.std.proofs.Common.{◌≡◌, take}
+use Rattle.board_core.proofs.Common.{◌≡◌, take}
 use Rattle.board_core.proofs.service.copies_of.Given as goal
 
 -- those so far are copied

@@ -1,5 +1,4 @@
-use Rattle.std.proofs.Common.{ℕ, suc, zero, ◌<◌, ◌^◌, List, [], ◌∷◌, get_or, sym, subst, arith}
-use Rattle.std.specs.List.{AllByRecursion}
+use Rattle.booking_desk.proofs.Common.{ℕ, suc, zero, ◌<◌, ◌^◌, List, [], ◌∷◌, get_or, sym, subst, arith, AllByRecursion}
 use Rattle.line_text.proofs.PrintedLemmas.{numbers_of-small}
 use Rattle.booking_desk.proofs.asked.booking_of.Goals as goal
 

@@ -1,15 +1,4 @@
-use Rattle.std.proofs.Common.{◌≡◌, ◌++◌, ◌∷◌, [], ℕ, List, Option, refl, sym, subst, ◌∙◌, append-nil}
-use Rattle.std.specs.Prelude.{IfSome}
-use Rattle.model_laws.proofs.plain.Options.{none_from_not_some}
-use Rattle.model_laws.proofs.plain.Among.{found_among}
-use Rattle.model_laws.proofs.plain.Each.{of_each}
-use Rattle.ride_model.specs.declared.command.Command.{Command}
-use Rattle.ride_model.specs.Text.{IsSpelledCommand}
-use Rattle.line_text.specs.inner.text_page.Output.{HasPut}
-use Rattle.booking_desk.specs.BookText.{request_line, released_text}
-use Rattle.booking_desk.specs.Desk.{Booking}
-use Rattle.booking_desk.specs.inner.Desk.{IsRequest, due_of, is_due}
-use Rattle.booking_desk.specs.inner.FeedDesk.{AreSpelled, IsSpelledBooking}
+use Rattle.booking_desk.proofs.Common.{◌≡◌, ◌++◌, ◌∷◌, [], ℕ, List, Option, refl, sym, subst, ◌∙◌, append-nil, IfSome, none_from_not_some, found_among, of_each, Command, IsSpelledCommand, HasPut, request_line, released_text, Booking, IsRequest, due_of, is_due, AreSpelled, IsSpelledBooking}
 use Rattle.booking_desk.proofs.BookedLines.{due-step}
 use Rattle.booking_desk.proofs.Due.{booking-of, none-of, release-done, release-step}
 use Rattle.booking_desk.proofs.feed_desk.release_due.Goals as goal

@@ -1,9 +1,4 @@
-use Rattle.std.proofs.Common.{◌≡◌, ℕ, ◌++◌, List, Option, length}
-use Rattle.line_text.specs.inner.text_page.Output.{HasPut}
-use Rattle.booking_desk.specs.BookText.{released_text}
-use Rattle.booking_desk.specs.Desk.{Booking}
-use Rattle.booking_desk.specs.inner.FeedDesk.{AreDue, AreSpelled, with_due}
-use Rattle.booking_desk.specs.Released.{DeskCall, clock_of}
+use Rattle.booking_desk.proofs.Common.{◌≡◌, ℕ, ◌++◌, List, Option, length, HasPut, released_text, Booking, AreDue, AreSpelled, with_due, DeskCall, clock_of}
 use Rattle.booking_desk.proofs.Due.{Releases}
 use Rattle.booking_desk.proofs.feed_desk.release_due.Given as goal
 

@@ -1,13 +1,7 @@
-use Rattle.std.proofs.Common.{[], sym, ap, subst, ◌∙◌}
+use Rattle.booking_desk.proofs.Common.{[], sym, ap, subst, ◌∙◌, Reads-none, ran_of, are-taken, run-still, short-enough, feed_limits, IsBooked, run_text}
 use Rattle.ride_ports.specs.declared.outcome.Ran.{Ran}
 use Rattle.ride_ports.specs.Count.{KeepsCount}
-use Rattle.ride_ports.proofs.ByteLemmas.{Reads-none}
-use Rattle.line_text.specs.inner.line_reader.FeedRuns.{ran_of}
 use Rattle.line_text.specs.line_reader.FeedRuns.{IsReadWhole, IsUnhindered}
-use Rattle.line_text.proofs.line_reader.FeedLines.{are-taken, run-still, short-enough}
-use Rattle.command_lines.specs.Limits.{feed_limits}
-use Rattle.booking_desk.specs.Booked.{IsBooked}
-use Rattle.booking_desk.specs.inner.FeedDesk.{run_text}
 use Rattle.booking_desk.proofs.FeedRuns.{booked-none, is-booked}
 use Rattle.booking_desk.proofs.feeds.book_feed.Goals as goal
 

@@ -1,9 +1,4 @@
-use Rattle.std.proofs.Common.{◌++◌, length, None, subst}
-use Rattle.line_text.proofs.line_reader.FeedLines.{run-still}
-use Rattle.command_lines.specs.Limits.{feed_limits}
-use Rattle.line_text.specs.inner.text_page.Output.{HasPut}
-use Rattle.booking_desk.specs.BookText.{held_line, text_of_lines}
-use Rattle.booking_desk.specs.Desk.{DeskState}
+use Rattle.booking_desk.proofs.Common.{◌++◌, length, None, subst, run-still, feed_limits, HasPut, held_line, text_of_lines, DeskState}
 use Rattle.booking_desk.proofs.feeds.run_feed.Goals as goal
 
 pub returns-in-None-clause-ran : goal.returns-in-None-clause-ran

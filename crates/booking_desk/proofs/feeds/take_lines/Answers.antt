@@ -1,10 +1,5 @@
-use Rattle.std.proofs.Common.{◌++◌, ◌∷◌, [], false, Ok, Err, refl, sym, ap, subst, ◌∙◌}
-use Rattle.line_text.specs.Lines.{ended_lines}
+use Rattle.booking_desk.proofs.Common.{◌++◌, ◌∷◌, [], false, Ok, Err, refl, sym, ap, subst, ◌∙◌, ended_lines, between-none, follows, run-sink_failed, feed_limits, DeskState, AreSpelled}
 use Rattle.line_text.specs.declared.line_reader.answers.NextLine.TheVariants.{Line, Unfinished, End}
-use Rattle.line_text.proofs.line_reader.FeedLines.{between-none, follows, run-sink_failed}
-use Rattle.command_lines.specs.Limits.{feed_limits}
-use Rattle.booking_desk.specs.Desk.{DeskState}
-use Rattle.booking_desk.specs.inner.FeedDesk.{AreSpelled}
 use Rattle.booking_desk.proofs.BookedLines.{booked-nothing}
 use Rattle.booking_desk.proofs.FeedRuns.{booked-written}
 use Rattle.booking_desk.proofs.feeds.take_lines.Goals as goal

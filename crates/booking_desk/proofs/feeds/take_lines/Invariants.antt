@@ -1,8 +1,4 @@
-use Rattle.std.proofs.Common.{◌≡◌, ℕ, List}
-use Rattle.line_text.specs.Lines.{ended_lines}
-use Rattle.line_text.specs.inner.line_reader.FeedRuns.{IsBetween}
-use Rattle.command_lines.specs.Limits.{feed_limits}
-use Rattle.booking_desk.specs.inner.FeedDesk.{AreSpelled, HasBooked}
+use Rattle.booking_desk.proofs.Common.{◌≡◌, ℕ, List, ended_lines, IsBetween, feed_limits, AreSpelled, HasBooked}
 use Rattle.booking_desk.proofs.feeds.take_lines.Given as goal
 
 -- the lines so far were booked

@@ -1,5 +1,4 @@
-use Rattle.booking_desk.specs.inner.Desk.{new_desk}
-use Rattle.booking_desk.specs.inner.Steps.{after_steps}
+use Rattle.booking_desk.proofs.Common.{new_desk, after_steps}
 use Rattle.booking_desk.proofs.Once.{due-booked, due-late, taken-once, unbooked-never}
 use Rattle.booking_desk.proofs.laws.bookings_are_taken_once.Goals as goal
 

@@ -1,5 +1,4 @@
-use Rattle.std.proofs.Common.{◌++◌, ◌∷◌, []}
-use Rattle.line_text.proofs.text_page.OutputLemmas.{put-two}
+use Rattle.booking_desk.proofs.Common.{◌++◌, ◌∷◌, [], put-two}
 use Rattle.booking_desk.proofs.plain_lines.put_line.Goals as goal
 
 pub returns : goal.returns

@@ -1,7 +1,4 @@
-use Rattle.std.proofs.Common.{◌≡◌, ◌++◌, ◌∷◌, [], List, ℕ, ap, subst, ◌∙◌}
-use Rattle.std.specs.Prelude.{codes, decimal}
-use Rattle.line_text.specs.inner.text_page.Output.{HasPut}
-use Rattle.line_text.proofs.text_page.OutputLemmas.{put-five}
+use Rattle.booking_desk.proofs.Common.{◌≡◌, ◌++◌, ◌∷◌, [], List, ℕ, ap, subst, ◌∙◌, codes, decimal, HasPut, put-five}
 use Rattle.booking_desk.proofs.plain_lines.put_refusal.Goals as goal
 
 pub returns : goal.returns

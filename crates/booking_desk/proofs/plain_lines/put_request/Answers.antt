@@ -1,7 +1,4 @@
-use Rattle.std.proofs.Common.{◌++◌, ◌∷◌, []}
-use Rattle.command_lines.specs.Commands.{spelling_of}
-use Rattle.line_text.proofs.text_page.OutputLemmas.{put-two}
-use Rattle.booking_desk.specs.BookText.{spelled_for}
+use Rattle.booking_desk.proofs.Common.{◌++◌, ◌∷◌, [], spelling_of, put-two, spelled_for}
 use Rattle.booking_desk.proofs.plain_lines.put_request.Goals as goal
 
 pub returns : goal.returns

@@ -1,9 +1,5 @@
-use Rattle.std.proofs.Common.{◌≡◌, List, ℕ, false, sym, ap, ◌∙◌}
-use Rattle.line_text.specs.inner.text_page.Output.{OutputState}
-use Rattle.line_text.proofs.text_page.OutputLemmas.{put-failed, put-printed}
+use Rattle.booking_desk.proofs.Common.{◌≡◌, List, ℕ, false, sym, ap, ◌∙◌, OutputState, put-failed, put-printed, spelling_of, spelled_for}
 use Rattle.line_text.proofs.text_page.PrintedPages.{printed-back}
-use Rattle.command_lines.specs.Commands.{spelling_of}
-use Rattle.booking_desk.specs.BookText.{spelled_for}
 use Rattle.booking_desk.proofs.plain_lines.put_spelling.Goals as goal
 
 pub returns-then-failed-2 : goal.returns-then-failed-2

@@ -1,17 +1,4 @@
-use Rattle.std.proofs.Common.{◌≡◌, [], refl, sym, subst, ◌∙◌, ap, ◌+◌, arith, rules}
-use Rattle.std.proofs.lemmas.List.Elements.{All-same}
-use Rattle.std.specs.Prelude.{All}
-use Rattle.ride_model.specs.Fleet.{IsFleet}
-use Rattle.ride_model.specs.Road.{RoadMap, IsRoadMap}
-use Rattle.ride_model.specs.Text.{IsSpelledCommand}
-use Rattle.ride_model.specs.Vehicle.{IsLawful}
-use Rattle.ride_model.specs.declared.vehicle.Vehicle.{Vehicle}
-use Rattle.city_maker.specs.Draws.{state_after}
-use Rattle.city_maker.specs.Feed.{draws_before}
-use Rattle.city_maker.specs.Fleets.{fleet_of, road_draws}
-use Rattle.city_maker.specs.inner.Cities.{IsOnMap}
-use Rattle.city_maker.specs.Plan.{nodes_of}
-use Rattle.city_maker.specs.Roads.{network_of}
+use Rattle.city_maker.proofs.Common.{◌≡◌, [], refl, sym, subst, ◌∙◌, ap, ◌+◌, arith, rules, All-same, All, IsFleet, RoadMap, IsRoadMap, IsSpelledCommand, IsLawful, Vehicle, state_after, draws_before, fleet_of, road_draws, IsOnMap, nodes_of, network_of}
 use Rattle.city_maker.proofs.NetworkLimits.{network-fits, network-is}
 use Rattle.city_maker.proofs.FleetLimits.{fleet-fits, fleet-lawful, fleet-idle, fleet-first_versions}
 use Rattle.city_maker.proofs.CommandLimits.{commands-spelled, commands-on_map}

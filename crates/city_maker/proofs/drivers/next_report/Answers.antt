@@ -1,4 +1,4 @@
-use Rattle.std.proofs.Common.{arith}
+use Rattle.city_maker.proofs.Common.{arith}
 use Rattle.city_maker.proofs.FirstLegs.{first-leg-le}
 use Rattle.city_maker.proofs.drivers.next_report.Goals as goal
 

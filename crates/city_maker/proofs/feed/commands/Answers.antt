@@ -1,7 +1,4 @@
-use Rattle.std.proofs.Common.{◌≡◌, ◌++◌, ◌∷◌, [], ap, ◌∙◌, arith}
-use Rattle.std.specs.List.{flat_map, range_with_len}
-use Rattle.ride_model.specs.declared.command.Command.TheVariants.{Clock}
-use Rattle.city_maker.specs.Feed.{commands_of, group_of, groups_of}
+use Rattle.city_maker.proofs.Common.{◌≡◌, ◌++◌, ◌∷◌, [], ap, ◌∙◌, arith, flat_map, range_with_len, Clock, commands_of, group_of, groups_of}
 use Rattle.city_maker.proofs.ListsOfRanges.{flat_map-pushed}
 use Rattle.city_maker.proofs.feed.commands.Goals as goal
 

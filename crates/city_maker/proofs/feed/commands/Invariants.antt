@@ -1,7 +1,4 @@
-use Rattle.std.proofs.Common.{◌≡◌, ◌*◌, min}
-use Rattle.std.specs.List.{flat_map, range_with_len}
-use Rattle.city_maker.specs.Draws.{state_after}
-use Rattle.city_maker.specs.Feed.{draws_before, group_of}
+use Rattle.city_maker.proofs.Common.{◌≡◌, ◌*◌, min, flat_map, range_with_len, state_after, draws_before, group_of}
 use Rattle.city_maker.proofs.feed.commands.Given as goal
 
 abbrev pub invariant-loop-group : goal.invariant-loop-group

@@ -1,6 +1,4 @@
-use Rattle.std.proofs.Common.{◌++◌, ◌∷◌, [], ap, ◌∙◌}
-use Rattle.ride_model.specs.declared.command.Command.TheVariants.{Clock, Ask}
-use Rattle.city_maker.specs.Feed.{clock_of, group_of, requests_in}
+use Rattle.city_maker.proofs.Common.{◌++◌, ◌∷◌, [], ap, ◌∙◌, Clock, Ask, clock_of, group_of, requests_in}
 use Rattle.city_maker.proofs.RequestLemmas.{group-appended}
 use Rattle.city_maker.proofs.feed.push_group.Goals as goal
 

@@ -1,5 +1,4 @@
-use Rattle.std.proofs.Common.{◌*◌, arith}
-use Rattle.city_maker.specs.Feed.{request_of}
+use Rattle.city_maker.proofs.Common.{◌*◌, arith, request_of}
 use Rattle.city_maker.proofs.ListsOfRanges.{map-pushed_behind}
 use Rattle.city_maker.proofs.feed.push_requests.Goals as goal
 

@@ -1,7 +1,4 @@
-use Rattle.std.proofs.Common.{◌≡◌, ◌-◌, ◌*◌, ◌++◌, map}
-use Rattle.std.specs.List.{range_with_len}
-use Rattle.city_maker.specs.Draws.{state_after}
-use Rattle.city_maker.specs.Feed.{draws_before, request_of}
+use Rattle.city_maker.proofs.Common.{◌≡◌, ◌-◌, ◌*◌, ◌++◌, map, range_with_len, state_after, draws_before, request_of}
 use Rattle.city_maker.proofs.feed.push_requests.Given as goal
 
 abbrev pub invariant-loop-before : goal.invariant-loop-before

@@ -1,4 +1,4 @@
-use Rattle.city_maker.specs.Fleets.{vehicle_of}
+use Rattle.city_maker.proofs.Common.{vehicle_of}
 use Rattle.city_maker.proofs.ListsOfRanges.{map-pushed}
 use Rattle.city_maker.proofs.fleets.vehicles.Goals as goal
 

@@ -1,7 +1,4 @@
-use Rattle.std.proofs.Common.{◌≡◌, ◌+◌, map}
-use Rattle.std.specs.List.{range_with_len}
-use Rattle.city_maker.specs.Draws.{state_after}
-use Rattle.city_maker.specs.Fleets.{road_draws, vehicle_of}
+use Rattle.city_maker.proofs.Common.{◌≡◌, ◌+◌, map, range_with_len, state_after, road_draws, vehicle_of}
 use Rattle.city_maker.proofs.fleets.vehicles.Given as goal
 
 abbrev pub invariant-loop-before : goal.invariant-loop-before

@@ -1,11 +1,4 @@
-use Rattle.std.proofs.Common.{◌≡◌, ℕ, List, [], ◌∷◌, ◌++◌, map, refl, ap, ◌∙◌}
-use Rattle.std.specs.List.{flat_map, range_with_len}
-use Rattle.std.proofs.lemmas.List.{append-nil}
-use Rattle.std.proofs.lemmas.List.Elements.{filter_map-append}
-use Rattle.ride_model.specs.declared.command.Command.{Command}
-use Rattle.ride_model.specs.declared.command.Command.TheVariants.{Request, Cancel, At, Done, On, Off, Clock, Ask, Bad}
-use Rattle.ride_model.specs.Drill.{drive}
-use Rattle.city_maker.specs.Feed.{commands_of}
+use Rattle.city_maker.proofs.Common.{◌≡◌, ℕ, List, [], ◌∷◌, ◌++◌, map, refl, ap, ◌∙◌, flat_map, range_with_len, append-nil, filter_map-append, Command, Request, Cancel, At, Done, On, Off, Clock, Ask, Bad, drive, commands_of}
 use Rattle.city_maker.specs.Steps.{steps_with, last_steps, steps_of}
 use Rattle.city_maker.specs.inner.Steps.{given, given_in}
 use Rattle.city_maker.proofs.laws.commands_are_given.Goals as goal

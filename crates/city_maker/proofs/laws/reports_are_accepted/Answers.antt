@@ -1,4 +1,4 @@
-use Rattle.std.proofs.Common.{refl}
+use Rattle.city_maker.proofs.Common.{refl}
 use Rattle.city_maker.proofs.Accepted.{report-on_time}
 use Rattle.city_maker.proofs.laws.reports_are_accepted.Goals as goal
 

@@ -1,12 +1,4 @@
-use Rattle.std.proofs.Common.{◌≡◌, ℕ, zero, suc, ◌+◌, ◌-◌, ◌*◌, min, List, [], ◌∷◌, ◌++◌, map, inl, inr, refl, sym, ap, ◌∙◌, arith}
-use Rattle.std.specs.Prelude.{filter}
-use Rattle.std.specs.List.{flat_map, range_with_len}
-use Rattle.std.proofs.lemmas.Bool.{cases_lt}
-use Rattle.std.proofs.lemmas.List.{append-nil, map-append}
-use Rattle.std.proofs.lemmas.List.Elements.{filter-append}
-use Rattle.ride_model.specs.declared.command.Command.TheVariants.{Clock, Ask}
-use Rattle.city_maker.specs.declared.plan.CityPlan.{CityPlan}
-use Rattle.city_maker.specs.Feed.{commands_of, group_of, groups_of, request_of, requests_in}
+use Rattle.city_maker.proofs.Common.{◌≡◌, ℕ, zero, suc, ◌+◌, ◌-◌, ◌*◌, min, List, [], ◌∷◌, ◌++◌, map, inl, inr, refl, sym, ap, ◌∙◌, arith, filter, flat_map, range_with_len, cases_lt, append-nil, map-append, filter-append, Clock, Ask, CityPlan, commands_of, group_of, groups_of, request_of, requests_in}
 use Rattle.city_maker.specs.inner.Feed.{is_request}
 use Rattle.city_maker.proofs.ListsOfRanges.{flat_map-range_more}
 use Rattle.city_maker.proofs.laws.requests_are_given_in_order.Goals as goal

@@ -1,5 +1,4 @@
-use Rattle.std.proofs.Common.{refl}
-use Rattle.city_maker.specs.Draws.{next_state, state_after, draw_at}
+use Rattle.city_maker.proofs.Common.{refl, next_state, state_after, draw_at}
 use Rattle.city_maker.proofs.laws.seed_1_draws_known_numbers.Goals as goal
 
 pub returns : goal.returns

@@ -1,6 +1,5 @@
-use Rattle.std.proofs.Common.{sym}
+use Rattle.city_maker.proofs.Common.{sym, pairs_in_rows}
 use Rattle.city_maker.proofs.ArcLemmas.{joined-none, joined-same, pairs_in_rows-none, pairs_in_rows-more}
-use Rattle.city_maker.specs.Roads.{pairs_in_rows}
 use Rattle.city_maker.proofs.roads.grid.Goals as goal
 
 pub loop-row-init : goal.loop-row-init

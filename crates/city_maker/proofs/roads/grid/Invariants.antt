@@ -1,5 +1,4 @@
-use Rattle.city_maker.specs.inner.Growth.{HasJoined}
-use Rattle.city_maker.specs.Roads.{pairs_in_rows}
+use Rattle.city_maker.proofs.Common.{HasJoined, pairs_in_rows}
 use Rattle.city_maker.proofs.roads.grid.Given as goal
 
 abbrev pub invariant-loop-row : goal.invariant-loop-row

@@ -1,4 +1,4 @@
-use Rattle.std.proofs.Common.{◌∙◌}
+use Rattle.command_lines.proofs.Common.{◌∙◌}
 use Rattle.command_lines.proofs.Printed.{digits_room}
 use Rattle.command_lines.proofs.printing.add_number.Goals as goal
 

@@ -1,4 +1,4 @@
-use Rattle.std.proofs.Common.{◌∙◌}
+use Rattle.command_lines.proofs.Common.{◌∙◌}
 use Rattle.command_lines.proofs.Printed.{room, more}
 use Rattle.command_lines.proofs.printing.word_and_numbers.Goals as goal
 

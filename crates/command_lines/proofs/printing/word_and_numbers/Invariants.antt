@@ -1,6 +1,4 @@
-use Rattle.std.proofs.Common.{◌≡◌, ◌∷◌}
-use Rattle.std.specs.Prelude.{map, take, decimal}
-use Rattle.std.specs.List.{join_with_byte}
+use Rattle.command_lines.proofs.Common.{◌≡◌, ◌∷◌, map, take, decimal, join_with_byte}
 use Rattle.command_lines.proofs.printing.word_and_numbers.Given as goal
 
 abbrev pub invariant-loop-number : goal.invariant-loop-number

@@ -1,6 +1,4 @@
-use Rattle.std.proofs.Common.{◌∷◌, subst, sym}
-use Rattle.std.specs.Prelude.{IfSome}
-use Rattle.ride_model.specs.Text.{IsSpelledCommand}
+use Rattle.command_lines.proofs.Common.{◌∷◌, subst, sym, IfSome, IsSpelledCommand}
 use Rattle.command_lines.proofs.Spelled.{spelled_fields}
 use Rattle.command_lines.proofs.reading.read_fields.Goals as goal
 

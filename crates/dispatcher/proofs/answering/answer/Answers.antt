@@ -1,5 +1,4 @@
-use Rattle.std.proofs.Common.{subst, ◌∙◌}
-use Rattle.dispatcher.specs.Refusals.{Says}
+use Rattle.dispatcher.proofs.Common.{subst, ◌∙◌, Says}
 use Rattle.dispatcher.proofs.Saying.{says}
 use Rattle.dispatcher.proofs.answering.answer.Goals as goal
 

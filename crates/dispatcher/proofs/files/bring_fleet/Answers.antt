@@ -1,8 +1,4 @@
-use Rattle.std.proofs.Common.{ℕ, ◌∷◌, ◌++◌, [], ap, subst, ◌∙◌}
-use Rattle.std.specs.Prelude.{string_bytes}
-use Rattle.ride_ports.specs.Contents.{given_back}
-use Rattle.ride_ports.specs.Count.{Rose}
-use Rattle.fleet_file.specs.FleetText.{fleet_format}
+use Rattle.dispatcher.proofs.Common.{ℕ, ◌∷◌, ◌++◌, [], ap, subst, ◌∙◌, string_bytes, given_back, Rose, fleet_format}
 use Rattle.dispatcher.proofs.Bringing.{asks-none, asks-one, reads-fleet-of-content}
 use Rattle.dispatcher.proofs.StopFacts.{is-fault}
 use Rattle.dispatcher.proofs.files.bring_fleet.Goals as goal

@@ -1,8 +1,4 @@
-use Rattle.std.proofs.Common.{ℕ, ◌∷◌, ◌++◌, [], ap, subst, ◌∙◌}
-use Rattle.std.specs.Prelude.{string_bytes}
-use Rattle.ride_ports.specs.Contents.{given_back}
-use Rattle.ride_ports.specs.Count.{Rose}
-use Rattle.gr_reader.specs.MapText.{map_format}
+use Rattle.dispatcher.proofs.Common.{ℕ, ◌∷◌, ◌++◌, [], ap, subst, ◌∙◌, string_bytes, given_back, Rose, map_format}
 use Rattle.dispatcher.proofs.Bringing.{asks-none, asks-one, reads-map-of-content}
 use Rattle.dispatcher.proofs.StopFacts.{is-fault}
 use Rattle.dispatcher.proofs.files.bring_map.Goals as goal

@@ -1,5 +1,4 @@
-use Rattle.std.proofs.Common.{sym, subst, ◌∙◌}
-use Rattle.ride_model.specs.Fleet.{IsFleet, MayStart}
+use Rattle.dispatcher.proofs.Common.{sym, subst, ◌∙◌, IsFleet, MayStart}
 use Rattle.fleet_league.proofs.league_session.Desks.{no-fleet, none-start}
 use Rattle.dispatcher.proofs.files.bring_second.Goals as goal
 

@@ -1,8 +1,4 @@
-use Rattle.std.proofs.Common.{sym, subst}
-use Rattle.std.specs.Prelude.{option_map, string_bytes}
-use Rattle.ride_model.specs.Fleet.{MayStart}
-use Rattle.ride_model.specs.Road.{RoadMap}
-use Rattle.std.proofs.lemmas.Result.{err_from_is_err_and}
+use Rattle.dispatcher.proofs.Common.{sym, subst, option_map, string_bytes, MayStart, RoadMap, err_from_is_err_and}
 use Rattle.dispatcher.proofs.TextRuns.{at-fleet, at-map, at-second, no-roads, texts-read}
 use Rattle.dispatcher.proofs.files.bring_texts.Goals as goal
 

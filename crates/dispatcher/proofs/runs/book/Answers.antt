@@ -1,6 +1,4 @@
-use Rattle.std.proofs.Common.{[], refl}
-use Rattle.std.specs.Prelude.{string_bytes}
-use Rattle.run_words.specs.Words.{a_booking, feed_file}
+use Rattle.dispatcher.proofs.Common.{[], refl, string_bytes, a_booking, feed_file}
 use Rattle.dispatcher.proofs.Reading.{none-read}
 use Rattle.dispatcher.proofs.Running.{any-text, work-run}
 use Rattle.dispatcher.proofs.TextRuns.{nothing}

@@ -1,6 +1,4 @@
-use Rattle.std.proofs.Common.{[], ◌∷◌, refl}
-use Rattle.std.specs.Prelude.{string_bytes}
-use Rattle.run_words.specs.Words.{a_league, feed_file, map_file, fleet_file, second_fleet_file}
+use Rattle.dispatcher.proofs.Common.{[], ◌∷◌, refl, string_bytes, a_league, feed_file, map_file, fleet_file, second_fleet_file}
 use Rattle.dispatcher.proofs.Running.{any-text, stopped-run, work-run}
 use Rattle.dispatcher.proofs.runs.league.Goals as goal
 

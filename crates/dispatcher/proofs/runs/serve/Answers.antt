@@ -1,6 +1,4 @@
-use Rattle.std.proofs.Common.{[], ◌∷◌, refl}
-use Rattle.std.specs.Prelude.{string_bytes}
-use Rattle.run_words.specs.Words.{a_service, feed_file, fleet_file, map_file}
+use Rattle.dispatcher.proofs.Common.{[], ◌∷◌, refl, string_bytes, a_service, feed_file, fleet_file, map_file}
 use Rattle.dispatcher.proofs.Running.{stopped-run}
 use Rattle.dispatcher.proofs.ServiceRuns.{serve-run}
 use Rattle.dispatcher.proofs.runs.serve.Goals as goal

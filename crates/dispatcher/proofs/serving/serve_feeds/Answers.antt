@@ -1,13 +1,5 @@
-use Rattle.std.proofs.Common.{ℕ, inl, inr, Option, ◌∷◌, ◌++◌, [], refl, ap, sym, subst, ◌∙◌, arith}
-use Rattle.std.specs.Prelude.{string_bytes}
-use Rattle.std.proofs.lemmas.List.{append_assoc}
-use Rattle.ride_ports.specs.Contents.{Contents, given_back}
-use Rattle.ride_ports.specs.inner.Contents.{IsContentOf}
-use Rattle.ride_ports.specs.Count.{Rose}
-use Rattle.ride_ports.proofs.ByteLemmas.{Reads-none}
+use Rattle.dispatcher.proofs.Common.{ℕ, inl, inr, Option, ◌∷◌, ◌++◌, [], refl, ap, sym, subst, ◌∙◌, arith, string_bytes, append_assoc, Contents, given_back, IsContentOf, Rose, Reads-none, feed_run, meaning_of}
 use Rattle.ride_ports.proofs.CountLemmas.{Rose-then_kept, Rose-after_kept}
-use Rattle.live_sessions.specs.inner.Serving.{feed_run}
-use Rattle.dispatcher.specs.inner.Readings.{meaning_of}
 use Rattle.dispatcher.proofs.Bringing.{bytes-of, left-of, left-of-content}
 use Rattle.dispatcher.proofs.ServedFeeds.{drivers-taken, one-of-two, riders-taken, served-of}
 use Rattle.dispatcher.proofs.Statuses.{sink-status, source-status, whole-status}

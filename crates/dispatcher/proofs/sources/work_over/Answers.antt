@@ -1,8 +1,4 @@
-use Rattle.std.proofs.Common.{ℕ, inl, inr, ◌∷◌, ◌++◌, [], refl, ap, subst, ◌∙◌}
-use Rattle.std.specs.Prelude.{string_bytes}
-use Rattle.ride_ports.specs.Contents.{given_back}
-use Rattle.ride_ports.specs.Count.{Rose}
-use Rattle.live_sessions.specs.inner.Serving.{feed_run}
+use Rattle.dispatcher.proofs.Common.{ℕ, inl, inr, ◌∷◌, ◌++◌, [], refl, ap, subst, ◌∙◌, string_bytes, given_back, Rose, feed_run}
 use Rattle.dispatcher.proofs.Bringing.{bytes-of, left-of, left-of-content}
 use Rattle.dispatcher.proofs.Working.{rose-above}
 use Rattle.dispatcher.proofs.sources.work_over.Goals as goal

@@ -1,5 +1,4 @@
-use Rattle.std.proofs.Common.{◌≤◌, ◌+◌, ◌<◌, ℕ, length, slice_index_or, None, IfSome, MatchBool}
-use Rattle.dual_check.specs.Grid.{price_at}
+use Rattle.dual_check.proofs.Common.{◌≤◌, ◌+◌, ◌<◌, ℕ, length, slice_index_or, None, IfSome, MatchBool, price_at}
 use Rattle.dual_check.proofs.amounts.are_cells_covered.Given as goal
 
 -- whether the price is at most the amounts and payments so far

@@ -1,8 +1,4 @@
-use Rattle.std.proofs.Common.{◌∙◌, ap, subst, sym, eqb, rules}
-use Rattle.std.specs.Prelude.{MatchBool}
-use Rattle.std.specs.List.{IsDistinct}
-use Rattle.ride_model.specs.Vehicle.{ride_ids}
-use Rattle.batch_commit.specs.inner.Answer.{CertifiesOverCells}
+use Rattle.dual_check.proofs.Common.{◌∙◌, ap, subst, sym, eqb, rules, MatchBool, IsDistinct, ride_ids, CertifiesOverCells}
 use Rattle.dual_check.proofs.PairingParts.{decided-like}
 use Rattle.dual_check.proofs.SeatPlaces.{seats-of-fleet}
 use Rattle.dual_check.proofs.OverMaps.{certified-over-map, certified-over-cells}

@@ -1,7 +1,4 @@
-use Rattle.std.proofs.Common.{ℕ, ◌∙◌, sym, ap, subst}
-use Rattle.std.specs.Prelude.{MatchBool}
-use Rattle.dual_check.specs.Grid.{CertifiesPairing}
-use Rattle.dual_check.specs.inner.Costs.{cost_grid}
+use Rattle.dual_check.proofs.Common.{ℕ, ◌∙◌, sym, ap, subst, MatchBool, CertifiesPairing, cost_grid}
 use Rattle.dual_check.proofs.SpreadChecks.{in-order-all, HaveIds, decided-by-pairing}
 use Rattle.dual_check.proofs.batch_check.certifies_over_cells.Goals as goal
 

@@ -1,6 +1,4 @@
-use Rattle.std.proofs.Common.{◌<◌, ℕ}
-use Rattle.dual_check.specs.Grid.{price_at}
-use Rattle.dual_check.specs.inner.Parts.{CoversRow}
+use Rattle.dual_check.proofs.Common.{◌<◌, ℕ, price_at, CoversRow}
 use Rattle.dual_check.proofs.certificates.are_rows_covered.Given as goal
 
 -- the prices of the rows so far are at most the amounts and payments

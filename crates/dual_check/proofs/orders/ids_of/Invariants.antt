@@ -1,4 +1,4 @@
-use Rattle.std.proofs.Common.{◌≡◌, take, map}
+use Rattle.dual_check.proofs.Common.{◌≡◌, take, map}
 use Rattle.dual_check.proofs.orders.ids_of.Given as goal
 
 -- the ids so far

@@ -1,4 +1,4 @@
-use Rattle.std.proofs.Common.{sym, ◌∙◌}
+use Rattle.dual_check.proofs.Common.{sym, ◌∙◌}
 use Rattle.dual_check.proofs.ItemOrders.{taken-none, taken-one, taken-no, taken-all, taken-not_all}
 use Rattle.dual_check.proofs.orders.items_by_id.Goals as goal
 use Rattle.dual_check.proofs.orders.items_by_id.Goals.{then-is_some, else-is_some}

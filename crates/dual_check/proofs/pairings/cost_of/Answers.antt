@@ -1,5 +1,4 @@
-use Rattle.std.proofs.Common.{arith}
-use Rattle.dual_check.specs.Grid.{row_cost, column_of}
+use Rattle.dual_check.proofs.Common.{arith, row_cost, column_of}
 use Rattle.dual_check.proofs.PairingParts.{sum_by-range-more}
 use Rattle.dual_check.proofs.pairings.cost_of.Goals as goal
 

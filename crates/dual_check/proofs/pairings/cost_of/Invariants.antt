@@ -1,6 +1,5 @@
-use Rattle.std.proofs.Common.{◌≡◌, ◌≤◌, ◌*◌, ◌^◌, sum_by}
-use Rattle.std.specs.List.{range_with_len}
-use Rattle.dual_check.specs.Grid.{row_cost, column_of}
+use Rattle.dual_check.proofs.Common.{◌≡◌, ◌≤◌, ◌*◌, ◌^◌, range_with_len, row_cost, column_of}
+use Rattle.std.proofs.Common.{sum_by}
 use Rattle.dual_check.proofs.pairings.cost_of.Given as goal
 
 -- the cost of the rows so far

@@ -1,5 +1,4 @@
-use Rattle.std.proofs.Common.{◌≡◌, ◌<◌, ℕ, Some}
-use Rattle.dual_check.specs.Grid.{column_of}
+use Rattle.dual_check.proofs.Common.{◌≡◌, ◌<◌, ℕ, Some, column_of}
 use Rattle.dual_check.proofs.pairings.has_column.Given as goal
 
 -- none of the rows so far has the column

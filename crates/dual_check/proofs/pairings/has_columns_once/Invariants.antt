@@ -1,6 +1,4 @@
-use Rattle.std.proofs.Common.{◌<◌, ℕ, take}
-use Rattle.dual_check.specs.Grid.{column_of}
-use Rattle.dual_check.specs.inner.Parts.{IsFree}
+use Rattle.dual_check.proofs.Common.{◌<◌, ℕ, take, column_of, IsFree}
 use Rattle.dual_check.proofs.pairings.has_columns_once.Given as goal
 
 -- the columns of the rows so far are of none of the rows before

@@ -1,6 +1,4 @@
-use Rattle.std.proofs.Common.{◌<◌, ℕ}
-use Rattle.dual_check.specs.Grid.{column_of}
-use Rattle.dual_check.specs.inner.Parts.{StandsInCell}
+use Rattle.dual_check.proofs.Common.{◌<◌, ℕ, column_of, StandsInCell}
 use Rattle.dual_check.proofs.pairings.stands_in_cells.Given as goal
 
 -- the columns of the rows so far have amounts there

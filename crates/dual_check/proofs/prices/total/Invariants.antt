@@ -1,4 +1,4 @@
-use Rattle.std.proofs.Common.{◌≡◌, ◌≤◌, ◌*◌, ◌^◌, sum, take}
+use Rattle.dual_check.proofs.Common.{◌≡◌, ◌≤◌, ◌*◌, ◌^◌, sum, take}
 use Rattle.dual_check.proofs.prices.total.Given as goal
 
 -- the sum so far

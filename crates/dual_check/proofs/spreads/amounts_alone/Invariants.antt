@@ -1,5 +1,4 @@
-use Rattle.std.proofs.Common.{◌≡◌, take, map}
-use Rattle.dual_check.specs.inner.Costs.{amount_alone}
+use Rattle.dual_check.proofs.Common.{◌≡◌, take, map, amount_alone}
 use Rattle.dual_check.proofs.spreads.amounts_alone.Given as goal
 
 -- the amounts so far

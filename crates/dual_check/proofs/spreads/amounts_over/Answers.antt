@@ -1,6 +1,4 @@
-use Rattle.std.proofs.Common.{ℕ, map, ap, ◌∙◌}
-use Rattle.dual_check.specs.inner.Orders.{item_of}
-use Rattle.dual_check.specs.inner.Costs.{amount_alone}
+use Rattle.dual_check.proofs.Common.{ℕ, map, ap, ◌∙◌, item_of, amount_alone}
 use Rattle.dual_check.proofs.ItemOrders.{map-map}
 use Rattle.dual_check.proofs.spreads.amounts_over.Goals as goal
 

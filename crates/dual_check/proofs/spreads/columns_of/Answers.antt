@@ -1,7 +1,4 @@
-use Rattle.std.proofs.Common.{map, ap, ◌∙◌}
-use Rattle.ride_model.specs.declared.offer.Seat.{Seat}
-use Rattle.dual_check.specs.inner.Orders.{item_of}
-use Rattle.dual_check.specs.inner.Costs.{seat_place}
+use Rattle.dual_check.proofs.Common.{map, ap, ◌∙◌, Seat, item_of, seat_place}
 use Rattle.dual_check.proofs.ItemOrders.{map-map}
 use Rattle.dual_check.proofs.spreads.columns_of.Goals as goal
 

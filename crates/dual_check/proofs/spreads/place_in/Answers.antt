@@ -1,4 +1,4 @@
-use Rattle.std.proofs.Common.{◌==◌, ◌∙◌, ap, unwrap_or, rules, tests}
+use Rattle.dual_check.proofs.Common.{◌==◌, ◌∙◌, ap, unwrap_or, rules, tests}
 use Rattle.std.proofs.lemmas.Iterator.{YieldsList-from_slice}
 use Rattle.std.proofs.lemmas.Iterator.Search.{position_from_yields_List}
 use Rattle.dual_check.proofs.spreads.place_in.Goals as goal

@@ -1,5 +1,4 @@
-use Rattle.std.proofs.Common.{◌≡◌, take, map}
-use Rattle.dual_check.specs.inner.Costs.{seat_place}
+use Rattle.dual_check.proofs.Common.{◌≡◌, take, map, seat_place}
 use Rattle.dual_check.proofs.spreads.places_of.Given as goal
 
 -- the places so far

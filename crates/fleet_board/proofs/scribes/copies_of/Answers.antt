@@ -1,6 +1,4 @@
-use Rattle.std.proofs.Common.{◌≡◌, ◌+◌, ◌-◌, length, take, drop, ◌∙◌, arith}
-use Rattle.std.specs.Prelude.{min}
-use Rattle.std.proofs.lemmas.List.{take_all}
+use Rattle.fleet_board.proofs.Common.{◌≡◌, ◌+◌, ◌-◌, length, take, drop, ◌∙◌, arith, min, take_all}
 use Rattle.fleet_board.proofs.Tails.{slice-tail}
 use Rattle.fleet_board.proofs.scribes.copies_of.Goals as goal
 

@@ -1,4 +1,4 @@
-use Rattle.std.proofs.Common.{◌≡◌, take}
+use Rattle.fleet_board.proofs.Common.{◌≡◌, take}
 use Rattle.fleet_board.proofs.scribes.copies_of.Given as goal
 
 abbrev pub invariant-loop-entry : goal.invariant-loop-entry

@@ -1,6 +1,5 @@
-use Rattle.std.proofs.Common.{refl, sym}
+use Rattle.fleet_file.proofs.Common.{refl, sym, fleet_text}
 use Rattle.fleet_file.proofs.NamedLemmas.{fleet_text-no_memory, fleet_text-no_fault}
-use Rattle.fleet_file.specs.FleetText.{fleet_text}
 use Rattle.fleet_file.proofs.laws.a_text_has_one_answer.Goals as goal
 
 pub returns-clause-no_memory : goal.returns-clause-no_memory

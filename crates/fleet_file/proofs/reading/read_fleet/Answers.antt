@@ -1,5 +1,4 @@
-use Rattle.std.proofs.Common.{◌≡◌, Bool, Ok, Err, refl, ap, sym, subst, ◌∙◌}
-use Rattle.ride_model.specs.declared.settings.Settings.{Settings}
+use Rattle.fleet_file.proofs.Common.{◌≡◌, Bool, Ok, Err, refl, ap, sym, subst, ◌∙◌, Settings}
 use Rattle.ride_ports.specs.Count.{KeepsCount}
 use Rattle.fleet_file.proofs.ReadLemmas.{taken-nothing, taken-text, told-line, told-too_long, line-no_fault, not-fault}
 use Rattle.fleet_file.proofs.LawfulFleets.{fleet-may_start}

@@ -1,14 +1,4 @@
-use Rattle.std.proofs.Common.{◌≡◌, ◌+◌, [], ◌∷◌, ◌++◌, length, sym, ap, ◌∙◌, arith}
-use Rattle.std.proofs.Math.Seq.{take-append_seam}
-use Rattle.ride_model.specs.declared.command.Actor.TheVariants.{Feed}
-use Rattle.ride_model.specs.declared.command.Command.TheVariants.{Ask}
-use Rattle.ride_model.specs.declared.entry.Entry.{Entry}
-use Rattle.ride_model.specs.declared.entry.Event.TheVariants.{Fed}
-use Rattle.ride_model.specs.declared.reply.Reply.TheVariants.{Asked}
-use Rattle.ride_model.specs.State.{State}
-use Rattle.board_core.specs.Recorded.{Recorded, state_of}
-use Rattle.fleet_league.specs.Awards.{request_entries}
-use Rattle.fleet_league.specs.inner.Awarding.{requested_state}
+use Rattle.fleet_league.proofs.Common.{◌≡◌, ◌+◌, [], ◌∷◌, ◌++◌, length, sym, ap, ◌∙◌, arith, take-append_seam, Feed, Ask, Entry, Fed, Asked, State, Recorded, state_of, request_entries, requested_state}
 use Rattle.fleet_league.proofs.Outcomes.{on_err}
 use Rattle.fleet_league.proofs.WinsAsked.{none-ended, cut-longer, fed-requested, requested-board, asking-are}
 use Rattle.fleet_league.proofs.asking.ask.Goals as goal

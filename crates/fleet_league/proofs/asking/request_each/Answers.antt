@@ -1,8 +1,4 @@
-use Rattle.std.proofs.Common.{◌≡◌, [], ◌∷◌, ◌++◌, sym, ap, subst, ◌∙◌}
-use Rattle.ride_model.specs.declared.command.Command.{Command}
-use Rattle.ride_model.specs.Text.{IsSpelledCommand}
-use Rattle.board_core.specs.Recorded.{Recorded, state_of}
-use Rattle.board_core.specs.inner.Recorded.{fed_entry}
+use Rattle.fleet_league.proofs.Common.{◌≡◌, [], ◌∷◌, ◌++◌, sym, ap, subst, ◌∙◌, Command, IsSpelledCommand, Recorded, state_of, fed_entry}
 use Rattle.fleet_league.proofs.Outcomes.{on_err}
 use Rattle.fleet_league.proofs.WinsAsked.{next-spelled, requested-more, requests-cut}
 use Rattle.fleet_league.proofs.asking.request_each.Goals as goal

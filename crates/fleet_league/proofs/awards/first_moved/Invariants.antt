@@ -1,5 +1,4 @@
-use Rattle.std.proofs.Common.{◌≡◌, drop}
-use Rattle.fleet_league.specs.inner.Awards.{first_moved}
+use Rattle.fleet_league.proofs.Common.{◌≡◌, drop, first_moved}
 use Rattle.fleet_league.proofs.awards.first_moved.Given as goal
 
 -- those so far have not moved

@@ -1,14 +1,4 @@
-use Rattle.std.proofs.Common.{inl, [], ◌∷◌, ◌++◌, length, Ok, sym, ap, subst, ◌∙◌, arith}
-use Rattle.std.proofs.lemmas.List.{take_all}
-use Rattle.ride_model.specs.declared.command.Actor.TheVariants.{Desk}
-use Rattle.ride_model.specs.Road.{RoadMap}
-use Rattle.ride_model.specs.Seating.{BatchCopy}
-use Rattle.ride_model.specs.State.{State}
-use Rattle.batch_commit.specs.inner.Table.{IsTableOf}
-use Rattle.board_core.specs.Recorded.{Recorded, state_of}
-use Rattle.board_core.specs.inner.Recorded.{abandoned_entry}
-use Rattle.fleet_league.specs.Awards.{asking_entries}
-use Rattle.fleet_league.specs.inner.Awarding.{won_batch}
+use Rattle.fleet_league.proofs.Common.{inl, [], ◌∷◌, ◌++◌, length, Ok, sym, ap, subst, ◌∙◌, arith, take_all, Desk, RoadMap, BatchCopy, State, IsTableOf, Recorded, state_of, abandoned_entry, asking_entries, won_batch}
 use Rattle.fleet_league.proofs.Awarded.{IsOpened, opened-award, opens-some, asked-facts, cut-none_open, award-table, award-won, award-open, IsCommitOf, commit-adds, commit-idle, gives-up}
 use Rattle.fleet_league.proofs.Legality.{IsLegalBoard}
 use Rattle.fleet_league.proofs.Outcomes.{on_err}

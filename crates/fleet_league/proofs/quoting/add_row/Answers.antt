@@ -1,7 +1,4 @@
-use Rattle.std.proofs.Common.{[], ◌∷◌, ◌++◌, sym, ap, ◌∙◌, arith, append_assoc}
-use Rattle.std.proofs.lemmas.List.FromFn.{map-range_with_len_more}
-use Rattle.batch_commit.specs.inner.Table.{cell_at}
-use Rattle.fleet_league.specs.inner.Quoting.{cost_in, cost_row}
+use Rattle.fleet_league.proofs.Common.{[], ◌∷◌, ◌++◌, sym, ap, ◌∙◌, arith, append_assoc, map-range_with_len_more, cell_at, cost_in, cost_row}
 use Rattle.fleet_league.proofs.quoting.add_row.Goals as goal
 
 pub loop-vehicle-preserved : goal.loop-vehicle-preserved

@@ -1,5 +1,4 @@
-use Rattle.std.proofs.Common.{◌≡◌, ◌++◌}
-use Rattle.fleet_league.specs.inner.Quoting.{cost_row}
+use Rattle.fleet_league.proofs.Common.{◌≡◌, ◌++◌, cost_row}
 use Rattle.fleet_league.proofs.quoting.add_row.Given as goal
 
 -- the costs of the vehicles so far are added

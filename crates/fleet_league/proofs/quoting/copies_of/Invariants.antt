@@ -1,4 +1,4 @@
-use Rattle.std.proofs.Common.{◌≡◌, take}
+use Rattle.fleet_league.proofs.Common.{◌≡◌, take}
 use Rattle.fleet_league.proofs.quoting.copies_of.Given as goal
 
 -- those so far are copied

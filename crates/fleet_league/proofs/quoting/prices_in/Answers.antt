@@ -1,8 +1,4 @@
-use Rattle.std.proofs.Common.{◌≡◌, ◌*◌, ◌++◌, List, length, sym, ap, ◌∙◌, arith}
-use Rattle.std.specs.List.{flat_map, range_with_len}
-use Rattle.ride_model.specs.declared.vehicle.Ride.{Ride}
-use Rattle.ride_model.specs.declared.vehicle.Vehicle.{Vehicle}
-use Rattle.fleet_league.specs.inner.Quoting.{cost_row}
+use Rattle.fleet_league.proofs.Common.{◌≡◌, ◌*◌, ◌++◌, List, length, sym, ap, ◌∙◌, arith, flat_map, range_with_len, Ride, Vehicle, cost_row}
 use Rattle.fleet_league.proofs.PricedRows.{flat-more, length-rows, rows-are}
 use Rattle.fleet_league.proofs.quoting.prices_in.Goals as goal
 

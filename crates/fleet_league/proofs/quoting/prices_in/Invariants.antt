@@ -1,6 +1,4 @@
-use Rattle.std.proofs.Common.{◌≡◌, length}
-use Rattle.std.specs.List.{flat_map, range_with_len}
-use Rattle.fleet_league.specs.inner.Quoting.{cost_row}
+use Rattle.fleet_league.proofs.Common.{◌≡◌, length, flat_map, range_with_len, cost_row}
 use Rattle.fleet_league.proofs.quoting.prices_in.Given as goal
 
 -- the rows so far are added

@@ -1,12 +1,5 @@
-use Rattle.std.proofs.Common.{◌≡◌, List, length, ap, ◌∙◌}
-use Rattle.std.proofs.lemmas.Result.{IfOk-weaker}
-use Rattle.ride_model.specs.declared.vehicle.Vehicle.{Vehicle}
-use Rattle.ride_model.specs.Seating.{vehicle_ids}
-use Rattle.ride_model.specs.Vehicle.{ride_ids}
+use Rattle.fleet_league.proofs.Common.{◌≡◌, List, length, ap, ◌∙◌, IfOk-weaker, Vehicle, vehicle_ids, ride_ids, seats_by, Win, won_rides, won_columns}
 use Rattle.batch_commit.specs.declared.answers.Answer.{Answer}
-use Rattle.hungarian.specs.inner.Seats.{seats_by}
-use Rattle.fleet_league.specs.declared.briefs.Win.{Win}
-use Rattle.fleet_league.specs.Awards.{won_rides, won_columns}
 use Rattle.fleet_league.proofs.seating.answer_by.Goals as goal
 
 pub returns-clause-seats : goal.returns-clause-seats

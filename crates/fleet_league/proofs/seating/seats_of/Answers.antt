@@ -1,13 +1,4 @@
-use Rattle.std.proofs.Common.{◌≡◌, ℕ, sym, ap, ◌∙◌}
-use Rattle.std.specs.Prelude.{Option}
-use Rattle.model_laws.proofs.plain.Options.{none_from_not_some}
-use Rattle.ride_model.specs.declared.offer.Seat.{Seat}
-use Rattle.ride_model.specs.Seating.{vehicle_ids}
-use Rattle.ride_model.specs.Vehicle.{ride_ids}
-use Rattle.dual_check.specs.Grid.{column_of}
-use Rattle.hungarian.specs.inner.Seats.{seat_at}
-use Rattle.hungarian.proofs.Gathering.{gathered-some, gathered-none}
-use Rattle.fleet_league.specs.Awards.{won_rides, won_columns}
+use Rattle.fleet_league.proofs.Common.{◌≡◌, ℕ, sym, ap, ◌∙◌, Option, none_from_not_some, Seat, vehicle_ids, ride_ids, column_of, seat_at, gathered-some, gathered-none, won_rides, won_columns}
 use Rattle.fleet_league.proofs.CertifiedWins.{row-id, row-column}
 use Rattle.fleet_league.proofs.seating.seats_of.Goals as goal
 use Rattle.fleet_league.proofs.seating.seats_of.Goals.{in-Some+in_ok-push, in_default}

@@ -1,8 +1,4 @@
-use Rattle.std.proofs.Common.{◌≡◌}
-use Rattle.ride_model.specs.Seating.{vehicle_ids}
-use Rattle.ride_model.specs.Vehicle.{ride_ids}
-use Rattle.hungarian.specs.inner.Seats.{seats_by}
-use Rattle.fleet_league.specs.Awards.{won_rides, won_columns}
+use Rattle.fleet_league.proofs.Common.{◌≡◌, vehicle_ids, ride_ids, seats_by, won_rides, won_columns}
 use Rattle.fleet_league.proofs.seating.seats_of.Given as goal
 
 -- the seats of the wins so far

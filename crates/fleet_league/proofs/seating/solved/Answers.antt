@@ -1,7 +1,4 @@
-use Rattle.std.proofs.Common.{subst, sym}
-use Rattle.ride_model.specs.Fleet.{IsFleet}
-use Rattle.batch_commit.specs.inner.Solved.{SolvedBatch}
-use Rattle.fleet_league.specs.Awards.{AreSeatsOf}
+use Rattle.fleet_league.proofs.Common.{subst, sym, IsFleet, SolvedBatch, AreSeatsOf}
 use Rattle.fleet_league.proofs.CertifiedWins.{IsPriced, certified-wins, seats-are}
 use Rattle.fleet_league.proofs.seating.solved.Goals as goal
 

@@ -1,5 +1,4 @@
-use Rattle.std.proofs.Common.{◌≡◌, ◌+◌, ◌<◌, ◌≤◌}
-use Rattle.fleet_league.specs.inner.Filling.{ChangesOnly}
+use Rattle.fleet_league.proofs.Common.{◌≡◌, ◌+◌, ◌<◌, ◌≤◌, ChangesOnly}
 use Rattle.fleet_league.proofs.UnionFilling.{HasPrices}
 use Rattle.fleet_league.proofs.unions.fill_row.Given as goal
 

@@ -1,10 +1,4 @@
-use Rattle.std.proofs.Common.{◌≡◌, ◌+◌, ◌<◌, ◌∙◌, sym, subst, ap, arith, length}
-use Rattle.std.specs.Prelude.{All}
-use Rattle.std.proofs.lemmas.List.{length-map}
-use Rattle.std.proofs.lemmas.Option.{get_or_from_slice_get}
-use Rattle.dual_check.specs.Cells.{GridCells}
-use Rattle.fleet_league.specs.declared.quotes.Quote.{Quote}
-use Rattle.fleet_league.specs.Round.{company_prices}
+use Rattle.fleet_league.proofs.Common.{◌≡◌, ◌+◌, ◌<◌, ◌∙◌, sym, subst, ap, arith, length, All, length-map, get_or_from_slice_get, GridCells, Quote, company_prices}
 use Rattle.fleet_league.proofs.UnionFilling.{IsUnionSoFar, prices-at, rows-all, sum-prices, union-all, union-more, union-none, union-room}
 use Rattle.fleet_league.proofs.unions.union_of.Goals as goal
 

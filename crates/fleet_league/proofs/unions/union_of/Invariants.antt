@@ -1,4 +1,4 @@
-use Rattle.fleet_league.specs.Round.{company_prices}
+use Rattle.fleet_league.proofs.Common.{company_prices}
 use Rattle.fleet_league.proofs.UnionFilling.{IsUnionSoFar}
 use Rattle.fleet_league.proofs.unions.union_of.Given as goal
 

@@ -1,5 +1,5 @@
-use Rattle.std.proofs.Common.{◌≡◌, ◌*◌, ◌≤◌, take, sum_by}
-use Rattle.fleet_league.specs.declared.quotes.Quote.{Quote}
+use Rattle.fleet_league.proofs.Common.{◌≡◌, ◌*◌, ◌≤◌, take, Quote}
+use Rattle.std.proofs.Common.{sum_by}
 use Rattle.fleet_league.proofs.unions.vehicles_of.Given as goal
 
 -- the vehicles of the companies so far

@@ -1,5 +1,4 @@
-use Rattle.std.proofs.Common.{◌≡◌, sym, subst}
-use Rattle.fleet_league.specs.inner.Filling.{ChangesOnly}
+use Rattle.fleet_league.proofs.Common.{◌≡◌, sym, subst, ChangesOnly}
 use Rattle.fleet_league.proofs.UnionFilling.{changes-cell}
 use Rattle.fleet_league.proofs.unions.write_cell.Goals as goal
 

@@ -1,5 +1,4 @@
-use Rattle.std.proofs.Common.{◌≡◌, ◌++◌}
-use Rattle.fleet_league.specs.inner.Quoting.{offer_row}
+use Rattle.fleet_league.proofs.Common.{◌≡◌, ◌++◌, offer_row}
 use Rattle.fleet_league.proofs.won_tables.add_offers.Given as goal
 
 -- the offers of the vehicles so far are added

@@ -1,6 +1,4 @@
-use Rattle.std.proofs.Common.{ℕ, ◌<◌, ◌++◌, length, sym, ap, subst, ◌∙◌, arith}
-use Rattle.std.proofs.lemmas.List.{take_all}
-use Rattle.fleet_league.specs.inner.Quoting.{offer_row}
+use Rattle.fleet_league.proofs.Common.{ℕ, ◌<◌, ◌++◌, length, sym, ap, subst, ◌∙◌, arith, take_all, offer_row}
 use Rattle.fleet_league.proofs.WonTables.{length-won, row-within, table-of-won, won-more, won_offers}
 use Rattle.fleet_league.proofs.won_tables.table_of_won.Goals as goal
 

@@ -1,4 +1,4 @@
-use Rattle.std.proofs.Common.{◌≡◌, take}
+use Rattle.fleet_league.proofs.Common.{◌≡◌, take}
 use Rattle.fleet_league.proofs.WonTables.{won_offers}
 use Rattle.fleet_league.proofs.won_tables.table_of_won.Given as goal
 

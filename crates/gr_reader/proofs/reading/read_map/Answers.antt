@@ -1,4 +1,4 @@
-use Rattle.std.proofs.Common.{◌≡◌, Bool, Err, ap, sym, subst}
+use Rattle.gr_reader.proofs.Common.{◌≡◌, Bool, Err, ap, sym, subst}
 use Rattle.ride_ports.specs.Count.{KeepsCount}
 use Rattle.gr_reader.proofs.ReadLemmas.{taken-nothing, told-line, told-too_long, line-no_fault, not-fault}
 use Rattle.gr_reader.proofs.reading.read_map.Goals as goal

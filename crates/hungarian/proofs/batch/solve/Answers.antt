@@ -1,15 +1,5 @@
-use Rattle.std.proofs.Common.{length, eqb, sym, ap, ◌∙◌, subst}
-use Rattle.std.specs.List.{IsDistinct}
-use Rattle.std.proofs.lemmas.Result.{IfOk-weaker}
-use Rattle.ride_model.specs.declared.settings.Settings.{Settings}
-use Rattle.ride_model.specs.Road.{RoadMap}
-use Rattle.ride_model.specs.Vehicle.{ride_ids}
-use Rattle.ride_model.specs.Seating.{vehicle_ids, IsLeastSeating}
-use Rattle.batch_commit.specs.inner.Table.{IsTableOf}
+use Rattle.hungarian.proofs.Common.{length, eqb, sym, ap, ◌∙◌, subst, IsDistinct, IfOk-weaker, Settings, RoadMap, ride_ids, vehicle_ids, IsLeastSeating, IsTableOf, CertifiesOverCells, prices_by, pays_by, seats_by}
 use Rattle.batch_commit.specs.declared.answers.Answer.{Answer}
-use Rattle.batch_commit.specs.inner.Answer.{CertifiesOverCells}
-use Rattle.hungarian.specs.Seats.{prices_by, pays_by}
-use Rattle.hungarian.specs.inner.Seats.{seats_by}
 use Rattle.hungarian.proofs.BatchCertificates.{solved-certified, solved-least}
 use Rattle.hungarian.proofs.batch.solve.Goals as goal
 

@@ -1,8 +1,5 @@
-use Rattle.std.proofs.Common.{◌≡◌, ℕ, ◌*◌, ◌<◌, ◌≤◌, length}
-use Rattle.std.specs.Prelude.{None}
+use Rattle.hungarian.proofs.Common.{◌≡◌, ℕ, ◌*◌, ◌<◌, ◌≤◌, length, None, cell_at, cost_of}
 use Rattle.batch_commit.specs.inner.Table.{cell_at as offer_at}
-use Rattle.dual_check.specs.Cells.{cell_at}
-use Rattle.hungarian.specs.inner.Costs.{cost_of}
 use Rattle.hungarian.proofs.costs.cost_grid.Given as goal
 
 -- the rows so far were written

@@ -1,5 +1,4 @@
-use Rattle.std.proofs.Common.{◌≡◌, ◌+◌, inl, inr, sym, ◌∙◌, subst, arith}
-use Rattle.std.specs.Prelude.{None}
+use Rattle.hungarian.proofs.Common.{◌≡◌, ◌+◌, inl, inr, sym, ◌∙◌, subst, arith, None}
 use Rattle.hungarian.proofs.Mated.{cases_mate}
 use Rattle.hungarian.proofs.Filling.{IsFilling, filling-none, filling-some}
 use Rattle.hungarian.proofs.costs.fill_row.Goals as goal

@@ -1,6 +1,4 @@
-use Rattle.std.proofs.Common.{◌≡◌, ℕ, ◌<◌, ◌≤◌, get_or}
-use Rattle.std.specs.Prelude.{None}
-use Rattle.hungarian.specs.inner.Ways.{IsShortened, IsNearest}
+use Rattle.hungarian.proofs.Common.{◌≡◌, ℕ, ◌<◌, ◌≤◌, get_or, None, IsShortened, IsNearest}
 use Rattle.hungarian.proofs.relaxing.relax.Given as goal
 
 -- the columns so far were relaxed, and the others are as they were

@@ -1,11 +1,4 @@
-use Rattle.std.proofs.Common.{◌≡◌, ℕ, sym, ap, ◌∙◌}
-use Rattle.std.specs.Prelude.{Option}
-use Rattle.std.proofs.lemmas.List.{get_or-map}
-use Rattle.model_laws.proofs.plain.Options.{none_from_not_some}
-use Rattle.ride_model.specs.declared.vehicle.Vehicle.{Vehicle}
-use Rattle.ride_model.specs.Seating.{vehicle_ids}
-use Rattle.dual_check.specs.Grid.{price_at}
-use Rattle.hungarian.specs.Seats.{pay_at}
+use Rattle.hungarian.proofs.Common.{◌≡◌, ℕ, sym, ap, ◌∙◌, Option, get_or-map, none_from_not_some, Vehicle, vehicle_ids, price_at, pay_at}
 use Rattle.hungarian.proofs.Gathering.{gathered-some, gathered-none}
 use Rattle.hungarian.proofs.seating.pays_by.Goals as goal
 use Rattle.hungarian.proofs.seating.pays_by.Goals.{in-Some+in_ok-push, in_default}

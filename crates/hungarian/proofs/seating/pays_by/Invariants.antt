@@ -1,6 +1,4 @@
-use Rattle.std.proofs.Common.{◌≡◌}
-use Rattle.ride_model.specs.Seating.{vehicle_ids}
-use Rattle.hungarian.specs.Seats.{pays_by}
+use Rattle.hungarian.proofs.Common.{◌≡◌, vehicle_ids, pays_by}
 use Rattle.hungarian.proofs.seating.pays_by.Given as goal
 
 -- what the columns so far pay

@@ -1,8 +1,4 @@
-use Rattle.std.proofs.Common.{[], ◌∷◌, ◌++◌, get_or, sym, ap, ◌∙◌, arith}
-use Rattle.std.proofs.lemmas.List.{get_or-map}
-use Rattle.std.proofs.lemmas.List.FromFn.{map-range_with_len_more}
-use Rattle.ride_model.specs.declared.vehicle.Ride.{Ride}
-use Rattle.ride_model.specs.Vehicle.{ride_ids}
+use Rattle.hungarian.proofs.Common.{[], ◌∷◌, ◌++◌, get_or, sym, ap, ◌∙◌, arith, get_or-map, map-range_with_len_more, Ride, ride_ids}
 use Rattle.hungarian.proofs.seating.prices_by.Goals as goal
 
 pub loop-row-preserved : goal.loop-row-preserved

@@ -1,6 +1,4 @@
-use Rattle.std.proofs.Common.{◌≡◌}
-use Rattle.ride_model.specs.Vehicle.{ride_ids}
-use Rattle.hungarian.specs.Seats.{prices_by}
+use Rattle.hungarian.proofs.Common.{◌≡◌, ride_ids, prices_by}
 use Rattle.hungarian.proofs.seating.prices_by.Given as goal
 
 -- the prices of the rows so far

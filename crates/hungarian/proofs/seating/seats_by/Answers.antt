@@ -1,11 +1,4 @@
-use Rattle.std.proofs.Common.{◌≡◌, ℕ, sym, ap, ◌∙◌}
-use Rattle.std.specs.Prelude.{Option}
-use Rattle.model_laws.proofs.plain.Options.{none_from_not_some}
-use Rattle.ride_model.specs.declared.offer.Seat.{Seat}
-use Rattle.ride_model.specs.Vehicle.{ride_ids}
-use Rattle.ride_model.specs.Seating.{vehicle_ids}
-use Rattle.dual_check.specs.Grid.{column_of}
-use Rattle.hungarian.specs.inner.Seats.{seat_at}
+use Rattle.hungarian.proofs.Common.{◌≡◌, ℕ, sym, ap, ◌∙◌, Option, none_from_not_some, Seat, ride_ids, vehicle_ids, column_of, seat_at}
 use Rattle.hungarian.proofs.Gathering.{gathered-some, gathered-none}
 use Rattle.hungarian.proofs.seating.seats_by.Goals as goal
 use Rattle.hungarian.proofs.seating.seats_by.Goals.{in-Some+in_ok-push, in_default}

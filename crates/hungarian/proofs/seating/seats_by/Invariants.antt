@@ -1,7 +1,4 @@
-use Rattle.std.proofs.Common.{◌≡◌}
-use Rattle.ride_model.specs.Vehicle.{ride_ids}
-use Rattle.ride_model.specs.Seating.{vehicle_ids}
-use Rattle.hungarian.specs.inner.Seats.{seats_by}
+use Rattle.hungarian.proofs.Common.{◌≡◌, ride_ids, vehicle_ids, seats_by}
 use Rattle.hungarian.proofs.seating.seats_by.Given as goal
 
 -- the seats of the rows so far

@@ -1,8 +1,4 @@
-use Rattle.std.proofs.Common.{◌≡◌, ℕ, List, sym, subst, arith}
-use Rattle.std.specs.Prelude.{Option}
-use Rattle.dual_check.specs.Grid.{CertifiesPairing}
-use Rattle.dual_check.proofs.CertifiedPairings.{certified_pairing_is_least}
-use Rattle.hungarian.specs.inner.Partial.{IsPartial}
+use Rattle.hungarian.proofs.Common.{◌≡◌, ℕ, List, sym, subst, arith, Option, CertifiesPairing, certified_pairing_is_least, IsPartial}
 use Rattle.hungarian.proofs.Certificates.{rows-certified}
 use Rattle.hungarian.proofs.solving.solve_grid.Goals as goal
 

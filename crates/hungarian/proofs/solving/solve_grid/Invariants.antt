@@ -1,5 +1,4 @@
-use Rattle.hungarian.specs.inner.Labels.{IsSized}
-use Rattle.hungarian.specs.inner.Partial.{IsPartial}
+use Rattle.hungarian.proofs.Common.{IsSized, IsPartial}
 use Rattle.hungarian.proofs.solving.solve_grid.Given as goal
 
 -- the rows so far are paired

@@ -1,7 +1,4 @@
-use Rattle.std.proofs.Common.{eqb, is_some, sym, ap, ◌∙◌, arith}
-use Rattle.std.specs.Map.{keys_of, lookup}
-use Rattle.std.proofs.lemmas.List.Quantifiers.{position-Some}
-use Rattle.model_laws.proofs.plain.Options.{none_from_is_some}
+use Rattle.idle_moves.proofs.Common.{eqb, is_some, sym, ap, ◌∙◌, arith, keys_of, lookup, position-Some, none_from_is_some}
 use Rattle.idle_moves.proofs.Keeping.{raised-absent, raised-at, room-at}
 use Rattle.idle_moves.proofs.entries.raise.Goals as goal
 

@@ -1,8 +1,4 @@
-use Rattle.std.proofs.Common.{◌≡◌, ℕ, ◌+◌, ◌-◌, ◌^◌, ◌<◌, ◌≤◌, List, length, get_or, sym, ap, subst, ◌∙◌, arith}
-use Rattle.std.proofs.lemmas.List.Elements.{All-weaker}
-use Rattle.std.proofs.lemmas.List.Sums.{fold_more}
-use Rattle.ride_model.specs.declared.entry.Outcome.{Outcome}
-use Rattle.idle_moves.specs.inner.Raises.{HasRoom, raised_if, vehicle_confirmed}
+use Rattle.idle_moves.proofs.Common.{◌≡◌, ℕ, ◌+◌, ◌-◌, ◌^◌, ◌<◌, ◌≤◌, List, length, get_or, sym, ap, subst, ◌∙◌, arith, All-weaker, fold_more, Outcome, HasRoom, raised_if, vehicle_confirmed}
 use Rattle.idle_moves.proofs.Raising.{room-raised}
 use Rattle.idle_moves.proofs.entries.raise_confirmed.Goals as goal
 

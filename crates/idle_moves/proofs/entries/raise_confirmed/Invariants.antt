@@ -1,5 +1,4 @@
-use Rattle.std.proofs.Common.{◌≡◌, ◌-◌, length, take}
-use Rattle.idle_moves.specs.inner.Raises.{HasRoom, after_outcomes}
+use Rattle.idle_moves.proofs.Common.{◌≡◌, ◌-◌, length, take, HasRoom, after_outcomes}
 use Rattle.idle_moves.proofs.entries.raise_confirmed.Given as goal
 
 -- the versions after the outcomes so far, and room for the others

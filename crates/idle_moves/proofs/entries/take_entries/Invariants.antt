@@ -1,5 +1,4 @@
-use Rattle.std.proofs.Common.{◌≡◌, take}
-use Rattle.idle_moves.specs.inner.Raises.{after_entries}
+use Rattle.idle_moves.proofs.Common.{◌≡◌, take, after_entries}
 use Rattle.idle_moves.proofs.entries.take_entries.Given as goal
 
 -- the versions after the entries so far

@@ -1,5 +1,4 @@
-use Rattle.std.proofs.Common.{eqb, ◌∙◌, ap}
-use Rattle.indexmap.specs.IndexMap.{insert_entry}
+use Rattle.idle_moves.proofs.Common.{eqb, ◌∙◌, ap, insert_entry}
 use Rattle.idle_moves.proofs.Keeping.{versions-pushed}
 use Rattle.idle_moves.proofs.entries.versions_of.Goals as goal
 

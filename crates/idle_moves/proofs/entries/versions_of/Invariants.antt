@@ -1,5 +1,4 @@
-use Rattle.std.proofs.Common.{◌≡◌, take}
-use Rattle.ride_model.specs.Legal.{versions_of}
+use Rattle.idle_moves.proofs.Common.{◌≡◌, take, versions_of}
 use Rattle.idle_moves.proofs.entries.versions_of.Given as goal
 
 -- the versions so far

@@ -1,9 +1,4 @@
-use Rattle.std.proofs.Common.{◌≡◌, ◌+◌, ◌*◌, ◌++◌, map, take, get_or, sym, ap, subst, ◌∙◌, arith}
-use Rattle.std.specs.Prelude.{None}
-use Rattle.std.proofs.lemmas.List.{take_all}
-use Rattle.dual_check.specs.Cells.{GridCells}
-use Rattle.idle_moves.specs.inner.Filling.{BeginsWith, with_cell}
-use Rattle.idle_moves.specs.Sheet.{within}
+use Rattle.idle_moves.proofs.Common.{◌≡◌, ◌+◌, ◌*◌, ◌++◌, map, take, get_or, sym, ap, subst, ◌∙◌, arith, None, take_all, GridCells, BeginsWith, with_cell, within}
 use Rattle.idle_moves.proofs.Filled.{cell-written, same-columns, same-rows}
 use Rattle.idle_moves.proofs.grids.fill_row.Goals as goal
 

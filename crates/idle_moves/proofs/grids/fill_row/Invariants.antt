@@ -1,7 +1,4 @@
-use Rattle.std.proofs.Common.{◌≡◌, ℕ, ◌*◌, ◌++◌, List, length, map, take}
-use Rattle.std.specs.Prelude.{Option}
-use Rattle.idle_moves.specs.inner.Filling.{BeginsWith}
-use Rattle.idle_moves.specs.Sheet.{within}
+use Rattle.idle_moves.proofs.Common.{◌≡◌, ℕ, ◌*◌, ◌++◌, List, length, map, take, Option, BeginsWith, within}
 use Rattle.idle_moves.proofs.grids.fill_row.Given as goal
 
 -- the cells of the row so far were written

@@ -1,13 +1,4 @@
-use Rattle.std.proofs.Common.{◌≡◌, ◌+◌, ◌*◌, ◌++◌, ℕ, List, length, map, take, get_or, sym, ap, subst, ◌∙◌, arith}
-use Rattle.std.specs.Prelude.{Option, None}
-use Rattle.std.proofs.lemmas.List.{length-map, take_all}
-use Rattle.ride_model.specs.declared.vehicle.Ride.{Ride}
-use Rattle.ride_model.specs.Road.{RoadMap}
-use Rattle.road_times.specs.declared.side.Side.TheVariants.{Back}
-use Rattle.road_times.specs.inner.Turned.{travel_by}
-use Rattle.idle_moves.specs.inner.Filling.{BeginsWith}
-use Rattle.idle_moves.specs.Sheet.{within}
-use Rattle.idle_moves.specs.inner.Standby.{cells_of}
+use Rattle.idle_moves.proofs.Common.{◌≡◌, ◌+◌, ◌*◌, ◌++◌, ℕ, List, length, map, take, get_or, sym, ap, subst, ◌∙◌, arith, Option, None, length-map, take_all, Ride, RoadMap, Back, travel_by, BeginsWith, within, cells_of}
 use Rattle.idle_moves.proofs.Filled.{begins-all, rows-more}
 use Rattle.idle_moves.proofs.grids.fill_rows.Goals as goal
 

@@ -1,6 +1,4 @@
-use Rattle.std.proofs.Common.{◌≡◌, ◌*◌, length, take}
-use Rattle.idle_moves.specs.inner.Filling.{BeginsWith}
-use Rattle.idle_moves.specs.inner.Standby.{cells_of}
+use Rattle.idle_moves.proofs.Common.{◌≡◌, ◌*◌, length, take, BeginsWith, cells_of}
 use Rattle.idle_moves.proofs.grids.fill_rows.Given as goal
 
 -- the rows so far were written

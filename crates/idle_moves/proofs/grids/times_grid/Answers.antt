@@ -1,7 +1,4 @@
-use Rattle.std.proofs.Common.{[], length, sym, ap, subst, ◌∙◌}
-use Rattle.dual_check.specs.Cells.{GridCells}
-use Rattle.idle_moves.specs.inner.Filling.{BeginsWith}
-use Rattle.idle_moves.specs.inner.Standby.{cells_of}
+use Rattle.idle_moves.proofs.Common.{[], length, sym, ap, subst, ◌∙◌, GridCells, BeginsWith, cells_of}
 use Rattle.idle_moves.proofs.Filled.{begins-empty}
 use Rattle.idle_moves.proofs.grids.times_grid.Goals as goal
 

@@ -1,5 +1,4 @@
-use Rattle.std.proofs.Common.{◌<◌, length, sym, subst}
-use Rattle.std.specs.Prelude.{IfSome}
+use Rattle.idle_moves.proofs.Common.{◌<◌, length, sym, subst, IfSome}
 use Rattle.idle_moves.proofs.Orders.{order-some}
 use Rattle.idle_moves.proofs.lists.order_at.Goals as goal
 

@@ -1,10 +1,4 @@
-use Rattle.std.proofs.Common.{◌≡◌, ℕ, sym, ap, ◌∙◌}
-use Rattle.std.specs.Prelude.{Option}
-use Rattle.model_laws.proofs.plain.Options.{none_from_not_some}
-use Rattle.dual_check.specs.Grid.{column_of}
-use Rattle.hungarian.proofs.Gathering.{gathered-some, gathered-none}
-use Rattle.idle_moves.specs.declared.moves.Move.{Move}
-use Rattle.idle_moves.specs.Sheet.{order_at}
+use Rattle.idle_moves.proofs.Common.{◌≡◌, ℕ, sym, ap, ◌∙◌, Option, none_from_not_some, column_of, gathered-some, gathered-none, Move, order_at}
 use Rattle.idle_moves.proofs.lists.orders_by.Goals as goal
 use Rattle.idle_moves.proofs.lists.orders_by.Goals.{in-Some+in_ok-push, in_default}
 

@@ -1,7 +1,4 @@
-use Rattle.std.proofs.Common.{◌≡◌, List}
-use Rattle.ride_model.specs.declared.vehicle.Vehicle.{Vehicle}
-use Rattle.idle_moves.specs.Sheet.{orders_by}
-use Rattle.idle_moves.specs.inner.Standby.{AreStandbys}
+use Rattle.idle_moves.proofs.Common.{◌≡◌, List, Vehicle, orders_by, AreStandbys}
 use Rattle.idle_moves.proofs.lists.orders_by.Given as goal
 
 -- the orders of the rows so far

@@ -1,10 +1,4 @@
-use Rattle.std.proofs.Common.{◌≡◌, ℕ, sym, ap, ◌∙◌}
-use Rattle.std.specs.Prelude.{Option}
-use Rattle.model_laws.proofs.plain.Options.{none_from_not_some}
-use Rattle.ride_model.specs.Seating.{vehicle_ids}
-use Rattle.dual_check.specs.Grid.{price_at}
-use Rattle.hungarian.specs.Seats.{pay_at}
-use Rattle.hungarian.proofs.Gathering.{gathered-some, gathered-none}
+use Rattle.idle_moves.proofs.Common.{◌≡◌, ℕ, sym, ap, ◌∙◌, Option, none_from_not_some, vehicle_ids, price_at, pay_at, gathered-some, gathered-none}
 use Rattle.idle_moves.proofs.Orders.{id-read}
 use Rattle.idle_moves.proofs.lists.pays_by.Goals as goal
 use Rattle.idle_moves.proofs.lists.pays_by.Goals.{in-Some+in_ok-push, in_default}

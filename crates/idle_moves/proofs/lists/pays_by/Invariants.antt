@@ -1,8 +1,4 @@
-use Rattle.std.proofs.Common.{◌≡◌, List}
-use Rattle.ride_model.specs.declared.vehicle.Vehicle.{Vehicle}
-use Rattle.ride_model.specs.Seating.{vehicle_ids}
-use Rattle.hungarian.specs.Seats.{pays_by}
-use Rattle.idle_moves.specs.inner.Standby.{AreStandbys}
+use Rattle.idle_moves.proofs.Common.{◌≡◌, List, Vehicle, vehicle_ids, pays_by, AreStandbys}
 use Rattle.idle_moves.proofs.lists.pays_by.Given as goal
 
 -- what the columns so far pay

@@ -1,12 +1,4 @@
-use Rattle.std.proofs.Common.{◌≡◌, length, map, sym, ap, subst, ◌∙◌, arith}
-use Rattle.std.specs.Prelude.{All, IfOk, not}
-use Rattle.std.proofs.lemmas.List.Elements.{All-filter}
-use Rattle.ride_model.specs.declared.vehicle.Ride.{Ride}
-use Rattle.ride_model.specs.Road.{IsNode}
-use Rattle.ride_model.specs.Seating.{has_seat}
-use Rattle.model_laws.proofs.history_laws.Raised.{length-filter-le}
-use Rattle.idle_moves.specs.Sheet.{IsSheetOver, left_out, stands_by, standing_by}
-use Rattle.idle_moves.specs.inner.Standby.{standby_of}
+use Rattle.idle_moves.proofs.Common.{◌≡◌, length, map, sym, ap, subst, ◌∙◌, arith, All, IfOk, not, All-filter, Ride, IsNode, has_seat, length-filter-le, IsSheetOver, left_out, stands_by, standing_by, standby_of}
 use Rattle.idle_moves.proofs.OverGrids.{left-found, of-batch, stand-at, stand-few, standing-found}
 use Rattle.idle_moves.proofs.sheets.plan_moves.Goals as goal
 

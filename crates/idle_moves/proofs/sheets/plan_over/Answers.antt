@@ -1,8 +1,4 @@
-use Rattle.std.proofs.Common.{List, sym, subst, ◌∙◌}
-use Rattle.std.specs.Prelude.{All, ℕ}
-use Rattle.std.proofs.lemmas.List.Elements.{All-map}
-use Rattle.ride_model.specs.Road.{IsNode}
-use Rattle.idle_moves.specs.declared.standby.Standby.{Standby}
+use Rattle.idle_moves.proofs.Common.{List, sym, subst, ◌∙◌, All, ℕ, All-map, IsNode, Standby}
 use Rattle.idle_moves.proofs.OverGrids.{grid-is, over-grid}
 use Rattle.idle_moves.proofs.sheets.plan_over.Goals as goal
 

@@ -1,6 +1,4 @@
-use Rattle.std.proofs.Common.{◌≤◌, ◌*◌, length, sum, ap, arith}
-use Rattle.std.proofs.lemmas.List.Elements.{All-weaker}
-use Rattle.std.proofs.lemmas.List.Sums.{sum_by-le}
+use Rattle.idle_moves.proofs.Common.{◌≤◌, ◌*◌, length, sum, ap, arith, All-weaker, sum_by-le}
 use Rattle.idle_moves.proofs.sheets.sheet_of.Goals as goal
 
 pub cost_by-requires-clause-limit : goal.cost_by-requires-clause-limit

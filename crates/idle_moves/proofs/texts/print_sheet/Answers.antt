@@ -1,6 +1,4 @@
-use Rattle.std.proofs.Common.{refl}
-use Rattle.std.proofs.lemmas.Result.{err_from_is_err_and}
-use Rattle.trip_log.proofs.PrintsLemmas.{prints_as, prints_more, prints_then}
+use Rattle.idle_moves.proofs.Common.{refl, err_from_is_err_and, prints_as, prints_more, prints_then}
 use Rattle.idle_moves.proofs.SheetTexts.{sheet_text}
 use Rattle.idle_moves.proofs.texts.print_sheet.Goals as goal
 

@@ -1,11 +1,4 @@
-use Rattle.std.proofs.Common.{◌≡◌, ◌+◌, length, sym, ◌∙◌, ap, subst, arith}
-use Rattle.std.specs.Prelude.{IfSome, Some}
-use Rattle.ride_model.specs.declared.offer.Offer.{Offer}
-use Rattle.ride_model.specs.Road.{RoadMap, lesser}
-use Rattle.ride_model.specs.Offers.{offer_of}
-use Rattle.insertion.specs.declared.plan.Plan.{Plan}
-use Rattle.insertion.specs.inner.Asked.{IsAsked}
-use Rattle.insertion.specs.inner.Least.{cost_if_any, least_with_pickup, least_from}
+use Rattle.insertion.proofs.Common.{◌≡◌, ◌+◌, length, sym, ◌∙◌, ap, subst, arith, IfSome, Some, Offer, RoadMap, lesser, offer_of, Plan, IsAsked, cost_if_any, least_with_pickup, least_from}
 use Rattle.insertion.proofs.LeastOffers.{least-on, least-over, price-least}
 use Rattle.insertion.proofs.NoOffers.{not-open, full, no-price}
 use Rattle.insertion.proofs.best.best_place.Goals as goal

@@ -1,12 +1,4 @@
-use Rattle.std.proofs.Common.{◌≡◌, ◌+◌, ◌≤◌, false, length, get_or, refl, sym, ◌∙◌, ap, subst, arith}
-use Rattle.std.specs.Prelude.{All, Some}
-use Rattle.ride_model.specs.declared.offer.Offer.{Offer}
-use Rattle.ride_model.specs.Road.{lesser}
-use Rattle.ride_model.specs.Offers.{start_of, offer_of}
-use Rattle.promises.proofs.Visits.{length-times, times-soon}
-use Rattle.insertion.specs.declared.plan.Plan.{Plan}
-use Rattle.insertion.specs.inner.Arrivals.{pickup_at, is_by}
-use Rattle.insertion.specs.inner.Least.{cost_if_any, least_with_pickup}
+use Rattle.insertion.proofs.Common.{◌≡◌, ◌+◌, ◌≤◌, false, length, get_or, refl, sym, ◌∙◌, ap, subst, arith, All, Some, Offer, lesser, start_of, offer_of, length-times, times-soon, Plan, pickup_at, is_by, cost_if_any, least_with_pickup}
 use Rattle.insertion.proofs.LeastOffers.{least-on, least-over, lesser-none, if-offered, one-of}
 use Rattle.insertion.proofs.NoOffers.{pickup-short, late-pickup, no-least}
 use Rattle.insertion.proofs.NoRoom.{length-rooms, no-least-behind}

@@ -1,10 +1,4 @@
-use Rattle.std.proofs.Common.{◌≡◌, ◌+◌, length}
-use Rattle.std.specs.Prelude.{IfSome, Some}
-use Rattle.ride_model.specs.declared.offer.Offer.{Offer}
-use Rattle.ride_model.specs.Road.{RoadMap, lesser}
-use Rattle.ride_model.specs.Offers.{offer_of}
-use Rattle.insertion.specs.inner.Asked.{IsAsked}
-use Rattle.insertion.specs.inner.Least.{cost_if_any, least_with_pickup}
+use Rattle.insertion.proofs.Common.{◌≡◌, ◌+◌, length, IfSome, Some, Offer, RoadMap, lesser, offer_of, IsAsked, cost_if_any, least_with_pickup}
 use Rattle.insertion.proofs.best.best_with_pickup_at.Given as goal
 
 -- the best so far and the least cost of the places that are left are the least of all and the other offer

@@ -1,13 +1,4 @@
-use Rattle.std.proofs.Common.{◌≡◌, ℕ, ◌≤◌, Bool, true, false, cond, min, leb-true, sym, ◌∙◌, ap, subst, arith}
-use Rattle.std.specs.Prelude.{Option, Some, None}
-use Rattle.ride_model.specs.declared.offer.Offer.{Offer}
-use Rattle.ride_model.specs.declared.vehicle.Ride.{Ride}
-use Rattle.ride_model.specs.declared.vehicle.Vehicle.{Vehicle}
-use Rattle.ride_model.specs.Road.{RoadMap, lesser}
-use Rattle.ride_model.specs.Keeps.{keeps}
-use Rattle.insertion.specs.inner.Arrivals.{is_by}
-use Rattle.insertion.specs.inner.Drawn.{IsDrawn, IsDrawnFor}
-use Rattle.insertion.specs.inner.Least.{cost_if_any}
+use Rattle.insertion.proofs.Common.{◌≡◌, ℕ, ◌≤◌, Bool, true, false, cond, min, leb-true, sym, ◌∙◌, ap, subst, arith, Option, Some, None, Offer, Ride, Vehicle, RoadMap, lesser, keeps, is_by, IsDrawn, IsDrawnFor, cost_if_any}
 use Rattle.insertion.proofs.LeastOffers.{lesser-none}
 use Rattle.insertion.proofs.best.better.Goals as goal
 

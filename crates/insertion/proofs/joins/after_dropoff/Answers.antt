@@ -1,4 +1,4 @@
-use Rattle.insertion.specs.declared.near.NearStop.{NearStop}
+use Rattle.insertion.proofs.Common.{NearStop}
 use Rattle.insertion.proofs.NearLegs.{after-read, after-none}
 use Rattle.insertion.proofs.joins.after_dropoff.Goals as goal
 

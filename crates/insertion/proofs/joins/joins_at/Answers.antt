@@ -1,7 +1,4 @@
-use Rattle.std.proofs.Common.{cond, sym, ◌∙◌, ap}
-use Rattle.std.proofs.lemmas.Bool.{eq-eqb}
-use Rattle.insertion.specs.declared.near.NearStop.{NearStop}
-use Rattle.insertion.specs.inner.Joined.{leg_before, leg_after, four_legs, to_pickup_of, after_dropoff_of}
+use Rattle.insertion.proofs.Common.{cond, sym, ◌∙◌, ap, eq-eqb, NearStop, leg_before, leg_after, four_legs, to_pickup_of, after_dropoff_of}
 use Rattle.insertion.proofs.joins.joins_at.Goals as goal
 
 pub returns-then-i-j : goal.returns-then-i-j

@@ -1,5 +1,4 @@
-use Rattle.std.proofs.Common.{arith}
-use Rattle.insertion.specs.declared.near.NearStop.{NearStop}
+use Rattle.insertion.proofs.Common.{arith, NearStop}
 use Rattle.insertion.proofs.NearLegs.{before-read}
 use Rattle.insertion.proofs.joins.to_pickup.Goals as goal
 

@@ -1,11 +1,4 @@
-use Rattle.std.proofs.Common.{◌≡◌, ◌≤◌, ◌+◌, ◌-◌, ◌*◌, length, sym, ◌∙◌, ap, subst, arith}
-use Rattle.std.specs.Prelude.{All}
-use Rattle.ride_model.specs.declared.offer.Offer.{Offer}
-use Rattle.ride_model.specs.Offers.{start_of, cost_of}
-use Rattle.promises.proofs.Visits.{length-times, times-soon}
-use Rattle.insertion.specs.declared.plan.Plan.{Plan}
-use Rattle.insertion.specs.inner.Arrivals.{leave_at}
-use Rattle.insertion.specs.inner.Drawn.{drives_more}
+use Rattle.insertion.proofs.Common.{◌≡◌, ◌≤◌, ◌+◌, ◌-◌, ◌*◌, length, sym, ◌∙◌, ap, subst, arith, All, Offer, start_of, cost_of, length-times, times-soon, Plan, leave_at, drives_more}
 use Rattle.insertion.proofs.OfferLaws.{are-places, no-places, no-room, no-legs, inserts}
 use Rattle.insertion.proofs.PlanTimes.{start-le}
 use Rattle.insertion.proofs.LongerDrives.{are_short, cost-drawn, is_drawn}

@@ -1,12 +1,4 @@
-use Rattle.std.proofs.Common.{◌≡◌, sym, ◌∙◌, ap, subst, cond}
-use Rattle.std.specs.Prelude.{Some, None}
-use Rattle.ride_model.specs.declared.offer.Offer.{Offer}
-use Rattle.ride_model.specs.declared.vehicle.Ride.{Ride}
-use Rattle.ride_model.specs.declared.vehicle.Vehicle.{Vehicle}
-use Rattle.ride_model.specs.Road.{RoadMap}
-use Rattle.ride_model.specs.Vehicle.{IsRouted}
-use Rattle.ride_model.specs.Keeps.{keeps}
-use Rattle.stop_plans.specs.inner.Change.{InsertsInto}
+use Rattle.insertion.proofs.Common.{◌≡◌, sym, ◌∙◌, ap, subst, cond, Some, None, Offer, Ride, Vehicle, RoadMap, IsRouted, keeps, InsertsInto}
 use Rattle.insertion.proofs.OfferLaws.{new-routed}
 use Rattle.insertion.proofs.offer.kept.Goals as goal
 

@@ -1,4 +1,4 @@
-use Rattle.std.proofs.Common.{arith}
+use Rattle.insertion.proofs.Common.{arith}
 use Rattle.insertion.proofs.PlanTimes.{leave-read}
 use Rattle.insertion.proofs.plan.leave_at.Goals as goal
 

@@ -1,6 +1,4 @@
-use Rattle.std.proofs.Common.{◌≡◌, [], ◌∷◌, take, map}
-use Rattle.ride_model.specs.Loads.{load_after}
-use Rattle.insertion.specs.inner.Rooms.{fits_beside}
+use Rattle.insertion.proofs.Common.{◌≡◌, [], ◌∷◌, take, map, load_after, fits_beside}
 use Rattle.insertion.proofs.rooms.rooms_of.Given as goal
 
 -- the rooms at the start and behind the stops so far

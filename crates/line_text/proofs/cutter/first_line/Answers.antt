@@ -1,5 +1,4 @@
-use Rattle.std.proofs.Common.{sym, arith}
-use Rattle.std.proofs.lemmas.Bool.{false_from_ne_true}
+use Rattle.line_text.proofs.Common.{sym, arith, false_from_ne_true}
 use Rattle.line_text.proofs.LineLemmas.{first_line-found, first_line-none, has_end-none}
 use Rattle.line_text.proofs.cutter.first_line.Goals as goal
 

@@ -1,6 +1,4 @@
-use Rattle.std.proofs.Common.{sym, ◌∙◌}
-use Rattle.std.proofs.lemmas.List.{at_drop_more}
-use Rattle.line_text.specs.Fields.{runs_of}
+use Rattle.line_text.proofs.Common.{sym, ◌∙◌, at_drop_more, runs_of}
 use Rattle.line_text.proofs.FieldLemmas.{runs_of-blank}
 use Rattle.line_text.proofs.fields.after_blanks.Goals as goal
 

@@ -1,5 +1,4 @@
-use Rattle.std.proofs.Common.{◌≡◌, drop}
-use Rattle.line_text.specs.Fields.{runs_of}
+use Rattle.line_text.proofs.Common.{◌≡◌, drop, runs_of}
 use Rattle.line_text.proofs.fields.after_blanks.Given as goal
 
 abbrev pub invariant-loop-place : goal.invariant-loop-place

@@ -1,4 +1,4 @@
-use Rattle.std.proofs.Common.{sym, ◌∙◌, arith}
+use Rattle.line_text.proofs.Common.{sym, ◌∙◌, arith}
 use Rattle.line_text.proofs.FieldLemmas.{runs_of-first, begins_field-blank, begins_field-past, begins_field-first, begins_field-some}
 use Rattle.line_text.proofs.fields.field_length.Goals as goal
 

@@ -1,5 +1,4 @@
-use Rattle.std.proofs.Common.{◌≡◌, ℕ, ◌<◌, get_or, false}
-use Rattle.line_text.specs.Fields.{is_blank}
+use Rattle.line_text.proofs.Common.{◌≡◌, ℕ, ◌<◌, get_or, false, is_blank}
 use Rattle.line_text.proofs.fields.field_length.Given as goal
 
 abbrev pub invariant-loop-place : goal.invariant-loop-place

@@ -1,5 +1,4 @@
-use Rattle.std.proofs.Common.{sym, ◌∙◌, ap, arith, take, ◌≡◌}
-use Rattle.line_text.specs.Fields.{without_end}
+use Rattle.line_text.proofs.Common.{sym, ◌∙◌, ap, arith, take, ◌≡◌, without_end}
 use Rattle.line_text.proofs.FieldLemmas.{without_end-dropped, without_end-kept, without_end-nil, take-last}
 use Rattle.line_text.proofs.fields.trimmed.Goals as goal
 

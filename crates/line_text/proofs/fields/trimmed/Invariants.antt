@@ -1,5 +1,4 @@
-use Rattle.std.proofs.Common.{◌≡◌, ◌≤◌, length, take}
-use Rattle.line_text.specs.Fields.{without_end}
+use Rattle.line_text.proofs.Common.{◌≡◌, ◌≤◌, length, take, without_end}
 use Rattle.line_text.proofs.fields.trimmed.Given as goal
 
 -- what stands behind is dropped

@@ -1,5 +1,4 @@
-use Rattle.std.proofs.Common.{sym, ◌∙◌, ap, Some, cond, []}
-use Rattle.line_text.specs.Fields.{runs_of}
+use Rattle.line_text.proofs.Common.{sym, ◌∙◌, ap, Some, cond, [], runs_of}
 use Rattle.line_text.proofs.FieldLemmas.{words_of-comment, words_of-short, runs_of-nil}
 use Rattle.line_text.proofs.fields.words_of.Goals as goal
 

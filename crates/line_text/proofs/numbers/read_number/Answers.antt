@@ -1,4 +1,4 @@
-use Rattle.std.proofs.Common.{arith}
+use Rattle.line_text.proofs.Common.{arith}
 use Rattle.line_text.proofs.NumberLemmas.{digit-room}
 use Rattle.line_text.proofs.numbers.read_number.Goals as goal
 

@@ -1,6 +1,4 @@
-use Rattle.std.proofs.Common.{◌≡◌, ◌<◌, ◌≤◌, ◌^◌, length, drop}
-use Rattle.std.specs.Str.{all_ascii_digits}
-use Rattle.std.specs.Str.Parse.{digits_value, digits_value_after}
+use Rattle.line_text.proofs.Common.{◌≡◌, ◌<◌, ◌≤◌, ◌^◌, length, drop, all_ascii_digits, digits_value, digits_value_after}
 use Rattle.line_text.proofs.numbers.read_number.Given as goal
 
 -- the value so far goes on to the value of all digits

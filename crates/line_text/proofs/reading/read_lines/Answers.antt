@@ -1,5 +1,4 @@
-use Rattle.std.proofs.Common.{◌≡◌, subst, arith}
-use Rattle.line_text.specs.Lines.{lines_of}
+use Rattle.line_text.proofs.Common.{◌≡◌, subst, arith, lines_of}
 use Rattle.line_text.proofs.ReadingLemmas.{last-refused, read-nothing}
 use Rattle.line_text.proofs.reading.read_lines.Goals as goal
 

@@ -1,6 +1,4 @@
-use Rattle.std.proofs.Common.{◌≡◌, ◌≤◌, ◌++◌, List, ℕ, length, take, subst, arith, length-take-le}
-use Rattle.ride_ports.proofs.ByteLemmas.{Reads-then}
-use Rattle.line_text.specs.inner.Reading.{IsRefused}
+use Rattle.line_text.proofs.Common.{◌≡◌, ◌≤◌, ◌++◌, List, ℕ, length, take, subst, arith, length-take-le, Reads-then, IsRefused}
 use Rattle.line_text.proofs.ReadingLemmas.{counted-refused, full-length, goes-on}
 use Rattle.line_text.proofs.reading.read_pieces.Goals as goal
 

@@ -1,6 +1,4 @@
-use Rattle.std.proofs.Common.{◌≡◌, ℕ, ◌+◌, List, length}
-use Rattle.ride_ports.specs.Bytes.{Reads}
-use Rattle.line_text.specs.inner.Reading.{HasRead}
+use Rattle.line_text.proofs.Common.{◌≡◌, ℕ, ◌+◌, List, length, Reads, HasRead}
 use Rattle.line_text.proofs.reading.read_pieces.Given as goal
 
 -- the bytes so far were read with no fault, and the lines that end in them were taken

@@ -1,6 +1,4 @@
-use Rattle.std.proofs.Common.{◌≡◌, ◌≢◌, [], Bool, MatchBool, subst, ◌∙◌, ap}
-use Rattle.line_text.specs.inner.Cutter.{CutterState, ShowsRest}
-use Rattle.line_text.specs.Lines.{rest_of}
+use Rattle.line_text.proofs.Common.{◌≡◌, ◌≢◌, [], Bool, MatchBool, subst, ◌∙◌, ap, CutterState, ShowsRest, rest_of}
 use Rattle.line_text.proofs.ReadingLemmas.{read-last}
 use Rattle.line_text.proofs.reading.take_last.Goals as goal
 

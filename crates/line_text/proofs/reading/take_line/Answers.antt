@@ -1,8 +1,4 @@
-use Rattle.std.proofs.Common.{◌≡◌, ◌++◌, List, ℕ, Ok, Err, Bool, MatchBool, take, drop, subst, ◌∙◌, ap, arith, append_assoc, take-append-drop}
-use Rattle.std.proofs.lemmas.Bool.{not-false}
-use Rattle.std.proofs.lemmas.Result.{err_from_is_err_and}
-use Rattle.line_text.specs.inner.Cutter.{Continues, EndsLine}
-use Rattle.line_text.specs.inner.Reading.{IsRefused}
+use Rattle.line_text.proofs.Common.{◌≡◌, ◌++◌, List, ℕ, Ok, Err, Bool, MatchBool, take, drop, subst, ◌∙◌, ap, arith, append_assoc, take-append-drop, not-false, err_from_is_err_and, Continues, EndsLine, IsRefused}
 use Rattle.line_text.proofs.ReadingLemmas.{read-line, refused-append}
 use Rattle.line_text.proofs.reading.take_line.Goals as goal
 

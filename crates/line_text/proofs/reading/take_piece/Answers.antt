@@ -1,6 +1,4 @@
-use Rattle.std.proofs.Common.{◌≡◌, ◌++◌, List, ℕ, take, subst, arith, take_all}
-use Rattle.std.proofs.lemmas.Result.{err_from_is_err_and}
-use Rattle.line_text.specs.inner.Reading.{HasRead}
+use Rattle.line_text.proofs.Common.{◌≡◌, ◌++◌, List, ℕ, take, subst, arith, take_all, err_from_is_err_and, HasRead}
 use Rattle.line_text.proofs.ReadingLemmas.{read-piece, refused-piece, rest-short, rest-within}
 use Rattle.line_text.proofs.reading.take_piece.Goals as goal
 

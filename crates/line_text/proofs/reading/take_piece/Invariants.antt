@@ -1,5 +1,4 @@
-use Rattle.std.proofs.Common.{ℕ, ◌≤◌, ◌<◌, ◌+◌, ◌-◌, ◌^◌, ◌++◌, List, length, take}
-use Rattle.line_text.specs.inner.Reading.{HasRead}
+use Rattle.line_text.proofs.Common.{ℕ, ◌≤◌, ◌<◌, ◌+◌, ◌-◌, ◌^◌, ◌++◌, List, length, take, HasRead}
 use Rattle.line_text.proofs.reading.take_piece.Given as goal
 
 -- the lines that end in what is done of the piece were taken

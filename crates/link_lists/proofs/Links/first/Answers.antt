@@ -1,6 +1,4 @@
-use Rattle.std.proofs.Common.{◌≡◌, ◌+◌, ap, ◌∙◌}
-use Rattle.std.specs.Prelude.{Some, None, if◌then◌else◌, nat_lt}
-use Rattle.link_lists.specs.inner.Circles.{next_of}
+use Rattle.link_lists.proofs.Common.{◌≡◌, ◌+◌, ap, ◌∙◌, Some, None, if◌then◌else◌, nat_lt, next_of}
 use Rattle.link_lists.proofs.Kept.{first-read, held-read}
 use Rattle.link_lists.proofs.Views.{shows-before}
 use Rattle.link_lists.proofs.Links.first.Goals as goal

@@ -1,4 +1,4 @@
-use Rattle.std.proofs.Common.{◌+◌, ap, sym, arith}
+use Rattle.link_lists.proofs.Common.{◌+◌, ap, sym, arith}
 use Rattle.link_lists.proofs.Views.{shows-before}
 use Rattle.link_lists.proofs.Links.head_of.Goals as goal
 

@@ -1,6 +1,4 @@
-use Rattle.std.proofs.Common.{◌≡◌, ◌≢◌, ap, ◌∙◌, sym, inl, inr, arith}
-use Rattle.std.proofs.lemmas.Bool.Decides.{nat_tests}
-use Rattle.link_lists.specs.inner.Circles.{next_of}
+use Rattle.link_lists.proofs.Common.{◌≡◌, ◌≢◌, ap, ◌∙◌, sym, inl, inr, arith, nat_tests, next_of}
 use Rattle.link_lists.proofs.Kept.{held-moves}
 use Rattle.link_lists.proofs.Views.{shows-before}
 use Rattle.link_lists.proofs.Links.holds.Goals as goal

@@ -1,8 +1,4 @@
-use Rattle.std.proofs.Common.{◌≡◌, ◌≢◌, ◌<◌, length, map, sym, ap, ◌∙◌, subst, refl}
-use Rattle.std.specs.Vec.{with_items}
-use Rattle.std.proofs.lemmas.List.{with_items_is}
-use Rattle.link_lists.specs.inner.Family.{IsHeld, with_behind}
-use Rattle.link_lists.specs.inner.Circles.{IsInserted, next_of, family_of}
+use Rattle.link_lists.proofs.Common.{◌≡◌, ◌≢◌, ◌<◌, length, map, sym, ap, ◌∙◌, subst, refl, with_items, with_items_is, IsHeld, with_behind, IsInserted, next_of, family_of}
 use Rattle.link_lists.proofs.Kept.{with_lists, behind-keeps, held-in, other-next}
 use Rattle.link_lists.proofs.Views.{Shows, ChangesLists, shows-before, shows-after, keeps-shown, family-shown, changes-lists}
 use Rattle.link_lists.proofs.Links.insert_after.Goals as goal

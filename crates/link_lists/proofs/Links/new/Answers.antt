@@ -1,4 +1,4 @@
-use Rattle.std.proofs.Common.{◌+◌, ◌<◌, ◌^◌, ap, ◌∙◌, subst, refl, sym}
+use Rattle.link_lists.proofs.Common.{◌+◌, ◌<◌, ◌^◌, ap, ◌∙◌, subst, refl, sym}
 use Rattle.std.specs.Option.{SomeIff}
 use Rattle.link_lists.proofs.Kept.{empty_family, empty-keeps}
 use Rattle.link_lists.proofs.Views.{Shows, shows-after, keeps-shown, family-shown, family_of-nodes}

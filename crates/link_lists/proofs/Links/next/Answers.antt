@@ -1,8 +1,4 @@
-use Rattle.std.proofs.Common.{◌≡◌, ◌+◌, ◌<◌, length, sym, ap, ◌∙◌, subst}
-use Rattle.std.specs.Prelude.{Some, None, if◌then◌else◌, nat_lt}
-use Rattle.std.proofs.lemmas.Option.{slice_get-get_or}
-use Rattle.link_lists.specs.inner.Family.{list_at}
-use Rattle.link_lists.specs.inner.Circles.{next_of}
+use Rattle.link_lists.proofs.Common.{◌≡◌, ◌+◌, ◌<◌, length, sym, ap, ◌∙◌, subst, Some, None, if◌then◌else◌, nat_lt, slice_get-get_or, list_at, next_of}
 use Rattle.link_lists.proofs.Kept.{held-in, next-read, held-read}
 use Rattle.link_lists.proofs.Views.{shows-before}
 use Rattle.link_lists.proofs.Links.next.Goals as goal

@@ -1,5 +1,4 @@
-use Rattle.std.proofs.Common.{arith}
-use Rattle.std.proofs.lemmas.Bool.Decides.{nat_tests}
+use Rattle.link_lists.proofs.Common.{arith, nat_tests}
 use Rattle.link_lists.proofs.Views.{shows-before}
 use Rattle.link_lists.proofs.Links.node_at.Goals as goal
 

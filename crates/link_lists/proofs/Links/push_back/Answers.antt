@@ -1,8 +1,4 @@
-use Rattle.std.proofs.Common.{◌≡◌, ◌+◌, [], ◌∷◌, ◌++◌, length, set, ap, ◌∙◌, subst}
-use Rattle.std.specs.Vec.{with_items}
-use Rattle.std.proofs.lemmas.List.{with_items_is}
-use Rattle.link_lists.specs.inner.Family.{list_at}
-use Rattle.link_lists.specs.inner.Circles.{IsInserted, before_of, family_of}
+use Rattle.link_lists.proofs.Common.{◌≡◌, ◌+◌, [], ◌∷◌, ◌++◌, length, set, ap, ◌∙◌, subst, with_items, with_items_is, list_at, IsInserted, before_of, family_of}
 use Rattle.link_lists.proofs.Kept.{with_lists, back-keeps}
 use Rattle.link_lists.proofs.Views.{Shows, SetsList, shows-before, shows-after, keeps-shown, family-shown, sets-list}
 use Rattle.link_lists.proofs.Links.push_back.Goals as goal

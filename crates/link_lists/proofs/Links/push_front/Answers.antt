@@ -1,8 +1,4 @@
-use Rattle.std.proofs.Common.{◌≡◌, ◌≢◌, ◌+◌, ◌∷◌, length, set, sym, ap, ◌∙◌, subst, arith}
-use Rattle.std.specs.Vec.{with_items}
-use Rattle.std.proofs.lemmas.List.{with_items_is}
-use Rattle.link_lists.specs.inner.Family.{list_at}
-use Rattle.link_lists.specs.inner.Circles.{IsInserted, next_of, family_of}
+use Rattle.link_lists.proofs.Common.{◌≡◌, ◌≢◌, ◌+◌, ◌∷◌, length, set, sym, ap, ◌∙◌, subst, arith, with_items, with_items_is, list_at, IsInserted, next_of, family_of}
 use Rattle.link_lists.proofs.Kept.{with_lists, front-keeps, other-next}
 use Rattle.link_lists.proofs.Views.{Shows, SetsList, shows-before, shows-after, keeps-shown, family-shown, sets-list}
 use Rattle.link_lists.proofs.Links.push_front.Goals as goal

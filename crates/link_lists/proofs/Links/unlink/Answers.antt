@@ -1,8 +1,4 @@
-use Rattle.std.proofs.Common.{◌≡◌, length, map, sym, ap, ◌∙◌, subst, refl}
-use Rattle.std.specs.Vec.{with_items}
-use Rattle.std.proofs.lemmas.List.{with_items_is}
-use Rattle.link_lists.specs.inner.Family.{without}
-use Rattle.link_lists.specs.inner.Circles.{IsTakenOut, family_of}
+use Rattle.link_lists.proofs.Common.{◌≡◌, length, map, sym, ap, ◌∙◌, subst, refl, with_items, with_items_is, without, IsTakenOut, family_of}
 use Rattle.link_lists.proofs.Kept.{with_lists, out-keeps, held-in, held-moves, held-before}
 use Rattle.link_lists.proofs.Views.{Shows, ChangesLists, shows-before, shows-after, keeps-shown, family-shown, changes-lists}
 use Rattle.link_lists.proofs.Links.unlink.Goals as goal

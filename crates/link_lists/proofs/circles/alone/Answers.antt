@@ -1,8 +1,4 @@
-use Rattle.std.proofs.Common.{◌≡◌, ℕ, ◌+◌, ◌<◌, List, [], ◌∷◌, ◌++◌, length, sym, ap, ◌∙◌, subst, arith, inl, inr}
-use Rattle.std.proofs.lemmas.Bool.{cases_eq}
-use Rattle.std.proofs.lemmas.List.{get_or_append_left, get_or_push, length_push}
-use Rattle.link_lists.specs.declared.circles.Link.{Link}
-use Rattle.link_lists.specs.inner.Circles.{next_of, before_of, IsAlone}
+use Rattle.link_lists.proofs.Common.{◌≡◌, ℕ, ◌+◌, ◌<◌, List, [], ◌∷◌, ◌++◌, length, sym, ap, ◌∙◌, subst, arith, inl, inr, cases_eq, get_or_append_left, get_or_push, length_push, Link, next_of, before_of, IsAlone}
 use Rattle.link_lists.proofs.circles.alone.Goals as goal
 
 alone-push : (xs : List Link) (n : ℕ) → length xs ≡ n → ((p : ℕ) → p < n → IsAlone xs p) → (p : ℕ) → p < n + 1 → IsAlone (xs ++ record { next = n; before = n } ∷ []) p

@@ -1,5 +1,4 @@
-use Rattle.std.proofs.Common.{◌≡◌, ℕ, ◌<◌, length}
-use Rattle.link_lists.specs.inner.Circles.{IsAlone}
+use Rattle.link_lists.proofs.Common.{◌≡◌, ℕ, ◌<◌, length, IsAlone}
 use Rattle.link_lists.proofs.circles.alone.Given as goal
 
 abbrev pub invariant-loop-place : goal.invariant-loop-place

@@ -1,8 +1,6 @@
-use Rattle.std.proofs.Common.{Bool, Err, sym, subst}
-use Rattle.turn_lock.specs.Passes.{knowledge}
+use Rattle.live_sessions.proofs.Common.{Bool, Err, sym, subst, knowledge, adds_none-same}
 use Rattle.live_sessions.proofs.ScribeRuns.{Told, told, untold}
 use Rattle.live_sessions.proofs.actors.run_scribe.Goals as goal
-use Rattle.fleet_board.proofs.Looking.{adds_none-same}
 
 pub returns-then-head_failed : goal.returns-then-head_failed
 returns-then-head_failed g c =

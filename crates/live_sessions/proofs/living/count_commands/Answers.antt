@@ -1,4 +1,4 @@
-use Rattle.std.proofs.Common.{◌∙◌}
+use Rattle.live_sessions.proofs.Common.{◌∙◌}
 use Rattle.live_sessions.proofs.Counts.{count-fed}
 use Rattle.live_sessions.proofs.living.count_commands.Goals as goal
 

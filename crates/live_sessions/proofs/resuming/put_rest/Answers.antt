@@ -1,13 +1,4 @@
-use Rattle.std.proofs.Common.{◌≡◌, ℕ, false, ◌++◌, ◌-◌, List, length, take, drop, ap, subst, ◌∙◌}
-use Rattle.std.proofs.lemmas.List.{take_rest}
-use Rattle.std.specs.Prelude.{is_err, Result, IfOk}
-use Rattle.ride_model.specs.declared.entry.Entry.{Entry}
-use Rattle.ride_model.specs.Text.{entry_lines}
-use Rattle.ride_ports.specs.declared.sources.Failed.{Failed}
-use Rattle.line_text.specs.inner.text_page.Output.{HasPut, IsFresh}
-use Rattle.line_text.proofs.text_page.OutputLemmas.{put-same}
-use Rattle.session_loops.specs.declared.scribes.Scribed.{Scribed}
-use Rattle.live_sessions.specs.inner.Actors.{bare}
+use Rattle.live_sessions.proofs.Common.{◌≡◌, ℕ, false, ◌++◌, ◌-◌, List, length, take, drop, ap, subst, ◌∙◌, take_rest, is_err, Result, IfOk, Entry, entry_lines, Failed, HasPut, IsFresh, put-same, Scribed, bare}
 use Rattle.live_sessions.proofs.resuming.put_rest.Goals as goal
 
 pub returns-in-Ok-clause-logged : goal.returns-in-Ok-clause-logged

@@ -1,7 +1,4 @@
-use Rattle.std.proofs.Common.{inr, subst}
-use Rattle.board_core.specs.Recorded.{Recorded}
-use Rattle.live_sessions.specs.Resuming.{IsResumed}
-use Rattle.live_sessions.specs.inner.Serving.{feed_run}
+use Rattle.live_sessions.proofs.Common.{inr, subst, Recorded, IsResumed, feed_run}
 use Rattle.live_sessions.proofs.resuming.resume.Goals as goal
 
 pub returns-in-Ok-clause-log : goal.returns-in-Ok-clause-log

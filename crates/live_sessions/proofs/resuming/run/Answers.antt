@@ -1,16 +1,4 @@
-use Rattle.std.proofs.Common.{◌≡◌, ℕ, Bool, false, inl, inr, List, Option, ◌++◌, drop, sym, ap, subst, ◌∙◌}
-use Rattle.std.specs.Prelude.{IfOk, is_err}
-use Rattle.ride_model.specs.declared.entry.Entry.{Entry}
-use Rattle.ride_model.specs.Text.{entry_lines, head_line, text_of}
-use Rattle.ride_ports.specs.declared.outcome.Ran.{Ran}
-use Rattle.ride_ports.specs.Count.{KeepsCount}
-use Rattle.line_text.specs.inner.text_page.Output.{HasPut}
-use Rattle.line_text.proofs.text_page.OutputLemmas.{put-same}
-use Rattle.session_loops.specs.declared.scribes.Scribed.{Scribed}
-use Rattle.live_sessions.specs.inner.Actors.{bare}
-use Rattle.live_sessions.specs.Resuming.{IsResumed}
-use Rattle.live_sessions.specs.inner.Serving.{feed_run}
-use Rattle.live_sessions.specs.inner.Stages.{board_of, ran_of}
+use Rattle.live_sessions.proofs.Common.{◌≡◌, ℕ, Bool, false, inl, inr, List, Option, ◌++◌, drop, sym, ap, subst, ◌∙◌, IfOk, is_err, Entry, entry_lines, head_line, text_of, Ran, KeepsCount, HasPut, put-same, Scribed, bare, IsResumed, feed_run, board_of, ran_of}
 use Rattle.live_sessions.proofs.Served.{is-resumed, logged-all, sink-is, source-failed, sources-sound}
 use Rattle.live_sessions.proofs.StageLemmas.{drivers-faults, drivers-sink, feeder-faults, feeder-sink}
 use Rattle.live_sessions.proofs.resuming.run.Given as given

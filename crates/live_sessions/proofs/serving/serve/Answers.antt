@@ -1,5 +1,4 @@
-use Rattle.ride_model.specs.State.{start_state}
-use Rattle.live_sessions.specs.inner.Serving.{feed_run}
+use Rattle.live_sessions.proofs.Common.{start_state, feed_run}
 use Rattle.live_sessions.proofs.Beginnings.{may-begin, served-first}
 use Rattle.live_sessions.proofs.serving.serve.Goals as goal
 

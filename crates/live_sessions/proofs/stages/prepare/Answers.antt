@@ -1,15 +1,5 @@
-use Rattle.std.proofs.Common.{◌≡◌, ◌≢◌, ◌≤◌, length, sym, ap, subst, ◌∙◌}
-use Rattle.std.specs.Prelude.{MatchOption}
-use Rattle.ride_model.specs.History.{fed_commands}
-use Rattle.ride_model.specs.inner.Limits.{most_earlier_commands}
-use Rattle.board_core.specs.Recorded.{Recorded}
-use Rattle.turn_lock.specs.Passes.{knowledge}
-use Rattle.fleet_board.specs.inner.Passes.{root_of}
-use Rattle.fleet_board.specs.inner.Sets.{IsBack, IsNewPass, one_if_some}
+use Rattle.live_sessions.proofs.Common.{◌≡◌, ◌≢◌, ◌≤◌, length, sym, ap, subst, ◌∙◌, MatchOption, fed_commands, most_earlier_commands, Recorded, knowledge, root_of, IsBack, IsNewPass, one_if_some, Feeder, Stage, IsDeskOf, IsEquipped, IsFeederOf, IsFeedStart, MayRunActors}
 use Rattle.live_sessions.specs.declared.desk_pairs.Desk.{Desk}
-use Rattle.live_sessions.specs.declared.feed_pairs.Feeder.{Feeder}
-use Rattle.live_sessions.specs.declared.stages.Stage.{Stage}
-use Rattle.live_sessions.specs.inner.Stages.{IsDeskOf, IsEquipped, IsFeederOf, IsFeedStart, MayRunActors}
 use Rattle.live_sessions.proofs.StageLemmas.{at-some, equip, four, of-bare, second-count, second-ready}
 use Rattle.live_sessions.proofs.Starts.{may-run}
 use Rattle.live_sessions.proofs.stages.prepare.Goals as goal

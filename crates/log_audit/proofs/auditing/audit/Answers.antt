@@ -1,12 +1,4 @@
-use Rattle.std.proofs.Common.{◌≡◌, ◌≢◌, List, ℕ, Option, Result, Ok, Err, sym, ◌∙◌, subst}
-use Rattle.std.specs.Prelude.{IfSome}
-use Rattle.std.proofs.lemmas.Result.{err_from_is_err_and}
-use Rattle.ride_model.specs.State.{State, start_state}
-use Rattle.log_audit.specs.declared.verdict.AuditFault.{AuditFault}
-use Rattle.log_audit.specs.declared.verdict.AuditFault.TheVariants.{NoMemory, ReadFault}
-use Rattle.log_audit.specs.declared.verdict.Verdict.{Verdict}
-use Rattle.log_audit.specs.Audit.{IsAnswer}
-use Rattle.log_audit.specs.inner.Reading.{StopsReading}
+use Rattle.log_audit.proofs.Common.{◌≡◌, ◌≢◌, List, ℕ, Option, Result, Ok, Err, sym, ◌∙◌, subst, IfSome, err_from_is_err_and, State, start_state, AuditFault, NoMemory, ReadFault, Verdict, IsAnswer, StopsReading}
 use Rattle.log_audit.proofs.AuditSteps.{only-answer, stopped-fault, stopped-long}
 use Rattle.log_audit.proofs.auditing.audit.Goals as goal
 
@@ -22,21 +14,22 @@ pub returns-in_err-reading-clause-answer : goal.returns-in_err-reading-clause-an
 returns-in_err-reading-clause-answer g c = λ memory fault.
     let failed = err_from_is_err_and c.from_residual.result c.from_residual.ensures.1 in
     stopped (g.S.Source.left c.args.log.now) _ (start_state c.args.roads.now c.args.settings c.args.fleet) failed.0 c.in_err-reading.field-0.0
-    c.from_residual.result failed.1 failed.2 c.in_err-reading.ensures.read memory fault
+    c.from_residual.result failed.1 failed.2 (rw c.new-outset.ensures.state at c.in_err-reading.ensures.read) memory fault
 
 pub returns-in_err-reading-clause-no_other : goal.returns-in_err-reading-clause-no_other
 returns-in_err-reading-clause-no_other g c = λ memory fault.
     let failed = err_from_is_err_and c.from_residual.result c.from_residual.ensures.1 in
     let before = g.S.Source.left c.args.log.now in
     let start : State = start_state c.args.roads.now c.args.settings c.args.fleet in
-    only-answer before start c.from_residual.result c.read_log.ensures.start
-    (stopped before _ start failed.0 c.in_err-reading.field-0.0 c.from_residual.result failed.1 failed.2 c.in_err-reading.ensures.read memory fault)
+    only-answer before start c.from_residual.result c.new-outset.ensures.start
+    (stopped before _ start failed.0 c.in_err-reading.field-0.0 c.from_residual.result failed.1 failed.2
+    (rw c.new-outset.ensures.state at c.in_err-reading.ensures.read) memory fault)
 
 pub returns-in_err-reading-clause-before_fault : goal.returns-in_err-reading-clause-before_fault
 returns-in_err-reading-clause-before_fault g c = λ fault.
     let failed = err_from_is_err_and c.from_residual.result c.from_residual.ensures.1 in
     stopped-fault (g.S.Source.left c.args.log.now) _ (start_state c.args.roads.now c.args.settings c.args.fleet) c.in_err-reading.field-0.0
-    (cc (failed.1, failed.2, fault)) c.in_err-reading.ensures.read
+    (cc (failed.1, failed.2, fault)) (rw c.new-outset.ensures.state at c.in_err-reading.ensures.read)
 
 pub verdict_of-requires : goal.verdict_of-requires
 verdict_of-requires g c =
@@ -44,24 +37,23 @@ verdict_of-requires g c =
       read = (
         g.S.Source.left c.args.log.now,
         g.S.Source.left c.read_log.new.log,
-        start_state c.args.roads.now c.args.settings c.args.fleet,
+        c.new-outset.result,
         c.in_ok-reading.ensures.read,
       );
     }
 
 pub returns-clause-answer : goal.returns-clause-answer
 returns-clause-answer g c = λ memory fault.
-    c.verdict_of.ensures.answer (g.S.Source.left c.args.log.now) _ (start_state c.args.roads.now c.args.settings c.args.fleet) c.read_log.ensures.start
-    c.in_ok-reading.ensures.read
+    c.verdict_of.ensures.answer (g.S.Source.left c.args.log.now) _ (start_state c.args.roads.now c.args.settings c.args.fleet) c.new-outset.ensures.start
+    (rw c.new-outset.ensures.state at c.in_ok-reading.ensures.read)
 
 pub returns-clause-no_other : goal.returns-clause-no_other
 returns-clause-no_other g c = λ memory fault.
     let before = g.S.Source.left c.args.log.now in
     let start : State = start_state c.args.roads.now c.args.settings c.args.fleet in
-    only-answer before start (Ok c.verdict_of.result) c.read_log.ensures.start
-    (c.verdict_of.ensures.answer before _ start c.read_log.ensures.start c.in_ok-reading.ensures.read)
+    only-answer before start (Ok c.verdict_of.result) c.new-outset.ensures.start
+    (c.verdict_of.ensures.answer before _ start c.new-outset.ensures.start (rw c.new-outset.ensures.state at c.in_ok-reading.ensures.read))
 
 pub returns-clause-to_end : goal.returns-clause-to_end
 returns-clause-to_end g c = λ totals is.
-    c.verdict_of.ensures.to_end (g.S.Source.left c.args.log.now) _ (start_state c.args.roads.now c.args.settings c.args.fleet)
-    c.in_ok-reading.ensures.read totals (cc is)
+    c.verdict_of.ensures.to_end (g.S.Source.left c.args.log.now) _ c.new-outset.result c.in_ok-reading.ensures.read totals (cc is)

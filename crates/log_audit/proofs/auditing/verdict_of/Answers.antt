@@ -1,5 +1,4 @@
-use Rattle.std.proofs.Common.{subst}
-use Rattle.log_audit.specs.inner.Reading.{HasEnded, HasReadLog}
+use Rattle.log_audit.proofs.Common.{subst, HasEnded, HasReadLog}
 use Rattle.log_audit.proofs.AuditSteps.{no-head-answer}
 use Rattle.log_audit.proofs.Readings.{torn-answer, wrong-answer}
 use Rattle.log_audit.proofs.auditing.verdict_of.Goals as goal

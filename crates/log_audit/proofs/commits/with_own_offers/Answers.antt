@@ -1,7 +1,4 @@
-use Rattle.std.proofs.Common.{◌+◌, get_or, sym, ◌∙◌, ap, subst, arith, nat_eq}
-use Rattle.std.specs.Prelude.{option_copied}
-use Rattle.std.specs.List.{IsDistinct}
-use Rattle.ride_model.specs.Seating.{vehicle_ids}
+use Rattle.log_audit.proofs.Common.{◌+◌, get_or, sym, ◌∙◌, ap, subst, arith, nat_eq, option_copied, IsDistinct, vehicle_ids}
 use Rattle.log_audit.proofs.OwnCells.{OwnsSoFar, own-none, own-more, own-dear, own-there, own-all, own-inside, place-read, no_place}
 use Rattle.log_audit.proofs.commits.with_own_offers.Goals as goal
 

@@ -1,7 +1,4 @@
-use Rattle.ride_model.specs.Road.{RoadMap}
-use Rattle.ride_model.specs.Seating.{IsSeating}
-use Rattle.batch_commit.specs.inner.Table.{IsTableOf}
-use Rattle.log_audit.specs.inner.Seated.{ArePlaced}
+use Rattle.log_audit.proofs.Common.{RoadMap, IsSeating, IsTableOf, ArePlaced}
 use Rattle.log_audit.proofs.OwnCells.{OwnsSoFar}
 use Rattle.log_audit.proofs.commits.with_own_offers.Given as goal
 

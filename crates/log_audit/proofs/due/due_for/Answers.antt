@@ -1,4 +1,4 @@
-use Rattle.std.proofs.Common.{sym}
+use Rattle.log_audit.proofs.Common.{sym}
 use Rattle.log_audit.proofs.DueLines.{line-due, none-due}
 use Rattle.log_audit.proofs.Readings.{wrong-answer}
 use Rattle.log_audit.proofs.due.due_for.Goals as goal

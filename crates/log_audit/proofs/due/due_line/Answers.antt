@@ -1,11 +1,4 @@
-use Rattle.std.proofs.Common.{◌≡◌, ◌≢◌, List, ℕ, Option, Result, Err, Vec, Global, sym, ◌∙◌, subst}
-use Rattle.std.specs.Prelude.{IfSome}
-use Rattle.std.proofs.lemmas.Result.{err_from_is_err_and}
-use Rattle.ride_model.specs.State.{State, start_state}
-use Rattle.log_audit.specs.declared.verdict.AuditFault.{AuditFault}
-use Rattle.log_audit.specs.declared.verdict.AuditFault.TheVariants.{NoMemory, ReadFault}
-use Rattle.log_audit.specs.inner.Due.{IsDueOf}
-use Rattle.log_audit.specs.inner.Reading.{StopsReading}
+use Rattle.log_audit.proofs.Common.{◌≡◌, ◌≢◌, List, ℕ, Option, Result, Err, Vec, Global, sym, ◌∙◌, subst, IfSome, err_from_is_err_and, State, start_state, AuditFault, NoMemory, ReadFault, IsDueOf, StopsReading}
 use Rattle.log_audit.proofs.AuditSteps.{stopped-fault, stopped-long}
 use Rattle.log_audit.proofs.due.due_line.Goals as goal
 
@@ -21,19 +14,19 @@ pub returns-in_err-reading-clause-due : goal.returns-in_err-reading-clause-due
 returns-in_err-reading-clause-due g c = λ memory fault.
     let failed = err_from_is_err_and c.from_residual.result c.from_residual.ensures.1 in
     stopped (g.S.Source.left c.args.log.now) _ (start_state c.args.roads.now c.args.settings c.args.fleet) failed.0 c.in_err-reading.field-0.0
-    c.from_residual.result failed.1 failed.2 c.in_err-reading.ensures.read memory fault
+    c.from_residual.result failed.1 failed.2 (rw c.new-outset.ensures.state at c.in_err-reading.ensures.read) memory fault
 
 pub returns-in_err-reading-clause-before_fault : goal.returns-in_err-reading-clause-before_fault
 returns-in_err-reading-clause-before_fault g c = λ fault.
     let failed = err_from_is_err_and c.from_residual.result c.from_residual.ensures.1 in
     stopped-fault (g.S.Source.left c.args.log.now) _ (start_state c.args.roads.now c.args.settings c.args.fleet) c.in_err-reading.field-0.0
-    (cc (failed.1, failed.2, fault)) c.in_err-reading.ensures.read
+    (cc (failed.1, failed.2, fault)) (rw c.new-outset.ensures.state at c.in_err-reading.ensures.read)
 
 pub line_due-requires-clause-read : goal.line_due-requires-clause-read
 line_due-requires-clause-read g c κs within =
-    (g.S.Source.left c.args.log.now, g.S.Source.left c.read_log.new.log, start_state c.args.roads.now c.args.settings c.args.fleet, c.in_ok-reading.ensures.read)
+    (g.S.Source.left c.args.log.now, g.S.Source.left c.read_log.new.log, c.new-outset.result, c.in_ok-reading.ensures.read)
 
 pub returns-clause-due : goal.returns-clause-due
 returns-clause-due g c = λ memory fault.
-    c.in_ok-line.ensures (g.S.Source.left c.args.log.now) _ (start_state c.args.roads.now c.args.settings c.args.fleet) c.read_log.ensures.start
-    c.in_ok-reading.ensures.read
+    c.in_ok-line.ensures (g.S.Source.left c.args.log.now) _ (start_state c.args.roads.now c.args.settings c.args.fleet) c.new-outset.ensures.start
+    (rw c.new-outset.ensures.state at c.in_ok-reading.ensures.read)

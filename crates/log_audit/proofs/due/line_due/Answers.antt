@@ -1,6 +1,4 @@
-use Rattle.std.proofs.Common.{refl, subst}
-use Rattle.log_audit.specs.declared.verdict.Why.TheVariants.{Spelling}
-use Rattle.log_audit.specs.inner.Reading.{HasEnded, HasReadLog}
+use Rattle.log_audit.proofs.Common.{refl, subst, Spelling, HasEnded, HasReadLog}
 use Rattle.log_audit.proofs.AuditSteps.{no-head-answer}
 use Rattle.log_audit.proofs.DueLines.{none-due}
 use Rattle.log_audit.proofs.Readings.{torn-answer}

@@ -1,4 +1,4 @@
-use Rattle.ride_model.specs.Legal.{replay}
+use Rattle.log_audit.proofs.Common.{replay}
 use Rattle.log_audit.proofs.Legality.{words-legal, legal-words, batches-differ}
 use Rattle.log_audit.proofs.laws.words_together_are_legality.Goals as goal
 

@@ -1,6 +1,5 @@
-use Rattle.std.proofs.Common.{◌++◌, subst}
+use Rattle.log_audit.proofs.Common.{◌++◌, subst, IsStopped}
 use Rattle.line_text.specs.declared.line_reader.answers.ReadStop.{ReadStop}
-use Rattle.line_text.specs.inner.line_reader.Reader.{IsStopped}
 use Rattle.log_audit.proofs.LogParts.{next-read, stop-failed, stop-long}
 use Rattle.log_audit.proofs.lines.next_line.Goals as goal
 

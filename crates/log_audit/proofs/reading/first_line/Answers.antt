@@ -1,7 +1,5 @@
-use Rattle.std.proofs.Common.{[]}
-use Rattle.std.proofs.lemmas.Result.{err_from_is_err_and}
+use Rattle.log_audit.proofs.Common.{[], err_from_is_err_and, sym, ◌∙◌}
 use Rattle.log_audit.proofs.AuditSteps.{head-found, head-missing, head-over}
-use Rattle.std.proofs.Common.{sym, ◌∙◌}
 use Rattle.log_audit.proofs.reading.first_line.Goals as goal
 
 pub next_line-requires-clause-read : goal.next_line-requires-clause-read

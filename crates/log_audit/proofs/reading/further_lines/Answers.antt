@@ -1,8 +1,4 @@
-use Rattle.std.proofs.Common.{length, refl, sym, ◌∙◌, ap, subst, arith}
-use Rattle.std.proofs.lemmas.Result.{err_from_is_err_and}
-use Rattle.ride_ports.proofs.Counts.{KeepsCount-none, KeepsCount-then}
-use Rattle.log_audit.specs.inner.Audited.{text_so_far}
-use Rattle.log_audit.specs.inner.LogLines.{HasRead, IsNext}
+use Rattle.log_audit.proofs.Common.{length, refl, sym, ◌∙◌, ap, subst, arith, err_from_is_err_and, KeepsCount-none, KeepsCount-then, text_so_far, HasRead, IsNext}
 use Rattle.log_audit.proofs.AuditSteps.{LineJudged, few-entries, log-of, stops-reading}
 use Rattle.log_audit.proofs.Ends.{one-line-more, whole-text}
 use Rattle.log_audit.proofs.LogParts.{lines-counted, takes-none, takes-then}

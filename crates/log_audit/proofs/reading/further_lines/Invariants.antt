@@ -1,9 +1,5 @@
-use Rattle.std.proofs.Common.{◌≡◌, ℕ, false, List, Option}
+use Rattle.log_audit.proofs.Common.{◌≡◌, ℕ, false, List, Option, text_so_far, IsAuditing, TakesSome, HasRead}
 use Rattle.ride_ports.specs.Count.{KeepsCount}
-use Rattle.log_audit.specs.inner.Audited.{text_so_far}
-use Rattle.log_audit.specs.inner.Auditing.{IsAuditing}
-use Rattle.log_audit.specs.LogLines.{TakesSome}
-use Rattle.log_audit.specs.inner.LogLines.{HasRead}
 use Rattle.log_audit.proofs.reading.further_lines.Given as goal
 
 -- the lines so far were right

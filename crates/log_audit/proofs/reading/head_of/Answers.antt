@@ -1,4 +1,4 @@
-use Rattle.std.proofs.Common.{◌++◌, ◌∷◌, []}
+use Rattle.log_audit.proofs.Common.{◌++◌, ◌∷◌, []}
 use Rattle.log_audit.proofs.AuditSteps.{other-version}
 use Rattle.log_audit.proofs.reading.head_of.Goals as goal
 

@@ -1,4 +1,4 @@
-use Rattle.std.proofs.Common.{◌≡◌, true, false, sym, ◌∙◌}
+use Rattle.log_audit.proofs.Common.{◌≡◌, true, false, sym, ◌∙◌}
 use Rattle.log_audit.proofs.AuditSteps.{over-wrong, unread-wrong, read-judged, spelling-left}
 use Rattle.log_audit.proofs.reading.judge_line.Goals as goal
 

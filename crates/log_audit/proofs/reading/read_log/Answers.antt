@@ -1,12 +1,4 @@
-use Rattle.std.proofs.Common.{◌≡◌, List, Option, None, Some, ℕ, ap, subst}
-use Rattle.std.specs.Prelude.{MatchOption}
-use Rattle.std.proofs.lemmas.Result.{err_from_is_err_and}
-use Rattle.ride_model.specs.State.{State, start_state}
-use Rattle.ride_ports.proofs.Counts.{KeepsCount-then}
-use Rattle.trip_log.specs.declared.reading.Head.{Head}
-use Rattle.log_audit.specs.inner.Audited.{HasReadNoHead}
-use Rattle.log_audit.specs.inner.LogLines.{HasRead}
-use Rattle.log_audit.specs.inner.Reading.{HasEnded, StopsReading}
+use Rattle.log_audit.proofs.Common.{◌≡◌, List, Option, None, Some, ℕ, ap, sym, subst, ◌∙◌, MatchOption, err_from_is_err_and, State, KeepsCount-then, Head, HasReadNoHead, HasRead, HasEnded, StopsReading}
 use Rattle.log_audit.proofs.AuditSteps.{board-nothing, stops-head}
 use Rattle.log_audit.proofs.LogParts.{takes-then}
 use Rattle.log_audit.proofs.reading.read_log.Goals as goal
@@ -22,24 +14,24 @@ a-head before version P o head is h = subst (λ x. MatchOption x (HasReadNoHead 
 pub new-requires-clause-feeds : goal.new-requires-clause-feeds
 new-requires-clause-feeds g c =
     let before = g.S.Source.left c.args.log.now in
-    (a-head before c.args.settings.log _ c.in_ok-head.field-0 c.in-Some.head c.in-Some.is
+    (a-head before c.outset.inside.settings.log _ c.in_ok-head.field-0 c.in-Some.head c.in-Some.is
     (c.in_ok-head.ensures.head before (c.in_ok-lines.ensures before))).feeds_fit
 
 pub new-requires-clause-desks : goal.new-requires-clause-desks
 new-requires-clause-desks g c =
     let before = g.S.Source.left c.args.log.now in
-    (a-head before c.args.settings.log _ c.in_ok-head.field-0 c.in-Some.head c.in-Some.is
+    (a-head before c.outset.inside.settings.log _ c.in_ok-head.field-0 c.in-Some.head c.in-Some.is
     (c.in_ok-head.ensures.head before (c.in_ok-lines.ensures before))).desks_fit
 
 pub further_lines-requires-clause-read : goal.further_lines-requires-clause-read
 further_lines-requires-clause-read g c κs within =
     let before = g.S.Source.left c.args.log.now in
-    let found = a-head before c.args.settings.log _ c.in_ok-head.field-0 c.in-Some.head c.in-Some.is
+    let found = a-head before c.outset.inside.settings.log _ c.in_ok-head.field-0 c.in-Some.head c.in-Some.is
     (c.in_ok-head.ensures.head before (c.in_ok-lines.ensures before)) in (
       before,
       subst (HasRead before _ c.first_line.new.lines)
-          (board-nothing c.in_ok-auditor.auditor.board c.args.settings.log c.in-Some.head.feeds c.in-Some.head.desks
-          (ap (λ (s : State). s.settings.log) c.in_ok-auditor.ensures.start) c.in_ok-auditor.ensures.feeds c.in_ok-auditor.ensures.desks
+          (board-nothing c.in_ok-auditor.auditor.board c.outset.inside.settings.log c.in-Some.head.feeds c.in-Some.head.desks
+          (ap (λ (s : State). s.settings.log) (c.in_ok-auditor.ensures.start ∙ sym c.outset.view_is)) c.in_ok-auditor.ensures.feeds c.in_ok-auditor.ensures.desks
           c.in_ok-auditor.ensures.history) found.read,
     )
 
@@ -47,22 +39,23 @@ pub returns-in_err-head-clause-read : goal.returns-in_err-head-clause-read
 returns-in_err-head-clause-read g c =
     let failed = err_from_is_err_and c.from_residual-in_err-head.result c.from_residual-in_err-head.ensures.1 in
     let before = g.S.Source.left c.args.log.now in
-    rw (failed.1, failed.2) (stops-head before _ (start_state c.args.roads.now c.args.settings c.args.fleet) c.in_err-head.field-0.0
+    rw (failed.1, failed.2) (stops-head before _ c.args.outset c.in_err-head.field-0.0
     (c.in_err-head.ensures.head before (c.in_ok-lines.ensures before)))
 
 pub returns-in_default-clause-read : goal.returns-in_default-clause-read
 returns-in_default-clause-read g c =
     let before = g.S.Source.left c.args.log.now in
-    no-head before before c.args.settings.log _ c.in_ok-head.field-0 c.in_default.is (c.in_ok-head.ensures.head before (c.in_ok-lines.ensures before))
+    subst (λ (s : State). HasReadNoHead before s.settings.log) c.outset.view_is
+    (no-head before before c.outset.inside.settings.log _ c.in_ok-head.field-0 c.in_default.is (c.in_ok-head.ensures.head before (c.in_ok-lines.ensures before)))
 
 pub returns-clause-read : goal.returns-clause-read
 returns-clause-read g c =
     let before = g.S.Source.left c.args.log.now in
-    let found = a-head before c.args.settings.log _ c.in_ok-head.field-0 c.in-Some.head c.in-Some.is
+    let found = a-head before c.outset.inside.settings.log _ c.in_ok-head.field-0 c.in-Some.head c.in-Some.is
     (c.in_ok-head.ensures.head before (c.in_ok-lines.ensures before)) in
     let read = subst (HasRead before _ c.first_line.new.lines)
-    (board-nothing c.in_ok-auditor.auditor.board c.args.settings.log c.in-Some.head.feeds c.in-Some.head.desks
-    (ap (λ (s : State). s.settings.log) c.in_ok-auditor.ensures.start) c.in_ok-auditor.ensures.feeds c.in_ok-auditor.ensures.desks
+    (board-nothing c.in_ok-auditor.auditor.board c.outset.inside.settings.log c.in-Some.head.feeds c.in-Some.head.desks
+    (ap (λ (s : State). s.settings.log) (c.in_ok-auditor.ensures.start ∙ sym c.outset.view_is)) c.in_ok-auditor.ensures.feeds c.in_ok-auditor.ensures.desks
     c.in_ok-auditor.ensures.history) found.read in
     subst (λ (s : State). HasEnded before (g.S.Source.left c.further_lines.new.log) s c.further_lines.new.auditor c.in_ok-ended.ended) c.in_ok-auditor.ensures.start
     (c.in_ok-ended.ensures.ended before read)
@@ -74,11 +67,11 @@ pub returns-in_err-ended-clause-read : goal.returns-in_err-ended-clause-read
 returns-in_err-ended-clause-read g c =
     let failed = err_from_is_err_and c.from_residual-in_err-ended.result c.from_residual-in_err-ended.ensures.1 in
     let before = g.S.Source.left c.args.log.now in
-    let found = a-head before c.args.settings.log _ c.in_ok-head.field-0 c.in-Some.head c.in-Some.is
+    let found = a-head before c.outset.inside.settings.log _ c.in_ok-head.field-0 c.in-Some.head c.in-Some.is
     (c.in_ok-head.ensures.head before (c.in_ok-lines.ensures before)) in
     let read = subst (HasRead before _ c.first_line.new.lines)
-    (board-nothing c.in_ok-auditor.auditor.board c.args.settings.log c.in-Some.head.feeds c.in-Some.head.desks
-    (ap (λ (s : State). s.settings.log) c.in_ok-auditor.ensures.start) c.in_ok-auditor.ensures.feeds c.in_ok-auditor.ensures.desks
+    (board-nothing c.in_ok-auditor.auditor.board c.outset.inside.settings.log c.in-Some.head.feeds c.in-Some.head.desks
+    (ap (λ (s : State). s.settings.log) (c.in_ok-auditor.ensures.start ∙ sym c.outset.view_is)) c.in_ok-auditor.ensures.feeds c.in_ok-auditor.ensures.desks
     c.in_ok-auditor.ensures.history) found.read in
     rw (failed.1, failed.2) (subst (λ (s : State). StopsReading before (g.S.Source.left c.further_lines.new.log) s c.in_err-ended.field-0.0)
     c.in_ok-auditor.ensures.start (c.in_err-ended.ensures.ended before read))

@@ -1,5 +1,4 @@
-use Rattle.std.proofs.Common.{◌≡◌, [], subst, sym, ◌∙◌}
-use Rattle.log_audit.specs.inner.Reading.{HasEnded, HasReadLog}
+use Rattle.log_audit.proofs.Common.{◌≡◌, [], subst, sym, ◌∙◌, HasEnded, HasReadLog}
 use Rattle.log_audit.proofs.Restorations.{all-restored, board-restored, no-head-restored, wrong-restored}
 use Rattle.log_audit.proofs.restoring.restoration_of.Goals as goal
 

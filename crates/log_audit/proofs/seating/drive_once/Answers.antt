@@ -1,4 +1,4 @@
-use Rattle.std.proofs.Common.{sym}
+use Rattle.log_audit.proofs.Common.{sym}
 use Rattle.log_audit.proofs.Vehicles.{once-none, once-more, not-once}
 use Rattle.log_audit.proofs.seating.drive_once.Goals as goal
 

@@ -1,6 +1,4 @@
-use Rattle.std.proofs.Common.{map, take, nat_eq}
-use Rattle.std.specs.List.{IsDistinct}
-use Rattle.ride_model.specs.declared.offer.Seat.{Seat}
+use Rattle.log_audit.proofs.Common.{map, take, nat_eq, IsDistinct, Seat}
 use Rattle.log_audit.proofs.seating.drive_once.Given as goal
 
 -- the vehicles of the seats so far differ

@@ -1,12 +1,4 @@
-use Rattle.std.proofs.Common.{◌≡◌, ℕ, sym, ◌∙◌, subst}
-use Rattle.std.specs.Prelude.{Option, Some, None, MatchOption, slice_index_or}
-use Rattle.ride_model.specs.declared.offer.Offer.{Offer}
-use Rattle.ride_model.specs.declared.vehicle.Ride.{Ride}
-use Rattle.ride_model.specs.declared.vehicle.Vehicle.{Vehicle}
-use Rattle.ride_model.specs.Offers.{offer_of, price}
-use Rattle.ride_model.specs.Road.{RoadMap}
-use Rattle.ride_model.specs.Seating.{BatchCopy}
-use Rattle.batch_commit.specs.inner.Table.{IsLeastOffer}
+use Rattle.log_audit.proofs.Common.{◌≡◌, ℕ, sym, ◌∙◌, subst, Option, Some, None, MatchOption, slice_index_or, Offer, Ride, Vehicle, offer_of, price, RoadMap, BatchCopy, IsLeastOffer}
 use Rattle.log_audit.proofs.seating.offer_at.Goals as goal
 
 -- a cell with an offer has that of its places

@@ -1,12 +1,4 @@
-use Rattle.std.proofs.Common.{◌≡◌, Option, Some, None, length, get_or, sym, ◌∙◌, ap, subst, arith}
-use Rattle.std.specs.Prelude.{IsSome, MatchOption}
-use Rattle.std.proofs.lemmas.List.{length_push}
-use Rattle.ride_model.specs.declared.offer.Offer.{Offer}
-use Rattle.ride_model.specs.declared.offer.Seat.{Seat}
-use Rattle.ride_model.specs.Road.{RoadMap}
-use Rattle.ride_model.specs.Seating.{BatchCopy, seat_offer}
-use Rattle.log_audit.specs.declared.seating.Placed.{Placed}
-use Rattle.log_audit.specs.inner.Seated.{IsPlaced}
+use Rattle.log_audit.proofs.Common.{◌≡◌, Option, Some, None, length, get_or, sym, ◌∙◌, ap, subst, arith, IsSome, MatchOption, length_push, Offer, Seat, RoadMap, BatchCopy, seat_offer, Placed, IsPlaced}
 use Rattle.log_audit.proofs.Placing.{placed-more}
 use Rattle.log_audit.proofs.seating.placed_of.Goals as goal
 

@@ -1,7 +1,4 @@
-use Rattle.std.proofs.Common.{◌≡◌, ℕ, ◌<◌, length, get_or}
-use Rattle.ride_model.specs.declared.offer.Seat.{Seat}
-use Rattle.log_audit.specs.declared.seating.Placed.{Placed}
-use Rattle.log_audit.specs.inner.Seated.{IsPlaced}
+use Rattle.log_audit.proofs.Common.{◌≡◌, ℕ, ◌<◌, length, get_or, Seat, Placed, IsPlaced}
 use Rattle.log_audit.proofs.seating.placed_of.Given as goal
 
 -- the seats so far have their places

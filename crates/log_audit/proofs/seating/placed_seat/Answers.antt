@@ -1,6 +1,4 @@
-use Rattle.std.proofs.Common.{sym, ◌∙◌, subst, nat_eq}
-use Rattle.std.specs.List.{IsDistinct}
-use Rattle.ride_model.specs.Seating.{vehicle_ids}
+use Rattle.log_audit.proofs.Common.{sym, ◌∙◌, subst, nat_eq, IsDistinct, vehicle_ids}
 use Rattle.log_audit.proofs.Placing.{AtPlaces, no-ride, no-vehicle, at-places, seat-offer-at}
 use Rattle.log_audit.proofs.seating.placed_seat.Goals as goal
 

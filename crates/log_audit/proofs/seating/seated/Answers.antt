@@ -1,9 +1,4 @@
-use Rattle.std.proofs.Common.{◌≡◌, length, refl, sym, ◌∙◌, ap, subst, arith, nat_eq}
-use Rattle.std.specs.Prelude.{map, filter}
-use Rattle.std.specs.List.{IsDistinct}
-use Rattle.ride_model.specs.declared.offer.Seat.{Seat}
-use Rattle.ride_model.specs.Seating.{has_seat, vehicle_ids}
-use Rattle.ride_model.specs.Vehicle.{ride_ids}
+use Rattle.log_audit.proofs.Common.{◌≡◌, length, refl, sym, ◌∙◌, ap, subst, arith, nat_eq, map, filter, IsDistinct, Seat, has_seat, vehicle_ids, ride_ids}
 use Rattle.log_audit.proofs.SeatCosts.{each-offered, few-seats, places-found, cost-is}
 use Rattle.log_audit.proofs.seating.seated.Goals as goal
 

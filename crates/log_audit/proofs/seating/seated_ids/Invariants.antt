@@ -1,6 +1,4 @@
-use Rattle.std.proofs.Common.{◌≡◌, filter, take}
-use Rattle.ride_model.specs.Seating.{has_seat}
-use Rattle.ride_model.specs.Vehicle.{ride_ids}
+use Rattle.log_audit.proofs.Common.{◌≡◌, filter, take, has_seat, ride_ids}
 use Rattle.log_audit.proofs.seating.seated_ids.Given as goal
 
 -- the ids so far

@@ -1,6 +1,4 @@
-use Rattle.std.proofs.Common.{◌≡◌, ◌*◌, ◌^◌, ◌≤◌, take}
-use Rattle.std.specs.Prelude.{sum_by}
-use Rattle.log_audit.specs.declared.seating.Placed.{Placed}
+use Rattle.log_audit.proofs.Common.{◌≡◌, ◌*◌, ◌^◌, ◌≤◌, take, sum_by, Placed}
 use Rattle.log_audit.proofs.seating.total.Given as goal
 
 -- the sum so far

@@ -1,7 +1,4 @@
-use Rattle.std.proofs.Common.{subst}
-use Rattle.std.proofs.lemmas.Result.{IfOk-weaker}
-use Rattle.ride_model.specs.Road.{IsRoadMap}
-use Rattle.batch_commit.specs.inner.Table.{HasSmallCosts, IsTableOf}
+use Rattle.pricing_workers.proofs.Common.{subst, IfOk-weaker, IsRoadMap, HasSmallCosts, IsTableOf}
 use Rattle.pricing_workers.proofs.SmallCosts.{small-costs}
 use Rattle.pricing_workers.proofs.batches.price_batch_by.Goals as goal
 

@@ -1,6 +1,4 @@
-use Rattle.std.proofs.Common.{sym, subst}
-use Rattle.std.specs.Prelude.{All}
-use Rattle.ride_model.specs.Road.{IsNode}
+use Rattle.pricing_workers.proofs.Common.{sym, subst, All, IsNode}
 use Rattle.pricing_workers.proofs.Nodes.{nodes-on-map}
 use Rattle.pricing_workers.proofs.batches.renew_wanted.Goals as goal
 

@@ -1,4 +1,4 @@
-use Rattle.std.proofs.Common.{◌≡◌}
+use Rattle.pricing_workers.proofs.Common.{◌≡◌}
 use Rattle.pricing_workers.proofs.batches.take_settled.Given as goal
 
 -- the scratches are as they were

@@ -1,7 +1,4 @@
-use Rattle.std.proofs.Common.{◌*◌, length, drop, sym, ap, ◌∙◌, subst, length-append, length-drop}
-use Rattle.std.specs.Prelude.{All}
-use Rattle.std.proofs.lemmas.List.Elements.{All-append, All-drop}
-use Rattle.pricing_workers.specs.inner.Rows.{HasRows}
+use Rattle.pricing_workers.proofs.Common.{◌*◌, length, drop, sym, ap, ◌∙◌, subst, length-append, length-drop, All, All-append, All-drop, HasRows}
 use Rattle.pricing_workers.proofs.Filling.{back-cells, parts-whole, rows-halves}
 use Rattle.pricing_workers.proofs.HeldTimes.{held-room}
 use Rattle.pricing_workers.proofs.cells.+fill_parts.Goals as goal

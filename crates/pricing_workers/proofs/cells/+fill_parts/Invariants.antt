@@ -1,4 +1,4 @@
-use Rattle.std.proofs.Common.{length}
+use Rattle.pricing_workers.proofs.Common.{length}
 use Rattle.pricing_workers.proofs.cells.+fill_parts.Given as goal
 
 -- each half has fewer requests than the whole

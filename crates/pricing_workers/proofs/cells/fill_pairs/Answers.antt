@@ -1,5 +1,4 @@
-use Rattle.std.proofs.Common.{◌≡◌, ◌+◌, ◌*◌, ◌/◌, ◌<◌, length, arith, ap, ◌∙◌, sym, subst}
-use Rattle.std.proofs.lemmas.List.{length-set}
+use Rattle.pricing_workers.proofs.Common.{◌≡◌, ◌+◌, ◌*◌, ◌/◌, ◌<◌, length, arith, ap, ◌∙◌, sym, subst, length-set}
 use Rattle.pricing_workers.proofs.PairNumbers.{request-in, may-price, cell-filled}
 use Rattle.pricing_workers.proofs.cells.fill_pairs.Goals as goal
 

@@ -1,8 +1,4 @@
-use Rattle.std.proofs.Common.{◌≡◌, ◌+◌, ◌*◌, ◌<◌, ℕ, length, get_or}
-use Rattle.std.specs.Prelude.{None}
-use Rattle.ride_model.specs.declared.vehicle.Ride.{Ride}
-use Rattle.ride_model.specs.declared.vehicle.Vehicle.{Vehicle}
-use Rattle.pricing_workers.specs.inner.Cells.{IsCellOf}
+use Rattle.pricing_workers.proofs.Common.{◌≡◌, ◌+◌, ◌*◌, ◌<◌, ℕ, length, get_or, None, Ride, Vehicle, IsCellOf}
 use Rattle.pricing_workers.proofs.cells.fill_pairs.Given as goal
 
 -- the first cells are filled, and there are as many as there were

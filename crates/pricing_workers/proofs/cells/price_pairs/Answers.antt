@@ -1,5 +1,4 @@
-use Rattle.std.proofs.Common.{arith, ◌∙◌}
-use Rattle.std.specs.Prelude.{None}
+use Rattle.pricing_workers.proofs.Common.{arith, ◌∙◌, None}
 use Rattle.pricing_workers.proofs.PairNumbers.{rows-of-pairs}
 use Rattle.pricing_workers.proofs.cells.price_pairs.Goals as goal
 

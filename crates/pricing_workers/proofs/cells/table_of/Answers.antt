@@ -1,9 +1,4 @@
-use Rattle.std.proofs.Common.{◌≡◌, length, sym, ap, ◌∙◌, subst, arith}
-use Rattle.std.specs.Prelude.{All}
-use Rattle.std.proofs.Math.Seq.{take-append_seam}
-use Rattle.batch_commit.specs.inner.Table.{Table}
-use Rattle.pricing_workers.specs.inner.Cells.{AreRowsOf}
-use Rattle.pricing_workers.specs.inner.Pairs.{IsRequest}
+use Rattle.pricing_workers.proofs.Common.{◌≡◌, length, sym, ap, ◌∙◌, subst, arith, All, take-append_seam, Table, AreRowsOf, IsRequest}
 use Rattle.pricing_workers.proofs.Filling.{table-of-rows}
 use Rattle.pricing_workers.proofs.cells.table_of.Goals as goal
 

@@ -1,7 +1,5 @@
-use Rattle.std.proofs.Common.{ℕ, ◌+◌, ◌++◌, ◌∷◌, [], length, ap, ap₂, sym, ◌∙◌, arith}
-use Rattle.std.proofs.lemmas.List.FromFn.{map-range_with_len_more, length-map-range_with_len}
+use Rattle.pricing_workers.proofs.Common.{ℕ, ◌+◌, ◌++◌, ◌∷◌, [], length, ap, ap₂, sym, ◌∙◌, arith, map-range_with_len_more, length-map-range_with_len, near_at}
 use Rattle.insertion.specs.declared.near.NearStop.{NearStop}
-use Rattle.pricing_workers.specs.inner.Rows.{near_at}
 use Rattle.pricing_workers.proofs.pairs.near_stops.Goals as goal
 
 pub push-requires : goal.push-requires

@@ -1,6 +1,4 @@
-use Rattle.std.proofs.Common.{◌≡◌, ◌+◌, map}
-use Rattle.std.specs.List.{range_with_len}
-use Rattle.pricing_workers.specs.inner.Rows.{near_at}
+use Rattle.pricing_workers.proofs.Common.{◌≡◌, ◌+◌, map, range_with_len, near_at}
 use Rattle.pricing_workers.proofs.pairs.near_stops.Given as goal
 
 -- the times at the nodes so far

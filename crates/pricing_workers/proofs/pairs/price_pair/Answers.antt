@@ -1,7 +1,4 @@
-use Rattle.std.proofs.Common.{get_or, sym, ap, ◌∙◌, subst}
-use Rattle.std.proofs.lemmas.List.{get_or_default}
-use Rattle.insertion.specs.inner.Asked.{IsAsked}
-use Rattle.pricing_workers.specs.inner.Cells.{IsCellOf}
+use Rattle.pricing_workers.proofs.Common.{get_or, sym, ap, ◌∙◌, subst, get_or_default, IsAsked, IsCellOf}
 use Rattle.pricing_workers.proofs.PairFacts.{pair-facts, pair-asked, cell-of}
 use Rattle.pricing_workers.proofs.pairs.price_pair.Goals as goal
 

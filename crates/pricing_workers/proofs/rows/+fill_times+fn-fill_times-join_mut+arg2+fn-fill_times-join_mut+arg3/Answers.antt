@@ -1,4 +1,4 @@
-use Rattle.std.proofs.Common.{rules}
+use Rattle.pricing_workers.proofs.Common.{rules}
 use Rattle.pricing_workers.proofs.Filling.{parts-whole}
 use Rattle.pricing_workers.proofs.HeldTimes.{held-halves}
 use Rattle.pricing_workers.proofs.rows.+fill_times+fn-fill_times-join_mut+arg2+fn-fill_times-join_mut+arg3.Goals as goal

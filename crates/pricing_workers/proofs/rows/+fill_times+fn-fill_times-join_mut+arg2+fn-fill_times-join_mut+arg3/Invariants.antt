@@ -1,4 +1,4 @@
-use Rattle.std.proofs.Common.{length}
+use Rattle.pricing_workers.proofs.Common.{length}
 use Rattle.pricing_workers.proofs.rows.+fill_times+fn-fill_times-join_mut+arg2+fn-fill_times-join_mut+arg3.Given as goal
 
 -- each part has fewer workers than the whole

@@ -1,5 +1,4 @@
-use Rattle.std.proofs.Common.{◌<◌, length, arith, ◌∙◌}
-use Rattle.std.proofs.lemmas.List.{length-set}
+use Rattle.pricing_workers.proofs.Common.{◌<◌, length, arith, ◌∙◌, length-set}
 use Rattle.pricing_workers.proofs.HeldTimes.{next-held, rest-room}
 use Rattle.pricing_workers.proofs.rows.fill_own.Goals as goal
 

@@ -1,7 +1,4 @@
-use Rattle.std.proofs.Common.{◌≡◌, ◌<◌, ◌≤◌, ℕ, length, get_or}
-use Rattle.ride_model.specs.declared.vehicle.Ride.{Ride}
-use Rattle.pricing_workers.specs.declared.times.Times.{Times}
-use Rattle.pricing_workers.specs.inner.Rows.{HasRows, HoldsRows}
+use Rattle.pricing_workers.proofs.Common.{◌≡◌, ◌<◌, ◌≤◌, ℕ, length, get_or, Ride, Times, HasRows, HoldsRows}
 use Rattle.pricing_workers.proofs.rows.fill_own.Given as goal
 
 -- the first have their rows, the rest has room for them, and what is searched by is as it was

@@ -1,8 +1,4 @@
-use Rattle.std.proofs.Common.{◌≡◌, sym, ◌∙◌, subst}
-use Rattle.std.specs.Prelude.{All}
-use Rattle.ride_model.specs.Road.{IsNode}
-use Rattle.pricing_workers.specs.inner.Rows.{HoldsRows}
-use Rattle.pricing_workers.specs.inner.Wanted.{nodes_of}
+use Rattle.pricing_workers.proofs.Common.{◌≡◌, sym, ◌∙◌, subst, All, IsNode, HoldsRows, nodes_of}
 use Rattle.pricing_workers.proofs.SeatOffers.{one-on-map, one-held}
 use Rattle.pricing_workers.proofs.seats.near_of.Goals as goal
 

@@ -1,5 +1,4 @@
-use Rattle.std.proofs.Common.{◌≡◌, ◌∷◌, map, take}
-use Rattle.ride_model.specs.declared.vehicle.Stop.{Stop}
+use Rattle.pricing_workers.proofs.Common.{◌≡◌, ◌∷◌, map, take, Stop}
 use Rattle.pricing_workers.proofs.seats.nodes_of.Given as goal
 
 -- the nodes so far

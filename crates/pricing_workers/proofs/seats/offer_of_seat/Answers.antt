@@ -1,8 +1,4 @@
-use Rattle.std.proofs.Common.{◌≡◌, ◌<◌, ℕ, List, None, length, get_or, ap, ◌∙◌}
-use Rattle.std.proofs.lemmas.List.{get_or_default}
-use Rattle.insertion.specs.inner.Asked.{IsAsked}
-use Rattle.ride_model.specs.declared.vehicle.Ride.{Ride}
-use Rattle.ride_model.specs.Offers.{offer_of}
+use Rattle.pricing_workers.proofs.Common.{◌≡◌, ◌<◌, ℕ, List, None, length, get_or, ap, ◌∙◌, get_or_default, IsAsked, Ride, offer_of}
 use Rattle.pricing_workers.proofs.SeatOffers.{seat-asked}
 use Rattle.pricing_workers.proofs.seats.offer_of_seat.Goals as goal
 

@@ -1,4 +1,4 @@
-use Rattle.std.proofs.lemmas.Slice.Eq.{slice_eq-Decides}
+use Rattle.pricing_workers.proofs.Common.{slice_eq-Decides}
 use Rattle.pricing_workers.proofs.SameItems.{stop-decides}
 use Rattle.pricing_workers.proofs.tables.are_same_stops.Goals as goal
 

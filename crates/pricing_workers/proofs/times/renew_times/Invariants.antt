@@ -1,6 +1,4 @@
-use Rattle.std.proofs.Common.{◌≤◌, length, take}
-use Rattle.std.specs.Prelude.{All}
-use Rattle.pricing_workers.specs.inner.Rows.{HasRows}
+use Rattle.pricing_workers.proofs.Common.{◌≤◌, length, take, All, HasRows}
 use Rattle.pricing_workers.proofs.times.renew_times.Given as goal
 
 -- the first are ready

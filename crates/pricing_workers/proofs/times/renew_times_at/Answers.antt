@@ -1,5 +1,4 @@
-use Rattle.std.proofs.Common.{arith}
-use Rattle.pricing_workers.specs.inner.Rows.{HasRows}
+use Rattle.pricing_workers.proofs.Common.{arith, HasRows}
 use Rattle.pricing_workers.proofs.Added.{all-added}
 use Rattle.pricing_workers.proofs.times.renew_times_at.Goals as goal
 

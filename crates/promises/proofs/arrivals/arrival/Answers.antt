@@ -1,4 +1,4 @@
-use Rattle.std.proofs.Common.{sym, ◌∙◌}
+use Rattle.promises.proofs.Common.{sym, ◌∙◌}
 use Rattle.promises.proofs.Visits.{arrival-later}
 use Rattle.promises.proofs.arrivals.arrival.Goals as goal
 

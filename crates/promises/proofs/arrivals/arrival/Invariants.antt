@@ -1,5 +1,4 @@
-use Rattle.std.proofs.Common.{◌≡◌, drop}
-use Rattle.promises.specs.inner.Arrivals.{arrival_of}
+use Rattle.promises.proofs.Common.{◌≡◌, drop, arrival_of}
 use Rattle.promises.proofs.arrivals.arrival.Given as goal
 
 -- no stop so far is the visit

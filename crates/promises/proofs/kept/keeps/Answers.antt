@@ -1,11 +1,4 @@
-use Rattle.std.proofs.Common.{◌≡◌, ◌≤◌, ◌&&◌, Bool, List, ℕ, length, sym, ◌∙◌, ap, subst}
-use Rattle.std.specs.Prelude.{All, not}
-use Rattle.std.specs.List.{list_all}
-use Rattle.ride_model.specs.declared.vehicle.Ride.{Ride}
-use Rattle.ride_model.specs.declared.vehicle.Stop.{Stop}
-use Rattle.ride_model.specs.Loads.{loads_fit}
-use Rattle.ride_model.specs.Times.{times_of}
-use Rattle.promises.specs.inner.Arrivals.{breaks_along}
+use Rattle.promises.proofs.Common.{◌≡◌, ◌≤◌, ◌&&◌, Bool, List, ℕ, length, sym, ◌∙◌, ap, subst, All, not, list_all, Ride, Stop, loads_fit, times_of, breaks_along}
 use Rattle.promises.proofs.Visits.{length-times, times-soon, keeps-vehicle}
 use Rattle.promises.proofs.kept.keeps.Goals as goal
 

@@ -1,8 +1,4 @@
-use Rattle.std.proofs.Common.{◌≡◌, drop}
-use Rattle.std.specs.Prelude.{not}
-use Rattle.std.specs.List.{list_all}
-use Rattle.ride_model.specs.declared.vehicle.Ride.{Ride}
-use Rattle.promises.specs.inner.Arrivals.{breaks_along}
+use Rattle.promises.proofs.Common.{◌≡◌, drop, not, list_all, Ride, breaks_along}
 use Rattle.promises.proofs.kept.keeps_limits.Given as goal
 
 -- no ride so far is broken

@@ -1,8 +1,4 @@
-use Rattle.std.proofs.Common.{◌≤◌, List, length, sym, ◌∙◌, ap, subst}
-use Rattle.std.specs.Prelude.{All, filter}
-use Rattle.ride_model.specs.declared.vehicle.Stop.{Stop}
-use Rattle.ride_model.specs.Vehicle.{ride_ids}
-use Rattle.promises.specs.inner.Arrivals.{breaks_along}
+use Rattle.promises.proofs.Common.{◌≤◌, List, length, sym, ◌∙◌, ap, subst, All, filter, Stop, ride_ids, breaks_along}
 use Rattle.promises.proofs.Visits.{length-times, times-soon, broken-vehicle}
 use Rattle.promises.proofs.late.broken.Goals as goal
 

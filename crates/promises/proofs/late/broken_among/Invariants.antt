@@ -1,7 +1,4 @@
-use Rattle.std.proofs.Common.{◌≡◌, ◌≤◌, ◌++◌, length, drop}
-use Rattle.std.specs.Prelude.{filter}
-use Rattle.ride_model.specs.Vehicle.{ride_ids}
-use Rattle.promises.specs.inner.Arrivals.{breaks_along}
+use Rattle.promises.proofs.Common.{◌≡◌, ◌≤◌, ◌++◌, length, drop, filter, ride_ids, breaks_along}
 use Rattle.promises.proofs.late.broken_among.Given as goal
 
 -- those so far and those of the rides that are left are all

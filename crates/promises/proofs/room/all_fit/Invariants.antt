@@ -1,6 +1,4 @@
-use Rattle.std.proofs.Common.{◌≡◌, drop}
-use Rattle.std.specs.List.{list_all}
-use Rattle.ride_model.specs.Loads.{fits_load}
+use Rattle.promises.proofs.Common.{◌≡◌, drop, list_all, fits_load}
 use Rattle.promises.proofs.room.all_fit.Given as goal
 
 -- those so far fit

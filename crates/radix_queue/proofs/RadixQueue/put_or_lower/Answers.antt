@@ -1,7 +1,4 @@
-use Rattle.std.proofs.Common.{◌≡◌, ◌≢◌, ◌<◌, ◌≤◌, length, set, sym, subst, arith}
-use Rattle.std.specs.Prelude.{Some}
-use Rattle.std.proofs.lemmas.List.{get_or-set_same}
-use Rattle.radix_queue.specs.inner.Buckets.{IsPlaced}
+use Rattle.radix_queue.proofs.Common.{◌≡◌, ◌≢◌, ◌<◌, ◌≤◌, length, set, sym, subst, arith, Some, get_or-set_same, IsPlaced}
 use Rattle.radix_queue.proofs.Placed.{placed-rekey, placed-put}
 use Rattle.radix_queue.proofs.RadixQueue.put_or_lower.Goals as goal
 use Rattle.radix_queue.proofs.RadixQueue.put_or_lower.Goals.{in_default-via-in-None-1, in_default-via-in-Some+else-had-key}

@@ -1,5 +1,4 @@
-use Rattle.std.proofs.Common.{length, sym, subst}
-use Rattle.radix_queue.specs.inner.Buckets.{IsPlaced, IsLeastPlaced, opened_by}
+use Rattle.radix_queue.proofs.Common.{length, sym, subst, IsPlaced, IsLeastPlaced, opened_by}
 use Rattle.radix_queue.proofs.Placed.{placed-taken}
 use Rattle.radix_queue.proofs.RadixQueue.take_least.Goals as goal
 

@@ -1,6 +1,4 @@
-use Rattle.std.proofs.Common.{◌≡◌, ◌+◌, ◌-◌, sym, subst, arith}
-use Rattle.std.specs.Int.{w64, bit_at, trailing_zeros}
-use Rattle.std.proofs.lemmas.Nat.Bits.{bit_at-trailing_zeros}
+use Rattle.radix_queue.proofs.Common.{◌≡◌, ◌+◌, ◌-◌, sym, subst, arith, w64, bit_at, trailing_zeros, bit_at-trailing_zeros}
 use Rattle.radix_queue.proofs.marks.lowest_marked.Goals as goal
 
 pub returns-clause-set : goal.returns-clause-set

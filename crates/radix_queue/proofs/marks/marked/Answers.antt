@@ -1,6 +1,4 @@
-use Rattle.std.proofs.Common.{◌-◌, arith}
-use Rattle.std.specs.Int.{w64}
-use Rattle.std.proofs.lemmas.Nat.Bits.{bit_at_set_same, bit_at_set_other}
+use Rattle.radix_queue.proofs.Common.{◌-◌, arith, w64, bit_at_set_same, bit_at_set_other}
 use Rattle.radix_queue.proofs.marks.marked.Goals as goal
 
 pub returns-clause-set : goal.returns-clause-set

@@ -1,4 +1,4 @@
-use Rattle.std.proofs.lemmas.Nat.{xor_lt}
+use Rattle.radix_queue.proofs.Common.{xor_lt}
 use Rattle.radix_queue.proofs.Radix.{bucket-from_xor}
 use Rattle.radix_queue.proofs.spread.bucket_of.Goals as goal
 

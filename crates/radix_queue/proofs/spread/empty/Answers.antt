@@ -1,9 +1,4 @@
-use Rattle.std.proofs.Common.{◌<◌, length, set, ap, ◌∙◌}
-use Rattle.std.specs.Prelude.{None, replicate}
-use Rattle.std.proofs.lemmas.List.{get_or-set_same}
-use Rattle.link_lists.specs.inner.Family.{list_at}
-use Rattle.link_lists.proofs.Kept.{Contains-from_get}
-use Rattle.radix_queue.specs.inner.Buckets.{Stands}
+use Rattle.radix_queue.proofs.Common.{◌<◌, length, set, ap, ◌∙◌, None, replicate, get_or-set_same, list_at, Contains-from_get, Stands}
 use Rattle.radix_queue.proofs.Counts.{count_of_keys, count_of_keys-falls, key_in-within, no_keys}
 use Rattle.radix_queue.proofs.Placed.{stands-settled, keyless, placed-remove, placed-rekey, placed-keyless, free-removed}
 use Rattle.radix_queue.proofs.spread.empty.Goals as goal

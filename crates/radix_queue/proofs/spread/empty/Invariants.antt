@@ -1,6 +1,4 @@
-use Rattle.std.proofs.Common.{ℕ, length}
-use Rattle.link_lists.specs.inner.Family.{IsSameSize}
-use Rattle.radix_queue.specs.inner.Buckets.{IsPlaced}
+use Rattle.radix_queue.proofs.Common.{ℕ, length, IsSameSize, IsPlaced}
 use Rattle.radix_queue.proofs.Counts.{count_of_keys}
 use Rattle.radix_queue.proofs.spread.empty.Given as goal
 

@@ -1,6 +1,4 @@
-use Rattle.std.proofs.Common.{sym, subst}
-use Rattle.std.specs.Prelude.{Option, Some, None, IfNone}
-use Rattle.radix_queue.specs.inner.Buckets.{IsLeastPlaced, IsLowest}
+use Rattle.radix_queue.proofs.Common.{sym, subst, Option, Some, None, IfNone, IsLeastPlaced, IsLowest}
 use Rattle.radix_queue.proofs.Placed.{keyless, keyed-settled, least-first, least-other}
 use Rattle.radix_queue.proofs.spread.find_least.Goals as goal
 

@@ -1,8 +1,4 @@
-use Rattle.std.proofs.Common.{◌≡◌, ◌<◌, ◌+◌, sym, ◌∙◌, subst, arith}
-use Rattle.std.specs.Prelude.{slice_get}
-use Rattle.link_lists.specs.inner.Family.{list_at}
-use Rattle.link_lists.proofs.Kept.{Contains-from_get}
-use Rattle.link_lists.proofs.Walks.{nodes_left}
+use Rattle.radix_queue.proofs.Common.{◌≡◌, ◌<◌, ◌+◌, sym, ◌∙◌, subst, arith, slice_get, list_at, Contains-from_get, nodes_left}
 use Rattle.radix_queue.proofs.Walked.{IsWalked, walked-start, walked-more, walked-falls, walked-all}
 use Rattle.radix_queue.proofs.spread.least_in.Goals as goal
 use Rattle.radix_queue.proofs.spread.least_in.Goals.{then-key-least_key, else-key-least_key}

@@ -1,5 +1,4 @@
-use Rattle.link_lists.specs.inner.Family.{list_at}
-use Rattle.link_lists.proofs.Walks.{nodes_left}
+use Rattle.radix_queue.proofs.Common.{list_at, nodes_left}
 use Rattle.radix_queue.proofs.Walked.{IsWalked}
 use Rattle.radix_queue.proofs.spread.least_in.Given as goal
 

@@ -1,6 +1,4 @@
-use Rattle.std.proofs.Common.{◌≡◌, ◌≢◌, ◌<◌, length, sym, ap, ◌∙◌, subst}
-use Rattle.std.specs.Prelude.{is_some}
-use Rattle.link_lists.specs.inner.Family.{list_at, without}
+use Rattle.radix_queue.proofs.Common.{◌≡◌, ◌≢◌, ◌<◌, length, sym, ap, ◌∙◌, subst, is_some, list_at, without}
 use Rattle.radix_queue.proofs.Marked.{nil-from_first, contains-first}
 use Rattle.radix_queue.proofs.Placed.{placed-remove, placed-put, placed-spread, free-removed, waits-lower_at, length-without_first}
 use Rattle.radix_queue.proofs.spread.spread.Goals as goal

@@ -1,6 +1,4 @@
-use Rattle.std.proofs.Common.{length}
-use Rattle.link_lists.specs.inner.Family.{list_at}
-use Rattle.radix_queue.specs.inner.Buckets.{IsPlaced}
+use Rattle.radix_queue.proofs.Common.{length, list_at, IsPlaced}
 use Rattle.radix_queue.proofs.spread.spread.Given as goal
 
 abbrev pub invariant-loop-node : goal.invariant-loop-node

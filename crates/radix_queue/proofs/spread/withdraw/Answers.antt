@@ -1,4 +1,4 @@
-use Rattle.std.proofs.Common.{length, arith}
+use Rattle.radix_queue.proofs.Common.{length, arith}
 use Rattle.radix_queue.proofs.Placed.{here-settled, free-settled, placed-remove, free-removed}
 use Rattle.radix_queue.proofs.spread.withdraw.Goals as goal
 

@@ -1,16 +1,7 @@
-use Rattle.std.proofs.Common.{ℕ, inl, inr, Option, ◌∷◌, ◌++◌, [], refl, ap, sym, subst, ◌∙◌, arith}
-use Rattle.std.specs.Prelude.{string_bytes}
-use Rattle.std.proofs.lemmas.List.{append_assoc}
-use Rattle.ride_ports.specs.Contents.{Contents, given_back}
+use Rattle.resumption.proofs.Common.{ℕ, inl, inr, Option, ◌∷◌, ◌++◌, [], refl, ap, sym, subst, ◌∙◌, arith, string_bytes, append_assoc, Contents, given_back, Rose, Reads-none, feed_run, bytes-of, left-of, left-of-content, sink-status, source-status, whole-status, rose-above}
 use Rattle.ride_ports.specs.inner.Contents.{IsContentOf}
-use Rattle.ride_ports.specs.Count.{Rose}
-use Rattle.ride_ports.proofs.ByteLemmas.{Reads-none}
 use Rattle.ride_ports.proofs.CountLemmas.{Rose-then_kept, Rose-after_kept}
-use Rattle.live_sessions.specs.inner.Serving.{feed_run}
-use Rattle.dispatcher.proofs.Bringing.{bytes-of, left-of, left-of-content}
 use Rattle.dispatcher.proofs.ServedFeeds.{one-of-two}
-use Rattle.dispatcher.proofs.Statuses.{sink-status, source-status, whole-status}
-use Rattle.dispatcher.proofs.Working.{rose-above}
 use Rattle.resumption.proofs.AnsweredFeeds.{answered-of, drivers-over, drivers-taken, riders-over, riders-taken}
 use Rattle.resumption.proofs.feeds.go_on.Goals as goal
 

@@ -1,13 +1,4 @@
-use Rattle.std.proofs.Common.{ℕ, ◌∷◌, ◌++◌, [], Result, refl, ap, subst, ◌∙◌}
-use Rattle.std.specs.Prelude.{string_bytes}
-use Rattle.ride_ports.specs.Contents.{given_back}
-use Rattle.ride_ports.specs.Count.{Rose}
-use Rattle.log_audit.specs.declared.restoring.Restoration.{Restoration}
-use Rattle.log_audit.specs.declared.verdict.AuditFault.{AuditFault}
-use Rattle.log_audit.specs.Audit.{is_read_fault}
-use Rattle.live_sessions.specs.inner.Serving.{feed_run}
-use Rattle.dispatcher.proofs.Bringing.{bytes-of}
-use Rattle.dispatcher.proofs.Working.{rose-above}
+use Rattle.resumption.proofs.Common.{ℕ, ◌∷◌, ◌++◌, [], Result, refl, ap, subst, ◌∙◌, string_bytes, given_back, Rose, Restoration, AuditFault, is_read_fault, feed_run, bytes-of, rose-above}
 use Rattle.resumption.proofs.LogFaults.{no-fault}
 use Rattle.resumption.proofs.logs.bring_log.Goals as goal
 

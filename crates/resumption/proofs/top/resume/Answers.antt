@@ -1,5 +1,4 @@
-use Rattle.run_words.specs.inner.Resumptions.{asked_by_resumption}
-use Rattle.dispatcher.specs.Shelves.{sunk}
+use Rattle.resumption.proofs.Common.{asked_by_resumption, sunk}
 use Rattle.resumption.proofs.Keeping.{resumed-some, resumes-well}
 use Rattle.resumption.proofs.top.resume.Goals as goal
 

@@ -1,4 +1,4 @@
-use Rattle.run_words.specs.inner.Resumptions.{asked_by_resumption}
+use Rattle.resumption.proofs.Common.{asked_by_resumption}
 use Rattle.resumption.proofs.Resuming.{resumption-over, stopped-resumption}
 use Rattle.resumption.proofs.top.resume_asked.Goals as goal
 

@@ -1,5 +1,4 @@
-use Rattle.std.proofs.Common.{◌≡◌, Ok}
-use Rattle.log_audit.specs.declared.restoring.Restoration.TheVariants.{Standing}
+use Rattle.resumption.proofs.Common.{◌≡◌, Ok, Standing}
 use Rattle.resumption.proofs.MayResume.{may-resume}
 use Rattle.resumption.proofs.top.resume_over.Goals as goal
 

@@ -1,4 +1,4 @@
-use Rattle.std.proofs.Common.{◌≡◌, take}
+use Rattle.ride_model.proofs.Common.{◌≡◌, take}
 use Rattle.ride_model.proofs.vehicle.copy_of.Given as goal
 
 -- those so far are copied

@@ -1,6 +1,4 @@
-use Rattle.std.proofs.Common.{Some, None, ap, sym}
-use Rattle.std.specs.Option.{option_map}
-use Rattle.ride_ports.specs.inner.Memory.{source_of}
+use Rattle.ride_ports.proofs.Common.{Some, None, ap, sym, option_map, source_of}
 use Rattle.ride_ports.proofs.FileLemmas.{file_named-map}
 use Rattle.ride_ports.proofs.mem_shelf.source_named.Goals as goal
 

@@ -1,5 +1,4 @@
-use Rattle.std.proofs.Common.{arith, length-drop, ◌∙◌}
-use Rattle.std.proofs.lemmas.List.{take_rest}
+use Rattle.ride_ports.proofs.Common.{arith, length-drop, ◌∙◌, take_rest}
 use Rattle.std.proofs.lemmas.Result.{err_from_is_err_and}
 use Rattle.ride_ports.proofs.ByteLemmas.{Writes-next, WritesPrefix-stopped}
 use Rattle.ride_ports.proofs.sinks.write_all.Goals as goal

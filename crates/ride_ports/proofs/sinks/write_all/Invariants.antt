@@ -1,5 +1,4 @@
-use Rattle.std.proofs.Common.{◌≡◌, ◌≤◌, ◌-◌, length, take}
-use Rattle.ride_ports.specs.Bytes.{Writes}
+use Rattle.ride_ports.proofs.Common.{◌≡◌, ◌≤◌, ◌-◌, length, take, Writes}
 use Rattle.ride_ports.proofs.sinks.write_all.Given as goal
 
 -- what is done of the piece was written, with no fault

@@ -1,4 +1,4 @@
-use Rattle.std.proofs.Common.{Some, None}
+use Rattle.ride_ports.proofs.Common.{Some, None}
 use Rattle.ride_ports.proofs.FileLemmas.{bytes_at-with_empty_others}
 use Rattle.ride_ports.proofs.sure.bytes_named.Goals as goal
 

@@ -1,6 +1,4 @@
-use Rattle.std.proofs.Common.{ℕ, ◌<◌, List, length, get_or, ap, arith}
-use Rattle.road_times.specs.declared.adjacency.Neighbor.{Neighbor}
-use Rattle.road_times.specs.inner.Sorting.{place_of}
+use Rattle.road_times.proofs.Common.{ℕ, ◌<◌, List, length, get_or, ap, arith, Neighbor, place_of}
 use Rattle.road_times.proofs.Unpacking.{stored-tail, stored-place, stored-few}
 use Rattle.road_times.proofs.Roads.network.Goals as goal
 

@@ -1,8 +1,4 @@
-use Rattle.std.proofs.Common.{sym, ap, ◌∙◌, subst}
-use Rattle.ride_model.specs.Road.{RoadMap}
-use Rattle.road_times.specs.declared.side.Side.TheVariants.{Out}
-use Rattle.road_times.specs.inner.Sorting.{tails_of}
-use Rattle.road_times.specs.inner.Stored.{AreRoads}
+use Rattle.road_times.proofs.Common.{sym, ap, ◌∙◌, subst, RoadMap, Out, tails_of, AreRoads}
 use Rattle.road_times.proofs.Places.{stored-is_map}
 use Rattle.road_times.proofs.Roads.new.Goals as goal
 

@@ -1,12 +1,4 @@
-use Rattle.std.proofs.Common.{◌≡◌, Bor, ◌+◌, length, sym, ap, ◌∙◌, subst, arith}
-use Rattle.ride_model.specs.Road.{RoadMap, travel}
-use Rattle.road_times.specs.declared.adjacency.Adjacency.{Adjacency}
-use Rattle.road_times.specs.declared.side.Side.{Side}
-use Rattle.road_times.specs.declared.side.Side.TheVariants.{Out, Back}
-use Rattle.road_times.specs.inner.Turned.{turned_map, travel_by}
-use Rattle.road_times.specs.inner.Adjacency.{IsAdjacency}
-use Rattle.road_times.specs.inner.Stored.{stored_map}
-use Rattle.road_times.specs.inner.Room.{Room}
+use Rattle.road_times.proofs.Common.{◌≡◌, Bor, ◌+◌, length, sym, ap, ◌∙◌, subst, arith, RoadMap, travel, Adjacency, Side, Out, Back, turned_map, travel_by, IsAdjacency, stored_map, Room}
 use Rattle.road_times.proofs.Turning.{turned-fits, travel-turned, map-same}
 use Rattle.road_times.proofs.Roads.rows.Goals as goal
 use Rattle.road_times.proofs.Roads.rows.Goals.{in-Out, in-Back}

@@ -1,9 +1,4 @@
-use Rattle.std.proofs.Common.{ap, ◌∙◌, arith}
-use Rattle.ride_model.specs.Road.{RoadMap, travel}
-use Rattle.road_times.specs.declared.side.Side.TheVariants.{Out}
-use Rattle.road_times.specs.inner.Turned.{turned_map}
-use Rattle.road_times.specs.inner.Stored.{stored_map}
-use Rattle.road_times.specs.inner.Room.{Room}
+use Rattle.road_times.proofs.Common.{ap, ◌∙◌, arith, RoadMap, travel, Out, turned_map, stored_map, Room}
 use Rattle.road_times.proofs.Turning.{turned-fits, travel-turned}
 use Rattle.road_times.proofs.Roads.time.Goals as goal
 

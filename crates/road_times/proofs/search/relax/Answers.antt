@@ -1,10 +1,4 @@
-use Rattle.std.proofs.Common.{◌≡◌, ◌+◌, get_or, sym, ap, ◌∙◌, subst}
-use Rattle.std.specs.Prelude.{Some, None, not, slice_get}
-use Rattle.std.proofs.lemmas.Option.{slice_get-get_or}
-use Rattle.model_laws.proofs.plain.Options.{none_from_is_some}
-use Rattle.road_times.specs.declared.adjacency.Neighbor.{Neighbor}
-use Rattle.radix_queue.specs.inner.Queue.{key_of, lesser_key}
-use Rattle.road_times.specs.inner.Search.{IsRelaxed}
+use Rattle.road_times.proofs.Common.{◌≡◌, ◌+◌, get_or, sym, ap, ◌∙◌, subst, Some, None, not, slice_get, slice_get-get_or, none_from_is_some, Neighbor, key_of, lesser_key, IsRelaxed}
 use Rattle.road_times.proofs.Lists.{some_from_is_some}
 use Rattle.road_times.proofs.Relaxing.{relaxed-settled, relaxed-put}
 use Rattle.road_times.proofs.search.relax.Goals as goal

@@ -1,4 +1,4 @@
-use Rattle.road_times.specs.inner.Search.{IsRelaxed}
+use Rattle.road_times.proofs.Common.{IsRelaxed}
 use Rattle.road_times.proofs.search.relax.Given as goal
 
 abbrev pub invariant-loop-neighbor : goal.invariant-loop-neighbor

@@ -1,6 +1,4 @@
-use Rattle.std.proofs.Common.{◌∙◌, map}
-use Rattle.std.specs.Prelude.{string_bytes}
-use Rattle.clap.specs.Simple.{app_of}
+use Rattle.run_words.proofs.Common.{◌∙◌, map, string_bytes, app_of}
 use Rattle.run_words.proofs.OptionValues.{refused, taken}
 use Rattle.run_words.proofs.values.read_by.Goals as goal
 

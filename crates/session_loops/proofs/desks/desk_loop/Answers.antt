@@ -1,6 +1,4 @@
-use Rattle.std.proofs.Common.{refl, false, not}
-use Rattle.std.specs.Prelude.{◌||◌}
-use Rattle.turn_lock.specs.Passes.{knowledge}
+use Rattle.session_loops.proofs.Common.{refl, false, not, ◌||◌, knowledge}
 use Rattle.session_loops.proofs.BatchRuns.{runs-desk}
 use Rattle.session_loops.proofs.desks.desk_loop.Goals as goal
 

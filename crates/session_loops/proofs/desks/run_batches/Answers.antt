@@ -1,11 +1,5 @@
-use Rattle.std.proofs.Common.{◌≡◌, ap, sym, ◌∙◌}
-use Rattle.board_core.specs.Recorded.{Recorded}
-use Rattle.turn_lock.specs.Passes.{knowledge}
+use Rattle.session_loops.proofs.Common.{◌≡◌, ap, sym, ◌∙◌, Recorded, knowledge, OpensBatch, OpensNone, Known, desk-may_end, root-stays}
 use Rattle.board_core.specs.declared.opening.Opening.TheVariants.{Idle}
-use Rattle.fleet_board.specs.inner.Openings.{OpensBatch, OpensNone}
-use Rattle.fleet_board.specs.inner.Passes.{Known}
-use Rattle.fleet_board.proofs.MayEnd.{desk-may_end}
-use Rattle.fleet_board.proofs.Looking.{root-stays}
 use Rattle.session_loops.proofs.BatchRuns.{batches-none, batch-then, batches-same, batches-wanting}
 use Rattle.session_loops.proofs.MadeEntries.{root-added}
 use Rattle.session_loops.proofs.desks.run_batches.Goals as goal

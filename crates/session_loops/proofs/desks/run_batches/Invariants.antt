@@ -1,8 +1,4 @@
-use Rattle.std.proofs.Common.{◌≡◌}
-use Rattle.turn_lock.specs.Passes.{knowledge}
-use Rattle.fleet_board.specs.inner.Passes.{root_of}
-use Rattle.fleet_board.specs.Roles.{MayOpen}
-use Rattle.session_loops.specs.inner.Making.{HasRunBatches}
+use Rattle.session_loops.proofs.Common.{◌≡◌, knowledge, root_of, MayOpen, HasRunBatches}
 use Rattle.session_loops.proofs.desks.run_batches.Given as goal
 
 -- the desk has no open batch, and each batch so far was closed

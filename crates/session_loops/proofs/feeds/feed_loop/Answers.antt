@@ -1,5 +1,4 @@
-use Rattle.turn_lock.specs.Passes.{knowledge}
-use Rattle.fleet_board.proofs.MayEnd.{feed-may_end}
+use Rattle.session_loops.proofs.Common.{knowledge, feed-may_end}
 use Rattle.session_loops.proofs.FeedEnds.{runs-feed}
 use Rattle.session_loops.proofs.feeds.feed_loop.Goals as goal
 

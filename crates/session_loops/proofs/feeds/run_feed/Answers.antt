@@ -1,5 +1,4 @@
-use Rattle.ride_ports.proofs.Counts.{KeepsCount-none}
-use Rattle.turn_lock.specs.Passes.{knowledge}
+use Rattle.session_loops.proofs.Common.{KeepsCount-none, knowledge}
 use Rattle.session_loops.proofs.FeedEnds.{nothing-submitted}
 use Rattle.session_loops.proofs.feeds.run_feed.Goals as goal
 

@@ -1,14 +1,4 @@
-use Rattle.std.proofs.Common.{ℕ, ◌++◌, ◌∷◌, [], List, Option, Some, None, refl, ap, sym, subst, ◌∙◌, arith}
-use Rattle.ride_model.specs.declared.command.Command.{Command}
-use Rattle.ride_ports.proofs.ByteLemmas.{Reads-then}
-use Rattle.ride_ports.proofs.Counts.{KeepsCount-none, KeepsCount-then}
-use Rattle.command_lines.specs.declared.forms.FeedForm.{FeedForm}
-use Rattle.command_lines.specs.Feeds.{IsWhole}
-use Rattle.command_lines.specs.inner.Feeds.{IsStopped}
-use Rattle.board_core.specs.Recorded.{Recorded}
-use Rattle.turn_lock.specs.Passes.{knowledge}
-use Rattle.fleet_board.specs.inner.Passes.{Known}
-use Rattle.line_text.specs.declared.line_reader.stops.Stop.TheVariants.{NoMemory, OfFeed}
+use Rattle.session_loops.proofs.Common.{ℕ, ◌++◌, ◌∷◌, [], List, Option, Some, None, refl, ap, sym, subst, ◌∙◌, arith, Command, Reads-then, KeepsCount-none, KeepsCount-then, FeedForm, IsWhole, IsStopped, Recorded, knowledge, Known, NoMemory, OfFeed}
 use Rattle.session_loops.proofs.FeedEnds.{answered-same, fault-stops, fed-more, few-more, fewer-left, nothing-fed, submitted}
 use Rattle.session_loops.proofs.FeedRuns.{fewer-first, given-first-of, stopped-first-of, whole-first-of}
 use Rattle.session_loops.proofs.MadeEntries.{root-added}

@@ -1,8 +1,4 @@
-use Rattle.std.proofs.Common.{◌≡◌, ◌+◌, ◌-◌, false, length}
-use Rattle.ride_ports.specs.Count.{KeepsCount}
-use Rattle.turn_lock.specs.Passes.{knowledge}
-use Rattle.fleet_board.specs.inner.Passes.{commands_in, root_of}
-use Rattle.fleet_board.specs.Roles.{MayFeed}
+use Rattle.session_loops.proofs.Common.{◌≡◌, ◌+◌, ◌-◌, false, length, KeepsCount, knowledge, commands_in, root_of, MayFeed}
 use Rattle.session_loops.proofs.FeedEnds.{HasFedSoFar}
 use Rattle.session_loops.proofs.feeds.submit_commands.Given as goal
 

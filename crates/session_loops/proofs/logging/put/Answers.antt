@@ -1,7 +1,4 @@
-use Rattle.std.proofs.Common.{◌≡◌, ℕ, false, List, sym}
-use Rattle.ride_model.specs.Text.{entry_line}
-use Rattle.line_text.proofs.text_page.OutputLemmas.{put-failed}
-use Rattle.line_text.proofs.text_page.PrintedPages.{printed-back, printed-out}
+use Rattle.session_loops.proofs.Common.{◌≡◌, ℕ, false, List, sym, entry_line, put-failed, printed-back, printed-out}
 use Rattle.session_loops.proofs.logging.put.Goals as goal
 
 pub returns-then-failed-2 : goal.returns-then-failed-2

@@ -1,9 +1,4 @@
-use Rattle.std.proofs.Common.{◌≡◌, ℕ, ◌+◌, ◌<◌, length, ◌++◌, ◌∷◌, [], List, take, sym, ap, subst, ◌∙◌, append-nil, take_all, arith}
-use Rattle.std.proofs.lemmas.List.{take_more}
-use Rattle.ride_model.specs.declared.entry.Entry.{Entry}
-use Rattle.ride_model.specs.Text.{entry_line, entry_lines}
-use Rattle.line_text.specs.inner.text_page.Output.{Puts}
-use Rattle.line_text.proofs.text_page.OutputLemmas.{puts-none, puts-then}
+use Rattle.session_loops.proofs.Common.{◌≡◌, ℕ, ◌+◌, ◌<◌, length, ◌++◌, ◌∷◌, [], List, take, sym, ap, subst, ◌∙◌, append-nil, take_all, arith, take_more, Entry, entry_line, entry_lines, Puts, puts-none, puts-then}
 use Rattle.session_loops.proofs.LogLemmas.{entry_lines-append}
 use Rattle.session_loops.proofs.logging.put_all.Goals as goal
 

@@ -1,6 +1,4 @@
-use Rattle.std.proofs.Common.{take}
-use Rattle.ride_model.specs.Text.{entry_lines}
-use Rattle.line_text.specs.inner.text_page.Output.{Puts}
+use Rattle.session_loops.proofs.Common.{take, entry_lines, Puts}
 use Rattle.session_loops.proofs.logging.put_all.Given as goal
 
 -- the lines of the entries so far were put

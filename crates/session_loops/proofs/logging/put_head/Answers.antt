@@ -1,7 +1,4 @@
-use Rattle.std.proofs.Common.{[]}
-use Rattle.ride_model.specs.Text.{head_line}
-use Rattle.line_text.proofs.text_page.OutputLemmas.{put-nothing}
-use Rattle.line_text.proofs.text_page.PrintedPages.{printed-out}
+use Rattle.session_loops.proofs.Common.{[], head_line, put-nothing, printed-out}
 use Rattle.session_loops.proofs.logging.put_head.Goals as goal
 
 pub returns-clause-logged : goal.returns-clause-logged

@@ -1,5 +1,4 @@
-use Rattle.std.proofs.Common.{◌++◌}
-use Rattle.ride_model.specs.Text.{entry_lines}
+use Rattle.session_loops.proofs.Common.{◌++◌, entry_lines}
 use Rattle.session_loops.proofs.scribes.put_tail.Goals as goal
 
 pub returns-clause-logged : goal.returns-clause-logged

@@ -1,12 +1,6 @@
-use Rattle.std.proofs.Common.{◌≡◌, List, length, take, sym, ◌∙◌, arith}
-use Rattle.std.specs.Prelude.{vec_len}
-use Rattle.std.proofs.lemmas.Bool.{eqb-true}
-use Rattle.ride_model.specs.declared.entry.Entry.{Entry}
-use Rattle.ride_model.specs.Text.{entry_lines}
-use Rattle.turn_lock.specs.Passes.{knowledge}
+use Rattle.session_loops.proofs.Common.{◌≡◌, List, length, take, sym, ◌∙◌, arith, vec_len, eqb-true, Entry, entry_lines, knowledge, adds_none-then}
 use Rattle.session_loops.proofs.Scribing.{cut-short, has-scribed, has-scribed-some, looks-of, never_whole, next-lines, next-within, none-next, scribing-on, scribing-still, scribing-told}
 use Rattle.session_loops.proofs.scribes.scribe_loop.Goals as goal
-use Rattle.fleet_board.proofs.Looking.{adds_none-then}
 
 pub put_tail-requires-clause-have_lines : goal.put_tail-requires-clause-have_lines
 put_tail-requires-clause-have_lines g c κs within =

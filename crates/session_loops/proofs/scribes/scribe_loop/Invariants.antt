@@ -1,5 +1,4 @@
-use Rattle.turn_lock.specs.Passes.{knowledge}
-use Rattle.fleet_board.specs.inner.Passes.{IsPoint}
+use Rattle.session_loops.proofs.Common.{knowledge, IsPoint}
 use Rattle.fleet_board.specs.Sharing.{MayUse}
 use Rattle.session_loops.proofs.Scribing.{IsScribing}
 use Rattle.session_loops.proofs.scribes.scribe_loop.Given as goal

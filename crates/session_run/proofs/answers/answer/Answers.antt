@@ -1,12 +1,6 @@
-use Rattle.std.proofs.Common.{◌≡◌, ℕ, true, false, [], Some, refl, ap, sym, subst, ◌∙◌, arith}
-use Rattle.std.proofs.lemmas.Result.{IfOk-weaker, on_err_weaker}
-use Rattle.board_core.specs.Recorded.{Recorded, state_of}
-use Rattle.board_core.specs.inner.Recorded.{fed_entry}
-use Rattle.session_run.specs.inner.Planning.{AddsSheets, is_whole, sheets_in}
-use Rattle.session_run.specs.inner.Running.{RunsBatch, Answers, Stops}
+use Rattle.session_run.proofs.Common.{◌≡◌, ℕ, true, false, [], Some, refl, ap, sym, subst, ◌∙◌, arith, IfOk-weaker, on_err_weaker, Recorded, state_of, fed_entry, AddsSheets, is_whole, sheets_in, RunsBatch, Answers, Stops, is_asked}
 use Rattle.session_run.proofs.CommitSheets.{adds-none, adds-then}
 use Rattle.session_run.proofs.Answering.{answers-others, asks, asks-stops, answers-ask, not_asked}
-use Rattle.model_laws.proofs.history_laws.Untouched.{is_asked}
 use Rattle.session_run.proofs.answers.answer.Goals as goal
 use Rattle.session_run.proofs.answers.answer.Goals.{in-Asked, in_default}
 

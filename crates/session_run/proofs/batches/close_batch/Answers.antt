@@ -1,11 +1,5 @@
-use Rattle.std.proofs.Common.{ap, sym, subst, ◌∙◌}
-use Rattle.ride_model.specs.Road.{RoadMap}
-use Rattle.ride_model.specs.Seating.{BatchCopy}
+use Rattle.session_run.proofs.Common.{ap, sym, subst, ◌∙◌, RoadMap, BatchCopy, Recorded, priceable, IsPlanned, is_whole, IsOpened}
 use Rattle.batch_commit.specs.inner.Table.{IsPriceable}
-use Rattle.board_core.specs.Recorded.{Recorded}
-use Rattle.board_core.proofs.OpenBatches.{priceable}
-use Rattle.session_run.specs.inner.Planning.{IsPlanned, is_whole}
-use Rattle.session_run.specs.inner.Running.{IsOpened}
 use Rattle.session_run.proofs.Opening.{closes-any, gives-up}
 use Rattle.session_run.proofs.batches.close_batch.Goals as goal
 

@@ -1,5 +1,4 @@
-use Rattle.std.proofs.Common.{ap}
-use Rattle.board_core.specs.Recorded.{Recorded}
+use Rattle.session_run.proofs.Common.{ap, Recorded}
 use Rattle.session_run.proofs.Opening.{commits}
 use Rattle.session_run.proofs.batches.commit.Goals as goal
 

@@ -1,11 +1,4 @@
-use Rattle.std.proofs.Common.{◌≡◌, ◌++◌, ◌∷◌, [], Ok, ap, sym, subst}
-use Rattle.ride_model.specs.Batch.{next_batch}
-use Rattle.ride_model.specs.Seating.{BatchCopy}
-use Rattle.model_laws.specs.inner.history_laws.Consistent.{IsOpenBatch}
-use Rattle.board_core.specs.declared.opening.Opening.{Opening}
-use Rattle.board_core.specs.Recorded.{Recorded, state_of, opened_entry}
-use Rattle.session_run.specs.inner.Planning.{is_whole}
-use Rattle.session_run.specs.inner.Running.{IsOpened}
+use Rattle.session_run.proofs.Common.{◌≡◌, ◌++◌, ◌∷◌, [], Ok, ap, sym, subst, next_batch, BatchCopy, IsOpenBatch, Opening, Recorded, state_of, opened_entry, is_whole, IsOpened}
 use Rattle.session_run.proofs.CommitSheets.{adds-planned}
 use Rattle.session_run.proofs.Opening.{next-opened, opens, runs}
 use Rattle.session_run.proofs.batches.run_batch.Goals as goal

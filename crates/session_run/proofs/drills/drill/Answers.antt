@@ -1,6 +1,4 @@
-use Rattle.std.proofs.Common.{Bool, sym, subst, ◌∙◌}
-use Rattle.ride_ports.specs.Count.{KeepsCount}
-use Rattle.ride_ports.proofs.Counts.{KeepsCount-none}
+use Rattle.session_run.proofs.Common.{Bool, sym, subst, ◌∙◌, KeepsCount, KeepsCount-none}
 use Rattle.session_run.proofs.DrillCity.{line-is-logged}
 use Rattle.session_run.proofs.drills.drill.Goals as goal
 

@@ -1,9 +1,6 @@
-use Rattle.std.proofs.Common.{◌≡◌, length, ap, ◌∙◌, arith}
-use Rattle.std.proofs.lemmas.Result.{IfOk-weaker}
-use Rattle.ride_model.specs.State.{State, start_state}
+use Rattle.session_run.proofs.Common.{◌≡◌, length, ap, ◌∙◌, arith, IfOk-weaker, State, start_state, start_of}
 use Rattle.city_maker.specs.Fleets.{default_settings}
 use Rattle.city_maker.specs.Roads.{network_of}
-use Rattle.city_maker.specs.Steps.{start_of}
 use Rattle.city_maker.proofs.FleetLimits.{length-fleet_of}
 use Rattle.session_run.proofs.DrillCity.{drill-of, few-commands}
 use Rattle.session_run.proofs.drills.line_of.Goals as goal

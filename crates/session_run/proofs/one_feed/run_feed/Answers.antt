@@ -1,12 +1,6 @@
-use Rattle.std.proofs.Common.{◌≡◌, ℕ, ◌++◌, ◌∷◌, [], List, Option, length, refl, ap, sym, subst, ◌∙◌, arith, length-append}
-use Rattle.ride_model.specs.declared.command.Command.{Command}
-use Rattle.ride_model.specs.History.{fed_commands}
-use Rattle.ride_ports.proofs.ByteLemmas.{Reads-none, Reads-then}
-use Rattle.ride_ports.proofs.Counts.{KeepsCount-none, KeepsCount-then}
+use Rattle.session_run.proofs.Common.{◌≡◌, ℕ, ◌++◌, ◌∷◌, [], List, Option, length, refl, ap, sym, subst, ◌∙◌, arith, length-append, Command, fed_commands, Reads-none, Reads-then, KeepsCount-none, KeepsCount-then, new_feed, HasGiven, IsStopped}
 use Rattle.command_lines.specs.declared.forms.FeedForm.{FeedForm}
-use Rattle.command_lines.specs.Limits.{new_feed}
 use Rattle.command_lines.specs.Feeds.{IsWhole}
-use Rattle.command_lines.specs.inner.Feeds.{HasGiven, IsStopped}
 use Rattle.command_lines.proofs.ReaderLemmas.{given-few}
 use Rattle.session_loops.proofs.FeedEnds.{fault-stops}
 use Rattle.session_loops.proofs.FeedRuns.{fewer-first, given-first-of, stopped-first-of, whole-first-of}

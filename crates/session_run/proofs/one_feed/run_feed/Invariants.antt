@@ -1,11 +1,4 @@
-use Rattle.std.proofs.Common.{◌≡◌, ℕ, ◌-◌, false, List, Option, length}
-use Rattle.ride_model.specs.History.{fed_commands}
-use Rattle.ride_ports.specs.Bytes.{Reads}
-use Rattle.ride_ports.specs.Count.{KeepsCount}
-use Rattle.command_lines.specs.inner.Feeds.{HasGiven}
-use Rattle.command_lines.specs.Limits.{new_feed}
-use Rattle.session_run.specs.inner.Reading.{HasTold}
-use Rattle.session_run.specs.inner.Running.{IsRunning}
+use Rattle.session_run.proofs.Common.{◌≡◌, ℕ, ◌-◌, false, List, Option, length, fed_commands, Reads, KeepsCount, HasGiven, new_feed, HasTold, IsRunning}
 use Rattle.session_run.proofs.one_feed.run_feed.Given as goal
 
 -- the commands so far were answered

@@ -1,47 +1,34 @@
-use Rattle.std.proofs.Common.{◌≡◌, ℕ, List, [], ◌∷◌, ◌++◌, Option, Bool, cond, eqb, refl, ap, sym, subst, ◌∙◌, arith}
-use Rattle.ride_model.specs.declared.command.Actor.TheVariants.{Feed, Desk}
-use Rattle.ride_model.specs.declared.entry.Ending.{Ending}
-use Rattle.ride_model.specs.declared.entry.Ending.TheVariants.{Whole, Cut}
-use Rattle.ride_model.specs.declared.entry.Entry.{Entry}
-use Rattle.ride_model.specs.History.{entries_of, fed_commands}
-use Rattle.ride_model.specs.State.{State, start_state}
-use Rattle.ride_ports.specs.declared.outcome.Ran.{Ran}
-use Rattle.model_laws.specs.history_laws.Start.{IsStart}
-use Rattle.board_core.specs.Recorded.{Recorded, state_of, end_entry}
-use Rattle.ride_ports.specs.Count.{KeepsCount}
-use Rattle.ride_ports.proofs.Counts.{KeepsCount-none}
-use Rattle.line_text.specs.declared.line_reader.stops.Stop.{Stop}
-use Rattle.command_lines.specs.Limits.{new_feed}
-use Rattle.command_lines.specs.inner.Feeds.{HasGiven}
-use Rattle.session_run.specs.inner.SessionState.{SessionState}
-use Rattle.session_run.specs.inner.Writing.{reach_of}
-use Rattle.session_loops.specs.Stops.{AreFirstOf}
-use Rattle.session_loops.specs.inner.Stops.{ending_of}
-use Rattle.session_run.specs.inner.Reading.{HasEnded}
-use Rattle.ride_ports.proofs.ByteLemmas.{Reads-none}
+use Rattle.session_run.proofs.Common.{◌≡◌, ℕ, List, [], ◌∷◌, ◌++◌, Option, Bool, cond, eqb, refl, ap, sym, subst, ◌∙◌, arith, Feed, Desk, Ending, Whole, Cut, Entry, entries_of, fed_commands, State, Ran, IsStart, Recorded, state_of, end_entry, KeepsCount, KeepsCount-none, Stop, new_feed, HasGiven, SessionStart, SessionState, AreFirstOf, ending_of, HasEnded, Reads-none}
 use Rattle.session_run.proofs.Replays.{is-start, is-replay, no-replay}
 use Rattle.session_run.proofs.WrittenSessions.{feed-ends, logged-some, none-written, written-by}
 use Rattle.session_run.proofs.NothingLeft.{nothing-left}
 use Rattle.session_run.proofs.one_feed.run_one_feed.Goals as goal
 
 pub returns-in_default-clause-session : goal.returns-in_default-clause-session
-returns-in_default-clause-session g c = (
-  [],
-  [],
-  Reads-none (g.S.Source.left c.args.feed.now),
-  no-replay _ _ _ (is-start c.args.roads.now c.args.settings c.args.fleet c.nodes-nodes.ensures.fits
-      c.vehicles-vehicles.ensures.is_fleet c.requires.start)
-      (record { log_version = (c.requires.start.settings_fit.log_first, c.requires.start.settings_fit.log_limit); feeds_number = (omega arith, omega arith); desks_number = (omega arith, omega arith); lines = λ k d below. absurd (omega arith) }) refl refl,
-  none-written (reach_of c.args.writes) (start_state c.args.roads.now c.args.settings c.args.fleet) _ (g.K.Sink.written c.args.out.now) refl refl,
-)
+returns-in_default-clause-session g c =
+    let begins : IsStart c.args.outset.start = subst IsStart (ap (λ (o : SessionStart). o.start) c.outset.view_is)
+    (is-start c.outset.inside.roads.now c.outset.inside.settings c.outset.inside.fleet c.nodes-nodes.ensures.fits
+    c.vehicles-vehicles.ensures.is_fleet c.outset.invariant.0) in (
+      [],
+      [],
+      Reads-none (g.S.Source.left c.args.feed.now),
+      no-replay _ _ _ begins (record {
+        log_version = (begins.may_start.settings_fit.log_first, begins.may_start.settings_fit.log_limit);
+        feeds_number = (omega arith, omega arith);
+        desks_number = (omega arith, omega arith);
+        lines = λ k d below. absurd (omega arith);
+      }) refl refl,
+      none-written c.args.outset.reach c.args.outset.start _ (g.K.Sink.written c.args.out.now) refl refl,
+    )
 
 pub returns-clause-session : goal.returns-clause-session
 returns-clause-session g c =
     let runs = c.run_feed-stop.ensures.ran in
     let taken : List ℕ = runs.taken in
-    let start : State = start_state c.args.roads.now c.args.settings c.args.fleet in
-    let begins : IsStart start = is-start c.args.roads.now c.args.settings c.args.fleet c.nodes-nodes.ensures.fits
-    c.vehicles-vehicles.ensures.is_fleet c.requires.start in
+    let start : State = c.args.outset.start in
+    let begins : IsStart start = subst IsStart (ap (λ (o : SessionStart). o.start) c.outset.view_is)
+    (is-start c.outset.inside.roads.now c.outset.inside.settings c.outset.inside.fleet c.nodes-nodes.ensures.fits
+    c.vehicles-vehicles.ensures.is_fleet c.outset.invariant.0) in
     let ran : Ran = record {
       sink_failed = c.sink_failed.result;
       no_memory = c.no_memory.result;
@@ -68,7 +55,7 @@ returns-clause-session g c =
     ∷ end_entry (Desk 1) (cond (eqb (state_of old).opened (state_of old).asked) Whole Cut) ∷ []) c.ending_of.ensures c.end.ensures.history in
     let told = c.end.ensures.told (g.K.Sink.written c.args.out.now) (g.K.Sink.faults c.args.out.now)
     (c.run_feed-stop.ensures.told (g.K.Sink.written c.args.out.now) (g.K.Sink.faults c.args.out.now) c.begin.ensures.told) in
-    let reach : c.end.new.self.reach ≡ reach_of c.args.writes =
+    let reach : c.end.new.self.reach ≡ c.args.outset.reach =
     c.end.ensures.reach ∙ c.run_feed-stop.ensures.reach ∙ ap (λ (s : SessionState). s.reach) c.begin.ensures.others ∙ c.in-Ok.ensures.reach in (
       taken,
       new.history,
@@ -81,7 +68,7 @@ returns-clause-session g c =
           (λ memory. c.ending_of.ensures
           ∙ feed-ends old.start.settings.log left stop old no_memory taken ran c.is_source_failed.ensures c.is_too_long.ensures ended
           (sym c.end.ensures.no_memory ∙ memory))
-          c.end.ensures.nothing_left (reach_of c.args.writes) reach told,
+          c.end.ensures.nothing_left c.args.outset.reach reach told,
     )
 
 -- nothing is given before the feed is read

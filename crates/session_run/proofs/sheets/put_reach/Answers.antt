@@ -1,7 +1,4 @@
-use Rattle.std.proofs.Common.{[]}
-use Rattle.idle_moves.specs.AheadText.{head_line}
-use Rattle.line_text.proofs.text_page.OutputLemmas.{put-nothing}
-use Rattle.line_text.proofs.text_page.PrintedPages.{printed-out}
+use Rattle.session_run.proofs.Common.{[], head_line, put-nothing, printed-out}
 use Rattle.session_run.proofs.sheets.put_reach.Goals as goal
 
 pub returns : goal.returns

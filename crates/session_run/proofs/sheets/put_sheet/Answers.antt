@@ -1,7 +1,4 @@
-use Rattle.std.proofs.Common.{◌≡◌, false, sym}
-use Rattle.idle_moves.specs.AheadText.{sheet_line}
-use Rattle.line_text.proofs.text_page.OutputLemmas.{put-failed}
-use Rattle.line_text.proofs.text_page.PrintedPages.{printed-out}
+use Rattle.session_run.proofs.Common.{◌≡◌, false, sym, sheet_line, put-failed, printed-out}
 use Rattle.session_run.proofs.sheets.put_sheet.Goals as goal
 
 pub returns-then-failed : goal.returns-then-failed

@@ -1,7 +1,4 @@
-use Rattle.std.proofs.Common.{false, true, sym, ◌∙◌, ap, arith}
-use Rattle.insertion.specs.inner.Least.{cost_if_any}
-use Rattle.insertion.proofs.LeastOffers.{if-offered}
-use Rattle.slack_tables.specs.inner.Search.{cost_found}
+use Rattle.slack_tables.proofs.Common.{false, true, sym, ◌∙◌, ap, arith, cost_if_any, if-offered, cost_found}
 use Rattle.slack_tables.proofs.BestFast.{may_offer, no-price, is_of, may-by, searches, least-is, answer-is, answer-costs}
 use Rattle.slack_tables.proofs.best.best_place_fast.Goals as goal
 

@@ -1,7 +1,4 @@
-use Rattle.std.proofs.Common.{◌+◌, length, sym, ◌∙◌, ap, arith}
-use Rattle.ride_model.specs.Road.{lesser}
-use Rattle.insertion.proofs.LeastOffers.{least-on, least-over}
-use Rattle.slack_tables.specs.inner.Search.{least_at, least_from, cost_found, IsFound}
+use Rattle.slack_tables.proofs.Common.{◌+◌, length, sym, ◌∙◌, ap, arith, lesser, least-on, least-over, least_at, least_from, cost_found, IsFound}
 use Rattle.slack_tables.proofs.Searching.{one_of}
 use Rattle.slack_tables.proofs.best.cheapest.Goals as goal
 

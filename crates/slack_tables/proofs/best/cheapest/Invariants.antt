@@ -1,7 +1,4 @@
-use Rattle.std.proofs.Common.{◌≡◌, ◌+◌, length}
-use Rattle.std.specs.Prelude.{IfSome}
-use Rattle.ride_model.specs.Road.{lesser}
-use Rattle.slack_tables.specs.inner.Search.{least_from, cost_found, IsFound}
+use Rattle.slack_tables.proofs.Common.{◌≡◌, ◌+◌, length, IfSome, lesser, least_from, cost_found, IsFound}
 use Rattle.slack_tables.proofs.best.cheapest.Given as goal
 
 -- the best so far and the least cost of the places that are left are the least of all

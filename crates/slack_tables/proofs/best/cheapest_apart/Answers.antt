@@ -1,7 +1,4 @@
-use Rattle.std.proofs.Common.{◌+◌, length, sym, ◌∙◌, ap, arith}
-use Rattle.ride_model.specs.Road.{lesser}
-use Rattle.insertion.proofs.LeastOffers.{least-on, least-over, lesser-none}
-use Rattle.slack_tables.specs.inner.Search.{cost_at, least_at, cost_found, IsFound}
+use Rattle.slack_tables.proofs.Common.{◌+◌, length, sym, ◌∙◌, ap, arith, lesser, least-on, least-over, lesser-none, cost_at, least_at, cost_found, IsFound}
 use Rattle.slack_tables.proofs.Searching.{room-more, no-room-cost, none-from, apart-cost, cost-found, is-found, one_of}
 use Rattle.slack_tables.proofs.best.cheapest_apart.Goals as goal
 

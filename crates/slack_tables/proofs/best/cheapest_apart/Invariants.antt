@@ -1,7 +1,4 @@
-use Rattle.std.proofs.Common.{◌≡◌, ◌+◌, length}
-use Rattle.std.specs.Prelude.{IfSome}
-use Rattle.ride_model.specs.Road.{lesser}
-use Rattle.slack_tables.specs.inner.Search.{least_at, cost_found, IsFound}
+use Rattle.slack_tables.proofs.Common.{◌≡◌, ◌+◌, length, IfSome, lesser, least_at, cost_found, IsFound}
 use Rattle.slack_tables.proofs.Searching.{HasRoom}
 use Rattle.slack_tables.proofs.best.cheapest_apart.Given as goal
 

@@ -1,5 +1,4 @@
-use Rattle.std.proofs.Common.{◌+◌, sym, ◌∙◌, ap, arith}
-use Rattle.slack_tables.specs.inner.Search.{cost_found}
+use Rattle.slack_tables.proofs.Common.{◌+◌, sym, ◌∙◌, ap, arith, cost_found}
 use Rattle.slack_tables.proofs.Searching.{none-from, no-lateness-cost}
 use Rattle.slack_tables.proofs.best.cheapest_behind.Goals as goal
 

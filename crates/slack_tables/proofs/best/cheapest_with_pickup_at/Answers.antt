@@ -1,6 +1,4 @@
-use Rattle.std.proofs.Common.{sym, ◌∙◌, ap, arith}
-use Rattle.ride_model.specs.Road.{lesser}
-use Rattle.slack_tables.specs.inner.Search.{cost_at, cost_found, IsFound}
+use Rattle.slack_tables.proofs.Common.{sym, ◌∙◌, ap, arith, lesser, cost_at, cost_found, IsFound}
 use Rattle.slack_tables.proofs.Searching.{none-from, no-room-cost, no-pickup-cost, together-cost, cost-found, is-found, one_of, least-first}
 use Rattle.slack_tables.proofs.best.cheapest_with_pickup_at.Goals as goal
 

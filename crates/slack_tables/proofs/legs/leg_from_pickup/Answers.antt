@@ -1,5 +1,4 @@
-use Rattle.insertion.specs.declared.near.NearStop.{NearStop}
-use Rattle.insertion.proofs.NearLegs.{after-read}
+use Rattle.slack_tables.proofs.Common.{NearStop, after-read}
 use Rattle.slack_tables.proofs.legs.leg_from_pickup.Goals as goal
 
 pub returns-clause-value : goal.returns-clause-value

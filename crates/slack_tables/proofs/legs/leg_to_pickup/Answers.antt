@@ -1,6 +1,4 @@
-use Rattle.std.proofs.Common.{arith}
-use Rattle.insertion.specs.declared.near.NearStop.{NearStop}
-use Rattle.insertion.proofs.NearLegs.{before-read}
+use Rattle.slack_tables.proofs.Common.{arith, NearStop, before-read}
 use Rattle.slack_tables.proofs.legs.leg_to_pickup.Goals as goal
 
 pub returns-else-place-eq0-clause-value : goal.returns-else-place-eq0-clause-value

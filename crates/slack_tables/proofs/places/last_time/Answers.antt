@@ -1,4 +1,4 @@
-use Rattle.std.proofs.Common.{ap, ◌∙◌, ◌-◌, slice_index, arith}
+use Rattle.slack_tables.proofs.Common.{ap, ◌∙◌, ◌-◌, slice_index, arith}
 use Rattle.slack_tables.proofs.Arrivals.{last-read}
 use Rattle.slack_tables.proofs.places.last_time.Goals as goal
 

@@ -1,5 +1,4 @@
-use Rattle.std.proofs.Common.{ap, ◌∙◌, ◌+◌, arith}
-use Rattle.insertion.proofs.PlanTimes.{leave-read}
+use Rattle.slack_tables.proofs.Common.{ap, ◌∙◌, ◌+◌, arith, leave-read}
 use Rattle.slack_tables.proofs.places.leave_at.Goals as goal
 
 pub returns-else-place-eq0-clause-value : goal.returns-else-place-eq0-clause-value

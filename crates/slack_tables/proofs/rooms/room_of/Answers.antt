@@ -1,4 +1,4 @@
-use Rattle.std.proofs.Common.{arith}
+use Rattle.slack_tables.proofs.Common.{arith}
 use Rattle.slack_tables.proofs.Ranges.{room_of-le}
 use Rattle.slack_tables.proofs.rooms.room_of.Goals as goal
 

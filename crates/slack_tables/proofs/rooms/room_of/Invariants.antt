@@ -1,5 +1,4 @@
-use Rattle.std.proofs.Common.{◌≡◌, ◌≤◌, drop, min}
-use Rattle.slack_tables.specs.inner.Trips.{no_limit, room_of}
+use Rattle.slack_tables.proofs.Common.{◌≡◌, ◌≤◌, drop, min, no_limit, room_of}
 use Rattle.slack_tables.proofs.rooms.room_of.Given as goal
 
 -- the least so far and that of the trips that are left are the least of all

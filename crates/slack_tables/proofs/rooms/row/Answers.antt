@@ -1,7 +1,4 @@
-use Rattle.std.proofs.Common.{◌+◌, ◌-◌, ◌++◌, ◌∷◌, [], ◌∙◌, ap, arith}
-use Rattle.std.specs.Prelude.{map}
-use Rattle.std.specs.List.{range_with_len}
-use Rattle.slack_tables.specs.inner.Trips.{room_of}
+use Rattle.slack_tables.proofs.Common.{◌+◌, ◌-◌, ◌++◌, ◌∷◌, [], ◌∙◌, ap, arith, map, range_with_len, room_of}
 use Rattle.slack_tables.proofs.Ranges.{made-on}
 use Rattle.slack_tables.proofs.rooms.row.Goals as goal
 

@@ -1,7 +1,4 @@
-use Rattle.std.proofs.Common.{◌≡◌, ◌+◌, ◌-◌, ◌++◌, length}
-use Rattle.std.specs.Prelude.{map}
-use Rattle.std.specs.List.{range_with_len}
-use Rattle.slack_tables.specs.inner.Trips.{room_of}
+use Rattle.slack_tables.proofs.Common.{◌≡◌, ◌+◌, ◌-◌, ◌++◌, length, map, range_with_len, room_of}
 use Rattle.slack_tables.proofs.rooms.row.Given as goal
 
 -- the rooms so far and those of the places that are left are all

@@ -1,9 +1,5 @@
-use Rattle.std.proofs.Common.{ℕ, ◌+◌, ◌-◌, ◌++◌, ◌∷◌, [], List, ◌≡◌, refl, ◌∙◌, ap, arith}
-use Rattle.std.specs.Prelude.{map}
-use Rattle.std.specs.List.{range_with_len}
+use Rattle.slack_tables.proofs.Common.{ℕ, ◌+◌, ◌-◌, ◌++◌, ◌∷◌, [], List, ◌≡◌, refl, ◌∙◌, ap, arith, map, range_with_len, rows_of, room_of}
 use Rattle.arrayvec.specs.ArrayVec.{ArrayVec}
-use Rattle.slack_tables.specs.inner.Tables.{rows_of}
-use Rattle.slack_tables.specs.inner.Trips.{room_of}
 use Rattle.slack_tables.proofs.Ranges.{made-on}
 use Rattle.slack_tables.proofs.rooms.rows.Goals as goal
 

@@ -1,8 +1,4 @@
-use Rattle.std.proofs.Common.{◌≡◌, ◌+◌, ◌-◌, ◌++◌, length}
-use Rattle.std.specs.Prelude.{map}
-use Rattle.std.specs.List.{range_with_len}
-use Rattle.slack_tables.specs.inner.Tables.{rows_of}
-use Rattle.slack_tables.specs.inner.Trips.{room_of}
+use Rattle.slack_tables.proofs.Common.{◌≡◌, ◌+◌, ◌-◌, ◌++◌, length, map, range_with_len, rows_of, room_of}
 use Rattle.slack_tables.proofs.rooms.rows.Given as goal
 
 -- the rows so far and those of the places that are left are all

@@ -1,4 +1,4 @@
-use Rattle.std.proofs.Common.{◌≡◌, ◌∷◌, take}
+use Rattle.slack_tables.proofs.Common.{◌≡◌, ◌∷◌, take}
 use Rattle.slack_tables.proofs.slack.from_start.Given as goal
 
 -- the load at the start and those so far

@@ -1,4 +1,4 @@
-use Rattle.std.proofs.Common.{sym, ◌∙◌}
+use Rattle.slack_tables.proofs.Common.{sym, ◌∙◌}
 use Rattle.slack_tables.proofs.Visits.{visit-later}
 use Rattle.slack_tables.proofs.trips.first_visit.Goals as goal
 

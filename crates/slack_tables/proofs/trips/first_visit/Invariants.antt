@@ -1,5 +1,4 @@
-use Rattle.std.proofs.Common.{◌≡◌, drop}
-use Rattle.slack_tables.specs.inner.Trips.{first_visit}
+use Rattle.slack_tables.proofs.Common.{◌≡◌, drop, first_visit}
 use Rattle.slack_tables.proofs.trips.first_visit.Given as goal
 
 -- no stop so far is the visit

@@ -1,7 +1,4 @@
-use Rattle.std.proofs.Common.{◌≡◌, ◌≤◌, ◌++◌, drop, length}
-use Rattle.std.specs.List.{filter_map}
-use Rattle.ride_model.specs.declared.vehicle.Ride.{Ride}
-use Rattle.slack_tables.specs.inner.Trips.{trip_of}
+use Rattle.slack_tables.proofs.Common.{◌≡◌, ◌≤◌, ◌++◌, drop, length, filter_map, Ride, trip_of}
 use Rattle.slack_tables.proofs.trips.trips_of.Given as goal
 
 -- the trips so far and those of the rides that are left are all

@@ -1,6 +1,4 @@
-use Rattle.std.proofs.Common.{length, ◌∙◌, ap, arith}
-use Rattle.ride_model.specs.Insertion.{with_plan, pickup_of, dropoff_of}
-use Rattle.stop_plans.specs.inner.Legged.{with_leg, with_stop}
+use Rattle.stop_plans.proofs.Common.{length, ◌∙◌, ap, arith, with_plan, pickup_of, dropoff_of, with_leg, with_stop}
 use Rattle.stop_plans.proofs.InsertedLegs.{length-with_stop, inserts-into}
 use Rattle.stop_plans.proofs.insert.insert_ride.Goals as goal
 

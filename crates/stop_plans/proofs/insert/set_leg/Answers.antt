@@ -1,4 +1,4 @@
-use Rattle.std.proofs.Common.{sym}
+use Rattle.stop_plans.proofs.Common.{sym}
 use Rattle.stop_plans.proofs.InsertedLegs.{relegged-set, relegged-past}
 use Rattle.stop_plans.proofs.insert.set_leg.Goals as goal
 

@@ -1,8 +1,4 @@
-use Rattle.std.proofs.Common.{sym, subst}
-use Rattle.ride_model.specs.Vehicle.{IsLawful}
-use Rattle.ride_model.specs.Times.{visits_of}
-use Rattle.model_laws.specs.inner.Sooner.{AllSooner}
-use Rattle.model_laws.proofs.Removal.{lawful-without, visits-sooner}
+use Rattle.stop_plans.proofs.Common.{sym, subst, IsLawful, visits_of, AllSooner, lawful-without, visits-sooner}
 use Rattle.stop_plans.proofs.laws.removal_law.Goals as goal
 
 pub returns-clause-lawful : goal.returns-clause-lawful

@@ -1,9 +1,4 @@
-use Rattle.std.proofs.Common.{◌<◌, length, sym, ◌∙◌, ap, subst}
-use Rattle.std.specs.Prelude.{remove}
-use Rattle.ride_model.specs.declared.vehicle.Kind.TheVariants.{Pickup, Dropoff}
-use Rattle.ride_model.specs.Insertion.{with_plan}
-use Rattle.stop_plans.specs.inner.First.{is_visit, IsFirst}
-use Rattle.stop_plans.specs.inner.Legged.{relegged}
+use Rattle.stop_plans.proofs.Common.{◌<◌, length, sym, ◌∙◌, ap, subst, remove, Pickup, Dropoff, with_plan, is_visit, IsFirst, relegged}
 use Rattle.stop_plans.proofs.RemovedLegs.{removal_places, removes-from, dropoff-within, pickup-within}
 use Rattle.stop_plans.proofs.remove.remove_ride.Goals as goal
 

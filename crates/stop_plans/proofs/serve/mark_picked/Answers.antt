@@ -1,6 +1,4 @@
-use Rattle.std.proofs.Common.{◌==◌, get_or, ◌∙◌, ap}
-use Rattle.std.specs.Prelude.{Some, None, slice_set, if◌then◌else◌}
-use Rattle.ride_model.specs.declared.vehicle.Ride.{Ride}
+use Rattle.stop_plans.proofs.Common.{◌==◌, get_or, ◌∙◌, ap, Some, None, slice_set, if◌then◌else◌, Ride}
 use Rattle.stop_plans.proofs.Marked.{next-of-changed, one-more-changed}
 use Rattle.stop_plans.proofs.serve.mark_picked.Goals as goal
 

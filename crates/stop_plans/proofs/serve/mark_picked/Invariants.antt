@@ -1,5 +1,4 @@
-use Rattle.std.proofs.Common.{◌≡◌, ◌++◌, take, drop}
-use Rattle.ride_model.specs.Step.{rides_with_picked}
+use Rattle.stop_plans.proofs.Common.{◌≡◌, ◌++◌, take, drop, rides_with_picked}
 use Rattle.stop_plans.proofs.serve.mark_picked.Given as goal
 
 -- those so far are marked, the others are as they were

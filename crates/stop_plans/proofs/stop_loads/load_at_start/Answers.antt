@@ -1,7 +1,4 @@
-use Rattle.std.proofs.Common.{◌∙◌, ap}
-use Rattle.std.specs.Prelude.{map, is_some}
-use Rattle.ride_model.specs.declared.vehicle.Ride.{Ride}
-use Rattle.stop_plans.specs.inner.Aboard.{load_aboard}
+use Rattle.stop_plans.proofs.Common.{◌∙◌, ap, map, is_some, Ride, load_aboard}
 use Rattle.stop_plans.proofs.AboardLists.{load-at_start}
 use Rattle.stop_plans.proofs.stop_loads.load_at_start.Goals as goal
 

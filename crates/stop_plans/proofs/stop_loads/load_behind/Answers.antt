@@ -1,11 +1,4 @@
-use Rattle.std.proofs.Common.{◌≡◌, ◌≢◌, ℕ, inl, inr, false, length, get_or, eqb, ◌∙◌, ap, arith}
-use Rattle.std.specs.Prelude.{None, slice_set}
-use Rattle.std.proofs.lemmas.Bool.{eq-eqb}
-use Rattle.std.proofs.lemmas.Bool.Decides.{eqb_tells}
-use Rattle.std.proofs.lemmas.List.Elements.{recursion_from_All}
-use Rattle.ride_model.specs.declared.vehicle.Load.{Load}
-use Rattle.ride_model.specs.declared.vehicle.Ride.{Ride}
-use Rattle.stop_plans.specs.inner.Aboard.{seats_aboard, chairs_aboard, load_aboard, IsSmall}
+use Rattle.stop_plans.proofs.Common.{◌≡◌, ◌≢◌, ℕ, inl, inr, false, length, get_or, eqb, ◌∙◌, ap, arith, None, slice_set, eq-eqb, eqb_tells, recursion_from_All, Load, Ride, seats_aboard, chairs_aboard, load_aboard, IsSmall}
 use Rattle.stop_plans.proofs.AboardLists.{one-more-boarded, one-more-stays, all-boarded, seats-set, chairs-set, seats-part, chairs-part, seats-few, chairs-few, if_at_most}
 use Rattle.stop_plans.proofs.stop_loads.load_behind.Goals as goal
 

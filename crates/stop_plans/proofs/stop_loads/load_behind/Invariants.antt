@@ -1,5 +1,4 @@
-use Rattle.std.proofs.Common.{◌≡◌}
-use Rattle.stop_plans.specs.inner.Aboard.{load_aboard}
+use Rattle.stop_plans.proofs.Common.{◌≡◌, load_aboard}
 use Rattle.stop_plans.proofs.AboardLists.{so_far_boarded}
 use Rattle.stop_plans.proofs.stop_loads.load_behind.Given as goal
 

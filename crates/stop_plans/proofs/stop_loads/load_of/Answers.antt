@@ -1,5 +1,4 @@
-use Rattle.std.proofs.Common.{◌≡◌, ◌+◌, ◌*◌, ◌≤◌, ℕ, drop, sym, ◌∙◌, ap, mul-add, mul-one, arith}
-use Rattle.stop_plans.specs.inner.Aboard.{seats_aboard, chairs_aboard}
+use Rattle.stop_plans.proofs.Common.{◌≡◌, ◌+◌, ◌*◌, ◌≤◌, ℕ, drop, sym, ◌∙◌, ap, mul-add, mul-one, arith, seats_aboard, chairs_aboard}
 use Rattle.stop_plans.proofs.AboardLists.{if_at_most, seats-drop, chairs-drop}
 use Rattle.stop_plans.proofs.stop_loads.load_of.Goals as goal
 

@@ -1,5 +1,4 @@
-use Rattle.std.proofs.Common.{◌≡◌, ◌+◌, ◌*◌, ◌≤◌, drop}
-use Rattle.stop_plans.specs.inner.Aboard.{seats_aboard, chairs_aboard}
+use Rattle.stop_plans.proofs.Common.{◌≡◌, ◌+◌, ◌*◌, ◌≤◌, drop, seats_aboard, chairs_aboard}
 use Rattle.stop_plans.proofs.stop_loads.load_of.Given as goal
 
 -- the load so far and that of the rest is the load of all

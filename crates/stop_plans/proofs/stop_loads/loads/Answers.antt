@@ -1,7 +1,4 @@
-use Rattle.std.proofs.Common.{◌∙◌, ap}
-use Rattle.std.specs.Prelude.{map, is_some}
-use Rattle.ride_model.specs.declared.vehicle.Ride.{Ride}
-use Rattle.stop_plans.specs.inner.Aboard.{loads_behind}
+use Rattle.stop_plans.proofs.Common.{◌∙◌, ap, map, is_some, Ride, loads_behind}
 use Rattle.stop_plans.proofs.AboardLists.{loads_behind-is}
 use Rattle.stop_plans.proofs.stop_loads.loads.Goals as goal
 

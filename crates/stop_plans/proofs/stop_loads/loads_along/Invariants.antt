@@ -1,7 +1,4 @@
-use Rattle.std.proofs.Common.{◌≡◌, ◌++◌, length, drop, map}
-use Rattle.std.specs.Prelude.{is_some}
-use Rattle.ride_model.specs.declared.vehicle.Ride.{Ride}
-use Rattle.stop_plans.specs.inner.Aboard.{load_aboard, loads_behind}
+use Rattle.stop_plans.proofs.Common.{◌≡◌, ◌++◌, length, drop, map, is_some, Ride, load_aboard, loads_behind}
 use Rattle.stop_plans.proofs.stop_loads.loads_along.Given as goal
 
 -- the loads so far and those after the stops that are left are all, and the load is that of those who are aboard

@@ -1,5 +1,4 @@
-use Rattle.std.proofs.Common.{◌≡◌, ◌≤◌, ◌+◌, ◌*◌, ◌++◌, length, drop}
-use Rattle.ride_model.specs.Times.{times_from}
+use Rattle.stop_plans.proofs.Common.{◌≡◌, ◌≤◌, ◌+◌, ◌*◌, ◌++◌, length, drop, times_from}
 use Rattle.stop_plans.proofs.stop_times.times_along.Given as goal
 
 -- the times so far and those of what is left are the times of all

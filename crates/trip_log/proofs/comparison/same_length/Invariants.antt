@@ -1,4 +1,4 @@
-use Rattle.std.proofs.Common.{◌≡◌, ◌≤◌, ◌-◌, length, take}
+use Rattle.trip_log.proofs.Common.{◌≡◌, ◌≤◌, ◌-◌, length, take}
 use Rattle.trip_log.proofs.comparison.same_length.Given as goal
 
 abbrev pub invariant-loop-same : goal.invariant-loop-same

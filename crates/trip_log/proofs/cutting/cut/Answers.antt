@@ -1,5 +1,4 @@
-use Rattle.std.proofs.Common.{arith}
-use Rattle.std.proofs.lemmas.List.{take_rest}
+use Rattle.trip_log.proofs.Common.{arith, take_rest}
 use Rattle.trip_log.proofs.CutLemmas.{cut_at-place, cut_at-none}
 use Rattle.trip_log.proofs.cutting.cut.Goals as goal
 

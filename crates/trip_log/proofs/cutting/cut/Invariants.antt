@@ -1,4 +1,4 @@
-use Rattle.std.proofs.Common.{◌≢◌, ℕ, ◌<◌, get_or}
+use Rattle.trip_log.proofs.Common.{◌≢◌, ℕ, ◌<◌, get_or}
 use Rattle.trip_log.proofs.cutting.cut.Given as goal
 
 abbrev pub invariant-loop-place : goal.invariant-loop-place

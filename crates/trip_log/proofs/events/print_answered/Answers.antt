@@ -1,5 +1,4 @@
-use Rattle.std.proofs.lemmas.Result.{err_from_is_err_and}
-use Rattle.ride_model.specs.Text.{actor_field}
+use Rattle.trip_log.proofs.Common.{err_from_is_err_and, actor_field}
 use Rattle.trip_log.proofs.PrintsLemmas.{prints_then, prints_more, prints_as, answered_text}
 use Rattle.trip_log.proofs.events.print_answered.Goals as goal
 

@@ -1,4 +1,4 @@
-use Rattle.std.proofs.Common.{◌<◌, length, arith}
+use Rattle.trip_log.proofs.Common.{◌<◌, length, arith}
 use Rattle.trip_log.proofs.PrintsLemmas.{prints_as, broken_text}
 use Rattle.trip_log.proofs.events.print_broken.Goals as goal
 

@@ -1,7 +1,4 @@
-use Rattle.std.proofs.Common.{[], ◌∷◌}
-use Rattle.std.specs.Prelude.{decimal}
-use Rattle.std.proofs.lemmas.Result.{err_from_is_err_and}
-use Rattle.ride_model.specs.Text.{broken_fields}
+use Rattle.trip_log.proofs.Common.{[], ◌∷◌, decimal, err_from_is_err_and, broken_fields}
 use Rattle.trip_log.proofs.PrintsLemmas.{prints_then, prints_more, prints_as, late_text}
 use Rattle.trip_log.proofs.events.print_late.Goals as goal
 

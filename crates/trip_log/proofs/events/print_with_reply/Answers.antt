@@ -1,4 +1,4 @@
-use Rattle.std.proofs.lemmas.Result.{err_from_is_err_and}
+use Rattle.trip_log.proofs.Common.{err_from_is_err_and}
 use Rattle.trip_log.proofs.PrintsLemmas.{prints_then, prints_more, prints_as, answer_text}
 use Rattle.trip_log.proofs.events.print_with_reply.Goals as goal
 

@@ -1,5 +1,4 @@
-use Rattle.std.proofs.Common.{◌∙◌, ap}
-use Rattle.trip_log.specs.inner.Items.{items_of}
+use Rattle.trip_log.proofs.Common.{◌∙◌, ap, items_of}
 use Rattle.trip_log.proofs.ItemLemmas.{items_of-nil, rest-more, stops-here, taken-all, taken-more}
 use Rattle.trip_log.proofs.items.take_items.Goals as goal
 

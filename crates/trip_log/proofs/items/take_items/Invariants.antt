@@ -1,5 +1,4 @@
-use Rattle.std.proofs.Common.{◌≡◌, ◌++◌, length}
-use Rattle.trip_log.specs.inner.Items.{items_of}
+use Rattle.trip_log.proofs.Common.{◌≡◌, ◌++◌, length, items_of}
 use Rattle.trip_log.proofs.items.take_items.Given as goal
 
 -- the items so far and those of the fields that are left are the items of all

@@ -1,4 +1,4 @@
-use Rattle.std.proofs.lemmas.Result.{err_from_is_err_and}
+use Rattle.trip_log.proofs.Common.{err_from_is_err_and}
 use Rattle.trip_log.proofs.PrintsLemmas.{prints_stopped}
 use Rattle.trip_log.proofs.lists.print_items.Goals as goal
 

@@ -1,6 +1,5 @@
-use Rattle.std.proofs.Common.{take, Ok}
+use Rattle.trip_log.proofs.Common.{take, Ok, Prints, listed}
 use Rattle.ride_ports.specs.declared.sources.Failed.{Failed}
-use Rattle.trip_log.specs.inner.Prints.{Prints, listed}
 use Rattle.trip_log.proofs.lists.print_items.Given as goal
 
 -- the items so far are printed

@@ -1,5 +1,4 @@
-use Rattle.std.proofs.lemmas.Result.{err_from_is_err_and}
-use Rattle.trip_log.specs.inner.Prints.{listed}
+use Rattle.trip_log.proofs.Common.{err_from_is_err_and, listed}
 use Rattle.trip_log.proofs.PrintsLemmas.{prints_then, prints_more}
 use Rattle.trip_log.proofs.lists.print_list.Goals as goal
 

@@ -1,4 +1,4 @@
-use Rattle.std.proofs.Common.{◌≡◌, ◌≤◌, length, take}
+use Rattle.trip_log.proofs.Common.{◌≡◌, ◌≤◌, length, take}
 use Rattle.trip_log.specs.inner.Pieces.{bytes_of, room_of}
 use Rattle.trip_log.proofs.pieces.text_of.Given as goal
 

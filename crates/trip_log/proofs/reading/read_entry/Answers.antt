@@ -1,4 +1,4 @@
-use Rattle.std.proofs.Common.{sym, ◌∙◌, true≢false}
+use Rattle.trip_log.proofs.Common.{sym, ◌∙◌, true≢false}
 use Rattle.trip_log.proofs.ReadLemmas.{no_entry, no_other_entry}
 use Rattle.trip_log.proofs.SpelledLemmas.{read-has_line}
 use Rattle.trip_log.proofs.reading.read_entry.Goals as goal

@@ -1,4 +1,4 @@
-use Rattle.std.proofs.Common.{sym, ◌∙◌, true≢false}
+use Rattle.trip_log.proofs.Common.{sym, ◌∙◌, true≢false}
 use Rattle.trip_log.proofs.HeadLemmas.{no_log, no_feeds, no_desks, no_other}
 use Rattle.trip_log.proofs.reading.read_head.Goals as goal
 

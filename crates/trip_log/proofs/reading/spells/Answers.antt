@@ -1,5 +1,4 @@
-use Rattle.std.proofs.Common.{sym, ◌∙◌}
-use Rattle.ride_model.specs.Text.{entry_line}
+use Rattle.trip_log.proofs.Common.{sym, ◌∙◌, entry_line}
 use Rattle.trip_log.proofs.CompareLemmas.{is_err-not_ok, on_err, on_ok, printed-is, printed-other, stopped-other}
 use Rattle.trip_log.proofs.reading.spells.Goals as goal
 

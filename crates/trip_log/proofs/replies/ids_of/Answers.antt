@@ -1,5 +1,4 @@
-use Rattle.std.proofs.Common.{◌≡◌, ◌∙◌, ap, arith, length}
-use Rattle.std.proofs.lemmas.List.{length-take-le}
+use Rattle.trip_log.proofs.Common.{◌≡◌, ◌∙◌, ap, arith, length, length-take-le}
 use Rattle.trip_log.proofs.replies.ids_of.Goals as goal
 
 pub push-requires : goal.push-requires

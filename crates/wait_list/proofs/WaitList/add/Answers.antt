@@ -1,9 +1,4 @@
-use Rattle.std.proofs.Common.{◌<◌, [], sym, ◌∙◌, subst}
-use Rattle.std.specs.Prelude.{All}
-use Rattle.std.proofs.lemmas.List.{append-nil}
-use Rattle.std.proofs.lemmas.List.Elements.{recursion_from_All}
-use Rattle.link_lists.specs.inner.Family.{list_at}
-use Rattle.wait_list.specs.inner.Split.{Rises, IsOneList}
+use Rattle.wait_list.proofs.Common.{◌<◌, [], sym, ◌∙◌, subst, All, append-nil, recursion_from_All, list_at, Rises, IsOneList}
 use Rattle.wait_list.proofs.Rising.{rises-insert, rising-from_one}
 use Rattle.wait_list.proofs.WaitList.add.Goals as goal
 

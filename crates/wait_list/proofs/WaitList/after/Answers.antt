@@ -1,9 +1,4 @@
-use Rattle.std.proofs.Common.{◌≡◌, sym, ◌∙◌, subst}
-use Rattle.std.specs.Prelude.{Some, None, slice_get, Contains}
-use Rattle.std.proofs.lemmas.Bool.{false≢true}
-use Rattle.link_lists.specs.inner.Family.{list_at}
-use Rattle.wait_list.specs.inner.Waiting.{IsRising, places_above}
-use Rattle.wait_list.specs.inner.Split.{IsSplit}
+use Rattle.wait_list.proofs.Common.{◌≡◌, sym, ◌∙◌, subst, Some, None, slice_get, Contains, false≢true, list_at, IsRising, places_above, IsSplit}
 use Rattle.wait_list.proofs.Rising.{held-one, rising-from_one}
 use Rattle.wait_list.proofs.Placed.{after-here, after-first, after-last, last-waits}
 use Rattle.wait_list.proofs.WaitList.after.Goals as goal

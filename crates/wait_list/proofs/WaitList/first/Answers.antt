@@ -1,5 +1,4 @@
-use Rattle.std.proofs.Common.{subst}
-use Rattle.wait_list.specs.inner.Waiting.{IsRising}
+use Rattle.wait_list.proofs.Common.{subst, IsRising}
 use Rattle.wait_list.proofs.Rising.{rising-from_one}
 use Rattle.wait_list.proofs.WaitList.first.Goals as goal
 

@@ -1,9 +1,4 @@
-use Rattle.std.proofs.Common.{◌≡◌, ◌+◌, ◌<◌, length, subst}
-use Rattle.std.specs.Prelude.{slice_get}
-use Rattle.link_lists.specs.inner.Family.{list_at}
-use Rattle.link_lists.proofs.Kept.{Contains-from_get}
-use Rattle.link_lists.proofs.Walks.{nodes_left}
-use Rattle.wait_list.specs.inner.Split.{IsSplit}
+use Rattle.wait_list.proofs.Common.{◌≡◌, ◌+◌, ◌<◌, length, subst, slice_get, list_at, Contains-from_get, nodes_left, IsSplit}
 use Rattle.wait_list.proofs.Walk.{IsWalk, walk-place, walk-more, walk-falls, walk-end, walk-stop}
 use Rattle.wait_list.proofs.WaitList.last_below.Goals as goal
 

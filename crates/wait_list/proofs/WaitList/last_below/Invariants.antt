@@ -1,5 +1,4 @@
-use Rattle.link_lists.specs.inner.Family.{list_at}
-use Rattle.link_lists.proofs.Walks.{nodes_left}
+use Rattle.wait_list.proofs.Common.{list_at, nodes_left}
 use Rattle.wait_list.proofs.Walk.{IsWalk}
 use Rattle.wait_list.proofs.WaitList.last_below.Given as goal
 

@@ -1,8 +1,4 @@
-use Rattle.std.proofs.Common.{◌≡◌, ◌∷◌, ◌++◌, sym, ◌∙◌, subst}
-use Rattle.std.specs.Prelude.{Some, None, Contains}
-use Rattle.link_lists.specs.inner.Family.{list_at}
-use Rattle.wait_list.specs.inner.Waiting.{places_below, places_above}
-use Rattle.wait_list.specs.inner.Split.{Rises, IsSplit, IsOneList}
+use Rattle.wait_list.proofs.Common.{◌≡◌, ◌∷◌, ◌++◌, sym, ◌∙◌, subst, Some, None, Contains, list_at, places_below, places_above, Rises, IsSplit, IsOneList}
 use Rattle.wait_list.proofs.Rising.{rising-from_one}
 use Rattle.wait_list.proofs.Placed.{rises-put, put-first, put-behind, last-waits}
 use Rattle.wait_list.proofs.WaitList.put_back.Goals as goal

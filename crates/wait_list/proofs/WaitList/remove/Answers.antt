@@ -1,6 +1,4 @@
-use Rattle.std.proofs.Common.{sym, ◌∙◌, subst, eqb, not}
-use Rattle.wait_list.specs.inner.Split.{Rises, IsOneList}
-use Rattle.link_lists.specs.inner.Family.{list_at}
+use Rattle.wait_list.proofs.Common.{sym, ◌∙◌, subst, eqb, not, Rises, IsOneList, list_at}
 use Rattle.wait_list.proofs.Rising.{rises-filter, rising-from_one}
 use Rattle.wait_list.proofs.WaitList.remove.Goals as goal
 

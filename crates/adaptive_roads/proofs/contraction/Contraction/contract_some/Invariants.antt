@@ -1,7 +1,4 @@
-use Rattle.std.proofs.Common.{◌≡◌}
-use Rattle.std.specs.Prelude.{IsFalse}
-use Rattle.ride_model.specs.Road.{RoadMap}
-use Rattle.adaptive_roads.specs.inner.contraction.Contracted.{IsContractionOf}
+use Rattle.adaptive_roads.proofs.Common.{◌≡◌, IsFalse, RoadMap, IsContractionOf}
 use Rattle.adaptive_roads.proofs.contraction.Contraction.contract_some.Given as goal
 
 abbrev pub invariant-loop-left : goal.invariant-loop-left

@@ -1,4 +1,4 @@
-use Rattle.std.proofs.lemmas.List.{nil_from_length}
+use Rattle.adaptive_roads.proofs.Common.{nil_from_length}
 use Rattle.adaptive_roads.proofs.contraction.Views.{begun-contraction, begun-levels}
 use Rattle.adaptive_roads.proofs.contraction.Contraction.new.Goals as goal
 

@@ -1,5 +1,4 @@
-use Rattle.std.proofs.Common.{subst}
-use Rattle.adaptive_roads.specs.inner.contraction.Contracted.{IsFitContraction}
+use Rattle.adaptive_roads.proofs.Common.{subst, IsFitContraction}
 use Rattle.adaptive_roads.proofs.contraction.Views.{fit-seen}
 use Rattle.adaptive_roads.proofs.contraction.Contraction.nodes.Goals as goal
 

@@ -1,7 +1,4 @@
-use Rattle.std.proofs.Common.{inl, inr, subst, arith}
-use Rattle.std.proofs.lemmas.Bool.{cases_eq}
-use Rattle.std.proofs.lemmas.List.Elements.{Contains-get_or}
-use Rattle.adaptive_roads.specs.inner.contraction.Growth.{IsCovered}
+use Rattle.adaptive_roads.proofs.Common.{inl, inr, subst, arith, cases_eq, Contains-get_or, IsCovered}
 use Rattle.adaptive_roads.proofs.contraction.Growths.{outgoing-wider, shortcuts-append, covered-wider, at_loop}
 use Rattle.adaptive_roads.proofs.contraction.shortcuts.cover.Goals as goal
 

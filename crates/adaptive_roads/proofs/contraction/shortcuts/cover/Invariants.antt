@@ -1,7 +1,4 @@
-use Rattle.std.proofs.Common.{◌≡◌, ℕ, ◌<◌, get_or}
-use Rattle.adaptive_roads.specs.declared.contraction.graph.Neighbor.{Neighbor}
-use Rattle.adaptive_roads.specs.inner.contraction.Graph.{IsGraph}
-use Rattle.adaptive_roads.specs.inner.contraction.Growth.{HasShortcuts, IsCovered}
+use Rattle.adaptive_roads.proofs.Common.{◌≡◌, ℕ, ◌<◌, get_or, Neighbor, IsGraph, HasShortcuts, IsCovered}
 use Rattle.adaptive_roads.proofs.contraction.shortcuts.cover.Given as goal
 
 abbrev pub invariant-loop-onward : goal.invariant-loop-onward

@@ -1,9 +1,4 @@
-use Rattle.std.proofs.Common.{◌≡◌, ℕ, ◌<◌, get_or}
-use Rattle.std.specs.Prelude.{Contains}
-use Rattle.adaptive_roads.specs.declared.contraction.graph.Neighbor.{Neighbor}
-use Rattle.adaptive_roads.specs.inner.contraction.Graph.{IsGraph}
-use Rattle.adaptive_roads.specs.inner.contraction.Witness.{IsRoomy}
-use Rattle.adaptive_roads.specs.inner.contraction.Growth.{HasShortcuts, IsCovered}
+use Rattle.adaptive_roads.proofs.Common.{◌≡◌, ℕ, ◌<◌, get_or, Contains, Neighbor, IsGraph, IsRoomy, HasShortcuts, IsCovered}
 use Rattle.adaptive_roads.proofs.contraction.shortcuts.cover_all.Given as goal
 
 abbrev pub invariant-loop-into : goal.invariant-loop-into

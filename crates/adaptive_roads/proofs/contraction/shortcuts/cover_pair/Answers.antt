@@ -1,5 +1,4 @@
-use Rattle.std.proofs.Common.{◌≡◌, ◌+◌, refl, subst, arith}
-use Rattle.adaptive_roads.specs.inner.contraction.Witness.{ReachesPast}
+use Rattle.adaptive_roads.proofs.Common.{◌≡◌, ◌+◌, refl, subst, arith, ReachesPast}
 use Rattle.adaptive_roads.proofs.contraction.Growths.{contained-fit, past-wider, shortcuts-pushed, over-node, covered-pushed}
 use Rattle.adaptive_roads.proofs.contraction.shortcuts.cover_pair.Goals as goal
 

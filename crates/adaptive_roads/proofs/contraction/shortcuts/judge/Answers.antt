@@ -1,5 +1,4 @@
-use Rattle.std.proofs.Common.{subst}
-use Rattle.std.specs.Prelude.{Contains}
+use Rattle.adaptive_roads.proofs.Common.{subst, Contains}
 use Rattle.adaptive_roads.proofs.contraction.Growths.{incoming-from_neighbor, outgoing-from_neighbor}
 use Rattle.adaptive_roads.proofs.contraction.shortcuts.judge.Goals as goal
 

@@ -1,4 +1,4 @@
-use Rattle.std.proofs.lemmas.List.Elements.{Contains-get_or}
+use Rattle.adaptive_roads.proofs.Common.{Contains-get_or}
 use Rattle.adaptive_roads.proofs.contraction.shortcuts.judge_all.Goals as goal
 
 pub judge_from-judged-requires-clause-into : goal.judge_from-judged-requires-clause-into

@@ -1,4 +1,4 @@
-use Rattle.adaptive_roads.specs.inner.contraction.Witness.{IsRoomy}
+use Rattle.adaptive_roads.proofs.Common.{IsRoomy}
 use Rattle.adaptive_roads.proofs.contraction.shortcuts.judge_from.Given as goal
 
 abbrev pub invariant-loop-onward : goal.invariant-loop-onward

@@ -1,4 +1,4 @@
-use Rattle.adaptive_roads.specs.inner.contraction.Graph.{IsGraph, IsSameGraph}
+use Rattle.adaptive_roads.proofs.Common.{IsGraph, IsSameGraph}
 use Rattle.adaptive_roads.proofs.contraction.shortcuts.prune_all.Given as goal
 
 abbrev pub invariant-loop-neighbor : goal.invariant-loop-neighbor

@@ -1,6 +1,4 @@
-use Rattle.std.proofs.Common.{◌≡◌, refl, sym, ap, ◌∙◌, subst}
-use Rattle.std.specs.Prelude.{is_some, Contains}
-use Rattle.adaptive_roads.specs.inner.contraction.Levels.{level_in}
+use Rattle.adaptive_roads.proofs.Common.{◌≡◌, refl, sym, ap, ◌∙◌, subst, is_some, Contains, level_in}
 use Rattle.adaptive_roads.proofs.contraction.Growths.{grown-hierarchy, covered-bypassed, taken-hierarchy, shortcuts-same, incoming-from_neighbor, outgoing-from_neighbor}
 use Rattle.adaptive_roads.proofs.contraction.shortcuts.take_out.Goals as goal
 

@@ -1,4 +1,4 @@
-use Rattle.std.proofs.Common.{◌≡◌, length}
+use Rattle.adaptive_roads.proofs.Common.{◌≡◌, length}
 use Rattle.adaptive_roads.proofs.contraction.start.fill.Given as goal
 
 abbrev pub invariant-loop-node : goal.invariant-loop-node

@@ -1,5 +1,4 @@
-use Rattle.std.proofs.Common.{◌≡◌, length, take}
-use Rattle.adaptive_roads.specs.inner.contraction.Graph.{IsGraph}
+use Rattle.adaptive_roads.proofs.Common.{◌≡◌, length, take, IsGraph}
 use Rattle.adaptive_roads.proofs.contraction.start.graph_of.Given as goal
 
 abbrev pub invariant-loop-arc : goal.invariant-loop-arc

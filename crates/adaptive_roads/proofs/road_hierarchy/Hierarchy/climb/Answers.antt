@@ -1,10 +1,4 @@
-use Rattle.std.proofs.Common.{◌≡◌, ◌<◌, length, refl, ◌∙◌, ap, subst, arith}
-use Rattle.std.proofs.lemmas.List.{get_or_read}
-use Rattle.adaptive_roads.specs.inner.contraction.Levels.{level_in}
-use Rattle.adaptive_roads.specs.inner.contraction.Contracted.{Contracted, IsFitContraction}
-use Rattle.adaptive_roads.specs.inner.road_hierarchy.Packed.{IsWhole}
-use Rattle.adaptive_roads.specs.inner.road_hierarchy.Climb.{opposite}
-use Rattle.adaptive_roads.specs.inner.road_hierarchy.Descents.{upper_at}
+use Rattle.adaptive_roads.proofs.Common.{◌≡◌, ◌<◌, length, refl, ◌∙◌, ap, subst, arith, get_or_read, level_in, Contracted, IsFitContraction, IsWhole, opposite, upper_at}
 use Rattle.adaptive_roads.proofs.road_hierarchy.Climbing.{upper-within, climb-same, climb-labels}
 use Rattle.adaptive_roads.proofs.road_hierarchy.Hierarchy.climb.Goals as goal
 

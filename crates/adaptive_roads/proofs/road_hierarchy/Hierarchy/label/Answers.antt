@@ -1,10 +1,4 @@
-use Rattle.std.proofs.Common.{◌≡◌, ◌<◌, length, refl, sym, ◌∙◌, ap, arith, subst}
-use Rattle.std.proofs.lemmas.List.{get_or-map}
-use Rattle.adaptive_roads.specs.inner.contraction.Levels.{level_in}
-use Rattle.road_times.specs.inner.Turned.{travel_by}
-use Rattle.adaptive_roads.specs.inner.road_hierarchy.Marks.{node_at}
-use Rattle.adaptive_roads.specs.inner.road_hierarchy.Sweep.{label_for, climb_to, IsSwept}
-use Rattle.adaptive_roads.specs.inner.road_hierarchy.Selection.{Selection, IsSelectionOf}
+use Rattle.adaptive_roads.proofs.Common.{◌≡◌, ◌<◌, length, refl, sym, ◌∙◌, ap, arith, subst, get_or-map, level_in, travel_by, node_at, label_for, climb_to, IsSwept, Selection, IsSelectionOf}
 use Rattle.adaptive_roads.proofs.road_hierarchy.Sweeping.{swept-same, labels-are_travel}
 use Rattle.adaptive_roads.proofs.road_hierarchy.Hierarchy.label.Goals as goal
 

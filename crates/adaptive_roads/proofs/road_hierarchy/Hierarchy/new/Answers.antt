@@ -1,4 +1,4 @@
-use Rattle.adaptive_roads.specs.inner.road_hierarchy.Packed.{levelled}
+use Rattle.adaptive_roads.proofs.Common.{levelled}
 use Rattle.adaptive_roads.proofs.road_hierarchy.Packing.{packing-same, packing-keeps}
 use Rattle.adaptive_roads.proofs.road_hierarchy.Hierarchy.new.Goals as goal
 

@@ -1,10 +1,4 @@
-use Rattle.std.proofs.Common.{◌≡◌, ℕ, ◌<◌, length, sym, ◌∙◌, ap, subst}
-use Rattle.std.specs.Prelude.{map}
-use Rattle.road_times.specs.inner.Turned.{travel_by}
-use Rattle.adaptive_roads.specs.inner.hierarchy_laws.Labels.{time_of}
-use Rattle.adaptive_roads.specs.inner.road_hierarchy.Marks.{node_at}
-use Rattle.adaptive_roads.specs.inner.road_hierarchy.Sweep.{never, label_for}
-use Rattle.adaptive_roads.specs.inner.road_hierarchy.Selection.{Selection}
+use Rattle.adaptive_roads.proofs.Common.{◌≡◌, ℕ, ◌<◌, length, sym, ◌∙◌, ap, subst, map, travel_by, time_of, node_at, never, label_for, Selection}
 use Rattle.adaptive_roads.proofs.road_hierarchy.Sweeping.{read-is_travel}
 use Rattle.adaptive_roads.proofs.road_hierarchy.Hierarchy.row_in.Goals as goal
 

@@ -1,7 +1,4 @@
-use Rattle.std.proofs.Common.{◌≡◌, length, ◌∙◌, ap, subst, arith}
-use Rattle.adaptive_roads.specs.inner.contraction.Contracted.{Contracted, IsFitContraction}
-use Rattle.adaptive_roads.specs.inner.road_hierarchy.Packed.{IsWhole}
-use Rattle.adaptive_roads.specs.inner.road_hierarchy.Meet.{IsMeeting}
+use Rattle.adaptive_roads.proofs.Common.{◌≡◌, length, ◌∙◌, ap, subst, arith, Contracted, IsFitContraction, IsWhole, IsMeeting}
 use Rattle.adaptive_roads.proofs.road_hierarchy.Meeting.{meeting-is_travel}
 use Rattle.adaptive_roads.proofs.road_hierarchy.Hierarchy.time.Goals as goal
 

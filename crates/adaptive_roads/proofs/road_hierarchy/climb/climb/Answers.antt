@@ -1,5 +1,4 @@
-use Rattle.std.proofs.Common.{◌≡◌, length, subst, arith}
-use Rattle.std.proofs.lemmas.List.{length-set}
+use Rattle.adaptive_roads.proofs.Common.{◌≡◌, length, subst, arith, length-set}
 use Rattle.adaptive_roads.proofs.road_hierarchy.Climbing.{IsClimbing, climbing-more, climbing-over}
 use Rattle.adaptive_roads.proofs.road_hierarchy.climb.climb.Goals as goal
 

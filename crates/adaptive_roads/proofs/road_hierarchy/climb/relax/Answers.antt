@@ -1,9 +1,4 @@
-use Rattle.std.proofs.Common.{◌≡◌, ◌+◌, inl, inr, get_or, arith}
-use Rattle.std.proofs.lemmas.Bool.{cases_lt}
-use Rattle.std.proofs.lemmas.List.{get_or_default}
-use Rattle.adaptive_roads.specs.inner.road_hierarchy.Descents.{upper_at}
-use Rattle.adaptive_roads.specs.inner.road_hierarchy.Climb.{level_of}
-use Rattle.adaptive_roads.specs.inner.road_hierarchy.Marks.{node_at}
+use Rattle.adaptive_roads.proofs.Common.{◌≡◌, ◌+◌, inl, inr, get_or, arith, cases_lt, get_or_default, upper_at, level_of, node_at}
 use Rattle.adaptive_roads.proofs.road_hierarchy.Climbing.{relaxed-more}
 use Rattle.adaptive_roads.proofs.road_hierarchy.climb.relax.Goals as goal
 

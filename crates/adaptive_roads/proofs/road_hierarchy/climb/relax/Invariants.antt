@@ -1,4 +1,4 @@
-use Rattle.adaptive_roads.specs.inner.road_hierarchy.Climb.{IsRelaxed}
+use Rattle.adaptive_roads.proofs.Common.{IsRelaxed}
 use Rattle.adaptive_roads.proofs.road_hierarchy.climb.relax.Given as goal
 
 abbrev pub invariant-loop-upper : goal.invariant-loop-upper

@@ -1,6 +1,4 @@
-use Rattle.std.proofs.Common.{ℕ, ◌<◌, ◌≢◌}
-use Rattle.adaptive_roads.specs.inner.road_hierarchy.Descents.{upper_at}
-use Rattle.adaptive_roads.specs.inner.road_hierarchy.Marks.{IsMarked}
+use Rattle.adaptive_roads.proofs.Common.{ℕ, ◌<◌, ◌≢◌, upper_at, IsMarked}
 use Rattle.adaptive_roads.proofs.road_hierarchy.marks.mark_uppers.Given as goal
 
 abbrev pub invariant-loop-upper : goal.invariant-loop-upper

@@ -1,5 +1,4 @@
-use Rattle.std.proofs.Common.{ℕ}
-use Rattle.adaptive_roads.specs.inner.road_hierarchy.Marks.{IsMarked, AreClosedBelow}
+use Rattle.adaptive_roads.proofs.Common.{ℕ, IsMarked, AreClosedBelow}
 use Rattle.adaptive_roads.proofs.road_hierarchy.marks.mark_upward.Given as goal
 
 abbrev pub invariant-loop-level : goal.invariant-loop-level

@@ -1,5 +1,4 @@
-use Rattle.std.proofs.Common.{ℕ, ◌<◌}
-use Rattle.adaptive_roads.specs.inner.road_hierarchy.Marks.{IsMarked, node_at}
+use Rattle.adaptive_roads.proofs.Common.{ℕ, ◌<◌, IsMarked, node_at}
 use Rattle.adaptive_roads.proofs.road_hierarchy.marks.mark_wanted.Given as goal
 
 abbrev pub invariant-loop-node : goal.invariant-loop-node

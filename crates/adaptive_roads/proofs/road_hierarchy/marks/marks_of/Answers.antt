@@ -1,9 +1,4 @@
-use Rattle.std.proofs.Common.{◌≡◌, ◌<◌, List, ℕ, length, sym, ap, subst, arith}
-use Rattle.std.proofs.lemmas.List.{take_at}
-use Rattle.adaptive_roads.specs.inner.contraction.Levels.{level_in}
-use Rattle.adaptive_roads.specs.inner.road_hierarchy.Descents.{upper_at}
-use Rattle.adaptive_roads.specs.inner.road_hierarchy.Marks.{AreClosedBelow, AreClosed}
-use Rattle.adaptive_roads.specs.inner.road_hierarchy.Links.{IsLinkBy}
+use Rattle.adaptive_roads.proofs.Common.{◌≡◌, ◌<◌, List, ℕ, length, sym, ap, subst, arith, take_at, level_in, upper_at, AreClosedBelow, AreClosed, IsLinkBy}
 use Rattle.adaptive_roads.proofs.road_hierarchy.Marking.{upper-higher, closed-links}
 use Rattle.adaptive_roads.proofs.road_hierarchy.marks.marks_of.Goals as goal
 

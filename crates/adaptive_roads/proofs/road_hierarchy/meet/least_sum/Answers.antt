@@ -1,9 +1,7 @@
-use Rattle.std.proofs.Common.{ℕ, Bor, length, sym, ◌∙◌, ap, subst, arith}
+use Rattle.adaptive_roads.proofs.Common.{ℕ, Bor, length, sym, ◌∙◌, ap, subst, arith, length_push, IsMeeting}
 use Rattle.std.specs.Slice.Iter.{iter_rest}
 use Rattle.std.specs.Iterator.Adapters.{zip_first, zip_second}
-use Rattle.std.proofs.lemmas.List.{length_push}
 use Rattle.std.proofs.lemmas.Slice.Zip.{zip_turn}
-use Rattle.adaptive_roads.specs.inner.road_hierarchy.Meet.{IsMeeting}
 use Rattle.adaptive_roads.proofs.road_hierarchy.Meeting.{meeting-more}
 use Rattle.adaptive_roads.proofs.road_hierarchy.meet.least_sum.Goals as goal
 

@@ -1,5 +1,4 @@
-use Rattle.std.proofs.Common.{length}
-use Rattle.adaptive_roads.specs.inner.road_hierarchy.Meet.{IsMeeting}
+use Rattle.adaptive_roads.proofs.Common.{length, IsMeeting}
 use Rattle.adaptive_roads.proofs.road_hierarchy.meet.least_sum.Given as goal
 
 abbrev pub invariant-loop-up : goal.invariant-loop-up

@@ -1,6 +1,4 @@
-use Rattle.std.proofs.Common.{◌≡◌, ◌++◌, take}
-use Rattle.std.specs.Prelude.{map}
-use Rattle.adaptive_roads.specs.inner.road_hierarchy.Selection.{step_from}
+use Rattle.adaptive_roads.proofs.Common.{◌≡◌, ◌++◌, take, map, step_from}
 use Rattle.adaptive_roads.proofs.road_hierarchy.selected.append_steps.Given as goal
 
 abbrev pub invariant-loop-upper : goal.invariant-loop-upper

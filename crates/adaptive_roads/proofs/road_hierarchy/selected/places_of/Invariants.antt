@@ -1,6 +1,4 @@
-use Rattle.std.proofs.Common.{◌≡◌, take}
-use Rattle.std.specs.Prelude.{map}
-use Rattle.adaptive_roads.specs.inner.road_hierarchy.Marks.{node_at}
+use Rattle.adaptive_roads.proofs.Common.{◌≡◌, take, map, node_at}
 use Rattle.adaptive_roads.proofs.road_hierarchy.selected.places_of.Given as goal
 
 abbrev pub invariant-loop-node : goal.invariant-loop-node

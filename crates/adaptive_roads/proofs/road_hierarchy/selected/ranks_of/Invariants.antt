@@ -1,6 +1,4 @@
-use Rattle.std.proofs.Common.{◌≡◌, take}
-use Rattle.std.specs.Prelude.{map}
-use Rattle.adaptive_roads.specs.inner.contraction.Levels.{level_in}
+use Rattle.adaptive_roads.proofs.Common.{◌≡◌, take, map, level_in}
 use Rattle.adaptive_roads.proofs.road_hierarchy.selected.ranks_of.Given as goal
 
 abbrev pub invariant-loop-node : goal.invariant-loop-node

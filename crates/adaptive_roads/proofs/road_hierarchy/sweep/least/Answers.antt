@@ -1,7 +1,4 @@
-use Rattle.std.proofs.Common.{◌≡◌, inl, inr, get_or, ap, arith}
-use Rattle.std.proofs.lemmas.Bool.{cases_eq, cases_lt}
-use Rattle.adaptive_roads.specs.inner.road_hierarchy.Selection.{no_step}
-use Rattle.adaptive_roads.specs.inner.road_hierarchy.Sweep.{through}
+use Rattle.adaptive_roads.proofs.Common.{◌≡◌, inl, inr, get_or, ap, arith, cases_eq, cases_lt, no_step, through}
 use Rattle.adaptive_roads.proofs.road_hierarchy.sweep.least.Goals as goal
 
 pub loop-step-preserved : goal.loop-step-preserved

@@ -1,5 +1,4 @@
-use Rattle.std.proofs.Common.{◌≡◌, ℕ, ◌<◌, ◌≤◌, ◌⊎◌}
-use Rattle.adaptive_roads.specs.inner.road_hierarchy.Sweep.{through}
+use Rattle.adaptive_roads.proofs.Common.{◌≡◌, ℕ, ◌<◌, ◌≤◌, ◌⊎◌, through}
 use Rattle.adaptive_roads.proofs.road_hierarchy.sweep.least.Given as goal
 
 abbrev pub invariant-loop-step : goal.invariant-loop-step

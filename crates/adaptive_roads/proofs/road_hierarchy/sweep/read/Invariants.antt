@@ -1,8 +1,4 @@
-use Rattle.std.proofs.Common.{◌≡◌, take}
-use Rattle.std.specs.Prelude.{map}
-use Rattle.adaptive_roads.specs.inner.hierarchy_laws.Labels.{time_of}
-use Rattle.adaptive_roads.specs.inner.road_hierarchy.Marks.{node_at}
-use Rattle.adaptive_roads.specs.inner.road_hierarchy.Sweep.{never}
+use Rattle.adaptive_roads.proofs.Common.{◌≡◌, take, map, time_of, node_at, never}
 use Rattle.adaptive_roads.proofs.road_hierarchy.sweep.read.Given as goal
 
 abbrev pub invariant-loop-wanted : goal.invariant-loop-wanted

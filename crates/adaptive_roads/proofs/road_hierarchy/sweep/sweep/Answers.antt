@@ -1,6 +1,4 @@
-use Rattle.std.proofs.Common.{length, refl, arith}
-use Rattle.adaptive_roads.specs.inner.road_hierarchy.Marks.{node_at}
-use Rattle.adaptive_roads.specs.inner.road_hierarchy.Sweep.{climb_to}
+use Rattle.adaptive_roads.proofs.Common.{length, refl, arith, node_at, climb_to}
 use Rattle.adaptive_roads.proofs.road_hierarchy.Labels.{swept-more, part-low}
 use Rattle.adaptive_roads.proofs.road_hierarchy.sweep.sweep.Goals as goal
 

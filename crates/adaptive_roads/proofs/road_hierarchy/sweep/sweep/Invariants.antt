@@ -1,5 +1,4 @@
-use Rattle.std.proofs.Common.{ℕ, ◌<◌}
-use Rattle.adaptive_roads.specs.inner.road_hierarchy.Sweep.{climb_to, IsSwept}
+use Rattle.adaptive_roads.proofs.Common.{ℕ, ◌<◌, climb_to, IsSwept}
 use Rattle.adaptive_roads.proofs.road_hierarchy.sweep.sweep.Given as goal
 
 abbrev pub invariant-loop-place : goal.invariant-loop-place

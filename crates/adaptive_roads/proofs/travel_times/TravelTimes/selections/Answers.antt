@@ -1,5 +1,4 @@
-use Rattle.std.proofs.Common.{ap, arith, subst}
-use Rattle.ride_model.specs.Road.{RoadMap}
+use Rattle.adaptive_roads.proofs.Common.{ap, arith, subst, RoadMap}
 use Rattle.adaptive_roads.specs.inner.Made.{IsMadeOf}
 use Rattle.adaptive_roads.specs.inner.Seen.{IsSeenOf}
 use Rattle.adaptive_roads.proofs.travel_times.TravelTimes.selections.Goals as goal

@@ -1,7 +1,4 @@
-use Rattle.std.proofs.Common.{◌≡◌, ℕ, List, [], ◌∷◌, map, refl, ◌∙◌, ap}
-use Rattle.ride_model.specs.declared.entry.Outcome.{Outcome}
-use Rattle.ride_model.specs.Seating.{amount_ids}
-use Rattle.batch_commit.specs.inner.Answer.{undecided}
+use Rattle.batch_commit.proofs.Common.{◌≡◌, ℕ, List, [], ◌∷◌, map, refl, ◌∙◌, ap, Outcome, amount_ids, undecided}
 use Rattle.batch_commit.proofs.solved.Solved.tie.Goals as goal
 
 ids-undecided : (prices : List (ℕ × ℕ)) → map (λ (item : ℕ × Outcome). item.0) (undecided prices) ≡ amount_ids prices

@@ -1,12 +1,4 @@
-use Rattle.std.proofs.Common.{◌≡◌, List, [], ◌∷◌, ◌++◌, sym, ◌∙◌, ap, subst, arith}
-use Rattle.std.specs.Prelude.{vec_capacity, Some}
-use Rattle.ride_model.specs.declared.command.Actor.TheVariants.{Desk}
-use Rattle.ride_model.specs.declared.entry.Entry.{Entry}
-use Rattle.ride_model.specs.declared.entry.Event.TheVariants.{Abandoned}
-use Rattle.ride_model.specs.State.{start_state, open_batch_numbered}
-use Rattle.board_core.specs.inner.Kept.{IsBoard, with_given_up}
-use Rattle.board_core.specs.Recorded.{Recorded, state_of}
-use Rattle.board_core.specs.inner.Recorded.{abandoned_entry}
+use Rattle.board_core.proofs.Common.{◌≡◌, List, [], ◌∷◌, ◌++◌, sym, ◌∙◌, ap, subst, arith, vec_capacity, Some, Desk, Entry, Abandoned, start_state, open_batch_numbered, IsBoard, with_given_up, Recorded, state_of, abandoned_entry}
 use Rattle.board_core.proofs.Closed.{board-abandoned, place-kept}
 use Rattle.board_core.proofs.board.Board.abandon.Goals as goal
 

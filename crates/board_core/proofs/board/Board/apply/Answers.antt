@@ -1,16 +1,4 @@
-use Rattle.std.proofs.Common.{◌≡◌, ◌+◌, ◌<◌, ◌≤◌, List, [], ◌∷◌, ◌++◌, length, sym, ◌∙◌, ap, subst, arith}
-use Rattle.std.specs.Prelude.{vec_capacity, IsFalse}
-use Rattle.ride_model.specs.declared.command.Actor.TheVariants.{Feed}
-use Rattle.ride_model.specs.declared.entry.Entry.{Entry}
-use Rattle.ride_model.specs.declared.entry.Event.TheVariants.{Fed}
-use Rattle.ride_model.specs.declared.reply.Reply.{Reply}
-use Rattle.ride_model.specs.History.{fed_commands}
-use Rattle.ride_model.specs.Legal.{IsNumbered}
-use Rattle.ride_model.specs.State.{start_state, has_ended}
-use Rattle.ride_model.specs.Text.{IsSpelledCommand}
-use Rattle.board_core.specs.inner.Given.{Given}
-use Rattle.board_core.specs.inner.Kept.{places_kept, IsBoard}
-use Rattle.board_core.specs.Recorded.{Recorded, state_of}
+use Rattle.board_core.proofs.Common.{◌≡◌, ◌+◌, ◌<◌, ◌≤◌, List, [], ◌∷◌, ◌++◌, length, sym, ◌∙◌, ap, subst, arith, vec_capacity, IsFalse, Feed, Entry, Fed, Reply, fed_commands, IsNumbered, start_state, has_ended, IsSpelledCommand, Given, places_kept, IsBoard, Recorded, state_of}
 use Rattle.board_core.proofs.Boards.{board-in_order, board-fed}
 use Rattle.board_core.proofs.board.Board.apply.Goals as goal
 

@@ -1,22 +1,4 @@
-use Rattle.std.proofs.Common.{◌≡◌, ℕ, List, [], ◌∷◌, ◌++◌, length, map, sym, ◌∙◌, ap, subst, arith}
-use Rattle.std.specs.Prelude.{vec_capacity, Some}
-use Rattle.std.proofs.lemmas.List.{length-map}
-use Rattle.ride_model.specs.declared.command.Actor.TheVariants.{Desk}
-use Rattle.ride_model.specs.declared.entry.Entry.{Entry}
-use Rattle.ride_model.specs.declared.entry.Event.TheVariants.{Committed}
-use Rattle.ride_model.specs.declared.entry.Outcome.{Outcome}
-use Rattle.ride_model.specs.declared.vehicle.Ride.{Ride}
-use Rattle.ride_model.specs.Batch.{was_cancelled, outcomes_of, after_outcomes}
-use Rattle.ride_model.specs.Seating.{BatchCopy, vehicle_ids}
-use Rattle.ride_model.specs.State.{State, start_state, open_batch_numbered}
-use Rattle.ride_model.specs.Vehicle.{ride_ids}
-use Rattle.batch_commit.specs.inner.Solved.{SolvedBatch, StandsSo}
-use Rattle.batch_commit.specs.inner.Table.{IsTableOf}
-use Rattle.board_core.specs.inner.Kept.{IsBoard, with_closed}
-use Rattle.board_core.specs.Recorded.{Recorded, state_of}
-use Rattle.board_core.specs.inner.Recorded.{committed_entry}
-use Rattle.board_core.specs.inner.Service.{state_at}
-use Rattle.board_core.specs.inner.Settling.{IsCommitted, balance}
+use Rattle.board_core.proofs.Common.{◌≡◌, ℕ, List, [], ◌∷◌, ◌++◌, length, map, sym, ◌∙◌, ap, subst, arith, vec_capacity, Some, length-map, Desk, Entry, Committed, Outcome, Ride, was_cancelled, outcomes_of, after_outcomes, BatchCopy, vehicle_ids, State, start_state, open_batch_numbered, ride_ids, SolvedBatch, StandsSo, IsTableOf, IsBoard, with_closed, Recorded, state_of, committed_entry, state_at, IsCommitted, balance}
 use Rattle.board_core.proofs.Boards.{board-in_order}
 use Rattle.board_core.proofs.Closed.{open-facts, place-kept, board-committed}
 use Rattle.board_core.proofs.Committed.{is-committed, none-settled, commits}

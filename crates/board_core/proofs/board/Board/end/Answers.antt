@@ -1,11 +1,4 @@
-use Rattle.std.proofs.Common.{List, sym, subst}
-use Rattle.std.specs.Prelude.{vec_capacity}
-use Rattle.ride_model.specs.declared.entry.Entry.{Entry}
-use Rattle.ride_model.specs.declared.entry.Event.TheVariants.{Finish}
-use Rattle.ride_model.specs.Legal.{IsLegalEvent}
-use Rattle.ride_model.specs.State.{start_state}
-use Rattle.board_core.specs.inner.Kept.{IsBoard, with_ending}
-use Rattle.board_core.specs.Recorded.{Recorded, state_of}
+use Rattle.board_core.proofs.Common.{List, sym, subst, vec_capacity, Entry, Finish, IsLegalEvent, start_state, IsBoard, with_ending, Recorded, state_of}
 use Rattle.board_core.proofs.Ended.{board-ended}
 use Rattle.board_core.proofs.board.Board.end.Goals as goal
 

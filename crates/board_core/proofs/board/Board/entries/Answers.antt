@@ -1,7 +1,5 @@
-use Rattle.std.proofs.Common.{subst}
+use Rattle.board_core.proofs.Common.{subst, HasText, Recorded}
 use Rattle.model_laws.proofs.history_laws.HistoryTexts.{has_text}
-use Rattle.ride_model.specs.Text.{HasText}
-use Rattle.board_core.specs.Recorded.{Recorded}
 use Rattle.board_core.proofs.board.Board.entries.Goals as goal
 
 pub returns-clause-text : goal.returns-clause-text

@@ -1,8 +1,4 @@
-use Rattle.std.proofs.Common.{sym, subst}
-use Rattle.std.specs.Prelude.{IsTrue, ◌↔◌}
-use Rattle.ride_model.specs.History.{IsFinished}
-use Rattle.ride_model.specs.State.{start_state}
-use Rattle.board_core.specs.Recorded.{Recorded}
+use Rattle.board_core.proofs.Common.{sym, subst, IsTrue, ◌↔◌, IsFinished, start_state, Recorded}
 use Rattle.board_core.proofs.Finished.{finished-is}
 use Rattle.board_core.proofs.board.Board.finished.Goals as goal
 

@@ -1,11 +1,4 @@
-use Rattle.std.proofs.Common.{List, sym, ◌∙◌, ap, subst, arith}
-use Rattle.std.specs.Prelude.{vec_capacity}
-use Rattle.ride_model.specs.declared.entry.Entry.{Entry}
-use Rattle.ride_model.specs.Seating.{vehicle_ids}
-use Rattle.ride_model.specs.State.{start_state}
-use Rattle.board_core.specs.inner.Given.{Given}
-use Rattle.board_core.specs.inner.Kept.{IsBoard, none_yet, places_kept}
-use Rattle.board_core.specs.Recorded.{Recorded}
+use Rattle.board_core.proofs.Common.{List, sym, ◌∙◌, ap, subst, arith, vec_capacity, Entry, vehicle_ids, start_state, Given, IsBoard, none_yet, places_kept, Recorded}
 use Rattle.board_core.proofs.Boards.{board-new}
 use Rattle.board_core.proofs.board.Board.new.Goals as goal
 

@@ -1,19 +1,4 @@
-use Rattle.std.proofs.Common.{◌≡◌, ◌+◌, List, [], ◌∷◌, ◌++◌, length, refl, sym, ◌∙◌, ap, subst, arith}
-use Rattle.std.specs.Prelude.{vec_capacity, IsNone, IsFalse}
-use Rattle.ride_model.specs.declared.command.Actor.TheVariants.{Desk}
-use Rattle.ride_model.specs.declared.entry.Entry.{Entry}
-use Rattle.ride_model.specs.declared.entry.Event.TheVariants.{Opened}
-use Rattle.ride_model.specs.declared.reply.RequestState.TheVariants.{InBatch}
-use Rattle.ride_model.specs.Legal.{IsNumbered, versions_of}
-use Rattle.ride_model.specs.Seating.{BatchCopy}
-use Rattle.ride_model.specs.State.{start_state, has_ended, open_batch_of}
-use Rattle.ride_model.specs.Vehicle.{ride_ids}
-use Rattle.model_laws.specs.inner.history_laws.Consistent.{IsOpenBatch}
-use Rattle.board_core.specs.inner.Given.{Given}
-use Rattle.board_core.specs.inner.Kept.{IsBoard, with_opened}
-use Rattle.board_core.specs.inner.Marking.{marked_in}
-use Rattle.board_core.specs.Recorded.{Recorded, state_of, opened_entry}
-use Rattle.board_core.specs.inner.Service.{batch_at}
+use Rattle.board_core.proofs.Common.{◌≡◌, ◌+◌, List, [], ◌∷◌, ◌++◌, length, refl, sym, ◌∙◌, ap, subst, arith, vec_capacity, IsNone, IsFalse, Desk, Entry, Opened, InBatch, IsNumbered, versions_of, BatchCopy, start_state, has_ended, open_batch_of, ride_ids, IsOpenBatch, Given, IsBoard, with_opened, marked_in, Recorded, state_of, opened_entry, batch_at}
 use Rattle.board_core.proofs.Boards.{board-in_order, few-opened}
 use Rattle.board_core.proofs.Opened.{Opens, board-opened}
 use Rattle.board_core.proofs.board.Board.open_batch.Goals as goal

@@ -1,5 +1,4 @@
-use Rattle.std.proofs.Common.{[], length, ap, ◌∙◌, arith}
-use Rattle.ride_model.specs.History.{is_away, is_confirmed, confirmed_total, away_total, picked_total, dropped_total}
+use Rattle.board_core.proofs.Common.{[], length, ap, ◌∙◌, arith, is_away, is_confirmed, confirmed_total, away_total, picked_total, dropped_total}
 use Rattle.board_core.proofs.FewOutcomes.{few-outcomes}
 use Rattle.board_core.proofs.board.Board.totals.Goals as goal
 

@@ -1,9 +1,4 @@
-use Rattle.std.proofs.Common.{◌≡◌, ℕ, Some, None, sym, ◌∙◌, ap}
-use Rattle.std.specs.Prelude.{option_map, option_copied}
-use Rattle.ride_model.specs.declared.vehicle.Vehicle.{Vehicle}
-use Rattle.ride_model.specs.Seating.{find_vehicle}
-use Rattle.ride_model.specs.State.{State}
-use Rattle.board_core.specs.Recorded.{Recorded, state_of}
+use Rattle.board_core.proofs.Common.{◌≡◌, ℕ, Some, None, sym, ◌∙◌, ap, option_map, option_copied, Vehicle, find_vehicle, State, Recorded, state_of}
 use Rattle.board_core.proofs.Boards.{board-in_order}
 use Rattle.board_core.proofs.Placed.{found-placed, placed-at}
 use Rattle.board_core.proofs.board.Board.vehicle.Goals as goal

@@ -1,8 +1,4 @@
-use Rattle.std.proofs.Common.{◌≤◌, ℕ, List, length, ◌∙◌, ap, subst, arith}
-use Rattle.std.specs.List.{sum_by}
-use Rattle.ride_model.specs.Seating.{BatchCopy}
-use Rattle.ride_model.specs.Settings.{IsSettings}
-use Rattle.batch_commit.specs.declared.answers.Answer.{Answer}
+use Rattle.board_core.proofs.Common.{◌≤◌, ℕ, List, length, ◌∙◌, ap, subst, arith, sum_by, BatchCopy, IsSettings, Answer}
 use Rattle.board_core.proofs.Few.{prices-below}
 use Rattle.board_core.proofs.board.batches.cost_of.Goals as goal
 use Rattle.board_core.proofs.board.batches.cost_of.Goals.{After-answer-answer}

@@ -1,8 +1,4 @@
-use Rattle.std.proofs.Common.{◌+◌, refl, ◌∙◌, ap, arith}
-use Rattle.std.proofs.lemmas.List.{take_all}
-use Rattle.std.proofs.lemmas.List.Sums.{sum_by-take-le}
-use Rattle.ride_model.specs.declared.entry.Entry.{Entry}
-use Rattle.ride_model.specs.History.{away_total, is_away, outcomes_in}
+use Rattle.board_core.proofs.Common.{◌+◌, refl, ◌∙◌, ap, arith, take_all, sum_by-take-le, Entry, away_total, is_away, outcomes_in}
 use Rattle.board_core.proofs.FewOutcomes.{sum-more}
 use Rattle.board_core.proofs.board.totals.away_in.Goals as goal
 

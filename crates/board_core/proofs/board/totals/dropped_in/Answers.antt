@@ -1,6 +1,4 @@
-use Rattle.std.proofs.Common.{refl, ◌∙◌, ap, arith}
-use Rattle.std.proofs.lemmas.List.{take_all}
-use Rattle.ride_model.specs.History.{dropped_total}
+use Rattle.board_core.proofs.Common.{refl, ◌∙◌, ap, arith, take_all, dropped_total}
 use Rattle.board_core.proofs.board.totals.dropped_in.Goals as goal
 
 pub loop-entry-init : goal.loop-entry-init

@@ -1,5 +1,4 @@
-use Rattle.std.proofs.Common.{◌≡◌, take}
-use Rattle.ride_model.specs.History.{dropped_total}
+use Rattle.board_core.proofs.Common.{◌≡◌, take, dropped_total}
 use Rattle.board_core.proofs.board.totals.dropped_in.Given as goal
 
 -- the entries so far are counted

@@ -1,6 +1,4 @@
-use Rattle.std.proofs.Common.{refl, ◌∙◌, ap, arith}
-use Rattle.std.proofs.lemmas.List.{take_all}
-use Rattle.ride_model.specs.History.{picked_total}
+use Rattle.board_core.proofs.Common.{refl, ◌∙◌, ap, arith, take_all, picked_total}
 use Rattle.board_core.proofs.board.totals.picked_in.Goals as goal
 
 pub loop-entry-init : goal.loop-entry-init

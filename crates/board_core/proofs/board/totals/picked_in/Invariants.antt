@@ -1,5 +1,4 @@
-use Rattle.std.proofs.Common.{◌≡◌, take}
-use Rattle.ride_model.specs.History.{picked_total}
+use Rattle.board_core.proofs.Common.{◌≡◌, take, picked_total}
 use Rattle.board_core.proofs.board.totals.picked_in.Given as goal
 
 -- the entries so far are counted

@@ -1,5 +1,4 @@
-use Rattle.std.proofs.Common.{eqb, ◌∙◌, ap}
-use Rattle.indexmap.specs.IndexSet.{insert_key}
+use Rattle.board_core.proofs.Common.{eqb, ◌∙◌, ap, insert_key}
 use Rattle.board_core.proofs.Placed.{ids-pushed}
 use Rattle.board_core.proofs.places.Places.new.Goals as goal
 

@@ -1,5 +1,4 @@
-use Rattle.std.proofs.Common.{◌≡◌, map, take}
-use Rattle.ride_model.specs.declared.vehicle.Vehicle.{Vehicle}
+use Rattle.board_core.proofs.Common.{◌≡◌, map, take, Vehicle}
 use Rattle.board_core.proofs.places.Places.new.Given as goal
 
 -- the ids so far

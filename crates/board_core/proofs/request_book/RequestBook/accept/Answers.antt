@@ -1,9 +1,5 @@
-use Rattle.std.proofs.Common.{◌≡◌, ◌<◌, ◌++◌, ◌∷◌, [], length, All, None, eqb, sym, ap, subst, ◌∙◌, arith}
-use Rattle.std.proofs.lemmas.List.{length-map}
-use Rattle.std.proofs.lemmas.List.Elements.{recursion_from_All, All-from_recursion}
+use Rattle.board_core.proofs.Common.{◌≡◌, ◌<◌, ◌++◌, ◌∷◌, [], length, All, None, eqb, sym, ap, subst, ◌∙◌, arith, length-map, recursion_from_All, All-from_recursion, request_of, request_in, requests_in, waiting_places}
 use Rattle.indexmap.proofs.CallerLemmas.{insert_entry-new}
-use Rattle.board_core.specs.inner.request_book.Book.{request_of}
-use Rattle.board_core.specs.inner.request_book.Kept.{request_in, requests_in, waiting_places}
 use Rattle.board_core.proofs.request_book.Entries.{IsKeyed, absent-key}
 use Rattle.board_core.proofs.request_book.Changes.{waiting_entry, requests-push, kept-push}
 use Rattle.board_core.proofs.request_book.Places.{places-below}

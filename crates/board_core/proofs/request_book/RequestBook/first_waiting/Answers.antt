@@ -1,8 +1,4 @@
-use Rattle.std.proofs.Common.{◌≡◌, ◌<◌, ◌++◌, ◌∷◌, [], suc, length, map, take, slice_get, Some, sym, ap, subst, ◌∙◌, arith}
-use Rattle.std.proofs.lemmas.List.{length-map, length-append}
-use Rattle.wait_list.specs.inner.Split.{Rises}
-use Rattle.board_core.specs.inner.request_book.Book.{waiting_of}
-use Rattle.board_core.specs.inner.request_book.Kept.{request_in, requests_in, waiting_places}
+use Rattle.board_core.proofs.Common.{◌≡◌, ◌<◌, ◌++◌, ◌∷◌, [], suc, length, map, take, slice_get, Some, sym, ap, subst, ◌∙◌, arith, length-map, length-append, Rises, waiting_of, request_in, requests_in, waiting_places}
 use Rattle.board_core.proofs.request_book.Changes.{requests-at}
 use Rattle.board_core.proofs.request_book.Taken.{ride_at, places-rise, next-above, place-within, take-next, take-whole, first-rides, ride-of}
 use Rattle.board_core.proofs.request_book.RequestBook.first_waiting.Goals as goal

@@ -1,5 +1,4 @@
-use Rattle.std.proofs.Common.{◌≡◌, ◌≤◌, ◌-◌, length, map, take, slice_get}
-use Rattle.board_core.specs.inner.request_book.Kept.{requests_in}
+use Rattle.board_core.proofs.Common.{◌≡◌, ◌≤◌, ◌-◌, length, map, take, slice_get, requests_in}
 use Rattle.board_core.proofs.request_book.Taken.{ride_at}
 use Rattle.board_core.proofs.request_book.RequestBook.first_waiting.Given as goal
 

@@ -1,13 +1,4 @@
-use Rattle.std.proofs.Common.{◌≡◌, Some, None, eqb, refl, sym, ap, ◌∙◌, is_some, false, arith}
-use Rattle.std.specs.Prelude.{option_map, Option}
-use Rattle.std.specs.Map.{keys_of, lookup}
-use Rattle.std.proofs.lemmas.List.Quantifiers.{position-Some}
-use Rattle.std.proofs.lemmas.List.Elements.{recursion_from_All}
-use Rattle.model_laws.proofs.plain.Options.{none_from_not_some, none_from_is_some}
-use Rattle.ride_model.specs.Batch.{is_waiting}
-use Rattle.board_core.specs.inner.request_book.Book.{request_of, with_state}
-use Rattle.board_core.specs.inner.request_book.Kept.{requests_in}
-use Rattle.board_core.specs.inner.request_book.Marked.{marked}
+use Rattle.board_core.proofs.Common.{◌≡◌, Some, None, eqb, refl, sym, ap, ◌∙◌, is_some, false, arith, option_map, Option, keys_of, lookup, position-Some, recursion_from_All, none_from_not_some, none_from_is_some, is_waiting, request_of, with_state, requests_in, marked}
 use Rattle.board_core.proofs.request_book.Entries.{IsKeyed, request_by, looked-up, absent-stays, set-at}
 use Rattle.board_core.proofs.request_book.Changes.{requests-at, kept-set}
 use Rattle.board_core.proofs.request_book.Places.{waits-there}

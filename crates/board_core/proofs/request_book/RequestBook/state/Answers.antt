@@ -1,6 +1,4 @@
-use Rattle.std.proofs.Common.{Some, None, sym, ap, ◌∙◌}
-use Rattle.std.specs.Prelude.{option_copied}
-use Rattle.std.proofs.lemmas.List.Elements.{recursion_from_All}
+use Rattle.board_core.proofs.Common.{Some, None, sym, ap, ◌∙◌, option_copied, recursion_from_All}
 use Rattle.board_core.proofs.request_book.Entries.{IsKeyed, state-of}
 use Rattle.board_core.proofs.request_book.RequestBook.state.Goals as goal
 

@@ -1,6 +1,4 @@
-use Rattle.std.proofs.Common.{eqb, sym, subst}
-use Rattle.std.specs.List.{IsDistinct}
-use Rattle.ride_model.specs.Vehicle.{ride_ids}
+use Rattle.board_core.proofs.Common.{eqb, sym, subst, IsDistinct, ride_ids}
 use Rattle.board_core.proofs.Few.{distinct-waiting}
 use Rattle.board_core.proofs.service.Service.batch.Goals as goal
 

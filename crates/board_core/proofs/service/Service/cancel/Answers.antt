@@ -1,8 +1,4 @@
-use Rattle.std.proofs.Common.{inl, inr, sym, ◌∙◌, ap}
-use Rattle.ride_model.specs.State.{State}
-use Rattle.ride_model.specs.Step.{cancel_by_state}
-use Rattle.ride_model.specs.declared.reply.Reply.TheVariants.{Cancelled}
-use Rattle.board_core.specs.inner.Service.{state_at}
+use Rattle.board_core.proofs.Common.{inl, inr, sym, ◌∙◌, ap, State, cancel_by_state, Cancelled, state_at}
 use Rattle.board_core.proofs.Steps.{cancel-none, cancel-by_state}
 use Rattle.board_core.proofs.service.Service.cancel.Goals as goal
 

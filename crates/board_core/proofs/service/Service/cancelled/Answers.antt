@@ -1,6 +1,4 @@
-use Rattle.std.proofs.Common.{length, length-append, ap, arith, ◌∷◌, [], refl}
-use Rattle.ride_model.specs.Batch.{was_cancelled}
-use Rattle.board_core.specs.inner.Service.{state_at}
+use Rattle.board_core.proofs.Common.{length, length-append, ap, arith, ◌∷◌, [], refl, was_cancelled, state_at}
 use Rattle.board_core.proofs.Marked.{flags-more}
 use Rattle.board_core.proofs.service.Service.cancelled.Goals as goal
 

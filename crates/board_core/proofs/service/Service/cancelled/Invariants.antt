@@ -1,9 +1,4 @@
-use Rattle.std.proofs.Common.{◌≡◌, take, length, map}
-use Rattle.ride_model.specs.State.{State}
-use Rattle.ride_model.specs.Batch.{was_cancelled}
-use Rattle.ride_model.specs.Vehicle.{ride_ids}
-use Rattle.board_core.specs.inner.Given.{Given}
-use Rattle.board_core.specs.inner.Service.{state_at}
+use Rattle.board_core.proofs.Common.{◌≡◌, take, length, map, State, was_cancelled, ride_ids, Given, state_at}
 use Rattle.board_core.proofs.service.Service.cancelled.Given as goal
 
 -- the flags so far

@@ -1,16 +1,4 @@
-use Rattle.std.proofs.Common.{◌≡◌, ◌<◌, length, get_or, refl, sym, ◌∙◌, ap, arith}
-use Rattle.std.specs.Prelude.{Some, None, slice_set}
-use Rattle.model_laws.proofs.plain.Lists.{any-default}
-use Rattle.ride_model.specs.declared.vehicle.Vehicle.{Vehicle}
-use Rattle.ride_model.specs.declared.entry.Outcome.TheVariants.{Confirmed}
-use Rattle.ride_model.specs.Batch.{seat_of, after_outcome, confirm}
-use Rattle.ride_model.specs.State.{State}
-use Rattle.batch_commit.specs.declared.answers.Answer.{Answer}
-use Rattle.batch_commit.specs.inner.Table.{Table, cell_at}
-use Rattle.dual_check.proofs.DifferentIds.{element}
-use Rattle.board_core.specs.inner.Given.{Given}
-use Rattle.board_core.specs.inner.Service.{state_at, placed_in}
-use Rattle.board_core.specs.inner.Settling.{IsToConfirm}
+use Rattle.board_core.proofs.Common.{◌≡◌, ◌<◌, length, get_or, refl, sym, ◌∙◌, ap, arith, Some, None, slice_set, any-default, Vehicle, Confirmed, seat_of, after_outcome, confirm, State, Answer, Table, cell_at, element, Given, state_at, placed_in, IsToConfirm}
 use Rattle.board_core.proofs.Placed.{placed-at}
 use Rattle.board_core.proofs.Settled.{Seated, seated, Stands, stands, some-vehicle, some-offer, as-many, Confirms, confirms, settled-confirmed}
 use Rattle.board_core.proofs.service.Service.confirm.Goals as goal

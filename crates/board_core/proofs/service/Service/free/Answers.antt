@@ -1,13 +1,8 @@
-use Rattle.std.proofs.Common.{◌≡◌, [], sym, ◌∙◌, ap}
-use Rattle.std.specs.Prelude.{Some, slice_set}
-use Rattle.ride_model.specs.declared.reply.Reply.TheVariants.{Freed}
+use Rattle.board_core.proofs.Common.{◌≡◌, [], sym, ◌∙◌, ap, Some, slice_set, Freed, State, start_state, state_at, placed_in, freed}
 use Rattle.ride_model.specs.declared.reply.RequestState.TheVariants.{Confirmed}
-use Rattle.ride_model.specs.State.{State, start_state}
-use Rattle.board_core.specs.inner.Service.{state_at, placed_in}
 use Rattle.board_core.proofs.Placed.{placed-at}
 use Rattle.board_core.proofs.Promised.{confirmed-waits}
 use Rattle.board_core.proofs.Steps.{cancel-by_state, cancel-freed}
-use Rattle.ride_model.specs.Step.{freed}
 use Rattle.board_core.proofs.service.Service.free.Goals as goal
 use Rattle.board_core.proofs.service.Service.free.Goals.{After-index_mut}
 

@@ -1,7 +1,4 @@
-use Rattle.std.proofs.Common.{◌≡◌, ◌<◌, None, length, get_or, eqb, sym, ◌∙◌, ap, subst}
-use Rattle.std.specs.Prelude.{Some, MatchOption, position}
-use Rattle.ride_model.specs.declared.vehicle.Vehicle.{Vehicle}
-use Rattle.board_core.specs.inner.Service.{placed_in}
+use Rattle.board_core.proofs.Common.{◌≡◌, ◌<◌, None, length, get_or, eqb, sym, ◌∙◌, ap, subst, Some, MatchOption, position, Vehicle, placed_in}
 use Rattle.board_core.proofs.Placed.{placed-within, placed-there}
 use Rattle.board_core.proofs.service.Service.place_of.Goals as goal
 

@@ -1,10 +1,4 @@
-use Rattle.std.proofs.Common.{◌≡◌, true, false, length, eqb, leb, sym, ◌∙◌}
-use Rattle.std.proofs.lemmas.Bool.{ne_eqb, eq-eqb}
-use Rattle.ride_model.specs.State.{State}
-use Rattle.ride_model.specs.Step.{with_accepted}
-use Rattle.ride_model.specs.declared.reply.Reply.TheVariants.{Waiting}
-use Rattle.board_core.specs.inner.Service.{state_at}
-use Rattle.board_core.specs.inner.Wishes.{ride_of, joins_nodes, has_odd_load, has_odd_limits}
+use Rattle.board_core.proofs.Common.{◌≡◌, true, false, length, eqb, leb, sym, ◌∙◌, ne_eqb, eq-eqb, State, with_accepted, Waiting, state_at, ride_of, joins_nodes, has_odd_load, has_odd_limits}
 use Rattle.board_core.proofs.Steps.{by_tests, wish-by_tests}
 use Rattle.board_core.proofs.WishSteps.{may-be_accepted}
 use Rattle.board_core.proofs.service.Service.refusal.Goals as goal

@@ -1,10 +1,5 @@
-use Rattle.std.proofs.Common.{◌≡◌, sym, ◌∙◌, ap}
+use Rattle.board_core.proofs.Common.{◌≡◌, sym, ◌∙◌, ap, State, ride_ids, standing_rides, marked_in, still_in, state_at}
 use Rattle.ride_model.specs.declared.reply.RequestState.TheVariants.{Waiting}
-use Rattle.ride_model.specs.State.{State}
-use Rattle.ride_model.specs.Vehicle.{ride_ids}
-use Rattle.ride_model.specs.Batch.{standing_rides}
-use Rattle.board_core.specs.inner.Marking.{marked_in, still_in}
-use Rattle.board_core.specs.inner.Service.{state_at}
 use Rattle.board_core.proofs.Marked.{with_states-marked}
 use Rattle.board_core.proofs.service.Service.release.Goals as goal
 

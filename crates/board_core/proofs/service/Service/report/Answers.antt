@@ -1,7 +1,4 @@
-use Rattle.std.proofs.Common.{◌<◌, ◌≤◌, length, refl, sym, ◌∙◌, subst}
-use Rattle.ride_model.specs.declared.vehicle.Vehicle.{Vehicle}
-use Rattle.dual_check.proofs.DifferentIds.{element}
-use Rattle.board_core.specs.inner.Service.{state_at}
+use Rattle.board_core.proofs.Common.{◌<◌, ◌≤◌, length, refl, sym, ◌∙◌, subst, Vehicle, element, state_at}
 use Rattle.board_core.proofs.Placed.{placed-at, same-read, set-same}
 use Rattle.board_core.proofs.Steps.{at-none, at-off_map, at-after_all, at-early, at-reported}
 use Rattle.board_core.proofs.service.Service.report.Goals as goal

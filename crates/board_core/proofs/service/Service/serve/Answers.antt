@@ -1,13 +1,4 @@
-use Rattle.std.proofs.Common.{◌≡◌, ◌<◌, ◌≤◌, ◌+◌, ◌∷◌, length, sym, ◌∙◌, ap, subst}
-use Rattle.std.specs.Prelude.{Some, slice_set}
-use Rattle.std.proofs.lemmas.Bool.{ne_eqb, eq-eqb}
-use Rattle.ride_model.specs.declared.settings.Settings.{Settings}
-use Rattle.ride_model.specs.declared.vehicle.Stop.{Stop}
-use Rattle.ride_model.specs.declared.vehicle.Vehicle.{Vehicle}
-use Rattle.ride_model.specs.State.{State}
-use Rattle.board_core.specs.inner.request_book.Book.{with_state}
-use Rattle.ride_model.specs.Step.{raised, served, served_state}
-use Rattle.board_core.specs.inner.Service.{state_at, placed_in}
+use Rattle.board_core.proofs.Common.{◌≡◌, ◌<◌, ◌≤◌, ◌+◌, ◌∷◌, length, sym, ◌∙◌, ap, subst, Some, slice_set, ne_eqb, eq-eqb, Settings, Stop, Vehicle, State, with_state, raised, served, served_state, state_at, placed_in}
 use Rattle.board_core.proofs.Placed.{placed-at, same-read}
 use Rattle.board_core.proofs.Steps.{done-none, done-idle, done-elsewhere, done-after_all, done-served}
 use Rattle.board_core.proofs.service.Service.serve.Goals as goal

@@ -1,4 +1,4 @@
-use Rattle.board_core.specs.inner.Service.{state_at}
+use Rattle.board_core.proofs.Common.{state_at}
 use Rattle.board_core.proofs.Placed.{placed-at}
 use Rattle.board_core.proofs.Steps.{duty-none, duty-set}
 use Rattle.board_core.proofs.service.Service.set_duty.Goals as goal

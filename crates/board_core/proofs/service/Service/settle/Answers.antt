@@ -1,9 +1,4 @@
-use Rattle.std.proofs.Common.{◌≡◌, ◌<◌, ◌+◌, length, drop, get_or, sym, ◌∙◌, ap, subst}
-use Rattle.std.specs.Prelude.{None}
-use Rattle.ride_model.specs.declared.vehicle.Ride.{Ride}
-use Rattle.ride_model.specs.Batch.{after_outcomes}
-use Rattle.ride_model.specs.Seating.{BatchCopy}
-use Rattle.board_core.specs.inner.Service.{state_at}
+use Rattle.board_core.proofs.Common.{◌≡◌, ◌<◌, ◌+◌, length, drop, get_or, sym, ◌∙◌, ap, subst, None, Ride, after_outcomes, BatchCopy, state_at}
 use Rattle.board_core.proofs.Settled.{settle-step}
 use Rattle.board_core.proofs.service.Service.settle.Goals as goal
 

@@ -1,9 +1,4 @@
-use Rattle.std.proofs.Common.{◌≡◌, drop}
-use Rattle.ride_model.specs.Batch.{after_outcomes}
-use Rattle.ride_model.specs.State.{State}
-use Rattle.board_core.specs.inner.Given.{Given}
-use Rattle.board_core.specs.inner.Service.{state_at}
-use Rattle.board_core.specs.inner.Settling.{IsCommitted, IsSettledTo}
+use Rattle.board_core.proofs.Common.{◌≡◌, drop, after_outcomes, State, Given, state_at, IsCommitted, IsSettledTo}
 use Rattle.board_core.proofs.service.Service.settle.Given as goal
 
 -- the requests so far are settled, and what all make of the state is what the others make of it now

@@ -1,11 +1,5 @@
-use Rattle.std.proofs.Common.{◌≡◌, inl, inr, refl, sym, ◌∙◌, ap}
-use Rattle.ride_model.specs.declared.entry.Outcome.TheVariants.{Confirmed, Gone}
+use Rattle.board_core.proofs.Common.{◌≡◌, inl, inr, refl, sym, ◌∙◌, ap, Confirmed, Gone, seat_of, outcome_of, after_outcome, BatchCopy, State, with_state, state_at}
 use Rattle.ride_model.specs.declared.reply.RequestState.TheVariants.{Away as AwayState}
-use Rattle.ride_model.specs.Batch.{seat_of, outcome_of, after_outcome}
-use Rattle.ride_model.specs.Seating.{BatchCopy}
-use Rattle.ride_model.specs.State.{State}
-use Rattle.board_core.specs.inner.request_book.Book.{with_state}
-use Rattle.board_core.specs.inner.Service.{state_at}
 use Rattle.board_core.proofs.Settled.{settled-same, outcome-is}
 use Rattle.board_core.proofs.service.Service.settle_one.Goals as goal
 

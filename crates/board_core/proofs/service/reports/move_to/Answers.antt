@@ -1,9 +1,4 @@
-use Rattle.std.proofs.Common.{◌≡◌, ◌+◌, sym, ◌∙◌, ap, subst, arith}
-use Rattle.ride_model.specs.declared.settings.Settings.{Settings}
-use Rattle.ride_model.specs.declared.vehicle.Vehicle.{Vehicle}
-use Rattle.ride_model.specs.Vehicle.{IsLawful}
-use Rattle.board_core.specs.inner.Given.{Given}
-use Rattle.board_core.specs.inner.Reports.{lateness_of, IsMoved}
+use Rattle.board_core.proofs.Common.{◌≡◌, ◌+◌, sym, ◌∙◌, ap, subst, arith, Settings, Vehicle, IsLawful, Given, lateness_of, IsMoved}
 use Rattle.board_core.proofs.LegLaws.{first-node}
 use Rattle.board_core.proofs.Moved.{put_before, moved-driving, put-lawful, first-leg-le, way-le}
 use Rattle.board_core.proofs.service.reports.move_to.Goals as goal

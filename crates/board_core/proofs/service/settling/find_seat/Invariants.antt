@@ -1,6 +1,4 @@
-use Rattle.std.proofs.Common.{◌≡◌, drop}
-use Rattle.std.specs.Prelude.{find, ◌==◌}
-use Rattle.ride_model.specs.declared.offer.Seat.{Seat}
+use Rattle.board_core.proofs.Common.{◌≡◌, drop, find, ◌==◌, Seat}
 use Rattle.board_core.proofs.service.settling.find_seat.Given as goal
 
 -- what is found in all is what is found in those that are left

@@ -1,5 +1,4 @@
-use Rattle.std.proofs.Common.{◌≡◌, take}
-use Rattle.board_core.specs.inner.Marking.{marked_in}
+use Rattle.board_core.proofs.Common.{◌≡◌, take, marked_in}
 use Rattle.board_core.proofs.service.waiting.mark.Given as goal
 
 -- those so far are marked

@@ -1,7 +1,4 @@
-use Rattle.std.proofs.Common.{length, ap, arith}
-use Rattle.ride_model.specs.declared.vehicle.Ride.{Ride}
-use Rattle.model_laws.specs.inner.Requests.{is_in}
-use Rattle.board_core.specs.inner.Marking.{state_in}
+use Rattle.board_core.proofs.Common.{length, ap, arith, Ride, is_in, state_in}
 use Rattle.board_core.proofs.Few.{few-kept}
 use Rattle.board_core.proofs.service.waiting.standing.Goals as goal
 

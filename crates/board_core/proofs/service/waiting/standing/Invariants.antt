@@ -1,6 +1,4 @@
-use Rattle.std.proofs.Common.{◌≡◌, take}
-use Rattle.ride_model.specs.Vehicle.{ride_ids}
-use Rattle.board_core.specs.inner.Marking.{still_in}
+use Rattle.board_core.proofs.Common.{◌≡◌, take, ride_ids, still_in}
 use Rattle.board_core.proofs.service.waiting.standing.Given as goal
 
 -- those so far that are still in the batch

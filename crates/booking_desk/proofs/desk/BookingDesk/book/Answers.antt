@@ -1,11 +1,5 @@
-use Rattle.std.proofs.Common.{◌≡◌, ◌+◌, ◌≤◌, ℕ, Bool, true, false, cond, None, List, [], ◌∷◌, ◌++◌, eqb, length, is_some, sym, ap, ◌∙◌, arith}
-use Rattle.std.specs.Map.{keys_of, lookup}
-use Rattle.std.proofs.lemmas.List.{length-append, length-map}
-use Rattle.std.proofs.lemmas.List.Elements.{recursion_from_All, All-from_recursion}
-use Rattle.model_laws.proofs.plain.Options.{none_from_is_some}
+use Rattle.booking_desk.proofs.Common.{◌≡◌, ◌+◌, ◌≤◌, ℕ, Bool, true, false, cond, None, List, [], ◌∷◌, ◌++◌, eqb, length, is_some, sym, ap, ◌∙◌, arith, keys_of, lookup, length-append, length-map, recursion_from_All, All-from_recursion, none_from_is_some, DeskState, request_id, put_in, IsHeldEntry, bookings_in}
 use Rattle.indexmap.proofs.CallerLemmas.{insert_entry-new}
-use Rattle.booking_desk.specs.Desk.{DeskState, request_id, put_in}
-use Rattle.booking_desk.specs.inner.Kept.{IsHeldEntry, bookings_in}
 use Rattle.booking_desk.proofs.Bookings.{known, refused-again, refused-full, made-now, made-held, after-refusal, after-now, after-held}
 use Rattle.booking_desk.proofs.HeldEntries.{unbooked-others, inserted}
 use Rattle.booking_desk.proofs.Entered.{others-absent, keyed-from_kept, found-new, kept-on, All-inserted, popped, ids-pushed}

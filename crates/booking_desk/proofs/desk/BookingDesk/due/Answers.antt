@@ -1,7 +1,4 @@
-use Rattle.std.proofs.Common.{sym, ap, ◌∙◌}
-use Rattle.std.specs.Prelude.{option_map}
-use Rattle.booking_desk.specs.Desk.{Booking}
-use Rattle.booking_desk.specs.inner.Desk.{due_of}
+use Rattle.booking_desk.proofs.Common.{sym, ap, ◌∙◌, option_map, Booking, due_of}
 use Rattle.booking_desk.proofs.HeldEntries.{first-due, first-not_due}
 use Rattle.booking_desk.proofs.desk.BookingDesk.due.Goals as goal
 

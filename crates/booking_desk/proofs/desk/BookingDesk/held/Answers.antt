@@ -1,6 +1,4 @@
-use Rattle.std.proofs.Common.{subst}
-use Rattle.booking_desk.specs.Desk.{DeskState}
-use Rattle.booking_desk.specs.inner.Desk.{IsDesk}
+use Rattle.booking_desk.proofs.Common.{subst, DeskState, IsDesk}
 use Rattle.booking_desk.proofs.Shown.{shown}
 use Rattle.booking_desk.proofs.desk.BookingDesk.held.Goals as goal
 

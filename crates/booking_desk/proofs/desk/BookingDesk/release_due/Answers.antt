@@ -1,17 +1,4 @@
-use Rattle.std.proofs.Common.{◌≡◌, ◌∷◌, Option, sym, subst, ◌∙◌, arith}
-use Rattle.std.specs.Prelude.{IfSome}
-use Rattle.std.proofs.lemmas.Result.{err_from_is_err_and}
-use Rattle.model_laws.proofs.plain.Options.{none_from_not_some}
-use Rattle.model_laws.proofs.plain.Among.{found_among}
-use Rattle.model_laws.proofs.plain.Each.{of_all}
-use Rattle.ride_model.specs.declared.command.Actor.TheVariants.{Feed}
-use Rattle.ride_model.specs.declared.command.Command.{Command}
-use Rattle.ride_model.specs.declared.entry.Event.TheVariants.{Fed}
-use Rattle.ride_model.specs.Text.{IsSpelledCommand}
-use Rattle.turn_lock.specs.Passes.{knowledge}
-use Rattle.fleet_board.specs.inner.Passes.{AddsEntry, Known, root_of}
-use Rattle.booking_desk.specs.Desk.{Booking}
-use Rattle.booking_desk.specs.inner.Desk.{due_of, is_due}
+use Rattle.booking_desk.proofs.Common.{◌≡◌, ◌∷◌, Option, sym, subst, ◌∙◌, arith, IfSome, err_from_is_err_and, none_from_not_some, found_among, of_all, Feed, Command, Fed, IsSpelledCommand, knowledge, AddsEntry, Known, root_of, Booking, due_of, is_due}
 use Rattle.booking_desk.proofs.Due.{booking-of, none-of}
 use Rattle.booking_desk.proofs.Releasing.{all-released, releases-more, releases-none, some-released, submitted-none}
 use Rattle.booking_desk.proofs.desk.BookingDesk.release_due.Goals as goal

@@ -1,5 +1,4 @@
-use Rattle.std.proofs.Common.{length}
-use Rattle.turn_lock.specs.Passes.{knowledge}
+use Rattle.booking_desk.proofs.Common.{length, knowledge}
 use Rattle.fleet_board.specs.Roles.{MayFeed}
 use Rattle.booking_desk.proofs.Releasing.{ReleasesSoFar}
 use Rattle.booking_desk.proofs.desk.BookingDesk.release_due.Given as goal

@@ -1,13 +1,4 @@
-use Rattle.std.proofs.Common.{◌≡◌, ◌+◌, ◌<◌, ℕ, Option, Some, None, List, [], ◌∷◌, IsSome, length, sym, ap, subst, ◌∙◌, arith}
-use Rattle.std.specs.Prelude.{IfSome, find, ◌↔◌}
-use Rattle.std.specs.List.{AllByRecursion}
-use Rattle.std.specs.List.Sorted.{IsStrictlySortedBy}
-use Rattle.std.specs.Map.{keys_of}
-use Rattle.std.specs.Option.{option_map_or}
-use Rattle.std.proofs.lemmas.List.Elements.{recursion_from_All, All-from_recursion}
-use Rattle.booking_desk.specs.Desk.{Booking, DeskState, id_of, request_id}
-use Rattle.booking_desk.specs.inner.Desk.{after_take, after_unbook, due_of, is_due, without}
-use Rattle.booking_desk.specs.inner.Kept.{IsHeldEntry, IsKept, booking_in, bookings_in, key_cmp}
+use Rattle.booking_desk.proofs.Common.{◌≡◌, ◌+◌, ◌<◌, ℕ, Option, Some, None, List, [], ◌∷◌, IsSome, length, sym, ap, subst, ◌∙◌, arith, IfSome, find, ◌↔◌, AllByRecursion, IsStrictlySortedBy, keys_of, option_map_or, recursion_from_All, All-from_recursion, Booking, DeskState, id_of, request_id, after_take, after_unbook, due_of, is_due, without, IsHeldEntry, IsKept, booking_in, bookings_in, key_cmp}
 use Rattle.booking_desk.proofs.Keys.{Entry}
 use Rattle.booking_desk.proofs.Entered.{first-taken}
 use Rattle.booking_desk.proofs.desk.BookingDesk.take_due.Goals as goal

@@ -1,10 +1,4 @@
-use Rattle.std.proofs.Common.{◌≡◌, ◌≤◌, Some, None, eqb, length, sym, ap, subst, ◌∙◌, is_some, arith}
-use Rattle.std.specs.Map.{keys_of, lookup}
-use Rattle.std.proofs.lemmas.List.Elements.{recursion_from_All, All-from_recursion}
-use Rattle.model_laws.proofs.plain.Options.{none_from_not_some}
-use Rattle.booking_desk.specs.Desk.{DeskState, is_held}
-use Rattle.booking_desk.specs.inner.Desk.{after_unbook}
-use Rattle.booking_desk.specs.inner.Kept.{IsHeldEntry}
+use Rattle.booking_desk.proofs.Common.{◌≡◌, ◌≤◌, Some, None, eqb, length, sym, ap, subst, ◌∙◌, is_some, arith, keys_of, lookup, recursion_from_All, All-from_recursion, none_from_not_some, DeskState, is_held, after_unbook, IsHeldEntry}
 use Rattle.booking_desk.proofs.HeldEntries.{others-not_held, others-stay, unbooked-others, removed, left-kept}
 use Rattle.booking_desk.proofs.desk.BookingDesk.unbook.Goals as goal
 

@@ -1,9 +1,4 @@
-use Rattle.std.proofs.Common.{◌++◌, ◌∙◌, sym, subst}
-use Rattle.line_text.specs.inner.text_page.Output.{HasPut}
-use Rattle.booking_desk.specs.declared.replies.BookReply.{BookReply}
-use Rattle.booking_desk.specs.BookText.{reply_text}
-use Rattle.booking_desk.specs.Desk.{DeskState}
-use Rattle.booking_desk.specs.inner.FeedDesk.{AreSpelled}
+use Rattle.booking_desk.proofs.Common.{◌++◌, ◌∙◌, sym, subst, HasPut, BookReply, reply_text, DeskState, AreSpelled}
 use Rattle.booking_desk.proofs.BookedLines.{spelled-book}
 use Rattle.booking_desk.proofs.feed_desk.FeedDesk.book.Goals as goal
 

@@ -1,6 +1,4 @@
-use Rattle.std.proofs.Common.{◌++◌, ℕ, subst}
-use Rattle.line_text.specs.inner.text_page.Output.{HasPut}
-use Rattle.booking_desk.specs.BookText.{held_line}
+use Rattle.booking_desk.proofs.Common.{◌++◌, ℕ, subst, HasPut, held_line}
 use Rattle.booking_desk.proofs.feed_desk.FeedDesk.put_held.Goals as goal
 
 pub returns-clause-put : goal.returns-clause-put

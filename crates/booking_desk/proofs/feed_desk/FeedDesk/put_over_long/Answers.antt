@@ -1,8 +1,4 @@
-use Rattle.std.proofs.Common.{◌≡◌, ◌++◌, Bool, true, false, cond, ap, subst, ◌∙◌}
-use Rattle.std.specs.Prelude.{codes}
-use Rattle.line_text.specs.Fields.{begins_with}
-use Rattle.line_text.specs.inner.text_page.Output.{HasPut}
-use Rattle.booking_desk.specs.BookText.{with_lf}
+use Rattle.booking_desk.proofs.Common.{◌≡◌, ◌++◌, Bool, true, false, cond, ap, subst, ◌∙◌, codes, begins_with, HasPut, with_lf}
 use Rattle.booking_desk.proofs.BookedLines.{begins-take}
 use Rattle.booking_desk.proofs.feed_desk.FeedDesk.put_over_long.Goals as goal
 

@@ -1,7 +1,4 @@
-use Rattle.std.proofs.Common.{◌++◌, ◌∷◌, [], ap, ◌∙◌}
-use Rattle.booking_desk.specs.Desk.{DeskState, most_bookings}
-use Rattle.booking_desk.specs.inner.Desk.{after_clock}
-use Rattle.booking_desk.specs.Released.{clock, released_at}
+use Rattle.booking_desk.proofs.Common.{◌++◌, ◌∷◌, [], ap, ◌∙◌, DeskState, most_bookings, after_clock, clock, released_at}
 use Rattle.booking_desk.proofs.Moments.{clock-set, released-due}
 use Rattle.booking_desk.proofs.feed_desk.FeedDesk.set_clock.Goals as goal
 

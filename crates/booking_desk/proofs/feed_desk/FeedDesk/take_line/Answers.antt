@@ -1,14 +1,8 @@
-use Rattle.std.proofs.Common.{◌≡◌, ◌++◌, true, false, Option, Some, None, refl, sym, ap, subst, ◌∙◌, append-nil, List, ℕ}
-use Rattle.line_text.specs.Fields.{fields_of, is_over_long}
-use Rattle.line_text.specs.inner.text_page.Output.{HasPut}
+use Rattle.booking_desk.proofs.Common.{◌≡◌, ◌++◌, true, false, Option, Some, None, refl, sym, ap, subst, ◌∙◌, append-nil, List, ℕ, fields_of, is_over_long, HasPut, call_of_fields, calls_in, text_of_lines, with_lf, DeskCall, book, clock, desk_after, unbook, most_bookings}
 use Rattle.booking_desk.specs.declared.asked.Asked.{Asked}
 use Rattle.booking_desk.specs.inner.Asked.{as_call}
-use Rattle.booking_desk.specs.BookLines.{call_of_fields, calls_in}
-use Rattle.booking_desk.specs.BookText.{text_of_lines, with_lf}
-use Rattle.booking_desk.specs.Released.{DeskCall, book, clock, desk_after, unbook}
 use Rattle.booking_desk.proofs.BookedLines.{asked-next, book-next, clock-next, over-next, short-whole, unbook-next}
 use Rattle.booking_desk.proofs.feed_desk.FeedDesk.take_line.Goals as goal
-use Rattle.booking_desk.specs.Desk.{most_bookings}
 
 pub returns-then-over-clause-booked : goal.returns-then-over-clause-booked
 returns-then-over-clause-booked g c before faults lines whole has line over =

@@ -1,9 +1,4 @@
-use Rattle.std.proofs.Common.{◌==◌, ◌++◌, Bool, cond, [], not, sym, subst}
-use Rattle.line_text.specs.inner.text_page.Output.{HasPut}
-use Rattle.booking_desk.specs.BookText.{refusal_line}
-use Rattle.booking_desk.specs.Desk.{Booking, DeskState, id_of}
-use Rattle.booking_desk.specs.inner.FeedDesk.{AreSpelled, IsSpelledBooking}
-use Rattle.model_laws.proofs.plain.Each.{each-filter}
+use Rattle.booking_desk.proofs.Common.{◌==◌, ◌++◌, Bool, cond, [], not, sym, subst, HasPut, refusal_line, Booking, DeskState, id_of, AreSpelled, IsSpelledBooking, each-filter}
 use Rattle.booking_desk.proofs.feed_desk.FeedDesk.unbook.Goals as goal
 
 pub returns-then-unbook-clause-spelled : goal.returns-then-unbook-clause-spelled

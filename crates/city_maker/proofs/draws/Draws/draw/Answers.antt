@@ -1,5 +1,4 @@
-use Rattle.std.proofs.Common.{◌∙◌, sym, ap}
-use Rattle.city_maker.specs.Draws.{next_state, drawn}
+use Rattle.city_maker.proofs.Common.{◌∙◌, sym, ap, next_state, drawn}
 use Rattle.city_maker.proofs.DrawLemmas.{state_after-more, draw_at-is}
 use Rattle.city_maker.proofs.draws.Draws.draw.Goals as goal
 

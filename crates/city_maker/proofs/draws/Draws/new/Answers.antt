@@ -1,4 +1,4 @@
-use Rattle.std.proofs.Common.{sym}
+use Rattle.city_maker.proofs.Common.{sym}
 use Rattle.city_maker.proofs.DrawLemmas.{state_after-none}
 use Rattle.city_maker.proofs.draws.Draws.new.Goals as goal
 

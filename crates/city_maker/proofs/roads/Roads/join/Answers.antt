@@ -1,5 +1,4 @@
-use Rattle.std.proofs.Common.{length, ap, ◌∙◌, ◌++◌, ◌∷◌, [], ◌+◌}
-use Rattle.city_maker.specs.Roads.{arc}
+use Rattle.city_maker.proofs.Common.{length, ap, ◌∙◌, ◌++◌, ◌∷◌, [], ◌+◌, arc}
 use Rattle.city_maker.proofs.ArcLemmas.{joined-more}
 use Rattle.city_maker.proofs.roads.Roads.join.Goals as goal
 

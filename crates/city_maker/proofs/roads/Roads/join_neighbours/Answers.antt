@@ -1,6 +1,4 @@
-use Rattle.std.proofs.Common.{◌+◌, ◌++◌, [], ◌∷◌, sym, ap, ◌∙◌, append_assoc}
-use Rattle.std.proofs.lemmas.List.{append-nil}
-use Rattle.city_maker.specs.Roads.{node_at}
+use Rattle.city_maker.proofs.Common.{◌+◌, ◌++◌, [], ◌∷◌, sym, ap, ◌∙◌, append_assoc, append-nil, node_at}
 use Rattle.city_maker.proofs.ArcLemmas.{joined-at, joined-same, pairs_at-both, pairs_at-right, pairs_at-lower, pairs_at-none}
 use Rattle.city_maker.proofs.roads.Roads.join_neighbours.Goals as goal
 use Rattle.city_maker.proofs.roads.Roads.join_neighbours.Goals.{then-column-side+in_ok-join, else-column-side}

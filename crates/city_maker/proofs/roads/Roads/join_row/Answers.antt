@@ -1,6 +1,4 @@
-use Rattle.std.proofs.Common.{ap, sym, ◌∙◌, ◌++◌, append_assoc}
-use Rattle.std.proofs.lemmas.List.{append-nil}
-use Rattle.city_maker.specs.Roads.{pairs_at, pairs_in_row}
+use Rattle.city_maker.proofs.Common.{ap, sym, ◌∙◌, ◌++◌, append_assoc, append-nil, pairs_at, pairs_in_row}
 use Rattle.city_maker.proofs.ArcLemmas.{joined-same, pairs_in_row-none, pairs_in_row-more}
 use Rattle.city_maker.proofs.roads.Roads.join_row.Goals as goal
 

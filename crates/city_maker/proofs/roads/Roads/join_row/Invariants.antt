@@ -1,6 +1,4 @@
-use Rattle.std.proofs.Common.{ℕ, List, ◌++◌}
-use Rattle.city_maker.specs.inner.Growth.{HasJoined}
-use Rattle.city_maker.specs.Roads.{pairs_in_row}
+use Rattle.city_maker.proofs.Common.{ℕ, List, ◌++◌, HasJoined, pairs_in_row}
 use Rattle.city_maker.proofs.roads.Roads.join_row.Given as goal
 
 abbrev pub invariant-loop-column : goal.invariant-loop-column

@@ -1,4 +1,4 @@
-use Rattle.std.proofs.Common.{refl}
+use Rattle.command_lines.proofs.Common.{refl}
 use Rattle.command_lines.proofs.ReaderLemmas.{given-nothing}
 use Rattle.command_lines.proofs.feeds.FeedReader.new.Goals as goal
 

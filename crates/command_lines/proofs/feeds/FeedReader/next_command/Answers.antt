@@ -1,10 +1,5 @@
-use Rattle.std.proofs.Common.{◌≡◌, ℕ, ◌++◌, ◌∷◌, [], List, Option, false, refl, ap, subst, ◌∙◌, append_assoc, append-nil}
-use Rattle.std.proofs.lemmas.Result.{err_from_is_err_and}
-use Rattle.ride_model.specs.declared.command.Command.{Command}
+use Rattle.command_lines.proofs.Common.{◌≡◌, ℕ, ◌++◌, ◌∷◌, [], List, Option, false, refl, ap, subst, ◌∙◌, append_assoc, append-nil, err_from_is_err_and, cons_option, Command, FeedForm, FeedState, HasGiven, IsStopped}
 use Rattle.ride_ports.proofs.ByteLemmas.{Reads-then}
-use Rattle.command_lines.specs.Commands.{before}
-use Rattle.command_lines.specs.declared.forms.FeedForm.{FeedForm}
-use Rattle.command_lines.specs.inner.Feeds.{FeedState, HasGiven, IsStopped}
 use Rattle.command_lines.proofs.ReaderLemmas.{going}
 use Rattle.command_lines.proofs.feeds.FeedReader.next_command.Goals as goal
 
@@ -34,7 +29,7 @@ returns-in-Some-clause-given g c =
       Reads-then reads reads_piece,
       λ commands bytes given.
           subst (λ (l : List ℕ). HasGiven c.next_line.new.self left (commands ++ c.in-Some.command ∷ []) l) (append_assoc bytes more piece)
-          (subst (λ (o : Option Command). HasGiven c.next_line.new.self left (commands ++ before o []) ((bytes ++ more) ++ piece)) c.in-Some.is
+          (subst (λ (o : Option Command). HasGiven c.next_line.new.self left (commands ++ cons_option o []) ((bytes ++ more) ++ piece)) c.in-Some.is
           (step commands (bytes ++ more) (going c.loop-self.self _ commands (bytes ++ more) goes (so_far commands bytes given)))),
     )
 
@@ -53,7 +48,7 @@ loop-self-preserved g c =
         λ commands bytes given.
             subst (λ (cs : List Command). HasGiven c.next_line.new.self left cs (bytes ++ (more ++ piece))) (append-nil commands)
             (subst (λ (l : List ℕ). HasGiven c.next_line.new.self left (commands ++ []) l) (append_assoc bytes more piece)
-            (subst (λ (o : Option Command). HasGiven c.next_line.new.self left (commands ++ before o []) ((bytes ++ more) ++ piece)) c.in_default.is
+            (subst (λ (o : Option Command). HasGiven c.next_line.new.self left (commands ++ cons_option o []) ((bytes ++ more) ++ piece)) c.in_default.is
             (step commands (bytes ++ more) (going c.loop-self.self _ commands (bytes ++ more) goes (so_far commands bytes given))))),
       );
     }

@@ -1,7 +1,5 @@
-use Rattle.std.proofs.Common.{◌≡◌, ℕ, ◌++◌, List}
-use Rattle.ride_model.specs.declared.command.Command.{Command}
+use Rattle.command_lines.proofs.Common.{◌≡◌, ℕ, ◌++◌, List, Command, HasGiven, lines_ahead}
 use Rattle.ride_ports.specs.Bytes.{Reads}
-use Rattle.command_lines.specs.inner.Feeds.{HasGiven, lines_ahead}
 use Rattle.command_lines.proofs.feeds.FeedReader.next_command.Given as goal
 
 -- the lines so far say no further command

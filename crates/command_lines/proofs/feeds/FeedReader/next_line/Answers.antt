@@ -1,14 +1,5 @@
-use Rattle.std.proofs.Common.{ℕ, ◌+◌, ◌++◌, [], List, Option, true, length, refl, ap, sym, subst, ◌∙◌}
-use Rattle.std.specs.Prelude.{IfSome}
-use Rattle.ride_model.specs.declared.command.Command.{Command}
-use Rattle.ride_model.specs.Text.{IsSpelledCommand}
-use Rattle.line_text.specs.Lines.{ended_lines}
+use Rattle.command_lines.proofs.Common.{ℕ, ◌+◌, ◌++◌, [], List, Option, true, length, refl, ap, sym, subst, ◌∙◌, IfSome, cons_option, Command, IsSpelledCommand, ended_lines, Limits, IsAtEnd, IsNext, IsForm, FeedState, HasCut, HasGiven, IsStopped}
 use Rattle.line_text.specs.declared.line_reader.answers.NextLine.{NextLine}
-use Rattle.line_text.specs.declared.line_reader.limits.Limits.{Limits}
-use Rattle.line_text.specs.inner.line_reader.Reader.{IsAtEnd, IsNext}
-use Rattle.command_lines.specs.Commands.{before}
-use Rattle.command_lines.specs.inner.Limits.{IsForm}
-use Rattle.command_lines.specs.inner.Feeds.{FeedState, HasCut, HasGiven, IsStopped}
 use Rattle.command_lines.proofs.ReaderLemmas.{given-end, given-last, given-line, number-last, number-next, stopped}
 use Rattle.command_lines.proofs.feeds.FeedReader.next_line.Goals as goal
 
@@ -27,7 +18,7 @@ returns-in-Ok-Line-clause-given g c =
           let said = c.said.ensures.said (length (ended_lines has.cut) + 1) line
           (number-next old.form.lines c.next.new.self has.cut (old.lines.pending ++ more) line (subst (λ (r : FeedState). IsForm r.form) (sym c.self.view_is) c.requires.form).few_lines
           (c.next.ensures.limits ∙ has.limits) next) next.shown in
-          subst (λ (o : Option Command). HasGiven new left (commands ++ before o []) (bytes ++ more)) (sym said)
+          subst (λ (o : Option Command). HasGiven new left (commands ++ cons_option o []) (bytes ++ more)) (sym said)
           (given-line old new left commands bytes more has (subst (λ (r : FeedState). IsForm r.form) (sym c.self.view_is) c.requires.form) refl line
           (ap (λ (r : FeedState). r.ended) c.self.view_is ∙ c.requires.going) c.next.ensures.limits next),
     )
@@ -49,7 +40,7 @@ returns-in-Ok-Unfinished-clause-given g c =
           let said = c.said-in-Ok-Unfinished.ensures.said (length (ended_lines has.cut) + 1) (old.lines.pending ++ more)
           (number-last old.form.lines left old.lines.limits has.cut (old.lines.pending ++ more)
           (subst (λ (r : FeedState). IsForm r.form) (sym c.self.view_is) c.requires.form).few_lines has.limits end some) shown in
-          subst (λ (o : Option Command). HasGiven new left (commands ++ before o []) (bytes ++ more)) (sym said)
+          subst (λ (o : Option Command). HasGiven new left (commands ++ cons_option o []) (bytes ++ more)) (sym said)
           (given-last old new left commands bytes more has (subst (λ (r : FeedState). IsForm r.form) (sym c.self.view_is) c.requires.form) refl
           refl end some),
     )

@@ -1,8 +1,4 @@
-use Rattle.std.proofs.Common.{◌≡◌, ◌^◌, ◌-◌, min, take, nat_lt, length, Option, Some, None, refl, ap, sym, ◌∙◌, arith}
-use Rattle.std.specs.Prelude.{IfSome}
-use Rattle.ride_model.specs.declared.command.Command.{Command}
-use Rattle.ride_model.specs.Text.{IsSpelledCommand}
-use Rattle.command_lines.specs.inner.Feeds.{FeedState}
+use Rattle.command_lines.proofs.Common.{◌≡◌, ◌^◌, ◌-◌, min, take, nat_lt, length, Option, Some, None, refl, ap, sym, ◌∙◌, arith, IfSome, Command, IsSpelledCommand, FeedState}
 use Rattle.command_lines.proofs.LineCommands.{said-spelled}
 use Rattle.command_lines.proofs.feeds.FeedReader.said.Goals as goal
 

@@ -1,6 +1,4 @@
-use Rattle.std.proofs.Common.{◌≤◌, ◌+◌, ◌<◌, ℕ, IfSome}
-use Rattle.dual_check.specs.Cells.{cell_at}
-use Rattle.dual_check.specs.Grid.{price_at}
+use Rattle.dual_check.proofs.Common.{◌≤◌, ◌+◌, ◌<◌, ℕ, IfSome, cell_at, price_at}
 use Rattle.dual_check.proofs.amounts.Amounts.is_row_covered.Given as goal
 
 -- the price is at most the amounts and payments so far

@@ -1,7 +1,4 @@
-use Rattle.std.proofs.Common.{◌+◌, refl, ap, ◌∙◌}
-use Rattle.board_core.specs.inner.Recorded.{abandoned_entry}
-use Rattle.turn_lock.specs.Passes.{knowledge}
-use Rattle.fleet_board.specs.inner.Passes.{Known}
+use Rattle.fleet_board.proofs.Common.{◌+◌, refl, ap, ◌∙◌, abandoned_entry, knowledge, Known}
 use Rattle.fleet_board.proofs.Actors.{desk-found, desk-added}
 use Rattle.fleet_board.proofs.Batches.{still-open, none-abandoned}
 use Rattle.fleet_board.proofs.Points.{Added, added, adds, point-added}

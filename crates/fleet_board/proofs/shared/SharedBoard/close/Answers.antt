@@ -1,12 +1,4 @@
-use Rattle.std.proofs.Common.{sym, subst, arith}
-use Rattle.std.proofs.lemmas.Option.{IfSome_then}
-use mathlib.Core.List.{IsPrefix}
-use Rattle.ride_model.specs.declared.command.Actor.TheVariants.{Feed, Desk}
-use Rattle.turn_lock.specs.inner.History.{EndedStand}
-use Rattle.turn_lock.specs.Passes.{knowledge}
-use Rattle.turn_lock.proofs.Lists.{prefix_trans}
-use Rattle.board_core.specs.Recorded.{Recorded}
-use Rattle.fleet_board.specs.inner.Passes.{Known, maker_of}
+use Rattle.fleet_board.proofs.Common.{sym, subst, arith, IfSome_then, IsPrefix, Feed, Desk, EndedStand, knowledge, prefix_trans, Recorded, Known, maker_of}
 use Rattle.fleet_board.proofs.Closing.{Joined, joined, feed-part, desk-part, part-is}
 use Rattle.fleet_board.proofs.shared.SharedBoard.close.Goals as goal
 

@@ -1,10 +1,4 @@
-use Rattle.std.proofs.Common.{◌+◌, refl, sym, ap, subst, ◌∙◌}
-use Rattle.ride_model.specs.State.{State}
-use Rattle.batch_commit.specs.inner.Table.{IsTableOf}
-use Rattle.board_core.specs.Recorded.{Recorded, state_of}
-use Rattle.board_core.specs.inner.Recorded.{committed_entry}
-use Rattle.turn_lock.specs.Passes.{knowledge}
-use Rattle.fleet_board.specs.inner.Passes.{Known, AddsEntry}
+use Rattle.fleet_board.proofs.Common.{◌+◌, refl, sym, ap, subst, ◌∙◌, State, IsTableOf, Recorded, state_of, committed_entry, knowledge, Known, AddsEntry}
 use Rattle.fleet_board.proofs.Actors.{DeskFound, desk-found, desk-added}
 use Rattle.fleet_board.proofs.Batches.{still-open, none-committed, certified, standing}
 use Rattle.fleet_board.proofs.Points.{Added, added, adds, point-added, before-added}

@@ -1,12 +1,4 @@
-use Rattle.std.proofs.Common.{◌≡◌, ℕ, List, [], ◌∷◌, ◌++◌, sym, ap, subst, ◌∙◌}
-use Rattle.ride_model.specs.declared.command.Actor.{Actor}
-use Rattle.ride_model.specs.declared.entry.Event.TheVariants.{Finish}
-use Rattle.ride_model.specs.declared.entry.Entry.{Entry}
-use Rattle.ride_model.specs.Legal.{IsLegalEvent}
-use Rattle.board_core.specs.Recorded.{state_of, end_entry}
-use Rattle.turn_lock.specs.Knowledge.{after_enter}
-use Rattle.turn_lock.specs.Passes.{knowledge}
-use Rattle.fleet_board.specs.inner.Passes.{Known, actor_of}
+use Rattle.fleet_board.proofs.Common.{◌≡◌, ℕ, List, [], ◌∷◌, ◌++◌, sym, ap, subst, ◌∙◌, Actor, Finish, Entry, IsLegalEvent, state_of, end_entry, after_enter, knowledge, Known, actor_of}
 use Rattle.fleet_board.proofs.MayEnd.{may-end, end-made}
 use Rattle.fleet_board.proofs.Points.{added, point-added}
 use Rattle.fleet_board.proofs.shared.SharedBoard.end.Goals as goal

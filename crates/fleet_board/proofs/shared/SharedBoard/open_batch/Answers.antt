@@ -1,13 +1,4 @@
-use Rattle.std.proofs.Common.{◌≡◌, ℕ, ◌-◌, refl, sym, ap, subst, ◌∙◌, Ok}
-use Rattle.std.specs.Prelude.{IsFalse, is_some}
-use Rattle.ride_model.specs.declared.command.Actor.TheVariants.{Desk}
-use Rattle.ride_model.specs.Legal.{IsNumbered}
-use Rattle.ride_model.specs.State.{has_ended, open_batch_of}
-use Rattle.board_core.specs.declared.opening.Opening.TheVariants.{Idle, Ended}
-use Rattle.board_core.specs.Recorded.{Recorded, state_of, opened_entry}
-use Rattle.turn_lock.specs.Knowledge.{after_enter}
-use Rattle.turn_lock.specs.Passes.{knowledge}
-use Rattle.fleet_board.specs.inner.Passes.{Known, desk_of}
+use Rattle.fleet_board.proofs.Common.{◌≡◌, ℕ, ◌-◌, refl, sym, ap, subst, ◌∙◌, Ok, IsFalse, is_some, Desk, IsNumbered, has_ended, open_batch_of, Idle, Ended, Recorded, state_of, opened_entry, after_enter, knowledge, Known, desk_of}
 use Rattle.fleet_board.proofs.Actors.{DeskFound, desk-found, desk-added, desk-looked}
 use Rattle.fleet_board.proofs.Batches.{GotBatch, got-batch, told-none, opens, none_opened, none-looked}
 use Rattle.fleet_board.proofs.Points.{Added, Looked, added, looked, grown, point-added, point-looked}

@@ -1,9 +1,4 @@
-use Rattle.std.proofs.Common.{◌≡◌, ◌+◌, eqb, sym, ap, ◌∙◌, arith}
-use Rattle.turn_lock.specs.inner.History.{items_of}
-use Rattle.turn_lock.specs.Passes.{knowledge}
-use Rattle.fleet_board.specs.inner.Passes.{Known, maker_of}
-use Rattle.fleet_board.specs.inner.Sets.{one_if_some, IsNewPass}
-use Rattle.fleet_board.specs.inner.Turns.{IsTold}
+use Rattle.fleet_board.proofs.Common.{◌≡◌, ◌+◌, eqb, sym, ap, ◌∙◌, arith, items_of, knowledge, Known, maker_of, one_if_some, IsNewPass, IsTold}
 use Rattle.fleet_board.proofs.Starting.{FourSplits, StillSees, point-of, new-point, four_splits, still-sees, still-out, kept-second}
 use Rattle.fleet_board.proofs.shared.SharedBoard.share.Goals as goal
 

@@ -1,7 +1,4 @@
-use Rattle.std.proofs.Common.{◌≡◌, ◌≢◌, ◌∙◌, arith}
-use Rattle.turn_lock.specs.Passes.{knowledge}
-use Rattle.fleet_board.specs.inner.Sets.{IsNewPass, IsNewFeed, IsNewDesk}
-use Rattle.fleet_board.specs.inner.Turns.{IsTold, as_began}
+use Rattle.fleet_board.proofs.Common.{◌≡◌, ◌≢◌, ◌∙◌, arith, knowledge, IsNewPass, IsNewFeed, IsNewDesk, IsTold, as_began}
 use Rattle.fleet_board.proofs.Starting.{new-began, new-feed, new-desk, some-then, second-then}
 use Rattle.fleet_board.proofs.shared.SharedBoard.start.Goals as goal
 

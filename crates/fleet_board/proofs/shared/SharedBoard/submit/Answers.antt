@@ -1,16 +1,4 @@
-use Rattle.std.proofs.Common.{◌≡◌, ℕ, ◌<◌, [], ◌∷◌, ◌++◌, length, refl, sym, ap, subst, ◌∙◌}
-use Rattle.std.specs.Prelude.{IsFalse}
-use Rattle.ride_model.specs.declared.command.Actor.TheVariants.{Feed}
-use Rattle.ride_model.specs.declared.command.Command.{Command}
-use Rattle.ride_model.specs.declared.entry.Entry.{Entry}
-use Rattle.ride_model.specs.declared.entry.Event.TheVariants.{Fed}
-use Rattle.ride_model.specs.declared.reply.Reply.{Reply}
-use Rattle.ride_model.specs.History.{fed_commands}
-use Rattle.ride_model.specs.State.{State, has_ended}
-use Rattle.ride_model.specs.Step.{step}
-use Rattle.board_core.specs.Recorded.{state_of}
-use Rattle.turn_lock.specs.Passes.{knowledge}
-use Rattle.fleet_board.specs.inner.Passes.{Known}
+use Rattle.fleet_board.proofs.Common.{◌≡◌, ℕ, ◌<◌, [], ◌∷◌, ◌++◌, length, refl, sym, ap, subst, ◌∙◌, IsFalse, Feed, Command, Entry, Fed, Reply, fed_commands, State, has_ended, step, state_of, knowledge, Known}
 use Rattle.fleet_board.proofs.Actors.{feed-found, feed-added, feed-looked}
 use Rattle.fleet_board.proofs.Points.{Added, Looked, added, looked, point-added, point-looked, before-added}
 use Rattle.fleet_board.proofs.shared.SharedBoard.submit.Given as given

@@ -1,10 +1,4 @@
-use Rattle.std.proofs.Common.{◌≡◌, List, sym, ap, subst, ◌∙◌}
-use Rattle.std.specs.Prelude.{take, drop, IfOk}
-use Rattle.ride_model.specs.declared.entry.Entry.{Entry}
-use Rattle.ride_model.specs.State.{State}
-use Rattle.board_core.specs.Recorded.{Recorded, state_of}
-use Rattle.turn_lock.specs.Passes.{knowledge}
-use Rattle.fleet_board.specs.inner.Passes.{Known, root_of, all_ended}
+use Rattle.fleet_board.proofs.Common.{◌≡◌, List, sym, ap, subst, ◌∙◌, take, drop, IfOk, Entry, State, Recorded, state_of, knowledge, Known, root_of, all_ended}
 use Rattle.fleet_board.specs.declared.scribes.Tail.{Tail}
 use Rattle.fleet_board.proofs.Points.{Looked, looked, sees, point-looked, state-looked, root-looked}
 use Rattle.fleet_board.proofs.shared.SharedBoard.tail.Given as given

@@ -1,4 +1,4 @@
-use Rattle.turn_lock.specs.Passes.{knowledge}
+use Rattle.fleet_board.proofs.Common.{knowledge}
 use Rattle.fleet_board.proofs.Points.{finds}
 use Rattle.fleet_board.proofs.shared.SharedBoard.take_turn.Goals as goal
 

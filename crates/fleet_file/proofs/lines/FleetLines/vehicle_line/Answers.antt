@@ -1,7 +1,4 @@
-use Rattle.std.proofs.Common.{◌==◌, List, sym, ◌∙◌, ap, subst, arith}
-use Rattle.std.specs.List.{list_any}
-use Rattle.ride_model.specs.declared.vehicle.Vehicle.{Vehicle}
-use Rattle.ride_model.specs.Fleet.{IsFleet}
+use Rattle.fleet_file.proofs.Common.{◌==◌, List, sym, ◌∙◌, ap, subst, arith, list_any, Vehicle, IsFleet}
 use Rattle.fleet_file.proofs.FleetLemmas.{IsFleet-push}
 use Rattle.fleet_file.proofs.lines.FleetLines.vehicle_line.Goals as goal
 

@@ -1,13 +1,5 @@
-use Rattle.std.proofs.Common.{◌≡◌, ◌≤◌, length, sym, ap, subst, ◌∙◌, arith}
-use Rattle.std.specs.Prelude.{All, IsTrue}
-use Rattle.ride_model.specs.declared.vehicle.Ride.{Ride}
-use Rattle.board_core.specs.Recorded.{Recorded, state_of}
+use Rattle.fleet_league.proofs.Common.{◌≡◌, ◌≤◌, length, sym, ap, subst, ◌∙◌, arith, All, IsTrue, Ride, Recorded, state_of, CompanyState, MayWin, IsNewRide, won_rides, AreOfOneState, HasRoomFor, settled_at}
 use Rattle.fleet_league.specs.declared.briefs.Settled.TheVariants.{Confirmed}
-use Rattle.fleet_league.specs.inner.Companies.{CompanyState}
-use Rattle.fleet_league.specs.inner.Winning.{MayWin}
-use Rattle.fleet_league.specs.inner.Prices.{IsNewRide}
-use Rattle.fleet_league.specs.Awards.{won_rides}
-use Rattle.fleet_league.specs.inner.Awards.{AreOfOneState, HasRoomFor, settled_at}
 use Rattle.fleet_league.proofs.Legality.{IsLegalBoard}
 use Rattle.fleet_league.proofs.MayAward.{MayAward, may-win}
 use Rattle.fleet_league.proofs.QuotedState.{as-many-plans, stands-confirmed}

@@ -1,6 +1,4 @@
-use Rattle.std.proofs.Common.{sym, subst}
-use Rattle.fleet_league.specs.inner.Companies.{CompanyState}
-use Rattle.fleet_league.specs.inner.Winning.{MayWin}
+use Rattle.fleet_league.proofs.Common.{sym, subst, CompanyState, MayWin}
 use Rattle.fleet_league.proofs.MayAward.{may-confirm}
 use Rattle.fleet_league.proofs.company.Company.award_priced.Goals as goal
 

@@ -1,15 +1,4 @@
-use Rattle.std.proofs.Common.{◌≡◌, ℕ, ◌++◌, List, sym, ap, subst, ◌∙◌}
-use Rattle.std.specs.Prelude.{All}
-use Rattle.ride_model.specs.declared.settings.Settings.{Settings}
-use Rattle.ride_model.specs.declared.vehicle.Ride.{Ride}
-use Rattle.ride_model.specs.declared.vehicle.Vehicle.{Vehicle}
-use Rattle.ride_model.specs.Fleet.{IsFleet}
-use Rattle.ride_model.specs.Seating.{BatchCopy}
-use Rattle.batch_commit.specs.inner.Table.{IsPriceable}
-use Rattle.board_core.specs.Recorded.{Recorded, state_of}
-use Rattle.fleet_league.specs.inner.Companies.{CompanyState}
-use Rattle.fleet_league.specs.inner.Prices.{IsNewRide}
-use Rattle.fleet_league.specs.inner.Quoting.{quoting_batch}
+use Rattle.fleet_league.proofs.Common.{◌≡◌, ℕ, ◌++◌, List, sym, ap, subst, ◌∙◌, All, Settings, Ride, Vehicle, IsFleet, BatchCopy, IsPriceable, Recorded, state_of, CompanyState, IsNewRide, quoting_batch}
 use Rattle.fleet_league.proofs.Batched.{may-price}
 use Rattle.fleet_league.proofs.Legality.{IsLegalBoard, board-fleet, board-settings}
 use Rattle.fleet_league.proofs.company.Company.batch_of.Goals as goal

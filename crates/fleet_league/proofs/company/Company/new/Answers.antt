@@ -1,6 +1,5 @@
 use Rattle.fleet_league.proofs.Reports.{new-idle}
-use Rattle.std.proofs.Common.{ap}
-use Rattle.ride_model.specs.State.{State}
+use Rattle.fleet_league.proofs.Common.{ap, State}
 use Rattle.fleet_league.proofs.company.Company.new.Goals as goal
 
 pub invariant_of-result : goal.invariant_of-result

@@ -1,11 +1,4 @@
-use Rattle.std.proofs.Common.{◌≡◌, sym, ap, subst, ◌∙◌}
-use Rattle.std.proofs.lemmas.Result.{IfOk-weaker}
-use Rattle.ride_model.specs.Road.{RoadMap}
-use Rattle.ride_model.specs.Seating.{BatchCopy}
-use Rattle.batch_commit.specs.inner.Table.{IsPriceable, IsTableOf}
-use Rattle.board_core.specs.Recorded.{state_of}
-use Rattle.fleet_league.specs.Awards.{won_rides}
-use Rattle.fleet_league.specs.inner.Quoting.{quoting_batch}
+use Rattle.fleet_league.proofs.Common.{◌≡◌, sym, ap, subst, ◌∙◌, IfOk-weaker, RoadMap, BatchCopy, IsPriceable, IsTableOf, state_of, won_rides, quoting_batch}
 use Rattle.fleet_league.proofs.company.Company.price_won.Goals as goal
 
 pub price_batch-requires-clause-priceable : goal.price_batch-requires-clause-priceable

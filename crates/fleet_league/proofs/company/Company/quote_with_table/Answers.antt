@@ -1,14 +1,4 @@
-use Rattle.std.proofs.Common.{◌≡◌, sym, ap, subst, ◌∙◌}
-use Rattle.ride_model.specs.Road.{RoadMap, IsRoadMap}
-use Rattle.ride_model.specs.Seating.{BatchCopy}
-use Rattle.ride_model.specs.inner.Seating.{IsBatchOver}
-use Rattle.board_core.specs.Recorded.{Recorded, state_of}
-use Rattle.fleet_league.specs.inner.Companies.{CompanyState}
-use Rattle.fleet_league.specs.Prices.{prices_by, prices_of}
-use Rattle.fleet_league.specs.inner.Quoting.{quoting_batch}
-use Rattle.batch_commit.specs.inner.Table.{IsPriceable, IsTableOf}
-use Rattle.dual_check.specs.Cells.{GridCells}
-use Rattle.fleet_league.specs.inner.Round.{IsPriced}
+use Rattle.fleet_league.proofs.Common.{◌≡◌, sym, ap, subst, ◌∙◌, RoadMap, IsRoadMap, BatchCopy, IsBatchOver, Recorded, state_of, CompanyState, prices_by, prices_of, quoting_batch, IsPriceable, IsTableOf, GridCells, IsPriced}
 use Rattle.fleet_league.proofs.Legality.{IsLegalBoard, board-fleet, board-roads}
 use Rattle.fleet_league.proofs.PricedQuotes.{batch-priced}
 use Rattle.fleet_league.proofs.company.Company.quote_with_table.Goals as goal

@@ -1,7 +1,4 @@
-use Rattle.std.proofs.Common.{◌<◌, sym, subst, arith}
-use Rattle.std.specs.Prelude.{IsTrue}
-use Rattle.board_core.specs.Recorded.{Recorded}
-use Rattle.fleet_league.specs.inner.Companies.{CompanyState, IsIdle, report_count, most_reports}
+use Rattle.fleet_league.proofs.Common.{◌<◌, sym, subst, arith, IsTrue, Recorded, CompanyState, IsIdle, report_count, most_reports}
 use Rattle.fleet_league.proofs.Legality.{IsLegalBoard}
 use Rattle.fleet_league.proofs.Reports.{few-fed, company-reported}
 use Rattle.fleet_league.proofs.company.Company.report.Goals as goal

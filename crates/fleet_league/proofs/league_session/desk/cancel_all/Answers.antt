@@ -1,9 +1,4 @@
-use Rattle.std.proofs.Common.{take, ap, ◌∙◌}
-use Rattle.ride_model.specs.declared.command.Actor.TheVariants.{Feed}
-use Rattle.ride_model.specs.declared.reply.RequestState.TheVariants.{Cancelled}
-use Rattle.ride_model.specs.State.{State}
-use Rattle.model_laws.proofs.RequestStates.{with_request_states-is}
-use Rattle.board_core.specs.Recorded.{state_of}
+use Rattle.fleet_league.proofs.Common.{take, ap, ◌∙◌, Feed, Cancelled, State, with_request_states-is, state_of}
 use Rattle.fleet_league.proofs.league_session.Cancelling.{cancelled-more}
 use Rattle.fleet_league.proofs.WinsAsked.{none-ended}
 use Rattle.fleet_league.proofs.league_session.desk.cancel_all.Goals as goal

@@ -1,4 +1,4 @@
-use Rattle.std.proofs.Common.{take}
+use Rattle.fleet_league.proofs.Common.{take}
 use Rattle.fleet_league.proofs.league_session.Cancelling.{AreCancelled}
 use Rattle.fleet_league.proofs.league_session.desk.cancel_all.Given as goal
 

@@ -1,12 +1,4 @@
-use Rattle.std.proofs.Common.{◌≡◌, ℕ, ◌+◌, ◌*◌, List, length, subst, sym}
-use Rattle.ride_model.specs.declared.vehicle.Ride.{Ride}
-use Rattle.dual_check.specs.declared.paired.Paired.{Paired}
-use Rattle.dual_check.specs.Grid.{pairing_cost}
-use Rattle.board_core.specs.Recorded.{state_of}
-use Rattle.fleet_league.specs.declared.briefs.Brief.{Brief}
-use Rattle.fleet_league.specs.inner.Companies.{CompanyState}
-use Rattle.fleet_league.specs.inner.league_session.League.{commit_cost, part_between}
-use Rattle.fleet_league.specs.inner.league_session.LeagueBoards.{IsSound}
+use Rattle.fleet_league.proofs.Common.{◌≡◌, ℕ, ◌+◌, ◌*◌, List, length, subst, sym, Ride, Paired, pairing_cost, state_of, Brief, CompanyState, commit_cost, part_between, IsSound}
 use Rattle.fleet_league.proofs.league_session.LeagueCost.{league-cost}
 use Rattle.fleet_league.proofs.league_session.LeagueMembers.{sound}
 use Rattle.fleet_league.proofs.league_session.PlayedRounds.{AreMet}

@@ -1,13 +1,4 @@
-use Rattle.std.proofs.Common.{◌≡◌, ◌≤◌, List, ℕ, sym, subst}
-use Rattle.ride_model.specs.declared.vehicle.Ride.{Ride}
-use Rattle.batch_commit.specs.inner.Table.{IsTableOf}
-use Rattle.board_core.specs.Recorded.{state_of}
-use Rattle.fleet_league.specs.declared.quotes.Quote.{Quote}
-use Rattle.fleet_league.specs.inner.Companies.{CompanyState}
-use Rattle.fleet_league.specs.league_session.League.{IsRoundOf, quotes_of}
-use Rattle.fleet_league.specs.inner.Winning.{MayWin}
-use Rattle.fleet_league.specs.inner.league_session.LeagueBoards.{IsPlayed}
-use Rattle.fleet_league.specs.inner.Quoting.{quoting_batch}
+use Rattle.fleet_league.proofs.Common.{◌≡◌, ◌≤◌, List, ℕ, sym, subst, Ride, IsTableOf, state_of, Quote, CompanyState, IsRoundOf, quotes_of, MayWin, IsPlayed, quoting_batch}
 use Rattle.fleet_league.proofs.league_session.PlayedRounds.{AreMet, first-wins, second-wins}
 use Rattle.fleet_league.proofs.league_session.playing.play.Goals as goal
 

@@ -1,8 +1,4 @@
-use Rattle.std.proofs.Common.{◌≡◌, ℕ, List, ◌++◌, refl}
-use Rattle.std.proofs.lemmas.Result.{err_from_is_err_and}
-use Rattle.std.specs.Prelude.{codes, decimal}
-use Rattle.ride_model.specs.Text.{fed_fields, line_of}
-use Rattle.trip_log.proofs.PrintsLemmas.{prints_as, prints_more, prints_then}
+use Rattle.fleet_league.proofs.Common.{◌≡◌, ℕ, List, ◌++◌, refl, err_from_is_err_and, codes, decimal, fed_fields, line_of, prints_as, prints_more, prints_then}
 use Rattle.fleet_league.proofs.league_session.printing.print_reply.Goals as goal
 
 -- whose report it is goes before the report

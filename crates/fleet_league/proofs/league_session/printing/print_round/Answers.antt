@@ -1,6 +1,4 @@
-use Rattle.std.proofs.Common.{refl}
-use Rattle.std.proofs.lemmas.Result.{err_from_is_err_and}
-use Rattle.trip_log.proofs.PrintsLemmas.{prints_as, prints_more, prints_then}
+use Rattle.fleet_league.proofs.Common.{refl, err_from_is_err_and, prints_as, prints_more, prints_then}
 use Rattle.fleet_league.proofs.league_session.RoundTexts.{round_text}
 use Rattle.fleet_league.proofs.league_session.printing.print_round.Goals as goal
 

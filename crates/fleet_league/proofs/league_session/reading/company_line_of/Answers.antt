@@ -1,4 +1,4 @@
-use Rattle.std.proofs.Common.{sym}
+use Rattle.fleet_league.proofs.Common.{sym}
 use Rattle.line_text.proofs.PrintedLemmas.{number_of-small}
 use Rattle.fleet_league.proofs.league_session.reading.company_line_of.Goals as goal
 

@@ -1,6 +1,4 @@
-use Rattle.std.proofs.Common.{◌≡◌, ◌++◌, take}
-use Rattle.std.specs.Prelude.{map}
-use Rattle.fleet_league.specs.league_session.RoundParts.{column_of_plan}
+use Rattle.fleet_league.proofs.Common.{◌≡◌, ◌++◌, take, map, column_of_plan}
 use Rattle.fleet_league.proofs.league_session.rows.add_columns.Given as goal
 
 -- the columns of the plans so far were added

@@ -1,15 +1,6 @@
-use Rattle.std.proofs.Common.{[], sym, ap, subst, ◌∙◌}
+use Rattle.fleet_league.proofs.Common.{[], sym, ap, subst, ◌∙◌, KeepsCount, Reads-none, KeepsCount-none, ran_of, are-taken, run-still, short-enough, feed_limits, LeagueState, IsLeagueText, IsLeagued, ended_text}
 use Rattle.ride_ports.specs.declared.outcome.Ran.{Ran}
-use Rattle.ride_ports.specs.Count.{KeepsCount}
-use Rattle.ride_ports.proofs.ByteLemmas.{Reads-none}
-use Rattle.ride_ports.proofs.Counts.{KeepsCount-none}
-use Rattle.line_text.specs.inner.line_reader.FeedRuns.{ran_of}
 use Rattle.line_text.specs.line_reader.FeedRuns.{IsReadWhole, IsUnhindered}
-use Rattle.line_text.proofs.line_reader.FeedLines.{are-taken, run-still, short-enough}
-use Rattle.command_lines.specs.Limits.{feed_limits}
-use Rattle.fleet_league.specs.league_session.League.{LeagueState}
-use Rattle.fleet_league.specs.league_session.Leagued.{IsLeagueText, IsLeagued}
-use Rattle.fleet_league.specs.inner.league_session.LeagueRuns.{ended_text}
 use Rattle.fleet_league.proofs.league_session.LeagueEnds.{is-leagued, leagued-none}
 use Rattle.fleet_league.proofs.league_session.session.league.Goals as goal
 
@@ -34,7 +25,7 @@ returns-clause-session g c =
           (g.K.Sink.written c.end.new.out)) (sym (c.ran_of-2.ensures ∙ ap (ran_of c.run_feed-stop.result) c.failed.ensures))
           (is-leagued c.args.roads.now c.args.settings c.args.first c.args.second feed _ (g.K.Sink.written c.args.out.now) (g.K.Sink.written c.end.new.out)
           (g.K.Sink.faults c.args.out.now) (g.K.Sink.faults c.end.new.out) taken lines text c.run_feed-stop.result c.end.new.self.output
-          (subst (λ (s : LeagueState). IsLeagueText s lines text) c.in-Ok.ensures.start is_text) c.end.ensures.nothing_left still
+          (subst (λ (s : LeagueState). IsLeagueText s lines text) (c.in-Ok.ensures.start ∙ c.new-outset.ensures) is_text) c.end.ensures.nothing_left still
           (c.end.ensures.put (g.K.Sink.written c.args.out.now) (g.K.Sink.faults c.args.out.now) (ended_text c.run_feed-stop.result text) put)),
     )
 

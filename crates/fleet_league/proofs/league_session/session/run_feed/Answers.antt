@@ -1,12 +1,4 @@
-use Rattle.std.proofs.Common.{◌≡◌, ◌++◌, [], refl, sym, ap, subst, ◌∙◌}
-use Rattle.line_text.proofs.line_reader.FeedLines.{run-still}
-use Rattle.command_lines.specs.Limits.{feed_limits}
-use Rattle.line_text.proofs.text_page.OutputLemmas.{put-nothing}
-use Rattle.fleet_league.specs.declared.league_session.scribe.Scribe.{Scribe}
-use Rattle.fleet_league.specs.league_session.League.{LeagueState}
-use Rattle.fleet_league.specs.inner.league_session.LeagueBoards.{league_of}
-use Rattle.fleet_league.specs.league_session.LeagueTexts.{head_line}
-use Rattle.fleet_league.specs.league_session.Leagued.{IsLeagueText}
+use Rattle.fleet_league.proofs.Common.{◌≡◌, ◌++◌, [], refl, sym, ap, subst, ◌∙◌, run-still, feed_limits, put-nothing, Scribe, LeagueState, league_of, head_line, IsLeagueText}
 use Rattle.fleet_league.proofs.league_session.TextRuns.{scribe-same}
 use Rattle.fleet_league.proofs.league_session.session.run_feed.Goals as goal
 

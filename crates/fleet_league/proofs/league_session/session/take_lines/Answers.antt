@@ -1,12 +1,6 @@
-use Rattle.std.proofs.Common.{◌++◌, ◌∷◌, [], List, ℕ, Ok, Err, refl, sym, ap, subst, ◌∙◌}
-use Rattle.ride_ports.proofs.Counts.{KeepsCount-none, KeepsCount-then}
-use Rattle.line_text.specs.Lines.{ended_lines}
+use Rattle.fleet_league.proofs.Common.{◌++◌, ◌∷◌, [], List, ℕ, Ok, Err, refl, sym, ap, subst, ◌∙◌, KeepsCount-none, KeepsCount-then, ended_lines, between-none, follows, run-sink_failed, feed_limits, league_of, HasTold}
 use Rattle.line_text.specs.declared.line_reader.answers.NextLine.TheVariants.{Line, Unfinished, End}
 use Rattle.fleet_league.proofs.league_session.LeagueEnds.{fault-stops}
-use Rattle.line_text.proofs.line_reader.FeedLines.{between-none, follows, run-sink_failed}
-use Rattle.command_lines.specs.Limits.{feed_limits}
-use Rattle.fleet_league.specs.inner.league_session.LeagueBoards.{league_of}
-use Rattle.fleet_league.specs.inner.league_session.LeagueRuns.{HasTold}
 use Rattle.fleet_league.proofs.league_session.TextRuns.{scribe-same, told-nothing, told-written}
 use Rattle.fleet_league.proofs.league_session.session.take_lines.Goals as goal
 

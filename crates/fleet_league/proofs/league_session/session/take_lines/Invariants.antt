@@ -1,10 +1,4 @@
-use Rattle.std.proofs.Common.{◌≡◌, ℕ, false, List}
-use Rattle.ride_ports.specs.Count.{KeepsCount}
-use Rattle.line_text.specs.Lines.{ended_lines}
-use Rattle.line_text.specs.inner.line_reader.FeedRuns.{IsBetween}
-use Rattle.command_lines.specs.Limits.{feed_limits}
-use Rattle.fleet_league.specs.inner.league_session.LeagueBoards.{league_of}
-use Rattle.fleet_league.specs.inner.league_session.LeagueRuns.{HasTold, IsScribe}
+use Rattle.fleet_league.proofs.Common.{◌≡◌, ℕ, false, List, KeepsCount, ended_lines, IsBetween, feed_limits, league_of, HasTold, IsScribe}
 use Rattle.fleet_league.proofs.league_session.session.take_lines.Given as goal
 
 -- the lines so far were taken

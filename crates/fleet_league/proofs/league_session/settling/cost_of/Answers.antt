@@ -1,5 +1,4 @@
-use Rattle.std.proofs.Common.{◌<◌, ◌^◌, List, ℕ, subst, sym}
-use Rattle.std.specs.Prelude.{sum}
+use Rattle.fleet_league.proofs.Common.{◌<◌, ◌^◌, List, ℕ, subst, sym, sum}
 use Rattle.fleet_league.proofs.league_session.RoundCosts.{prices-small}
 use Rattle.fleet_league.proofs.league_session.settling.cost_of.Goals as goal
 

@@ -1,9 +1,4 @@
-use Rattle.std.proofs.Common.{◌≡◌, List, sym, ap, ◌∙◌}
-use Rattle.std.proofs.lemmas.Result.{IfOk-weaker}
-use Rattle.fleet_league.specs.declared.league_session.rows.RoundColumn.{RoundColumn}
-use Rattle.fleet_league.specs.declared.quotes.Quote.{Quote}
-use Rattle.fleet_league.specs.league_session.League.{round_columns, round_rows}
-use Rattle.fleet_league.specs.league_session.RoundParts.{brief_of, paid_columns, rows_of, union_columns}
+use Rattle.fleet_league.proofs.Common.{◌≡◌, List, sym, ap, ◌∙◌, IfOk-weaker, RoundColumn, Quote, round_columns, round_rows, brief_of, paid_columns, rows_of, union_columns}
 use Rattle.fleet_league.proofs.league_session.RoundCosts.{two-of}
 use Rattle.fleet_league.proofs.league_session.settling.part_of.Goals as goal
 

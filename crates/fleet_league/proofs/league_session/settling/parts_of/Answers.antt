@@ -1,10 +1,4 @@
-use Rattle.std.proofs.Common.{◌≡◌, List, length, sym, ap, ◌∙◌}
-use Rattle.dual_check.specs.declared.paired.Paired.{Paired}
-use Rattle.dual_check.specs.Grid.{pairing_cost}
-use Rattle.fleet_league.specs.declared.league_session.rows.RoundColumn.{RoundColumn}
-use Rattle.fleet_league.specs.declared.quotes.Quote.{Quote}
-use Rattle.fleet_league.specs.league_session.League.{round_columns, round_rows}
-use Rattle.fleet_league.specs.league_session.RoundParts.{brief_of, paid_columns, rows_of, sheet_of, union_columns}
+use Rattle.fleet_league.proofs.Common.{◌≡◌, List, length, sym, ap, ◌∙◌, Paired, pairing_cost, RoundColumn, Quote, round_columns, round_rows, brief_of, paid_columns, rows_of, sheet_of, union_columns}
 use Rattle.fleet_league.proofs.league_session.RoundCosts.{two-of}
 use Rattle.fleet_league.proofs.league_session.settling.parts_of.Goals as goal
 

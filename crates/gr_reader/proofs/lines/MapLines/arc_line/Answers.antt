@@ -1,4 +1,4 @@
-use Rattle.std.proofs.Common.{sym, arith}
+use Rattle.gr_reader.proofs.Common.{sym, arith}
 use Rattle.gr_reader.proofs.MapLemmas.{arc-gives}
 use Rattle.gr_reader.proofs.lines.MapLines.arc_line.Goals as goal
 

@@ -1,4 +1,4 @@
-use Rattle.std.proofs.Common.{sym, ◌∙◌, refl}
+use Rattle.gr_reader.proofs.Common.{sym, ◌∙◌, refl}
 use Rattle.gr_reader.proofs.MapLemmas.{problem-gives, none-from}
 use Rattle.gr_reader.proofs.lines.MapLines.problem_line.Goals as goal
 

@@ -1,7 +1,4 @@
-use Rattle.std.proofs.Common.{◌≡◌, ◌+◌, ◌<◌, ◌≤◌, length, ap, ◌∙◌, arith}
-use Rattle.std.proofs.lemmas.List.{get_or_read, get_or-set_same, get_or-set_other, length-set}
-use Rattle.dual_check.specs.Grid.{price_at}
-use Rattle.hungarian.specs.inner.Mates.{mate}
+use Rattle.hungarian.proofs.Common.{◌≡◌, ◌+◌, ◌<◌, ◌≤◌, length, ap, ◌∙◌, arith, get_or_read, get_or-set_same, get_or-set_other, length-set, price_at, mate}
 use Rattle.hungarian.proofs.Raising.{rise_before, rise-all}
 use Rattle.hungarian.proofs.duals.Duals.raise.Goals as goal
 

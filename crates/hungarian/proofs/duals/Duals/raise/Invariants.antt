@@ -1,7 +1,5 @@
-use Rattle.std.proofs.Common.{◌≡◌, ℕ, ◌+◌, ◌<◌, ◌≤◌, length, get_or}
-use Rattle.hungarian.specs.inner.Rises.{column_rise}
+use Rattle.hungarian.proofs.Common.{◌≡◌, ℕ, ◌+◌, ◌<◌, ◌≤◌, length, get_or, column_rise, mate}
 use Rattle.hungarian.proofs.Raising.{rise_before}
-use Rattle.hungarian.specs.inner.Mates.{mate}
 use Rattle.hungarian.proofs.duals.Duals.raise.Given as goal
 
 -- the columns so far and their rows were raised, and nothing else was

@@ -1,9 +1,4 @@
-use Rattle.std.proofs.Common.{◌≡◌, ◌+◌, ◌-◌, ◌<◌, length, set, sym, ap, ◌∙◌, arith}
-use Rattle.std.specs.Prelude.{Some, None}
-use Rattle.std.proofs.lemmas.List.{get_or_read}
-use Rattle.dual_check.specs.Grid.{price_at}
-use Rattle.hungarian.specs.inner.Labels.{distance_at, rank_at}
-use Rattle.hungarian.specs.inner.Mates.{mate}
+use Rattle.hungarian.proofs.Common.{◌≡◌, ◌+◌, ◌-◌, ◌<◌, length, set, sym, ap, ◌∙◌, arith, Some, None, get_or_read, price_at, distance_at, rank_at, mate}
 use Rattle.hungarian.proofs.Mated.{mate-in}
 use Rattle.hungarian.proofs.Raising.{column-raised}
 use Rattle.hungarian.proofs.duals.Duals.raise_column.Goals as goal

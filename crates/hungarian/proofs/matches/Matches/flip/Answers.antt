@@ -1,7 +1,4 @@
-use Rattle.std.proofs.Common.{◌≡◌, set, sym, ap, ◌∙◌, inl, inr, arith}
-use Rattle.std.specs.Prelude.{Some, None}
-use Rattle.std.proofs.lemmas.List.{get_or_read}
-use Rattle.hungarian.specs.inner.Mates.{mate}
+use Rattle.hungarian.proofs.Common.{◌≡◌, set, sym, ap, ◌∙◌, inl, inr, arith, Some, None, get_or_read, mate}
 use Rattle.hungarian.proofs.Mated.{cases_mate}
 use Rattle.hungarian.proofs.Flipping.{flipping-row, flipping-earlier, flipping-more, flipping-all}
 use Rattle.hungarian.proofs.matches.Matches.flip.Goals as goal

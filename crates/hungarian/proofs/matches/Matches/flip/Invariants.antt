@@ -1,6 +1,4 @@
-use Rattle.hungarian.specs.inner.Labels.{rank_at}
-use Rattle.hungarian.specs.inner.Turned.{IsFlippable}
-use Rattle.std.proofs.Common.{ℕ}
+use Rattle.hungarian.proofs.Common.{rank_at, IsFlippable, ℕ}
 use Rattle.hungarian.proofs.Flipping.{IsFlipping}
 use Rattle.hungarian.proofs.matches.Matches.flip.Given as goal
 

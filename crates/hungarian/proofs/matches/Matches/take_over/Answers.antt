@@ -1,8 +1,4 @@
-use Rattle.std.proofs.Common.{◌≡◌, subst, sym, refl, ◌∙◌}
-use Rattle.std.specs.Prelude.{Some, None}
-use Rattle.std.proofs.lemmas.List.{get_or_read}
-use Rattle.hungarian.specs.inner.Mates.{mate}
-use Rattle.hungarian.specs.inner.Turned.{IsReady, IsTurned, IsLeft}
+use Rattle.hungarian.proofs.Common.{◌≡◌, subst, sym, refl, ◌∙◌, Some, None, get_or_read, mate, IsReady, IsTurned, IsLeft}
 use Rattle.hungarian.proofs.Flipping.{flippable-at_column, flippable-at_row, turned-at_row}
 use Rattle.hungarian.proofs.matches.Matches.take_over.Goals as goal
 

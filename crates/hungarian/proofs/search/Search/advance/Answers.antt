@@ -1,9 +1,5 @@
-use Rattle.std.proofs.Common.{◌≡◌, ℕ, ◌*◌, ◌<◌, List, get_or, take, drop, sym, ap, ◌∙◌, subst, arith}
-use Rattle.std.specs.Prelude.{Option, None}
+use Rattle.hungarian.proofs.Common.{◌≡◌, ℕ, ◌*◌, ◌<◌, List, get_or, take, drop, sym, ap, ◌∙◌, subst, arith, Option, None, get_or-take, get_or-drop, with_items_is, GridCells, cell_at, IsShortened}
 use Rattle.std.specs.Vec.{with_items}
-use Rattle.std.proofs.lemmas.List.{get_or-take, get_or-drop, with_items_is}
-use Rattle.dual_check.specs.Cells.{GridCells, cell_at}
-use Rattle.hungarian.specs.inner.Ways.{IsShortened}
 use Rattle.hungarian.proofs.search.Search.advance.Goals as goal
 
 -- a cell of a row

@@ -1,12 +1,4 @@
-use Rattle.std.proofs.Common.{◌≡◌, ℕ, inl, inr, subst, sym, ◌∙◌, arith}
-use Rattle.std.specs.Prelude.{Some, None}
-use Rattle.std.proofs.lemmas.List.{get_or_read}
-use Rattle.hungarian.specs.declared.relaxing.Reach.{Reach}
-use Rattle.hungarian.specs.declared.search.Path.{Path}
-use Rattle.hungarian.specs.declared.search.Exit.TheVariants.{Column}
-use Rattle.hungarian.specs.inner.Mates.{mate}
-use Rattle.hungarian.specs.inner.Labels.{IsNext, IsPath, sooner_path}
-use Rattle.hungarian.specs.inner.Searching.{IsSearching}
+use Rattle.hungarian.proofs.Common.{◌≡◌, ℕ, inl, inr, subst, sym, ◌∙◌, arith, Some, None, get_or_read, Reach, Path, Column, mate, IsNext, IsPath, sooner_path, IsSearching}
 use Rattle.hungarian.proofs.Mated.{cases_mate, mate-in}
 use Rattle.hungarian.proofs.Paths.{searching-begun, searching-relaxable, searching-step, path-leaving, path-column}
 use Rattle.hungarian.proofs.search.Search.path.Goals as goal

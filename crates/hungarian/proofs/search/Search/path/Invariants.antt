@@ -1,5 +1,4 @@
-use Rattle.std.proofs.Common.{◌-◌}
-use Rattle.hungarian.specs.inner.Searching.{IsSearching}
+use Rattle.hungarian.proofs.Common.{◌-◌, IsSearching}
 use Rattle.hungarian.proofs.search.Search.path.Given as goal
 
 -- a row was reached and is to be relaxed next

@@ -1,9 +1,5 @@
-use Rattle.std.proofs.Common.{◌≡◌, ◌+◌, ℕ, List, length, map, take, drop, sym, ap, subst, ◌∙◌, arith}
-use Rattle.ride_model.specs.declared.entry.Entry.{Entry}
+use Rattle.idle_moves.proofs.Common.{◌≡◌, ◌+◌, ℕ, List, length, map, take, drop, sym, ap, subst, ◌∙◌, arith, Entry, Known, HasRoomFor, after_entries, Watched, Watches, watched_ids}
 use Rattle.turn_lock.specs.Passes.{knowledge}
-use Rattle.fleet_board.specs.inner.Passes.{Known}
-use Rattle.idle_moves.specs.inner.Raises.{HasRoomFor, after_entries}
-use Rattle.idle_moves.specs.inner.Watch.{Watched, Watches, watched_ids}
 use Rattle.idle_moves.proofs.Raising.{ids-entries}
 use Rattle.idle_moves.proofs.Watching.{room-for, watches-more, watches-on}
 use Rattle.idle_moves.proofs.watch.VersionWatch.catch_up.Goals as goal

@@ -1,6 +1,4 @@
-use Rattle.std.proofs.Common.{ℕ, Option, ap, ◌∙◌}
-use Rattle.std.specs.Prelude.{unwrap_or}
-use Rattle.idle_moves.specs.inner.Watch.{Watched, version_in}
+use Rattle.idle_moves.proofs.Common.{ℕ, Option, ap, ◌∙◌, unwrap_or, Watched, version_in}
 use Rattle.idle_moves.proofs.Keeping.{looked-up}
 use Rattle.idle_moves.proofs.watch.VersionWatch.version.Goals as goal
 

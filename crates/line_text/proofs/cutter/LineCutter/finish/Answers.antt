@@ -1,6 +1,4 @@
-use Rattle.std.proofs.Common.{◌≡◌, ◌≢◌, Bool, not, ◌||◌, ◌&&◌, ◌==◌, [], length, MatchBool, ap, sym, subst₂}
-use Rattle.line_text.specs.inner.Cutter.{CutterState, ShowsRest}
-use Rattle.line_text.specs.Lines.{rest_of}
+use Rattle.line_text.proofs.Common.{◌≡◌, ◌≢◌, Bool, not, ◌||◌, ◌&&◌, ◌==◌, [], length, MatchBool, ap, sym, subst₂, CutterState, ShowsRest, rest_of}
 use Rattle.line_text.proofs.CutterLemmas.{finish-at}
 use Rattle.line_text.proofs.cutter.LineCutter.finish.Goals as goal
 

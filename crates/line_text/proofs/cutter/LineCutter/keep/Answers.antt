@@ -1,7 +1,5 @@
-use Rattle.std.proofs.Common.{ℕ, List, ◌≡◌, ◌+◌, ◌++◌, take, length, ap, sym, ◌∙◌, arith, length-take-le}
+use Rattle.line_text.proofs.Common.{ℕ, List, ◌≡◌, ◌+◌, ◌++◌, take, length, ap, sym, ◌∙◌, arith, length-take-le, with_items_is, CutterState, kept}
 use Rattle.std.specs.Vec.{with_items}
-use Rattle.std.proofs.lemmas.List.{with_items_is}
-use Rattle.line_text.specs.inner.Cutter.{CutterState, kept}
 use Rattle.line_text.proofs.CutterLemmas.{keep-view}
 use Rattle.line_text.proofs.cutter.LineCutter.keep.Goals as goal
 

@@ -1,4 +1,4 @@
-use Rattle.std.proofs.Common.{refl}
+use Rattle.line_text.proofs.Common.{refl}
 use Rattle.line_text.proofs.CutterLemmas.{HasTaken-nothing}
 use Rattle.line_text.proofs.cutter.LineCutter.new.Goals as goal
 

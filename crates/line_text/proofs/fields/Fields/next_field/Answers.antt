@@ -1,7 +1,4 @@
-use Rattle.std.proofs.Common.{◌≡◌, [], sym, ◌∙◌, ap}
-use Rattle.std.proofs.lemmas.List.{nil_from_length}
-use Rattle.std.proofs.lemmas.Bool.{eqb-true}
-use Rattle.line_text.specs.Fields.{runs_of}
+use Rattle.line_text.proofs.Common.{◌≡◌, [], sym, ◌∙◌, ap, nil_from_length, eqb-true, runs_of}
 use Rattle.line_text.proofs.FieldLemmas.{runs_of-nil}
 use Rattle.line_text.proofs.fields.Fields.next_field.Goals as goal
 

@@ -1,4 +1,4 @@
-use Rattle.std.proofs.Common.{sym, ◌∙◌, eqb-true}
+use Rattle.line_text.proofs.Common.{sym, ◌∙◌, eqb-true}
 use Rattle.line_text.proofs.FieldLemmas.{HasRead-next, HasRead-no_number, HasRead-full, HasRead-all}
 use Rattle.line_text.proofs.fields.Fields.numbers.Goals as goal
 

@@ -1,5 +1,4 @@
-use Rattle.std.proofs.Common.{◌≡◌, ◌++◌, List, ℕ, length, option_map}
-use Rattle.line_text.specs.Fields.{numbers_of}
+use Rattle.line_text.proofs.Common.{◌≡◌, ◌++◌, List, ℕ, length, option_map, numbers_of}
 use Rattle.line_text.proofs.fields.Fields.numbers.Given as goal
 
 -- the numbers so far and those of the fields that are left are the numbers of all

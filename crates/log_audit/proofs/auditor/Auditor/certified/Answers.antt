@@ -1,9 +1,5 @@
-use Rattle.std.proofs.Common.{ℕ, sym, subst}
-use Rattle.std.specs.Prelude.{All}
-use Rattle.ride_model.specs.Seating.{IsSeating}
-use Rattle.batch_commit.specs.inner.Answer.{IsSeatAt}
+use Rattle.log_audit.proofs.Common.{ℕ, sym, subst, All, IsSeating, IsSeatAt, ArePlaced}
 use Rattle.pricing_workers.proofs.SmallCosts.{small-costs}
-use Rattle.log_audit.specs.inner.Seated.{ArePlaced}
 use Rattle.log_audit.proofs.auditor.Auditor.certified.Goals as goal
 
 pub certifies-requires-clause-fits : goal.certifies-requires-clause-fits

@@ -1,7 +1,4 @@
-use Rattle.std.proofs.Common.{sym, subst}
-use Rattle.ride_model.specs.Road.{RoadMap}
-use Rattle.batch_commit.specs.inner.Table.{IsPriceable}
-use Rattle.board_core.proofs.OpenBatches.{open-priceable}
+use Rattle.log_audit.proofs.Common.{sym, subst, RoadMap, IsPriceable, open-priceable}
 use Rattle.log_audit.proofs.auditor.Auditor.commit_least.Goals as goal
 
 pub seat_batch_by-seated-requires-clause-priceable : goal.seat_batch_by-seated-requires-clause-priceable

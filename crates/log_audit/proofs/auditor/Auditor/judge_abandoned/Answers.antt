@@ -1,11 +1,4 @@
-use Rattle.std.proofs.Common.{◌≡◌, [], ◌∷◌, ◌++◌, ap, sym, ◌∙◌, subst}
-use Rattle.ride_model.specs.declared.command.Actor.TheVariants.{Desk}
-use Rattle.ride_model.specs.declared.entry.Entry.{Entry}
-use Rattle.ride_model.specs.declared.entry.Event.TheVariants.{Abandoned}
-use Rattle.ride_model.specs.State.{open_batch_numbered}
-use Rattle.board_core.specs.Recorded.{Recorded, state_of}
-use Rattle.log_audit.specs.declared.auditor.Auditor.{Auditor}
-use Rattle.log_audit.specs.inner.OpenBatches.{AreOpen}
+use Rattle.log_audit.proofs.Common.{◌≡◌, [], ◌∷◌, ◌++◌, ap, sym, ◌∙◌, subst, Desk, Entry, Abandoned, open_batch_numbered, Recorded, state_of, Auditor, AreOpen}
 use Rattle.log_audit.proofs.Judged.{auditing-on}
 use Rattle.log_audit.proofs.OpenOnes.{OpenOne, open-one, open-abandoned}
 use Rattle.log_audit.proofs.auditor.Auditor.judge_abandoned.Goals as goal

@@ -1,14 +1,4 @@
-use Rattle.std.proofs.Common.{◌≡◌, [], ◌∷◌, ◌++◌, Some, refl, sym, ◌∙◌, ap, subst}
-use Rattle.ride_model.specs.declared.entry.Entry.{Entry}
-use Rattle.ride_model.specs.Road.{IsRoadMap, RoadMap}
-use Rattle.ride_model.specs.inner.Seating.{IsBatchOver}
-use Rattle.ride_model.specs.State.{open_batch_numbered}
-use Rattle.batch_commit.specs.inner.Table.{IsPriceable, IsTableOf}
-use Rattle.board_core.specs.Recorded.{Recorded, state_of}
-use Rattle.board_core.specs.inner.Recorded.{committed_entry}
-use Rattle.log_audit.specs.declared.auditor.Auditor.{Auditor}
-use Rattle.log_audit.specs.declared.verdict.Why.TheVariants.{Outcomes, Prices, Seating}
-use Rattle.log_audit.specs.inner.OpenBatches.{AreOpen}
+use Rattle.log_audit.proofs.Common.{◌≡◌, [], ◌∷◌, ◌++◌, Some, refl, sym, ◌∙◌, ap, subst, Entry, IsRoadMap, RoadMap, IsBatchOver, open_batch_numbered, IsPriceable, IsTableOf, Recorded, state_of, committed_entry, Auditor, Outcomes, Prices, Seating, AreOpen}
 use Rattle.log_audit.proofs.SaidCommits.{Said, SolvedFacts, said_entry, seats-wrong, seats-right, prices-wrong, prices-right, solved-facts, outcomes-wrong}
 use Rattle.log_audit.proofs.Judged.{auditing-on, judged, uncommitted}
 use Rattle.log_audit.proofs.OpenOnes.{OpenOne, open-one, open-committed}

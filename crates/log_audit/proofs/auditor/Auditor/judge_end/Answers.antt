@@ -1,5 +1,4 @@
-use Rattle.std.proofs.Common.{ap, refl}
-use Rattle.board_core.specs.Recorded.{Recorded}
+use Rattle.log_audit.proofs.Common.{ap, refl, Recorded}
 use Rattle.log_audit.proofs.Judged.{auditing-on}
 use Rattle.log_audit.proofs.OpenOnes.{open-ended}
 use Rattle.log_audit.proofs.auditor.Auditor.judge_end.Goals as goal

@@ -1,11 +1,4 @@
-use Rattle.std.proofs.Common.{refl, ap, arith}
-use Rattle.ride_model.specs.declared.command.Actor.TheVariants.{Feed}
-use Rattle.ride_model.specs.declared.entry.Entry.{Entry}
-use Rattle.ride_model.specs.declared.entry.Event.TheVariants.{Fed}
-use Rattle.ride_model.specs.declared.reply.Reply.{Reply}
-use Rattle.board_core.specs.Recorded.{Recorded, state_of}
-use Rattle.board_core.specs.inner.Recorded.{fed_entry}
-use Rattle.board_core.proofs.OpenBatches.{fed-le}
+use Rattle.log_audit.proofs.Common.{refl, ap, arith, Feed, Entry, Fed, Reply, Recorded, state_of, fed_entry, fed-le}
 use Rattle.log_audit.specs.declared.verdict.Why.TheVariants.{Reply as ToReply}
 use Rattle.log_audit.proofs.Judged.{auditing-on, judged}
 use Rattle.log_audit.proofs.Legality.{fault-reply}

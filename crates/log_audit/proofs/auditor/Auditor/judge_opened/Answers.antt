@@ -1,16 +1,6 @@
-use Rattle.std.proofs.Common.{◌≡◌, ℕ, List, refl, ap, sym, subst, ◌∙◌, Ok}
-use Rattle.ride_model.specs.declared.command.Actor.TheVariants.{Desk}
-use Rattle.ride_model.specs.declared.entry.Entry.{Entry}
-use Rattle.ride_model.specs.declared.entry.Event.TheVariants.{Opened}
-use Rattle.ride_model.specs.Batch.{next_batch}
-use Rattle.ride_model.specs.Legal.{NamesBatch, versions_of}
-use Rattle.ride_model.specs.Seating.{BatchCopy}
-use Rattle.ride_model.specs.Vehicle.{ride_ids}
+use Rattle.log_audit.proofs.Common.{◌≡◌, ℕ, List, refl, ap, sym, subst, ◌∙◌, Ok, Desk, Entry, Opened, next_batch, NamesBatch, versions_of, BatchCopy, ride_ids, Recorded, state_of, opened_entry, got-next, AreOpen}
 use Rattle.board_core.specs.declared.opening.Opening.{Opening}
-use Rattle.board_core.specs.Recorded.{Recorded, state_of, opened_entry}
-use Rattle.board_core.proofs.OpenBatches.{got-next}
 use Rattle.log_audit.specs.declared.verdict.Why.TheVariants.{Batch as ToBatch}
-use Rattle.log_audit.specs.inner.OpenBatches.{AreOpen}
 use Rattle.log_audit.proofs.Judged.{auditing-on, judged}
 use Rattle.log_audit.proofs.Legality.{fault-batch}
 use Rattle.log_audit.proofs.OpenOnes.{none-open, open-opened}

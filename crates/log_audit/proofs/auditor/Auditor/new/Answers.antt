@@ -1,7 +1,4 @@
-use Rattle.std.proofs.Common.{ap, sym, ◌∙◌, subst}
-use Rattle.ride_model.specs.State.{State}
-use Rattle.ride_model.specs.Legal.{replay}
-use Rattle.log_audit.specs.inner.OpenBatches.{AreOpen}
+use Rattle.log_audit.proofs.Common.{ap, sym, ◌∙◌, subst, State, replay, AreOpen}
 use Rattle.log_audit.proofs.OpenOnes.{open-nothing}
 use Rattle.log_audit.proofs.auditor.Auditor.new.Goals as goal
 

@@ -1,8 +1,4 @@
-use Rattle.std.proofs.Common.{Some, None, cond, sym, ◌∙◌, ap}
-use Rattle.std.proofs.lemmas.Bool.{eq-eqb, ne_eqb}
-use Rattle.board_core.specs.Recorded.{state_of}
-use Rattle.board_core.proofs.OpenBatches.{none-numbered}
-use Rattle.model_laws.proofs.history_laws.EveryState.{consistent}
+use Rattle.log_audit.proofs.Common.{Some, None, cond, sym, ◌∙◌, ap, eq-eqb, ne_eqb, state_of, none-numbered, consistent}
 use Rattle.log_audit.proofs.OpenOnes.{numbered-of}
 use Rattle.log_audit.proofs.auditor.Auditor.take_numbered.Goals as goal
 

@@ -1,5 +1,5 @@
 use Rattle.std.proofs.Common.{◌≡◌}
 use Rattle.plan_trials.proofs.roads.adaptations.expect_nodes.Given as goal
 
-abbrev pub invariant-loop-node : goal.invariant-loop-node
-invariant-loop-node g l = l.scratch ≡ l.fn.scratch
+abbrev pub invariant-loop-place : goal.invariant-loop-place
+invariant-loop-place g l = l.scratch ≡ l.initial.scratch

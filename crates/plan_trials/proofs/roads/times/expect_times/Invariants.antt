@@ -2,4 +2,4 @@ use Rattle.std.proofs.Common.{◌≡◌}
 use Rattle.plan_trials.proofs.roads.times.expect_times.Given as goal
 
 abbrev pub invariant-loop-other : goal.invariant-loop-other
-invariant-loop-other g l = l.scratch ≡ l.initial.scratch
+invariant-loop-other g l = l.times ≡ l.fn.times

@@ -1,5 +1,4 @@
-use Rattle.std.proofs.Common.{◌≡◌, ◌++◌, map, take}
-use Rattle.ride_model.specs.declared.vehicle.Stop.{Stop}
+use Rattle.pricing_workers.proofs.Common.{◌≡◌, ◌++◌, map, take, Stop}
 use Rattle.pricing_workers.proofs.wanted.Wanted.add_stops.Given as goal
 
 -- the nodes of the stops so far were added, and nothing else

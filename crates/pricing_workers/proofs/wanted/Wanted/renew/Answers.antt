@@ -1,7 +1,4 @@
-use Rattle.std.proofs.Common.{sym, ◌∙◌, subst}
-use Rattle.std.specs.Prelude.{All}
-use Rattle.std.proofs.lemmas.List.Elements.{All-get_or}
-use Rattle.ride_model.specs.inner.Vehicle.{IsLawfulSomewhere}
+use Rattle.pricing_workers.proofs.Common.{sym, ◌∙◌, subst, All, All-get_or, IsLawfulSomewhere}
 use Rattle.pricing_workers.proofs.Wanting.{wanted-step}
 use Rattle.pricing_workers.proofs.wanted.Wanted.renew.Goals as goal
 

@@ -1,5 +1,4 @@
-use Rattle.std.proofs.Common.{take}
-use Rattle.pricing_workers.specs.inner.Wanted.{IsWanted}
+use Rattle.pricing_workers.proofs.Common.{take, IsWanted}
 use Rattle.pricing_workers.proofs.wanted.Wanted.renew.Given as goal
 
 -- what is wanted for the vehicles so far

@@ -1,6 +1,4 @@
-use Rattle.std.proofs.Common.{◌≡◌, [], sym, ◌∙◌, subst}
-use Rattle.link_lists.specs.inner.Family.{list_at}
-use Rattle.radix_queue.specs.inner.Buckets.{IsLowest}
+use Rattle.radix_queue.proofs.Common.{◌≡◌, [], sym, ◌∙◌, subst, list_at, IsLowest}
 use Rattle.radix_queue.proofs.Marked.{empty-from_marks, lowest-from_marks, marked-first, nil-from_first, some-from_not_none}
 use Rattle.radix_queue.proofs.buckets.Buckets.lowest.Goals as goal
 

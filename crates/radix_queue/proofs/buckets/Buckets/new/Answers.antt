@@ -1,7 +1,4 @@
-use Rattle.std.proofs.Common.{◌≡◌, ℕ, [], length, get_or, ap, ◌∙◌}
-use Rattle.std.proofs.lemmas.List.{length-replicate}
-use Rattle.link_lists.specs.inner.Family.{list_at}
-use Rattle.link_lists.proofs.Kept.{get_or-nils, no_nodes}
+use Rattle.radix_queue.proofs.Common.{◌≡◌, ℕ, [], length, get_or, ap, ◌∙◌, length-replicate, list_at, get_or-nils, no_nodes}
 use Rattle.radix_queue.proofs.Marked.{marked-none}
 use Rattle.radix_queue.proofs.buckets.Buckets.new.Goals as goal
 

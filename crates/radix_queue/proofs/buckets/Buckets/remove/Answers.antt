@@ -1,6 +1,4 @@
-use Rattle.std.proofs.Common.{sym, ◌∙◌, subst}
-use Rattle.std.specs.Prelude.{Contains}
-use Rattle.link_lists.specs.inner.Family.{list_at}
+use Rattle.radix_queue.proofs.Common.{sym, ◌∙◌, subst, Contains, list_at}
 use Rattle.radix_queue.proofs.Marked.{marked-emptied, marked-left, none-from_not_some, not_none-from_some}
 use Rattle.radix_queue.proofs.buckets.Buckets.remove.Goals as goal
 

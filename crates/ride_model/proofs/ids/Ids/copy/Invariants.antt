@@ -1,4 +1,4 @@
-use Rattle.std.proofs.Common.{◌≡◌, take}
+use Rattle.ride_model.proofs.Common.{◌≡◌, take}
 use Rattle.ride_model.proofs.ids.Ids.copy.Given as goal
 
 -- the ids so far

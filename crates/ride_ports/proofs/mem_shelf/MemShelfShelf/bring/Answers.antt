@@ -1,5 +1,4 @@
-use Rattle.std.proofs.Common.{map}
-use Rattle.ride_ports.specs.inner.MemFile.{file_state}
+use Rattle.ride_ports.proofs.Common.{map, file_state}
 use Rattle.ride_ports.proofs.ShelfLemmas.{bytes_at-of_source}
 use Rattle.ride_ports.proofs.mem_shelf.MemShelfShelf.bring.Goals as goal
 

@@ -1,6 +1,4 @@
-use Rattle.std.proofs.Common.{ℕ, length, get_or, List, refl, ap, ◌∙◌, subst, arith}
-use Rattle.ride_model.specs.declared.network.RoadArc.{RoadArc}
-use Rattle.road_times.specs.inner.Sorting.{tails_of, IsStarts, ArePlaced}
+use Rattle.road_times.proofs.Common.{ℕ, length, get_or, List, refl, ap, ◌∙◌, subst, arith, RoadArc, tails_of, IsStarts, ArePlaced}
 use Rattle.road_times.proofs.Places.{packed-is_adjacency, tails-inside}
 use Rattle.road_times.proofs.adjacency.Adjacency.new.Goals as goal
 

@@ -1,11 +1,4 @@
-use Rattle.std.proofs.Common.{◌≡◌, ◌<◌, ◌≤◌, length, sym, ap, ◌∙◌, subst, arith, set}
-use Rattle.std.specs.Prelude.{Some, None, slice_get}
-use Rattle.std.proofs.lemmas.List.{get_or-set_same, length-set}
-use Rattle.radix_queue.proofs.Counts.{key_in-within}
-use Rattle.std.proofs.lemmas.List.Elements.{All-contains}
-use Rattle.ride_model.specs.Road.{IsArc}
-use Rattle.road_times.specs.inner.Search.{IsSearch, IsRelaxed}
-use Rattle.road_times.specs.inner.Adjacency.{arc_to, neighbors_at}
+use Rattle.road_times.proofs.Common.{◌≡◌, ◌<◌, ◌≤◌, length, sym, ap, ◌∙◌, subst, arith, set, Some, None, slice_get, get_or-set_same, length-set, key_in-within, All-contains, IsArc, IsSearch, IsRelaxed, arc_to, neighbors_at}
 use Rattle.road_times.proofs.Searches.{search-settled, search-relaxed, least_fits}
 use Rattle.road_times.proofs.search.Search.advance.Goals as goal
 

@@ -1,6 +1,4 @@
-use Rattle.std.proofs.Common.{ℕ, length, ap, ◌∙◌}
-use Rattle.std.specs.Prelude.{Some}
-use Rattle.radix_queue.specs.inner.Queue.{lesser_key}
+use Rattle.road_times.proofs.Common.{ℕ, length, ap, ◌∙◌, Some, lesser_key}
 use Rattle.radix_queue.specs.inner.Buckets.{key_in}
 use Rattle.road_times.proofs.Lists.{all_none}
 use Rattle.road_times.proofs.Searches.{search-begun}

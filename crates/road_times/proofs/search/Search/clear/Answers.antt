@@ -1,9 +1,5 @@
-use Rattle.std.proofs.Common.{◌≡◌, ℕ, length, subst, sym, ap, ◌∙◌, arith}
-use Rattle.std.specs.Prelude.{Option, None}
-use Rattle.std.proofs.lemmas.List.{length-replicate}
+use Rattle.road_times.proofs.Common.{◌≡◌, ℕ, length, subst, sym, ap, ◌∙◌, arith, Option, None, length-replicate, Queue, IsListed}
 use Rattle.road_times.proofs.Lists.{IsLeft, left-none, listed-none}
-use Rattle.radix_queue.specs.inner.Queue.{Queue}
-use Rattle.road_times.specs.inner.Search.{IsListed}
 use Rattle.road_times.proofs.search.Search.clear.Goals as goal
 
 abbrev no_key : Option ℕ

@@ -1,4 +1,4 @@
-use Rattle.std.proofs.Common.{◌≡◌, length}
+use Rattle.road_times.proofs.Common.{◌≡◌, length}
 use Rattle.road_times.proofs.Lists.{IsLeft}
 use Rattle.road_times.proofs.search.Search.clear.Given as goal
 

@@ -1,8 +1,4 @@
-use Rattle.std.proofs.Common.{◌≡◌, ◌<◌, inl, inr, length, get_or, set, sym, ◌∙◌, subst, arith}
-use Rattle.std.specs.Prelude.{None, map}
-use Rattle.std.proofs.lemmas.Bool.{cases_eq}
-use Rattle.std.proofs.lemmas.List.{get_or-set_same, get_or-set_other, get_or-map, get_or_default, same_lists, length-map}
-use Rattle.ride_model.specs.Road.{travel}
+use Rattle.road_times.proofs.Common.{◌≡◌, ◌<◌, inl, inr, length, get_or, set, sym, ◌∙◌, subst, arith, None, map, cases_eq, get_or-set_same, get_or-set_other, get_or-map, get_or_default, same_lists, length-map, travel}
 use Rattle.road_times.proofs.search.Search.row.Goals as goal
 
 pub loop-place-preserved : goal.loop-place-preserved

@@ -1,8 +1,4 @@
-use Rattle.std.proofs.Common.{◌≡◌, ℕ, ◌+◌, ◌<◌, length, get_or}
-use Rattle.std.specs.Prelude.{None}
-use Rattle.ride_model.specs.Road.{RoadMap, IsRoadMap, travel}
-use Rattle.road_times.specs.inner.Adjacency.{IsAdjacency}
-use Rattle.road_times.specs.inner.Search.{IsReady, IsOver}
+use Rattle.road_times.proofs.Common.{◌≡◌, ℕ, ◌+◌, ◌<◌, length, get_or, None, RoadMap, IsRoadMap, travel, IsAdjacency, IsReady, IsOver}
 use Rattle.road_times.proofs.search.Search.row.Given as goal
 
 abbrev pub invariant-loop-place : goal.invariant-loop-place

@@ -1,6 +1,4 @@
-use Rattle.std.proofs.Common.{arith, ◌∙◌, sym}
-use Rattle.std.specs.Prelude.{Some}
-use Rattle.std.proofs.lemmas.List.{length-set}
+use Rattle.road_times.proofs.Common.{arith, ◌∙◌, sym, Some, length-set}
 use Rattle.road_times.proofs.Lists.{listed-settled, room_for_one}
 use Rattle.road_times.proofs.search.Search.settle.Goals as goal
 

@@ -1,8 +1,4 @@
-use Rattle.std.proofs.Common.{◌≡◌, ◌<◌, length, sym, ap, ◌∙◌, arith}
-use Rattle.std.specs.Prelude.{None, not}
-use Rattle.std.proofs.lemmas.List.{get_or_read}
-use Rattle.model_laws.proofs.plain.Options.{none_from_is_some}
-use Rattle.road_times.specs.inner.Search.{label_of}
+use Rattle.road_times.proofs.Common.{◌≡◌, ◌<◌, length, sym, ap, ◌∙◌, arith, None, not, get_or_read, none_from_is_some, label_of}
 use Rattle.road_times.proofs.Lists.{some_from_is_some}
 use Rattle.road_times.proofs.Searches.{label_is_travel, nothing_is_left}
 use Rattle.road_times.proofs.search.Search.time_to.Goals as goal

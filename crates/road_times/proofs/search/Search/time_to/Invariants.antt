@@ -1,6 +1,4 @@
-use Rattle.std.proofs.Common.{◌≡◌, ℕ, ◌-◌, length}
-use Rattle.ride_model.specs.Road.{RoadMap}
-use Rattle.road_times.specs.inner.Search.{IsReady, IsOver}
+use Rattle.road_times.proofs.Common.{◌≡◌, ℕ, ◌-◌, length, RoadMap, IsReady, IsOver}
 use Rattle.road_times.proofs.search.Search.time_to.Given as goal
 
 abbrev pub invariant-loop-self : goal.invariant-loop-self

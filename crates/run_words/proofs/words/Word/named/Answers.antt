@@ -1,5 +1,4 @@
-use Rattle.std.proofs.Common.{refl}
-use Rattle.run_words.specs.Words.{word_of}
+use Rattle.run_words.proofs.Common.{refl, word_of}
 use Rattle.run_words.proofs.FirstWord.{differs}
 use Rattle.run_words.proofs.words.Word.named.Goals as goal
 

@@ -1,8 +1,4 @@
-use Rattle.std.proofs.Common.{◌∷◌, [], length, refl, sym, ap, arith, length-append}
-use Rattle.ride_model.specs.declared.command.Command.{Command}
-use Rattle.ride_model.specs.History.{fed_commands}
-use Rattle.ride_model.specs.State.{State}
-use Rattle.board_core.specs.Recorded.{Recorded, state_of}
+use Rattle.session_run.proofs.Common.{◌∷◌, [], length, refl, sym, ap, arith, length-append, Command, fed_commands, State, Recorded, state_of}
 use Rattle.session_run.proofs.Answering.{applied-commands}
 use Rattle.session_run.proofs.DriverReports.{report-asks_for_none}
 use Rattle.session_run.proofs.DrillSteps.{reporting-done, reporting-none, reporting-then}

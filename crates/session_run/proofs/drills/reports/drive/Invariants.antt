@@ -1,6 +1,4 @@
-use Rattle.std.proofs.Common.{◌≡◌, ◌+◌, length}
-use Rattle.ride_model.specs.History.{fed_commands}
-use Rattle.session_run.specs.inner.Drills.{IsReporting}
+use Rattle.session_run.proofs.Common.{◌≡◌, ◌+◌, length, fed_commands, IsReporting}
 use Rattle.session_run.proofs.drills.reports.drive.Given as goal
 
 -- the driver has reported so far, each time one report less is left

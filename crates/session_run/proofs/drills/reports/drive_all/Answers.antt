@@ -1,9 +1,4 @@
-use Rattle.std.proofs.Common.{◌∷◌, [], length, map, sym, subst, ap, arith}
-use Rattle.std.specs.List.{range_with_len}
-use Rattle.std.proofs.lemmas.List.FromFn.{map-range_with_len_more}
-use Rattle.ride_model.specs.Drill.{drive}
-use Rattle.ride_model.specs.State.{State}
-use Rattle.session_run.specs.inner.Drills.{GoesBy}
+use Rattle.session_run.proofs.Common.{◌∷◌, [], length, map, sym, subst, ap, arith, range_with_len, map-range_with_len_more, drive, State, GoesBy}
 use Rattle.session_run.proofs.DrillSteps.{goes-none, goes-then}
 use Rattle.session_run.proofs.drills.reports.drive_all.Goals as goal
 

@@ -1,7 +1,4 @@
-use Rattle.ride_model.specs.Drill.{drive}
-use Rattle.std.proofs.Common.{map}
-use Rattle.std.specs.List.{range_with_len}
-use Rattle.session_run.specs.inner.Drills.{GoesBy}
+use Rattle.session_run.proofs.Common.{drive, map, range_with_len, GoesBy}
 use Rattle.session_run.proofs.drills.reports.drive_all.Given as goal
 
 -- the drivers of the first vehicles have reported

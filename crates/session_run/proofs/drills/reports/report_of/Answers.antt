@@ -1,8 +1,4 @@
-use Rattle.std.proofs.Common.{◌≡◌, Some, length, refl, sym, ap, ◌∙◌, arith}
-use Rattle.std.specs.Prelude.{slice_get}
-use Rattle.std.proofs.lemmas.Option.{slice_get_read}
-use Rattle.ride_model.specs.Drill.{next_report}
-use Rattle.board_core.specs.Recorded.{Recorded, state_of}
+use Rattle.session_run.proofs.Common.{◌≡◌, Some, length, refl, sym, ap, ◌∙◌, arith, slice_get, slice_get_read, next_report, Recorded, state_of}
 use Rattle.session_run.proofs.DrillFleet.{as-many-vehicles, vehicle-stands, report-is-spelled}
 use Rattle.session_run.proofs.drills.reports.report_of.Goals as goal
 

@@ -1,5 +1,4 @@
-use Rattle.std.proofs.Common.{ap, ◌∙◌, arith}
-use Rattle.board_core.specs.Recorded.{Recorded}
+use Rattle.session_run.proofs.Common.{ap, ◌∙◌, arith, Recorded}
 use Rattle.session_run.proofs.DrillEnds.{desk-may_end_whole, drilled, second-not_ended}
 use Rattle.session_run.proofs.drills.walk.end_all.Goals as goal
 

@@ -1,5 +1,4 @@
-use Rattle.std.proofs.Common.{Bool, sym, subst, ◌∙◌}
-use Rattle.session_run.specs.inner.Running.{Answers}
+use Rattle.session_run.proofs.Common.{Bool, sym, subst, ◌∙◌, Answers}
 use Rattle.session_run.proofs.DrillSteps.{give-goes}
 use Rattle.session_run.proofs.drills.walk.give.Goals as goal
 

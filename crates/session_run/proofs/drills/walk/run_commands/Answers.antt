@@ -1,13 +1,4 @@
-use Rattle.std.proofs.Common.{◌≡◌, ℕ, ◌+◌, List, [], length, take, refl, ap, sym, subst, ◌∙◌, arith}
-use Rattle.std.specs.List.{flat_map}
-use Rattle.std.proofs.lemmas.List.{take_all}
-use Rattle.ride_model.specs.declared.command.Command.{Command}
-use Rattle.ride_model.specs.declared.entry.Entry.{Entry}
-use Rattle.ride_model.specs.Drill.{Follows}
-use Rattle.ride_model.specs.Drill.Follows.{done}
-use Rattle.ride_model.specs.History.{entries_of, fed_commands}
-use Rattle.city_maker.specs.Steps.{steps_with}
-use Rattle.session_run.specs.inner.Drills.{GoesBy}
+use Rattle.session_run.proofs.Common.{◌≡◌, ℕ, ◌+◌, List, [], length, take, refl, ap, sym, subst, ◌∙◌, arith, flat_map, take_all, Command, Entry, Follows, done, entries_of, fed_commands, steps_with, GoesBy}
 use Rattle.session_run.proofs.DrillSteps.{goes-none, goes-then, steps-more}
 use Rattle.session_run.proofs.drills.walk.run_commands.Goals as goal
 

@@ -1,7 +1,4 @@
-use Rattle.std.proofs.Common.{◌≡◌, take}
-use Rattle.std.specs.List.{flat_map}
-use Rattle.city_maker.specs.Steps.{steps_with}
-use Rattle.session_run.specs.inner.Drills.{GoesBy}
+use Rattle.session_run.proofs.Common.{◌≡◌, take, flat_map, steps_with, GoesBy}
 use Rattle.session_run.proofs.drills.walk.run_commands.Given as goal
 
 -- the steps of the first commands were taken

@@ -1,10 +1,4 @@
-use Rattle.std.proofs.Common.{◌≡◌, ◌∷◌, [], map, ap, sym, subst, ◌∙◌, arith, length}
-use Rattle.std.specs.List.{range_with_len}
-use Rattle.std.proofs.lemmas.Result.{on_ok_weaker}
-use Rattle.ride_model.specs.Drill.{drive, give}
-use Rattle.ride_model.specs.State.{State}
-use Rattle.city_maker.specs.Steps.{steps_with}
-use Rattle.session_run.specs.inner.Drills.{GoesBy}
+use Rattle.session_run.proofs.Common.{◌≡◌, ◌∷◌, [], map, ap, sym, subst, ◌∙◌, arith, length, range_with_len, on_ok_weaker, drive, give, State, steps_with, GoesBy}
 use Rattle.session_run.proofs.DrillSteps.{goes-then, steps-of-clock, steps-of-other}
 use Rattle.session_run.proofs.drills.walk.take_steps.Goals as goal
 use Rattle.session_run.proofs.drills.walk.take_steps.Goals.{in-Clock, in_default}

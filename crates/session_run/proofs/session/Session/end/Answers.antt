@@ -1,8 +1,4 @@
-use Rattle.std.proofs.Common.{length, sym, ap, subst, ◌∙◌}
-use Rattle.board_core.specs.Recorded.{Recorded}
-use Rattle.session_run.specs.inner.SessionState.{SessionState}
-use Rattle.session_run.specs.inner.Writing.{reach_of}
-use Rattle.session_run.specs.inner.Reading.{HasTold, HasToldAll}
+use Rattle.session_run.proofs.Common.{length, sym, ap, subst, ◌∙◌, Recorded, SessionState, reach_of, HasTold, HasToldAll}
 use Rattle.session_run.proofs.ToldSheets.{told-flushed}
 use Rattle.session_run.proofs.session.Session.end.Goals as goal
 

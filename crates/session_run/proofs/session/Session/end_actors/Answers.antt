@@ -1,8 +1,4 @@
-use Rattle.std.proofs.Common.{◌≡◌, ap, sym, subst, ◌∙◌}
-use Rattle.ride_model.specs.declared.entry.Ending.TheVariants.{Whole}
-use Rattle.board_core.specs.Recorded.{Recorded, state_of}
-use Rattle.session_run.specs.inner.SessionState.{SessionState}
-use Rattle.session_run.specs.inner.Running.{IsSession}
+use Rattle.session_run.proofs.Common.{◌≡◌, ap, sym, subst, ◌∙◌, Whole, Recorded, state_of, SessionState, IsSession}
 use Rattle.session_run.proofs.Ends.{desk-may_end}
 use Rattle.session_run.proofs.session.Session.end_actors.Goals as goal
 use Rattle.session_run.proofs.session.Session.end_actors.Goals.{then-whole, else-whole}

@@ -1,9 +1,4 @@
-use Rattle.std.proofs.Common.{◌++◌, ◌-◌, List, ℕ, length, take, drop, ap, sym, subst, ◌∙◌}
-use Rattle.ride_model.specs.declared.entry.Entry.{Entry}
-use Rattle.ride_model.specs.Text.{text_of, entry_lines}
-use Rattle.line_text.specs.inner.text_page.Output.{HasPut}
-use Rattle.session_run.specs.inner.SessionState.{SessionState}
-use Rattle.session_loops.proofs.LogLemmas.{text_of-rest}
+use Rattle.session_run.proofs.Common.{◌++◌, ◌-◌, List, ℕ, length, take, drop, ap, sym, subst, ◌∙◌, Entry, text_of, entry_lines, HasPut, SessionState, text_of-rest}
 use Rattle.session_run.proofs.session.Session.log_rest.Goals as goal
 
 pub returns-clause-told : goal.returns-clause-told

@@ -1,14 +1,4 @@
-use Rattle.std.proofs.Common.{◌≡◌, ℕ, Option, Some, None, cond, [], ◌++◌, take, sym, ap, subst, ◌∙◌}
-use Rattle.std.specs.Prelude.{◌||◌, not}
-use Rattle.ride_model.specs.Text.{text_of}
-use Rattle.board_core.specs.Recorded.{Recorded}
-use Rattle.idle_moves.specs.AheadText.{sheet_lines}
-use Rattle.line_text.specs.inner.text_page.Output.{HasPut}
-use Rattle.session_run.specs.inner.SessionState.{SessionState}
-use Rattle.session_run.specs.inner.Writing.{reach_of}
-use Rattle.session_run.specs.inner.Planning.{is_whole, sheets_in}
-use Rattle.session_run.specs.inner.Reading.{HasToldBy}
-use Rattle.session_run.specs.inner.Telling.{GoesOnWith}
+use Rattle.session_run.proofs.Common.{◌≡◌, ℕ, Option, Some, None, cond, [], ◌++◌, take, sym, ap, subst, ◌∙◌, ◌||◌, not, text_of, Recorded, sheet_lines, HasPut, SessionState, reach_of, is_whole, sheets_in, HasToldBy, GoesOnWith}
 use Rattle.session_run.proofs.ToldSheets.{told-first, told-more}
 use Rattle.session_run.proofs.session.Session.tell.Goals as goal
 

@@ -1,10 +1,4 @@
-use Rattle.std.proofs.Common.{◌≡◌, ℕ, [], ◌∷◌, Option, Some, None, sym, ap, subst, ◌∙◌}
-use Rattle.ride_model.specs.declared.command.Actor.TheVariants.{Desk, Feed}
-use Rattle.board_core.specs.Recorded.{Recorded, end_entry}
-use Rattle.session_run.specs.inner.SessionState.{SessionState}
-use Rattle.session_run.specs.inner.Writing.{reach_of}
-use Rattle.session_run.specs.inner.Reading.{HasToldBy, HasToldAllBy}
-use Rattle.session_run.specs.inner.Telling.{GoesOnTo}
+use Rattle.session_run.proofs.Common.{◌≡◌, ℕ, [], ◌∷◌, Option, Some, None, sym, ap, subst, ◌∙◌, Desk, Feed, Recorded, end_entry, SessionState, reach_of, HasToldBy, HasToldAllBy, GoesOnTo}
 use Rattle.session_run.proofs.ToldSheets.{told-first, told-last}
 use Rattle.session_run.proofs.session.Session.tell_end.Goals as goal
 

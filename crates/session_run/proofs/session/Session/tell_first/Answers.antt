@@ -1,11 +1,6 @@
-use Rattle.std.proofs.Common.{◌≡◌, ℕ, [], List, Option, refl, ap, sym, subst, ◌∙◌, append-nil}
-use Rattle.ride_model.specs.Text.{head_line, text_of}
+use Rattle.session_run.proofs.Common.{◌≡◌, ℕ, [], List, Option, refl, ap, sym, subst, ◌∙◌, append-nil, text_of, HasPut, SessionState, reach_of, HasToldBy, text_of-none}
+use Rattle.ride_model.specs.Text.{head_line}
 use Rattle.idle_moves.specs.AheadText.{head_line as head_of_sheets}
-use Rattle.line_text.specs.inner.text_page.Output.{HasPut}
-use Rattle.session_run.specs.inner.SessionState.{SessionState}
-use Rattle.session_run.specs.inner.Writing.{reach_of}
-use Rattle.session_run.specs.inner.Reading.{HasToldBy}
-use Rattle.session_loops.proofs.LogLemmas.{text_of-none}
 use Rattle.session_run.proofs.session.Session.tell_first.Goals as goal
 
 pub returns-in-Log-clause-told : goal.returns-in-Log-clause-told

@@ -1,7 +1,4 @@
-use Rattle.std.proofs.Common.{◌≡◌, false, cond, [], ◌++◌, sym, ap, subst, ◌∙◌}
-use Rattle.idle_moves.specs.AheadText.{last_line}
-use Rattle.line_text.specs.inner.text_page.Output.{HasPut}
-use Rattle.session_run.specs.inner.SessionState.{SessionState}
+use Rattle.session_run.proofs.Common.{◌≡◌, false, cond, [], ◌++◌, sym, ap, subst, ◌∙◌, last_line, HasPut, SessionState}
 use Rattle.session_run.proofs.session.Session.tell_last.Goals as goal
 
 pub returns-then-not-self-clause-told : goal.returns-then-not-self-clause-told

@@ -1,9 +1,4 @@
-use Rattle.std.proofs.Common.{◌≡◌, ℕ, List, false, cond, [], ◌++◌, sym, ap, subst, ◌∙◌, append-nil}
-use Rattle.idle_moves.specs.declared.moves.MoveSheet.{MoveSheet}
-use Rattle.idle_moves.specs.AheadText.{sheet_line, sheet_lines}
-use Rattle.line_text.specs.inner.text_page.Output.{HasPut}
-use Rattle.session_run.specs.inner.SessionState.{SessionState}
-use Rattle.session_run.specs.inner.Planning.{sheets_in}
+use Rattle.session_run.proofs.Common.{◌≡◌, ℕ, List, false, cond, [], ◌++◌, sym, ap, subst, ◌∙◌, append-nil, MoveSheet, sheet_line, sheet_lines, HasPut, SessionState, sheets_in}
 use Rattle.session_run.proofs.session.Session.tell_sheet.Goals as goal
 
 pub returns-in-Some-clause-told : goal.returns-in-Some-clause-told

@@ -1,7 +1,4 @@
-use Rattle.std.proofs.Common.{sym, subst}
-use Rattle.session_run.specs.inner.SessionState.{SessionState}
-use Rattle.session_run.specs.inner.Writing.{reach_of}
-use Rattle.session_run.specs.inner.Reading.{HasTold}
+use Rattle.session_run.proofs.Common.{sym, subst, SessionState, reach_of, HasTold}
 use Rattle.session_run.proofs.ToldSheets.{told-written}
 use Rattle.session_run.proofs.session.Session.write_told.Goals as goal
 

@@ -1,7 +1,4 @@
-use Rattle.std.proofs.Common.{◌≤◌, List, length, sym, ◌∙◌, ap, subst}
-use Rattle.std.specs.Prelude.{All}
-use Rattle.ride_model.specs.declared.vehicle.Stop.{Stop}
-use Rattle.promises.proofs.Visits.{length-times, times-soon}
+use Rattle.slack_tables.proofs.Common.{◌≤◌, List, length, sym, ◌∙◌, ap, subst, All, Stop, length-times, times-soon}
 use Rattle.slack_tables.proofs.slack.Slack.of.Goals as goal
 
 pub trips_of-trips-requires-clause-one_each : goal.trips_of-trips-requires-clause-one_each

@@ -1,4 +1,4 @@
-use Rattle.std.proofs.Common.{sym, ◌∙◌}
+use Rattle.trip_log.proofs.Common.{sym, ◌∙◌}
 use Rattle.trip_log.proofs.CompareLemmas.{seen-more, taken-same}
 use Rattle.trip_log.proofs.comparison.LineSinkSink.write.Goals as goal
 

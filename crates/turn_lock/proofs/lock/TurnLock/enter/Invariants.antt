@@ -1,4 +1,4 @@
-use Rattle.std.proofs.Common.{◌≡◌}
+use Rattle.turn_lock.proofs.Common.{◌≡◌}
 use Rattle.turn_lock.specs.Passes.{IsPassOf, knowledge}
 use Rattle.turn_lock.proofs.lock.TurnLock.enter.Given as goal
 

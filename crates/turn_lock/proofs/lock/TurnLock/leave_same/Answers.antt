@@ -1,5 +1,4 @@
-use Rattle.std.proofs.Common.{ap, ◌∙◌, arith}
-use Rattle.turn_lock.specs.inner.Steps.{slots_of}
+use Rattle.turn_lock.proofs.Common.{ap, ◌∙◌, arith, slots_of}
 use Rattle.turn_lock.proofs.Leaving.{hands_on, refilled}
 use Rattle.turn_lock.proofs.lock.TurnLock.leave_same.Goals as goal
 

@@ -1,5 +1,4 @@
-use Rattle.std.proofs.Common.{[], ◌∷◌, Some, refl, ap, ◌∙◌, arith}
-use Rattle.turn_lock.specs.inner.Steps.{slots_of, with_note}
+use Rattle.turn_lock.proofs.Common.{[], ◌∷◌, Some, refl, ap, ◌∙◌, arith, slots_of, with_note}
 use Rattle.turn_lock.proofs.Leaving.{notes, hands_on, refilled, has_noted}
 use Rattle.turn_lock.proofs.lock.TurnLock.leave_with.Goals as goal
 

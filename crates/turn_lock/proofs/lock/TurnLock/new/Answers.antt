@@ -1,7 +1,4 @@
-use Rattle.std.proofs.Common.{ℕ, List, Option, Some, [], ◌∷◌, ◌++◌, refl, sym, ap, subst, ◌∙◌}
-use Rattle.atomic_table.specs.Table.{opening}
-use Rattle.turn_lock.specs.inner.Rule.{IsKept}
-use Rattle.turn_lock.specs.inner.Steps.{first_view}
+use Rattle.turn_lock.proofs.Common.{ℕ, List, Option, Some, [], ◌∷◌, ◌++◌, refl, sym, ap, subst, ◌∙◌, opening, IsKept, first_view}
 use Rattle.turn_lock.proofs.Entering.{starts}
 use Rattle.turn_lock.proofs.lock.TurnLock.new.Goals as goal
 

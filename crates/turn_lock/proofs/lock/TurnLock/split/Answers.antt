@@ -1,4 +1,4 @@
-use Rattle.std.proofs.Common.{arith}
+use Rattle.turn_lock.proofs.Common.{arith}
 use Rattle.turn_lock.proofs.Joining.{splits}
 use Rattle.turn_lock.proofs.lock.TurnLock.split.Goals as goal
 

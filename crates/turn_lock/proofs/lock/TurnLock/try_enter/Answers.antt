@@ -1,5 +1,4 @@
-use Rattle.std.proofs.Common.{Some, ap, ◌∙◌, arith}
-use Rattle.turn_lock.specs.inner.Steps.{slots_of}
+use Rattle.turn_lock.proofs.Common.{Some, ap, ◌∙◌, arith, slots_of}
 use Rattle.turn_lock.proofs.Entering.{grabs, holds_slot}
 use Rattle.turn_lock.proofs.Joining.{looks}
 use Rattle.turn_lock.proofs.lock.TurnLock.try_enter.Goals as goal

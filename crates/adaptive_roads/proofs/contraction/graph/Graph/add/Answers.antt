@@ -1,8 +1,4 @@
-use Rattle.std.proofs.Common.{◌≡◌, List, [], ◌∷◌, ◌++◌, length, suc, set, sym, ◌∙◌, ap, subst, arith}
-use Rattle.std.proofs.lemmas.List.{get_or_read, length_push}
-use Rattle.ride_model.specs.declared.network.RoadArc.{RoadArc}
-use Rattle.adaptive_roads.specs.declared.contraction.graph.Chain.{Chain}
-use Rattle.adaptive_roads.specs.inner.contraction.Graph.{IsGraphOf}
+use Rattle.adaptive_roads.proofs.Common.{◌≡◌, List, [], ◌∷◌, ◌++◌, length, suc, set, sym, ◌∙◌, ap, subst, arith, get_or_read, length_push, RoadArc, Chain, IsGraphOf}
 use Rattle.adaptive_roads.proofs.contraction.GraphSteps.{graph-pushed}
 use Rattle.adaptive_roads.proofs.contraction.graph.Graph.add.Goals as goal
 

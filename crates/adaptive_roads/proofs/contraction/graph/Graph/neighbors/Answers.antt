@@ -1,8 +1,4 @@
-use Rattle.std.proofs.Common.{◌≡◌, ◌-◌, suc, [], ◌∷◌, ◌++◌, refl, sym, ap, ◌∙◌, subst, arith}
-use Rattle.std.proofs.lemmas.Bool.{false≢true}
-use Rattle.ride_model.specs.declared.network.RoadArc.{RoadArc}
-use Rattle.adaptive_roads.specs.inner.contraction.Graph.{firsts_in, arc_at, neighbor_of, IsOnward}
-use Rattle.adaptive_roads.specs.inner.contraction.Levels.{level_in}
+use Rattle.adaptive_roads.proofs.Common.{◌≡◌, ◌-◌, suc, [], ◌∷◌, ◌++◌, refl, sym, ap, ◌∙◌, subst, arith, false≢true, RoadArc, firsts_in, arc_at, neighbor_of, IsOnward, level_in}
 use Rattle.adaptive_roads.proofs.contraction.Collecting.{IsCollecting, chains_of, collecting-begun, collecting-passed, collecting-pushed}
 use Rattle.adaptive_roads.proofs.contraction.graph.Graph.neighbors.Goals as goal
 

@@ -1,7 +1,4 @@
-use Rattle.std.proofs.Common.{◌≡◌, set, sym, ap, ◌∙◌, subst, arith}
-use Rattle.std.proofs.lemmas.List.{get_or_read}
-use Rattle.adaptive_roads.specs.declared.contraction.graph.Chain.{Chain}
-use Rattle.adaptive_roads.specs.inner.contraction.Graph.{no_chain, chain_at, next_of, relinked, IsGraphOf}
+use Rattle.adaptive_roads.proofs.Common.{◌≡◌, set, sym, ap, ◌∙◌, subst, arith, get_or_read, Chain, no_chain, chain_at, next_of, relinked, IsGraphOf}
 use Rattle.adaptive_roads.proofs.contraction.Pruning.{graph-passed}
 use Rattle.adaptive_roads.proofs.contraction.graph.Graph.pass_over.Goals as goal
 

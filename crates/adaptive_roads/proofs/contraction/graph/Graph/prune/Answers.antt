@@ -1,6 +1,4 @@
-use Rattle.std.proofs.Common.{◌-◌, length, get_or, ap, arith}
-use Rattle.ride_model.specs.declared.network.RoadArc.{RoadArc}
-use Rattle.adaptive_roads.specs.inner.contraction.Graph.{arc_at, chain_at, next_of, firsts_in, IsLive}
+use Rattle.adaptive_roads.proofs.Common.{◌-◌, length, get_or, ap, arith, RoadArc, arc_at, chain_at, next_of, firsts_in, IsLive}
 use Rattle.adaptive_roads.proofs.contraction.ChainSteps.{first-le}
 use Rattle.adaptive_roads.proofs.contraction.Collecting.{chains_of, arc-fits}
 use Rattle.adaptive_roads.proofs.contraction.Pruning.{same-none}

@@ -1,5 +1,4 @@
-use Rattle.std.proofs.Common.{◌≤◌, length}
-use Rattle.adaptive_roads.specs.inner.contraction.Graph.{IsGraph, IsSameGraph}
+use Rattle.adaptive_roads.proofs.Common.{◌≤◌, length, IsGraph, IsSameGraph}
 use Rattle.adaptive_roads.proofs.contraction.graph.Graph.prune.Given as goal
 
 abbrev pub invariant-chain : goal.invariant-chain

@@ -1,5 +1,4 @@
-use Rattle.std.proofs.Common.{◌+◌, refl}
-use Rattle.adaptive_roads.specs.declared.contraction.witness.Witness.{Witness}
+use Rattle.adaptive_roads.proofs.Common.{◌+◌, refl, Witness}
 use Rattle.adaptive_roads.proofs.contraction.Witnesses.{roomy-begun, witness-begun}
 use Rattle.adaptive_roads.proofs.contraction.witness.Witness.begin.Goals as goal
 

@@ -1,4 +1,4 @@
-use Rattle.std.proofs.Common.{refl}
+use Rattle.adaptive_roads.proofs.Common.{refl}
 use Rattle.adaptive_roads.proofs.contraction.Witnesses.{witness-improved}
 use Rattle.adaptive_roads.proofs.contraction.witness.Witness.improve.Goals as goal
 

@@ -1,9 +1,4 @@
-use Rattle.std.proofs.Common.{◌≡◌, ◌-◌, ◌+◌, suc, get_or, refl, sym, ap, ◌∙◌, subst, arith}
-use Rattle.road_times.specs.declared.side.Side.TheVariants.{Out}
-use Rattle.ride_model.specs.declared.network.RoadArc.{RoadArc}
-use Rattle.road_times.specs.inner.Sorting.{no_arc}
-use Rattle.adaptive_roads.specs.inner.contraction.Levels.{level_in}
-use Rattle.adaptive_roads.specs.inner.contraction.Witness.{IsFound}
+use Rattle.adaptive_roads.proofs.Common.{◌≡◌, ◌-◌, ◌+◌, suc, get_or, refl, sym, ap, ◌∙◌, subst, arith, Out, RoadArc, no_arc, level_in, IsFound}
 use Rattle.adaptive_roads.proofs.contraction.Collecting.{IsCursor, cursor-first, cursor-next}
 use Rattle.adaptive_roads.proofs.contraction.Witnesses.{found-onward}
 use Rattle.adaptive_roads.proofs.contraction.witness.Witness.relax.Goals as goal

@@ -1,6 +1,4 @@
-use Rattle.std.proofs.Common.{◌≡◌, ℕ}
-use Rattle.road_times.specs.declared.side.Side.TheVariants.{Out}
-use Rattle.adaptive_roads.specs.inner.contraction.Witness.{IsFound, IsRoomy, IsWitness}
+use Rattle.adaptive_roads.proofs.Common.{◌≡◌, ℕ, Out, IsFound, IsRoomy, IsWitness}
 use Rattle.adaptive_roads.proofs.contraction.Collecting.{IsCursor}
 use Rattle.adaptive_roads.proofs.contraction.witness.Witness.relax.Given as goal
 

@@ -1,4 +1,4 @@
-use Rattle.std.proofs.Common.{refl}
+use Rattle.adaptive_roads.proofs.Common.{refl}
 use Rattle.adaptive_roads.proofs.contraction.Witnesses.{found-source}
 use Rattle.adaptive_roads.proofs.contraction.witness.Witness.search.Goals as goal
 

@@ -1,4 +1,4 @@
-use Rattle.adaptive_roads.specs.inner.contraction.Witness.{IsRoomy, IsWitness}
+use Rattle.adaptive_roads.proofs.Common.{IsRoomy, IsWitness}
 use Rattle.adaptive_roads.proofs.contraction.witness.Witness.search.Given as goal
 
 abbrev pub invariant-settling : goal.invariant-settling

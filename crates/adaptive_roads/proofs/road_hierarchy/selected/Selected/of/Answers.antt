@@ -1,9 +1,4 @@
-use Rattle.std.proofs.Common.{◌≡◌, ℕ, ◌<◌, Bool, List, length, sym, arith, ◌∙◌, ap, subst}
-use Rattle.std.specs.Prelude.{map, All}
-use Rattle.std.proofs.lemmas.List.{length-map}
-use Rattle.std.proofs.lemmas.List.Elements.{All-from_get_or}
-use Rattle.adaptive_roads.specs.inner.contraction.Levels.{level_in}
-use Rattle.adaptive_roads.specs.inner.road_hierarchy.Marks.{IsMarked, node_at}
+use Rattle.adaptive_roads.proofs.Common.{◌≡◌, ℕ, ◌<◌, Bool, List, length, sym, arith, ◌∙◌, ap, subst, map, All, length-map, All-from_get_or, level_in, IsMarked, node_at}
 use Rattle.adaptive_roads.proofs.road_hierarchy.Selecting.{wanted-read}
 use Rattle.adaptive_roads.proofs.road_hierarchy.Choosing.{selecting-none, wanted-placed, places-laid_out, selection-made}
 use Rattle.adaptive_roads.proofs.road_hierarchy.selected.Selected.of.Goals as goal

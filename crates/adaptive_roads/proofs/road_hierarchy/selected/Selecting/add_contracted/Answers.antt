@@ -1,8 +1,4 @@
-use Rattle.std.proofs.Common.{◌≡◌, ◌+◌, ◌-◌, ◌<◌, List, [], ◌∷◌, ◌++◌, ℕ, length, get_or, set, ◌∙◌, ap, subst, arith}
-use Rattle.adaptive_roads.specs.inner.contraction.Levels.{level_in}
-use Rattle.adaptive_roads.specs.inner.road_hierarchy.Links.{IsLinkBy}
-use Rattle.adaptive_roads.specs.inner.road_hierarchy.Marks.{IsMarked, node_at}
-use Rattle.adaptive_roads.specs.inner.road_hierarchy.Selection.{IsSelectingOf, IsFrom}
+use Rattle.adaptive_roads.proofs.Common.{◌≡◌, ◌+◌, ◌-◌, ◌<◌, List, [], ◌∷◌, ◌++◌, ℕ, length, get_or, set, ◌∙◌, ap, subst, arith, level_in, IsLinkBy, IsMarked, node_at, IsSelectingOf, IsFrom}
 use Rattle.adaptive_roads.proofs.road_hierarchy.Selecting.{selecting-few}
 use Rattle.adaptive_roads.proofs.road_hierarchy.Choosing.{contracted-added, part-inside}
 use Rattle.adaptive_roads.proofs.road_hierarchy.selected.Selecting.add_contracted.Goals as goal

@@ -1,5 +1,4 @@
-use Rattle.std.proofs.Common.{◌≤◌, length}
-use Rattle.adaptive_roads.specs.inner.road_hierarchy.Selection.{IsSelectingOf, IsFrom}
+use Rattle.adaptive_roads.proofs.Common.{◌≤◌, length, IsSelectingOf, IsFrom}
 use Rattle.adaptive_roads.proofs.road_hierarchy.selected.Selecting.add_contracted.Given as goal
 
 abbrev pub invariant-loop-level : goal.invariant-loop-level

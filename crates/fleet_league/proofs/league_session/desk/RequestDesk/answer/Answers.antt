@@ -1,9 +1,4 @@
-use Rattle.std.proofs.Common.{◌+◌, length, ap, subst, sym, ◌∙◌}
-use Rattle.ride_model.specs.History.{fed_commands}
-use Rattle.ride_model.specs.Step.{step}
-use Rattle.ride_model.specs.Text.{IsSpelledCommand}
-use Rattle.board_core.specs.Recorded.{Recorded, state_of}
-use Rattle.fleet_league.specs.inner.league_session.LeagueBoards.{IsDesk}
+use Rattle.fleet_league.proofs.Common.{◌+◌, length, ap, subst, sym, ◌∙◌, fed_commands, step, IsSpelledCommand, Recorded, state_of, IsDesk}
 use Rattle.fleet_league.proofs.league_session.Desks.{answered, on-ok}
 use Rattle.fleet_league.proofs.league_session.desk.RequestDesk.answer.Goals as goal
 

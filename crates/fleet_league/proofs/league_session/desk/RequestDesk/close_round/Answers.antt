@@ -1,12 +1,4 @@
-use Rattle.std.proofs.Common.{◌≡◌, ◌+◌, ◌≤◌, length, List, ap, subst, sym, ◌∙◌}
-use Rattle.std.specs.Prelude.{All, Some}
-use Rattle.ride_model.specs.declared.reply.RequestState.TheVariants.{Cancelled, InBatch}
-use Rattle.ride_model.specs.declared.vehicle.Ride.{Ride}
-use Rattle.ride_model.specs.Batch.{with_request_states}
-use Rattle.ride_model.specs.History.{fed_commands}
-use Rattle.ride_model.specs.State.{request_state}
-use Rattle.board_core.specs.Recorded.{Recorded, state_of}
-use Rattle.fleet_league.specs.inner.league_session.LeagueBoards.{HasOpened}
+use Rattle.fleet_league.proofs.Common.{◌≡◌, ◌+◌, ◌≤◌, length, List, ap, subst, sym, ◌∙◌, All, Some, Cancelled, InBatch, Ride, with_request_states, fed_commands, request_state, Recorded, state_of, HasOpened}
 use Rattle.fleet_league.proofs.league_session.OpenedRounds.{Closes, closed-few, closed-fits, closed-is, none-ended-yet, still-open}
 use Rattle.fleet_league.proofs.league_session.desk.RequestDesk.close_round.Goals as goal
 

@@ -1,14 +1,4 @@
-use Rattle.std.proofs.Common.{◌≡◌, ◌+◌, ◌≤◌, [], ◌∷◌, take, length, Ok, ap, subst, sym, ◌∙◌, arith, length-append}
-use Rattle.ride_model.specs.declared.command.Actor.TheVariants.{Desk}
-use Rattle.ride_model.specs.declared.command.Command.TheVariants.{Ask}
-use Rattle.ride_model.specs.Batch.{next_batch, waiting_rides}
-use Rattle.ride_model.specs.History.{fed_commands}
-use Rattle.ride_model.specs.Seating.{BatchCopy}
-use Rattle.ride_model.specs.State.{State}
-use Rattle.model_laws.specs.inner.history_laws.Consistent.{IsOpenBatch}
-use Rattle.board_core.specs.inner.Opening.{opening_at}
-use Rattle.board_core.specs.Recorded.{Recorded, state_of}
-use Rattle.fleet_league.specs.inner.league_session.LeagueBoards.{HasOpened, IsDesk}
+use Rattle.fleet_league.proofs.Common.{◌≡◌, ◌+◌, ◌≤◌, [], ◌∷◌, take, length, Ok, ap, subst, sym, ◌∙◌, arith, length-append, Desk, Ask, next_batch, waiting_rides, fed_commands, BatchCopy, State, IsOpenBatch, opening_at, Recorded, state_of, HasOpened, IsDesk}
 use Rattle.fleet_league.proofs.league_session.OpenedRounds.{Opens, after-ask, asked_once, fed-same, gets-next, has-opened, rides-are}
 use Rattle.fleet_league.proofs.Reports.{fed-push}
 use Rattle.fleet_league.proofs.WinsAsked.{none-ended, none-open}

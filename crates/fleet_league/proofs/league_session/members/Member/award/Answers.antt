@@ -1,16 +1,4 @@
-use Rattle.std.proofs.Common.{ℕ, ◌≤◌, List, length, sym, ap, subst, arith}
-use Rattle.std.specs.Prelude.{All, Contains}
-use Rattle.ride_model.specs.declared.vehicle.Vehicle.{Vehicle}
-use Rattle.ride_model.specs.Legal.{IsLegal}
-use Rattle.ride_model.specs.State.{State}
-use Rattle.batch_commit.specs.inner.Table.{IsTableOf}
-use Rattle.board_core.specs.Recorded.{Recorded, state_of}
-use Rattle.fleet_league.specs.declared.briefs.Win.{Win}
-use Rattle.fleet_league.specs.Awards.{won_rides}
-use Rattle.fleet_league.specs.inner.Companies.{CompanyState}
-use Rattle.fleet_league.specs.league_session.League.{IsAwarded}
-use Rattle.fleet_league.specs.inner.league_session.LeagueBoards.{IsPlayed}
-use Rattle.fleet_league.specs.inner.Quoting.{quoting_batch}
+use Rattle.fleet_league.proofs.Common.{ℕ, ◌≤◌, List, length, sym, ap, subst, arith, All, Contains, Vehicle, IsLegal, State, IsTableOf, Recorded, state_of, Win, won_rides, CompanyState, IsAwarded, IsPlayed, quoting_batch}
 use Rattle.fleet_league.proofs.league_session.AwardedMembers.{is-awarded, is-played}
 use Rattle.fleet_league.proofs.Legality.{IsLegalBoard, board-fleet}
 use Rattle.fleet_league.proofs.league_session.members.Member.award.Goals as goal

@@ -1,6 +1,4 @@
-use Rattle.std.proofs.Common.{subst}
-use Rattle.fleet_league.specs.inner.Companies.{CompanyState}
-use Rattle.fleet_league.specs.inner.league_session.LeagueBoards.{IsSound}
+use Rattle.fleet_league.proofs.Common.{subst, CompanyState, IsSound}
 use Rattle.fleet_league.proofs.league_session.LeagueMembers.{sound}
 use Rattle.fleet_league.proofs.league_session.members.Member.quote.Goals as goal
 

@@ -1,7 +1,4 @@
-use Rattle.std.proofs.Common.{subst}
-use Rattle.std.specs.Prelude.{OnOk}
-use Rattle.fleet_league.specs.inner.Companies.{CompanyState}
-use Rattle.fleet_league.specs.inner.league_session.LeagueBoards.{IsReported}
+use Rattle.fleet_league.proofs.Common.{subst, OnOk, CompanyState, IsReported}
 use Rattle.fleet_league.proofs.league_session.LeagueMembers.{reported}
 use Rattle.fleet_league.proofs.league_session.members.Member.report.Goals as goal
 

@@ -1,7 +1,4 @@
-use Rattle.std.proofs.Common.{◌++◌, List, ℕ, Option, sym, subst, ◌∙◌}
-use Rattle.ride_model.specs.declared.entry.Ending.{Ending}
-use Rattle.line_text.specs.inner.text_page.Output.{HasPut}
-use Rattle.fleet_league.specs.inner.league_session.LeagueRuns.{with_ending}
+use Rattle.fleet_league.proofs.Common.{◌++◌, List, ℕ, Option, sym, subst, ◌∙◌, Ending, HasPut, with_ending}
 use Rattle.fleet_league.proofs.league_session.scribe.Scribe.put_end.Goals as goal
 
 pub returns-in-Some-clause-put : goal.returns-in-Some-clause-put

@@ -1,5 +1,4 @@
-use Rattle.std.proofs.Common.{◌++◌, List, ℕ, subst}
-use Rattle.line_text.specs.inner.text_page.Output.{HasPut}
+use Rattle.fleet_league.proofs.Common.{◌++◌, List, ℕ, subst, HasPut}
 use Rattle.fleet_league.proofs.league_session.scribe.Scribe.put_head.Goals as goal
 
 pub returns-clause-put : goal.returns-clause-put

@@ -1,8 +1,5 @@
-use Rattle.std.proofs.Common.{◌≡◌, List, ℕ, false, sym, ap, ◌∙◌}
-use Rattle.line_text.specs.inner.text_page.Output.{OutputState}
-use Rattle.line_text.proofs.text_page.OutputLemmas.{put-failed, put-printed}
+use Rattle.fleet_league.proofs.Common.{◌≡◌, List, ℕ, false, sym, ap, ◌∙◌, OutputState, put-failed, put-printed, told_line}
 use Rattle.line_text.proofs.text_page.PrintedPages.{printed-back}
-use Rattle.fleet_league.specs.league_session.LeagueTexts.{told_line}
 use Rattle.fleet_league.proofs.league_session.scribe.Scribe.put_told.Goals as goal
 
 pub returns-then-failed-2-clause-put : goal.returns-then-failed-2-clause-put

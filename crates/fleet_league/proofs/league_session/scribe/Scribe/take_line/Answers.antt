@@ -1,10 +1,4 @@
-use Rattle.std.proofs.Common.{◌≡◌, ◌+◌, Some, None, sym, ap, subst, ◌∙◌}
-use Rattle.model_laws.proofs.plain.Options.{none_from_not_some}
-use Rattle.ride_model.specs.State.{State}
-use Rattle.fleet_league.specs.declared.league_session.scribe.Scribe.{Scribe}
-use Rattle.fleet_league.specs.league_session.Feed.{said_by}
-use Rattle.fleet_league.specs.league_session.League.{LeagueState, TakesLine}
-use Rattle.fleet_league.specs.inner.league_session.LeagueBoards.{league_of}
+use Rattle.fleet_league.proofs.Common.{◌≡◌, ◌+◌, Some, None, sym, ap, subst, ◌∙◌, none_from_not_some, State, Scribe, said_by, LeagueState, TakesLine, league_of}
 use Rattle.fleet_league.proofs.league_session.TextRuns.{line-blank, line-told, scribe-same}
 use Rattle.fleet_league.proofs.league_session.scribe.Scribe.take_line.Goals as goal
 

@@ -1,6 +1,4 @@
-use Rattle.std.proofs.Common.{sym, ap, subst}
-use Rattle.ride_model.specs.Text.{IsSpelledCommand}
-use Rattle.fleet_league.specs.inner.league_session.LeagueBoards.{IsLeague, LeagueBoards, is_riders}
+use Rattle.fleet_league.proofs.Common.{sym, ap, subst, IsSpelledCommand, IsLeague, LeagueBoards, is_riders}
 use Rattle.fleet_league.proofs.league_session.LeagueKept.{league-answered, on-three}
 use Rattle.fleet_league.proofs.league_session.state.League.answer.Goals as goal
 

@@ -1,6 +1,4 @@
-use Rattle.std.proofs.Common.{refl, sym, subst}
-use Rattle.ride_model.specs.declared.command.Command.TheVariants.{Cancel}
-use Rattle.fleet_league.specs.inner.league_session.LeagueBoards.{IsLeague, LeagueBoards}
+use Rattle.fleet_league.proofs.Common.{refl, sym, subst, Cancel, IsLeague, LeagueBoards}
 use Rattle.fleet_league.proofs.league_session.Desks.{on-ok}
 use Rattle.fleet_league.proofs.league_session.LeagueKept.{league-answered, league-reported, member-later, member-reported, on-three}
 use Rattle.fleet_league.proofs.league_session.state.League.cancel.Goals as goal

@@ -1,14 +1,4 @@
-use Rattle.std.proofs.Common.{◌≡◌, ℕ, ◌+◌, List, sym, ap, subst, ◌∙◌, arith}
-use Rattle.std.specs.Prelude.{nat_eq}
-use Rattle.std.specs.List.{IsDistinct}
-use Rattle.ride_model.specs.declared.vehicle.Ride.{Ride}
-use Rattle.ride_model.specs.Vehicle.{ride_ids}
-use Rattle.ride_model.specs.declared.command.Command.TheVariants.{Ask}
-use Rattle.board_core.specs.Recorded.{state_of}
-use Rattle.fleet_league.specs.declared.league_session.lines.FeedLine.TheVariants.{League}
-use Rattle.fleet_league.specs.declared.league_session.sheets.Told.TheVariants.{Round}
-use Rattle.fleet_league.specs.league_session.League.{TakesLine, after_round}
-use Rattle.fleet_league.specs.inner.league_session.LeagueBoards.{IsLeague, LeagueBoards, league_of}
+use Rattle.fleet_league.proofs.Common.{◌≡◌, ℕ, ◌+◌, List, sym, ap, subst, ◌∙◌, arith, nat_eq, IsDistinct, Ride, ride_ids, Ask, state_of, League, Round, TakesLine, after_round, IsLeague, LeagueBoards, league_of}
 use Rattle.fleet_league.proofs.Legality.{IsLegalBoard}
 use Rattle.fleet_league.proofs.league_session.RoundsMade.{HasMade, MakesNow, first-plays, round-kept, round-made, second-plays}
 use Rattle.fleet_league.proofs.league_session.state.League.make_round.Goals as goal

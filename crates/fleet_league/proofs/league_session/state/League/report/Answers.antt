@@ -1,5 +1,4 @@
-use Rattle.std.proofs.Common.{sym, subst}
-use Rattle.fleet_league.specs.inner.league_session.LeagueBoards.{IsLeague, LeagueBoards}
+use Rattle.fleet_league.proofs.Common.{sym, subst, IsLeague, LeagueBoards}
 use Rattle.fleet_league.proofs.league_session.Desks.{on-ok}
 use Rattle.fleet_league.proofs.league_session.LeagueKept.{driver-reports, league-reported, member-later, member-reported}
 use Rattle.fleet_league.proofs.league_session.state.League.report.Goals as goal

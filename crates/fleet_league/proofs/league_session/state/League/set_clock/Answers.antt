@@ -1,6 +1,4 @@
-use Rattle.std.proofs.Common.{refl, sym, subst}
-use Rattle.ride_model.specs.declared.command.Command.TheVariants.{Clock}
-use Rattle.fleet_league.specs.inner.league_session.LeagueBoards.{IsLeague, LeagueBoards}
+use Rattle.fleet_league.proofs.Common.{refl, sym, subst, Clock, IsLeague, LeagueBoards}
 use Rattle.fleet_league.proofs.league_session.LeagueKept.{league-reported, member-reported}
 use Rattle.fleet_league.proofs.league_session.state.League.set_clock.Goals as goal
 

@@ -1,4 +1,4 @@
-use Rattle.std.proofs.Common.{ℕ, List, length, drop, ap, ◌∙◌, arith}
+use Rattle.line_text.proofs.Common.{ℕ, List, length, drop, ap, ◌∙◌, arith}
 use Rattle.line_text.proofs.line_reader.Ranges.{used-up}
 use Rattle.line_text.proofs.line_reader.piece.Piece.use_up.Goals as goal
 

@@ -1,4 +1,4 @@
-use Rattle.std.proofs.Common.{refl}
+use Rattle.line_text.proofs.Common.{refl}
 use Rattle.line_text.proofs.line_reader.LineParts.{read-nothing}
 use Rattle.line_text.proofs.line_reader.reader.LineReader.new.Goals as goal
 

@@ -1,10 +1,5 @@
-use Rattle.std.proofs.Common.{◌≡◌, ◌≢◌, ◌++◌, [], Bool, false, List, ℕ, MatchBool, refl, ap, ◌∙◌, subst, sym, append_assoc, append-nil}
-use Rattle.std.specs.Prelude.{IfSome}
-use Rattle.std.proofs.lemmas.Result.{err_from_is_err_and}
-use Rattle.ride_ports.proofs.ByteLemmas.{Reads-none, Reads-then}
-use Rattle.line_text.specs.declared.line_reader.limits.Limits.{Limits}
-use Rattle.line_text.specs.declared.line_reader.answers.ReadStop.TheVariants.{TooLong}
-use Rattle.line_text.specs.inner.line_reader.Reader.{HasRead, IsNext, IsNextLine, IsStopped}
+use Rattle.line_text.proofs.Common.{◌≡◌, ◌≢◌, ◌++◌, [], Bool, false, List, ℕ, MatchBool, refl, ap, ◌∙◌, subst, sym, append_assoc, append-nil, IfSome, err_from_is_err_and, Reads-none, Reads-then, Limits, TooLong, IsNext, IsNextLine, IsStopped}
+use Rattle.line_text.specs.inner.line_reader.Reader.{HasRead}
 use Rattle.line_text.proofs.line_reader.LineParts.{at-end, begins-more, begins-nothing, came-cut, came-more, next-line, read-filled, stops-bytes, stops-lines}
 use Rattle.line_text.proofs.line_reader.reader.LineReader.next.Goals as goal
 

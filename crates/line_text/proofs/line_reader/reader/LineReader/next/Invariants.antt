@@ -1,6 +1,5 @@
-use Rattle.std.proofs.Common.{◌≡◌, ℕ, ◌+◌, ◌++◌, List, length}
-use Rattle.ride_ports.specs.Bytes.{Reads}
-use Rattle.line_text.specs.inner.line_reader.Reader.{HasGiven, HasRead}
+use Rattle.line_text.proofs.Common.{◌≡◌, ℕ, ◌+◌, ◌++◌, List, length, Reads, HasGiven}
+use Rattle.line_text.specs.inner.line_reader.Reader.{HasRead}
 use Rattle.line_text.proofs.line_reader.LineParts.{Begins}
 use Rattle.line_text.proofs.line_reader.reader.LineReader.next.Given as goal
 

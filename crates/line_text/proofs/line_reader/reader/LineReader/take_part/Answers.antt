@@ -1,8 +1,5 @@
-use Rattle.std.proofs.Common.{◌≡◌, ◌++◌, ℕ, List, Bool, MatchBool, ◌+◌, ◌≤◌, length, take, refl, ap, sym, subst, ◌∙◌, arith}
-use Rattle.std.proofs.lemmas.List.{length_push}
-use Rattle.line_text.specs.inner.Cutter.{EndsLine, Continues, HasTaken}
-use Rattle.line_text.specs.Lines.{ended_lines}
-use Rattle.line_text.specs.inner.line_reader.Reader.{HasRead, ReaderState}
+use Rattle.line_text.proofs.Common.{◌≡◌, ◌++◌, ℕ, List, Bool, MatchBool, ◌+◌, ◌≤◌, length, take, refl, ap, sym, subst, ◌∙◌, arith, length_push, EndsLine, Continues, HasTaken, ended_lines, ReaderState}
+use Rattle.line_text.specs.inner.line_reader.Reader.{HasRead}
 use Rattle.line_text.proofs.line_reader.LineParts.{pending-parts, read-part}
 use Rattle.line_text.proofs.line_reader.reader.LineReader.take_part.Goals as goal
 

@@ -1,5 +1,4 @@
-use Rattle.std.proofs.Common.{◌≡◌, take, sym, ap, subst, ◌∙◌}
-use Rattle.line_text.specs.inner.text_page.Output.{HasPut, OutputState, PageState}
+use Rattle.line_text.proofs.Common.{◌≡◌, take, sym, ap, subst, ◌∙◌, HasPut, OutputState, PageState}
 use Rattle.line_text.proofs.text_page.output.Output.back_to.Goals as goal
 
 pub returns-clause-put : goal.returns-clause-put

@@ -1,5 +1,4 @@
-use Rattle.std.proofs.Common.{◌≡◌, false, sym, ap, ◌∙◌}
-use Rattle.line_text.specs.inner.text_page.Output.{OutputState}
+use Rattle.line_text.proofs.Common.{◌≡◌, false, sym, ap, ◌∙◌, OutputState}
 use Rattle.line_text.proofs.text_page.OutputLemmas.{put-page}
 use Rattle.line_text.proofs.text_page.output.Output.end.Goals as goal
 

@@ -1,5 +1,4 @@
-use Rattle.std.proofs.Common.{◌≡◌, false, [], sym, ap, subst, ◌∙◌}
-use Rattle.line_text.specs.inner.text_page.Output.{HasPut, OutputState, PageState}
+use Rattle.line_text.proofs.Common.{◌≡◌, false, [], sym, ap, subst, ◌∙◌, HasPut, OutputState, PageState}
 use Rattle.line_text.proofs.text_page.OutputLemmas.{put-failed, put-printed}
 use Rattle.line_text.proofs.text_page.output.Output.put.Goals as goal
 

@@ -1,10 +1,10 @@
 use Rattle.std.proofs.Common.{◌≡◌, ◌<◌, ◌≤◌, List, get_or, length, sym, ap, subst, ◌∙◌, arith}
 use Rattle.std.proofs.lemmas.List.{take_all}
 use Rattle.ride_model.specs.declared.vehicle.Vehicle.{Vehicle}
-use Rattle.ride_model.specs.Fleet.{IsFleet, MayStart}
+use Rattle.ride_model.specs.Fleet.{IsFleet}
 use Rattle.league_trials.specs.Sides.{half_of}
-use Rattle.league_trials.proofs.HalfFleets.{half-fleet, half-keeps, half-leaves, half-start}
-use Rattle.league_trials.proofs.city_days.half_of.Goals as goal
+use Rattle.league_trials.proofs.HalfFleets.{half-fleet, half-keeps, half-leaves}
+use Rattle.league_trials.proofs.outset.half_of.Goals as goal
 
 pub loop-vehicle-preserved : goal.loop-vehicle-preserved
 loop-vehicle-preserved c =
@@ -27,10 +27,8 @@ new-requires c =
     subst IsFleet (sym half) (half-fleet c.args.rest fleet c.vehicles-vehicle-items.ensures.is_fleet)
 
 pub returns : goal.returns
-returns c roads settings start =
+returns c =
     let fleet : List Vehicle = c.args.fleet.now in
     let items : c.vehicles-vehicle-items.result.now ≡ fleet = c.vehicles-vehicle-items.ensures.items in
     let all : length fleet ≤ c.loop-vehicle.vehicle-index = omega (arith, ap (λ (vs : List Vehicle). length vs) items) in
-    let half : c.loop-vehicle.vehicles.items ≡ half_of c.args.rest fleet
-    = c.loop-vehicle.invariant ∙ ap (half_of c.args.rest) (take_all c.loop-vehicle.vehicle-index fleet all) in
-    subst (MayStart roads settings) (sym (c.new.ensures ∙ half)) (half-start roads settings c.args.rest fleet start)
+    c.new.ensures ∙ c.loop-vehicle.invariant ∙ ap (half_of c.args.rest) (take_all c.loop-vehicle.vehicle-index fleet all)
