@@ -1,5 +1,5 @@
 -- The order of bookings, and lists of bookings in order.
-use Rattle.booking_desk.proofs.Common.{◌≡◌, ℕ, ◌<◌, ◌≤◌, Bool, true, false, eqb, leb, ltb, List, [], ◌∷◌, ◌++◌, refl, sym, ap, ◌∙◌, arith, filter, not, Ordering, Less, Equal, Greater, AllByRecursion, is_lt, filter-append, Booking, id_of, is_before, put_in, without, key_cmp, all_put_in, sorted, filter-filter, filter-all, filter-none, each-filter, each-weaker, each-append}
+use Rattle.booking_desk.proofs.Common.{◌≡◌, ℕ, ◌<◌, ◌≤◌, Bool, true, false, eqb, leb, ltb, List, [], ◌∷◌, ◌++◌, refl, sym, ap, ◌∙◌, arith, filter, not, Ordering, Less, Equal, Greater, AllByRecursion, is_lt, filter-append, fold, Booking, id_of, is_before, put_in, without, key_cmp, sorted, filter-filter, filter-all, filter-none, each-filter, each-weaker, each-append}
 use Rattle.booking_desk.proofs.Keys.{key_total, Equal-ids, Less-releases, early-Less}
 
 abbrev key_of : Booking → ℕ × ℕ
@@ -82,7 +82,11 @@ order-put_in b bs h =
     after : AllByRecursion (λ y. is_before b y ≡ true) (filter (λ x. is_before b x) bs)
     after = passing (λ x. is_before b x) bs
 
-pub order-all_put_in : (bs more : List Booking) → IsInOrder bs → IsInOrder (all_put_in bs more)
+-- bookings that are put into a list in order, one after the other
+abbrev all_put_in : List Booking → List Booking → List Booking
+all_put_in bs more = fold (λ before b. put_in b before) bs more
+
+order-all_put_in : (bs more : List Booking) → IsInOrder bs → IsInOrder (all_put_in bs more)
 order-all_put_in bs [] h = h
 order-all_put_in bs (b ∷ more) h = order-all_put_in (put_in b bs) more (order-put_in b bs h)
 

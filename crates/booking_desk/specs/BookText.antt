@@ -47,18 +47,14 @@ reply_text (Refused code) number request = refusal_line code number
 abbrev pub released_text : List Booking → List ℕ
 released_text bookings = flat_map (λ (booking : Booking). request_line booking.request) bookings
 
--- what a call on the line of a number gives after other calls
-abbrev pub call_text : List DeskCall → ℕ → List ℕ → DeskCall → List ℕ
-call_text calls number line (book release request) =
-    reply_text (reply_to_book (desk_after most_bookings calls) release request) number request
-call_text calls number line (unbook id) =
-    if is_held id (desk_after most_bookings calls).held then [] else refusal_line (code_of not_held) number
-call_text calls number line (clock time) = with_lf line ++ released_text (released_at most_bookings calls time)
-
--- what a line gives by what it asks of a desk: a line that asks nothing stands as it is
+-- what the line of a number gives by what it asks of a desk after other calls: a line that asks nothing stands as it is
 abbrev pub asked_text : List DeskCall → ℕ → List ℕ → Option DeskCall → List ℕ
 asked_text calls number line None = with_lf line
-asked_text calls number line (Some call) = call_text calls number line call
+asked_text calls number line (Some (book release request)) =
+    reply_text (reply_to_book (desk_after most_bookings calls) release request) number request
+asked_text calls number line (Some (unbook id)) =
+    if is_held id (desk_after most_bookings calls).held then [] else refusal_line (code_of not_held) number
+asked_text calls number line (Some (clock time)) = with_lf line ++ released_text (released_at most_bookings calls time)
 
 -- what the line of a number gives after the calls of the lines before it
 abbrev pub part_of : List DeskCall → ℕ → List ℕ → List ℕ

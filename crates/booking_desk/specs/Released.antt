@@ -1,6 +1,6 @@
 -- Which bookings are released at which moment, said over the list of calls alone, by a filter and a sort for each moment.
 use Rattle.std.specs.Prelude.{ℕ, ◌+◌, ◌==◌, ◌&&◌, not, nat_lt, nat_le, max, Bool, false, if◌then◌else◌, List, [], ◌∷◌, filter, map, take, drop}
-use Rattle.std.specs.List.{list_any}
+use Rattle.std.specs.List.{fold, list_any}
 use Rattle.ride_model.specs.declared.command.Command.{Command}
 use Rattle.ride_model.specs.Limits.{latest_time}
 use Rattle.booking_desk.specs.Desk.{Booking, DeskState, put_in, request_id}
@@ -61,14 +61,9 @@ is_unbooked calls call = list_any (is_unbook (call_id call)) (drop call.place ca
 abbrev pub standing : ℕ → List DeskCall → List Booking
 standing most calls = map (λ (call : BookCall). call.booking) (filter (λ call. not (is_unbooked calls call)) (made_of most calls))
 
--- bookings that are put into a list in order, one after the other
-abbrev pub all_put_in : List Booking → List Booking → List Booking
-all_put_in bookings [] = bookings
-all_put_in bookings (booking ∷ more) = all_put_in (put_in booking bookings) more
-
--- bookings in order of release and, of one release, of id
+-- bookings in order of release and, of one release, of id: each is put into those before it
 abbrev pub sorted : List Booking → List Booking
-sorted bookings = all_put_in [] bookings
+sorted bookings = fold (λ before booking. put_in booking before) [] bookings
 
 -- what is released at the moment after these calls at which the clock is set: those whose release has come by then, and had
 -- not come before

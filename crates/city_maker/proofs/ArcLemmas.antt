@@ -1,7 +1,10 @@
 -- Arcs with one pair of neighbours more.
-use Rattle.city_maker.proofs.Common.{◌≡◌, ℕ, ◌+◌, ◌<◌, ◌≤◌, Bool, true, false, cond, nat_lt, List, [], ◌∷◌, ◌++◌, length, refl, sym, ap, ◌∙◌, append_assoc, subst, arith, flat_map, enumerate_from, append-nil, length_push, lt-ltb, le-ltb, flat_map-append, state_after, draw_at, node_at, arc, arcs_between, arcs_of, pairs_at, pairs_in_row, pairs_in_rows, HasJoined}
+use Rattle.city_maker.proofs.Common.{◌≡◌, ℕ, ◌+◌, ◌<◌, ◌≤◌, Bool, true, false, cond, nat_lt, List, [], ◌∷◌, ◌++◌, length, refl, sym, ap, ◌∙◌, append_assoc, subst, arith, flat_map, range_with_len, enumerate_from, append-nil, length_push, lt-ltb, le-ltb, flat_map-append, state_after, draw_at, RoadArc, node_at, arcs_between, arcs_of, pairs_at, HasJoined}
 use Rattle.city_maker.specs.declared.roads.Roads.{Roads}
 use Rattle.city_maker.proofs.ListsOfRanges.{flat_map-range_more, enumerate_from-push}
+
+abbrev pub arc : ℕ → ℕ → ℕ → RoadArc
+arc tail head seconds = record { tail = tail; head = head; seconds = seconds }
 
 pub arcs_of-push : (seed : ℕ) (pairs : List (ℕ × ℕ)) (pair : ℕ × ℕ)
     → arcs_of seed (pairs ++ pair ∷ []) ≡ arcs_of seed pairs ++ arcs_between seed (length pairs, pair)
@@ -34,20 +37,17 @@ joined-none seed roads none state = record { arcs = none; draws = state }
 pub joined-same : (seed : ℕ) (pairs others : List (ℕ × ℕ)) (roads : Roads) → pairs ≡ others → HasJoined seed pairs roads → HasJoined seed others roads
 joined-same seed pairs others roads same joined = subst (λ ps. HasJoined seed ps roads) same joined
 
-pub pairs_in_row-none : (side row : ℕ) → pairs_in_row side row 0 ≡ []
-unfolding pairs_in_row
-pairs_in_row-none side row = refl
+-- the pairs of the first nodes of a row, and of the first rows
+abbrev pub pairs_in_row : ℕ → ℕ → ℕ → List (ℕ × ℕ)
+pairs_in_row side row columns = flat_map (pairs_at side row) (range_with_len 0 columns)
+
+abbrev pub pairs_in_rows : ℕ → ℕ → List (ℕ × ℕ)
+pairs_in_rows side rows = flat_map (λ row. pairs_in_row side row side) (range_with_len 0 rows)
 
 pub pairs_in_row-more : (side row column : ℕ) → pairs_in_row side row (column + 1) ≡ pairs_in_row side row column ++ pairs_at side row column
-unfolding pairs_in_row
 pairs_in_row-more side row column = flat_map-range_more (pairs_at side row) 0 column column (omega arith)
 
-pub pairs_in_rows-none : (side : ℕ) → pairs_in_rows side 0 ≡ []
-unfolding pairs_in_rows
-pairs_in_rows-none side = refl
-
 pub pairs_in_rows-more : (side row : ℕ) → pairs_in_rows side (row + 1) ≡ pairs_in_rows side row ++ pairs_in_row side row side
-unfolding pairs_in_rows
 pairs_in_rows-more side row = flat_map-range_more (λ row. pairs_in_row side row side) 0 row row (omega arith)
 
 -- the pairs of a node with its right neighbour and with its lower one, by what their tests give

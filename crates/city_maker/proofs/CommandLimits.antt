@@ -1,17 +1,17 @@
 -- The commands of a plan within its ranges have a text, and the nodes that they name are on the map.
-use Rattle.city_maker.proofs.Common.{◌≡◌, ◌≢◌, ℕ, ◌+◌, ◌-◌, ◌*◌, ◌%◌, ◌<◌, ◌≤◌, min, [], ◌∷◌, ◌++◌, inl, inr, refl, sym, ap, ◌∙◌, subst, arith, All, flat_map, range_with_len, cases_eq, cases_lt, All-nil, All-cons, All-append, mul-le, mod-eq_of_lt, mod_self, Command, Clock, Ask, IsSpelledCommand, CityPlan, draw_at, nodes_of, IsPlan, network_of, apart, clock_of, commands_of, draws_before, from_of, group_of, groups_of, request_of, requests_in, seats_of, to_of, IsOnMap}
+use Rattle.city_maker.proofs.Common.{◌≡◌, ◌≢◌, ℕ, ◌+◌, ◌-◌, ◌*◌, ◌/◌, ◌%◌, ◌<◌, ◌≤◌, min, [], ◌∷◌, ◌++◌, inl, inr, refl, sym, ap, ◌∙◌, subst, arith, All, flat_map, range_with_len, cases_eq, cases_lt, All-nil, All-cons, All-append, mul-le, mod-eq_of_lt, mod_self, Command, Clock, Ask, IsSpelledCommand, CityPlan, draw_at, nodes_of, IsPlan, network_of, commands_of, draws_before, group_of, request_of, IsOnMap}
 use Rattle.city_maker.proofs.AllOfPieces.{All-map_range, All-flat_map_range}
 use Rattle.city_maker.proofs.DrawLemmas.{draw_at-below}
-use Rattle.city_maker.proofs.RequestLemmas.{apart-same, apart-other}
+use Rattle.city_maker.proofs.RequestLemmas.{apart, apart-same, apart-other, from_of, requests_in, seats_of, to_of}
 
 -- what holds of each clock up to the last, of each request and of asking holds of each command
 pub commands-all : (P : Command → Type 0) (plan : CityPlan) → IsPlan plan → ((time : ℕ) → time ≤ 1000000000 → P (Clock time)) → P Ask
     → ((k : ℕ) → k < plan.requests → P (request_of plan k)) → All P (commands_of plan)
 unfolding commands_of group_of
 commands-all P plan is clocks ask requests =
-    All-append P (flat_map (group_of plan) (range_with_len 0 (groups_of plan))) (Clock 1000000000 ∷ [])
-    (All-flat_map_range P (group_of plan) 0 (groups_of plan) (λ group _ below.
-    All-cons P (Clock (clock_of group)) (requests_in plan group ++ Ask ∷ []) (clocks (clock_of group) (omega (arith, is.requests_limit)))
+    All-append P (flat_map (group_of plan) (range_with_len 0 ((plan.requests + 7) / 8))) (Clock 1000000000 ∷ [])
+    (All-flat_map_range P (group_of plan) 0 ((plan.requests + 7) / 8) (λ group _ below.
+    All-cons P (Clock (30 * group)) (requests_in plan group ++ Ask ∷ []) (clocks (30 * group) (omega (arith, is.requests_limit)))
     (All-append P (requests_in plan group) (Ask ∷ [])
     (All-map_range P (request_of plan) (8 * group) (min 8 (plan.requests - 8 * group)) (λ k first last. requests k (omega arith)))
     (All-cons P Ask [] ask (All-nil P)))))
@@ -54,16 +54,13 @@ module _ (plan : CityPlan) (is : IsPlan plan) (before : ℕ) where
       (omega arith, omega arith)
 
   from-node : IsUpTo (nodes_of plan) (from_of plan before)
-  unfolding from_of
   from-node = drawn-node (draws_before plan before)
 
   to-node : IsUpTo (nodes_of plan) (to_of plan before) × (from_of plan before ≢ to_of plan before)
-  unfolding to_of
   to-node = apart-node (nodes_of plan) (from_of plan before) (1 + draw_at plan.seed (draws_before plan before + 1) (nodes_of plan))
       (let some = some-nodes.0 in omega arith) from-node (drawn-node (draws_before plan before + 1))
 
   few-seats : seats_of plan before ≤ 2
-  unfolding seats_of
   few-seats =
       let below : draw_at plan.seed (draws_before plan before + 2) 2 < 2 = draw_at-below plan.seed (draws_before plan before + 2) 2 (omega arith) in
       omega arith

@@ -1,6 +1,7 @@
 -- The road network of a plan within its ranges is within the limits of a map.
-use Rattle.city_maker.proofs.Common.{◌≡◌, ℕ, ◌+◌, ◌*◌, ◌<◌, ◌≤◌, Bool, true, false, cond, nat_lt, List, [], ◌∷◌, length, refl, ap, ◌∙◌, arith, All, flat_map, enumerate_from, ltb-true, length-append, All-nil, All-cons, All-append, All-weaker, mul-add-lt, mul-le, RoadArc, RoadMap, IsRoadMap, IsArc, CityPlan, draw_at, nodes_of, IsPlan, node_at, arc, arcs_between, arcs_of, neighbour_pairs, network_of, pairs_at, pairs_in_row, pairs_in_rows, right_pair, lower_pair}
+use Rattle.city_maker.proofs.Common.{◌≡◌, ℕ, ◌+◌, ◌*◌, ◌<◌, ◌≤◌, Bool, true, false, cond, nat_lt, if◌then◌else◌, List, [], ◌∷◌, length, refl, ap, ◌∙◌, arith, All, flat_map, enumerate_from, ltb-true, length-append, All-nil, All-cons, All-append, All-weaker, mul-add-lt, mul-le, RoadArc, RoadMap, IsRoadMap, IsArc, CityPlan, draw_at, nodes_of, IsPlan, node_at, arcs_between, arcs_of, neighbour_pairs, network_of, pairs_at}
 use Rattle.city_maker.proofs.AllOfPieces.{All-flat_map, All-flat_map_range, All-enumerate, length-flat_map_range_le}
+use Rattle.city_maker.proofs.ArcLemmas.{arc, pairs_in_row}
 use Rattle.city_maker.proofs.DrawLemmas.{draw_at-below}
 
 -- two nodes of so many
@@ -15,6 +16,15 @@ all-if P false pair holds = All-nil P
 length-if : (b : Bool) (pair : ℕ × ℕ) → length (cond b (pair ∷ []) []) ≤ 1
 length-if true pair = omega arith
 length-if false pair = omega arith
+
+-- a node with its right neighbour, and with its lower one
+abbrev right_pair : ℕ → ℕ → ℕ → List (ℕ × ℕ)
+right_pair side row column =
+    if nat_lt (column + 1) side then (node_at side row column, node_at side row (column + 1)) ∷ [] else []
+
+abbrev lower_pair : ℕ → ℕ → ℕ → List (ℕ × ℕ)
+lower_pair side row column =
+    if nat_lt (row + 1) side then (node_at side row column, node_at side (row + 1) column) ∷ [] else []
 
 module _ (side row column : ℕ) (row_in : row < side) (column_in : column < side) where
   pairs_at-nodes : All (IsPair (side * side)) (pairs_at side row column)
@@ -40,14 +50,12 @@ pairs_at-few side row column =
     )
 
 pub pairs-nodes : (side : ℕ) → All (IsPair (side * side)) (neighbour_pairs side)
-unfolding pairs_in_row pairs_in_rows
 pairs-nodes side =
     All-flat_map_range (IsPair (side * side)) (λ row. pairs_in_row side row side) 0 side (λ row _ row_in.
     All-flat_map_range (IsPair (side * side)) (pairs_at side row) 0 side (λ column _ column_in.
     pairs_at-nodes side row column (omega arith) (omega arith)))
 
 pub pairs-few : (side : ℕ) → length (neighbour_pairs side) ≤ 2 * side * side
-unfolding pairs_in_row pairs_in_rows
 pairs-few side =
     length-flat_map_range_le (λ row. pairs_in_row side row side) (2 * side) 0 side (λ row.
     length-flat_map_range_le (pairs_at side row) 2 0 side (pairs_at-few side row))

@@ -1,5 +1,22 @@
 -- The requests of a city.
-use Rattle.city_maker.proofs.Common.{◌≡◌, ◌≢◌, ℕ, ◌+◌, ◌*◌, ◌/◌, ◌%◌, List, [], ◌∷◌, ◌++◌, refl, ap, ◌∙◌, append_assoc, arith, eq-eqb, ne_eqb, Command, Request, CityPlan, state_after, draw_at, nodes_of, draws_before, from_of, to_of, seats_of, apart, request_of}
+use Rattle.city_maker.proofs.Common.{◌≡◌, ◌≢◌, ℕ, ◌+◌, ◌-◌, ◌*◌, ◌/◌, ◌%◌, ◌==◌, if◌then◌else◌, map, min, range_with_len, List, [], ◌∷◌, ◌++◌, refl, ap, ◌∙◌, append_assoc, arith, eq-eqb, ne_eqb, Command, Request, CityPlan, state_after, draw_at, nodes_of, draws_before, request_of}
+
+-- where a request begins and ends, and its seats
+abbrev pub from_of : CityPlan → ℕ → ℕ
+from_of plan before = 1 + draw_at plan.seed (draws_before plan before) (nodes_of plan)
+
+abbrev pub apart : ℕ → ℕ → ℕ → ℕ
+apart nodes from drawn = if drawn == from then from % nodes + 1 else drawn
+
+abbrev pub to_of : CityPlan → ℕ → ℕ
+to_of plan before = apart (nodes_of plan) (from_of plan before) (1 + draw_at plan.seed (draws_before plan before + 1) (nodes_of plan))
+
+abbrev pub seats_of : CityPlan → ℕ → ℕ
+seats_of plan before = 1 + draw_at plan.seed (draws_before plan before + 2) 2
+
+-- the requests of a group
+abbrev pub requests_in : CityPlan → ℕ → List Command
+requests_in plan group = map (request_of plan) (range_with_len (8 * group) (min 8 (plan.requests - 8 * group)))
 
 pub apart-same : (nodes from drawn : ℕ) → drawn ≡ from → apart nodes from drawn ≡ from % nodes + 1
 apart-same nodes from drawn same = rw (eq-eqb drawn from same) refl
@@ -21,17 +38,14 @@ module _ (plan : CityPlan) (before : ℕ) where
       ∙ ap (λ g. Request (before + 1) (from_of plan before) (to_of plan before) (seats_of plan before) (30 * g + 900) 3600 0) eighth_is
 
   pub from-is : (drawn : ℕ) → drawn ≡ draw_at plan.seed (draws_before plan before) (nodes_of plan) → 1 + drawn ≡ from_of plan before
-  unfolding from_of
   from-is drawn is = ap (λ d. 1 + d) is
 
   pub to-is : (from drawn : ℕ) → 1 + from ≡ from_of plan before → drawn ≡ draw_at plan.seed (draws_before plan before + 1) (nodes_of plan)
       → apart (nodes_of plan) (1 + from) (1 + drawn) ≡ to_of plan before
-  unfolding to_of
   to-is from drawn from_is is =
       ap (λ f. apart (nodes_of plan) f (1 + drawn)) from_is ∙ ap (λ d. apart (nodes_of plan) (from_of plan before) (1 + d)) is
 
   pub seats-are : (drawn : ℕ) → drawn ≡ draw_at plan.seed (draws_before plan before + 2) 2 → 1 + drawn ≡ seats_of plan before
-  unfolding seats_of
   seats-are drawn is = ap (λ d. 1 + d) is
 
   -- two draws, one after the other

@@ -1,8 +1,9 @@
 //! The commands of a city's feed.
-ghost use Rattle.std.specs.Prelude.{◌≡◌, ◌+◌, ◌*◌, ◌<◌, ◌++◌, min, OnOk, IfOk};
+ghost use Rattle.std.specs.Prelude.{◌≡◌, ◌+◌, ◌-◌, ◌*◌, ◌/◌, ◌<◌, ◌++◌, map, min, OnOk, IfOk};
+ghost use Rattle.std.specs.List.{range_with_len};
 ghost use Rattle.city_maker.specs.Draws.{state_after};
 ghost use Rattle.city_maker.specs.inner.Plan.{IsPlan};
-ghost use Rattle.city_maker.specs.Feed.{commands_of, draws_before, group_of, groups_of, request_of, requests_in};
+ghost use Rattle.city_maker.specs.Feed.{commands_of, draws_before, group_of, request_of};
 
 use crate::CityPlan;
 use crate::draws::Draws;
@@ -43,7 +44,7 @@ fn push_group(
     draws: &mut Draws,
 ) -> Result<(), NoMemory>
     requires plan { IsPlan plan.now }
-    requires in_feed { group < groups_of plan.now }
+    requires in_feed { group < (plan.now.requests + 7) / 8 }
     requires drawn { draws.old.state
         ≡ state_after plan.now.seed (draws_before plan.now (8 * group)) }
     ensures commands { OnOk result
@@ -67,11 +68,12 @@ fn push_requests(
     draws: &mut Draws,
 ) -> Result<(), NoMemory>
     requires plan { IsPlan plan.now }
-    requires in_feed { group < groups_of plan.now }
+    requires in_feed { group < (plan.now.requests + 7) / 8 }
     requires drawn { draws.old.state
         ≡ state_after plan.now.seed (draws_before plan.now (8 * group)) }
     ensures commands { OnOk result
-        (commands.new.items ≡ commands.old.items ++ requests_in plan.now group) }
+        (commands.new.items ≡ commands.old.items ++ map (request_of plan.now)
+        (range_with_len (8 * group) (min 8 (plan.now.requests - 8 * group)))) }
     ensures drawn { OnOk result (draws.new.state
         ≡ state_after plan.now.seed (draws_before plan.now
         (min plan.now.requests (8 * (group + 1))))) }

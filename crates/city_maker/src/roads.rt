@@ -1,6 +1,7 @@
 //! The roads of a city.
 ghost use Rattle.std.specs.Prelude.{◌≡◌, ◌<◌, ◌≤◌, ◌*◌, ℕ, List, [], ◌∷◌, ◌++◌, length, OnOk, IfOk};
-ghost use Rattle.city_maker.specs.Roads.{neighbour_pairs, pairs_at, pairs_in_row, pairs_in_rows};
+ghost use Rattle.std.specs.List.{flat_map, range_with_len};
+ghost use Rattle.city_maker.specs.Roads.{neighbour_pairs, pairs_at};
 ghost use Rattle.city_maker.specs.inner.Growth.{HasJoined};
 
 use crate::draws::Draws;
@@ -40,7 +41,8 @@ impl Roads {
         requires side { side ≤ 100 }
         requires row { row < side }
         ensures { OnOk result ((seed : ℕ) (pairs : List (ℕ × ℕ)) → HasJoined seed pairs self.old
-            → HasJoined seed (pairs ++ pairs_in_row side row side) self.new) }
+            → HasJoined seed (pairs ++ flat_map (pairs_at side row) (range_with_len 0 side))
+            self.new) }
     {
         for column in 0..side {
             self.join_neighbours(side, row, column)?;

@@ -1,28 +1,25 @@
 -- The names that most proofs of this crate cite, passed on from one place. Declares nothing.
-pub use Rattle.model_laws.proofs.Common.{Abandoned, All, All-append, All-cons, All-head, All-tail, All-weaker, Bool, Command, Committed, Cut, Desk, Ending, Entry, Err, Event, Fed, Feed, Finish, IfSome, IsFleet, IsStart, IsTrue, List, MayStart, None, Ok, OnErr, OnOk, Opened, Option, Result, RoadMap, Settings, Some, State, Vehicle, Whole, [], ap, append-nil, append_assoc, arith, cond, ended_whole, err_from_is_err_and, false, fed_commands, has_whole_end, inl, inr, is_err, is_fed, is_whole, is_whole_end, length, length-append, length-map, list_all, list_any-append, list_any_none, map, map-append, option_map, range_with_len, refl, string_bytes, subst, sym, true, ℕ, ⊤, ◌&&◌, ◌++◌, ◌+◌, ◌<◌, ◌||◌, ◌∙◌, ◌∷◌, ◌≡◌, ◌≤◌, ◌⊎◌}
+pub use Rattle.model_laws.proofs.Common.{All, All-append, All-head, All-tail, All-weaker, Bool, Command, Committed, Cut, Desk, Ending, Entry, Err, Event, Feed, Finish, IfSome, IsFleet, IsStart, IsTrue, List, MayStart, None, Ok, OnErr, OnOk, Option, Result, RoadMap, Settings, Some, State, Vehicle, Whole, [], ap, append_assoc, arith, ended_whole, err_from_is_err_and, false, fed_commands, has_whole_end, inl, inr, is_err, is_fed, is_whole, is_whole_end, length, length-append, length-map, list_all, list_any-append, list_any_none, map, map-append, option_map, range_with_len, refl, string_bytes, subst, sym, true, ℕ, ⊤, ◌&&◌, ◌++◌, ◌+◌, ◌<◌, ◌||◌, ◌∙◌, ◌∷◌, ◌≡◌, ◌≤◌, ◌⊎◌}
 unfoldable pub use Rattle.model_laws.proofs.Common.{IsLegal, entries_of, replay}
 pub use Rattle.command_lines.specs.Limits.{feed_limits, new_feed}
-pub use Rattle.dispatcher.specs.Formats.{FailsAt, FailsIn}
-pub use Rattle.dispatcher.specs.Meanings.{Meaning, Means, start_of, status_of, StopsAt, StopsFleet, StopsMap, said_of}
-pub use Rattle.dispatcher.specs.Readings.{StopsReading}
-pub use Rattle.dispatcher.specs.Refusals.{Says}
-pub use Rattle.dispatcher.specs.Runs.{HasStopped, IsRun, HasWorked, IsUnread, Does, IsOver}
-pub use Rattle.dispatcher.specs.Services.{HasAnswered, Serves}
-pub use Rattle.dispatcher.specs.Shelves.{Shelved, Sunk, told_bytes, IsBackOf, IsFresh, IsLeftOf, AreGivenBack, IsSpent, bytes_of, AreBytesOf, IsUntouched, SaysTo}
+pub use Rattle.dispatcher.specs.Meanings.{FailsAt, FailsIn, Meaning, Means, start_of, status_of, stop_of_fleet, stop_of_map, StopsAt, StopsBy, said_of}
+pub use Rattle.dispatcher.specs.Runs.{HasStopped, IsRun, HasWorked, IsUnread, Does, IsOver, IsWhole, MayEnd, StopsReading}
+pub use Rattle.dispatcher.specs.Shelves.{AreBack, Shelved, Sunk, told_bytes, IsBackOf, IsFresh, IsLeftOf, AreGivenBack, IsSpent, IsUntouched, SaysTo}
 pub use Rattle.dispatcher.specs.Verdicts.{EndsBy, Audits}
+pub use Rattle.dispatcher.specs.Works.{HasAnswered}
 pub use Rattle.dispatcher.specs.declared.sources.Work.{Work}
 pub use Rattle.dispatcher.specs.declared.stop.Stop.{Stop}
-pub use Rattle.dispatcher.specs.declared.stop.Stop.TheVariants.{ShelfFault, NoMemory, FleetRefused, LimitPassed, MapRefused}
-pub use Rattle.dispatcher.specs.inner.Readings.{AreRead, AsksOnce, IsReadAs, IsReadBy, meaning_of, stop_in, text_files}
-pub use Rattle.dispatcher.specs.inner.Sources.{Did, DoesWork, HandsBack, WorksOver}
-pub use Rattle.dispatcher.specs.inner.Stops.{BringsSecond, ReadsFleet, ReadsMap}
+pub use Rattle.dispatcher.specs.declared.stop.Stop.TheVariants.{ShelfFault, NoMemory}
+pub use Rattle.dispatcher.specs.inner.Handing.{Adds, Brings, Hands, Misses, MissesAfter, TakesBack}
+pub use Rattle.dispatcher.specs.inner.Readings.{AreRead, AsksOnce, BringsSecond, IsReadBy, meaning_of, ReadsAs, second_files, text_files}
+pub use Rattle.dispatcher.specs.inner.Sources.{Did, DoesWork}
 pub use Rattle.fleet_file.specs.FleetText.{fleet_format, fleet_text}
 pub use Rattle.gr_reader.specs.MapText.{map_format, map_text}
 pub use Rattle.line_text.specs.Texts.{Format}
 pub use Rattle.line_text.specs.line_reader.Limits.{IsTooLong, IsWithinLimits}
 pub use Rattle.live_sessions.specs.Serving.{FeedRun, HasNotServed, HasServed}
 pub use Rattle.live_sessions.specs.inner.Serving.{feed_run, IsServed}
-pub use Rattle.log_audit.specs.Audit.{IsAnswer, is_read_fault}
+pub use Rattle.log_audit.specs.Audit.{IsAnswer}
 pub use Rattle.log_audit.specs.declared.verdict.AuditFault.{AuditFault}
 pub use Rattle.log_audit.specs.declared.verdict.AuditFault.TheVariants.{ReadFault, TooLong}
 pub use Rattle.log_audit.specs.declared.verdict.Verdict.{Verdict}

@@ -1,16 +1,13 @@
 -- Who has ended whole after a legal history, by his own part of it.
-use Rattle.dispatcher.proofs.Common.{◌≡◌, ℕ, true, false, ◌||◌, List, [], ◌∷◌, ◌++◌, refl, sym, ap, ◌∙◌, IsTrue, All-weaker, list_any-append, list_any_none, Feed, Ending, Whole, Cut, Entry, Event, Fed, Finish, Opened, Committed, Abandoned, entries_of, ended_whole, is_whole, replay, State, is_whole_end, has_whole_end, IsStart, is_fed}
+use Rattle.dispatcher.proofs.Common.{◌≡◌, ℕ, true, false, ◌||◌, List, [], ◌∷◌, ◌++◌, refl, sym, ap, ◌∙◌, IsTrue, All-weaker, list_any-append, list_any_none, Feed, Ending, Whole, Cut, Entry, Event, Finish, entries_of, ended_whole, is_whole, replay, State, is_whole_end, has_whole_end, IsStart, is_fed}
 use Rattle.model_laws.proofs.history_laws.Finished.{whole-after}
 use Rattle.board_core.specs.Recorded.{end_entry}
 use Rattle.session_loops.specs.Loops.{AreFed}
 
 -- answers to commands are no ends
 fed-no-end : (event : Event) → IsTrue (is_fed event) → is_whole_end event ≡ false
-fed-no-end (Fed command reply) fed = refl
 fed-no-end (Finish ending) fed = absurd (cc fed)
-fed-no-end (Opened number time requests plans) fed = refl
-fed-no-end (Committed number cost seats prices pays outcomes) fed = refl
-fed-no-end (Abandoned number) fed = refl
+fed-no-end event fed = refl
 
 whole-of : (ending : Ending) → (is_whole ending || false) ≡ true → ending ≡ Whole
 whole-of Whole is = refl

@@ -1,15 +1,11 @@
 pub mod Common
 pub mod Statuses
 pub mod Saying
-pub mod StopFacts
 pub mod Bringing
 pub mod Reading
 pub mod TextRuns
 pub mod Ends
-pub mod Working
 pub mod Completing
 pub mod Running
-pub mod Drilling
 pub mod ServedFeeds
-pub mod ServiceRuns
 pub mod Mission

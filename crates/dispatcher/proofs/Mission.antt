@@ -1,5 +1,5 @@
 -- What a service keeps that ran whole.
-use Rattle.dispatcher.proofs.Common.{◌≡◌, ◌⊎◌, inl, inr, ℕ, List, ◌∷◌, Option, Some, None, IfSome, sym, subst, ◌∙◌, arith, Reads, Contents, GivenBack, Reads-to_end, Desk, Command, Entry, Committed, fed_commands, IsLegal, State, new_feed, IsStart, FeedRun, Asked, a_replay, an_ahead, an_audit, a_service, a_drill, a_booking, a_league, files_of, start_of, status_of, HasStopped, HasWorked, IsRun, IsUnread, IsBackOf, Shelved, Sunk, told_bytes, Stop, NoMemory, ShelfFault, LimitPassed, MapRefused, FleetRefused}
+use Rattle.dispatcher.proofs.Common.{◌≡◌, ◌⊎◌, inl, inr, ℕ, List, ◌∷◌, Option, Some, None, IfSome, sym, subst, ◌∙◌, arith, Reads, Contents, GivenBack, Reads-to_end, Desk, Command, Entry, Committed, fed_commands, IsLegal, State, new_feed, IsStart, FeedRun, Asked, a_service, files_of, start_of, status_of, HasStopped, HasWorked, IsRun, IsUnread, IsBackOf, Shelved, Sunk, told_bytes, Stop, NoMemory}
 use Rattle.command_lines.specs.declared.forms.FeedForm.{FeedForm}
 use Rattle.command_lines.specs.Commands.{commands_of}
 use Rattle.command_lines.specs.Feeds.{IsWhole}
@@ -32,10 +32,7 @@ answers-all form (Some bytes) source feed taken commands back reads whole =
 -- a run that stopped is not whole
 pub stop-not-whole : (stop : Stop) → 0 ≡ status_of stop → ⊥
 stop-not-whole NoMemory is = omega (arith, is)
-stop-not-whole ShelfFault is = omega (arith, is)
-stop-not-whole LimitPassed is = omega (arith, is)
-stop-not-whole (MapRefused e) is = omega (arith, is)
-stop-not-whole (FleetRefused e) is = omega (arith, is)
+stop-not-whole stop is = omega (arith, is)
 
 module _ (map fleet riders drivers : List ℕ) (workers desks : ℕ) (old new : Shelved) (out : Sunk) (status : ℕ) where
   abbrev ask : Asked
@@ -78,15 +75,12 @@ module _ (map fleet riders drivers : List ℕ) (workers desks : ℕ) (old new : 
   ended-well (inr (inr worked)) zero = worked-well worked zero
 
 pub serves-well : (ask : Asked) (old new : Shelved) (out : Sunk) (status : ℕ) → IsRun ask old new out status → ServesWell ask old.told out status
-serves-well (a_replay map fleet feed) old new out status run = tt
-serves-well (an_ahead map fleet feed reach) old new out status run = tt
-serves-well (an_audit map fleet log) old new out status run = tt
 serves-well (a_service map fleet riders drivers workers desks) old new out status run = ended-well map fleet riders drivers workers desks old new out status run.ended
-serves-well (a_drill plan) old new out status run = tt
-serves-well (a_booking feed) old new out status run = tt
-serves-well (a_league map fleet second feed) old new out status run = tt
+serves-well _ old new out status run = tt
 
--- where the words ask for it
-pub served-some : (o : Option Asked) (asked : Asked) (told : Option Contents) (out : Sunk) (status : ℕ) → o ≡ Some asked → ServesWell asked told out status
-    → IfSome o (λ a. ServesWell a told out status)
-served-some o asked told out status is well = subst (λ (x : Option Asked). IfSome x (λ a. ServesWell a told out status)) (sym is) well
+-- where memory was wanting for the words nothing ran whole
+pub served-none : (o : Option Asked) (told : Option Contents) (out : Sunk) (status : ℕ) → status ≡ 1
+    → IfSome o (λ ask. ServesWell ask told out status)
+served-none None told out status one = tt
+served-none (Some (a_service map fleet riders drivers workers desks)) told out status one = λ zero. absurd (omega (arith, one, zero))
+served-none (Some _) told out status one = tt

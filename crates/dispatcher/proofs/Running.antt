@@ -1,109 +1,133 @@
 -- Runs for what was asked: those that stopped, and those that did their work.
-use Rattle.dispatcher.proofs.Common.{◌≡◌, ◌⊎◌, inl, inr, ℕ, ◌+◌, List, [], ◌∷◌, ◌++◌, Option, Some, None, IfSome, refl, sym, ap, subst, ◌∙◌, arith, length-append, All, length, map, map-append, All-append, all_of_one, Contents, GivenBack, Rose, map_format, Asked, File, files_of, name_of, FailsAt, Meaning, Means, said_of, status_of, StopsReading, AreRead, Does, HasStopped, HasWorked, IsOver, IsRun, IsUnread, AreGivenBack, IsBackOf, IsFresh, IsLeftOf, IsSpent, IsUntouched, SaysTo, Shelved, Sunk, bytes_of, told_bytes, Did, DoesWork, HandsBack, Work, Stop, ShelfFault}
-use Rattle.dispatcher.proofs.Bringing.{asks-none}
+use Rattle.dispatcher.proofs.Common.{◌≡◌, ◌⊎◌, inl, inr, ℕ, ◌+◌, List, [], ◌∷◌, ◌++◌, Option, Some, None, IfSome, refl, sym, ap, subst, ◌∙◌, arith, length-append, All, length, map, append_assoc, map-append, All-append, all_of_none, all_of_one, all_of_two, Contents, GivenBack, Rose, Asked, a_service, File, feed_file, fleet_file, files_of, map_file, name_of, Meaning, Means, said_of, status_of, StopsAt, StopsReading, AreRead, Does, HasStopped, HasWorked, IsOver, IsRun, IsUnread, IsBackOf, IsSpent, IsUntouched, SaysTo, Shelved, Sunk, told_bytes, FeedRun, Did, DoesWork, Work, Stop, ShelfFault, Hands, MissesAfter}
+use Rattle.dispatcher.specs.inner.Sources.{ServesFeeds}
 use Rattle.dispatcher.proofs.Completing.{completes}
-use Rattle.dispatcher.proofs.Reading.{back-next, back-length, one-stops, stops-for_fault, stops-longer}
+use Rattle.dispatcher.proofs.Reading.{asked-more, back-more, many-back}
 use Rattle.dispatcher.proofs.Saying.{says-nothing}
 
 -- a run, by how it ended
 pub run-of : (ask : Asked) (old new : Shelved) (out : Sunk) (status : ℕ)
     → IsUnread new out status ⊎ HasStopped (files_of ask) old new out status ⊎ HasWorked ask old new out status → IsRun ask old new out status
-run-of ask old new out status ended = record { ended = ended; complete = completes ask old new out status ended }
-
--- memory was wanting before it began
-pub unread-run : (ask : Asked) (old : Shelved) (out : Sunk) → IsFresh old → IsUntouched out → IsRun ask old old out 1
-unread-run ask old out fresh untouched = run-of ask old old out 1 (inl (record {
-  wanting = refl;
-  none_asked = fresh.none_asked;
-  none_brought = fresh.none_brought;
-  none_back = fresh.none_back;
-  untouched = untouched;
-}))
+run-of ask old new out status ended = record { ended = ended; complete = λ m whole. completes ask old new out status ended m whole }
 
 -- it stopped at one of its first files
 pub stopped-run : (ask : Asked) (files more : List File) (old new : Shelved) (out : Sunk) (status : ℕ) (stop : Stop) → files_of ask ≡ files ++ more
-    → StopsReading files stop old new → (status ≡ status_of stop) ⊎ (status ≡ 1) → (status ≡ status_of stop → SaysTo out (said_of stop))
+    → ((later : List File) → StopsReading (files ++ later) stop old new) → (status ≡ status_of stop) ⊎ (status ≡ 1) → (status ≡ status_of stop → SaysTo out (said_of stop))
     → (status ≡ 1 → IsUntouched out) → IsRun ask old new out status
 stopped-run ask files more old new out status stop are stops status_is said no_memory = run-of ask old new out status (inr (inl (record {
   stop = stop;
-  reading = subst (λ (l : List File). StopsReading l stop old new) (sym are) (stops-longer files more stop old new stops);
+  reading = subst (λ (l : List File). StopsReading l stop old new) (sym are) (stops more);
   status_is = status_is;
   said = said;
   no_memory = no_memory;
 })))
 
--- a name that was not brought after the first files of a run
-module _ (files : List File) (file : File) (later : List File) (m : Meaning) (old mid new : Shelved) (out : Sunk) where
-  pub missed : ((s : GivenBack) → FailsAt old.told m file s) → AreRead files m old mid
-      → new.told ≡ mid.told → new.asked ≡ mid.asked ++ name_of file ∷ [] → new.back ≡ mid.back → new.brought ≡ mid.brought → Rose mid.faults new.faults
-      → IsUntouched out → HasStopped (files ++ file ∷ later) old new out 5
-  missed fails read told asked back brought rose untouched = record {
-    stop = ShelfFault;
-    reading = one-stops files m file map_format old mid new later ShelfFault read
-        (asks-none map_format (name_of file) mid new told asked back brought rose) (stops-for_fault old.told m file) (λ s failed. fails s);
-    status_is = inl refl;
-    said = λ is. says-nothing out.before out.after out.faults_before out.faults_after untouched;
-    no_memory = λ is. untouched;
-  }
-
-  pub missed-run : (ask : Asked) → files_of ask ≡ files ++ file ∷ later → ((s : GivenBack) → FailsAt old.told m file s) → AreRead files m old mid
-      → new.told ≡ mid.told → new.asked ≡ mid.asked ++ name_of file ∷ [] → new.back ≡ mid.back → new.brought ≡ mid.brought → Rose mid.faults new.faults
-      → IsUntouched out → IsRun ask old new out 5
-  missed-run ask are fails read told asked back brought rose untouched =
-      run-of ask old new out 5 (inr (inl (subst (λ (l : List File). HasStopped l old new out 5) (sym are)
-      (missed fails read told asked back brought rose untouched))))
-
--- a work was done over the last file of a run
-module _ (ask : Asked) (files : List File) (file : File) (work : Work) (m : Meaning) (old mid new : Shelved) (out : Sunk) (status : ℕ)
-    (are : files_of ask ≡ files ++ file ∷ []) (read : AreRead files m old mid) where
-  worked-run : Means old.told m file → ((feed : IsOver old.told (name_of file) new.back) → Did work feed.feed out status → Does ask old.told m new.back out status)
-      → HandsBack work (name_of file) mid new out status → IsRun ask old new out status
-  worked-run means does done =
-      let many : length new.back ≡ length mid.back + 1 = ap length done.back ∙ length-append mid.back (done.source ∷ []) in
-      let all : length (files_of ask) ≡ length files + 1 = ap length are ∙ length-append files (file ∷ []) in
-      let over : IsOver old.told (name_of file) new.back = record {
-        feed = done.feed;
-        source = done.source;
-        earlier = mid.back;
-        back_is = done.back;
-        of_file = subst (λ (t : Option Contents). IsBackOf (told_bytes t (name_of file)) done.source done.feed) read.told done.of_file;
-      } in
-      run-of ask old new out status (inr (inr (record {
-        all_asked = done.asked ∙ ap (λ l. l ++ name_of file ∷ []) read.asked ∙ sym (map-append name_of files (file ∷ [])) ∙ ap (map name_of) (sym are);
-        all_brought = omega (arith, done.brought, read.brought, all);
-        back = record {
-          all_back = omega (arith, many, done.brought, read.back.all_back);
-          in_order = subst (λ (l : List File). AreGivenBack (bytes_of old.told l) new.back) (sym are)
-              (subst (λ (l : List GivenBack). AreGivenBack (bytes_of old.told (files ++ file ∷ [])) l) (sym done.back)
-              (subst (λ (l : List (Option (List ℕ))). AreGivenBack l (mid.back ++ done.source ∷ []))
-              (sym (map-append (λ (f : File). told_bytes old.told (name_of f)) files (file ∷ [])))
-              (back-next (bytes_of old.told files) (told_bytes old.told (name_of file)) [] mid.back done.source read.back.in_order
-              (back-length files m old mid read)
-              (done.taken, subst (λ (t : Option Contents). IsLeftOf (told_bytes t (name_of file)) done.source done.taken) read.told done.left))));
-        };
-        meaning = m;
-        means = subst (λ (l : List File). All (Means old.told m) l) (sym are)
-            (All-append (Means old.told m) files (file ∷ []) read.means (all_of_one (Means old.told m) file means));
-        did = does over done.did;
-        all_read = λ zero. subst (λ (l : List GivenBack). All IsSpent l) (sym done.back)
-            (All-append IsSpent mid.back (done.source ∷ []) read.spent (all_of_one IsSpent done.source (done.spent zero)));
-        shelf_sound = λ zero. done.shelf_sound zero ∙ read.faults;
-        sink_sound = done.sink_sound;
-        shelf_fault = λ five. subst (λ (k : ℕ). Rose k new.faults) read.faults (done.shelf_fault five);
-        sink_fault = done.sink_fault;
-        untouched = λ none. absurd (omega (arith, all, ap (λ (l : List File). length l) none));
-      })))
-
-  -- or its name was not brought
-  pub work-run : ((s : GivenBack) → FailsAt old.told m file s) → Means old.told m file
-      → ((feed : IsOver old.told (name_of file) new.back) → Did work feed.feed out status → Does ask old.told m new.back out status)
-      → DoesWork work (name_of file) mid new out status → IsRun ask old new out status
-  work-run fails means does (inl none) =
-      subst (λ (k : ℕ). IsRun ask old new out k) (sym none.status_is)
-      (missed-run files file [] m old mid new out ask are fails read none.told none.asked none.back none.brought none.rose none.untouched)
-  work-run fails means does (inr done) = worked-run means does done
-
 -- what a feed or a log means is not asked
 pub any-text : (file : Option (List ℕ)) → IfSome file (λ text. Unit {0})
 any-text None = tt
 any-text (Some text) = tt
+
+-- the first files of a run were read
+module _ (files : List File) (m : Meaning) (old mid new : Shelved) (out : Sunk) (status : ℕ) (read : AreRead files m old mid) where
+  -- and a name was not brought, after others
+  pub missed : (others : List File) (file : File) (later : List File) → All (Means old.told m) others → StopsAt old.told m file ShelfFault
+      → MissesAfter (map name_of others) (name_of file) mid new out status → HasStopped (files ++ (others ++ file ∷ later)) old new out status
+  missed others file later means why misses =
+      let names = map name_of others ++ name_of file ∷ [] in
+      let names_are : names ≡ map name_of (others ++ file ∷ []) = sym (map-append name_of others (file ∷ [])) in
+      let asked : new.asked ≡ map name_of (files ++ (others ++ file ∷ [])) =
+      misses.adds.asked ∙ ap (λ l. l ++ names) read.asked ∙ ap (λ l. map name_of files ++ l) names_are ∙ sym (map-append name_of files (others ++ file ∷ [])) in
+      let back = many-back files m old mid new read in
+      let many : length new.asked ≡ length mid.asked + (length (map name_of others) + 1) =
+      ap length misses.adds.asked ∙ length-append mid.asked names ∙ ap (λ k. length mid.asked + k) (length-append (map name_of others) (name_of file ∷ [])) in
+      record {
+        stop = ShelfFault;
+        reading = record {
+          earlier = files ++ others;
+          file = file;
+          later = later;
+          files_are = sym (append_assoc files others (file ∷ later));
+          asked_are = asked ∙ ap (map name_of) (sym (append_assoc files others (file ∷ [])));
+          meaning = m;
+          means = All-append (Means old.told m) files others read.means means;
+          why = why;
+          back = back-more files m old mid new read names misses.sources misses.adds misses.left;
+          rose = λ is. subst (λ (k : ℕ). Rose k new.faults) read.faults misses.rose;
+          before_fault = λ first source is all last. absurd (omega (arith, all, many, misses.adds.counted, misses.all_back, back, read.back.all_back));
+        };
+        status_is = inl misses.status_is;
+        said = λ is. says-nothing out misses.untouched;
+        no_memory = λ is. misses.untouched;
+      }
+
+  -- and a work was done over the others
+  worked-run : (ask : Asked) (more : List File) (sources : List GivenBack) → files_of ask ≡ files ++ more → All (Means old.told m) more
+      → length sources ≡ length more → Hands (map name_of more) sources mid new out status → Does ask old.told m new.back out status
+      → (files_of ask ≡ [] → new ≡ old) → IsRun ask old new out status
+  worked-run ask more sources are means many hands did untouched = run-of ask old new out status (inr (inr (record {
+    all_asked = asked-more files m old mid new read more (length sources) sources hands.adds ∙ ap (map name_of) (sym are);
+    all_brought = omega (arith, hands.adds.counted, read.brought, many, length-append files more, ap (λ (l : List File). length l) are);
+    back = back-more files m old mid new read (map name_of more) sources hands.adds hands.left;
+    meaning = m;
+    means = subst (λ (l : List File). All (Means old.told m) l) (sym are) (All-append (Means old.told m) files more read.means means);
+    did = did;
+    all_read = λ zero. subst (λ (l : List GivenBack). All IsSpent l) (sym hands.adds.kept)
+        (All-append IsSpent mid.back sources read.spent (hands.spent zero));
+    shelf_sound = λ zero. hands.shelf_sound zero ∙ read.faults;
+    sink_sound = hands.sink_sound;
+    shelf_fault = λ five. subst (λ (k : ℕ). Rose k new.faults) read.faults (hands.shelf_fault five);
+    sink_fault = hands.sink_fault;
+    untouched = untouched;
+  })))
+
+  pub work-run : (ask : Asked) (file : File) (work : Work) → files_of ask ≡ files ++ file ∷ [] → StopsAt old.told m file ShelfFault
+      → Means old.told m file → ((feed : IsOver old.told (name_of file) new.back) → Did work feed.feed out status → Does ask old.told m new.back out status)
+      → DoesWork work (name_of file) mid new out status → IsRun ask old new out status
+  work-run ask file work are why means does (inl misses) = run-of ask old new out status (inr (inl
+      (subst (λ (l : List File). HasStopped l old new out status) (sym are) (missed [] file [] (all_of_none (Means old.told m)) why misses))))
+  work-run ask file work are why means does (inr done) =
+      worked-run ask (file ∷ []) (done.source ∷ []) are (all_of_one (Means old.told m) file means) refl done.hands
+      (does (record {
+        feed = done.feed;
+        source = done.source;
+        earlier = mid.back;
+        back_is = done.hands.adds.kept;
+        of_file = subst (λ (t : Option Contents). IsBackOf (told_bytes t (name_of file)) done.source done.feed) read.told done.of_file;
+      }) done.did)
+      (λ none. absurd (omega (arith, ap (λ (l : List File). length l) are ∙ length-append files (file ∷ []), ap (λ (l : List File). length l) none)))
+
+-- the texts of a service were read
+pub serve-run : (map_name fleet riders drivers : List ℕ) (workers desks : ℕ) (m : Meaning) (old mid new : Shelved) (out : Sunk) (status : ℕ)
+    → AreRead (map_file map_name ∷ fleet_file fleet ∷ []) m old mid → ServesFeeds m desks riders drivers mid new out status
+    → IsRun (a_service map_name fleet riders drivers workers desks) old new out status
+serve-run map_name fleet riders drivers workers desks m old mid new out status read (inl none) =
+    run-of (a_service map_name fleet riders drivers workers desks) old new out status (inr (inl
+    (missed (map_file map_name ∷ fleet_file fleet ∷ []) m old mid new out status read [] (feed_file riders) (feed_file drivers ∷ [])
+    (all_of_none (Means old.told m)) (inr refl) none)))
+serve-run map_name fleet riders drivers workers desks m old mid new out status read (inr (inl one)) =
+    run-of (a_service map_name fleet riders drivers workers desks) old new out status (inr (inl
+    (missed (map_file map_name ∷ fleet_file fleet ∷ []) m old mid new out status read (feed_file riders ∷ []) (feed_file drivers) []
+    (all_of_one (Means old.told m) (feed_file riders) (any-text _)) (inr refl) one)))
+serve-run map_name fleet riders drivers workers desks m old mid new out status read (inr (inr both)) =
+    let of_file = λ (name : List ℕ). λ (source : GivenBack). λ (feed : FeedRun). λ (is : IsBackOf (told_bytes mid.told name) source feed).
+    subst (λ (t : Option Contents). IsBackOf (told_bytes t name) source feed) read.told is in
+    worked-run (map_file map_name ∷ fleet_file fleet ∷ []) m old mid new out status read
+    (a_service map_name fleet riders drivers workers desks) (feed_file riders ∷ feed_file drivers ∷ [])
+    (both.first_source ∷ both.second_source ∷ []) refl
+    (all_of_two (Means old.told m) (feed_file riders) (feed_file drivers) (any-text _) (any-text _)) refl both.hands (
+      record {
+        feed = both.second;
+        source = both.second_source;
+        earlier = mid.back ++ both.first_source ∷ [];
+        back_is = both.hands.adds.kept ∙ sym (append_assoc mid.back (both.first_source ∷ []) (both.second_source ∷ []));
+        of_file = of_file drivers both.second_source both.second both.of_second;
+      },
+      record {
+        feed = both.first;
+        source = both.first_source;
+        earlier = mid.back;
+        back_is = refl;
+        of_file = of_file riders both.first_source both.first both.of_first;
+      },
+      both.serves,
+    ) (λ none. absurd (cc none))

@@ -1,12 +1,8 @@
 pub mod Refusals
 pub mod Shelves
 pub mod Meanings
-pub mod Formats
-pub mod Readings
 pub mod Works
 pub mod Verdicts
-pub mod Services
 pub mod Runs
-pub mod Whole
 pub mod Mission
 pub mod inner

@@ -1,17 +1,20 @@
 -- What the texts of a run mean, and why one stops it.
-use Rattle.std.specs.Prelude.{◌≡◌, ◌⊎◌, ℕ, ⊤, List, [], Option, Ok, Err, IfSome}
-use Rattle.ride_ports.specs.Contents.{Contents}
+use Rattle.std.specs.Prelude.{◌≡◌, ◌⊎◌, ℕ, ◌≤◌, ⊤, List, [], length, Option, Ok, Err, IfSome, IsOk}
+use Rattle.ride_ports.specs.Contents.{Contents, GivenBack}
+use Rattle.line_text.specs.Texts.{Format, after_ended, text_value}
 use Rattle.ride_model.specs.Road.{RoadMap}
 use Rattle.ride_model.specs.State.{State, start_state}
 use Rattle.ride_model.specs.declared.settings.Settings.{Settings}
 use Rattle.ride_model.specs.declared.vehicle.Vehicle.{Vehicle}
-use Rattle.gr_reader.specs.declared.errors.MapError.TheVariants.{TooLong}
-use Rattle.gr_reader.specs.MapText.{map_text}
-use Rattle.fleet_file.specs.declared.errors.FleetError.TheVariants.{TooLong as FleetTooLong}
-use Rattle.fleet_file.specs.FleetText.{fleet_text}
+use Rattle.gr_reader.specs.declared.errors.MapError.{MapError}
+use Rattle.gr_reader.specs.declared.errors.MapError.TheVariants.{TooLong, ReadFault, NoMemory as NoMemoryForMap}
+use Rattle.gr_reader.specs.MapText.{map_format, map_text}
+use Rattle.fleet_file.specs.declared.errors.FleetError.{FleetError}
+use Rattle.fleet_file.specs.declared.errors.FleetError.TheVariants.{TooLong as FleetTooLong, ReadFault as FleetReadFault, NoMemory as NoMemoryForFleet}
+use Rattle.fleet_file.specs.FleetText.{fleet_format, fleet_text}
 use Rattle.run_words.specs.Words.{File, map_file, fleet_file, second_fleet_file, feed_file, log_file, name_of}
-use Rattle.dispatcher.specs.Refusals.{IsOfMap, IsOfFleet, map_refusal, fleet_refusal}
-use Rattle.dispatcher.specs.Shelves.{told_bytes}
+use Rattle.dispatcher.specs.Refusals.{map_refusal, fleet_refusal}
+use Rattle.dispatcher.specs.Shelves.{IsLeftOf, told_bytes}
 use Rattle.dispatcher.specs.declared.stop.Stop.{Stop}
 use Rattle.dispatcher.specs.declared.stop.Stop.TheVariants.{NoMemory, ShelfFault, LimitPassed, MapRefused, FleetRefused}
 
@@ -36,28 +39,50 @@ IsTextOf m (log_file name) text = ⊤
 abbrev pub Means : Option Contents → Meaning → File → Type 0
 Means told m file = IfSome (told_bytes told (name_of file)) (IsTextOf m file)
 
--- why a run stops at a map of these bytes: want of memory or a fault of the shelf, or what they are a text of, where they are told
-abbrev pub StopsMap : Option (List ℕ) → Stop → Type 0
-StopsMap told NoMemory = ⊤
-StopsMap told ShelfFault = ⊤
-StopsMap told LimitPassed = IfSome told (λ bytes. map_text bytes ≡ Err TooLong)
-StopsMap told (MapRefused e) = IsOfMap e × IfSome told (λ bytes. map_text bytes ≡ Err e)
-StopsMap told (FleetRefused e) = ⊥
+-- what a map's error stops a run for, and a fleet file's
+abbrev pub stop_of_map : MapError → Stop
+stop_of_map TooLong = LimitPassed
+stop_of_map ReadFault = ShelfFault
+stop_of_map NoMemoryForMap = NoMemory
+stop_of_map e = MapRefused e
 
--- and at a fleet file over a map of so many nodes
-abbrev pub StopsFleet : ℕ → Option (List ℕ) → Stop → Type 0
-StopsFleet nodes told NoMemory = ⊤
-StopsFleet nodes told ShelfFault = ⊤
-StopsFleet nodes told LimitPassed = IfSome told (λ bytes. fleet_text nodes bytes ≡ Err FleetTooLong)
-StopsFleet nodes told (MapRefused e) = ⊥
-StopsFleet nodes told (FleetRefused e) = IsOfFleet e × IfSome told (λ bytes. fleet_text nodes bytes ≡ Err e)
+abbrev pub stop_of_fleet : FleetError → Stop
+stop_of_fleet FleetTooLong = LimitPassed
+stop_of_fleet FleetReadFault = ShelfFault
+stop_of_fleet NoMemoryForFleet = NoMemory
+stop_of_fleet e = FleetRefused e
 
--- why a run stops at a file, where the texts before it mean this. Feeds and logs are judged as they are read
+-- why a run stops at a text of this format: memory was wanting, the shelf failed, or the text's
+-- error, which is that of its bytes where they are told
+abbrev pub StopsBy : {S V E : Type 0} → Format S V E → (E → Stop) → Option (List ℕ) → Stop → Type 0
+StopsBy {E} format stop_of told stop = (stop ≡ NoMemory) ⊎ (stop ≡ ShelfFault)
+    ⊎ ((e : E) × (stop ≡ stop_of e) × IfSome told (λ bytes. text_value format bytes ≡ Err e))
+
+-- why one stops at a file, where the texts before it mean this. Feeds and logs are judged as they
+-- are read
 abbrev pub StopsAt : Option Contents → Meaning → File → Stop → Type 0
-StopsAt told m (map_file name) stop = StopsMap (told_bytes told name) stop
-StopsAt told m (fleet_file name) stop = StopsFleet m.network.nodes (told_bytes told name) stop
-StopsAt told m (second_fleet_file name) stop = StopsFleet m.network.nodes (told_bytes told name) stop
+StopsAt told m (map_file name) stop = StopsBy map_format stop_of_map (told_bytes told name) stop
+StopsAt told m (fleet_file name) stop =
+    StopsBy (fleet_format m.network.nodes) stop_of_fleet (told_bytes told name) stop
+StopsAt told m (second_fleet_file name) stop =
+    StopsBy (fleet_format m.network.nodes) stop_of_fleet (told_bytes told name) stop
 StopsAt told m _ stop = (stop ≡ NoMemory) ⊎ (stop ≡ ShelfFault)
+
+-- a source failed within the limit of its text, and no line was faulty that was read whole
+pub record FailsIn {S V E : Type 0} (format : Format S V E) (file : Option (List ℕ)) (source : GivenBack) : Type 0 where
+  pub taken : List ℕ
+  pub left : IsLeftOf file source taken
+  pub within : length taken ≤ format.most
+  pub sound : IsOk (after_ended format taken)
+
+-- the same of a map or a fleet file over a network
+abbrev pub FailsAt : Option Contents → Meaning → File → GivenBack → Type 0
+FailsAt told m (map_file name) source = FailsIn map_format (told_bytes told name) source
+FailsAt told m (fleet_file name) source =
+    FailsIn (fleet_format m.network.nodes) (told_bytes told name) source
+FailsAt told m (second_fleet_file name) source =
+    FailsIn (fleet_format m.network.nodes) (told_bytes told name) source
+FailsAt told m _ source = ⊤
 
 -- the exit status of a run that stopped, and the line that it says
 abbrev pub status_of : Stop → ℕ

@@ -1,25 +1,40 @@
 -- How a run over the files of what was asked for ends.
-use Rattle.std.specs.Prelude.{◌≡◌, ◌⊎◌, ℕ, List, [], ◌∷◌, ◌++◌, length, map, All, Option, Some, None, codes}
+use Rattle.std.specs.Prelude.{◌≡◌, ◌⊎◌, ℕ, ⊤, List, [], ◌∷◌, ◌++◌, length, map, All, Option, Some, None, codes}
 use Rattle.ride_ports.specs.Contents.{Contents, GivenBack}
 use Rattle.ride_ports.specs.Count.{Rose}
+use Rattle.line_text.specs.line_reader.Limits.{IsTooLong, IsWithinLimits}
+use Rattle.command_lines.specs.Limits.{feed_limits}
+use Rattle.log_audit.specs.Limits.{log_limits}
 use Rattle.live_sessions.specs.Serving.{FeedRun}
-use Rattle.run_words.specs.Words.{Asked, a_replay, an_ahead, an_audit, a_service, a_drill, a_booking, a_league, File, files_of, name_of}
-use Rattle.dispatcher.specs.Meanings.{Meaning, Means, said_of, status_of}
-use Rattle.dispatcher.specs.Readings.{StopsReading}
-use Rattle.dispatcher.specs.Services.{Serves}
-use Rattle.dispatcher.specs.Shelves.{AreBack, IsBackOf, IsSpent, IsUntouched, SaysTo, Shelved, Sunk, told_bytes}
+use Rattle.run_words.specs.Words.{Asked, a_replay, an_ahead, an_audit, a_service, a_drill, a_booking, a_league, feed_file, File, files_of, log_file, name_of}
+use Rattle.dispatcher.specs.Meanings.{FailsAt, IsTextOf, Meaning, Means, said_of, status_of, StopsAt}
+use Rattle.dispatcher.specs.Shelves.{AreBack, IsBackOf, IsFresh, IsSpent, IsUntouched, SaysTo, Shelved, Sunk, told_bytes}
 use Rattle.dispatcher.specs.Verdicts.{Audits}
-use Rattle.dispatcher.specs.Whole.{AreWhole, MayEnd}
-use Rattle.dispatcher.specs.Works.{Books, Drills, PlaysLeague, Replays}
+use Rattle.dispatcher.specs.Works.{Books, Drills, PlaysLeague, Replays, Serves}
 use Rattle.dispatcher.specs.declared.stop.Stop.{Stop}
+use Rattle.dispatcher.specs.declared.stop.Stop.TheVariants.{ShelfFault}
 
 -- memory was wanting before anything was asked for
 pub record IsUnread (shelf : Shelved) (out : Sunk) (status : ℕ) : Type 0 where
   pub wanting : status ≡ 1
-  pub none_asked : shelf.asked ≡ []
-  pub none_brought : shelf.brought ≡ 0
-  pub none_back : shelf.back ≡ []
+  pub fresh : IsFresh shelf
   pub untouched : IsUntouched out
+
+-- a run stopped at the file that was asked for last, behind files that mean this. The shelf's count rose where it says so; where that
+-- file had been brought, its source failed within the limit of its text, after no faulty line
+pub record StopsReading (files : List File) (stop : Stop) (old new : Shelved) : Type 0 where
+  pub earlier : List File
+  pub file : File
+  pub later : List File
+  pub files_are : files ≡ earlier ++ file ∷ later
+  pub asked_are : new.asked ≡ map name_of (earlier ++ file ∷ [])
+  pub meaning : Meaning
+  pub means : All (Means old.told meaning) earlier
+  pub why : StopsAt old.told meaning file stop
+  pub back : AreBack old.told new
+  pub rose : stop ≡ ShelfFault → Rose old.faults new.faults
+  pub before_fault : (first : List GivenBack) (source : GivenBack) → stop ≡ ShelfFault → new.brought ≡ length new.asked → new.back ≡ first ++ source ∷ []
+      → FailsAt old.told meaning file source
 
 -- a run stopped before its work: the status and the line tell why, unless memory was wanting for that
 pub record HasStopped (files : List File) (old new : Shelved) (out : Sunk) (status : ℕ) : Type 0 where
@@ -53,7 +68,7 @@ Does (a_league map fleet second feed) told m back out status = (over : IsOver to
 pub record HasWorked (ask : Asked) (old new : Shelved) (out : Sunk) (status : ℕ) : Type 0 where
   pub all_asked : new.asked ≡ map name_of (files_of ask)
   pub all_brought : new.brought ≡ length (files_of ask)
-  pub back : AreBack old.told (files_of ask) new
+  pub back : AreBack old.told new
   pub meaning : Meaning
   pub means : All (Means old.told meaning) (files_of ask)
   pub did : Does ask old.told meaning new.back out status
@@ -66,15 +81,32 @@ pub record HasWorked (ask : Asked) (old new : Shelved) (out : Sunk) (status : �
 
 -- the words are not in order: that is said, unless memory was wanting, and nothing is asked for
 pub record RefusesWords (shelf : Shelved) (out : Sunk) (status : ℕ) : Type 0 where
-  pub none_asked : shelf.asked ≡ []
-  pub none_brought : shelf.brought ≡ 0
-  pub none_back : shelf.back ≡ []
+  pub fresh : IsFresh shelf
   pub statuses : (status ≡ 2) ⊎ (status ≡ 1)
   pub said : status ≡ 2 → SaysTo out (codes "words refused\n")
   pub unread : status ≡ 1 → IsUntouched out
+
+-- feeds and logs are within their limits
+abbrev pub IsWithin : File → List ℕ → Type 0
+IsWithin (feed_file name) bytes = IsWithinLimits feed_limits bytes
+IsWithin (log_file name) bytes = IsTooLong log_limits bytes → ⊥
+IsWithin _ bytes = ⊤
+
+-- the bytes of a file are told, and are its text
+pub record IsWhole (told : Option Contents) (m : Meaning) (file : File) : Type 0 where
+  pub bytes : List ℕ
+  pub bytes_are : told_bytes told (name_of file) ≡ Some bytes
+  pub text : IsTextOf m file bytes
+  pub within : IsWithin file bytes
+
+-- how a run ends that no fault kept from its end: whole, or for want of memory; an audit may find its log wrong
+abbrev pub MayEnd : Asked → ℕ → Type 0
+MayEnd (an_audit map fleet log) status = (status ≡ 0) ⊎ (status ≡ 1) ⊎ (status ≡ 7)
+MayEnd _ status = (status ≡ 0) ⊎ (status ≡ 1)
 
 -- a run for what was asked ended so: memory was wanting before it began, or it stopped over a file, or it did its work. Where the
 -- files are whole and no count rose, it did its work whole, or memory was wanting
 pub record IsRun (ask : Asked) (old new : Shelved) (out : Sunk) (status : ℕ) : Type 0 where
   pub ended : IsUnread new out status ⊎ HasStopped (files_of ask) old new out status ⊎ HasWorked ask old new out status
-  pub complete : AreWhole old.told ask → (Rose old.faults new.faults → ⊥) → (Rose out.faults_before out.faults_after → ⊥) → MayEnd ask status
+  pub complete : (m : Meaning) → All (IsWhole old.told m) (files_of ask)
+      → (Rose old.faults new.faults → ⊥) → (Rose out.faults_before out.faults_after → ⊥) → MayEnd ask status

@@ -1,10 +1,9 @@
 -- What a shelf and a sink show of a run.
-use Rattle.std.specs.Prelude.{◌≡◌, ℕ, ⊤, List, [], ◌∷◌, length, map, Option, Some, IfSome, option_and_then}
-use Rattle.ride_ports.specs.Bytes.{Reads}
+use Rattle.std.specs.Prelude.{◌≡◌, ℕ, ⊤, List, [], ◌∷◌, length, Option, Some, IfSome, option_and_then}
+use Rattle.ride_ports.specs.Bytes.{Reads, Writes, WritesPrefix}
 use Rattle.ride_ports.specs.Contents.{Contents, GivenBack, bytes_at, given_back}
+use Rattle.ride_ports.specs.Count.{Rose}
 use Rattle.live_sessions.specs.Serving.{FeedRun}
-use Rattle.run_words.specs.Words.{File, name_of}
-use Rattle.dispatcher.specs.Refusals.{Says}
 
 -- a shelf at a moment: the contents that it tells, the names that it was asked for, how many sources it brought, those that were
 -- given back, and its count of faults
@@ -45,10 +44,12 @@ pub record IsFresh (shelf : Shelved) : Type 0 where
   pub none_brought : shelf.brought ≡ 0
   pub none_back : shelf.back ≡ []
 
--- the sink took this line, and it took nothing
-abbrev pub SaysTo : Sunk → List ℕ → Type 0
-SaysTo out line = Says out.before out.after out.faults_before out.faults_after line
+-- a line was written: a prefix of it, and the whole where the sink's count of faults did not rise
+pub record SaysTo (out : Sunk) (line : List ℕ) : Type 0 where
+  pub prefix : WritesPrefix out.before out.after line
+  pub whole : (Rose out.faults_before out.faults_after → ⊥) → Writes out.before out.after line
 
+-- nothing was written
 abbrev pub IsUntouched : Sunk → Type 0
 IsUntouched out = out.after ≡ out.before
 
@@ -56,13 +57,9 @@ IsUntouched out = out.after ≡ out.before
 abbrev pub told_bytes : Option Contents → List ℕ → Option (List ℕ)
 told_bytes told name = option_and_then (λ contents. bytes_at contents name) told
 
--- the bytes of a source that was brought are those of its name, where the shelf tells them
-abbrev pub AreBytesOf : Option (List ℕ) → Option (List ℕ) → Type 0
-AreBytesOf file bytes = IfSome file (λ told. bytes ≡ Some told)
-
--- a source was brought for a file without a fault, read, and given back
+-- a source was brought for a file without a fault, with the bytes of its name where they are told; it was read, and given back
 pub record IsBackOf (file : Option (List ℕ)) (source : GivenBack) (feed : FeedRun) : Type 0 where
-  pub bytes_are : AreBytesOf file feed.bytes
+  pub bytes_are : IfSome file (λ told. feed.bytes ≡ Some told)
   pub fresh : feed.faults_before ≡ 0
   pub back : source ≡ given_back feed.faults_after feed.left
 
@@ -70,19 +67,17 @@ pub record IsBackOf (file : Option (List ℕ)) (source : GivenBack) (feed : Feed
 pub record IsLeftOf (file : Option (List ℕ)) (source : GivenBack) (taken : List ℕ) : Type 0 where
   pub left : IfSome file (λ bytes. Reads (Some bytes) source.left taken)
 
--- the sources that were given back are those of the first of these files, in order
-abbrev pub AreGivenBack : List (Option (List ℕ)) → List GivenBack → Type 0
-AreGivenBack files [] = ⊤
-AreGivenBack [] (source ∷ sources) = ⊥
-AreGivenBack (file ∷ files) (source ∷ sources) = ((taken : List ℕ) × IsLeftOf file source taken) × AreGivenBack files sources
+-- the sources that were given back are those of the first of these names, in order
+abbrev pub AreGivenBack : Option Contents → List (List ℕ) → List GivenBack → Type 0
+AreGivenBack told names [] = ⊤
+AreGivenBack told [] (source ∷ sources) = ⊥
+AreGivenBack told (name ∷ names) (source ∷ sources) =
+    ((taken : List ℕ) × IsLeftOf (told_bytes told name) source taken) × AreGivenBack told names sources
 
-abbrev pub bytes_of : Option Contents → List File → List (Option (List ℕ))
-bytes_of told files = map (λ (file : File). told_bytes told (name_of file)) files
-
--- every source that was brought was given back, in the order of the files
-pub record AreBack (told : Option Contents) (files : List File) (shelf : Shelved) : Type 0 where
+-- every source that was brought was given back, in the order in which the names were asked for
+pub record AreBack (told : Option Contents) (shelf : Shelved) : Type 0 where
   pub all_back : length shelf.back ≡ shelf.brought
-  pub in_order : AreGivenBack (bytes_of told files) shelf.back
+  pub in_order : AreGivenBack told shelf.asked shelf.back
 
 -- nothing is left of a source, and it counted no fault
 pub record IsSpent (source : GivenBack) : Type 0 where

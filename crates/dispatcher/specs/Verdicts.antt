@@ -1,5 +1,5 @@
 -- What an audit of a log finds, and how it is said.
-use Rattle.std.specs.Prelude.{◌≡◌, ◌≢◌, ◌⊎◌, ℕ, Bool, if◌then◌else◌, List, [], ◌++◌, IfSome, Result, Ok, Err, codes, decimal}
+use Rattle.std.specs.Prelude.{◌≡◌, ◌≢◌, ◌⊎◌, ℕ, if◌then◌else◌, List, [], ◌++◌, IfSome, Result, Ok, Err, codes, decimal}
 use Rattle.ride_ports.specs.Bytes.{Writes, WritesPrefix}
 use Rattle.ride_ports.specs.Count.{KeepsCount}
 use Rattle.log_audit.specs.Audit.{IsAnswer, is_read_fault}
@@ -26,14 +26,11 @@ word_of Prices = codes "prices"
 word_of Outcomes = codes "outcomes"
 
 -- the line of a log that is right, and of one that is wrong
-abbrev pub yes_or_no : Bool → List ℕ
-yes_or_no finished = if finished then codes "yes" else codes "no"
-
 abbrev pub yes_line : Totals → List ℕ
 yes_line totals =
     codes "yes entries " ++ decimal totals.entries ++ codes " confirmed " ++ decimal totals.confirmed ++ codes " away " ++ decimal totals.away
-    ++ codes " picked " ++ decimal totals.picked ++ codes " dropped " ++ decimal totals.dropped ++ codes " finished " ++ yes_or_no totals.finished
-    ++ codes "\n"
+    ++ codes " picked " ++ decimal totals.picked ++ codes " dropped " ++ decimal totals.dropped ++ codes " finished "
+    ++ (if totals.finished then codes "yes" else codes "no") ++ codes "\n"
 
 abbrev pub no_line : ℕ → Why → List ℕ
 no_line line why = codes "no " ++ decimal line ++ codes " " ++ word_of why ++ codes "\n"

@@ -1,17 +1,21 @@
--- What is done over one source, and what is written of it.
-use Rattle.std.specs.Prelude.{◌≡◌, ℕ, true, false, List, [], Option, IfSome}
+-- What is done over the sources of a run, and what is written of it.
+use Rattle.std.specs.Prelude.{◌≡◌, ◌⊎◌, ℕ, true, false, List, [], Option, IfSome}
 use Rattle.ride_ports.specs.Bytes.{Reads}
 use Rattle.ride_ports.specs.Status.{status_of}
 use Rattle.ride_ports.specs.declared.outcome.Ran.{Ran}
+use Rattle.ride_model.specs.Text.{text_of}
 use Rattle.ride_model.specs.declared.entry.Entry.{Entry}
+use Rattle.ride_model.specs.declared.entry.Ending.TheVariants.{Whole}
 use Rattle.city_maker.specs.declared.plan.CityPlan.{CityPlan}
 use Rattle.city_maker.specs.Steps.{Drilled}
 use Rattle.line_text.specs.line_reader.FeedRuns.{IsReadWhole, IsUnhindered}
+use Rattle.line_text.specs.line_reader.Limits.{IsTooLong, IsWithinLimits}
+use Rattle.command_lines.specs.Limits.{feed_limits, new_feed}
 use Rattle.session_run.specs.Ahead.{IsWrittenBy}
 use Rattle.session_run.specs.Drills.{summary_line}
 use Rattle.session_run.specs.Logged.{IsLogged}
 use Rattle.session_run.specs.Replay.{IsReplay}
-use Rattle.live_sessions.specs.Serving.{FeedRun}
+use Rattle.live_sessions.specs.Serving.{CountsFeeds, FeedRun, HasNotServed, HasServed, IsFeedOf, IsWrittenOut}
 use Rattle.booking_desk.specs.Booked.{IsBooked}
 use Rattle.fleet_league.specs.league_session.Leagued.{IsLeagued}
 use Rattle.dispatcher.specs.Meanings.{Meaning, start_of}
@@ -55,3 +59,26 @@ pub record Drills (plan : CityPlan) (out : Sunk) (status : ℕ) : Type 0 where
   pub no_limit : ran.too_long ≡ false
   pub drilled : ran.no_memory ≡ false → (entries : List Entry) × Drilled plan entries × IsLogged ran [] out.before out.after (summary_line plan entries)
   pub nothing_written : ran.no_memory ≡ true → IsUntouched out
+
+-- a service answered both feeds: what was written is the text of one legal history, in which each feed's commands stand once and in order: all of them at status 0,
+-- which comes only where both feeds are within their limits
+pub record HasAnswered (m : Meaning) (desks : ℕ) (riders drivers : FeedRun) (ran : Ran) (out : Sunk) : Type 0 where
+  pub riders_taken : List ℕ
+  pub drivers_taken : List ℕ
+  pub entries : List Entry
+  pub written : IsWrittenOut ran out.before out.after (text_of m.settings.log 2 desks entries)
+  pub legal : HasServed (start_of m) 2 desks ran entries
+  pub of_riders : IsFeedOf (new_feed m.settings.log) 1 riders ran riders_taken entries
+  pub of_drivers : IsFeedOf (new_feed m.settings.log) 2 drivers ran drivers_taken entries
+  pub all_of_riders : status_of ran ≡ 0 → of_riders.ending ≡ Whole
+  pub all_of_drivers : status_of ran ≡ 0 → of_drivers.ending ≡ Whole
+  pub too_long : ran.too_long ≡ true → IsTooLong feed_limits riders_taken ⊎ IsTooLong feed_limits drivers_taken
+  pub within : status_of ran ≡ 0 → IsWithinLimits feed_limits riders_taken × IsWithinLimits feed_limits drivers_taken
+
+-- a service ran: it answered both feeds, as far as each was read, or memory was wanting before anything was read or written. It
+-- says that a source failed only where one did
+pub record Serves (m : Meaning) (desks : ℕ) (riders drivers : FeedRun) (out : Sunk) (status : ℕ) : Type 0 where
+  pub ran : Ran
+  pub status_is : status ≡ status_of ran
+  pub served : HasNotServed riders drivers ran out.before out.after ⊎ HasAnswered m desks riders drivers ran out
+  pub counts : CountsFeeds riders drivers ran

@@ -1,5 +1,4 @@
 pub mod Statuses
+pub mod Handing
 pub mod Readings
-pub mod Stops
 pub mod Sources
-pub mod Pairs

@@ -6,10 +6,11 @@ ghost use Rattle.ride_model.specs.Settings.{IsSettings};
 ghost use Rattle.ride_ports.specs.Contents.{given_back};
 ghost use Rattle.gr_reader.specs.MapText.{map_format};
 ghost use Rattle.fleet_file.specs.FleetText.{fleet_format};
-ghost use Rattle.dispatcher.specs.inner.Readings.{stop_in, text_files, AsksOnce, IsReadBy, MayBegin, ReadsTexts};
-ghost use Rattle.dispatcher.specs.Shelves.{shelved, told_bytes, IsFresh};
-ghost use Rattle.dispatcher.specs.inner.Stops.{stop_of_fleet, stop_of_map, BringsSecond, ReadsFleet, ReadsMap};
+ghost use Rattle.dispatcher.specs.Meanings.{stop_of_fleet, stop_of_map};
+ghost use Rattle.dispatcher.specs.Shelves.{shelved, IsFresh};
+ghost use Rattle.dispatcher.specs.inner.Readings.{text_files, AsksOnce, BringsSecond, IsReadBy, MayBegin, ReadsAs, ReadsTexts};
 
+use crate::handing::{bring, give_back};
 use crate::stop::Stop;
 use adaptive_roads::Roads;
 use fleet_file::{FleetError, read_fleet};
@@ -65,27 +66,26 @@ pub fn bring_texts<H: Shelf>(
 fn bring_map<H: Shelf>(alloc: Global, shelf: &mut H, name: String) -> Result<Network, Stop>
     requires asked_room { length (H.asked shelf.old) < 8 }
     requires back_room { length (H.back shelf.old) < 8 }
-    ensures map { ReadsMap (told_bytes (H.contents shelf.old) (string_bytes name)) result }
-    ensures asks { AsksOnce map_format (string_bytes name)
+    ensures asks { AsksOnce map_format stop_of_map (string_bytes name)
         (shelved H.contents H.asked H.brought H.back H.faults shelf.old)
-        (shelved H.contents H.asked H.brought H.back H.faults shelf.new) (stop_in result) }
+        (shelved H.contents H.asked H.brought H.back H.faults shelf.new) result }
     ensures one_asked { length (H.asked shelf.new) ≡ length (H.asked shelf.old) + 1 }
     ensures one_back { length (H.back shelf.new) ≤ length (H.back shelf.old) + 1 }
 {
-    let Ok(mut source) = shelf.bring(name) else {
+    let Ok(mut source) = bring(shelf, name) else {
         return Err(Stop::ShelfFault);
     };
     let read = map_from(alloc, &mut source);
-    shelf.give_back(source);
+    give_back(shelf, source);
     read
 }
 
 // Reads a map to its answer.
 fn map_from<S: Source>(alloc: Global, source: &mut S) -> Result<Network, Stop>
     requires { S.faults source.old ≡ 0 }
-    ensures map { ReadsMap (S.left source.old) result }
+    ensures answer { ReadsAs map_format stop_of_map (S.left source.old) result }
     ensures read { IsReadBy map_format (S.left source.old)
-        (given_back (S.faults source.new) (S.left source.new)) (stop_in result) }
+        (given_back (S.faults source.new) (S.left source.new)) result }
     ensures source_fault { result ≡ Err Stop.ShelfFault → 0 < S.faults source.new }
 {
     match read_map(alloc, source) {
@@ -115,7 +115,7 @@ fn bring_second<H: Shelf>(
 ) -> Result<Fleet, Stop>
     requires asked_room { length (H.asked shelf.old) < 8 }
     requires back_room { length (H.back shelf.old) < 8 }
-    ensures brings { BringsSecond map.now (option_map string_bytes name)
+    ensures brings { BringsSecond map.now.nodes (option_map string_bytes name)
         (shelved H.contents H.asked H.brought H.back H.faults shelf.old)
         (shelved H.contents H.asked H.brought H.back H.faults shelf.new) result }
     ensures start { IfOk result (λ fleet. (settings : Settings) → IsSettings settings
@@ -139,20 +139,18 @@ fn bring_fleet<H: Shelf>(
 ) -> Result<(Settings, Fleet), Stop>
     requires asked_room { length (H.asked shelf.old) < 8 }
     requires back_room { length (H.back shelf.old) < 8 }
-    ensures fleet { ReadsFleet map.now.nodes
-        (told_bytes (H.contents shelf.old) (string_bytes name)) result }
-    ensures asks { AsksOnce (fleet_format map.now.nodes) (string_bytes name)
+    ensures asks { AsksOnce (fleet_format map.now.nodes) stop_of_fleet (string_bytes name)
         (shelved H.contents H.asked H.brought H.back H.faults shelf.old)
-        (shelved H.contents H.asked H.brought H.back H.faults shelf.new) (stop_in result) }
+        (shelved H.contents H.asked H.brought H.back H.faults shelf.new) result }
     ensures one_asked { length (H.asked shelf.new) ≡ length (H.asked shelf.old) + 1 }
     ensures one_back { length (H.back shelf.new) ≤ length (H.back shelf.old) + 1 }
     ensures start { IfOk result (λ read. MayStart map.now read.0 read.1) }
 {
-    let Ok(mut source) = shelf.bring(name) else {
+    let Ok(mut source) = bring(shelf, name) else {
         return Err(Stop::ShelfFault);
     };
     let read = fleet_from(alloc, &mut source, map);
-    shelf.give_back(source);
+    give_back(shelf, source);
     read
 }
 
@@ -163,9 +161,9 @@ fn fleet_from<S: Source>(
     map: &Network,
 ) -> Result<(Settings, Fleet), Stop>
     requires { S.faults source.old ≡ 0 }
-    ensures fleet { ReadsFleet map.now.nodes (S.left source.old) result }
+    ensures answer { ReadsAs (fleet_format map.now.nodes) stop_of_fleet (S.left source.old) result }
     ensures read { IsReadBy (fleet_format map.now.nodes) (S.left source.old)
-        (given_back (S.faults source.new) (S.left source.new)) (stop_in result) }
+        (given_back (S.faults source.new) (S.left source.new)) result }
     ensures start { IfOk result (λ read. MayStart map.now read.0 read.1) }
     ensures source_fault { result ≡ Err Stop.ShelfFault → 0 < S.faults source.new }
 {

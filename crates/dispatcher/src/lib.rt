@@ -3,6 +3,7 @@
 
 mod answering;
 mod files;
+mod handing;
 mod refusals;
 mod runs;
 mod serving;
@@ -14,6 +15,7 @@ mod verdicts;
 
 pub use answering::answer;
 pub use files::{TextNames, Texts, bring_texts};
+pub use handing::{bring, give_back};
 pub use runs::{ahead, audit, book, drill, league, replay, serve};
 pub use serving::{Crew, Feeds};
 pub use status::Status;

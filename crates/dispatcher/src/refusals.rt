@@ -1,7 +1,7 @@
 //! The lines that say why a text is refused.
 ghost use Rattle.std.specs.Prelude.{◌≡◌, IfOk};
 ghost use Rattle.dispatcher.specs.Meanings.{said_of};
-ghost use Rattle.dispatcher.specs.Refusals.{arc_count, at_line, fleet_refusal, map_refusal};
+ghost use Rattle.dispatcher.specs.Refusals.{at_line, fleet_refusal, map_refusal};
 
 use crate::stop::Stop;
 use fleet_file::FleetError;
@@ -69,7 +69,7 @@ fn at_line(alloc: Global, text: &[u8], refusal: u64, line: u64) -> Result<Vec<u8
 
 // The line of a map with another number of arcs than it says.
 fn arc_count(alloc: Global, said: u64, found: u64) -> Result<Vec<u8>, NoMemory>
-    ensures { IfOk result (λ line. line.items ≡ arc_count said found) }
+    ensures { IfOk result (λ line. line.items ≡ map_refusal (MapError.ArcCount said found)) }
 {
     let mut line = Vec::new(alloc);
     line.extend_from_slice(b"map refused 6 said ")?;

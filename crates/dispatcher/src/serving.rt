@@ -2,11 +2,12 @@
 ghost use Rattle.std.specs.Prelude.{◌<◌, ◌≤◌, length, string_bytes};
 ghost use Rattle.ride_model.specs.Limits.{most_workers};
 ghost use Rattle.ride_model.specs.Text.{IsOneOrTwo};
-ghost use Rattle.dispatcher.specs.inner.Pairs.{ServesFeeds};
-ghost use Rattle.dispatcher.specs.inner.Readings.{MayBegin, meaning_of};
 ghost use Rattle.dispatcher.specs.Shelves.{shelved, sunk};
+ghost use Rattle.dispatcher.specs.inner.Readings.{MayBegin, meaning_of};
+ghost use Rattle.dispatcher.specs.inner.Sources.{ServesFeeds};
 
 use crate::files::Texts;
+use crate::handing::{bring, give_back};
 use crate::status::Status;
 use live_sessions::Outset;
 use ride_ports::{Gate, Shelf, Sink};
@@ -57,11 +58,11 @@ pub fn serve_feeds<R: Threads + Wait + Sync, H: Shelf, K: Sink, G: Gate>(
         second: _,
     } = texts;
     let Feeds { riders, drivers } = feeds;
-    let Ok(mut riders) = shelf.bring(riders) else {
+    let Ok(mut riders) = bring(shelf, riders) else {
         return Status::SourceFailed.code();
     };
-    let Ok(mut drivers) = shelf.bring(drivers) else {
-        shelf.give_back(riders);
+    let Ok(mut drivers) = bring(shelf, drivers) else {
+        give_back(shelf, riders);
         return Status::SourceFailed.code();
     };
     let outset = Outset {
@@ -80,7 +81,7 @@ pub fn serve_feeds<R: Threads + Wait + Sync, H: Shelf, K: Sink, G: Gate>(
         out,
         gate,
     );
-    shelf.give_back(riders);
-    shelf.give_back(drivers);
+    give_back(shelf, riders);
+    give_back(shelf, drivers);
     ran.status()
 }

@@ -1,12 +1,11 @@
 //! What is done over one source, which is brought by its name and given back.
-ghost use Rattle.std.specs.Prelude.{◌<◌, ◌≤◌, length, string_bytes};
-ghost use Rattle.ride_model.specs.Limits.{longest_reach};
+ghost use Rattle.std.specs.Prelude.{◌<◌, length, string_bytes};
 ghost use Rattle.live_sessions.specs.inner.Serving.{feed_run};
 ghost use Rattle.dispatcher.specs.Shelves.{shelved, sunk};
-ghost use Rattle.dispatcher.specs.inner.Readings.{MayBegin};
-ghost use Rattle.dispatcher.specs.inner.Sources.{DoesWork, OfReach, OfTexts, WorksOver};
+ghost use Rattle.dispatcher.specs.inner.Sources.{DoesWork, MayWork, WorksOver};
 
 use crate::files::Texts;
+use crate::handing::{bring, give_back};
 use crate::status::Status;
 use crate::verdicts::say_found;
 use fleet_league::league_session;
@@ -37,18 +36,17 @@ pub fn work_over<R: Threads + Sync, H: Shelf, K: Sink>(
 ) -> u8
     requires asked_room { length (H.asked shelf.old) < 8 }
     requires back_room { length (H.back shelf.old) < 8 }
-    requires start { OfTexts MayBegin work }
-    requires reach { OfReach (λ reach. (1 ≤ reach) × (reach ≤ longest_reach)) work }
+    requires may_work { MayWork work }
     ensures { DoesWork work (string_bytes name)
         (shelved H.contents H.asked H.brought H.back H.faults shelf.old)
         (shelved H.contents H.asked H.brought H.back H.faults shelf.new)
         (sunk K.written K.faults out.old out.new) result }
 {
-    let Ok(mut source) = shelf.bring(name) else {
+    let Ok(mut source) = bring(shelf, name) else {
         return Status::SourceFailed.code();
     };
     let status = do_work(rt, alloc, work, &mut source, out);
-    shelf.give_back(source);
+    give_back(shelf, source);
     status
 }
 
@@ -60,8 +58,7 @@ fn do_work<R: Threads + Sync, S: Source, K: Sink>(
     source: &mut S,
     out: &mut K,
 ) -> u8
-    requires start { OfTexts MayBegin work }
-    requires reach { OfReach (λ reach. (1 ≤ reach) × (reach ≤ longest_reach)) work }
+    requires { MayWork work }
     ensures { WorksOver work (feed_run S.left S.faults source.old source.new)
         (sunk K.written K.faults out.old out.new) result }
 {

@@ -1,8 +1,8 @@
 //! What an audit found, as it is said.
-ghost use Rattle.std.specs.Prelude.{◌≡◌, ◌⊎◌, IfOk, Ok};
+ghost use Rattle.std.specs.Prelude.{◌≡◌, ◌⊎◌, if◌then◌else◌, codes, IfOk, Ok};
 ghost use Rattle.ride_ports.specs.Count.{Rose};
 ghost use Rattle.dispatcher.specs.Shelves.{sunk};
-ghost use Rattle.dispatcher.specs.Verdicts.{EndsBy, no_line, word_of, yes_line, yes_or_no};
+ghost use Rattle.dispatcher.specs.Verdicts.{EndsBy, no_line, word_of, yes_line};
 
 use crate::status::Status;
 use board_core::Totals;
@@ -77,7 +77,7 @@ fn yes_line(alloc: Global, totals: Totals) -> Result<Vec<u8>, NoMemory>
 }
 
 fn yes_or_no(finished: bool) -> &'static [u8]
-    ensures { result.now ≡ yes_or_no finished }
+    ensures { result.now ≡ (if finished then codes "yes" else codes "no") }
 {
     if finished { b"yes" } else { b"no" }
 }

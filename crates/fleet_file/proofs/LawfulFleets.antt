@@ -1,5 +1,5 @@
 -- Vehicles that a fleet file gives are lawful over its map, idle and of version 0.
-use Rattle.fleet_file.proofs.Common.{◌≡◌, ℕ, ◌+◌, ◌==◌, ◌||◌, nat_lt, nat_le, Bool, true, false, cond, List, [], ◌∷◌, length, take, Option, Some, None, Result, Ok, Err, refl, ap, sym, subst, arith, All, codes, is_some, list_any, bytes_eq, eqb-false, le-leb, ltb-false, or_parts, All-append, numbers_of, words_of, lines_of, and_then, after_lines, after_ended, Settings, Vehicle, MayStart, RoadMap, IsSettings, IsLawful, NewVehicle, FleetError, BadLine, TooLong, FleetSoFar, fleet_format, fleet_text, nothing_said, after_words, setting_line, setting_of, vehicle_line, vehicle_from, idle_vehicle, is_out, set_at, settings_of, has_value_out}
+use Rattle.fleet_file.proofs.Common.{◌≡◌, ℕ, ◌+◌, ◌==◌, ◌||◌, nat_lt, nat_le, Bool, true, false, cond, List, [], ◌∷◌, length, slice_index_or, take, Option, Some, None, Result, Ok, Err, refl, ap, sym, subst, arith, All, codes, is_some, list_any, bytes_eq, eqb-false, le-leb, ltb-false, or_parts, All-append, numbers_of, words_of, lines_of, and_then, after_lines, after_ended, Settings, Vehicle, MayStart, RoadMap, IsSettings, IsLawful, NewVehicle, FleetError, BadLine, TooLong, FleetSoFar, fleet_format, fleet_text, after_words, setting_line, setting_of, vehicle_line, vehicle_from, idle_vehicle, is_out, settings_of, has_value_out}
 use Rattle.std.specs.List.{IsDistinct}
 use Rattle.model_laws.proofs.plain.Each.{all_of_one, all_of_none}
 
@@ -51,7 +51,7 @@ after-setting : (map : RoadMap) (number : ℕ) (so_far next : FleetSoFar) (o : O
     → setting_line number so_far o ≡ Ok next → AllStarting map next
 after-setting map number so_far next None starting is = absurd (cc is)
 after-setting map number so_far next (Some (place, value)) all is =
-    let (_, in_range) = passed (is_some (set_at so_far.values place)) _ _ next is in
+    let (_, in_range) = passed (is_some (slice_index_or so_far.values place None)) _ _ next is in
     let (_, taken) = passed (is_out place value) _ _ next in_range in
     subst (λ (f : FleetSoFar). All (IsStarting map) f.vehicles) (same-ok _ next taken) all
 
@@ -102,10 +102,10 @@ text-starting : (map : RoadMap) (bytes : List ℕ) (settings : Settings) (vehicl
 text-starting map bytes settings vehicles is =
     elim (nat_lt 1048576 (length bytes))
     as (λ b. cond b (and_then {B = Settings × List Vehicle} (after_ended (fleet_format map.nodes) (take 1048576 bytes)) (λ _. Err TooLong))
-    (and_then {B = Settings × List Vehicle} (after_lines (fleet_format map.nodes) 1 nothing_said (lines_of bytes)) (λ so_far. Ok (settings_of so_far.values, so_far.vehicles))) ≡ Ok (settings, vehicles) → All (IsStarting map) vehicles) [
+    (and_then {B = Settings × List Vehicle} (after_lines (fleet_format map.nodes) 1 (fleet_format map.nodes).start (lines_of bytes)) (λ so_far. Ok (settings_of so_far.values, so_far.vehicles))) ≡ Ok (settings, vehicles) → All (IsStarting map) vehicles) [
       | true ↦ λ h. absurd (too_long (after_ended (fleet_format map.nodes) (take 1048576 bytes)) h)
-      | false ↦ λ h. whole (after_lines (fleet_format map.nodes) 1 nothing_said (lines_of bytes))
-          (λ next k. after-all map 1 nothing_said next (lines_of bytes) (all_of_none _) k) h
+      | false ↦ λ h. whole (after_lines (fleet_format map.nodes) 1 (fleet_format map.nodes).start (lines_of bytes))
+          (λ next k. after-all map 1 (fleet_format map.nodes).start next (lines_of bytes) (all_of_none _) k) h
     ] is
   where
     too_long : (r : Result FleetSoFar FleetError) → and_then {B = Settings × List Vehicle} r (λ _. Err TooLong) ≡ Ok (settings, vehicles) → ⊥

@@ -1,5 +1,5 @@
 -- A text's refusal is neither want of memory nor a fault of reading.
-use Rattle.fleet_file.proofs.Common.{◌≢◌, ℕ, nat_lt, nat_le, ◌==◌, ◌||◌, Bool, true, false, List, [], ◌∷◌, length, Option, Some, None, Err, refl, codes, is_some, list_any, bytes_eq, numbers_of, words_of, after_lines, Vehicle, NewVehicle, FleetError, NoMemory, ReadFault, FleetSoFar, fleet_format, fleet_text, nothing_said, after_words, setting_line, setting_of, vehicle_line, vehicle_from, is_out, set_at, has_value_out}
+use Rattle.fleet_file.proofs.Common.{◌≢◌, ℕ, nat_lt, nat_le, ◌==◌, ◌||◌, Bool, true, false, List, [], ◌∷◌, length, slice_index_or, Option, Some, None, Err, refl, codes, is_some, list_any, bytes_eq, numbers_of, words_of, after_lines, Vehicle, NewVehicle, FleetError, NoMemory, ReadFault, FleetSoFar, fleet_format, fleet_text, after_words, setting_line, setting_of, vehicle_line, vehicle_from, is_out, has_value_out}
 use Rattle.line_text.proofs.NamedRefusals.{IsNamed, named-cond, named-lines, named-text as text-named, unnamed}
 
 is_named : FleetError → Bool
@@ -11,7 +11,7 @@ named-setting : (number : ℕ) (so_far : FleetSoFar) (o : Option (ℕ × ℕ)) �
 unfolding IsNamed is_named
 named-setting number so_far None = refl
 named-setting number so_far (Some (place, value)) =
-    named-cond is_named (is_some (set_at so_far.values place)) _ _ refl (named-cond is_named (is_out place value) _ _ refl tt)
+    named-cond is_named (is_some (slice_index_or so_far.values place None)) _ _ refl (named-cond is_named (is_out place value) _ _ refl tt)
 
 named-vehicle : (nodes number : ℕ) (so_far : FleetSoFar) (o : Option NewVehicle) → IsNamed is_named (vehicle_line nodes number so_far o)
 unfolding IsNamed is_named
@@ -43,8 +43,8 @@ pub fleet_text-no_fault : (nodes : ℕ) (bytes : List ℕ) → fleet_text nodes 
 unfolding is_named
 fleet_text-no_fault nodes bytes is = unnamed is_named (fleet_text nodes bytes) ReadFault refl (named-text nodes bytes) is
 
-pub after_all-no_fault : (nodes : ℕ) (lines : List (List ℕ)) → after_lines (fleet_format nodes) 1 nothing_said lines ≢ Err ReadFault
+pub after_all-no_fault : (nodes : ℕ) (lines : List (List ℕ)) → after_lines (fleet_format nodes) 1 (fleet_format nodes).start lines ≢ Err ReadFault
 unfolding is_named
 after_all-no_fault nodes lines is =
-    unnamed is_named (after_lines (fleet_format nodes) 1 nothing_said lines) ReadFault refl
-    (named-lines is_named (fleet_format nodes) (named-line nodes) 1 nothing_said lines) is
+    unnamed is_named (after_lines (fleet_format nodes) 1 (fleet_format nodes).start lines) ReadFault refl
+    (named-lines is_named (fleet_format nodes) (named-line nodes) 1 (fleet_format nodes).start lines) is

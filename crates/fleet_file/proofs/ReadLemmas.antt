@@ -1,11 +1,11 @@
 -- What the reader has taken after one more line, and what the text gives then.
-use Rattle.fleet_file.proofs.Common.{◌≡◌, ◌≢◌, false, ℕ, ◌+◌, ◌≤◌, Option, Some, None, IfSome, List, [], ◌∷◌, ◌++◌, length, Result, Ok, Err, MatchResult, refl, ap, sym, ◌∙◌, some_bytes, words_of, ended_lines, lines_of, after_lines, after_lines-push, text_value-refused, text_value-too_long, text_value-taken, FleetError, NoMemory, ReadFault, TooLong, FleetSoFar, after_words, fleet_format, fleet_text, nothing_said, settings_of, HasTaken, IsWithin, Gives, Refuses, is_read_fault, said}
+use Rattle.fleet_file.proofs.Common.{◌≡◌, ◌≢◌, false, ℕ, ◌+◌, ◌≤◌, Option, Some, None, IfSome, List, [], ◌∷◌, ◌++◌, length, Result, Ok, Err, MatchResult, refl, ap, sym, ◌∙◌, some_bytes, words_of, ended_lines, lines_of, after_lines, after_lines-push, text_value-refused, text_value-too_long, text_value-taken, FleetError, NoMemory, ReadFault, TooLong, FleetSoFar, after_words, fleet_format, fleet_text, settings_of, HasTaken, IsWithin, Gives, Refuses, is_read_fault, said}
 use Rattle.line_text.specs.inner.Reading.{AreFirst, GoesOn, counted_lines}
 use Rattle.fleet_file.specs.declared.lines.FleetLines.{FleetLines}
 use Rattle.fleet_file.proofs.NamedLemmas.{after_all-no_fault}
 
 -- nothing was taken before the first line
-pub taken-nothing : (now : FleetLines) → said now ≡ nothing_said → IsWithin now → HasTaken now [] now
+pub taken-nothing : (now : FleetLines) → said now ≡ (fleet_format now.nodes).start → IsWithin now → HasTaken now [] now
 unfolding after_lines
 taken-nothing now nothing within = record { map = refl; within = within; after = ap (λ (s : FleetSoFar). Ok s) (sym nothing) }
 
@@ -16,8 +16,8 @@ pub taken-line : {T : Type 0} (outcome : Result T FleetError) (first old new : F
     MatchResult outcome (λ _. HasTaken first (lines ++ line ∷ []) new) (Refuses first (lines ++ line ∷ []))
 taken-line {T} outcome first old new lines line number words taken counted says same within gives = joined outcome gives
   where
-    pushed : after_lines (fleet_format first.nodes) 1 nothing_said (lines ++ line ∷ []) ≡ after_words old.nodes number (said old) words
-    pushed = after_lines-push (fleet_format first.nodes) nothing_said (said old) lines line taken.after
+    pushed : after_lines (fleet_format first.nodes) 1 (fleet_format first.nodes).start (lines ++ line ∷ []) ≡ after_words old.nodes number (said old) words
+    pushed = after_lines-push (fleet_format first.nodes) (fleet_format first.nodes).start (said old) lines line taken.after
         ∙ ap (λ m. after_words m (length lines + 1) (said old) (words_of 35 line)) (sym taken.map)
         ∙ ap (λ n. after_words old.nodes n (said old) (words_of 35 line)) (sym counted) ∙ ap (after_words old.nodes number (said old)) (sym says)
 

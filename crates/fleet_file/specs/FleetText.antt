@@ -1,5 +1,5 @@
 -- The texts of fleet files: settings and vehicles.
-use Rattle.std.specs.Prelude.{ℕ, ◌==◌, ◌||◌, nat_lt, nat_le, Bool, true, if◌then◌else◌, List, [], ◌∷◌, ◌++◌, length, map, position, slice_get, slice_set, Option, Some, None, is_some, unwrap_or, Result, Ok, Err, codes}
+use Rattle.std.specs.Prelude.{ℕ, ◌==◌, ◌||◌, nat_lt, nat_le, Bool, true, if◌then◌else◌, List, [], ◌∷◌, ◌++◌, length, map, position, slice_index_or, slice_set, Option, Some, None, is_some, option_and_then, unwrap_or, Result, Ok, Err, codes}
 use Rattle.std.specs.List.{list_any}
 use Rattle.std.specs.Str.{bytes_eq}
 use Rattle.line_text.specs.Fields.{numbers_of, words_of}
@@ -18,40 +18,31 @@ pub record Setting : Type 0 where
   pub greatest : ℕ
   pub default : ℕ
 
-abbrev pub setting : List ℕ → ℕ → ℕ → ℕ → Setting
-setting name least greatest default =
-    record { name = name; least = least; greatest = greatest; default = default }
-
 -- the settings, in the order in which their values are kept
 abbrev pub all_settings : List Setting
 all_settings =
-    setting (codes "batch") 1 largest_batch 32
-    ∷ setting (codes "penalty") 0 greatest_penalty 3600
-    ∷ setting (codes "drive") 0 greatest_weight 1
-    ∷ setting (codes "wait") 0 greatest_weight 0
-    ∷ setting (codes "lead") 0 longest_lead 0
-    ∷ setting (codes "dwell") 0 longest_dwell 0
-    ∷ setting (codes "log") 1 2 1
+    record { name = codes "batch"; least = 1; greatest = largest_batch; default = 32 }
+    ∷ record { name = codes "penalty"; least = 0; greatest = greatest_penalty; default = 3600 }
+    ∷ record { name = codes "drive"; least = 0; greatest = greatest_weight; default = 1 }
+    ∷ record { name = codes "wait"; least = 0; greatest = greatest_weight; default = 0 }
+    ∷ record { name = codes "lead"; least = 0; greatest = longest_lead; default = 0 }
+    ∷ record { name = codes "dwell"; least = 0; greatest = longest_dwell; default = 0 }
+    ∷ record { name = codes "log"; least = 1; greatest = 2; default = 1 }
     ∷ []
 
--- the place of the setting of a name, and the setting at a place
-abbrev pub place_of : List ℕ → Option ℕ
-place_of name = position (λ (s : Setting). bytes_eq s.name name) all_settings
-
+-- the setting at a place
 abbrev pub setting_at : ℕ → Setting
-setting_at place = unwrap_or (slice_get all_settings place) (setting [] 0 0 0)
+setting_at place =
+    slice_index_or all_settings place (record { name = []; least = 0; greatest = 0; default = 0 })
 
 -- whether a value is out of the range of the setting at a place
 abbrev pub is_out : ℕ → ℕ → Bool
 is_out place value =
     nat_lt value (setting_at place).least || nat_lt (setting_at place).greatest value
 
--- the value that was set at a place, if one was, and the value that the setting has there
-abbrev pub set_at : List (Option ℕ) → ℕ → Option ℕ
-set_at values place = unwrap_or (slice_get values place) None
-
+-- the value at a place: the one that was set, or else the setting's own
 abbrev pub value_at : List (Option ℕ) → ℕ → ℕ
-value_at values place = unwrap_or (set_at values place) (setting_at place).default
+value_at values place = unwrap_or (slice_index_or values place None) (setting_at place).default
 
 -- the settings with these values
 abbrev pub settings_of : List (Option ℕ) → Settings
@@ -70,22 +61,20 @@ pub record FleetSoFar : Type 0 where
   pub values : List (Option ℕ)
   pub vehicles : List Vehicle
 
-abbrev pub nothing_said : FleetSoFar
-nothing_said = record { values = map (λ _. None) all_settings; vehicles = [] }
-
 -- the place of the setting and the value after `set`
-abbrev pub setting_from : Option ℕ → Option (List ℕ) → Option (ℕ × ℕ)
-setting_from (Some place) (Some (value ∷ [])) = Some (place, value)
-setting_from _ _ = None
-
 abbrev pub setting_of : List (List ℕ) → Option (ℕ × ℕ)
 setting_of [] = None
-setting_of (name ∷ fields) = setting_from (place_of name) (numbers_of fields)
+setting_of (name ∷ fields) =
+    option_and_then (λ place.
+    elim (numbers_of fields) [ Some (value ∷ []) ↦ Some (place, value) | _ ↦ None ])
+    (position (λ (s : Setting). bytes_eq s.name name) all_settings)
 
 -- the vehicle after `vehicle`
 abbrev pub vehicle_from : Option (List ℕ) → Option NewVehicle
-vehicle_from (Some (id ∷ seats ∷ node ∷ ready ∷ [])) = Some (record { id = id; seats = seats; node = node; ready = ready; chairs = 0 })
-vehicle_from (Some (id ∷ seats ∷ node ∷ ready ∷ chairs ∷ [])) = Some (record { id = id; seats = seats; node = node; ready = ready; chairs = chairs })
+vehicle_from (Some (id ∷ seats ∷ node ∷ ready ∷ [])) =
+    Some (record { id = id; seats = seats; node = node; ready = ready; chairs = 0 })
+vehicle_from (Some (id ∷ seats ∷ node ∷ ready ∷ chairs ∷ [])) =
+    Some (record { id = id; seats = seats; node = node; ready = ready; chairs = chairs })
 vehicle_from _ = None
 
 -- a vehicle starts idle and on duty
@@ -106,28 +95,24 @@ idle_vehicle new = record {
 abbrev pub setting_line : ℕ → FleetSoFar → Option (ℕ × ℕ) → Result FleetSoFar FleetError
 setting_line number so_far None = Err (BadLine number)
 setting_line number so_far (Some (place, value)) =
-    if is_some (set_at so_far.values place)
-    then Err (Repeat number)
-    else (if is_out place value
-    then Err (ValueOut number)
+    if is_some (slice_index_or so_far.values place None) then Err (Repeat number)
+    else (if is_out place value then Err (ValueOut number)
     else Ok (record so_far { values = slice_set so_far.values place (Some value) }))
 
 -- whether a value of a vehicle is out of its range
 abbrev pub has_value_out : NewVehicle → Bool
-has_value_out new = new.seats == 0 || nat_lt most_vehicle_seats new.seats || nat_lt most_vehicle_chairs new.chairs || nat_lt latest_time new.ready
+has_value_out new =
+    new.seats == 0 || nat_lt most_vehicle_seats new.seats || nat_lt most_vehicle_chairs new.chairs
+    || nat_lt latest_time new.ready
 
 -- the tests of a vehicle, in a line of this number, over a map of so many nodes
 abbrev pub vehicle_line : ℕ → ℕ → FleetSoFar → Option NewVehicle → Result FleetSoFar FleetError
 vehicle_line nodes number so_far None = Err (BadLine number)
 vehicle_line nodes number so_far (Some new) =
-    if list_any (λ (v : Vehicle). v.id == new.id) so_far.vehicles
-    then Err (Repeat number)
-    else (if new.node == 0 || nat_lt nodes new.node
-    then Err (NodeOut number)
-    else (if has_value_out new
-    then Err (ValueOut number)
-    else (if nat_le most_vehicles (length so_far.vehicles)
-    then Err (TooMany number)
+    if list_any (λ (v : Vehicle). v.id == new.id) so_far.vehicles then Err (Repeat number)
+    else (if new.node == 0 || nat_lt nodes new.node then Err (NodeOut number)
+    else (if has_value_out new then Err (ValueOut number)
+    else (if nat_le most_vehicles (length so_far.vehicles) then Err (TooMany number)
     else Ok (record so_far { vehicles = so_far.vehicles ++ idle_vehicle new ∷ [] }))))
 
 -- what a line of this number says after the lines before it: nothing, a setting or a vehicle
@@ -135,8 +120,7 @@ abbrev pub after_words : ℕ → ℕ → FleetSoFar → Option (List (List ℕ))
 after_words nodes number so_far None = Err (BadLine number)
 after_words nodes number so_far (Some []) = Ok so_far
 after_words nodes number so_far (Some (word ∷ fields)) =
-    if bytes_eq word (codes "set")
-    then setting_line number so_far (setting_of fields)
+    if bytes_eq word (codes "set") then setting_line number so_far (setting_of fields)
     else (if bytes_eq word (codes "vehicle")
     then vehicle_line nodes number so_far (vehicle_from (numbers_of fields))
     else Err (BadLine number))
@@ -145,7 +129,7 @@ after_words nodes number so_far (Some (word ∷ fields)) =
 abbrev pub fleet_format : ℕ → Format FleetSoFar (Settings × List Vehicle) FleetError
 fleet_format nodes = record {
   most = 1048576;
-  start = nothing_said;
+  start = record { values = map (λ _. None) all_settings; vehicles = [] };
   line = λ number so_far line. after_words nodes number so_far (words_of 35 line);
   finish = λ so_far. Ok (settings_of so_far.values, so_far.vehicles);
   too_long = TooLong;

@@ -5,7 +5,7 @@ ghost use Rattle.fleet_file.specs.FleetText.{setting_of};
 use crate::FleetError;
 use crate::settings::{Values, is_out, place_of};
 use crate::vehicles::{has_id, has_value_out, idle_vehicle, read_vehicle};
-use line_text::{Fields, LineReader, words_of};
+use line_text::{Fields, LineParser, words_of};
 use ride_model::{Fleet, Vehicle};
 use std::alloc::Global;
 
@@ -20,13 +20,13 @@ pub struct FleetLines {
 
 impl FleetLines {
     ghost use Rattle.line_text.specs.Fields.{numbers_of};
-    ghost use Rattle.fleet_file.specs.FleetText.{after_words, nothing_said, setting_line, vehicle_from, vehicle_line};
+    ghost use Rattle.fleet_file.specs.FleetText.{after_words, fleet_format, setting_line, vehicle_from, vehicle_line};
     ghost use Rattle.fleet_file.specs.inner.Reading.{Gives, IsWithin, said};
 
     /// No lines, over a map of so many nodes.
     pub fn new(alloc: Global, nodes: u32) -> FleetLines
         ensures map { result.nodes ≡ nodes }
-        ensures nothing { said result ≡ nothing_said }
+        ensures nothing { said result ≡ (fleet_format nodes).start }
         ensures within { IsWithin result }
     {
         FleetLines {
@@ -111,7 +111,7 @@ impl FleetLines {
     }
 }
 
-impl LineReader for FleetLines {
+impl LineParser for FleetLines {
     type Refusal = FleetError;
 
     ghost use Rattle.fleet_file.specs.inner.Reading.{HasTaken, Refuses};

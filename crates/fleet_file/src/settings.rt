@@ -2,7 +2,7 @@
 ghost use Rattle.std.specs.Prelude.{◌≡◌, ◌<◌, IfSome, position};
 ghost use Rattle.std.specs.Str.{bytes_eq};
 ghost use Rattle.fleet_file.specs.declared.settings.Setting.{Setting};
-ghost use Rattle.fleet_file.specs.FleetText.{is_out, place_of, settings_of, value_at};
+ghost use Rattle.fleet_file.specs.FleetText.{all_settings, is_out, settings_of, value_at};
 ghost use Rattle.fleet_file.specs.inner.Reading.{AreInRange};
 ghost use Rattle.ride_model.specs.Settings.{IsSettings};
 
@@ -95,7 +95,7 @@ fn value_at(values: &Values, place: usize) -> u64
 
 /// The place of the setting of a name.
 pub fn place_of(name: &[u8]) -> Option<usize>
-    ensures place { result ≡ place_of name.now }
+    ensures place { result ≡ position (λ setting. bytes_eq setting.name name.now) all_settings }
     ensures within { IfSome result (λ place. place < 7) }
 {
     place_in(&SETTINGS, name)

@@ -73,7 +73,7 @@ impl<'r> Company<'r> {
             return Ok(settled);
         }
         let Ok(table) = self.price_won(rt, pricer, brief.wins.items()) else {
-            self.open = false;
+            self.is_open = false;
             return Err(AllocError);
         };
         self.award_priced(table, brief)?;
@@ -107,9 +107,9 @@ impl<'r> Company<'r> {
         }
         // This call tells that the history is legal.
         let _history = self.board.entries();
-        self.open = false;
+        self.is_open = false;
         confirm(&mut self.board, self.alloc, table, brief)?;
-        self.open = true;
+        self.is_open = true;
         Ok(())
     }
 }

@@ -21,7 +21,7 @@ pub struct Company<'r> {
     pub(crate) alloc: Global,
     pub(crate) settings: Settings,
     pub(crate) board: Board<'r>,
-    pub(crate) open: bool,
+    pub(crate) is_open: bool,
 }
 
 impl<'r> Model for Company<'r> {
@@ -29,9 +29,9 @@ impl<'r> Model for Company<'r> {
 
     ghost Value = { CompanyState };
 
-    ghost view = { λ c. record { board = c.board; is_open = c.open } };
+    ghost view = { λ c. record { board = c.board; is_open = c.is_open } };
 
-    ghost invariant = { λ c. IsCompany c.settings (record { board = c.board; is_open = c.open }) };
+    ghost invariant = { λ c. IsCompany c.settings (record { board = c.board; is_open = c.is_open }) };
 }
 
 impl<'r> Company<'r> {
@@ -46,14 +46,14 @@ impl<'r> Company<'r> {
         ensures start { IfOk result (λ company. company.board.start
             ≡ start_state roads.now settings fleet) }
         ensures history { IfOk result (λ company. company.board.history ≡ []) }
-        ensures open { IfOk result (λ company. IsTrue company.is_open) }
+        ensures is_open { IfOk result (λ company. IsTrue company.is_open) }
     {
         let board = Board::new(alloc, roads, settings, fleet, 1, 1)?;
         Ok(Company {
             alloc,
             settings,
             board,
-            open: true,
+            is_open: true,
         })
     }
 
@@ -61,7 +61,7 @@ impl<'r> Company<'r> {
     pub fn is_open(&self) -> bool
         ensures { result ≡ self.now.is_open }
     {
-        self.open
+        self.is_open
     }
 
     /// The board.

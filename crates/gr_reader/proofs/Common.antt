@@ -1,6 +1,6 @@
 -- The names that most proofs of this crate cite, passed on from one place. Declares nothing.
 pub use Rattle.ride_model.proofs.Common.{All, All-append, Bool, Err, IfErr, IfSome, List, MatchOption, MatchResult, None, Ok, OnOk, Option, Result, Some, [], ap, arith, bytes_eq, codes, cond, false, if◌then◌else◌, is_some, length, length_push, ltb-false, ltb-true, min, nat_lt, refl, subst, suc, sym, take, take-append-le, take-nil, take_all, true, zero, ℕ, ◌++◌, ◌+◌, ◌-◌, ◌<◌, ◌==◌, ◌^◌, ◌||◌, ◌∙◌, ◌∷◌, ◌≡◌, ◌≢◌, ◌≤◌}
-pub use Rattle.gr_reader.specs.MapText.{MapSoFar, after_words, arc_from, arc_line, checked_arc, checked_problem, map_format, map_text, problem_line, problem_of, is_out, map_from}
+pub use Rattle.gr_reader.specs.MapText.{MapSoFar, after_words, arc_line, checked_arc, checked_problem, map_format, map_of, map_text, problem_line, problem_of}
 pub use Rattle.gr_reader.specs.declared.errors.MapError.{MapError}
 pub use Rattle.gr_reader.specs.declared.errors.MapError.TheVariants.{NoMemory, ReadFault, TooLong}
 pub use Rattle.gr_reader.specs.declared.lines.MapLines.{MapLines}

@@ -1,5 +1,5 @@
 -- What a problem line and an arc line make of what was said so far.
-use Rattle.gr_reader.proofs.Common.{◌≡◌, ℕ, zero, suc, ◌+◌, ◌-◌, ◌^◌, ◌<◌, ◌≤◌, min, nat_lt, true, false, cond, if◌then◌else◌, List, [], ◌∷◌, ◌++◌, length, take, Option, Some, None, is_some, Result, Ok, Err, IfErr, OnOk, refl, ap, sym, subst, ◌∙◌, arith, ltb-true, ltb-false, All, MatchOption, take_all, take-append-le, length_push, All-append, take-nil, numbers_of, RoadArc, MapError, NoMemory, MapLines, Problem, MapSoFar, problem_line, arc_line, problem_of, arc_from, checked_problem, checked_arc, IsProblem, IsArcAmong, IsSoFar, Holds, Gives, said}
+use Rattle.gr_reader.proofs.Common.{◌≡◌, ℕ, zero, suc, ◌+◌, ◌-◌, ◌^◌, ◌<◌, ◌≤◌, min, nat_lt, true, false, cond, if◌then◌else◌, List, [], ◌∷◌, ◌++◌, length, take, Option, Some, None, is_some, Result, Ok, Err, IfErr, OnOk, refl, ap, sym, subst, ◌∙◌, arith, ltb-true, ltb-false, All, MatchOption, take_all, take-append-le, length_push, All-append, take-nil, numbers_of, RoadArc, MapError, NoMemory, MapLines, Problem, MapSoFar, problem_line, arc_line, problem_of, checked_arc, IsProblem, IsArcAmong, IsSoFar, Holds, Gives, said}
 
 -- no arcs are said before the problem
 no-arcs : (so_far : MapSoFar) → so_far.problem ≡ None → IsSoFar so_far → so_far.arcs ≡ []
@@ -10,7 +10,7 @@ All-nil : {A : Type 0} (P : A → Type 0) (xs : List A) → xs ≡ [] → All P 
 All-nil P xs none k d below = absurd (omega (arith, ap length none))
 
 pub problem-gives : (number : ℕ) (lines : MapLines) (so_far : MapSoFar) (problem : Problem) (fields : List (List ℕ)) →
-    so_far.problem ≡ None → IsSoFar so_far → length so_far.arcs < number → checked_problem number (problem_of fields) ≡ Ok problem → IsProblem problem →
+    so_far.problem ≡ None → IsSoFar so_far → length so_far.arcs < number → problem_of number fields ≡ Ok problem → IsProblem problem →
     lines.problem ≡ Some problem → lines.arcs.items ≡ [] → lines.found ≡ length so_far.arcs →
     (next : MapSoFar) × (problem_line number so_far.problem so_far.arcs fields ≡ Ok next) × Holds lines next × (length next.arcs ≤ number)
 problem-gives number lines so_far problem fields none within few checked is_problem now kept counted =
@@ -45,7 +45,7 @@ kept-more most found arcs kept arc counted is =
 
 pub arc-gives : {T : Type 0} (outcome : Result T MapError) (number : ℕ) (old new : MapLines) (so_far : MapSoFar) (problem : Problem) (arc : RoadArc) (fields : List (List ℕ)) →
     Holds old so_far → old.problem ≡ Some problem → length so_far.arcs < number → number < 2 ^ 64 →
-    checked_arc number problem.nodes (arc_from (numbers_of fields)) ≡ Ok arc → IsArcAmong problem.nodes arc →
+    checked_arc number problem.nodes (numbers_of fields) ≡ Ok arc → IsArcAmong problem.nodes arc →
     new.problem ≡ old.problem →
     OnOk outcome (new.arcs.items ≡ (if nat_lt old.found problem.arcs then old.arcs.items ++ arc ∷ [] else old.arcs.items)) →
     OnOk outcome (new.found ≡ min (old.found + 1) (2 ^ 64 - 1)) →

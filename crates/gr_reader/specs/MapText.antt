@@ -15,51 +15,41 @@ pub record MapSoFar : Type 0 where
   pub problem : Option Problem
   pub arcs : List RoadArc
 
--- the problem that the fields after `p` say
-abbrev pub problem_from : Option (List ℕ) → Option Problem
-problem_from (Some (nodes ∷ arcs ∷ [])) = Some (record { nodes = nodes; arcs = arcs })
-problem_from _ = None
+-- the problem that numbers are, in a line of this number
+abbrev pub checked_problem : ℕ → Option (List ℕ) → Result Problem MapError
+checked_problem number (Some (nodes ∷ arcs ∷ [])) =
+    if nodes == 0 then Err (BadLine number)
+    else (if nat_lt most_nodes nodes || nat_lt most_arcs arcs then Err (TooLarge number)
+    else Ok (record { nodes = nodes; arcs = arcs }))
+checked_problem number _ = Err (BadLine number)
 
-abbrev pub problem_of : List (List ℕ) → Option Problem
-problem_of [] = None
-problem_of (word ∷ fields) = if bytes_eq word (codes "sp") then problem_from (numbers_of fields) else None
+-- the problem that the fields after `p` say, in a line of this number
+abbrev pub problem_of : ℕ → List (List ℕ) → Result Problem MapError
+problem_of number [] = Err (BadLine number)
+problem_of number (word ∷ fields) =
+    if bytes_eq word (codes "sp") then checked_problem number (numbers_of fields)
+    else Err (BadLine number)
 
--- the arc that the fields after `a` say
-abbrev pub arc_from : Option (List ℕ) → Option RoadArc
-arc_from (Some (tail ∷ head ∷ seconds ∷ [])) = Some (record { tail = tail; head = head; seconds = seconds })
-arc_from _ = None
-
--- the tests of a problem, in a line of this number
-abbrev pub checked_problem : ℕ → Option Problem → Result Problem MapError
-checked_problem number None = Err (BadLine number)
-checked_problem number (Some problem) =
-    if problem.nodes == 0
-    then Err (BadLine number)
-    else (if nat_lt most_nodes problem.nodes || nat_lt most_arcs problem.arcs then Err (TooLarge number) else Ok problem)
-
--- whether there is no node of this number
-abbrev pub is_out : ℕ → ℕ → Bool
-is_out nodes x = x == 0 || nat_lt nodes x
-
--- the tests of an arc, in a line of this number, of a map of so many nodes
-abbrev pub checked_arc : ℕ → ℕ → Option RoadArc → Result RoadArc MapError
-checked_arc number nodes None = Err (BadLine number)
-checked_arc number nodes (Some arc) =
-    if is_out nodes arc.tail || is_out nodes arc.head
-    then Err (NodeOut number)
-    else (if nat_lt longest_arc arc.seconds then Err (WeightOut number) else Ok arc)
+-- the arc that numbers are, in a line of this number, of a map of so many nodes
+abbrev pub checked_arc : ℕ → ℕ → Option (List ℕ) → Result RoadArc MapError
+checked_arc number nodes (Some (tail ∷ head ∷ seconds ∷ [])) =
+    let is_out : ℕ → Bool = λ node. node == 0 || nat_lt nodes node in
+    if is_out tail || is_out head then Err (NodeOut number)
+    else (if nat_lt longest_arc seconds then Err (WeightOut number)
+    else Ok (record { tail = tail; head = head; seconds = seconds }))
+checked_arc number nodes _ = Err (BadLine number)
 
 -- a problem line, of which there is one
 abbrev pub problem_line : ℕ → Option Problem → List RoadArc → List (List ℕ) → Result MapSoFar MapError
 problem_line number (Some problem) arcs fields = Err (SecondProblem number)
 problem_line number None arcs fields =
-    and_then (checked_problem number (problem_of fields)) (λ problem. Ok (record { problem = Some problem; arcs = arcs }))
+    and_then (problem_of number fields) (λ problem. Ok (record { problem = Some problem; arcs = arcs }))
 
 -- an arc line, before which the problem line stands
 abbrev pub arc_line : ℕ → Option Problem → List RoadArc → List (List ℕ) → Result MapSoFar MapError
 arc_line number None arcs fields = Err NoProblem
 arc_line number (Some problem) arcs fields =
-    and_then (checked_arc number problem.nodes (arc_from (numbers_of fields)))
+    and_then (checked_arc number problem.nodes (numbers_of fields))
     (λ arc. Ok (record { problem = Some problem; arcs = arcs ++ arc ∷ [] }))
 
 -- what a line of this number says after the lines before it: nothing, a problem or an arc
@@ -67,22 +57,19 @@ abbrev pub after_words : ℕ → MapSoFar → Option (List (List ℕ)) → Resul
 after_words number so_far None = Err (BadLine number)
 after_words number so_far (Some []) = Ok so_far
 after_words number so_far (Some (word ∷ fields)) =
-    if bytes_eq word (codes "a")
-    then arc_line number so_far.problem so_far.arcs fields
-    else (if bytes_eq word (codes "p")
-    then problem_line number so_far.problem so_far.arcs fields
+    if bytes_eq word (codes "a") then arc_line number so_far.problem so_far.arcs fields
+    else (if bytes_eq word (codes "p") then problem_line number so_far.problem so_far.arcs fields
     else Err (BadLine number))
 
 -- the map, where a problem line stood and as many arc lines as it says
-abbrev pub map_from : Option Problem → List RoadArc → Result RoadMap MapError
-map_from None arcs = Err NoProblem
-map_from (Some problem) arcs =
-    if length arcs == problem.arcs
-    then Ok (record { nodes = problem.nodes; arcs = arcs })
-    else Err (ArcCount problem.arcs (length arcs))
-
 abbrev pub map_of : MapSoFar → Result RoadMap MapError
-map_of so_far = map_from so_far.problem so_far.arcs
+map_of so_far = elim so_far.problem [
+  | None ↦ Err NoProblem
+  | Some problem ↦
+      if length so_far.arcs == problem.arcs
+      then Ok (record { nodes = problem.nodes; arcs = so_far.arcs })
+      else Err (ArcCount problem.arcs (length so_far.arcs))
+]
 
 -- the format of maps: at most 2^27 bytes, comments begin with `c`
 abbrev pub map_format : Format MapSoFar RoadMap MapError

@@ -1,11 +1,11 @@
 //! The lines of a map.
-ghost use Rattle.std.specs.Prelude.{◌≡◌, ◌<◌, ◌+◌, ◌-◌, ◌^◌, ◌++◌, ◌∷◌, [], ℕ, List, length, take, min, nat_lt, if◌then◌else◌, option_map, Some, None, IfOk, IfErr, OnOk};
+ghost use Rattle.std.specs.Prelude.{◌≡◌, ◌<◌, ◌+◌, ◌-◌, ◌^◌, ◌==◌, ◌||◌, ◌++◌, ◌∷◌, [], ℕ, List, length, take, min, nat_lt, if◌then◌else◌, option_map, Some, None, IfOk, IfErr, OnOk};
 ghost use Rattle.line_text.specs.Fields.{is_over_long, numbers_of, words_of};
-ghost use Rattle.gr_reader.specs.MapText.{arc_from, checked_arc, checked_problem, is_out, problem_of};
+ghost use Rattle.gr_reader.specs.MapText.{checked_arc, checked_problem, problem_of};
 ghost use Rattle.gr_reader.specs.inner.Reading.{IsArcAmong, IsProblem};
 
 use crate::MapError;
-use line_text::{Fields, LineReader, words_of};
+use line_text::{Fields, LineParser, words_of};
 use ride_model::{Network, RoadArc};
 use std::alloc::Global;
 
@@ -130,7 +130,7 @@ impl MapLines {
     }
 }
 
-impl LineReader for MapLines {
+impl LineParser for MapLines {
     type Refusal = MapError;
 
     ghost use Rattle.gr_reader.specs.inner.Reading.{HasTaken, Refuses};
@@ -146,7 +146,7 @@ impl LineReader for MapLines {
 
 /// Reads the fields after `p`.
 fn read_problem(number: u64, fields: &mut Fields<'_>) -> Result<Problem, MapError>
-    ensures value { result ≡ checked_problem number (problem_of fields.old) }
+    ensures value { result ≡ problem_of number fields.old }
     ensures within { IfOk result IsProblem }
 {
     let Some((nodes, arcs)) = problem_numbers(fields) else {
@@ -166,8 +166,8 @@ fn read_problem(number: u64, fields: &mut Fields<'_>) -> Result<Problem, MapErro
 
 /// The numbers of nodes and arcs.
 fn problem_numbers(fields: &mut Fields<'_>) -> Option<(u64, u64)>
-    ensures { option_map (λ numbers. record { nodes = numbers.0; arcs = numbers.1 }) result
-        ≡ problem_of fields.old }
+    ensures { (number : ℕ) → problem_of number fields.old
+        ≡ checked_problem number (option_map (λ read. read.0 ∷ read.1 ∷ []) result) }
 {
     if fields.next_field()? != b"sp".as_slice() {
         return None;
@@ -180,7 +180,7 @@ fn problem_numbers(fields: &mut Fields<'_>) -> Option<(u64, u64)>
 
 /// Reads the fields after `a`.
 fn read_arc(number: u64, nodes: u32, fields: &mut Fields<'_>) -> Result<RoadArc, MapError>
-    ensures value { result ≡ checked_arc number nodes (arc_from (numbers_of fields.old)) }
+    ensures value { result ≡ checked_arc number nodes (numbers_of fields.old) }
     ensures within { IfOk result (IsArcAmong nodes) }
 {
     let Some((tail, head, seconds)) = arc_numbers(fields) else {
@@ -201,9 +201,8 @@ fn read_arc(number: u64, nodes: u32, fields: &mut Fields<'_>) -> Result<RoadArc,
 
 /// The numbers of an arc's two nodes and of its seconds.
 fn arc_numbers(fields: &mut Fields<'_>) -> Option<(u64, u64, u64)>
-    ensures { option_map (λ numbers.
-        record { tail = numbers.0; head = numbers.1; seconds = numbers.2 }) result
-        ≡ arc_from (numbers_of fields.old) }
+    ensures { (number most : ℕ) → checked_arc number most (numbers_of fields.old)
+        ≡ checked_arc number most (option_map (λ read. read.0 ∷ read.1 ∷ read.2 ∷ []) result) }
 {
     match fields.numbers::<3>()?.as_slice() {
         [tail, head, seconds] => Some((*tail, *head, *seconds)),
@@ -214,7 +213,7 @@ fn arc_numbers(fields: &mut Fields<'_>) -> Option<(u64, u64, u64)>
 /// Whether there is no node of this number.
 #[inline]
 fn is_out(nodes: u32, node: u64) -> bool
-    ensures { result ≡ is_out nodes node }
+    ensures { result ≡ (node == 0 || nat_lt nodes node) }
 {
     node == 0 || node > u64::from(nodes)
 }

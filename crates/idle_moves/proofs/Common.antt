@@ -7,7 +7,7 @@ pub use Rattle.dual_check.specs.Grid.{CertifiesPairing, IsLeastPairing, column_o
 pub use Rattle.fleet_board.specs.inner.Passes.{Known, AddsNone, IsPoint, root_of}
 pub use Rattle.hungarian.proofs.Gathering.{gathered-none, gathered-some}
 pub use Rattle.hungarian.specs.Seats.{pay_at, pays_by}
-pub use Rattle.idle_moves.specs.Sheet.{within, IsSheetOver, left_out, order_at, standing_by, stands_by, IsSheet, Shows, orders_by, times_grid}
+pub use Rattle.idle_moves.specs.Sheet.{within, IsSheetOver, order_at, stands_by, IsSheet, Shows, orders_by, times_grid}
 pub use Rattle.idle_moves.specs.declared.moves.Move.{Move}
 pub use Rattle.idle_moves.specs.declared.moves.MoveSheet.{MoveSheet}
 pub use Rattle.idle_moves.specs.declared.standby.Standby.{Standby}

@@ -1,5 +1,12 @@
 -- Sheets over the requests that are left out and the vehicles that stand by.
-use Rattle.idle_moves.proofs.Common.{◌≡◌, ℕ, Bool, ◌≤◌, List, [], ◌∷◌, ◌++◌, length, map, refl, sym, ap, subst, ◌∙◌, arith, not, All, Option, Result, Ok, Err, IfOk, filter, flat_map, length-map, All-filter, All-map, Seat, Ride, Vehicle, IsNode, RoadMap, travel, BatchCopy, has_seat, Back, travel_by, GridCells, CertifiesPairing, IsLeastPairing, map-map, length-filter-le, MoveSheet, Standby, IsSheet, IsSheetOver, Shows, left_out, stands_by, standing_by, times_grid, within, AreStandbys, cells_of, standby_of}
+use Rattle.idle_moves.proofs.Common.{◌≡◌, ℕ, Bool, ◌≤◌, List, [], ◌∷◌, ◌++◌, length, map, refl, sym, ap, subst, ◌∙◌, arith, not, All, Option, Result, Ok, Err, IfOk, filter, flat_map, length-map, All-filter, All-map, Seat, Ride, Vehicle, IsNode, RoadMap, travel, BatchCopy, has_seat, Back, travel_by, GridCells, CertifiesPairing, IsLeastPairing, map-map, length-filter-le, MoveSheet, Standby, IsSheet, IsSheetOver, Shows, stands_by, times_grid, within, AreStandbys, cells_of, standby_of}
+
+-- the requests that a seating leaves out, and the vehicles that stand by
+abbrev pub left_out : BatchCopy → List Seat → List Ride
+left_out batch seats = filter (λ (ride : Ride). not (has_seat seats ride.id)) batch.requests
+
+abbrev pub standing_by : BatchCopy → List Seat → List Vehicle
+standing_by batch seats = filter (stands_by seats) batch.vehicles
 
 -- what a function gives at each element is joined alike
 flat_map-same : {X Y : Type 0} (f g : X → List Y) → ((x : X) → f x ≡ g x) → (xs : List X) → flat_map f xs ≡ flat_map g xs

@@ -1,6 +1,6 @@
 -- The sheets of a history: one for each commit, of its batch as it was opened.
-use Rattle.std.specs.Prelude.{◌≡◌, ℕ, ⊤, List, [], ◌∷◌, ◌++◌, Option, Some, None}
-use Rattle.std.specs.List.{cons_option}
+use Rattle.std.specs.Prelude.{◌≡◌, ℕ, List, [], ◌∷◌, ◌++◌, Option, Some, None}
+use Rattle.std.specs.List.{AllZip, cons_option}
 use Rattle.ride_model.specs.declared.command.Actor.{Actor}
 use Rattle.ride_model.specs.declared.command.Actor.TheVariants.{Desk}
 use Rattle.ride_model.specs.declared.entry.Entry.{Entry}
@@ -38,12 +38,6 @@ commits_after before (entry ∷ entries) =
 abbrev pub commits_of : List Entry → List Commit
 commits_of entries = commits_after [] entries
 
--- two lists of one length, whose items are related each to each, in order
-abbrev pub ArePaired : {A B : Type 0} → (A → B → Type 0) → List A → List B → Type 0
-ArePaired R [] [] = ⊤
-ArePaired R (x ∷ xs) (y ∷ ys) = R x y × ArePaired R xs ys
-ArePaired R _ _ = ⊥
-
 -- the sheet of a commit: of its seating, and of its batch as it stood at its opening, with the requests that waited there and
 -- copies of all vehicles of the state there
 pub record IsSheetOf (start : State) (reach : ℕ) (commit : Commit) (sheet : MoveSheet) : Type 0 where
@@ -57,4 +51,4 @@ pub record IsSheetOf (start : State) (reach : ℕ) (commit : Commit) (sheet : Mo
 
 -- the sheets of a history are those of its commits, each once and in order
 abbrev pub AreSheetsOf : State → ℕ → List Entry → List MoveSheet → Type 0
-AreSheetsOf start reach entries sheets = ArePaired (IsSheetOf start reach) (commits_of entries) sheets
+AreSheetsOf start reach entries sheets = AllZip (IsSheetOf start reach) (commits_of entries) sheets

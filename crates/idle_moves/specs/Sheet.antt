@@ -14,21 +14,10 @@ use Rattle.hungarian.specs.Seats.{pays_by, prices_by}
 use Rattle.idle_moves.specs.declared.moves.Move.{Move}
 use Rattle.idle_moves.specs.declared.moves.MoveSheet.{MoveSheet}
 
--- the requests that a seating leaves out, in the batch's order
-abbrev pub left_out : BatchCopy → List Seat → List Ride
-left_out batch seats = filter (λ (ride : Ride). not (has_seat seats ride.id)) batch.requests
-
--- whether a vehicle has a seat
-abbrev pub is_seated : List Seat → ℕ → Bool
-is_seated seats id = list_any (λ (seat : Seat). seat.vehicle == id) seats
-
 -- whether a vehicle is idle, on duty and in no seat
 abbrev pub stands_by : List Seat → Vehicle → Bool
-stands_by seats v = is_idle v && v.duty && not (is_seated seats v.id)
-
--- the copies that are idle, on duty and in no seat, in fleet order
-abbrev pub standing_by : BatchCopy → List Seat → List Vehicle
-standing_by batch seats = filter (stands_by seats) batch.vehicles
+stands_by seats v =
+    is_idle v && v.duty && not (list_any (λ (seat : Seat). seat.vehicle == v.id) seats)
 
 -- a travel time where it is at most the reach
 abbrev pub within : ℕ → Option ℕ → Option ℕ
@@ -77,7 +66,10 @@ pub record IsSheetOver (roads : RoadMap) (reach : ℕ) (rides : List Ride) (vehi
   pub certified : CertifiesPairing (times_grid roads reach rides vehicles) reach pairing prices pays
   pub shown : Shows (times_grid roads reach rides vehicles) reach rides vehicles pairing prices pays sheet
 
--- the sheet of a batch and its seating is over the requests that the seating leaves out and the vehicles that stand by
+-- the sheet of a batch and its seating is over the requests that the seating leaves out, in the batch's order, and the copies
+-- that are idle, on duty and in no seat, in fleet order
 pub record IsSheet (roads : RoadMap) (batch : BatchCopy) (seats : List Seat) (reach : ℕ) (sheet : MoveSheet) : Type 0 where
   pub batch_is : sheet.batch ≡ batch.number
-  pub over : IsSheetOver roads reach (left_out batch seats) (standing_by batch seats) sheet
+  pub over : IsSheetOver roads reach
+      (filter (λ (ride : Ride). not (has_seat seats ride.id)) batch.requests)
+      (filter (stands_by seats) batch.vehicles) sheet

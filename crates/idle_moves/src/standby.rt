@@ -1,9 +1,11 @@
 //! The requests that have no seat, and the vehicles that may be sent towards them.
-ghost use Rattle.std.specs.Prelude.{◌≡◌, not, filter, map, IfOk};
+ghost use Rattle.std.specs.Prelude.{◌≡◌, ◌==◌, not, filter, map, IfOk};
+ghost use Rattle.std.specs.List.{list_any};
+ghost use Rattle.ride_model.specs.declared.offer.Seat.{Seat};
 ghost use Rattle.ride_model.specs.declared.vehicle.Ride.{Ride};
 ghost use Rattle.ride_model.specs.Seating.{has_seat};
 ghost use Rattle.idle_moves.specs.declared.standby.Standby.{Standby};
-ghost use Rattle.idle_moves.specs.Sheet.{is_seated, stands_by};
+ghost use Rattle.idle_moves.specs.Sheet.{stands_by};
 ghost use Rattle.idle_moves.specs.inner.Standby.{standby_of};
 
 use ride_model::{NoMemory, Ride, Seat, Vehicle};
@@ -26,7 +28,7 @@ fn has_seat(seats: &[Seat], request: u64) -> bool
 
 // Whether a vehicle has a seat.
 fn is_seated(seats: &[Seat], vehicle: u64) -> bool
-    ensures { result ≡ is_seated seats.now vehicle }
+    ensures { result ≡ list_any (λ (seat : Seat). seat.vehicle == vehicle) seats.now }
 {
     seats.iter().any(|seat| seat.vehicle == vehicle)
 }

@@ -5,10 +5,10 @@ pub use Rattle.std.proofs.Math.Seq.{take-append-add, take-add, take-append_seam}
 pub use Rattle.std.proofs.lemmas.Bool.{false_from_ne_true, eqb-false, not-false, not-true}
 pub use Rattle.std.proofs.lemmas.List.{length_push, nil_from_length, append_cancel_left, at_drop_more, drop-take, drop_all, take-append-le, take_min, take_more, take_rest, with_items_is}
 pub use Rattle.std.proofs.lemmas.Result.{err_from_is_err_and}
-pub use Rattle.std.specs.List.{AllByRecursion, list_any, flat_map, join_with_byte, slice_range}
+pub use Rattle.std.specs.List.{AllByRecursion, list_any, flat_map, join_with_byte, onto_first, slice_range}
 pub use Rattle.std.specs.Str.{all_ascii_digits}
 pub use Rattle.std.specs.Str.Parse.{digits_value, digits_value_after}
-pub use Rattle.line_text.specs.Fields.{is_blank, before_end, begins_field, fields_of, is_dropped, is_over_long, begins_with, joined, unless_comment, words_of}
+pub use Rattle.line_text.specs.Fields.{is_blank, before_end, begins_field, fields_of, is_dropped, is_over_long, begins_with, unless_comment, words_of}
 unfoldable pub use Rattle.line_text.specs.Fields.{runs_of, without_end, numbers_of}
 pub use Rattle.line_text.specs.Lines.{ended_lines, lines_of, rest_of, last_line}
 unfoldable pub use Rattle.line_text.specs.Lines.{ended_after, rest_after}

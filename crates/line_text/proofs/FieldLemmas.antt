@@ -1,5 +1,5 @@
 -- Fields of texts that are read from the front, and ends of lines that are dropped from behind.
-use Rattle.line_text.proofs.Common.{◌≡◌, ◌≢◌, ℕ, zero, suc, ◌+◌, ◌-◌, ◌<◌, ◌≤◌, Bool, true, false, cond, ◌==◌, List, [], ◌∷◌, ◌++◌, length, take, drop, get_or, Option, Some, None, IfSome, option_map, refl, ap, sym, subst, ◌∙◌, append_assoc, append-nil, length-append, arith, true≢false, ltb-false, inl, inr, ◌⊎◌, take_all, take_more, drop_all, not-true, number_of, is_blank, is_dropped, before_end, without_end, begins_field, joined, runs_of, numbers_of, begins_with, is_over_long, unless_comment, words_of, fields_of}
+use Rattle.line_text.proofs.Common.{◌≡◌, ◌≢◌, ℕ, zero, suc, ◌+◌, ◌-◌, ◌<◌, ◌≤◌, Bool, true, false, cond, ◌==◌, List, [], ◌∷◌, ◌++◌, length, take, drop, get_or, Option, Some, None, IfSome, option_map, refl, ap, sym, subst, ◌∙◌, append_assoc, append-nil, length-append, arith, true≢false, ltb-false, inl, inr, ◌⊎◌, take_all, take_more, drop_all, not-true, number_of, is_blank, is_dropped, before_end, without_end, begins_field, onto_first, runs_of, numbers_of, begins_with, is_over_long, unless_comment, words_of, fields_of}
 
 pub before_end-not_nil : (b : ℕ) (bytes : List ℕ) → bytes ≢ [] → before_end b bytes ≡ b ∷ bytes
 before_end-not_nil b [] not_nil = absurd (not_nil refl)
@@ -62,17 +62,17 @@ unfolding runs_of
 unless_comment-runs comment [] begins = refl
 unless_comment-runs comment (b ∷ bytes) begins =
     let blank : is_blank b ≡ false = not_blank b bytes begins in
-    rw blank (joined-first (begins_field bytes) (runs_of bytes))
+    rw blank (onto-first (begins_field bytes) (runs_of bytes))
   where
     not_blank : (b : ℕ) (bytes : List ℕ) → (b ∷ bytes ≡ []) ⊎ (begins_field (b ∷ bytes) ≡ true) → is_blank b ≡ false
     not_blank b bytes (inl is) = cc
     not_blank b bytes (inr is) = not-true (is_blank b) is
 
-    joined-first : (v : Bool) (fields : List (List ℕ)) →
-        unless_comment comment (cond v (joined b fields) ((b ∷ []) ∷ fields)) ≡ cond (b == comment) [] (cond v (joined b fields) ((b ∷ []) ∷ fields))
-    joined-first true [] = refl
-    joined-first true (field ∷ fields) = refl
-    joined-first false fields = refl
+    onto-first : (v : Bool) (fields : List (List ℕ)) →
+        unless_comment comment (cond v (onto_first b fields) ((b ∷ []) ∷ fields)) ≡ cond (b == comment) [] (cond v (onto_first b fields) ((b ∷ []) ∷ fields))
+    onto-first true [] = refl
+    onto-first true (field ∷ fields) = refl
+    onto-first false fields = refl
 
 -- the first byte of an over-long line
 pub begins_with-take : (comment : ℕ) (line : List ℕ) → begins_with comment (take 200 line) ≡ begins_with comment line

@@ -1,5 +1,6 @@
 -- The fields of a line, and what a line of a text with comments says.
 use Rattle.std.specs.Prelude.{ℕ, ◌==◌, ◌||◌, not, nat_lt, Bool, false, if◌then◌else◌, List, [], ◌∷◌, length, Option, Some, None, option_map, option_and_then}
+use Rattle.std.specs.List.{onto_first}
 use Rattle.line_text.specs.Numbers.{number_of}
 
 -- space and tab
@@ -25,18 +26,13 @@ abbrev pub begins_field : List ℕ → Bool
 begins_field [] = false
 begins_field (b ∷ bytes) = not (is_blank b)
 
--- a byte in front of the first field
-abbrev pub joined : ℕ → List (List ℕ) → List (List ℕ)
-joined b [] = (b ∷ []) ∷ []
-joined b (field ∷ fields) = (b ∷ field) ∷ fields
-
 -- the maximal runs of bytes other than space and tab
 unfoldable pub runs_of : List ℕ → List (List ℕ)
 runs_of [] = []
 runs_of (b ∷ bytes) =
     if is_blank b
     then runs_of bytes
-    else (if begins_field bytes then joined b (runs_of bytes) else (b ∷ []) ∷ runs_of bytes)
+    else (if begins_field bytes then onto_first b (runs_of bytes) else (b ∷ []) ∷ runs_of bytes)
 
 -- the fields of a line. A CR that is not dropped is a byte of a field
 abbrev pub fields_of : List ℕ → List (List ℕ)

@@ -13,7 +13,7 @@ pub mod text_page;
 pub use cutter::{Cut, LineCutter};
 pub use fields::{Fields, words_of};
 pub use numbers::{put_number, read_number};
-pub use reading::{LineReader, ReadError, read_lines};
+pub use reading::{LineParser, ReadError, read_lines};
 
 /// The most bytes of a line of a map, a fleet file or a feed that is not over-long.
 pub const MOST_LINE: usize = 200;

@@ -19,13 +19,14 @@ unfoldable pub use Rattle.line_text.specs.Lines.{ended_after, rest_after}
 pub use Rattle.line_text.specs.declared.line_reader.answers.NextLine.{NextLine}
 pub use Rattle.line_text.specs.declared.line_reader.answers.NextLine.TheVariants.{End, Line, Unfinished}
 pub use Rattle.line_text.specs.inner.line_reader.Reader.{ReaderState, IsStopped}
+pub use Rattle.line_text.specs.line_reader.Limits.{IsTooLong}
 pub use Rattle.line_text.specs.line_reader.Reader.{HasNoLf}
-pub use Rattle.log_audit.specs.Audit.{IsAnswer, IsLogOf, IsWrongLine, IsWrongEntry, IsWrongNext, Tells, HasNoHead, IsWrongHead, TellsNone}
+pub use Rattle.log_audit.specs.Audit.{IsAnswer, IsLogOf, IsWrongLine, IsWrongEntry, IsWrongNext, Tells, HasNoHead}
 pub use Rattle.log_audit.specs.Audited.{FailsAfter}
-pub use Rattle.log_audit.specs.Limits.{IsTooLong, lines_within, most_line, most_lines, Counts, most_bytes, log_limits}
+pub use Rattle.log_audit.specs.Limits.{Counts, log_limits}
 pub use Rattle.log_audit.specs.LogLines.{TakesSome}
 pub use Rattle.log_audit.specs.Restored.{IsRestoration, IsBoardOf, IsHeadOrEnded, IsSameButRoom, StandsAt}
-pub use Rattle.log_audit.specs.Words.{IsFault, IsAnswered, IsDecided, IsNamed, IsPriced, IsSeated, MayAct, Meets, rank}
+pub use Rattle.log_audit.specs.Words.{IsFault, MayAct, Meets, rank}
 pub use Rattle.log_audit.specs.declared.auditor.Auditor.{Auditor}
 pub use Rattle.log_audit.specs.declared.fault.Fault.{Fault}
 pub use Rattle.log_audit.specs.declared.restoring.Restoration.{Restoration}

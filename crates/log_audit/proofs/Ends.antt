@@ -1,8 +1,8 @@
 -- How an audit ends.
-use Rattle.log_audit.proofs.Common.{◌≡◌, ◌≢◌, ℕ, ◌+◌, ◌-◌, ◌≤◌, inr, List, [], ◌∷◌, ◌++◌, length, take, Option, None, Some, refl, sym, ◌∙◌, ap, subst, arith, append_assoc, append-nil, length-append, IfSome, Ok, Err, take-append-add, ne_eqb, length-map, Reads, Reads-to_end, ended_after, rest_after, ended_lines, rest_of, ended_lines-append, ended_after-no_end, rest_after-append, rest_after-no_end, HasNoEnd, Entry, State, replay, entry_line, IsStart, cut-text, rest-text, ReaderState, HasNoLf, ReadFault, TooLong, Totals, Yes, No, Why, Spelling, Tells, IsLogOf, IsWrongEntry, IsWrongNext, IsAnswer, FailsAfter, most_bytes, most_lines, IsTooLong, lines_within, Counts, IsAtEnd, IsNextLine, IsStop, AreTotalsOf, IsFault}
+use Rattle.log_audit.proofs.Common.{◌≡◌, ◌≢◌, ℕ, ◌+◌, ◌-◌, ◌≤◌, inr, List, [], ◌∷◌, ◌++◌, length, take, Option, None, Some, refl, sym, ◌∙◌, ap, subst, arith, append_assoc, append-nil, length-append, IfSome, Ok, Err, take-append-add, ne_eqb, length-map, Reads, Reads-to_end, ended_after, rest_after, ended_lines, rest_of, ended_lines-append, ended_after-no_end, rest_after-append, rest_after-no_end, HasNoEnd, Entry, State, replay, entry_line, IsStart, cut-text, rest-text, ReaderState, HasNoLf, ReadFault, TooLong, Totals, Yes, No, Why, Spelling, Tells, IsLogOf, IsWrongEntry, IsWrongNext, IsAnswer, FailsAfter, log_limits, IsTooLong, Counts, IsAtEnd, IsNextLine, IsStop, AreTotalsOf, IsFault}
 use Rattle.trip_log.specs.inner.Cuts.{front_of}
 use Rattle.log_audit.specs.declared.verdict.Why.TheVariants.{Actor as ToActor, Reply as ToReply, Batch as ToBatch, Seating as ToSeating, Prices as ToPrices, Outcomes as ToOutcomes}
-use Rattle.log_audit.proofs.LogParts.{few-bytes, lines-counted, told-by}
+use Rattle.log_audit.proofs.LogParts.{few-bytes, lines-counted, lines_within, told-by}
 use Rattle.log_audit.proofs.OneAnswer.{wrong-later}
 use Rattle.log_audit.proofs.WholeLines.{no-entry-first}
 
@@ -54,7 +54,7 @@ ends-yes before left start feeds desks entries text totals good are end =
       entries,
       good,
       are,
-      λ long. end.within (subst IsTooLong (sym (append-nil text)) long),
+      λ long. end.within (subst (IsTooLong log_limits) (sym (append-nil text)) long),
     ))
 
 -- its last line has no LF
@@ -71,24 +71,24 @@ ends-unfinished before left start feeds desks entries text rest line good end so
         rest = rest;
         bytes_are = refl;
         log = good;
-        wrong = (some, λ entry tells. no-entry-first start.settings.log entry tells.first.0 rest end.no_lf tells.first.1);
+        wrong = (some, λ entry tells. no-entry-first start.settings.log entry tells.first.0 rest end.no_lf (sym tells.first.1));
         line_is = line_is;
       }),
       λ long. absurd (end.within long),
     )
 
 -- a line that an LF ends within the limits counts
-pub counts-front : (front more : List ℕ) (line : ℕ) → length front ≤ most_bytes → length (ended_lines front) ≤ most_lines
+pub counts-front : (front more : List ℕ) (line : ℕ) → length front ≤ log_limits.bytes → length (ended_lines front) ≤ log_limits.lines
     → line ≤ length (ended_lines front) → Counts (front ++ more) line
 counts-front front more line few_bytes few_lines low long =
-    let split : take most_bytes (front ++ more) ≡ front ++ take (most_bytes - length front) more = take-append-more most_bytes front more few_bytes in
+    let split : take log_limits.bytes (front ++ more) ≡ front ++ take (log_limits.bytes - length front) more = take-append-more log_limits.bytes front more few_bytes in
     omega (
       arith,
       low,
       few_lines,
       ap (λ l. length (ended_lines l)) split,
-      ap length (ended_lines-append front (take (most_bytes - length front) more)),
-      length-append (ended_lines front) (ended_after (rest_of front) (take (most_bytes - length front) more)),
+      ap length (ended_lines-append front (take (log_limits.bytes - length front) more)),
+      length-append (ended_lines front) (ended_after (rest_of front) (take (log_limits.bytes - length front) more)),
     )
   where
     take-append-more : (n : ℕ) (xs ys : List ℕ) → length xs ≤ n → take n (xs ++ ys) ≡ xs ++ take (n - length xs) ys
@@ -179,7 +179,7 @@ pub ends-too_long : (before left : Option (List ℕ)) (start : State) (feeds des
     → IsLogOf start feeds desks entries text → IsStop before left text TooLong → IfSome before (λ all. IsAnswer start all (Err TooLong))
 ends-too_long before left start feeds desks entries text begins good stop = by_case before stop
   where
-    by_case : (o : Option (List ℕ)) → IfSome o (λ all. (more : List ℕ) × (all ≡ text ++ more) × IsTooLong all × (lines_within all ≤ length (ended_lines text)))
+    by_case : (o : Option (List ℕ)) → IfSome o (λ all. (more : List ℕ) × (all ≡ text ++ more) × IsTooLong log_limits all × (lines_within all ≤ length (ended_lines text)))
         → IfSome o (λ all. IsAnswer start all (Err TooLong))
     by_case None h = tt
     by_case (Some all) (more, is, long, within) = (

@@ -1,5 +1,5 @@
 -- The words why a line is wrong: together they are what makes an entry legal, and only one is the first that is not met.
-use Rattle.log_audit.proofs.Common.{◌≡◌, ℕ, ◌<◌, inl, inr, List, refl, sym, ◌∙◌, ap, subst, arith, ◌==◌, if◌then◌else◌, Option, Some, None, IsSome, IfSome, IsSomeAnd, All, nat_eq, IsDistinct, cases_order, Actor, Feed, Desk, Entry, Event, Fed, Finish, Opened, Committed, Abandoned, Outcome, Seat, outcomes_of, IsLegal, IsLegalEvent, CommitsBatch, replay, BatchCopy, IsSeating, Certifies, seating_cost, State, open_batch_numbered, ride_ids, certified_is_least, IsStart, consistent, open-batch, Why, Spelling, MayAct, IsAnswered, IsNamed, IsSeated, IsPriced, IsDecided, Meets, rank, IsFault}
+use Rattle.log_audit.proofs.Common.{◌≡◌, ℕ, ◌<◌, inl, inr, List, refl, sym, ◌∙◌, ap, subst, arith, ◌==◌, if◌then◌else◌, Option, Some, None, IsSome, IfSome, IsSomeAnd, All, nat_eq, IsDistinct, cases_order, Actor, Feed, Desk, Entry, Event, Fed, Finish, Opened, Committed, Abandoned, Outcome, Seat, outcomes_of, IsLegal, IsLegalEvent, CommitsBatch, replay, BatchCopy, IsSeating, Certifies, seating_cost, State, open_batch_numbered, ride_ids, certified_is_least, IsStart, consistent, open-batch, Why, Spelling, MayAct, Meets, rank, IsFault}
 use Rattle.log_audit.specs.declared.verdict.Why.TheVariants.{Actor as ToActor, Reply as ToReply, Batch as ToBatch, Seating as ToSeating, Prices as ToPrices, Outcomes as ToOutcomes}
 
 -- the word at a place
@@ -36,7 +36,7 @@ one-fault a b feeds desks s actor event one other = elim (cases_order (rank a) (
 
 -- the reply is another
 pub fault-reply : (feeds desks : ℕ) (s : State) (actor : Actor) (event : Event) → MayAct feeds desks s actor event
-    → (IsAnswered s event → ⊥) → IsFault ToReply feeds desks s actor event
+    → (Meets ToReply feeds desks s actor event → ⊥) → IsFault ToReply feeds desks s actor event
 fault-reply feeds desks s actor event may never = record { before = before; fault = never }
   where
     before : (e : Why) → rank e < 2 → Meets e feeds desks s actor event
@@ -50,7 +50,7 @@ fault-reply feeds desks s actor event may never = record { before = before; faul
 
 -- the batch is another
 pub fault-batch : (feeds desks : ℕ) (s : State) (actor : Actor) (event : Event) → MayAct feeds desks s actor event
-    → IsAnswered s event → (IsNamed s actor event → ⊥) → IsFault ToBatch feeds desks s actor event
+    → Meets ToReply feeds desks s actor event → (Meets ToBatch feeds desks s actor event → ⊥) → IsFault ToBatch feeds desks s actor event
 fault-batch feeds desks s actor event may answered never = record { before = before; fault = never }
   where
     before : (e : Why) → rank e < 3 → Meets e feeds desks s actor event
@@ -176,8 +176,9 @@ commit-legal feeds desks s desk n c ss ps qs os h ToOutcomes =
     of-commit (open_batch_numbered s desk n) (λ b. CommitsBatch s b c ss ps qs os) (λ b. os ≡ outcomes_of b ss s) (λ b k. k.outcomes_are) h
 
 -- each word of an event that only its actor's word can fail, and one more
-by-words : (feeds desks : ℕ) (s : State) (actor : Actor) (event : Event) → MayAct feeds desks s actor event → IsAnswered s event
-    → IsNamed s actor event → IsSeated s actor event → IsPriced s actor event → IsDecided s actor event
+by-words : (feeds desks : ℕ) (s : State) (actor : Actor) (event : Event) → MayAct feeds desks s actor event
+    → Meets ToReply feeds desks s actor event → Meets ToBatch feeds desks s actor event → Meets ToSeating feeds desks s actor event
+    → Meets ToPrices feeds desks s actor event → Meets ToOutcomes feeds desks s actor event
     → (why : Why) → Meets why feeds desks s actor event
 by-words feeds desks s actor event may answered named seated priced decided Spelling = tt
 by-words feeds desks s actor event may answered named seated priced decided ToActor = may

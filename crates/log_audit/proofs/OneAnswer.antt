@@ -1,5 +1,5 @@
 -- A log has at most one answer.
-use Rattle.log_audit.proofs.Common.{◌≡◌, ◌≢◌, ℕ, ◌+◌, ◌<◌, ◌≤◌, ◌⊎◌, inl, inr, Bool, true, false, List, [], ◌∷◌, ◌++◌, length, refl, sym, ◌∙◌, ap, subst, arith, append_assoc, append-nil, length-append, All, IsTrue, Result, Ok, Err, AllByRecursion, join_with_byte, cases_lt, recursion_from_All, All-from_recursion, Entry, IsLegal, IsLegalEntry, replay, State, HasLine, IsOneOrTwo, actor_field, event_fields, entry_line, entry_lines, head_line, text_of, IsLegal-parts, IsStart, lines-go_on, texts-go_on, texts-same, first-legal, AuditFault, ReadFault, TooLong, NoMemory, Totals, Verdict, Yes, No, Why, Spelling, Tells, TellsNone, IsLogOf, IsWrongNext, IsWrongEntry, IsWrongHead, IsWrongLine, IsAnswer, AreTotalsOf, IsFault}
+use Rattle.log_audit.proofs.Common.{◌≡◌, ◌≢◌, ℕ, ◌+◌, ◌<◌, ◌≤◌, ◌⊎◌, inl, inr, Bool, true, false, List, [], ◌∷◌, ◌++◌, length, refl, sym, ◌∙◌, ap, subst, arith, append_assoc, append-nil, length-append, All, IsTrue, Result, Ok, Err, AllByRecursion, join_with_byte, cases_lt, recursion_from_All, All-from_recursion, Entry, IsLegal, IsLegalEntry, replay, State, HasLine, IsOneOrTwo, actor_field, event_fields, entry_line, entry_lines, head_line, text_of, IsLegal-parts, IsStart, lines-go_on, texts-go_on, texts-same, first-legal, AuditFault, ReadFault, TooLong, NoMemory, Totals, Verdict, Yes, No, Why, Spelling, Tells, HasNoHead, IsLogOf, IsWrongNext, IsWrongEntry, IsWrongLine, IsAnswer, AreTotalsOf, IsFault}
 use Rattle.log_audit.specs.declared.verdict.Why.TheVariants.{Actor as ToActor, Reply as ToReply, Batch as ToBatch, Seating as ToSeating, Prices as ToPrices, Outcomes as ToOutcomes}
 use Rattle.log_audit.proofs.Legality.{legal-words, one-fault}
 use Rattle.log_audit.proofs.ShortLines.{legal-short}
@@ -31,7 +31,7 @@ tells-same log bytes a b fits one two = elim (cases_lt (length (entry_line log a
     ordered a b one two short =
         let (more, is) = one.first in
         let (others, are) = two.first in
-        let (mid, longer, _) = split-longer (entry_line log a) more (entry_line log b) others (sym is ∙ are) short in
+        let (mid, longer, _) = split-longer (entry_line log a) more (entry_line log b) others (is ∙ sym are) short in
         let lines : entry_lines log (b ∷ []) ≡ entry_lines log (a ∷ []) ++ mid
         = append-nil (entry_line log b) ∙ longer ∙ ap (λ l. l ++ mid) (sym (append-nil (entry_line log a))) in
         let (later, all, _) = lines-go_on log (a ∷ []) (b ∷ []) mid fits (All-from_recursion (HasLine log) (a ∷ []) (one.spelled, tt))
@@ -55,7 +55,7 @@ goes-on start feeds desks others_feeds others_desks entries others front more lo
 record TellsNothing (start : State) (rest : List ℕ) (why : Why) : Type 0 where
   why_is : why ≡ Spelling
   some : rest ≢ []
-  none : TellsNone start.settings.log rest
+  none : (entry : Entry) → Tells start.settings.log rest entry → ⊥
 
 abbrev HasFault : State → ℕ → ℕ → List Entry → List ℕ → Why → Type 0
 HasFault start feeds desks entries rest why =
@@ -115,26 +115,26 @@ no-longer start feeds desks entries front more bytes line why begins good is w =
         let tells : Tells log w.rest e = record {
           spelled = spelled;
           short = legal-short w.feeds w.desks start w.entries e begins w.log.legal legal spelled;
-          first = (entry_lines log es ++ more, rest_is ∙ append_assoc (entry_line log e) (entry_lines log es) more);
+          first = (entry_lines log es ++ more, sym (rest_is ∙ append_assoc (entry_line log e) (entry_lines log es) more));
         } in
         not-wrong start w.feeds w.desks w.entries w.rest why e good.has_text.log_version tells legal w.wrong
 
 -- a text begins with a head
-has-head : (start : State) (feeds desks : ℕ) (entries : List Entry) (front more bytes : List ℕ) (line : ℕ) (why : Why)
-    → IsLogOf start feeds desks entries front → bytes ≡ front ++ more → IsWrongHead start bytes line why → ⊥
+has-head : (start : State) (feeds desks : ℕ) (entries : List Entry) (front more bytes : List ℕ)
+    → IsLogOf start feeds desks entries front → bytes ≡ front ++ more → HasNoHead start.settings.log bytes → ⊥
 unfolding text_of
-has-head start feeds desks entries front more bytes line why good is w =
+has-head start feeds desks entries front more bytes good is no_head =
     let log : ℕ = start.settings.log in
-    w.no_head feeds desks good.has_text.feeds_number good.has_text.desks_number (
+    no_head feeds desks good.has_text.feeds_number good.has_text.desks_number (
       entry_lines log entries ++ more,
-      is ∙ ap (λ l. l ++ more) good.text_is ∙ append_assoc (head_line log feeds desks) (entry_lines log entries) more,
+      sym (is ∙ ap (λ l. l ++ more) good.text_is ∙ append_assoc (head_line log feeds desks) (entry_lines log entries) more),
     )
 
 -- a wrong line comes after all lines of a legal history's text
 pub wrong-later : (start : State) (feeds desks : ℕ) (entries : List Entry) (front more bytes : List ℕ) (line : ℕ) (why : Why) → IsStart start
     → IsLogOf start feeds desks entries front → bytes ≡ front ++ more → IsWrongLine start bytes line why → length entries + 2 ≤ line
-wrong-later start feeds desks entries front more bytes line why begins good is (inl w) =
-    absurd (has-head start feeds desks entries front more bytes line why good is w)
+wrong-later start feeds desks entries front more bytes line why begins good is (inl (no_head, _, _)) =
+    absurd (has-head start feeds desks entries front more bytes good is no_head)
 wrong-later start feeds desks entries front more bytes line why begins good is (inr w) =
     let longer = no-longer start feeds desks entries front more bytes line why begins good is w in
     let (_, _, (later, all, _)) = goes-on start feeds desks w.feeds w.desks entries w.entries front more w.front w.rest good w.log
@@ -144,8 +144,8 @@ wrong-later start feeds desks entries front more bytes line why begins good is (
 -- a whole log is not wrong
 not-both : (start : State) (feeds desks : ℕ) (entries : List Entry) (bytes : List ℕ) (line : ℕ) (why : Why) → IsStart start
     → IsLogOf start feeds desks entries bytes → IsWrongLine start bytes line why → ⊥
-not-both start feeds desks entries bytes line why begins good (inl w) =
-    has-head start feeds desks entries bytes [] bytes line why good (sym (append-nil bytes)) w
+not-both start feeds desks entries bytes line why begins good (inl (no_head, _, _)) =
+    has-head start feeds desks entries bytes [] bytes good (sym (append-nil bytes)) no_head
 not-both start feeds desks entries bytes line why begins good (inr w) =
     let longer = no-longer start feeds desks entries bytes [] bytes line why begins good (sym (append-nil bytes)) w in
     let (_, _, (later, all, left)) = goes-on start feeds desks w.feeds w.desks entries w.entries bytes [] w.front w.rest good w.log
@@ -169,11 +169,11 @@ not-both start feeds desks entries bytes line why begins good (inr w) =
 -- two wrong lines are one
 pub wrong-same : (start : State) (bytes : List ℕ) (line others_line : ℕ) (why others_why : Why) → IsStart start
     → IsWrongLine start bytes line why → IsWrongLine start bytes others_line others_why → (line ≡ others_line) × (why ≡ others_why)
-wrong-same start bytes line line' why why' begins (inl w) (inl v) = (w.line_is ∙ sym v.line_is, w.why_is ∙ sym v.why_is)
+wrong-same start bytes line line' why why' begins (inl w) (inl v) = (w.1 ∙ sym v.1, w.2 ∙ sym v.2)
 wrong-same start bytes line line' why why' begins (inl w) (inr v) =
-    absurd (has-head start v.feeds v.desks v.entries v.front v.rest bytes line why v.log v.bytes_are w)
+    absurd (has-head start v.feeds v.desks v.entries v.front v.rest bytes v.log v.bytes_are w.0)
 wrong-same start bytes line line' why why' begins (inr w) (inl v) =
-    absurd (has-head start w.feeds w.desks w.entries w.front w.rest bytes line' why' w.log w.bytes_are v)
+    absurd (has-head start w.feeds w.desks w.entries w.front w.rest bytes w.log w.bytes_are v.0)
 wrong-same start bytes line line' why why' begins (inr w) (inr v) =
     let longer = no-longer start w.feeds w.desks w.entries w.front w.rest bytes line' why' begins w.log w.bytes_are v in
     let shorter = no-longer start v.feeds v.desks v.entries v.front v.rest bytes line why begins v.log v.bytes_are w in

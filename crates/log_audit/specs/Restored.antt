@@ -1,5 +1,6 @@
 -- What a log gives back that may end anywhere.
 use Rattle.std.specs.Prelude.{◌≡◌, ℕ, ◌<◌, ◌≤◌, ◌⊎◌, List, ◌++◌, length, Result, Ok, Err}
+use Rattle.line_text.specs.line_reader.Limits.{IsTooLong}
 use Rattle.line_text.specs.line_reader.Reader.{HasNoLf}
 use Rattle.line_text.specs.Lines.{ended_lines}
 use Rattle.ride_model.specs.State.{State, open_batch_of}
@@ -9,7 +10,7 @@ use Rattle.log_audit.specs.declared.restoring.Restoration.{Restoration}
 use Rattle.log_audit.specs.declared.restoring.Restoration.TheVariants.{Standing, No}
 use Rattle.log_audit.specs.declared.verdict.AuditFault.{AuditFault}
 use Rattle.log_audit.specs.Audit.{IsAnswer, IsLogOf, IsWrongLine}
-use Rattle.log_audit.specs.Limits.{Counts, IsTooLong, most_lines}
+use Rattle.log_audit.specs.Limits.{Counts, log_limits}
 
 -- the bytes are the text of the board's history, and then what no LF ends; the batches are those that are open then
 pub record StandsAt (start : State) (bytes : List ℕ) (restored : Restored) : Type 0 where
@@ -17,7 +18,7 @@ pub record StandsAt (start : State) (bytes : List ℕ) (restored : Restored) : T
   pub torn : List ℕ
   pub bytes_are : bytes ≡ text ++ torn
   pub no_lf : HasNoLf torn
-  pub within : IsTooLong bytes → ⊥
+  pub within : IsTooLong log_limits bytes → ⊥
   pub start_is : restored.board.start ≡ start
   pub log : IsLogOf start restored.board.feeds restored.board.desks restored.board.history text
   pub first_is : restored.first ≡ open_batch_of (state_of restored.board) 1
@@ -26,7 +27,7 @@ pub record StandsAt (start : State) (bytes : List ℕ) (restored : Restored) : T
 -- a board stands at this start, with fewer entries than a log may have lines, and with the batches that are open on it
 pub record IsBoardOf (start : State) (restored : Restored) : Type 0 where
   pub start_is : restored.board.start ≡ start
-  pub few : length restored.board.history < most_lines
+  pub few : length restored.board.history < log_limits.lines
   pub first_is : restored.first ≡ open_batch_of (state_of restored.board) 1
   pub second_is : restored.second ≡ open_batch_of (state_of restored.board) 2
 

@@ -6,7 +6,7 @@ use Rattle.ride_model.specs.declared.entry.Event.{Event}
 use Rattle.ride_model.specs.declared.entry.Event.TheVariants.{Fed, Finish, Opened, Committed, Abandoned}
 use Rattle.ride_model.specs.Batch.{may_open, next_batch, outcomes_of}
 use Rattle.ride_model.specs.Legal.{IsNumbered, MayEnd, NamesBatch}
-use Rattle.ride_model.specs.Seating.{BatchCopy, IsSeating, Certifies, seating_cost}
+use Rattle.ride_model.specs.Seating.{IsSeating, Certifies, seating_cost}
 use Rattle.ride_model.specs.State.{State, has_ended, open_batch_numbered}
 use Rattle.ride_model.specs.Step.{step}
 use Rattle.log_audit.specs.declared.verdict.Why.{Why}
@@ -24,44 +24,23 @@ MayAct feeds desks s (Desk desk) (Committed number _ _ _ _ _) = IsSome (open_bat
 MayAct feeds desks s (Desk desk) (Abandoned number) = IsSome (open_batch_numbered s desk number)
 MayAct feeds desks s _ _ = ⊥
 
--- the reply to a command is that of the rules of dispatch
-abbrev pub IsAnswered : State → Event → Type 0
-IsAnswered s (Fed command reply) = reply ≡ (step s command).reply
-IsAnswered s _ = ⊤
-
--- an opening names the desk's next batch
-abbrev pub IsNamed : State → Actor → Event → Type 0
-IsNamed s (Desk desk) (Opened number time requests plans) = NamesBatch (next_batch s desk) number time requests plans
-IsNamed s _ _ = ⊤
-
--- the seats of a commit are a seating of the open batch, and the cost is what it costs
-abbrev pub IsSeated : State → Actor → Event → Type 0
-IsSeated s (Desk desk) (Committed number cost seats _ _ _) =
-    IfSome (open_batch_numbered s desk number)
-    (λ (batch : BatchCopy). IsSeating s.roads batch seats × (cost ≡ seating_cost s.roads batch seats))
-IsSeated s _ _ = ⊤
-
--- the prices and payments of a commit certify its seating
-abbrev pub IsPriced : State → Actor → Event → Type 0
-IsPriced s (Desk desk) (Committed number _ seats prices pays _) =
-    IfSome (open_batch_numbered s desk number) (λ (batch : BatchCopy). Certifies s.roads batch seats prices pays)
-IsPriced s _ _ = ⊤
-
--- the outcomes of a commit are those of the moment
-abbrev pub IsDecided : State → Actor → Event → Type 0
-IsDecided s (Desk desk) (Committed number _ seats _ _ outcomes) =
-    IfSome (open_batch_numbered s desk number) (λ (batch : BatchCopy). outcomes ≡ outcomes_of batch seats s)
-IsDecided s _ _ = ⊤
-
--- what a word asks of an event of an actor at a state, with so many feeds and desks; an entry that was read is spelled
+-- what a word asks of an event of an actor at a state, with so many feeds and desks; an entry that was read is spelled.
+-- The actor may act; the reply to a command is that of the rules of dispatch; an opening names the desk's next batch; the
+-- seats of a commit are a seating of the open batch, which costs what it says, the prices and payments certify it, and the
+-- outcomes are those of the moment
 abbrev pub Meets : Why → ℕ → ℕ → State → Actor → Event → Type 0
-Meets Spelling feeds desks s actor event = ⊤
 Meets ToActor feeds desks s actor event = MayAct feeds desks s actor event
-Meets ToReply feeds desks s actor event = IsAnswered s event
-Meets ToBatch feeds desks s actor event = IsNamed s actor event
-Meets ToSeating feeds desks s actor event = IsSeated s actor event
-Meets ToPrices feeds desks s actor event = IsPriced s actor event
-Meets ToOutcomes feeds desks s actor event = IsDecided s actor event
+Meets ToReply feeds desks s actor (Fed command reply) = reply ≡ (step s command).reply
+Meets ToBatch feeds desks s (Desk desk) (Opened number time requests plans) =
+    NamesBatch (next_batch s desk) number time requests plans
+Meets ToSeating feeds desks s (Desk desk) (Committed number cost seats _ _ _) =
+    IfSome (open_batch_numbered s desk number)
+    (λ batch. IsSeating s.roads batch seats × (cost ≡ seating_cost s.roads batch seats))
+Meets ToPrices feeds desks s (Desk desk) (Committed number _ seats prices pays _) =
+    IfSome (open_batch_numbered s desk number) (λ batch. Certifies s.roads batch seats prices pays)
+Meets ToOutcomes feeds desks s (Desk desk) (Committed number _ seats _ _ outcomes) =
+    IfSome (open_batch_numbered s desk number) (λ batch. outcomes ≡ outcomes_of batch seats s)
+Meets _ feeds desks s _ _ = ⊤
 
 -- the place of a word in the order of the tests
 abbrev pub rank : Why → ℕ

@@ -1,6 +1,7 @@
 //! What holds of every log.
 ghost use Rattle.std.specs.Prelude.{◌≡◌, ◌↔◌, ◌≤◌, ℕ, List, length, All, Result, Ok};
 ghost use Rattle.line_text.specs.Lines.{lines_of};
+ghost use Rattle.line_text.specs.line_reader.Limits.{IsTooLong};
 ghost use Rattle.ride_model.specs.declared.entry.Entry.{Entry};
 ghost use Rattle.ride_model.specs.History.{fed_commands};
 ghost use Rattle.ride_model.specs.Legal.{IsLegal, IsLegalEntry, IsNumbered, replay};
@@ -15,7 +16,7 @@ ghost use Rattle.log_audit.specs.declared.verdict.Verdict.{Verdict};
 ghost use Rattle.log_audit.specs.declared.verdict.Verdict.TheVariants.{Yes};
 ghost use Rattle.log_audit.specs.declared.verdict.Why.{Why};
 ghost use Rattle.log_audit.specs.Audit.{IsAnswer};
-ghost use Rattle.log_audit.specs.Limits.{most_line, IsTooLong};
+ghost use Rattle.log_audit.specs.Limits.{log_limits};
 ghost use Rattle.log_audit.specs.Words.{Meets};
 
 /// An entry is legal after a legal history exactly where it meets each word.
@@ -41,10 +42,10 @@ pub fn every_log_is_within_limits()
         → IsLegal feeds desks start entries → HasText start.settings.log feeds desks entries
         → ((feed : ℕ) → IsNumbered feeds feed
         → length (fed_commands feed entries) ≤ feed_limits.lines)
-        → IsTooLong (text_of start.settings.log feeds desks entries) → ⊥ }
+        → IsTooLong log_limits (text_of start.settings.log feeds desks entries) → ⊥ }
     ensures lines { (feeds desks : ℕ) (start : State) (entries : List Entry) → IsStart start
         → IsLegal feeds desks start entries → HasText start.settings.log feeds desks entries
-        → All (λ line. length line ≤ most_line)
+        → All (λ line. length line ≤ log_limits.line)
         (lines_of (text_of start.settings.log feeds desks entries)) }
 {}
 

@@ -4,12 +4,11 @@ unfoldable pub use Rattle.model_laws.proofs.Common.{replay, text_of}
 pub use Rattle.board_core.proofs.FedEntries.{fed_commands-append}
 pub use Rattle.board_core.specs.Recorded.{Recorded}
 pub use Rattle.command_lines.specs.Limits.{limits_of, feed_limits, most_lines, new_feed}
-pub use Rattle.dispatcher.proofs.Bringing.{bytes-of, left-of, left-of-content}
+pub use Rattle.dispatcher.proofs.Bringing.{Adds-then, AreBytesOf, bytes-of, bytes-told, left-of, rose-above}
 pub use Rattle.dispatcher.proofs.Statuses.{whole-status, NoneWanting, long-status, none-status, ran-status, sink-status, source-status, within-not-long}
-pub use Rattle.dispatcher.proofs.Working.{rose-above}
 pub use Rattle.dispatcher.specs.Meanings.{Means, start_of, Meaning, said_of, status_of}
-pub use Rattle.dispatcher.specs.Runs.{HasStopped, IsUnread}
-pub use Rattle.dispatcher.specs.Shelves.{Sunk, IsBackOf, Shelved, told_bytes, AreBytesOf, AreGivenBack, IsFresh, IsLeftOf, IsSpent, IsUntouched, SaysTo, bytes_of, sunk}
+pub use Rattle.dispatcher.specs.Runs.{HasStopped, IsUnread, StopsReading}
+pub use Rattle.dispatcher.specs.Shelves.{Sunk, IsBackOf, Shelved, told_bytes, IsFresh, IsLeftOf, IsSpent, IsUntouched, SaysTo, sunk}
 pub use Rattle.line_text.specs.line_reader.Limits.{IsWithinLimits, IsTooLong}
 pub use Rattle.live_sessions.specs.Resuming.{IsFeedAfter, form_after, HaveFewCommands, still_feeds, HasResumed, IsResumed}
 pub use Rattle.live_sessions.specs.Serving.{FeedRun, HasNotServed, HasServed, IsFeedOf}

@@ -1,7 +1,7 @@
 -- Which statuses are left to a resumption of whole files without faults.
 use Rattle.resumption.proofs.Common.{◌≡◌, ◌⊎◌, inl, inr, ℕ, Bool, true, false, List, [], ◌∷◌, Option, Some, Result, Ok, Err, IfSome, refl, sym, subst, ◌∙◌, arith, All, All-head, All-tail, All-take, Contents, GivenBack, Rose, Ran, State, Entry, IsTooLong, IsWithinLimits, Reads, Recorded, limits_of, Restored, Restoration, Standing, No, AuditFault, NoMemory, ReadFault, TooLong, IsRestoration, HaveFewCommands, IsFeedAfter, form_after, FeedRun, GoingOn, resumption_files, feed_file, fleet_file, log_file, map_file, Means, start_of, HasStopped, IsUnread, AreBytesOf, IsBackOf, Shelved, Sunk, told_bytes, long-status, ran-status, within-not-long, still_gives, EndsLog, ReadsLog, AreAllWhole, HasGoneOn, HasRefusedLog, HasRoom, IsResumption}
 use Rattle.command_lines.specs.declared.forms.FeedForm.{FeedForm}
-use Rattle.dispatcher.specs.Whole.{IsWhole}
+use Rattle.dispatcher.specs.Runs.{IsWhole}
 use Rattle.dispatcher.proofs.Completing.{map-first, whole-stops}
 use Rattle.resumption.proofs.AnsweredFeeds.{none-within}
 

@@ -13,9 +13,8 @@ use Rattle.live_sessions.specs.Resuming.{HaveFewCommands}
 use Rattle.run_words.specs.Resumptions.{GoingOn, resumption_files}
 use Rattle.run_words.specs.Words.{File, fleet_file, log_file, map_file, name_of}
 use Rattle.dispatcher.specs.Meanings.{Meaning, Means, start_of}
-use Rattle.dispatcher.specs.Runs.{HasStopped, IsOver, IsUnread}
+use Rattle.dispatcher.specs.Runs.{HasStopped, IsOver, IsUnread, IsWhole}
 use Rattle.dispatcher.specs.Shelves.{AreBack, IsSpent, Shelved, Sunk, told_bytes}
-use Rattle.dispatcher.specs.Whole.{IsWhole}
 use Rattle.resumption.specs.Goings.{GoesOn, room_of, still_gives}
 use Rattle.resumption.specs.Logs.{EndsLog, ReadsLog}
 
@@ -27,7 +26,7 @@ files_to_log asked = map_file asked.map ∷ fleet_file asked.fleet ∷ log_file 
 pub record HasRefusedLog (asked : GoingOn) (old new : Shelved) (out : Sunk) (status : ℕ) : Type 0 where
   pub none_further : new.asked ≡ map name_of (files_to_log asked)
   pub all_brought : new.brought ≡ length (files_to_log asked)
-  pub back : AreBack old.told (files_to_log asked) new
+  pub back : AreBack old.told new
   pub meaning : Meaning
   pub means : All (Means old.told meaning) (files_to_log asked)
   pub over : IsOver old.told asked.log new.back
@@ -42,7 +41,7 @@ pub record HasRefusedLog (asked : GoingOn) (old new : Shelved) (out : Sunk) (sta
 pub record HasGoneOn (asked : GoingOn) (old new : Shelved) (out : Sunk) (status : ℕ) : Type 0 where
   pub all_asked : new.asked ≡ map name_of (resumption_files asked)
   pub all_brought : new.brought ≡ length (resumption_files asked)
-  pub back : AreBack old.told (resumption_files asked) new
+  pub back : AreBack old.told new
   pub meaning : Meaning
   pub means : All (Means old.told meaning) (resumption_files asked)
   pub drivers : IsOver old.told asked.drivers new.back

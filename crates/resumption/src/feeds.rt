@@ -6,7 +6,7 @@ ghost use Rattle.dispatcher.specs.Shelves.{shelved, sunk};
 ghost use Rattle.resumption.specs.inner.Goings.{GoesOnOver};
 
 use adaptive_roads::Roads;
-use dispatcher::{Feeds, Status};
+use dispatcher::{Feeds, Status, bring, give_back};
 use live_sessions::{Interrupted, resume};
 use ride_ports::{Gate, Shelf, Sink};
 use std::alloc::Global;
@@ -35,11 +35,11 @@ pub fn go_on<'r, R: Threads + Wait + Sync, H: Shelf, K: Sink, G: Gate>(
         (sunk K.written K.faults out.old out.new) result }
 {
     let Feeds { riders, drivers } = feeds;
-    let Ok(mut riders) = shelf.bring(riders) else {
+    let Ok(mut riders) = bring(shelf, riders) else {
         return Status::SourceFailed.code();
     };
-    let Ok(mut drivers) = shelf.bring(drivers) else {
-        shelf.give_back(riders);
+    let Ok(mut drivers) = bring(shelf, drivers) else {
+        give_back(shelf, riders);
         return Status::SourceFailed.code();
     };
     let ran = resume(
@@ -52,7 +52,7 @@ pub fn go_on<'r, R: Threads + Wait + Sync, H: Shelf, K: Sink, G: Gate>(
         out,
         gate,
     );
-    shelf.give_back(riders);
-    shelf.give_back(drivers);
+    give_back(shelf, riders);
+    give_back(shelf, drivers);
     ran.status()
 }

@@ -8,6 +8,7 @@ ghost use Rattle.resumption.specs.Logs.{ReadsLog};
 ghost use Rattle.resumption.specs.inner.Logs.{BringsLog};
 
 use adaptive_roads::Roads;
+use dispatcher::{bring, give_back};
 use log_audit::{AuditFault, Restoration, restore};
 use ride_model::{Fleet, Settings};
 use ride_ports::{Shelf, Source};
@@ -32,11 +33,11 @@ pub fn bring_log<'r, R: Threads + Sync, H: Shelf>(
         (shelved H.contents H.asked H.brought H.back H.faults shelf.old)
         (shelved H.contents H.asked H.brought H.back H.faults shelf.new) result }
 {
-    let Ok(mut source) = shelf.bring(name) else {
+    let Ok(mut source) = bring(shelf, name) else {
         return None;
     };
     let found = log_from(rt, alloc, roads, settings, fleet, &mut source);
-    shelf.give_back(source);
+    give_back(shelf, source);
     Some(found)
 }
 

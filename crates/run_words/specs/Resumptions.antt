@@ -1,8 +1,8 @@
 -- What the words of a session that goes on from its log ask for.
-use Rattle.std.specs.Prelude.{ℕ, List, [], ◌∷◌, codes, Option, option_and_then, option_map}
+use Rattle.std.specs.Prelude.{ℕ, List, [], ◌∷◌, Option, Some, None, option_map}
 use Rattle.clap.specs.Simple.{App}
 use Rattle.ride_model.specs.Limits.{most_workers}
-use Rattle.run_words.specs.Words.{File, feed_file, fleet_file, log_file, map_file, number_within, over_map_and_fleet, value_of, with_option}
+use Rattle.run_words.specs.Words.{File, command_with, feed_file, fleet_file, log_file, map_file, number_within, values_of}
 
 -- what is asked for, by the names of its files: that the session of a log over a map and a fleet file goes on with riders and drivers, by
 -- so many workers a desk
@@ -20,21 +20,19 @@ going_on map fleet log riders drivers workers =
 
 -- its command, which takes the first word for its name
 abbrev pub resumption_command : App
-resumption_command =
-    with_option (with_option (with_option (with_option (over_map_and_fleet (codes "ride_resume")) (codes "log")) (codes "riders"))
-    (codes "drivers")) (codes "workers")
+resumption_command = command_with "ride_resume"
+    ("map" ∷ "fleet" ∷ "log" ∷ "riders" ∷ "drivers" ∷ "workers" ∷ [])
 
 -- what the values of its options ask for; nothing where one is wanting or out of its range
-abbrev pub resumption_asked : (List ℕ → Option (List ℕ)) → Option GoingOn
-resumption_asked value =
-    option_and_then (λ map. option_and_then (λ fleet. option_and_then (λ log. option_and_then (λ riders.
-    option_and_then (λ drivers. option_map (λ workers. going_on map fleet log riders drivers workers)
-    (option_and_then (number_within 1 most_workers) (value (codes "workers"))))
-    (value (codes "drivers"))) (value (codes "riders"))) (value (codes "log"))) (value (codes "fleet"))) (value (codes "map"))
+abbrev pub resumption_asked : List (Option (List ℕ)) → Option GoingOn
+resumption_asked
+    (Some map ∷ Some fleet ∷ Some log ∷ Some riders ∷ Some drivers ∷ Some workers ∷ []) =
+    option_map (going_on map fleet log riders drivers) (number_within 1 most_workers workers)
+resumption_asked _ = None
 
 -- what words ask for; nothing where they are not in order
 abbrev pub resumption_of : List (List ℕ) → Option GoingOn
-resumption_of words = resumption_asked (value_of resumption_command words)
+resumption_of words = resumption_asked (values_of resumption_command words)
 
 -- its files, in the order in which they are brought
 abbrev pub resumption_files : GoingOn → List File

@@ -1,11 +1,11 @@
 -- What the words of the program ask for.
-use Rattle.std.specs.Prelude.{ℕ, ◌&&◌, nat_le, if◌then◌else◌, true, List, [], ◌∷◌, slice_index_or, codes, bytes_eq, Option, Some, None, option_and_then, option_map}
+use Prim.Native.String.{String}
+use Rattle.std.specs.Prelude.{ℕ, ◌&&◌, nat_le, if◌then◌else◌, true, List, [], ◌∷◌, find, map, slice_index_or, codes, bytes_eq, Option, Some, None, option_and_then, option_map}
 use Rattle.line_text.specs.Numbers.{number_of}
 use Rattle.ride_model.specs.Limits.{longest_reach, most_workers, most_vehicles}
-use Rattle.clap.specs.Walk.{Rule, first_of}
-use Rattle.clap.specs.Simple.{App, matches_of, new_app, new_rule, on_top, with_rule}
+use Rattle.clap.specs.Walk.{Rule, first_of, is_empty}
+use Rattle.clap.specs.Simple.{App, matches_of, new_app, new_rule, on_top}
 use Rattle.clap.specs.Faults.{fault_of}
-use Rattle.clap.specs.Kinds.{Kinds}
 use Rattle.clap.specs.declared.builder.action.ArgAction.TheVariants.{Set}
 use Rattle.city_maker.specs.declared.plan.CityPlan.{CityPlan}
 use Rattle.run_words.specs.declared.words.Word.{Word}
@@ -23,95 +23,77 @@ pub data Asked : Type 0 where
   a_booking : List ℕ → Asked
   a_league : List ℕ → List ℕ → List ℕ → List ℕ → Asked
 
--- an option that has to be given, with one value, and a command of this name that has neither help nor version
+-- an option of this name that has to be given, with one value
 abbrev pub option_rule : List ℕ → Rule
 option_rule name = record (new_rule name) { long = Some name; required = true; action = Some Set }
 
-abbrev pub bare_command : List ℕ → App
-bare_command name = on_top (λ s. record s { disable_help_flag = true; disable_version_flag = true }) (new_app name)
+-- a command of this name with options of these names, that has neither help nor version
+abbrev pub command_with : String → List String → App
+command_with name options = on_top (λ shape. record shape {
+  rules = map (λ option. option_rule (codes option)) options;
+  disable_help_flag = true;
+  disable_version_flag = true;
+}) (new_app (codes name))
 
-abbrev pub with_option : App → List ℕ → App
-with_option command name = with_rule command (option_rule name)
-
-abbrev pub over_map_and_fleet : List ℕ → App
-over_map_and_fleet name = with_option (with_option (bare_command name) (codes "map")) (codes "fleet")
-
--- the command of each first word, with its options
+-- the command of each first word
 abbrev pub command_by_word : Word → App
-command_by_word Replay = with_option (over_map_and_fleet (codes "replay")) (codes "feed")
-command_by_word Ahead = with_option (with_option (over_map_and_fleet (codes "ahead")) (codes "feed")) (codes "reach")
-command_by_word Audit = with_option (over_map_and_fleet (codes "audit")) (codes "log")
+command_by_word Replay = command_with "replay" ("map" ∷ "fleet" ∷ "feed" ∷ [])
+command_by_word Ahead = command_with "ahead" ("map" ∷ "fleet" ∷ "feed" ∷ "reach" ∷ [])
+command_by_word Audit = command_with "audit" ("map" ∷ "fleet" ∷ "log" ∷ [])
 command_by_word Serve =
-    with_option (with_option (with_option (with_option (over_map_and_fleet (codes "serve")) (codes "riders")) (codes "drivers"))
-    (codes "workers")) (codes "desks")
-command_by_word Drill =
-    with_option (with_option (with_option (with_option (bare_command (codes "drill")) (codes "side")) (codes "vehicles")) (codes "requests"))
-    (codes "seed")
-command_by_word Book = with_option (bare_command (codes "book")) (codes "feed")
-command_by_word League = with_option (with_option (over_map_and_fleet (codes "league")) (codes "second")) (codes "feed")
+    command_with "serve" ("map" ∷ "fleet" ∷ "riders" ∷ "drivers" ∷ "workers" ∷ "desks" ∷ [])
+command_by_word Drill = command_with "drill" ("side" ∷ "vehicles" ∷ "requests" ∷ "seed" ∷ [])
+command_by_word Book = command_with "book" ("feed" ∷ [])
+command_by_word League = command_with "league" ("map" ∷ "fleet" ∷ "second" ∷ "feed" ∷ [])
 
--- what was found, where no fault was
-abbrev pub unless : Kinds → Option (List ℕ) → Option (List ℕ)
-unless [] found = found
-unless (fault ∷ faults) found = None
-
--- the value that a command finds of an option in words in which it finds no fault
-unfoldable pub value_of : App → List (List ℕ) → List ℕ → Option (List ℕ)
-value_of command words option = unless (fault_of command words) (first_of option (matches_of command words))
+-- the values that a command finds of its options, in order, in words in which it finds no fault
+unfoldable pub values_of : App → List (List ℕ) → List (Option (List ℕ))
+values_of command words =
+    if is_empty (fault_of command words)
+    then map (λ (rule : Rule). first_of rule.id (matches_of command words)) command.top.rules
+    else []
 
 -- the number of a text, where it is one from the least to the most
 abbrev pub number_within : ℕ → ℕ → List ℕ → Option ℕ
 number_within least most text =
-    option_and_then (λ number. if nat_le least number && nat_le number most then Some number else None) (number_of text)
+    option_and_then (λ n. if nat_le least n && nat_le n most then Some n else None) (number_of text)
 
--- what three texts ask for, where they are there
-abbrev pub of_three : (List ℕ → List ℕ → List ℕ → Asked) → Option (List ℕ) → Option (List ℕ) → Option (List ℕ) → Option Asked
-of_three ask first second third =
-    option_and_then (λ a. option_and_then (λ b. option_map (λ c. ask a b c) third) second) first
+-- a drill by these numbers, where they are there
+abbrev pub drill_by : Option ℕ → Option ℕ → Option ℕ → Option ℕ → Option Asked
+drill_by (Some side) (Some vehicles) (Some requests) (Some seed) =
+    Some (a_drill (record { side = side; vehicles = vehicles; requests = requests; seed = seed }))
+drill_by _ _ _ _ = None
 
 -- what the values of its options ask for behind each first word; nothing where one is wanting or out of its range
-abbrev pub asked_by_word : Word → (List ℕ → Option (List ℕ)) → Option Asked
-asked_by_word Replay value = of_three a_replay (value (codes "map")) (value (codes "fleet")) (value (codes "feed"))
-asked_by_word Ahead value =
-    option_and_then (λ map. option_and_then (λ fleet. option_and_then (λ feed. option_map (λ reach. an_ahead map fleet feed reach)
-    (option_and_then (number_within 1 longest_reach) (value (codes "reach"))))
-    (value (codes "feed"))) (value (codes "fleet"))) (value (codes "map"))
-asked_by_word Audit value = of_three an_audit (value (codes "map")) (value (codes "fleet")) (value (codes "log"))
-asked_by_word Serve value =
-    option_and_then (λ map. option_and_then (λ fleet. option_and_then (λ riders. option_and_then (λ drivers.
-    option_and_then (λ workers. option_map (λ desks. a_service map fleet riders drivers workers desks)
-    (option_and_then (number_within 1 2) (value (codes "desks"))))
-    (option_and_then (number_within 1 most_workers) (value (codes "workers"))))
-    (value (codes "drivers"))) (value (codes "riders"))) (value (codes "fleet"))) (value (codes "map"))
-asked_by_word Drill value =
-    option_and_then (λ side. option_and_then (λ vehicles. option_and_then (λ requests.
-    option_map (λ seed. a_drill (record { side = side; vehicles = vehicles; requests = requests; seed = seed }))
-    (option_and_then (number_within 0 2147483647) (value (codes "seed"))))
-    (option_and_then (number_within 0 16000) (value (codes "requests"))))
-    (option_and_then (number_within 0 most_vehicles) (value (codes "vehicles"))))
-    (option_and_then (number_within 2 100) (value (codes "side")))
-asked_by_word Book value = option_map (λ feed. a_booking feed) (value (codes "feed"))
-asked_by_word League value =
-    option_and_then (λ map. option_and_then (λ fleet. option_and_then (λ second. option_map (λ feed. a_league map fleet second feed)
-    (value (codes "feed"))) (value (codes "second"))) (value (codes "fleet"))) (value (codes "map"))
+abbrev pub asked_by_word : Word → List (Option (List ℕ)) → Option Asked
+asked_by_word Replay (Some map ∷ Some fleet ∷ Some feed ∷ []) = Some (a_replay map fleet feed)
+asked_by_word Ahead (Some map ∷ Some fleet ∷ Some feed ∷ Some reach ∷ []) =
+    option_map (an_ahead map fleet feed) (number_within 1 longest_reach reach)
+asked_by_word Audit (Some map ∷ Some fleet ∷ Some log ∷ []) = Some (an_audit map fleet log)
+asked_by_word Serve
+    (Some map ∷ Some fleet ∷ Some riders ∷ Some drivers ∷ Some workers ∷ Some desks ∷ []) =
+    option_and_then (λ many.
+    option_map (a_service map fleet riders drivers many) (number_within 1 2 desks))
+    (number_within 1 most_workers workers)
+asked_by_word Drill (Some side ∷ Some vehicles ∷ Some requests ∷ Some seed ∷ []) =
+    drill_by (number_within 2 100 side) (number_within 0 most_vehicles vehicles)
+    (number_within 0 16000 requests) (number_within 0 2147483647 seed)
+asked_by_word Book (Some feed ∷ []) = Some (a_booking feed)
+asked_by_word League (Some map ∷ Some fleet ∷ Some second ∷ Some feed ∷ []) =
+    Some (a_league map fleet second feed)
+asked_by_word _ _ = None
 
 -- the word of a name
 unfoldable pub word_of : List ℕ → Option Word
 word_of name =
-    if bytes_eq name (codes "replay") then Some Replay
-    else (if bytes_eq name (codes "ahead") then Some Ahead
-    else (if bytes_eq name (codes "audit") then Some Audit
-    else (if bytes_eq name (codes "serve") then Some Serve
-    else (if bytes_eq name (codes "drill") then Some Drill
-    else (if bytes_eq name (codes "book") then Some Book
-    else (if bytes_eq name (codes "league") then Some League else None))))))
+    find (λ word. bytes_eq name (command_by_word word).top.name)
+    (Replay ∷ Ahead ∷ Audit ∷ Serve ∷ Drill ∷ Book ∷ League ∷ [])
 
 -- what words ask for: the first of them says what, and the others are its options; nothing where they are not in order
-abbrev pub first_word : List (List ℕ) → List ℕ
-first_word words = slice_index_or words 0 []
-
 abbrev pub ask_of : List (List ℕ) → Option Asked
-ask_of words = option_and_then (λ word. asked_by_word word (value_of (command_by_word word) words)) (word_of (first_word words))
+ask_of words =
+    option_and_then (λ word. asked_by_word word (values_of (command_by_word word) words))
+    (word_of (slice_index_or words 0 []))
 
 -- a file that is asked for, by what it is to hold and by its name: a map, a fleet file, a second fleet file, a feed, or a log
 pub data File : Type 0 where

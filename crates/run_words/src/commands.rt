@@ -1,10 +1,11 @@
 //! The commands that read the words of each first word.
-ghost use Rattle.std.specs.Prelude.{◌≡◌, false, Err, IfOk, OnErr};
-ghost use Rattle.clap.specs.Simple.{app_of};
+ghost use Rattle.std.specs.Prelude.{◌≡◌, codes, false, Err, IfOk, OnErr};
+ghost use Rattle.clap.specs.Simple.{app_of, with_rule};
 ghost use Rattle.clap.specs.Walk.{rule_of};
 ghost use Rattle.run_words.specs.declared.words.Word.TheVariants.{Ahead, Audit, Book, Drill, League, Replay, Serve};
 ghost use Rattle.run_words.specs.Resumptions.{resumption_command};
-ghost use Rattle.run_words.specs.Words.{bare_command, command_by_word, option_rule, over_map_and_fleet, with_option};
+ghost use Rattle.run_words.specs.Words.{command_by_word, option_rule};
+ghost use Rattle.run_words.specs.inner.Words.{bare_command};
 
 use crate::{Word, WordsError};
 use clap::{Arg, ArgAction, Command};
@@ -101,7 +102,9 @@ pub fn resumption_command<'a>(alloc: Global) -> Result<Command<'a>, WordsError>
 
 // A command of this name over a map and a fleet file.
 fn over_map_and_fleet<'a>(alloc: Global, name: &'a str) -> Result<Command<'a>, WordsError>
-    ensures command { IfOk result (λ command. app_of command ≡ over_map_and_fleet name.now) }
+    ensures command { IfOk result (λ command. app_of command
+        ≡ with_rule (with_rule (bare_command name.now) (option_rule (codes "map")))
+        (option_rule (codes "fleet"))) }
     ensures stopped { OnErr result (result ≡ Err WordsError.NoMemory) }
 {
     with_two(bare_command(alloc, name), alloc, "map", "fleet")
@@ -124,8 +127,8 @@ fn with_two<'a>(
     second: &'a str,
 ) -> Result<Command<'a>, WordsError>
     ensures command { IfOk result
-        (λ more. app_of more ≡ with_option
-        (with_option (app_of command.entry) first.now) second.now) }
+        (λ more. app_of more ≡ with_rule (with_rule (app_of command.entry)
+        (option_rule first.now)) (option_rule second.now)) }
     ensures stopped { OnErr result (result ≡ Err WordsError.NoMemory) }
 {
     let command = with_option(command, alloc, first)?;
@@ -139,7 +142,7 @@ fn with_option<'a>(
     name: &'a str,
 ) -> Result<Command<'a>, WordsError>
     ensures command { IfOk result
-        (λ more. app_of more ≡ with_option (app_of command.entry) name.now) }
+        (λ more. app_of more ≡ with_rule (app_of command.entry) (option_rule name.now)) }
     ensures stopped { OnErr result (result ≡ Err WordsError.NoMemory) }
 {
     match command.arg(option(alloc, name)) {

@@ -2,11 +2,11 @@
 //! the programs say on standard error of words, files and logs is its module `run_messages`.
 #![tactic(auto)]
 
-ghost use Rattle.std.specs.Prelude.{◌≡◌, codes, map, string_bytes, IfOk};
-ghost use Rattle.clap.specs.Matches.{first_value, found_of};
+ghost use Rattle.std.specs.Prelude.{◌≡◌, [], codes, map, slice_index_or, string_bytes, IfOk};
 ghost use Rattle.run_words.specs.declared.words.Word.TheVariants.{Ahead, Audit, Book, Drill, League, Replay, Serve};
 ghost use Rattle.run_words.specs.inner.Asks.{IsAskOf, IsInRange};
-ghost use Rattle.run_words.specs.Words.{ask_of, asked_by_word, first_word, word_of};
+ghost use Rattle.run_words.specs.Words.{ask_of, asked_by_word, command_by_word, word_of};
+ghost use Rattle.run_words.specs.inner.Words.{found_by};
 
 mod commands;
 mod resuming;
@@ -85,7 +85,7 @@ pub fn read_ask(alloc: Global, words: &[String]) -> Result<Ask, WordsError>
 
 // The first word, where it is one.
 fn first_word(words: &[String]) -> Option<Word>
-    ensures { result ≡ word_of (first_word (map string_bytes words.now)) }
+    ensures { result ≡ word_of (slice_index_or (map string_bytes words.now) 0 []) }
 {
     if words.is_empty() {
         return None;
@@ -95,7 +95,8 @@ fn first_word(words: &[String]) -> Option<Word>
 
 // What the values of a word's options ask for.
 fn ask_given(alloc: Global, word: Word, given: &ArgMatches<'_>) -> Result<Ask, WordsError>
-    ensures ask { IsAskOf (asked_by_word word (first_value (found_of given.now))) result }
+    ensures ask { IsAskOf
+        (asked_by_word word (found_by (command_by_word word) given.now)) result }
     ensures in_range { IfOk result IsInRange }
 {
     match word {
@@ -111,7 +112,8 @@ fn ask_given(alloc: Global, word: Word, given: &ArgMatches<'_>) -> Result<Ask, W
 
 // The options of a replay.
 fn replay_given(alloc: Global, given: &ArgMatches<'_>) -> Result<Ask, WordsError>
-    ensures ask { IsAskOf (asked_by_word Replay (first_value (found_of given.now))) result }
+    ensures ask { IsAskOf
+        (asked_by_word Replay (found_by (command_by_word Replay) given.now)) result }
     ensures in_range { IfOk result IsInRange }
 {
     let ThreeNames { map, fleet, other } = three_names(alloc, given, "feed")?;
@@ -124,7 +126,8 @@ fn replay_given(alloc: Global, given: &ArgMatches<'_>) -> Result<Ask, WordsError
 
 // The options of idle vehicles sent ahead.
 fn ahead_given(alloc: Global, given: &ArgMatches<'_>) -> Result<Ask, WordsError>
-    ensures ask { IsAskOf (asked_by_word Ahead (first_value (found_of given.now))) result }
+    ensures ask { IsAskOf
+        (asked_by_word Ahead (found_by (command_by_word Ahead) given.now)) result }
     ensures in_range { IfOk result IsInRange }
 {
     let names = three_names(alloc, given, "feed")?;
@@ -140,7 +143,8 @@ fn ahead_given(alloc: Global, given: &ArgMatches<'_>) -> Result<Ask, WordsError>
 
 // The options of an audit.
 fn audit_given(alloc: Global, given: &ArgMatches<'_>) -> Result<Ask, WordsError>
-    ensures ask { IsAskOf (asked_by_word Audit (first_value (found_of given.now))) result }
+    ensures ask { IsAskOf
+        (asked_by_word Audit (found_by (command_by_word Audit) given.now)) result }
     ensures in_range { IfOk result IsInRange }
 {
     let ThreeNames { map, fleet, other } = three_names(alloc, given, "log")?;
@@ -153,7 +157,8 @@ fn audit_given(alloc: Global, given: &ArgMatches<'_>) -> Result<Ask, WordsError>
 
 // The options of a service.
 fn serve_given(alloc: Global, given: &ArgMatches<'_>) -> Result<Ask, WordsError>
-    ensures ask { IsAskOf (asked_by_word Serve (first_value (found_of given.now))) result }
+    ensures ask { IsAskOf
+        (asked_by_word Serve (found_by (command_by_word Serve) given.now)) result }
     ensures in_range { IfOk result IsInRange }
 {
     let names = three_names(alloc, given, "riders")?;
@@ -173,7 +178,8 @@ fn serve_given(alloc: Global, given: &ArgMatches<'_>) -> Result<Ask, WordsError>
 
 // The options of a drill.
 fn drill_given(given: &ArgMatches<'_>) -> Result<Ask, WordsError>
-    ensures ask { IsAskOf (asked_by_word Drill (first_value (found_of given.now))) result }
+    ensures ask { IsAskOf
+        (asked_by_word Drill (found_by (command_by_word Drill) given.now)) result }
     ensures in_range { IfOk result IsInRange }
 {
     let side = number(given, "side", 2, 100)? as u32;
@@ -190,7 +196,8 @@ fn drill_given(given: &ArgMatches<'_>) -> Result<Ask, WordsError>
 
 // The option of bookings.
 fn book_given(alloc: Global, given: &ArgMatches<'_>) -> Result<Ask, WordsError>
-    ensures ask { IsAskOf (asked_by_word Book (first_value (found_of given.now))) result }
+    ensures ask { IsAskOf
+        (asked_by_word Book (found_by (command_by_word Book) given.now)) result }
     ensures in_range { IfOk result IsInRange }
 {
     let feed = text(alloc, given, "feed")?;
@@ -199,7 +206,8 @@ fn book_given(alloc: Global, given: &ArgMatches<'_>) -> Result<Ask, WordsError>
 
 // The options of a league.
 fn league_given(alloc: Global, given: &ArgMatches<'_>) -> Result<Ask, WordsError>
-    ensures ask { IsAskOf (asked_by_word League (first_value (found_of given.now))) result }
+    ensures ask { IsAskOf
+        (asked_by_word League (found_by (command_by_word League) given.now)) result }
     ensures in_range { IfOk result IsInRange }
 {
     let names = three_names(alloc, given, "second")?;

@@ -1,9 +1,9 @@
 //! The words of a session that goes on from its log.
 ghost use Rattle.std.specs.Prelude.{◌≤◌, map, string_bytes, IfOk};
-ghost use Rattle.clap.specs.Matches.{first_value, found_of};
 ghost use Rattle.ride_model.specs.Limits.{most_workers};
-ghost use Rattle.run_words.specs.Resumptions.{resumption_asked, resumption_of};
+ghost use Rattle.run_words.specs.Resumptions.{resumption_asked, resumption_command, resumption_of};
 ghost use Rattle.run_words.specs.inner.Resumptions.{IsResumptionOf};
+ghost use Rattle.run_words.specs.inner.Words.{found_by};
 
 use crate::WordsError;
 use crate::commands::resumption_command;
@@ -37,7 +37,7 @@ pub fn read_resumption(alloc: Global, words: &[String]) -> Result<Resumption, Wo
 // The session that the values of its options name.
 fn resumption_given(alloc: Global, given: &ArgMatches<'_>) -> Result<Resumption, WordsError>
     ensures resumption { IsResumptionOf
-        (resumption_asked (first_value (found_of given.now))) result }
+        (resumption_asked (found_by resumption_command given.now)) result }
     ensures workers { IfOk result (λ resumption. (1 ≤ resumption.workers)
         × (resumption.workers ≤ most_workers)) }
 {

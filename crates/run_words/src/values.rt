@@ -1,9 +1,10 @@
 //! The values that words give to options.
-ghost use Rattle.std.specs.Prelude.{◌≡◌, ◌≤◌, ◌⊎◌, ℕ, List, None, Some, true, codes, map, option_and_then, string_bytes, Err, IfOk, MatchResult};
+ghost use Rattle.std.specs.Prelude.{◌≡◌, ◌≤◌, ◌⊎◌, [], None, Some, true, codes, map, option_and_then, string_bytes, Err, IfOk, MatchResult};
 ghost use Rattle.clap.specs.Faults.{is_simple_and_free};
 ghost use Rattle.clap.specs.Matches.{first_value, found_of};
 ghost use Rattle.clap.specs.Simple.{app_of};
-ghost use Rattle.run_words.specs.Words.{number_within, value_of};
+ghost use Rattle.run_words.specs.Words.{number_within, values_of};
+ghost use Rattle.run_words.specs.inner.Words.{found_by};
 
 use crate::WordsError;
 use clap::error::ErrorKind;
@@ -15,11 +16,10 @@ use std::alloc::Global;
 pub fn read_by<'a>(command: Command<'a>, words: &'a [String]) -> Result<ArgMatches<'a>, WordsError>
     requires simple { is_simple_and_free (app_of command) ≡ true }
     ensures { MatchResult result
-        (λ given. (option : List ℕ) → first_value (found_of given) option
-        ≡ value_of (app_of command.entry) (map string_bytes words.now) option)
+        (λ given. found_by (app_of command.entry) given
+        ≡ values_of (app_of command.entry) (map string_bytes words.now))
         (λ error. error ≡ WordsError.Refused
-        → (option : List ℕ) → value_of (app_of command.entry) (map string_bytes words.now) option
-        ≡ None) }
+        → values_of (app_of command.entry) (map string_bytes words.now) ≡ []) }
 {
     match command.try_get_matches_from(words) {
         Ok(given) => Ok(given),

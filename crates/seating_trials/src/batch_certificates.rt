@@ -11,7 +11,8 @@ use ride_model::{AmountList, Seat, SeatList};
 use std::alloc::Global;
 use std::process::Abort;
 
-/// A certificate of a batch of a request and the next one.
+/// A certificate of a batch of a request and the next one. A table has a few of them: the time that a check takes for a table grows with
+/// the square of its length.
 struct Case {
     name: &'static str,
     /// The id of the first request.
@@ -34,8 +35,8 @@ const NO_OFFER: [Option<u32>; 4] = [None; 4];
 /// A greedy seating is dearer than the least.
 const ALL: [Option<u32>; 4] = [Some(120), Some(180), Some(60), Some(240)];
 
-static CASES: [Case; 18] = [
-    // One vehicle and two requests.
+/// One vehicle and two requests, with the right prices and others.
+static BOTH_OFFERED: [Case; 4] = [
     Case {
         name: "certified",
         first: 7,
@@ -72,6 +73,10 @@ static CASES: [Case; 18] = [
         pays: &[(1, 3359)],
         certified: false,
     },
+];
+
+/// The same with a price above the penalty, and other vehicles that pay.
+static OTHER_PAYMENTS: [Case; 3] = [
     Case {
         name: "a price above the penalty",
         first: 7,
@@ -99,7 +104,10 @@ static CASES: [Case; 18] = [
         pays: &[(3, 3360)],
         certified: false,
     },
-    // Each request has a price, and no vehicle pays nothing.
+];
+
+/// Each request has a price, and no vehicle pays nothing.
+static ONE_OFFERED: [Case; 4] = [
     Case {
         name: "no vehicle pays",
         first: 7,
@@ -136,7 +144,10 @@ static CASES: [Case; 18] = [
         pays: &[],
         certified: true,
     },
-    // Greedy is dearer.
+];
+
+/// Greedy is dearer.
+static GREEDY: [Case; 4] = [
     Case {
         name: "the least seating",
         first: 5,
@@ -173,6 +184,10 @@ static CASES: [Case; 18] = [
         pays: &[(1, 60)],
         certified: false,
     },
+];
+
+/// Prices and payments stand in order.
+static ORDERS: [Case; 3] = [
     Case {
         name: "prices out of order",
         first: 5,
@@ -274,9 +289,17 @@ fn expect_case(rt: &impl Abort, alloc: Global, case: &Case) {
     assert!(rt; certified == case.certified, "{}", case.name);
 }
 
+fn expect_cases(rt: &impl Abort, alloc: Global, cases: &[Case]) {
+    for case in cases {
+        expect_case(rt, alloc, case);
+    }
+}
+
 #[test]
 fn prices_certify_least_seatings_alone(rt: HostRuntime) {
-    for case in &CASES {
-        expect_case(&rt, rt.alloc(), case);
-    }
+    expect_cases(&rt, rt.alloc(), &BOTH_OFFERED);
+    expect_cases(&rt, rt.alloc(), &OTHER_PAYMENTS);
+    expect_cases(&rt, rt.alloc(), &ONE_OFFERED);
+    expect_cases(&rt, rt.alloc(), &GREEDY);
+    expect_cases(&rt, rt.alloc(), &ORDERS);
 }

@@ -7,7 +7,8 @@ use std::process::Abort;
 /// The greatest amount of a cell.
 const MOST: u64 = (1 << 42) - 1;
 
-/// A grid, and a certificate of a pairing.
+/// A grid, and a certificate of a pairing. A table has a few of them: the time that a check takes for a table grows with the square of its
+/// length.
 struct Case {
     name: &'static str,
     rows: u32,
@@ -24,8 +25,8 @@ struct Case {
     certified: bool,
 }
 
-static CASES: [Case; 23] = [
-    // One vehicle and two requests.
+/// One vehicle and two requests: the prices are right, or not.
+static PRICES: [Case; 3] = [
     Case {
         name: "certified",
         rows: 2,
@@ -59,6 +60,10 @@ static CASES: [Case; 23] = [
         pays: &[3360],
         certified: false,
     },
+];
+
+/// The pairs that prices have to cover.
+static COVERED: [Case; 2] = [
     Case {
         name: "the seated pair not covered",
         rows: 2,
@@ -81,6 +86,10 @@ static CASES: [Case; 23] = [
         pays: &[3359],
         certified: false,
     },
+];
+
+/// Other pairings of them.
+static PAIRINGS: [Case; 3] = [
     Case {
         name: "a column twice",
         rows: 2,
@@ -114,7 +123,10 @@ static CASES: [Case; 23] = [
         pays: &[3360],
         certified: false,
     },
-    // Greedy is dearer.
+];
+
+/// Greedy is dearer.
+static GREEDY: [Case; 2] = [
     Case {
         name: "the least pairing",
         rows: 2,
@@ -137,7 +149,10 @@ static CASES: [Case; 23] = [
         pays: &[60, 0],
         certified: false,
     },
-    // A price is at most the penalty.
+];
+
+/// A price is at most the penalty.
+static MOST_PRICES: [Case; 3] = [
     Case {
         name: "no amount, at the penalty",
         rows: 1,
@@ -171,6 +186,10 @@ static CASES: [Case; 23] = [
         pays: &[80],
         certified: false,
     },
+];
+
+/// The greatest numbers.
+static GREATEST: [Case; 3] = [
     Case {
         name: "the greatest amount",
         rows: 1,
@@ -204,7 +223,10 @@ static CASES: [Case; 23] = [
         pays: &[u64::MAX],
         certified: false,
     },
-    // Grids without amounts, and lists of other lengths.
+];
+
+/// Grids without rows, and lists of other lengths.
+static NO_ROWS: [Case; 3] = [
     Case {
         name: "no row",
         rows: 0,
@@ -238,6 +260,10 @@ static CASES: [Case; 23] = [
         pays: &[0],
         certified: false,
     },
+];
+
+/// Grids without columns, and lists of other lengths.
+static NO_COLUMNS: [Case; 4] = [
     Case {
         name: "no column",
         rows: 2,
@@ -328,9 +354,20 @@ fn expect_case(rt: &impl Abort, alloc: Global, case: &Case) {
     assert!(rt; certified == case.certified, "{}", case.name);
 }
 
+fn expect_cases(rt: &impl Abort, alloc: Global, cases: &[Case]) {
+    for case in cases {
+        expect_case(rt, alloc, case);
+    }
+}
+
 #[test]
 fn prices_certify_least_pairings_alone(rt: HostRuntime) {
-    for case in &CASES {
-        expect_case(&rt, rt.alloc(), case);
-    }
+    expect_cases(&rt, rt.alloc(), &PRICES);
+    expect_cases(&rt, rt.alloc(), &COVERED);
+    expect_cases(&rt, rt.alloc(), &PAIRINGS);
+    expect_cases(&rt, rt.alloc(), &GREEDY);
+    expect_cases(&rt, rt.alloc(), &MOST_PRICES);
+    expect_cases(&rt, rt.alloc(), &GREATEST);
+    expect_cases(&rt, rt.alloc(), &NO_ROWS);
+    expect_cases(&rt, rt.alloc(), &NO_COLUMNS);
 }

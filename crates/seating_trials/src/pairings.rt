@@ -41,8 +41,8 @@ const MOVING: [Option<u64>; 16] = [
     Some(11),
 ];
 
-static CASES: [Case; 10] = [
-    // Grids without amounts, columns or rows.
+/// Grids without amounts, columns or rows.
+static EMPTY: [Case; 3] = [
     Case {
         rows: 2,
         columns: 2,
@@ -64,7 +64,10 @@ static CASES: [Case; 10] = [
         penalty: 5,
         cost: 0,
     },
-    // Ties.
+];
+
+/// Ties.
+static TIES: [Case; 2] = [
     Case {
         rows: 3,
         columns: 3,
@@ -79,7 +82,10 @@ static CASES: [Case; 10] = [
         penalty: 10,
         cost: 18,
     },
-    // The greatest amounts and penalties.
+];
+
+/// The greatest amounts and penalties.
+static GREATEST: [Case; 3] = [
     Case {
         rows: 2,
         columns: 2,
@@ -101,7 +107,10 @@ static CASES: [Case; 10] = [
         penalty: MOST_PENALTY,
         cost: 2_000_000_000_008,
     },
-    // Each row moves the rows before it.
+];
+
+/// Each row moves the rows before it.
+static MOVED: [Case; 2] = [
     Case {
         rows: 4,
         columns: 4,
@@ -165,6 +174,12 @@ fn expect_case(rt: &impl Abort, alloc: Global, case: &Case) {
     assert!(rt; cost == case.cost, "{cost}, and not {}", case.cost);
 }
 
+fn expect_cases(rt: &impl Abort, alloc: Global, cases: &[Case]) {
+    for case in cases {
+        expect_case(rt, alloc, case);
+    }
+}
+
 // The cell of row r and column c, both from 0, has the amount (r + 1) (c + 1).
 fn write_products(grid: &mut Grid, row: u32)
     requires row { row < 8 }
@@ -190,8 +205,9 @@ fn cost_of_products(rt: &impl Abort, alloc: Global) -> u64 {
 
 #[test]
 fn pairings_are_least(rt: HostRuntime) {
-    for case in &CASES {
-        expect_case(&rt, rt.alloc(), case);
-    }
+    expect_cases(&rt, rt.alloc(), &EMPTY);
+    expect_cases(&rt, rt.alloc(), &TIES);
+    expect_cases(&rt, rt.alloc(), &GREATEST);
+    expect_cases(&rt, rt.alloc(), &MOVED);
     assert!(rt; cost_of_products(&rt, rt.alloc()) == 120);
 }

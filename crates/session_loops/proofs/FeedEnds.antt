@@ -1,7 +1,6 @@
 -- What a feed's loop has answered, and how it ends.
-use Rattle.session_loops.proofs.Common.{◌≡◌, ℕ, ◌+◌, ◌-◌, ◌<◌, ◌≤◌, true, false, List, [], ◌∷◌, ◌++◌, Option, Some, None, Err, length, refl, ap, sym, subst, ◌∙◌, arith, length-append, true≢false, IfSome, MatchOption, IsTrue, All-nil, All-push, filter_map-append, Command, Ending, Whole, Cut, Entry, Fed, command_of, Ran, Reads, KeepsCount, Reads-none, Reads-then, ReadStop, commands_of, IsWhole, FeedState, HasGiven, FeedForm, AreFirst, ended_commands, limits_of, given-few, is_fed, end_entry, Known, AddsEntry, AddsNone, actor_of, commands_in, NoMemory, OfFeed, HasFed, RunsFeed, AddsAnswer, HasMade, HasSubmitted, IsStoppedBy, AreFirstOf}
+use Rattle.session_loops.proofs.Common.{◌≡◌, ℕ, ◌+◌, ◌-◌, ◌<◌, ◌≤◌, true, false, List, [], ◌∷◌, ◌++◌, Option, Some, None, length, refl, ap, sym, subst, ◌∙◌, arith, length-append, true≢false, IfSome, MatchOption, IsTrue, All-nil, All-push, filter_map-append, Command, Ending, Whole, Cut, Entry, Fed, command_of, Ran, Reads, KeepsCount, Reads-none, Reads-then, ReadStop, commands_of, IsWhole, FeedState, HasGiven, FeedForm, AreFirst, ended_commands, limits_of, given-few, is_fed, end_entry, Known, AddsEntry, AddsNone, actor_of, commands_in, NoMemory, OfFeed, HasFed, RunsFeed, AddsAnswer, HasMade, HasSubmitted, IsStoppedBy, AreFirstOf}
 use Rattle.line_text.specs.declared.line_reader.answers.ReadStop.TheVariants.{SourceFailed, TooLong}
-use Rattle.line_text.specs.inner.line_reader.Reader.{is_fault}
 use Rattle.line_text.specs.line_reader.Limits.{IsTooLong, IsWithinLimits}
 use Rattle.line_text.specs.declared.line_reader.stops.Stop.{Stop}
 use Rattle.session_loops.specs.Loops.{AreFed}
@@ -137,12 +136,6 @@ nothing-submitted form feed k = record {
     each : (o : Option (List ℕ)) → IfSome o (λ bytes. AreFirst [] (commands_of form.log bytes))
     each None = tt
     each (Some bytes) = (commands_of form.log bytes, refl)
-
--- a stop of the source is a fault of it
-pub fault-stops : (stop : ReadStop) (before after : ℕ) → KeepsCount (is_fault {T = Option Command} (Err stop)) before after
-    → KeepsCount (is_source_failed (Some (OfFeed stop))) before after
-fault-stops SourceFailed before after kept = kept
-fault-stops TooLong before after kept = kept
 
 -- what it has fed
 has-fed : (form : FeedForm) (feed left : Option (List ℕ)) (stop : Option Stop) (a b : Known) (has : HasSubmitted form feed left stop a b)

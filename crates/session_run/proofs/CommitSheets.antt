@@ -1,5 +1,5 @@
 -- The sheets of histories that go on.
-use Rattle.session_run.proofs.Common.{◌≡◌, ℕ, true, List, [], ◌∷◌, ◌++◌, Option, Some, None, refl, sym, ap, subst, ◌∙◌, append_assoc, append-nil, cons_option, Desk, Entry, Ending, Feed, next_batch, replay, BatchCopy, State, SolvedBatch, Recorded, state_of, opened_entry, end_entry, committed_entry, MoveSheet, ArePaired, Commit, IsSheetOf, commit_by, commits_after, commits_of, Answered, AddsSheets, CommitsPlanned, IsPlanned, is_whole, sheets_in}
+use Rattle.session_run.proofs.Common.{◌≡◌, ℕ, true, List, [], ◌∷◌, ◌++◌, Option, Some, None, refl, sym, ap, subst, ◌∙◌, append_assoc, append-nil, cons_option, Desk, Entry, Ending, Feed, next_batch, replay, BatchCopy, State, SolvedBatch, Recorded, state_of, opened_entry, end_entry, committed_entry, MoveSheet, AllZip, Commit, IsSheetOf, commit_by, commits_after, commits_of, Answered, AddsSheets, CommitsPlanned, IsPlanned, is_whole, sheets_in}
 use Rattle.idle_moves.specs.Sheet.{IsSheet}
 use Rattle.session_run.specs.declared.batches.Answered.TheVariants.{Whole, Wanting}
 
@@ -19,8 +19,8 @@ commits-append before (entry ∷ entries) second =
     ∙ ap (λ b. cons_option commit own ++ commits_after b second) (append_assoc before (entry ∷ []) entries)
 
 -- paired lists in two parts
-paired-append : {A B : Type 0} (R : A → B → Type 0) (xs xs' : List A) (ys ys' : List B) → ArePaired R xs ys → ArePaired R xs' ys'
-    → ArePaired R (xs ++ xs') (ys ++ ys')
+paired-append : {A B : Type 0} (R : A → B → Type 0) (xs xs' : List A) (ys ys' : List B) → AllZip R xs ys → AllZip R xs' ys'
+    → AllZip R (xs ++ xs') (ys ++ ys')
 paired-append R [] xs' [] ys' first second = second
 paired-append R [] xs' (y ∷ ys) ys' first second = absurd first
 paired-append R (x ∷ xs) xs' [] ys' first second = absurd first
@@ -30,8 +30,8 @@ paired-append R (x ∷ xs) xs' (y ∷ ys) ys' first second = (first.0, paired-ap
 pub adds-none : (reach : ℕ) (old new : Recorded) (entry : Entry) → new.start ≡ old.start → new.history ≡ old.history ++ entry ∷ []
     → ((before : List Entry) → commit_by before entry.actor entry.event ≡ None) → AddsSheets reach [] old new
 adds-none reach old new entry start history none sheets are =
-    subst (λ (s : State). ArePaired (IsSheetOf s reach) (commits_of new.history) (sheets ++ [])) (sym start)
-    (subst (λ (commits : List Commit). ArePaired (IsSheetOf old.start reach) commits (sheets ++ [])) (sym commits)
+    subst (λ (s : State). AllZip (IsSheetOf s reach) (commits_of new.history) (sheets ++ [])) (sym start)
+    (subst (λ (commits : List Commit). AllZip (IsSheetOf old.start reach) commits (sheets ++ [])) (sym commits)
     (paired-append (IsSheetOf old.start reach) (commits_of old.history) [] sheets [] are tt))
   where
     commits : commits_of new.history ≡ commits_of old.history ++ []
@@ -43,7 +43,7 @@ adds-none reach old new entry start history none sheets are =
 pub adds-then : (reach : ℕ) (first second : List MoveSheet) (a b c : Recorded) → AddsSheets reach first a b → AddsSheets reach second b c
     → AddsSheets reach (first ++ second) a c
 adds-then reach first second a b c adds more sheets are =
-    subst (λ (l : List MoveSheet). ArePaired (IsSheetOf c.start reach) (commits_of c.history) l) (append_assoc sheets first second)
+    subst (λ (l : List MoveSheet). AllZip (IsSheetOf c.start reach) (commits_of c.history) l) (append_assoc sheets first second)
     (more (sheets ++ first) (adds sheets are))
 
 -- a batch that was opened and committed at once adds its sheet
@@ -75,8 +75,8 @@ adds-commit reach old middle new solved sheet start same_start batch opening clo
 
     last : AddsSheets reach (sheet ∷ []) middle new
     last sheets are =
-        subst (λ (s : State). ArePaired (IsSheetOf s reach) (commits_of new.history) (sheets ++ sheet ∷ [])) (sym same_start)
-        (subst (λ (l : List Commit). ArePaired (IsSheetOf middle.start reach) l (sheets ++ sheet ∷ [])) (sym commits)
+        subst (λ (s : State). AllZip (IsSheetOf s reach) (commits_of new.history) (sheets ++ sheet ∷ [])) (sym same_start)
+        (subst (λ (l : List Commit). AllZip (IsSheetOf middle.start reach) l (sheets ++ sheet ∷ [])) (sym commits)
         (paired-append (IsSheetOf middle.start reach) (commits_of middle.history) (commit ∷ []) sheets (sheet ∷ []) are (sheet_of, tt)))
 
 pub adds-planned : (r : ℕ) (reach : Option ℕ) (answered : Answered) (batch : BatchCopy) (old middle new : Recorded) → reach ≡ Some r

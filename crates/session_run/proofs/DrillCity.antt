@@ -1,7 +1,9 @@
 -- The city of a drill.
-use Rattle.session_run.proofs.Common.{◌≡◌, ℕ, ◌-◌, ◌*◌, ◌<◌, ◌≤◌, List, [], ◌∷◌, ◌++◌, length, min, sym, subst, ◌∙◌, arith, length-append, Bool, false, true≢false, inl, Option, Result, Ok, Err, is_err, OnErr, OnOk, flat_map, range_with_len, length-map-range_with_len, Command, Ask, Clock, Entry, IsDrilled, State, Writes, WritesPrefix, Drilled, last_steps, start_of, steps_of, steps_with, IsLogged}
+use Rattle.session_run.proofs.Common.{◌≡◌, ℕ, ◌+◌, ◌-◌, ◌*◌, ◌<◌, ◌≤◌, List, [], ◌∷◌, ◌++◌, length, min, sym, subst, ◌∙◌, arith, length-append, Bool, false, true≢false, inl, Option, Result, Ok, Err, is_err, OnErr, OnOk, flat_map, range_with_len, length-map-range_with_len, Command, Ask, Clock, Entry, IsDrilled, State, Writes, WritesPrefix, Drilled, last_steps, start_of, steps_of, steps_with, IsLogged}
+use Rattle.std.specs.Prelude.{◌/◌}
 use Rattle.city_maker.specs.declared.plan.CityPlan.{CityPlan}
-use Rattle.city_maker.specs.Feed.{commands_of, group_of, groups_of, request_of, requests_in}
+use Rattle.city_maker.specs.Feed.{commands_of, group_of, request_of}
+use Rattle.city_maker.proofs.RequestLemmas.{requests_in}
 use Rattle.city_maker.specs.inner.Plan.{IsPlan}
 use Rattle.city_maker.proofs.AllOfPieces.{length-flat_map_range_le}
 
@@ -21,8 +23,8 @@ unfolding commands_of
 few-commands plan fits =
     omega (
       arith,
-      length-append (flat_map (group_of plan) (range_with_len 0 (groups_of plan))) (Clock 1000000000 ∷ []),
-      length-flat_map_range_le (group_of plan) 10 0 (groups_of plan) (group-few plan),
+      length-append (flat_map (group_of plan) (range_with_len 0 ((plan.requests + 7) / 8))) (Clock 1000000000 ∷ []),
+      length-flat_map_range_le (group_of plan) 10 0 ((plan.requests + 7) / 8) (group-few plan),
       fits.requests_limit,
     )
 

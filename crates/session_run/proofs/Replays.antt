@@ -119,8 +119,7 @@ module _ (start : State) (begins : IsStart start) (ran : Ran) (feed : Option (Li
         whole = λ _ whole. absurd (not_whole whole);
         cut = λ memory _. record {
           commands = commands;
-          direct = (ends.prompt (running.prompt (sym wanting ∙ memory))).direct;
-          none_given_up = (ends.prompt (running.prompt (sym wanting ∙ memory))).none_given_up;
+          prompt = ends.prompt (running.prompt (sym wanting ∙ memory));
           ended = ap (λ (s : State). (replay s new.history).ended) (sym (new_start ∙ old_start)) ∙ ends.ended
               ∙ ap (λ e. (Feed 1, e) ∷ (Desk 1, cond (eqb (state_of old).opened (state_of old).asked) Whole Cut) ∷ []) is_cut
               ∙ ap (λ e. (Feed 1, Cut) ∷ (Desk 1, e) ∷ []) (whole-desk (state_of old).opened (state_of old).asked running.all_opened);
@@ -167,7 +166,7 @@ module _ (start : State) (begins : IsStart start) (ran : Ran) (feed : Option (Li
         cut = λ _ not_whole. absurd (not_whole read);
         within = λ _ _. within;
         too_long = λ is. absurd (cc (is, read.1));
-        ended_whole = λ _. record { within = within; all_taken = all_taken; all_answered = commands };
+        ended_whole = λ _. (within, all_taken, commands);
       }
 
   -- a replay that was stopped by want of memory

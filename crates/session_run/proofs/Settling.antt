@@ -1,7 +1,11 @@
 -- The outcomes of a batch that is committed directly after its opening.
-use Rattle.session_run.proofs.Common.{◌≡◌, ℕ, inl, inr, true, false, List, [], ◌∷◌, Option, Some, None, refl, ap, ◌∙◌, map, nat_eq, ◌==◌, All, IsSome, list_all, IsDistinct, and_from, Outcome, Seat, Ride, was_cancelled, seat_of, seated_outcome, outcome_by, outcome_of, BatchCopy, vehicle_ids, seat_offer, State, ride_ids, is_settled}
+use Rattle.session_run.proofs.Common.{◌≡◌, ℕ, inl, inr, Bool, true, false, ◌||◌, List, [], ◌∷◌, Option, Some, None, refl, ap, ◌∙◌, map, nat_eq, ◌==◌, All, IsSome, list_all, IsDistinct, and_from, Outcome, Seat, Ride, was_cancelled, seat_of, seated_outcome, outcome_by, outcome_of, BatchCopy, vehicle_ids, seat_offer, State, ride_ids}
+use Rattle.ride_model.specs.History.{is_away, is_confirmed}
 use Rattle.model_laws.proofs.plain.Among.{Among, found_among}
 use Rattle.model_laws.proofs.history_laws.StandingSeats.{seated-confirmed}
+
+abbrev is_settled : Outcome → Bool
+is_settled outcome = is_confirmed outcome || is_away outcome
 
 module _ (s : State) (batch : BatchCopy) (seats : List Seat) (vehicles_stand : batch.vehicles ≡ s.vehicles) (time_is : batch.time ≡ s.clock)
     (differ : IsDistinct nat_eq (vehicle_ids batch.vehicles)) (offered : All (λ seat. IsSome (seat_offer s.roads batch seat)) seats) where

@@ -1,7 +1,6 @@
 -- What a session writes that sends idle vehicles ahead.
-use Rattle.std.specs.Prelude.{◌≡◌, ℕ, ◌++◌, ◌||◌, Bool, false, if◌then◌else◌, List, Option, Some, None}
+use Rattle.std.specs.Prelude.{◌≡◌, ℕ, ◌++◌, ◌||◌, false, if◌then◌else◌, List, Option, Some, None}
 use mathlib.Core.List.{IsPrefix}
-use Rattle.ride_model.specs.declared.entry.Ending.{Ending}
 use Rattle.ride_model.specs.declared.entry.Ending.TheVariants.{Whole, Cut}
 use Rattle.ride_model.specs.declared.entry.Entry.{Entry}
 use Rattle.ride_model.specs.State.{State}
@@ -13,15 +12,6 @@ use Rattle.idle_moves.specs.HistorySheets.{AreSheetsOf}
 use Rattle.session_run.specs.Logged.{IsLogged}
 use Rattle.session_run.specs.Running.{IsPrompt}
 
--- how the feed of a session ended that ran so
-abbrev pub feed_ending : Ran → Ending
-feed_ending ran = if ran.source_failed || ran.too_long then Cut else Whole
-
--- the text of sheets, without its last line where memory was wanting
-abbrev pub sheets_text : ℕ → Bool → Ending → List MoveSheet → List ℕ
-sheets_text reach no_memory ending sheets =
-    if no_memory then head_line reach ++ sheet_lines sheets else ahead_text reach ending sheets
-
 -- of the sheets of a history the text was written: of each commit one, in order, and the last line says whether the feed was cut.
 -- Where memory was wanting these are the sheets of the first commits, of a beginning of the history in which each accepted ask was
 -- answered at once by a commit, and no last line
@@ -32,7 +22,9 @@ pub record TellsAhead (start : State) (reach : ℕ) (ran : Ran) (taken : List �
   pub prompt : IsPrompt first
   pub sheets_are : AreSheetsOf start reach first sheets
   pub all : ran.no_memory ≡ false → first ≡ entries
-  pub written : IsLogged ran taken before after (sheets_text reach ran.no_memory (feed_ending ran) sheets)
+  pub written : IsLogged ran taken before after (
+      if ran.no_memory then head_line reach ++ sheet_lines sheets
+      else ahead_text reach (if ran.source_failed || ran.too_long then Cut else Whole) sheets)
 
 -- what was written of a session: its log, or its sheets where a reach is given
 abbrev pub IsWrittenBy : Option ℕ → State → Ran → List ℕ → List Entry → Option (List ℕ) → Option (List ℕ) → Type 0

@@ -1,11 +1,9 @@
 -- What a replay of a feed gives.
-use Rattle.std.specs.Prelude.{◌≡◌, ℕ, true, false, List, Option, [], ◌∷◌, IfSome, IsFalse, IsTrue}
-use Rattle.std.specs.List.{list_any}
+use Rattle.std.specs.Prelude.{◌≡◌, ℕ, true, false, List, Option, [], ◌∷◌, IfSome, IsTrue}
 use Rattle.ride_model.specs.declared.command.Actor.TheVariants.{Feed, Desk}
 use Rattle.ride_model.specs.declared.entry.Ending.TheVariants.{Whole, Cut}
-use Rattle.ride_model.specs.declared.command.Command.{Command}
 use Rattle.ride_model.specs.declared.entry.Entry.{Entry}
-use Rattle.ride_model.specs.History.{ended_whole, fed_commands, is_abandoned, IsDirect, IsFinished}
+use Rattle.ride_model.specs.History.{ended_whole, fed_commands, IsDirect, IsFinished}
 use Rattle.ride_model.specs.Legal.{IsLegal, replay}
 use Rattle.ride_model.specs.Promises.{KeepsPromises}
 use Rattle.ride_model.specs.State.{State}
@@ -17,6 +15,7 @@ use Rattle.command_lines.specs.Limits.{ended_commands, feed_limits, new_feed}
 use Rattle.model_laws.specs.history_laws.Start.{IsStart}
 use Rattle.line_text.specs.line_reader.FeedRuns.{IsReadWhole}
 use Rattle.session_loops.specs.Stops.{AreFirstOf}
+use Rattle.session_run.specs.Running.{IsPrompt}
 use Rattle.session_run.specs.Settled.{IsSettled}
 
 -- a feed within the limits was answered to its end, each accepted ask at once by a commit
@@ -29,15 +28,8 @@ pub record IsWhole (start : State) (taken : List ℕ) (entries : List Entry) : T
 -- a feed was answered up to its last whole line within the limits, each accepted ask at once by a commit, and then cut
 pub record IsCut (start : State) (taken : List ℕ) (entries : List Entry) : Type 0 where
   pub commands : fed_commands 1 entries ≡ ended_commands (new_feed start.settings.log) taken
-  pub direct : IsDirect entries
-  pub none_given_up : IsFalse (list_any (λ (entry : Entry). is_abandoned entry.event) entries)
+  pub prompt : IsPrompt entries
   pub ended : (replay start entries).ended ≡ (Feed 1, Cut) ∷ (Desk 1, Whole) ∷ []
-
--- a feed within the limits was taken to its end, and all its commands were answered
-pub record IsAnsweredWhole (log : ℕ) (feed : Option (List ℕ)) (taken : List ℕ) (answered : List Command) : Type 0 where
-  pub within : IsWithinLimits feed_limits taken
-  pub all_taken : IfSome feed (λ bytes. taken ≡ bytes)
-  pub all_answered : answered ≡ commands_of log taken
 
 -- a history of one feed and one desk answers the first commands of a feed, of whose bytes these were taken: all of them
 -- where nothing was wanting, those within the limits and before a fault where only the source was. It says that the feed ended whole
@@ -53,4 +45,5 @@ pub record IsReplay (start : State) (ran : Ran) (feed : Option (List ℕ)) (take
   pub cut : ran.no_memory ≡ false → (IsReadWhole ran → ⊥) → IsCut start taken entries
   pub within : ran.no_memory ≡ false → ran.too_long ≡ false → IsWithinLimits feed_limits taken
   pub too_long : ran.too_long ≡ true → IsTooLong feed_limits taken
-  pub ended_whole : IsTrue (ended_whole (replay start entries) (Feed 1)) → IsAnsweredWhole start.settings.log feed taken (fed_commands 1 entries)
+  pub ended_whole : IsTrue (ended_whole (replay start entries) (Feed 1)) → IsWithinLimits feed_limits taken
+      × IfSome feed (λ bytes. taken ≡ bytes) × (fed_commands 1 entries ≡ commands_of start.settings.log taken)

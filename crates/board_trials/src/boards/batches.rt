@@ -9,7 +9,8 @@ use ride_model::{Actor, Command, Ending, RequestState};
 use std::process::Abort;
 use std::thread::Threads;
 
-/// A day of feeds and desks: its steps, and the lines of its history.
+/// A day of feeds and desks: its steps, and the lines of its history. A table has a few of them: the time that a check takes for a table
+/// grows with the square of its length.
 struct Case {
     shows: &'static str,
     feeds: u8,
@@ -70,7 +71,8 @@ d1 commit 1 cost 180 seats 7:1:0:0 prices 7:180 pays outcomes 7:gone\n\
 f1 batch = asked 2\n\
 d1 open 2 at 0 requests plans 1@0\n";
 
-static CASES: [Case; 11] = [
+/// A new board, and a request that is cancelled in an open batch.
+static CANCELLATIONS: [Case; 3] = [
     Case {
         shows: "a new board is empty",
         feeds: 1,
@@ -110,24 +112,27 @@ static CASES: [Case; 11] = [
         ],
         lines: CANCELLED,
     },
-    Case {
-        shows: "the second of two desks finds the vehicle moved, and its request waits again",
-        feeds: 1,
-        desks: 2,
-        steps: &[
-            TELL_SEVEN,
-            TELL_EIGHT,
-            ASK,
-            ASK,
-            Step::Open(1),
-            Step::Open(2),
-            Step::Commit(1),
-            Step::Commit(2),
-            ASK,
-            Step::Open(2),
-            MAKE_ROOM,
-        ],
-        lines: "f1 request 7 2 4 1 600 300 = waiting\n\
+];
+
+/// Two desks.
+static STALE: [Case; 1] = [Case {
+    shows: "the second of two desks finds the vehicle moved, and its request waits again",
+    feeds: 1,
+    desks: 2,
+    steps: &[
+        TELL_SEVEN,
+        TELL_EIGHT,
+        ASK,
+        ASK,
+        Step::Open(1),
+        Step::Open(2),
+        Step::Commit(1),
+        Step::Commit(2),
+        ASK,
+        Step::Open(2),
+        MAKE_ROOM,
+    ],
+    lines: "f1 request 7 2 4 1 600 300 = waiting\n\
 f1 request 8 4 3 1 600 300 = waiting\n\
 f1 batch = asked 1\n\
 f1 batch = asked 2\n\
@@ -137,7 +142,10 @@ d1 commit 1 cost 180 seats 7:1:0:0 prices 7:180 pays outcomes 7:confirmed\n\
 d2 commit 2 cost 240 seats 8:1:0:0 prices 8:240 pays outcomes 8:moved:0:1\n\
 f1 batch = asked 3\n\
 d2 open 3 at 0 requests 8 plans 1@1\n",
-    },
+}];
+
+/// A ride is served or cancelled in the room that was made.
+static SERVED: [Case; 2] = [
     Case {
         shows: "a ride is served in the room that was made",
         feeds: 1,
@@ -223,35 +231,41 @@ f1 cancel 7 = refused 9\n\
 f1 done 1 = refused 14\n\
 f1 done 2 = refused 10\n",
     },
-    Case {
-        shows: "a late report names the broken ride in the room that was made",
-        feeds: 1,
-        desks: 1,
-        steps: &[
-            Step::Tell(
-                1,
-                Command::Request {
-                    id: 7,
-                    from: 2,
-                    to: 4,
-                    seats: 1,
-                    latest: 90,
-                    longest: 300,
-                    chairs: 0,
-                },
-            ),
-            ASK,
-            Step::Open(1),
-            Step::Commit(1),
-            MAKE_ROOM,
-            LATE,
-        ],
-        lines: "f1 request 7 2 4 1 90 300 = waiting\n\
+];
+
+/// A ride is broken.
+static LATE_REPORT: [Case; 1] = [Case {
+    shows: "a late report names the broken ride in the room that was made",
+    feeds: 1,
+    desks: 1,
+    steps: &[
+        Step::Tell(
+            1,
+            Command::Request {
+                id: 7,
+                from: 2,
+                to: 4,
+                seats: 1,
+                latest: 90,
+                longest: 300,
+                chairs: 0,
+            },
+        ),
+        ASK,
+        Step::Open(1),
+        Step::Commit(1),
+        MAKE_ROOM,
+        LATE,
+    ],
+    lines: "f1 request 7 2 4 1 90 300 = waiting\n\
 f1 batch = asked 1\n\
 d1 open 1 at 0 requests 7 plans 1@0\n\
 d1 commit 1 cost 180 seats 7:1:0:0 prices 7:180 pays outcomes 7:confirmed\n\
 f1 at 1 2 100 = late 40 broken 7\n",
-    },
+}];
+
+/// A batch is given up.
+static GIVEN_UP: [Case; 2] = [
     Case {
         shows: "requests of a batch that is given up wait again",
         feeds: 1,
@@ -307,6 +321,10 @@ f1 batch = asked 1\n\
 d1 open 1 at 0 requests 7 plans 1@0\n\
 d1 abandon 1\n",
     },
+];
+
+/// Feeds and desks end.
+static ENDS: [Case; 2] = [
     Case {
         shows: "a board is finished once all have ended whole",
         feeds: 2,
@@ -357,8 +375,19 @@ d1 end\n",
 #[test]
 fn days_go_as_they_should(rt: HostRuntime) {
     let roads = roads(&rt, rt.alloc());
-    for case in CASES.as_slice() {
-        expect(&rt, &roads, case);
+    expect_all(&rt, &roads, CANCELLATIONS.as_slice());
+    expect_all(&rt, &roads, STALE.as_slice());
+    expect_all(&rt, &roads, SERVED.as_slice());
+    expect_all(&rt, &roads, LATE_REPORT.as_slice());
+    expect_all(&rt, &roads, GIVEN_UP.as_slice());
+    expect_all(&rt, &roads, ENDS.as_slice());
+}
+
+fn expect_all<R: Abort + Threads + Sync + AllocGlobal>(rt: &R, roads: &Roads, cases: &[Case])
+    requires { roads.now.nodes ≡ 4 }
+{
+    for case in cases {
+        expect(rt, roads, case);
     }
 }
 

@@ -1,28 +1,26 @@
--- What is done over one source.
-use Rattle.std.specs.Prelude.{◌≡◌, ◌⊎◌, ℕ, ◌+◌, ⊤, List, [], ◌∷◌, ◌++◌, None, Some, IfSome}
+-- What is done over one source, and over the two feeds of a service.
+use Rattle.std.specs.Prelude.{◌≡◌, ◌⊎◌, ℕ, ◌≤◌, ⊤, List, [], ◌∷◌, None, Some, IfSome}
+use Rattle.ride_model.specs.Limits.{longest_reach}
 use Rattle.ride_ports.specs.Bytes.{Reads}
 use Rattle.ride_ports.specs.Contents.{GivenBack}
 use Rattle.ride_ports.specs.Count.{Rose}
 use Rattle.live_sessions.specs.Serving.{FeedRun}
-use Rattle.dispatcher.specs.inner.Readings.{meaning_of}
-use Rattle.dispatcher.specs.Shelves.{IsBackOf, IsLeftOf, IsSpent, IsUntouched, Shelved, Sunk, told_bytes}
+use Rattle.dispatcher.specs.inner.Handing.{Hands, MissesAfter}
+use Rattle.dispatcher.specs.inner.Readings.{MayBegin, meaning_of}
+use Rattle.dispatcher.specs.Shelves.{IsBackOf, Shelved, Sunk, told_bytes}
+use Rattle.dispatcher.specs.Meanings.{Meaning}
 use Rattle.dispatcher.specs.Verdicts.{Audits}
-use Rattle.dispatcher.specs.Works.{Books, PlaysLeague, Replays}
-use Rattle.dispatcher.specs.declared.files.Texts.{Texts}
+use Rattle.dispatcher.specs.Works.{Books, PlaysLeague, Replays, Serves}
 use Rattle.dispatcher.specs.declared.sources.Work.{Work}
 use Rattle.dispatcher.specs.declared.sources.Work.TheVariants.{Replay, Ahead, Audit, League, Book}
 
--- what is said of the texts and of the reach of a work, where it has them
-abbrev pub OfTexts : (Texts → Type 0) → Work → Type 0
-OfTexts Holds (Replay texts) = Holds texts
-OfTexts Holds (Ahead texts reach) = Holds texts
-OfTexts Holds (Audit texts) = Holds texts
-OfTexts Holds (League texts) = Holds texts
-OfTexts Holds Book = ⊤
-
-abbrev pub OfReach : (ℕ → Type 0) → Work → Type 0
-OfReach Holds (Ahead texts reach) = Holds reach
-OfReach Holds _ = ⊤
+-- what a work is done over allows it
+abbrev pub MayWork : Work → Type 0
+MayWork (Replay texts) = MayBegin texts
+MayWork (Ahead texts reach) = MayBegin texts × (1 ≤ reach) × (reach ≤ longest_reach)
+MayWork (Audit texts) = MayBegin texts
+MayWork (League texts) = MayBegin texts
+MayWork Book = ⊤
 
 -- what a work did
 abbrev pub Did : Work → FeedRun → Sunk → ℕ → Type 0
@@ -43,33 +41,32 @@ pub record WorksOver (work : Work) (feed : FeedRun) (out : Sunk) (status : ℕ) 
   pub source_fault : status ≡ 5 → Rose feed.faults_before feed.faults_after
   pub sink_fault : status ≡ 6 → Rose out.faults_before out.faults_after
 
--- a name was asked for and not brought
-pub record BringsNone (name : List ℕ) (old new : Shelved) (out : Sunk) (status : ℕ) : Type 0 where
-  pub status_is : status ≡ 5
-  pub told : new.told ≡ old.told
-  pub asked : new.asked ≡ old.asked ++ name ∷ []
-  pub brought : new.brought ≡ old.brought
-  pub back : new.back ≡ old.back
-  pub rose : Rose old.faults new.faults
-  pub untouched : IsUntouched out
-
 -- the source of a name was brought, a work was done over it, and it was given back
 pub record HandsBack (work : Work) (name : List ℕ) (old new : Shelved) (out : Sunk) (status : ℕ) : Type 0 where
-  pub told : new.told ≡ old.told
-  pub asked : new.asked ≡ old.asked ++ name ∷ []
-  pub brought : new.brought ≡ old.brought + 1
   pub feed : FeedRun
   pub source : GivenBack
-  pub back : new.back ≡ old.back ++ source ∷ []
   pub of_file : IsBackOf (told_bytes old.told name) source feed
-  pub taken : List ℕ
-  pub left : IsLeftOf (told_bytes old.told name) source taken
   pub did : Did work feed out status
-  pub spent : status ≡ 0 → IsSpent source
-  pub shelf_sound : status ≡ 0 → new.faults ≡ old.faults
-  pub sink_sound : status ≡ 0 → out.faults_after ≡ out.faults_before
-  pub shelf_fault : status ≡ 5 → Rose old.faults new.faults
-  pub sink_fault : status ≡ 6 → Rose out.faults_before out.faults_after
+  pub hands : Hands (name ∷ []) (source ∷ []) old new out status
 
 abbrev pub DoesWork : Work → List ℕ → Shelved → Shelved → Sunk → ℕ → Type 0
-DoesWork work name old new out status = BringsNone name old new out status ⊎ HandsBack work name old new out status
+DoesWork work name old new out status =
+    MissesAfter [] name old new out status ⊎ HandsBack work name old new out status
+
+-- riders and drivers were brought, served, and given back
+pub record HandsBoth (m : Meaning) (desks : ℕ) (riders drivers : List ℕ) (old new : Shelved) (out : Sunk) (status : ℕ) : Type 0 where
+  pub first : FeedRun
+  pub second : FeedRun
+  pub first_source : GivenBack
+  pub second_source : GivenBack
+  pub of_first : IsBackOf (told_bytes old.told riders) first_source first
+  pub of_second : IsBackOf (told_bytes old.told drivers) second_source second
+  pub serves : Serves m desks first second out status
+  pub hands : Hands (riders ∷ drivers ∷ []) (first_source ∷ second_source ∷ []) old new out status
+
+-- riders were not brought, or drivers were not, or both were
+abbrev pub ServesFeeds : Meaning → ℕ → List ℕ → List ℕ → Shelved → Shelved → Sunk → ℕ → Type 0
+ServesFeeds m desks riders drivers old new out status =
+    MissesAfter [] riders old new out status
+    ⊎ MissesAfter (riders ∷ []) drivers old new out status
+    ⊎ HandsBoth m desks riders drivers old new out status

@@ -5,7 +5,7 @@ use Rattle.ride_model.specs.Fleet.{IsFleet}
 use Rattle.fleet_file.specs.declared.lines.FleetLines.{FleetLines}
 use Rattle.fleet_file.specs.declared.errors.FleetError.{FleetError}
 use Rattle.fleet_file.specs.declared.errors.FleetError.TheVariants.{NoMemory, ReadFault}
-use Rattle.fleet_file.specs.FleetText.{FleetSoFar, fleet_format, is_out, nothing_said, value_at}
+use Rattle.fleet_file.specs.FleetText.{FleetSoFar, fleet_format, is_out, value_at}
 
 -- what the lines so far said
 abbrev pub said : FleetLines → FleetSoFar
@@ -28,11 +28,11 @@ Gives outcome lines answer = MatchResult outcome (λ _. answer ≡ Ok (said line
 pub record HasTaken (first : FleetLines) (lines : List (List ℕ)) (now : FleetLines) : Type 0 where
   pub map : now.nodes ≡ first.nodes
   pub within : IsWithin now
-  pub after : after_lines (fleet_format first.nodes) 1 nothing_said lines ≡ Ok (said now)
+  pub after : after_lines (fleet_format first.nodes) 1 (fleet_format first.nodes).start lines ≡ Ok (said now)
 
 -- the last of these lines of a fleet file is its first faulty one, unless memory ran out
 abbrev pub Refuses : FleetLines → List (List ℕ) → FleetError → Type 0
-Refuses first lines e = e ≢ NoMemory → after_lines (fleet_format first.nodes) 1 nothing_said lines ≡ Err e
+Refuses first lines e = e ≢ NoMemory → after_lines (fleet_format first.nodes) 1 (fleet_format first.nodes).start lines ≡ Err e
 
 -- whether the source failed
 abbrev pub is_read_fault : {T : Type 0} → Result T FleetError → Bool

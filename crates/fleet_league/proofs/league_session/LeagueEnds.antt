@@ -1,18 +1,8 @@
 -- What a league has written when its feed ended or was stopped.
-use Rattle.fleet_league.proofs.Common.{◌≡◌, ℕ, true, false, List, [], ◌++◌, inl, inr, Option, Some, None, Err, refl, subst, HasRun, is_source_failed, ran_of, KeepsCount, are-taken, Ending, Whole, Settings, Vehicle, RoadMap, WritesPrefix-of_first, feed_limits, HasPut, OutputState, written-prefix, written-whole, IsLeagued, IsTextOf, ended_text, ending_of, with_ending, last_line}
+use Rattle.fleet_league.proofs.Common.{◌≡◌, ℕ, true, false, List, [], ◌++◌, inl, inr, Option, Some, None, refl, subst, HasRun, ran_of, are-taken, Ending, Whole, Settings, Vehicle, RoadMap, WritesPrefix-of_first, feed_limits, HasPut, OutputState, written-prefix, written-whole, IsLeagued, IsTextOf, ended_text, ending_of, with_ending, last_line}
 use Rattle.line_text.specs.declared.line_reader.stops.Stop.{Stop}
-use Rattle.line_text.specs.declared.line_reader.stops.Stop.TheVariants.{NoMemory, OfFeed}
-use Rattle.line_text.specs.declared.line_reader.answers.NextLine.{NextLine}
-use Rattle.line_text.specs.declared.line_reader.answers.ReadStop.{ReadStop}
-use Rattle.line_text.specs.declared.line_reader.answers.ReadStop.TheVariants.{SourceFailed, TooLong}
-use Rattle.line_text.specs.inner.line_reader.Reader.{is_fault}
+use Rattle.line_text.specs.declared.line_reader.stops.Stop.TheVariants.{NoMemory}
 use Rattle.ride_ports.specs.Bytes.{Writes, WritesPrefix}
-
--- a stop of the source is a fault of it
-pub fault-stops : (stop : ReadStop) (before after : ℕ) → KeepsCount (is_fault {T = NextLine} (Err stop)) before after
-    → KeepsCount (is_source_failed (Some (OfFeed stop))) before after
-fault-stops SourceFailed before after kept = kept
-fault-stops TooLong before after kept = kept
 
 -- what was written is a first part of the text with a last line
 ended-prefix : {before after : Option (List ℕ)} (o : Option Ending) (text : List ℕ) → WritesPrefix before after (with_ending o text)

@@ -68,35 +68,24 @@ by_second s command = record { league = record s { second = (step s.second comma
 abbrev pub is_with : State → ℕ → Bool
 is_with board id = is_some (request_state board id)
 
--- a cancellation goes to the company that the request is with
-abbrev pub cancel_answer : LeagueState → ℕ → LeagueAnswer
-cancel_answer s id =
+-- what a line gives that makes no round: a cancellation goes to the company that the request is with, the clock to every company, and
+-- a report to the company of its number, if there is one
+abbrev pub league_answer : LeagueState → FeedLine → LeagueAnswer
+league_answer s (League (Request id from to seats latest longest chairs)) = by_desk s (Request id from to seats latest longest chairs)
+league_answer s (League (Cancel id)) =
     if is_with s.first id then by_first s (Cancel id)
     else if is_with s.second id then by_second s (Cancel id)
     else by_desk s (Cancel id)
-
--- the clock goes to every company
-abbrev pub clock_answer : LeagueState → ℕ → LeagueAnswer
-clock_answer s time = record {
+league_answer s (League (Clock time)) = record {
   league = record s { first = (step s.first (Clock time)).state; second = (step s.second (Clock time)).state };
   reply = (step s.first (Clock time)).reply;
 }
-
--- a report goes to the company of its number, if there is one
-abbrev pub report_answer : LeagueState → ℕ → Command → LeagueAnswer
-report_answer s company command =
+league_answer s (League Ask) = record { league = s; reply = Refused (code_of batches_full) }
+league_answer s (League _) = record { league = s; reply = Noted }
+league_answer s (Company company command) =
     if company == 1 then by_first s command
     else if company == 2 then by_second s command
     else record { league = s; reply = Refused (code_of unknown_company) }
-
--- a line that makes no round
-abbrev pub league_answer : LeagueState → FeedLine → LeagueAnswer
-league_answer s (League (Request id from to seats latest longest chairs)) = by_desk s (Request id from to seats latest longest chairs)
-league_answer s (League (Cancel id)) = cancel_answer s id
-league_answer s (League (Clock time)) = clock_answer s time
-league_answer s (League Ask) = record { league = s; reply = Refused (code_of batches_full) }
-league_answer s (League _) = record { league = s; reply = Noted }
-league_answer s (Company company command) = report_answer s company command
 
 -- whether a line makes a round: a batch, where fewer than 2,000 rounds were made
 abbrev pub makes_round : LeagueState → FeedLine → Bool

@@ -19,13 +19,10 @@ use Rattle.fleet_league.specs.declared.quotes.Quote.{Quote}
 abbrev pub column_of_plan : ℕ → ℕ × ℕ → RoundColumn
 column_of_plan company plan = record { company = company; vehicle = plan.0; version = plan.1 }
 
--- the vehicles of the quote of a company of a number
-abbrev pub columns_of_quote : ℕ × Quote → List RoundColumn
-columns_of_quote placed = map (column_of_plan placed.0) placed.1.plans
-
 -- the columns of the union of quotes: by company, numbered from 1, and then in fleet order
 abbrev pub union_columns : List Quote → List RoundColumn
-union_columns quotes = flat_map columns_of_quote (enumerate_from 1 quotes)
+union_columns quotes =
+    flat_map (λ (placed : ℕ × Quote). map (column_of_plan placed.0) placed.1.plans) (enumerate_from 1 quotes)
 
 -- a ride with the column of its place, if it has one, and its price
 abbrev pub row_of : List RoundColumn → (Ride × Option ℕ) × ℕ → RoundRow

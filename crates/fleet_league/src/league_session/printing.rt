@@ -2,8 +2,9 @@
 ghost use Rattle.std.specs.Prelude.{◌≡◌, ◌++◌, ◌∷◌, [], codes, decimal};
 ghost use Rattle.ride_model.specs.Text.{IsOneOrTwo};
 ghost use Rattle.trip_log.specs.inner.Prints.{Prints, fields_then};
+ghost use Rattle.fleet_league.specs.declared.league_session.sheets.Told.TheVariants.{Answer};
 ghost use Rattle.fleet_league.specs.inner.league_session.Feed.{IsSpelledLine};
-ghost use Rattle.fleet_league.specs.league_session.LeagueTexts.{answer_line, award_field, head_line, last_line, pay_field, round_line, told_line};
+ghost use Rattle.fleet_league.specs.league_session.LeagueTexts.{award_field, head_line, last_line, pay_field, round_line, told_line};
 
 use crate::league_session::lines::FeedLine;
 use crate::league_session::sheets::{RoundAward, RoundPay, RoundSheet, Told};
@@ -94,7 +95,7 @@ fn print_reply<K: Sink>(line: &FeedLine, reply: &Reply, log: u8, sink: &mut K) -
     requires spelled { IsSpelledLine log line.now }
     ensures { Prints result (K.written sink.old) (K.written sink.new)
         (K.faults sink.old) (K.faults sink.new)
-        (answer_line log line.now reply.now) }
+        (told_line log line.now (Answer reply.now)) }
 {
     match line {
         FeedLine::League(command) => print_answer(command, reply, log, sink),

@@ -1,6 +1,6 @@
 //! The rows and the columns of a round: rides, and the vehicles of all companies.
-ghost use Rattle.std.specs.Prelude.{◌≡◌, ◌++◌, ◌∷◌, [], option_and_then, slice_get, IfOk, OnOk};
-ghost use Rattle.fleet_league.specs.league_session.RoundParts.{columns_of_quote, paid_columns, row_of, rows_of, union_columns};
+ghost use Rattle.std.specs.Prelude.{◌≡◌, ◌++◌, ◌∷◌, [], option_and_then, slice_get, map, IfOk, OnOk};
+ghost use Rattle.fleet_league.specs.league_session.RoundParts.{column_of_plan, paid_columns, row_of, rows_of, union_columns};
 
 use crate::{NoMemory, Quote};
 use dual_check::Paired;
@@ -40,7 +40,7 @@ pub(crate) fn columns_of(
 // Adds the columns of a company's quote.
 fn add_columns(columns: &mut Vec<RoundColumn>, company: u64, quote: &Quote) -> Result<(), NoMemory>
     ensures { OnOk result (columns.new.items
-        ≡ columns.old.items ++ columns_of_quote (company, quote.now)) }
+        ≡ columns.old.items ++ map (column_of_plan company) quote.now.plans) }
 {
     for plan in quote.plans.items() {
         columns.push(RoundColumn {

@@ -1,12 +1,12 @@
 //! A league, and what each line of its feed makes of it.
 ghost use Rattle.std.specs.Prelude.{◌≡◌, ◌≢◌, ◌<◌, ◌+◌, ℕ, IfOk, OnOk, IsTrue};
-ghost use Rattle.ride_model.specs.declared.command.Command.TheVariants.{Ask};
+ghost use Rattle.ride_model.specs.declared.command.Command.TheVariants.{Ask, Cancel, Clock};
 ghost use Rattle.ride_model.specs.Text.{IsSpelled, IsSpelledCommand};
 ghost use Rattle.command_lines.specs.Limits.{most_lines};
-ghost use Rattle.fleet_league.specs.declared.league_session.lines.FeedLine.TheVariants.{League as OfLeague};
+ghost use Rattle.fleet_league.specs.declared.league_session.lines.FeedLine.TheVariants.{Company as OfCompany, League as OfLeague};
 ghost use Rattle.fleet_league.specs.inner.league_session.Feed.{IsSpelledLine};
 ghost use Rattle.fleet_league.specs.league_session.Feed.{is_driver_report};
-ghost use Rattle.fleet_league.specs.league_session.League.{TakesLine, cancel_answer, clock_answer, league_answer, report_answer};
+ghost use Rattle.fleet_league.specs.league_session.League.{TakesLine, league_answer};
 ghost use Rattle.fleet_league.specs.inner.league_session.LeagueBoards.{HasAnswered, IsLeague, league_of};
 
 use crate::Company;
@@ -133,7 +133,8 @@ impl<'r> League<'r> {
         requires fits { (lines : ℕ) × (lines < most_lines) × IsLeague lines self.old }
         requires spelled { IsSpelled id }
         ensures answered { IfOk result
-            (HasAnswered self.old self.new (cancel_answer (league_of self.old) id)) }
+            (HasAnswered self.old self.new
+            (league_answer (league_of self.old) (OfLeague (Cancel id)))) }
         ensures fits { (lines : ℕ) → IsLeague lines self.old
             → OnOk result (IsLeague (lines + 1) self.new) }
         ensures start { self.new.desk.start ≡ self.old.desk.start }
@@ -153,7 +154,8 @@ impl<'r> League<'r> {
         requires fits { (lines : ℕ) × (lines < most_lines) × IsLeague lines self.old }
         requires spelled { IsSpelled time }
         ensures answered { IfOk result
-            (HasAnswered self.old self.new (clock_answer (league_of self.old) time)) }
+            (HasAnswered self.old self.new
+            (league_answer (league_of self.old) (OfLeague (Clock time)))) }
         ensures fits { (lines : ℕ) → IsLeague lines self.old
             → OnOk result (IsLeague (lines + 1) self.new) }
         ensures start { self.new.desk.start ≡ self.old.desk.start }
@@ -171,7 +173,7 @@ impl<'r> League<'r> {
         requires a_report { IsTrue (is_driver_report command.now) }
         ensures answered { IfOk result
             (HasAnswered self.old self.new
-            (report_answer (league_of self.old) company command.now)) }
+            (league_answer (league_of self.old) (OfCompany company command.now))) }
         ensures fits { (lines : ℕ) → IsLeague lines self.old
             → OnOk result (IsLeague (lines + 1) self.new) }
         ensures start { self.new.desk.start ≡ self.old.desk.start }

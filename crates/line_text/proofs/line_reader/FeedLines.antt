@@ -1,11 +1,12 @@
 -- The lines of a feed that were taken when it ended or was stopped.
-use Rattle.line_text.proofs.Common.{◌≡◌, ◌≢◌, ℕ, ◌<◌, Bool, true, false, nat_lt, take, List, [], ◌∷◌, ◌++◌, length, Option, Some, None, Result, Ok, Err, refl, ap, sym, subst, ◌∙◌, arith, append_assoc, append-nil, length-append, IfSome, MatchResult, false_from_ne_true, ended_lines, last_line, lines_of, rest_of, Reads, Reads-none, Reads-then, Reads-to_end, Reads-told, NextLine, Line, Unfinished, End, ReadStop, SourceFailed, TooLong, Limits, IsTooLong, IsWithinLimits, lines_within, HasGiven, ReaderState, IsAtEnd, IsNext, IsNextLine, IsShown, IsStopped}
+use Rattle.line_text.proofs.Common.{◌≡◌, ◌≢◌, ℕ, ◌<◌, Bool, true, false, nat_lt, take, List, [], ◌∷◌, ◌++◌, length, Option, Some, None, Result, Ok, Err, refl, ap, sym, subst, ◌∙◌, arith, append_assoc, append-nil, length-append, IfSome, MatchResult, false_from_ne_true, ended_lines, last_line, lines_of, rest_of, Reads, Reads-none, Reads-then, Reads-to_end, Reads-told, NextLine, Line, Unfinished, End, ReadStop, SourceFailed, TooLong, Limits, IsTooLong, IsWithinLimits, lines_within, HasGiven, ReaderState, IsAtEnd, IsNext, IsNextLine, IsShown, IsStopped, KeepsCount}
 use mathlib.Core.List.{IsPrefix}
 use Rattle.line_text.proofs.LineLemmas.{last_line-some}
 use Rattle.ride_ports.specs.declared.outcome.Ran.{Ran}
 use Rattle.line_text.specs.declared.line_reader.stops.Stop.{Stop}
 use Rattle.line_text.specs.declared.line_reader.stops.Stop.TheVariants.{NoMemory, OfFeed}
-use Rattle.line_text.specs.inner.line_reader.FeedRuns.{HasRun, IsBetween, IsEnded, ran_of}
+use Rattle.line_text.specs.inner.line_reader.FeedRuns.{HasRun, IsBetween, IsEnded, is_source_failed, ran_of}
+use Rattle.line_text.specs.inner.line_reader.Reader.{is_fault}
 use Rattle.line_text.specs.line_reader.FeedRuns.{AreFirstLines, IsReadWhole, IsUnhindered}
 use Rattle.line_text.proofs.line_reader.LineParts.{ended-after_whole, first-within}
 
@@ -193,6 +194,12 @@ follows limits feed left later old new bytes result answer is old_are new_are be
           (subst (λ (l : Limits). MatchResult result (IsNext later new bytes (old.pending ++ more)) (IsStopped l bytes (old.pending ++ more))) old_are
           (step bytes between.given))),
     )
+
+-- a stop of the source is a fault of it
+pub fault-stops : (T : Type 0) (stop : ReadStop) (before after : ℕ) → KeepsCount (is_fault {T = T} (Err stop)) before after
+    → KeepsCount (is_source_failed (Some (OfFeed stop))) before after
+fault-stops T SourceFailed before after kept = kept
+fault-stops T TooLong before after kept = kept
 
 -- an output that failed stays so
 pub run-still : (limits : Limits) (feed left : Option (List ℕ)) (stop : Option Stop) (failed later : Bool) (taken : List ℕ) (lines : List (List ℕ))

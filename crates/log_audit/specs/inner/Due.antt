@@ -1,6 +1,7 @@
 -- The line that was due where a log's first wrong line stands.
 use Rattle.std.specs.Prelude.{◌≡◌, ℕ, ◌⊎◌, Bool, true, false, IsTrue, IsFalse, List, Option, None, Some, Result, Ok, Err, Vec}
 use Rattle.std.specs.Global.{Global}
+use Rattle.line_text.specs.line_reader.Limits.{IsTooLong}
 use Rattle.ride_model.specs.declared.entry.Entry.{Entry}
 use Rattle.ride_model.specs.Legal.{IsLegalEntry, replay}
 use Rattle.ride_model.specs.State.{State}
@@ -9,7 +10,7 @@ use Rattle.log_audit.specs.declared.verdict.AuditFault.{AuditFault}
 use Rattle.log_audit.specs.declared.verdict.Why.{Why}
 use Rattle.log_audit.specs.declared.verdict.Why.TheVariants.{Spelling, Actor as ToActor}
 use Rattle.log_audit.specs.Audit.{IsAnswer, IsLogOf, IsWrongEntry, IsWrongLine}
-use Rattle.log_audit.specs.Limits.{Counts, IsTooLong}
+use Rattle.log_audit.specs.Limits.{Counts, log_limits}
 
 -- whether a line was due in place of a wrong one: not where that spells no entry, or its actor may not act
 abbrev pub has_due : Why → Bool
@@ -31,7 +32,7 @@ pub record IsDue (start : State) (bytes line : List ℕ) : Type 0 where
 
 -- no line is wrong
 abbrev pub IsRight : State → List ℕ → Type 0
-IsRight start bytes = (feeds desks : ℕ) × (entries : List Entry) × IsLogOf start feeds desks entries bytes × (IsTooLong bytes → ⊥)
+IsRight start bytes = (feeds desks : ℕ) × (entries : List Entry) × IsLogOf start feeds desks entries bytes × (IsTooLong log_limits bytes → ⊥)
 
 -- the first wrong line is one in whose place none was due
 abbrev pub HasNoneDue : State → List ℕ → Type 0

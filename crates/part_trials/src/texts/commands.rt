@@ -65,8 +65,8 @@ macro_rules! line {
     };
 }
 
-static LINES: [Line; 22] = [
-    // Each form, also in odd spellings.
+/// Each form, also in odd spellings.
+static FORMS: [Line; 8] = [
     line!(b"request 7 2 4 1 600 300", Some(REQUEST)),
     line!(b"cancel 7", Some(Command::Cancel { id: 7 })),
     line!(b"at 1 2 60", Some(REPORT)),
@@ -75,7 +75,10 @@ static LINES: [Line; 22] = [
     line!(b" \toff\t 1 \r", Some(Command::Off { vehicle: 1 })),
     line!(b"clock 0020", Some(Command::Clock { time: 20 })),
     line!(b"batch", Some(Command::Ask)),
-    // Only version 2 has chairs, and there they may be left out.
+];
+
+/// Only version 2 has chairs, and there they may be left out.
+static CHAIRS: [Line; 3] = [
     Line {
         line: b"request 7 2 4 1 600 300 1",
         in_1: None,
@@ -83,7 +86,10 @@ static LINES: [Line; 22] = [
     },
     line!(b"request 7 2 4 1 600 300 1 1", None),
     line!(b"request 11 2 4 0 600 300", Some(NO_LOAD)),
-    // Other lines are no commands.
+];
+
+/// Other lines are no commands.
+static OTHERS: [Line; 9] = [
     line!(b"", None),
     line!(b"# cancel 7", None),
     line!(b"Cancel 7", None),
@@ -93,7 +99,10 @@ static LINES: [Line; 22] = [
     line!(b"cancel 1000000000000000000", None),
     line!(b"batch 1", None),
     line!(b"done\r1", None),
-    // The greatest number.
+];
+
+/// The greatest number and the least one.
+static NUMBERS: [Line; 2] = [
     line!(
         b"cancel 999999999999999999",
         Some(Command::Cancel {
@@ -150,12 +159,19 @@ static FEED_LINES: [FeedLine; 6] = [
     },
 ];
 
-#[test]
-fn each_line_is_a_command_or_none_and_a_feed_says_nothing_by_blank_ones(rt: HostRuntime) {
-    for (place, case) in LINES.iter().enumerate() {
+fn expect_lines(rt: &impl Abort, lines: &[Line]) {
+    for (place, case) in lines.iter().enumerate() {
         let read = (read_command(case.line, 1), read_command(case.line, 2));
         assert!(rt; read == (case.in_1, case.in_2), "case {place}");
     }
+}
+
+#[test]
+fn each_line_is_a_command_or_none_and_a_feed_says_nothing_by_blank_ones(rt: HostRuntime) {
+    expect_lines(&rt, &FORMS);
+    expect_lines(&rt, &CHAIRS);
+    expect_lines(&rt, &OTHERS);
+    expect_lines(&rt, &NUMBERS);
     for case in FEED_LINES.iter() {
         let said = read_feed_line(case.line, case.over, case.number, 1);
         assert!(rt; said == case.said, "line {}", case.number);

@@ -172,24 +172,33 @@ static PLAIN_PATH: [Row; 6] = [
     ),
 ];
 
-static OTHERS: [Row; 18] = [
-    // Replies that say a word, and a bad line, which has no reply.
+/// Replies that say a word, and a bad line, which has no reply.
+static WORDS: [Row; 5] = [
     fed!(b"f2 request 7 2 4 1 600 300 1 = waiting\n", in_2: true, feed: 2, request!(1) => b"waiting", 0, []),
     fed!(b"f2 cancel 7 = cancelled\n", in_2: true, feed: 2, CANCEL => b"cancelled", 0, []),
     fed!(b"f2 at 3 2 60 = onmap\n", in_2: true, feed: 2, REPORT => b"onmap", 0, []),
     fed!(b"f2 off 3 = duty\n", in_2: true, feed: 2, OFF => b"duty", 0, []),
     fed!(b"f1 bad 4\n", in_2: true, feed: 1, Command::Bad { line: 4 } => b"", 0, []),
-    // Replies that say a number.
+];
+
+/// Replies that say a number.
+static NUMBERS: [Row; 5] = [
     fed!(b"f1 cancel 7 = freed 3\n", in_2: false, feed: 1, CANCEL => b"freed", 3, []),
     fed!(b"f1 done 3 = picked 7\n", in_2: false, feed: 1, DONE => b"picked", 7, []),
     fed!(b"f1 done 3 = dropped 8\n", in_2: false, feed: 1, DONE => b"dropped", 8, []),
     fed!(b"f1 clock 20 = now 20\n", in_2: false, feed: 1, CLOCK => b"now", 20, []),
     fed!(b"f1 on 3 = refused 10\n", in_2: false, feed: 1, ON => b"refused", 10, []),
-    // Late reports name the rides that they break.
+];
+
+/// Late reports name the rides that they break.
+static LATE: [Row; 3] = [
     fed!(b"f2 at 3 2 60 = late 5\n", in_2: false, feed: 2, REPORT => b"late", 5, []),
     fed!(b"f2 at 3 2 60 = late 5 broken 7 8\n", in_2: false, feed: 2, REPORT => b"late", 5, [7, 8]),
     fed!(b"f2 at 3 2 60 = late 5 broken 7 999999999999999999\n", in_2: false, feed: 2, REPORT => b"late", 5, [7, GREATEST]),
-    // Lines of desks.
+];
+
+/// Lines of desks.
+static COMMITS: [Row; 2] = [
     row!(
         b"d2 commit 12 cost 3780 seats 5:2:1:3 6:1:0:2 prices 5:180 6:120 pays 1:60 2:30 outcomes 5:moved:3:4 6:behind:50:60 7:away 8:gone\n",
         in_2: true,
@@ -221,6 +230,10 @@ static OTHERS: [Row; 18] = [
             outcomes: &[(7, moved!(5, 6)), (8, Outcome::Gone)],
         })
     ),
+];
+
+/// A batch that is given up, and ends that are cut.
+static ENDS: [Row; 3] = [
     row!(b"d1 abandon 3\n", in_2: true, Actor::Desk(1), What::Abandoned(3)),
     row!(b"d2 cut\n", in_2: true, Actor::Desk(2), What::Finish(Ending::Cut)),
     row!(
@@ -369,6 +382,10 @@ fn entries_are_printed_as_the_lines_that_say_them_and_a_sink_that_fails_has_a_pr
     rt: HostRuntime,
 ) {
     expect_rows(&rt, rt.alloc(), &PLAIN_PATH);
-    expect_rows(&rt, rt.alloc(), &OTHERS);
+    expect_rows(&rt, rt.alloc(), &WORDS);
+    expect_rows(&rt, rt.alloc(), &NUMBERS);
+    expect_rows(&rt, rt.alloc(), &LATE);
+    expect_rows(&rt, rt.alloc(), &COMMITS);
+    expect_rows(&rt, rt.alloc(), &ENDS);
     assert!(rt; prints_plain_path(&rt, rt.alloc()));
 }

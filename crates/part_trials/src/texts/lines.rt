@@ -5,7 +5,7 @@ ghost use Rattle.ride_ports.specs.inner.Calls.{ArePieces};
 use super::pieces::expect_pieces;
 use arrayvec::ArrayVec;
 use line_text::{
-    Cut, Fields, LineCutter, LineReader, MOST_LINE, ReadError, put_number, read_lines, read_number,
+    Cut, Fields, LineCutter, LineParser, MOST_LINE, ReadError, put_number, read_lines, read_number,
     words_of,
 };
 use ride_ports::MemSource;
@@ -202,7 +202,7 @@ struct Shown {
     text: ArrayVec<u8, 40>,
 }
 
-impl LineReader for Shown {
+impl LineParser for Shown {
     // The line's number.
     type Refusal = u64;
 

@@ -7,9 +7,8 @@ use std::alloc::Global;
 use std::process::Abort;
 use trip_log::{Head, print_entry, read_entry, read_head};
 
-/// Lines of either version of the log.
-const LINES: [&[u8]; 25] = [
-    // Commands and their replies.
+/// Lines of feeds, in either version of the log.
+const OF_FEEDS: [&[u8]; 9] = [
     b"f2 cancel 7 = cancelled",
     b"f2 cancel 7 = freed 3",
     b"f1 at 3 2 60 = onmap",
@@ -19,6 +18,10 @@ const LINES: [&[u8]; 25] = [
     b"f1 done 3 = picked 7",
     b"f1 done 3 = dropped 7",
     b"f1 on 3 = duty",
+];
+
+/// More of them, and their ends.
+const MORE_OF_FEEDS: [&[u8]; 8] = [
     b"f1 on 0 = refused 0",
     b"f1 off 3 = refused 255",
     b"f1 off 999999999999999999 = duty",
@@ -27,7 +30,10 @@ const LINES: [&[u8]; 25] = [
     b"f1 bad 4",
     b"f1 end",
     b"f2 cut",
-    // Those of desks.
+];
+
+/// Lines of desks.
+const OF_DESKS: [&[u8]; 8] = [
     b"d1 open 1 at 0 requests plans",
     b"d2 open 3 at 60 requests 7 8 9 plans 1@0 2@5",
     b"d1 commit 1 cost 0 seats prices pays outcomes",
@@ -43,9 +49,8 @@ const WITHOUT_CHAIRS: &[u8] = b"f1 request 7 2 4 1 600 300 = waiting";
 
 const WITH_CHAIRS: &[u8] = b"f1 request 7 2 4 1 600 300 0 = waiting";
 
-/// Lines of no version.
-const REFUSED: [&[u8]; 51] = [
-    // Other spellings.
+/// Lines of no version: blanks in other places.
+const BLANKS: [&[u8]; 10] = [
     b"f1 on 1  = duty",
     b"f1 on 01 = duty",
     b"f1 on 1 = duty ",
@@ -56,6 +61,10 @@ const REFUSED: [&[u8]; 51] = [
     b"f1 on 1 = duty\n",
     b"f1 on 1 =  duty",
     b"f1 on 1= duty",
+];
+
+/// Other spellings of numbers, letters and lists.
+const SPELLINGS: [&[u8]; 8] = [
     b"f01 on 1 = duty",
     b"F1 on 1 = duty",
     b"f1 on 1000000000000000000 = duty",
@@ -64,7 +73,10 @@ const REFUSED: [&[u8]; 51] = [
     b"d1 open 1 at 0 requests 07 plans",
     b"d1 commit 1 cost 00 seats prices pays outcomes",
     b"d1 commit 1 cost 0 seats 7:1:00:0 prices pays outcomes",
-    // Other lines.
+];
+
+/// Other actors, and what an actor does not say.
+const ACTORS: [&[u8]; 13] = [
     b"",
     b"f1",
     b"f1 ",
@@ -78,6 +90,10 @@ const REFUSED: [&[u8]; 51] = [
     b"d1 bad 3",
     b"f1 open 1 at 0 requests plans",
     b"f1 abandon 1",
+];
+
+/// Replies that are none, or not to their commands.
+const REPLIES: [&[u8]; 11] = [
     b"f1 bad 3 = noted",
     b"f1 bad",
     b"f1 on 1",
@@ -89,6 +105,10 @@ const REFUSED: [&[u8]; 51] = [
     b"f1 clock 5 = now 5 6",
     b"f1 on 1 = refused 256",
     b"f1 at 3 2 60 = late 5 broken 1 2 3 4 5 6 7 8 9 10 11 12 13 14 15 16 17",
+];
+
+/// Batches of other forms.
+const BATCHES: [&[u8]; 9] = [
     b"d1 open 1 at 0 plans requests",
     b"d1 open 1 at 0 requests plans 1:0",
     b"d1 open 1 at 0 requests x plans",
@@ -121,13 +141,18 @@ fn told_of(rt: &impl Abort, alloc: Global, line: &[u8], log: u8) -> Option<bool>
     }
 }
 
-/// What is told of lines in version 1 of the log, and in version 2.
-static TOLD: [(&[&[u8]], (Option<bool>, Option<bool>)); 4] = [
-    (&LINES, (Some(true), Some(true))),
-    (&REFUSED, (None, None)),
-    (&[WITHOUT_CHAIRS], (Some(true), None)),
-    (&[WITH_CHAIRS], (None, Some(true))),
-];
+/// Expects what is told of lines in version 1 of the log, and in version 2.
+fn expect_told(
+    rt: &impl Abort,
+    alloc: Global,
+    lines: &[&[u8]],
+    told: (Option<bool>, Option<bool>),
+) {
+    for (place, line) in lines.iter().enumerate() {
+        let found = (told_of(rt, alloc, line, 1), told_of(rt, alloc, line, 2));
+        assert!(rt; found == told, "line {place}");
+    }
+}
 
 /// What is told of the line of a batch of a thousand plans.
 fn told_of_thousand_plans(rt: &impl Abort, alloc: Global) -> Option<bool> {
@@ -144,12 +169,16 @@ fn told_of_thousand_plans(rt: &impl Abort, alloc: Global) -> Option<bool> {
 #[test]
 fn each_line_reads_back_and_others_are_refused(rt: HostRuntime) {
     let alloc = rt.alloc();
-    for &(lines, told) in TOLD.iter() {
-        for (place, line) in lines.iter().enumerate() {
-            let found = (told_of(&rt, alloc, line, 1), told_of(&rt, alloc, line, 2));
-            assert!(rt; found == told, "line {place}");
-        }
-    }
+    expect_told(&rt, alloc, &OF_FEEDS, (Some(true), Some(true)));
+    expect_told(&rt, alloc, &MORE_OF_FEEDS, (Some(true), Some(true)));
+    expect_told(&rt, alloc, &OF_DESKS, (Some(true), Some(true)));
+    expect_told(&rt, alloc, &[WITHOUT_CHAIRS], (Some(true), None));
+    expect_told(&rt, alloc, &[WITH_CHAIRS], (None, Some(true)));
+    expect_told(&rt, alloc, &BLANKS, (None, None));
+    expect_told(&rt, alloc, &SPELLINGS, (None, None));
+    expect_told(&rt, alloc, &ACTORS, (None, None));
+    expect_told(&rt, alloc, &REPLIES, (None, None));
+    expect_told(&rt, alloc, &BATCHES, (None, None));
     assert!(rt; told_of_thousand_plans(&rt, alloc) == Some(true));
 }
 

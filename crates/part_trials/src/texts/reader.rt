@@ -24,8 +24,8 @@ struct Text {
 /// What is told of a text.
 type Told = ArrayVec<u8, 40>;
 
-static TEXTS: [Text; 14] = [
-    // Whatever the pieces, the lines are those of all the bytes; a CR is a byte of its line.
+/// Whatever the pieces, the lines are those of all the bytes; a CR is a byte of its line.
+static PIECES: [Text; 4] = [
     Text {
         bytes: b"ab\r\n\nc",
         limits: (9, 99, 9),
@@ -54,15 +54,19 @@ static TEXTS: [Text; 14] = [
         failing: &[],
         told: b".",
     },
-    // A line of just the room is whole, and of a longer one the first bytes are kept.
-    Text {
-        bytes: b"abc\nabcd\nabcde",
-        limits: (3, 99, 9),
-        pieces: &[2],
-        failing: &[],
-        told: b"abc/abc+/abc+|.",
-    },
-    // As many bytes as the limit, and one more.
+];
+
+/// A line of just the room is whole, and of a longer one the first bytes are kept.
+static LONG_LINES: [Text; 1] = [Text {
+    bytes: b"abc\nabcd\nabcde",
+    limits: (3, 99, 9),
+    pieces: &[2],
+    failing: &[],
+    told: b"abc/abc+/abc+|.",
+}];
+
+/// As many bytes as the limit, and one more.
+static BYTES: [Text; 4] = [
     Text {
         bytes: b"ab\ncd\n",
         limits: (9, 6, 9),
@@ -91,7 +95,10 @@ static TEXTS: [Text; 14] = [
         failing: &[],
         told: b"!",
     },
-    // As many lines as the limit, and one more, also where no LF ends it.
+];
+
+/// As many lines as the limit, and one more, also where no LF ends it.
+static LINES: [Text; 3] = [
     Text {
         bytes: b"a\nb",
         limits: (9, 99, 2),
@@ -113,7 +120,10 @@ static TEXTS: [Text; 14] = [
         failing: &[],
         told: b"a/b/!",
     },
-    // A fault at once, and one after whole lines, also where the limit of bytes is reached.
+];
+
+/// A fault at once, and one after whole lines, also where the limit of bytes is reached.
+static FAULTS: [Text; 2] = [
     Text {
         bytes: b"a\n",
         limits: (9, 99, 9),
@@ -180,10 +190,18 @@ fn is_told(rt: &impl Abort, alloc: Global, text: &Text, pieces: &[usize]) -> boo
     told.as_slice() == text.told
 }
 
+fn expect_told(rt: &impl Abort, alloc: Global, texts: &[Text]) {
+    for (place, text) in texts.iter().enumerate() {
+        expect_pieces(rt, text.pieces);
+        assert!(rt; is_told(rt, alloc, text, text.pieces), "text {place}");
+    }
+}
+
 #[test]
 fn texts_are_told(rt: HostRuntime) {
-    for (place, text) in TEXTS.iter().enumerate() {
-        expect_pieces(&rt, text.pieces);
-        assert!(rt; is_told(&rt, rt.alloc(), text, text.pieces), "text {place}");
-    }
+    expect_told(&rt, rt.alloc(), &PIECES);
+    expect_told(&rt, rt.alloc(), &LONG_LINES);
+    expect_told(&rt, rt.alloc(), &BYTES);
+    expect_told(&rt, rt.alloc(), &LINES);
+    expect_told(&rt, rt.alloc(), &FAULTS);
 }

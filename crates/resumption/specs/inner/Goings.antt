@@ -1,31 +1,24 @@
 -- What only lemmas and lower contracts use beside Goings.antt.
-use Rattle.std.specs.Prelude.{◌≡◌, ◌⊎◌, ℕ, ◌+◌, true, List, [], ◌∷◌, ◌++◌}
+use Rattle.std.specs.Prelude.{◌≡◌, ◌⊎◌, ℕ, true, List, [], ◌∷◌}
 use Rattle.ride_ports.specs.Contents.{GivenBack}
 use Rattle.ride_ports.specs.Count.{Rose}
 use Rattle.board_core.specs.Recorded.{Recorded}
 use Rattle.live_sessions.specs.Serving.{FeedRun}
-use Rattle.dispatcher.specs.inner.Pairs.{BringsOne}
-use Rattle.dispatcher.specs.Shelves.{IsBackOf, IsLeftOf, IsSpent, Shelved, Sunk, told_bytes}
-use Rattle.dispatcher.specs.inner.Sources.{BringsNone}
+use Rattle.dispatcher.specs.Shelves.{AreGivenBack, IsBackOf, IsSpent, Shelved, Sunk, told_bytes}
+use Rattle.dispatcher.specs.inner.Handing.{Adds, MissesAfter}
 use Rattle.resumption.specs.Goings.{still_gives, GoesOn}
 
 -- both feeds were brought, the session went on over them, and they were given back. Where it ran whole, nothing is left of a feed that
 -- still gave commands
 pub record HandsBothOn (board : Recorded) (riders drivers : List ℕ) (old new : Shelved) (out : Sunk) (status : ℕ) : Type 0 where
-  pub told : new.told ≡ old.told
-  pub asked : new.asked ≡ old.asked ++ riders ∷ drivers ∷ []
-  pub brought : new.brought ≡ old.brought + 2
   pub first : FeedRun
   pub second : FeedRun
   pub first_source : GivenBack
   pub second_source : GivenBack
-  pub back : new.back ≡ old.back ++ first_source ∷ second_source ∷ []
+  pub adds : Adds (riders ∷ drivers ∷ []) 2 (first_source ∷ second_source ∷ []) old new
   pub of_first : IsBackOf (told_bytes old.told riders) first_source first
   pub of_second : IsBackOf (told_bytes old.told drivers) second_source second
-  pub first_taken : List ℕ
-  pub first_left : IsLeftOf (told_bytes old.told riders) first_source first_taken
-  pub second_taken : List ℕ
-  pub second_left : IsLeftOf (told_bytes old.told drivers) second_source second_taken
+  pub left : AreGivenBack old.told (riders ∷ drivers ∷ []) (first_source ∷ second_source ∷ [])
   pub goes_on : GoesOn board first second out status
   pub first_spent : status ≡ 0 → still_gives board 1 ≡ true → IsSpent first_source
   pub second_spent : status ≡ 0 → still_gives board 2 ≡ true → IsSpent second_source
@@ -36,4 +29,4 @@ pub record HandsBothOn (board : Recorded) (riders drivers : List ℕ) (old new :
 
 abbrev pub GoesOnOver : Recorded → List ℕ → List ℕ → Shelved → Shelved → Sunk → ℕ → Type 0
 GoesOnOver board riders drivers old new out status =
-    BringsNone riders old new out status ⊎ BringsOne riders drivers old new out status ⊎ HandsBothOn board riders drivers old new out status
+    MissesAfter [] riders old new out status ⊎ MissesAfter (riders ∷ []) drivers old new out status ⊎ HandsBothOn board riders drivers old new out status

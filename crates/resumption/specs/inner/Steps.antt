@@ -9,12 +9,13 @@ use Rattle.dispatcher.specs.Meanings.{Meaning, start_of}
 use Rattle.dispatcher.specs.Shelves.{IsUntouched, Shelved, Sunk}
 use Rattle.resumption.specs.inner.Goings.{GoesOnOver}
 use Rattle.resumption.specs.Logs.{EndsLog}
-use Rattle.resumption.specs.inner.Logs.{AsksInVain, HandsLogBack}
+use Rattle.dispatcher.specs.inner.Handing.{Misses}
+use Rattle.resumption.specs.inner.Logs.{HandsLogBack}
 
 -- the log was not brought
 pub record MissesLog (name : List ℕ) (old new : Shelved) (out : Sunk) (status : ℕ) : Type 0 where
   pub status_is : status ≡ 5
-  pub in_vain : AsksInVain name old new
+  pub in_vain : Misses name old new
   pub untouched : IsUntouched out
 
 -- it gave no board to go on from, and that was said

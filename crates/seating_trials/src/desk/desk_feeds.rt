@@ -20,7 +20,8 @@ struct Feed {
     written: &'static [u8],
 }
 
-static FEEDS: [Feed; 13] = [
+/// Bookings, and when they are released.
+static BOOKINGS: [Feed; 2] = [
     // Of one release the lesser id comes first, an unbooked booking is not released, and is no longer held.
     Feed {
         bytes: b"book 60 7 2 4 1 600 300\nbook 60 5 3 4 1 600 300\nbook 30 9 1 4 1 600 300\nunbook 9\nunbook 9\nclock 59\nclock 60\nbatch\n",
@@ -39,6 +40,10 @@ static FEEDS: [Feed; 13] = [
         status: 0,
         written: b"request 7 2 4 1 600 300\n# refused 19 line 2\n# refused 20 line 3\n# held 1\n",
     },
+];
+
+/// Lines as they stand and as they are spelled, and a clock.
+static LINES: [Feed; 3] = [
     // Comments, blank lines, words of other commands and lines that are no booking stand as they are.
     Feed {
         bytes: b"# note\n\n \tat 1 5 9\t\r\nbook 5 7\nunbook\nunbook x\nbooked 5\nclock\nclock 5 6\nclock 1000000001\nbook 1 2 3 4 1 600 300 0 0\n",
@@ -66,6 +71,10 @@ static FEEDS: [Feed; 13] = [
         status: 0,
         written: b"clock 50\nclock 40\nrequest 1 2 4 1 600 300\n# refused 21 line 5\nclock 51\nrequest 2 2 4 1 600 300\n# refused 21 line 7\n# refused 19 line 8\n# held 0\n",
     },
+];
+
+/// Feeds of nothing, and feeds that are cut.
+static CUT: [Feed; 3] = [
     // A feed of nothing.
     Feed {
         bytes: b"",
@@ -92,6 +101,10 @@ static FEEDS: [Feed; 13] = [
         status: 5,
         written: b"",
     },
+];
+
+/// Sinks that fail or have just the room.
+static SINKS: [Feed; 4] = [
     // A sink that fails has the first bytes.
     Feed {
         bytes: b"book 0 7 2 4 1 600 300\nbatch\n",
@@ -127,24 +140,25 @@ static FEEDS: [Feed; 13] = [
         status: 6,
         written: b"bat",
     },
-    // Over-long lines are cut short.
-    Feed {
-        bytes: b"#                                                                                                    \
+];
+
+/// Over-long lines are cut short.
+static LONG_LINES: [Feed; 1] = [Feed {
+    bytes: b"#                                                                                                    \
 \x20                                                                                                   \n\
 \x20                                                                                                    \
 \x20                                                                                                   \n\
 x                                                                                                    \
 \x20                                                                                                  \n",
-        pieces: &[],
-        failing: &[],
-        room: 999,
-        status: 0,
-        written: b"#\nbad\n\
+    pieces: &[],
+    failing: &[],
+    room: 999,
+    status: 0,
+    written: b"#\nbad\n\
 x                                                                                                    \
 \x20                                                                                                  \n\
 # held 0\n",
-    },
-];
+}];
 
 /// Whether a feed gives what it should.
 fn gives(rt: &impl Abort, alloc: Global, feed: &Feed) -> bool {
@@ -154,6 +168,13 @@ fn gives(rt: &impl Abort, alloc: Global, feed: &Feed) -> bool {
     let mut out = out.expect(rt, "there is memory");
     let ran = book_feed(alloc, &mut source, &mut out);
     ran.status() == feed.status && out.written() == feed.written
+}
+
+/// Each feed gives what it should.
+fn expect_given(rt: &impl Abort, alloc: Global, feeds: &[Feed]) {
+    for feed in feeds {
+        assert!(rt; gives(rt, alloc, feed));
+    }
 }
 
 /// An action that a seed draws after so many others: most book one of 800 ids for some time of an hour or for too late a time.
@@ -258,8 +279,10 @@ fn expect_drawn(rt: &impl Abort, alloc: Global) {
 
 #[test]
 fn feeds_give_plain_feeds(rt: HostRuntime) {
-    for feed in FEEDS.as_slice() {
-        assert!(&rt; gives(&rt, rt.alloc(), feed));
-    }
+    expect_given(&rt, rt.alloc(), &BOOKINGS);
+    expect_given(&rt, rt.alloc(), &LINES);
+    expect_given(&rt, rt.alloc(), &CUT);
+    expect_given(&rt, rt.alloc(), &SINKS);
+    expect_given(&rt, rt.alloc(), &LONG_LINES);
     expect_drawn(&rt, rt.alloc());
 }

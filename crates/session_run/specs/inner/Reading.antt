@@ -1,26 +1,36 @@
 -- What a session has answered of its feed.
-use Rattle.std.specs.Prelude.{◌≡◌, ℕ, ◌++◌, Bool, true, false, List, Option, Some, None, MatchOption}
+use Rattle.std.specs.Prelude.{◌≡◌, ℕ, ◌++◌, ◌||◌, if◌then◌else◌, Bool, true, false, List, Option, Some, None, MatchOption}
 use mathlib.Core.List.{IsPrefix}
 use Rattle.ride_model.specs.declared.entry.Ending.{Ending}
+use Rattle.ride_model.specs.declared.entry.Ending.TheVariants.{Whole, Cut}
 use Rattle.ride_model.specs.declared.entry.Entry.{Entry}
 use Rattle.ride_model.specs.History.{fed_commands}
 use Rattle.ride_model.specs.Text.{text_of}
 use Rattle.ride_ports.specs.Bytes.{Reads}
+use Rattle.ride_ports.specs.declared.outcome.Ran.{Ran}
 use Rattle.command_lines.specs.Feeds.{IsWhole}
 use Rattle.command_lines.specs.inner.Feeds.{IsStopped}
 use Rattle.command_lines.specs.Limits.{new_feed}
 use Rattle.board_core.specs.Recorded.{Recorded}
 use Rattle.idle_moves.specs.declared.moves.MoveSheet.{MoveSheet}
-use Rattle.idle_moves.specs.AheadText.{head_line, sheet_lines}
+use Rattle.idle_moves.specs.AheadText.{ahead_text, head_line, sheet_lines}
 use Rattle.idle_moves.specs.HistorySheets.{AreSheetsOf}
 use Rattle.line_text.specs.inner.text_page.Output.{HasPut, OutputState}
 use Rattle.session_loops.specs.Stops.{AreFirstOf}
 use Rattle.line_text.specs.declared.line_reader.stops.Stop.{Stop}
 use Rattle.line_text.specs.declared.line_reader.stops.Stop.TheVariants.{NoMemory, OfFeed}
-use Rattle.session_run.specs.Ahead.{sheets_text}
 use Rattle.session_run.specs.inner.SessionState.{SessionState}
 use Rattle.session_run.specs.Running.{IsPrompt}
 use Rattle.session_run.specs.inner.Running.{IsSession, IsRunning}
+
+-- how the feed of a session ended that ran so
+abbrev pub feed_ending : Ran → Ending
+feed_ending ran = if ran.source_failed || ran.too_long then Cut else Whole
+
+-- the text of sheets, without its last line where memory was wanting
+abbrev pub sheets_text : ℕ → Bool → Ending → List MoveSheet → List ℕ
+sheets_text reach no_memory ending sheets =
+    if no_memory then head_line reach ++ sheet_lines sheets else ahead_text reach ending sheets
 
 -- why a session's feed was stopped after these bytes: memory was wanting, or the feed gave no more
 abbrev pub IsEnded : ℕ → Stop → Recorded → Bool → List ℕ → Type 0

@@ -1,5 +1,6 @@
 -- What only lemmas and lower contracts use beside Running.antt.
 use Rattle.std.specs.Prelude.{◌≡◌, ◌≢◌, ℕ, ◌+◌, ◌⊎◌, ◌++◌, ⊤, Bool, true, false, List, [], ◌∷◌, All, IsFalse, Some}
+use Rattle.std.specs.List.{list_any}
 use Rattle.ride_model.specs.declared.command.Actor.TheVariants.{Desk, Feed}
 use Rattle.ride_model.specs.declared.command.Command.{Command}
 use Rattle.ride_model.specs.declared.entry.Entry.{Entry}
@@ -8,13 +9,17 @@ use Rattle.ride_model.specs.declared.entry.Event.TheVariants.{Committed, Fed, Op
 use Rattle.ride_model.specs.declared.reply.Reply.{Reply}
 use Rattle.ride_model.specs.declared.vehicle.Ride.{Ride}
 use Rattle.ride_model.specs.Batch.{was_cancelled}
-use Rattle.ride_model.specs.History.{fed_commands, awaited_in, IsDirect}
+use Rattle.ride_model.specs.History.{fed_commands, awaited_in, is_abandoned, IsDirect}
 use Rattle.ride_model.specs.History.Awaited.{opening, commit}
 use Rattle.ride_model.specs.Seating.{BatchCopy}
 use Rattle.model_laws.specs.inner.history_laws.Consistent.{IsOpenBatch}
 use Rattle.board_core.specs.Recorded.{Recorded, state_of}
 use Rattle.session_run.specs.Settled.{IsSettled}
-use Rattle.session_run.specs.Running.{gave_up, IsPrompt}
+use Rattle.session_run.specs.Running.{IsPrompt}
+
+-- whether a batch was given up
+abbrev pub gave_up : List Entry → Bool
+gave_up entries = list_any (λ (entry : Entry). is_abandoned entry.event) entries
 
 -- an event opens a batch, or commits one
 abbrev pub IsOpening : Event → Type 0

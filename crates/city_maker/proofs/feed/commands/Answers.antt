@@ -1,4 +1,4 @@
-use Rattle.city_maker.proofs.Common.{◌≡◌, ◌++◌, ◌∷◌, [], ap, ◌∙◌, arith, flat_map, range_with_len, Clock, commands_of, group_of, groups_of}
+use Rattle.city_maker.proofs.Common.{◌≡◌, ◌+◌, ◌/◌, ◌++◌, ◌∷◌, [], ap, ◌∙◌, arith, flat_map, range_with_len, Clock, commands_of, group_of}
 use Rattle.city_maker.proofs.ListsOfRanges.{flat_map-pushed}
 use Rattle.city_maker.proofs.feed.commands.Goals as goal
 
@@ -11,6 +11,6 @@ loop-group-preserved c = record {
 pub returns : goal.returns
 unfolding commands_of
 returns c =
-    let all : c.loop-group.group ≡ groups_of c.args.plan.now = omega arith in
+    let all : c.loop-group.group ≡ (c.args.plan.now.requests + 7) / 8 = omega arith in
     c.in_ok-push.ensures.items ∙ ap (λ commands. commands ++ Clock 1000000000 ∷ []) (c.loop-group.invariant.made
     ∙ ap (λ groups. flat_map (group_of c.args.plan.now) (range_with_len 0 groups)) all)

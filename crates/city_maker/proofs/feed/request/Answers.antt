@@ -1,5 +1,5 @@
-use Rattle.city_maker.proofs.Common.{◌≡◌, ◌+◌, ◌∙◌, sym, nodes_of, apart, draws_before, from_of}
-use Rattle.city_maker.proofs.RequestLemmas.{apart-same, apart-other, request-is, from-is, to-is, seats-are, second-draw, third-draw}
+use Rattle.city_maker.proofs.Common.{◌≡◌, ◌+◌, ◌∙◌, sym, nodes_of, draws_before}
+use Rattle.city_maker.proofs.RequestLemmas.{apart, apart-same, apart-other, from_of, request-is, from-is, to-is, seats-are, second-draw, third-draw}
 use Rattle.city_maker.proofs.feed.request.Goals as goal
 use Rattle.city_maker.proofs.feed.request.Goals.{then-drawn-from, else-drawn-from}
 

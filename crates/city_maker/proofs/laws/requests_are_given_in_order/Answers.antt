@@ -1,6 +1,7 @@
-use Rattle.city_maker.proofs.Common.{◌≡◌, ℕ, zero, suc, ◌+◌, ◌-◌, ◌*◌, min, List, [], ◌∷◌, ◌++◌, map, inl, inr, refl, sym, ap, ◌∙◌, arith, filter, flat_map, range_with_len, cases_lt, append-nil, map-append, filter-append, Clock, Ask, CityPlan, commands_of, group_of, groups_of, request_of, requests_in}
+use Rattle.city_maker.proofs.Common.{◌≡◌, ℕ, zero, suc, ◌+◌, ◌-◌, ◌*◌, ◌/◌, min, List, [], ◌∷◌, ◌++◌, map, inl, inr, refl, sym, ap, ◌∙◌, arith, filter, flat_map, range_with_len, cases_lt, append-nil, map-append, filter-append, Clock, Ask, CityPlan, commands_of, group_of, request_of}
 use Rattle.city_maker.specs.inner.Feed.{is_request}
 use Rattle.city_maker.proofs.ListsOfRanges.{flat_map-range_more}
+use Rattle.city_maker.proofs.RequestLemmas.{requests_in}
 use Rattle.city_maker.proofs.laws.requests_are_given_in_order.Goals as goal
 
 -- a range in two parts
@@ -63,7 +64,8 @@ requests-of_groups plan (suc groups) =
 pub returns : goal.returns
 unfolding commands_of
 returns c = λ plan.
-    let all : min plan.requests (8 * groups_of plan) ≡ plan.requests = omega arith in
-    filter-append is_request (flat_map (group_of plan) (range_with_len 0 (groups_of plan))) (Clock 1000000000 ∷ [])
-    ∙ append-nil (filter is_request (flat_map (group_of plan) (range_with_len 0 (groups_of plan))))
-    ∙ requests-of_groups plan (groups_of plan) ∙ ap (λ n. map (request_of plan) (range_with_len 0 n)) all
+    let groups : ℕ = (plan.requests + 7) / 8 in
+    let all : min plan.requests (8 * groups) ≡ plan.requests = omega arith in
+    filter-append is_request (flat_map (group_of plan) (range_with_len 0 groups)) (Clock 1000000000 ∷ [])
+    ∙ append-nil (filter is_request (flat_map (group_of plan) (range_with_len 0 groups)))
+    ∙ requests-of_groups plan groups ∙ ap (λ n. map (request_of plan) (range_with_len 0 n)) all

@@ -1,10 +1,9 @@
-use Rattle.city_maker.proofs.Common.{sym, pairs_in_rows}
-use Rattle.city_maker.proofs.ArcLemmas.{joined-none, joined-same, pairs_in_rows-none, pairs_in_rows-more}
+use Rattle.city_maker.proofs.Common.{sym}
+use Rattle.city_maker.proofs.ArcLemmas.{joined-none, joined-same, pairs_in_rows, pairs_in_rows-more}
 use Rattle.city_maker.proofs.roads.grid.Goals as goal
 
 pub loop-row-init : goal.loop-row-init
-loop-row-init c =
-    joined-same c.args.seed _ _ _ (sym (pairs_in_rows-none c.args.side)) (joined-none c.args.seed _ c.new.ensures.items c.new-2.ensures)
+loop-row-init c = joined-none c.args.seed _ c.new.ensures.items c.new-2.ensures
 
 pub loop-row-preserved : goal.loop-row-preserved
 loop-row-preserved c =

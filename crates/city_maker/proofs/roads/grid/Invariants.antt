@@ -1,4 +1,5 @@
-use Rattle.city_maker.proofs.Common.{HasJoined, pairs_in_rows}
+use Rattle.city_maker.proofs.Common.{HasJoined}
+use Rattle.city_maker.proofs.ArcLemmas.{pairs_in_rows}
 use Rattle.city_maker.proofs.roads.grid.Given as goal
 
 abbrev pub invariant-loop-row : goal.invariant-loop-row

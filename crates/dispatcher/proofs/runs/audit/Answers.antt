@@ -1,15 +1,12 @@
-use Rattle.dispatcher.proofs.Common.{[], ◌∷◌, refl, string_bytes, an_audit, log_file, map_file, fleet_file}
+use Rattle.dispatcher.proofs.Common.{inr, None, refl, log_file, text_files}
 use Rattle.dispatcher.proofs.Running.{any-text, stopped-run, work-run}
 use Rattle.dispatcher.proofs.runs.audit.Goals as goal
 
 pub returns-in-Ok : goal.returns-in-Ok
 returns-in-Ok g c =
-    work-run (an_audit (string_bytes c.args.names.map) (string_bytes c.args.names.fleet) (string_bytes c.args.log))
-    (map_file (string_bytes c.args.names.map) ∷ fleet_file (string_bytes c.args.names.fleet) ∷ []) (log_file (string_bytes c.args.log)) _ _ _ _ _ _ _ refl c.in-Ok.ensures.texts (λ s. tt) (any-text _) (λ over did. (over, did))
-    c.work_over.ensures
+    work-run _ _ _ _ _ _ _ c.in-Ok.ensures.texts _ (log_file _) _ refl (inr refl) (any-text _) (λ over did. (over, did)) c.work_over.ensures
 
 pub returns-in-Err : goal.returns-in-Err
 returns-in-Err g c =
-    stopped-run (an_audit (string_bytes c.args.names.map) (string_bytes c.args.names.fleet) (string_bytes c.args.log))
-    (map_file (string_bytes c.args.names.map) ∷ fleet_file (string_bytes c.args.names.fleet) ∷ []) (log_file (string_bytes c.args.log) ∷ []) _ _ _ c.answer.result c.in-Err.stop refl c.in-Err.ensures.texts c.answer.ensures.status
-    c.answer.ensures.said c.answer.ensures.no_memory
+    stopped-run _ (text_files _ _ None) _ _ _ _ _ _ refl c.in-Err.ensures.texts c.answer.ensures.status c.answer.ensures.said
+    c.answer.ensures.no_memory

@@ -11,8 +11,8 @@ pub returns-in-Ok-clause-start : goal.returns-in-Ok-clause-start
 returns-in-Ok-clause-start g c =
     let (bytes, reads, short, taken) = c.in-Ok.ensures.read in
     fleet-may_start c.args.map.now c.args.map.now.nodes bytes c.settings_of.result _ c.new.result refl c.new.ensures
-    (taken-text c.args.map.now.nodes c.new-lines.result c.read_lines.new.reader bytes (c.new-lines.ensures.map ∙ c.nodes.ensures.nodes) short taken
-    ∙ ap (λ (s : Settings). Ok (s, c.read_lines.new.reader.vehicles.items)) (sym c.settings_of.ensures.value))
+    (taken-text c.args.map.now.nodes c.new-lines.result c.read_lines.new.parser bytes (c.new-lines.ensures.map ∙ c.nodes.ensures.nodes) short taken
+    ∙ ap (λ (s : Settings). Ok (s, c.read_lines.new.parser.vehicles.items)) (sym c.settings_of.ensures.value))
     c.settings_of.ensures.fit
 
 pub returns-in-Err-Refused-clause-refused : goal.returns-in-Err-Refused-clause-refused
@@ -36,4 +36,4 @@ returns-in-Err-Refused-clause-before_fault g c is =
 pub returns-in-Err-TooLong-clause-refused : goal.returns-in-Err-TooLong-clause-refused
 returns-in-Err-TooLong-clause-refused g c memory fault =
     let (bytes, full, taken, more) = c.in-Err-TooLong.ensures.too_long (ap (λ e. Err e) c.in-Err-TooLong.field-0-is) in
-    told-too_long c.args.map.now.nodes c.new-lines.result c.read_lines.new.reader _ bytes (c.new-lines.ensures.map ∙ c.nodes.ensures.nodes) full taken more
+    told-too_long c.args.map.now.nodes c.new-lines.result c.read_lines.new.parser _ bytes (c.new-lines.ensures.map ∙ c.nodes.ensures.nodes) full taken more

@@ -27,4 +27,4 @@ returns-in-Err-Refused-clause-before_fault g c is =
 pub returns-in-Err-TooLong-clause-refused : goal.returns-in-Err-TooLong-clause-refused
 returns-in-Err-TooLong-clause-refused g c memory fault =
     let (bytes, full, taken, more) = c.in-Err-TooLong.ensures.too_long (ap (λ e. Err e) c.in-Err-TooLong.field-0-is) in
-    told-too_long _ bytes c.read_lines.new.reader full taken more
+    told-too_long _ bytes c.read_lines.new.parser full taken more

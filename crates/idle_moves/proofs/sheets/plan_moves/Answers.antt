@@ -1,5 +1,5 @@
-use Rattle.idle_moves.proofs.Common.{◌≡◌, length, map, sym, ap, subst, ◌∙◌, arith, All, IfOk, not, All-filter, Ride, IsNode, has_seat, length-filter-le, IsSheetOver, left_out, stands_by, standing_by, standby_of}
-use Rattle.idle_moves.proofs.OverGrids.{left-found, of-batch, stand-at, stand-few, standing-found}
+use Rattle.idle_moves.proofs.Common.{◌≡◌, length, map, sym, ap, subst, ◌∙◌, arith, All, IfOk, not, All-filter, Ride, IsNode, has_seat, length-filter-le, IsSheetOver, stands_by, standby_of}
+use Rattle.idle_moves.proofs.OverGrids.{left-found, left_out, of-batch, stand-at, stand-few, standing-found, standing_by}
 use Rattle.idle_moves.proofs.sheets.plan_moves.Goals as goal
 
 -- the requests that are left out, and the vehicles that stand by

@@ -11,11 +11,11 @@ returns-in-Err-clause-refused g c e is =
     let fits : c.in-Ok.count ≤ length buffer = c.in-Ok.ensures.room in
     let count : ℕ = c.in-Ok.count in
     let cut : length (take within buffer) ≡ within = length-take-le within buffer (omega arith) in
-    let refused : IsRefused g.L.LineReader.refuses c.args.reader.now (bytes ++ take within buffer) c.in-Err.refusal =
-    c.in-Err.ensures c.args.reader.now bytes read (omega (arith, c.ranges.most.fits)) in
-    counted-refused g.L.LineReader.refuses c.args.reader.now c.args.most _ _ bytes buffer within count e (omega arith) fits (omega arith)
+    let refused : IsRefused g.L.LineParser.refuses c.args.parser.now (bytes ++ take within buffer) c.in-Err.refusal =
+    c.in-Err.ensures c.args.parser.now bytes read (omega (arith, c.ranges.most.fits)) in
+    counted-refused g.L.LineParser.refuses c.args.parser.now c.args.most _ _ bytes buffer within count e (omega arith) fits (omega arith)
     (Reads-then reads c.in-Ok.ensures.bytes)
-    (subst (λ d. IsRefused g.L.LineReader.refuses c.args.reader.now (bytes ++ take within buffer) d) same refused)
+    (subst (λ d. IsRefused g.L.LineParser.refuses c.args.parser.now (bytes ++ take within buffer) d) same refused)
 
 pub returns-then-count-room-clause-too_long : goal.returns-then-count-room-clause-too_long
 returns-then-count-room-clause-too_long g c is =
@@ -28,7 +28,7 @@ returns-then-count-room-clause-too_long g c is =
     let cut : length (take within buffer) ≡ within = length-take-le within buffer (omega arith) in (
       bytes ++ take within buffer,
       full-length bytes buffer within c.args.most (omega arith) (omega arith),
-      (c.in_default-take_piece.ensures c.args.reader.now bytes read (omega (arith, c.ranges.most.fits))).lines,
+      (c.in_default-take_piece.ensures c.args.parser.now bytes read (omega (arith, c.ranges.most.fits))).lines,
       goes-on _ _ bytes buffer within count (omega arith) fits (Reads-then reads c.in-Ok.ensures.bytes),
     )
 

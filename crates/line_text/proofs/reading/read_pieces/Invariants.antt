@@ -5,7 +5,7 @@ use Rattle.line_text.proofs.reading.read_pieces.Given as goal
 abbrev pub invariant-pieces : goal.invariant-pieces
 invariant-pieces g l = record {
   read : (bytes : List ℕ) × Reads (g.S.Source.left l.initial.src) (g.S.Source.left l.src) bytes
-      × (length bytes + l.room ≡ l.most) × HasRead g.L.LineReader.takes l.initial.reader l.cutter l.reader bytes;
+      × (length bytes + l.room ≡ l.most) × HasRead g.L.LineParser.takes l.initial.parser l.cutter l.parser bytes;
   count : g.S.Source.faults l.src ≡ g.S.Source.faults l.initial.src;
 }
 

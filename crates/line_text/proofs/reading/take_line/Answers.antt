@@ -9,12 +9,12 @@ returns-in_err-line-clause-read g c first bytes read short =
     let part : List ℕ = take cut.result.used c.args.piece.now in
     let ends : EndsLine cut.new.self bytes part =
     subst (λ (v : Bool). MatchBool v (EndsLine cut.new.self bytes part) (Continues bytes part)) (not-false _ c.if-not-cut.false) (cut.ensures.lines bytes read.taken) in
-    let refused = read-line {T = Unit {0}} g.L.LineReader.takes g.L.LineReader.refuses (Err c.in_err-line.field-0.0) first c.args.reader.now c.line-2.new.self c.args.cutter.now cut.new.self bytes part _ _ _
+    let refused = read-line {T = Unit {0}} g.L.LineParser.takes g.L.LineParser.refuses (Err c.in_err-line.field-0.0) first c.args.parser.now c.line-2.new.self c.args.cutter.now cut.new.self bytes part _ _ _
     read (omega arith) (cut.ensures.taken bytes read.taken) cut.ensures.most ends c.number.ensures c.line.ensures c.over.ensures c.in_err-line.ensures in
     let whole : (bytes ++ part) ++ drop cut.result.used c.args.piece.now ≡ bytes ++ c.args.piece.now =
     append_assoc bytes part (drop cut.result.used c.args.piece.now) ∙ ap (λ l. bytes ++ l) (take-append-drop cut.result.used c.args.piece.now) in
-    rw (failed.1, failed.2) (subst (λ (l : List ℕ). IsRefused g.L.LineReader.refuses first l c.in_err-line.field-0.0) whole
-    (refused-append g.L.LineReader.refuses first (bytes ++ part) (drop cut.result.used c.args.piece.now) c.in_err-line.field-0.0 refused))
+    rw (failed.1, failed.2) (subst (λ (l : List ℕ). IsRefused g.L.LineParser.refuses first l c.in_err-line.field-0.0) whole
+    (refused-append g.L.LineParser.refuses first (bytes ++ part) (drop cut.result.used c.args.piece.now) c.in_err-line.field-0.0 refused))
 
 pub returns-clause-read : goal.returns-clause-read
 returns-clause-read g c first bytes read short =
@@ -22,5 +22,5 @@ returns-clause-read g c first bytes read short =
     let part : List ℕ = take cut.result.used c.args.piece.now in
     let ends : EndsLine cut.new.self bytes part =
     subst (λ (v : Bool). MatchBool v (EndsLine cut.new.self bytes part) (Continues bytes part)) (not-false _ c.if-not-cut.false) (cut.ensures.lines bytes read.taken) in
-    read-line {T = Unit {0}} g.L.LineReader.takes g.L.LineReader.refuses (Ok c.in_ok-line.field-0) first c.args.reader.now c.line-2.new.self c.args.cutter.now cut.new.self bytes part _ _ _
+    read-line {T = Unit {0}} g.L.LineParser.takes g.L.LineParser.refuses (Ok c.in_ok-line.field-0) first c.args.parser.now c.line-2.new.self c.args.cutter.now cut.new.self bytes part _ _ _
     read (omega arith) (cut.ensures.taken bytes read.taken) cut.ensures.most ends c.number.ensures c.line.ensures c.over.ensures c.in_ok-line.ensures

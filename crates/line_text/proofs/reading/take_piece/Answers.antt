@@ -15,7 +15,7 @@ loop-done-preserved g c =
     record {
       within = rest-within c.in_ok-done.field-0 done piece c.in_ok-done.ensures.within inv.within;
       read = λ first bytes read short.
-          read-piece g.L.LineReader.takes first c.take_line.new.reader c.take_line.new.cutter bytes piece done c.in_ok-done.field-0
+          read-piece g.L.LineParser.takes first c.take_line.new.parser c.take_line.new.cutter bytes piece done c.in_ok-done.field-0
           (c.in_ok-done.ensures.read first (bytes ++ take done piece) (inv.read first bytes read short) (rest-short done bytes piece short inv.within));
     }
 
@@ -25,10 +25,10 @@ returns-in_err-done g c first bytes read short =
     let done : ℕ = c.loop-done.done in
     let piece : List ℕ = c.args.piece.now in
     let inv = c.loop-done.invariant in
-    rw (failed.1, failed.2) (refused-piece g.L.LineReader.refuses first bytes piece done c.in_err-done.field-0.0
+    rw (failed.1, failed.2) (refused-piece g.L.LineParser.refuses first bytes piece done c.in_err-done.field-0.0
     (c.in_err-done.ensures.read first (bytes ++ take done piece) (inv.read first bytes read short) (rest-short done bytes piece short inv.within)))
 
 pub returns : goal.returns
 returns g c first bytes read short =
     let all : take c.loop-done.done c.args.piece.now ≡ c.args.piece.now = take_all c.loop-done.done c.args.piece.now (omega arith) in
-    subst (λ (p : List ℕ). HasRead g.L.LineReader.takes first c.loop-done.cutter c.loop-done.reader (bytes ++ p)) all (c.loop-done.invariant.read first bytes read short)
+    subst (λ (p : List ℕ). HasRead g.L.LineParser.takes first c.loop-done.cutter c.loop-done.parser (bytes ++ p)) all (c.loop-done.invariant.read first bytes read short)

@@ -5,8 +5,8 @@ use Rattle.line_text.proofs.reading.take_piece.Given as goal
 abbrev pub invariant-loop-done : goal.invariant-loop-done
 invariant-loop-done g l = record {
   within : l.done ≤ length l.piece;
-  read : (first : g.row.L.Denot) (bytes : List ℕ) → HasRead g.L.LineReader.takes first l.initial.cutter l.initial.reader bytes
-      → length bytes + length l.piece < 2 ^ 32 → HasRead g.L.LineReader.takes first l.cutter l.reader (bytes ++ take l.done l.piece);
+  read : (first : g.row.L.Denot) (bytes : List ℕ) → HasRead g.L.LineParser.takes first l.initial.cutter l.initial.parser bytes
+      → length bytes + length l.piece < 2 ^ 32 → HasRead g.L.LineParser.takes first l.cutter l.parser (bytes ++ take l.done l.piece);
 }
 
 abbrev pub decreases-loop-done : goal.decreases-loop-done

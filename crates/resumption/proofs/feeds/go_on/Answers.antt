@@ -1,108 +1,69 @@
-use Rattle.resumption.proofs.Common.{ℕ, inl, inr, Option, ◌∷◌, ◌++◌, [], refl, ap, sym, subst, ◌∙◌, arith, string_bytes, append_assoc, Contents, given_back, Rose, Reads-none, feed_run, bytes-of, left-of, left-of-content, sink-status, source-status, whole-status, rose-above}
-use Rattle.ride_ports.specs.inner.Contents.{IsContentOf}
+use Rattle.resumption.proofs.Common.{ℕ, inl, inr, refl, sym, subst, ◌∙◌, string_bytes, told_bytes, given_back, Rose, feed_run, Adds-then, bytes-of, bytes-told, left-of, sink-status, source-status, whole-status, rose-above}
 use Rattle.ride_ports.proofs.CountLemmas.{Rose-then_kept, Rose-after_kept}
-use Rattle.dispatcher.proofs.ServedFeeds.{one-of-two}
+use Rattle.dispatcher.proofs.Bringing.{misses-first, misses-second}
 use Rattle.resumption.proofs.AnsweredFeeds.{answered-of, drivers-over, drivers-taken, riders-over, riders-taken}
 use Rattle.resumption.proofs.feeds.go_on.Goals as goal
 
 pub returns-in_default : goal.returns-in_default
-returns-in_default g c = inl (record {
-  status_is = c.code.ensures;
-  told = c.in_default.ensures.contents_stay;
-  asked = c.in_default.ensures.asked;
-  brought = c.in_default.ensures.failed_counts_none;
-  back = c.in_default.ensures.back_stays;
-  rose = c.in_default.ensures.failed_only_at_fault;
-  untouched = refl;
-})
+returns-in_default g c = inl (misses-first c.in_default.ensures c.code.ensures refl)
 
 pub returns-in_default-bring : goal.returns-in_default-bring
 returns-in_default-bring g c =
-    let told : Option Contents = g.H.Shelf.contents c.args.shelf.now in
-    let came = g.H.Src.Source.left c.in-Ok.riders in
-    let source = given_back (g.H.Src.Source.faults c.in-Ok.riders) came in
-    inr (inl (record {
-      status_is = c.code-in_default-bring.ensures;
-      told = c.give_back.ensures.contents_stay ∙ c.in_default-bring.ensures.contents_stay ∙ c.in-Ok.ensures.contents_stay;
-      asked = c.give_back.ensures.asked_stays ∙ c.in_default-bring.ensures.asked ∙ ap (λ l. l ++ string_bytes c.args.feeds.drivers ∷ []) c.in-Ok.ensures.asked
-          ∙ append_assoc (g.H.Shelf.asked c.args.shelf.now) (string_bytes c.args.feeds.riders ∷ []) (string_bytes c.args.feeds.drivers ∷ []);
-      brought = c.give_back.ensures.brought_stays ∙ c.in_default-bring.ensures.failed_counts_none ∙ c.in-Ok.ensures.counted;
-      source = source;
-      back = c.give_back.ensures.kept ∙ ap (λ l. l ++ source ∷ []) (c.in_default-bring.ensures.back_stays ∙ c.in-Ok.ensures.back_stays);
-      taken = [];
-      left = left-of-content told (string_bytes c.args.feeds.riders) came source [] c.in-Ok.ensures.bytes (left-of came source [] (Reads-none came));
-      rose = subst (λ (k : ℕ). Rose k (g.H.Shelf.faults c.give_back.new.self)) c.in-Ok.ensures.ok_counts_none
-          (Rose-then_kept _ _ _ c.in_default-bring.ensures.failed_only_at_fault c.give_back.ensures.count_never_falls);
-      untouched = refl;
-    }))
+    inr (inl (misses-second c.in-Ok.ensures c.in_default-bring.ensures c.give_back.ensures c.code-in_default-bring.ensures refl))
 
 pub returns : goal.returns
 returns g c =
     let ran = c.resume-ran.result in
-    let told : Option Contents = g.H.Shelf.contents c.args.shelf.now in
-    let riders = given_back (g.H.Src.Source.faults c.resume-ran.new.riders) (g.H.Src.Source.left c.resume-ran.new.riders) in
-    let drivers = given_back (g.H.Src.Source.faults c.resume-ran.new.drivers) (g.H.Src.Source.left c.resume-ran.new.drivers) in
+    let board = c.args.interrupted.board in
+    let told = g.H.Shelf.contents c.args.shelf.now in
     let first = feed_run g.H.Src.Source.left g.H.Src.Source.faults c.in-Ok.riders c.resume-ran.new.riders in
     let second = feed_run g.H.Src.Source.left g.H.Src.Source.faults c.in-Ok-bring.drivers c.resume-ran.new.drivers in
-    let answered = answered-of c.args.interrupted.board first second ran _ c.resume-ran.ensures.log in
-    let of_riders = riders-taken c.args.interrupted.board first second ran _ answered in
-    let of_drivers = drivers-taken c.args.interrupted.board first second ran _ answered in
-    let drivers_content : IsContentOf told (string_bytes c.args.feeds.drivers) (g.H.Src.Source.left c.in-Ok-bring.drivers) =
-    subst (λ (t : Option Contents). IsContentOf t (string_bytes c.args.feeds.drivers) (g.H.Src.Source.left c.in-Ok-bring.drivers)) c.in-Ok.ensures.contents_stay
-    c.in-Ok-bring.ensures.bytes in
+    let riders = given_back first.faults_after first.left in
+    let drivers = given_back second.faults_after second.left in
+    let answered = answered-of board first second ran _ c.resume-ran.ensures.log in
+    let of_riders = riders-taken board first second ran _ answered in
+    let of_drivers = drivers-taken board first second ran _ answered in
+    let counts = c.resume-ran.ensures.source_faults in
+    let is = c.status.ensures in
+    let riders_bytes = bytes-of told (string_bytes c.args.feeds.riders) first.bytes c.in-Ok.ensures.content in
+    let drivers_bytes = bytes-told c.in-Ok.ensures c.in-Ok-bring.ensures in
     inr (inr (record {
-      told = c.give_back-3.ensures.contents_stay ∙ c.give_back-2.ensures.contents_stay ∙ c.in-Ok-bring.ensures.contents_stay ∙ c.in-Ok.ensures.contents_stay;
-      asked = c.give_back-3.ensures.asked_stays ∙ c.give_back-2.ensures.asked_stays ∙ c.in-Ok-bring.ensures.asked
-          ∙ ap (λ l. l ++ string_bytes c.args.feeds.drivers ∷ []) c.in-Ok.ensures.asked
-          ∙ append_assoc (g.H.Shelf.asked c.args.shelf.now) (string_bytes c.args.feeds.riders ∷ []) (string_bytes c.args.feeds.drivers ∷ []);
-      brought = omega (arith, c.give_back-3.ensures.brought_stays, c.give_back-2.ensures.brought_stays, c.in-Ok-bring.ensures.counted, c.in-Ok.ensures.counted);
       first = first;
       second = second;
       first_source = riders;
       second_source = drivers;
-      back = c.give_back-3.ensures.kept ∙ ap (λ l. l ++ drivers ∷ []) (c.give_back-2.ensures.kept
-          ∙ ap (λ l. l ++ riders ∷ []) (c.in-Ok-bring.ensures.back_stays ∙ c.in-Ok.ensures.back_stays)) ∙ append_assoc (g.H.Shelf.back c.args.shelf.now) (riders ∷ []) (drivers ∷ []);
-      of_first = record {
-        bytes_are = bytes-of told (string_bytes c.args.feeds.riders) (g.H.Src.Source.left c.in-Ok.riders) c.in-Ok.ensures.bytes;
-        fresh = c.in-Ok.ensures.unharmed;
-        back = refl;
-      };
-      of_second = record {
-        bytes_are = bytes-of told (string_bytes c.args.feeds.drivers) (g.H.Src.Source.left c.in-Ok-bring.drivers) drivers_content;
-        fresh = c.in-Ok-bring.ensures.unharmed;
-        back = refl;
-      };
-      first_taken = of_riders.bytes;
-      first_left = left-of-content told (string_bytes c.args.feeds.riders) (g.H.Src.Source.left c.in-Ok.riders) riders of_riders.bytes c.in-Ok.ensures.bytes
-          (left-of (g.H.Src.Source.left c.in-Ok.riders) riders of_riders.bytes of_riders.reads);
-      second_taken = of_drivers.bytes;
-      second_left = left-of-content told (string_bytes c.args.feeds.drivers) (g.H.Src.Source.left c.in-Ok-bring.drivers) drivers of_drivers.bytes drivers_content
-          (left-of (g.H.Src.Source.left c.in-Ok-bring.drivers) drivers of_drivers.bytes of_drivers.reads);
+      adds = Adds-then (Adds-then (Adds-then c.in-Ok.ensures.adds c.in-Ok-bring.ensures.adds) c.give_back-2.ensures.adds) c.give_back-3.ensures.adds;
+      of_first = record { bytes_are = riders_bytes; fresh = c.in-Ok.ensures.fresh; back = refl };
+      of_second = record { bytes_are = drivers_bytes; fresh = c.in-Ok-bring.ensures.fresh; back = refl };
+      left = (
+        (of_riders.bytes, left-of (told_bytes told (string_bytes c.args.feeds.riders)) first.bytes riders of_riders.bytes riders_bytes of_riders.reads),
+        ((of_drivers.bytes, left-of (told_bytes told (string_bytes c.args.feeds.drivers)) second.bytes drivers of_drivers.bytes drivers_bytes of_drivers.reads), tt),
+      );
       goes_on = record {
         ran = ran;
-        status_is = c.status.ensures;
+        status_is = is;
         answered = answered;
-        riders_over = riders-over c.args.interrupted.board first second ran _ answered c.resume-ran.ensures.source_faults.riders_sound;
-        drivers_over = drivers-over c.args.interrupted.board first second ran _ answered c.resume-ran.ensures.source_faults.drivers_sound;
-        counts = c.resume-ran.ensures.source_faults;
+        riders_over = riders-over board first second ran _ answered counts.riders_sound;
+        drivers_over = drivers-over board first second ran _ answered counts.drivers_sound;
+        counts = counts;
       };
       first_spent = λ zero gives.
-          let whole = whole-status ran (sym c.status.ensures ∙ zero) in
-          record { no_fault = c.resume-ran.ensures.source_faults.riders_sound whole.read.0 ∙ c.in-Ok.ensures.unharmed; to_end = of_riders.to_end whole gives };
+          let whole = whole-status ran (sym is ∙ zero) in
+          record { no_fault = counts.riders_sound whole.read.0 ∙ c.in-Ok.ensures.fresh; to_end = of_riders.to_end whole gives };
       second_spent = λ zero gives.
-          let whole = whole-status ran (sym c.status.ensures ∙ zero) in
-          record { no_fault = c.resume-ran.ensures.source_faults.drivers_sound whole.read.0 ∙ c.in-Ok-bring.ensures.unharmed; to_end = of_drivers.to_end whole gives };
+          let whole = whole-status ran (sym is ∙ zero) in
+          record { no_fault = counts.drivers_sound whole.read.0 ∙ c.in-Ok-bring.ensures.fresh; to_end = of_drivers.to_end whole gives };
       shelf_sound = λ zero.
-          let whole = whole-status ran (sym c.status.ensures ∙ zero) in
-          c.give_back-3.ensures.sound_counts_none (c.resume-ran.ensures.source_faults.drivers_sound whole.read.0 ∙ c.in-Ok-bring.ensures.unharmed)
-          ∙ c.give_back-2.ensures.sound_counts_none (c.resume-ran.ensures.source_faults.riders_sound whole.read.0 ∙ c.in-Ok.ensures.unharmed)
-          ∙ c.in-Ok-bring.ensures.ok_counts_none ∙ c.in-Ok.ensures.ok_counts_none;
-      sink_sound = λ zero. c.resume-ran.ensures.sink_faults.stays (whole-status ran (sym c.status.ensures ∙ zero)).sink;
-      shelf_fault = λ five. subst (λ (k : ℕ). Rose k (g.H.Shelf.faults c.give_back-3.new.self)) (c.in-Ok-bring.ensures.ok_counts_none ∙ c.in-Ok.ensures.ok_counts_none)
-          (one-of-two
-          (λ rose. Rose-then_kept _ _ _ (c.give_back-2.ensures.fault_rises (rose-above _ _ c.in-Ok.ensures.unharmed rose)) c.give_back-3.ensures.count_never_falls)
-          (λ rose. Rose-after_kept _ _ _ c.give_back-2.ensures.count_never_falls
-          (c.give_back-3.ensures.fault_rises (rose-above _ _ c.in-Ok-bring.ensures.unharmed rose)) c.give_back-3.ensures.count_never_falls)
-          (c.resume-ran.ensures.source_faults.failed (source-status ran (sym c.status.ensures ∙ five))));
-      sink_fault = λ six. c.resume-ran.ensures.sink_faults.rose (sink-status ran (sym c.status.ensures ∙ six));
+          let whole = whole-status ran (sym is ∙ zero) in
+          c.give_back-3.ensures.sound (counts.drivers_sound whole.read.0 ∙ c.in-Ok-bring.ensures.fresh)
+          ∙ c.give_back-2.ensures.sound (counts.riders_sound whole.read.0 ∙ c.in-Ok.ensures.fresh)
+          ∙ c.in-Ok-bring.ensures.sound ∙ c.in-Ok.ensures.sound;
+      sink_sound = λ zero. c.resume-ran.ensures.sink_faults.stays (whole-status ran (sym is ∙ zero)).sink;
+      shelf_fault = λ five. subst (λ (k : ℕ). Rose k (g.H.Shelf.faults c.give_back-3.new.shelf)) (c.in-Ok-bring.ensures.sound ∙ c.in-Ok.ensures.sound)
+          (elim (counts.failed (source-status ran (sym is ∙ five))) [
+            | inl rose ↦ Rose-then_kept _ _ _ (c.give_back-2.ensures.rises (rose-above _ _ c.in-Ok.ensures.fresh rose)) c.give_back-3.ensures.never_falls
+            | inr rose ↦ Rose-after_kept _ _ _ c.give_back-2.ensures.never_falls
+                (c.give_back-3.ensures.rises (rose-above _ _ c.in-Ok-bring.ensures.fresh rose)) c.give_back-3.ensures.never_falls
+          ]);
+      sink_fault = λ six. c.resume-ran.ensures.sink_faults.rose (sink-status ran (sym is ∙ six));
     }))

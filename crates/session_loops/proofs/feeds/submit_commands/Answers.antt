@@ -1,5 +1,6 @@
 use Rattle.session_loops.proofs.Common.{ℕ, ◌++◌, ◌∷◌, [], List, Option, Some, None, refl, ap, sym, subst, ◌∙◌, arith, Command, Reads-then, KeepsCount-none, KeepsCount-then, FeedForm, IsWhole, IsStopped, Recorded, knowledge, Known, NoMemory, OfFeed}
-use Rattle.session_loops.proofs.FeedEnds.{answered-same, fault-stops, fed-more, few-more, fewer-left, nothing-fed, submitted}
+use Rattle.line_text.proofs.line_reader.FeedLines.{fault-stops}
+use Rattle.session_loops.proofs.FeedEnds.{answered-same, fed-more, few-more, fewer-left, nothing-fed, submitted}
 use Rattle.session_loops.proofs.FeedRuns.{fewer-first, given-first-of, stopped-first-of, whole-first-of}
 use Rattle.session_loops.proofs.MadeEntries.{root-added}
 use Rattle.session_loops.proofs.feeds.submit_commands.Goals as goal
@@ -106,4 +107,4 @@ returns-in-Ok-None-clause-faults g c = KeepsCount-then c.commands.invariant.faul
 pub returns-in-Err-clause-faults : goal.returns-in-Err-clause-faults
 returns-in-Err-clause-faults g c =
     KeepsCount-then c.commands.invariant.faults
-    (fault-stops c.in-Err.stop (g.S.Source.faults c.commands.source) (g.S.Source.faults c.next_command.new.source) c.in-Err.ensures.faults)
+    (fault-stops (Option Command) c.in-Err.stop (g.S.Source.faults c.commands.source) (g.S.Source.faults c.next_command.new.source) c.in-Err.ensures.faults)

@@ -2,7 +2,7 @@ use Rattle.session_run.proofs.Common.{◌≡◌, ℕ, ◌++◌, ◌∷◌, [], L
 use Rattle.command_lines.specs.declared.forms.FeedForm.{FeedForm}
 use Rattle.command_lines.specs.Feeds.{IsWhole}
 use Rattle.command_lines.proofs.ReaderLemmas.{given-few}
-use Rattle.session_loops.proofs.FeedEnds.{fault-stops}
+use Rattle.line_text.proofs.line_reader.FeedLines.{fault-stops}
 use Rattle.session_loops.proofs.FeedRuns.{fewer-first, given-first-of, stopped-first-of, whole-first-of}
 use Rattle.session_run.proofs.Answering.{stops-first}
 use Rattle.session_run.proofs.one_feed.run_feed.Goals as goal
@@ -120,4 +120,4 @@ returns-in-Ok-None-clause-faults g c = KeepsCount-then c.commands.invariant.faul
 pub returns-in-Err-clause-faults : goal.returns-in-Err-clause-faults
 returns-in-Err-clause-faults g c =
     KeepsCount-then c.commands.invariant.faults
-    (fault-stops c.in-Err.stop (g.S.Source.faults c.commands.feed) (g.S.Source.faults c.next_command.new.source) c.in-Err.ensures.faults)
+    (fault-stops (Option Command) c.in-Err.stop (g.S.Source.faults c.commands.feed) (g.S.Source.faults c.next_command.new.source) c.in-Err.ensures.faults)

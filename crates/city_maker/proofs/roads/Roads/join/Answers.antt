@@ -1,5 +1,5 @@
-use Rattle.city_maker.proofs.Common.{length, ap, ◌∙◌, ◌++◌, ◌∷◌, [], ◌+◌, arc}
-use Rattle.city_maker.proofs.ArcLemmas.{joined-more}
+use Rattle.city_maker.proofs.Common.{length, ap, ◌∙◌, ◌++◌, ◌∷◌, [], ◌+◌}
+use Rattle.city_maker.proofs.ArcLemmas.{arc, joined-more}
 use Rattle.city_maker.proofs.roads.Roads.join.Goals as goal
 
 pub returns : goal.returns

@@ -1,10 +1,10 @@
-use Rattle.city_maker.proofs.Common.{ap, sym, ◌∙◌, ◌++◌, append_assoc, append-nil, pairs_at, pairs_in_row}
-use Rattle.city_maker.proofs.ArcLemmas.{joined-same, pairs_in_row-none, pairs_in_row-more}
+use Rattle.city_maker.proofs.Common.{ap, sym, ◌∙◌, ◌++◌, append_assoc, append-nil, pairs_at}
+use Rattle.city_maker.proofs.ArcLemmas.{joined-same, pairs_in_row, pairs_in_row-more}
 use Rattle.city_maker.proofs.roads.Roads.join_row.Goals as goal
 
 pub loop-column-init : goal.loop-column-init
 loop-column-init c = λ seed pairs joined.
-    joined-same seed _ _ _ (sym (ap (λ more. pairs ++ more) (pairs_in_row-none c.args.side c.args.row) ∙ append-nil pairs)) joined
+    joined-same seed _ _ _ (sym (append-nil pairs)) joined
 
 pub loop-column-preserved : goal.loop-column-preserved
 loop-column-preserved c = λ seed pairs joined.

@@ -1,4 +1,5 @@
-use Rattle.city_maker.proofs.Common.{ℕ, List, ◌++◌, HasJoined, pairs_in_row}
+use Rattle.city_maker.proofs.Common.{ℕ, List, ◌++◌, HasJoined}
+use Rattle.city_maker.proofs.ArcLemmas.{pairs_in_row}
 use Rattle.city_maker.proofs.roads.Roads.join_row.Given as goal
 
 abbrev pub invariant-loop-column : goal.invariant-loop-column

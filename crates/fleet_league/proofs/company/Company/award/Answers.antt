@@ -43,7 +43,7 @@ award_priced-requires-clause-may g c =
     ] in
     let at : settled_at (state_of board).clock (state_of board).vehicles c.args.quote.now ≡ Confirmed
     = (λ i. settled_at (sym c.now.ensures i) (sym c.vehicles.ensures i) c.args.quote.now) ∙ sym c.settled_at-settled.ensures ∙ settled in
-    let inside : CompanyState = record { board = board; is_open = c.self.inside.open } in (
+    let inside : CompanyState = record { board = board; is_open = c.self.inside.is_open } in (
       won_rides brief.wins,
       subst (λ (s : CompanyState). MayWin s (won_rides brief.wins) brief) c.self.view_is
           (may-win inside c.args.quote.now brief (subst (λ (s : CompanyState). IsTrue s.is_open) back c.requires.is_open) may

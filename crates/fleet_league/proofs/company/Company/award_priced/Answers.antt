@@ -4,7 +4,7 @@ use Rattle.fleet_league.proofs.company.Company.award_priced.Goals as goal
 
 pub confirm-requires-clause-may : goal.confirm-requires-clause-may
 confirm-requires-clause-may c =
-    let inside : CompanyState = record { board = c.self.inside.board; is_open = c.self.inside.open } in
+    let inside : CompanyState = record { board = c.self.inside.board; is_open = c.self.inside.is_open } in
     let (rides, may) = c.requires.may in
     may-confirm c.self.inside.settings inside rides c.args.brief.now c.self.invariant
     (record { begins = c.entries-history.ensures.start; legal = c.entries-history.ensures.legal })

@@ -15,7 +15,7 @@ apply-requires-clause-few c =
 pub invariant_of-self : goal.invariant_of-self
 invariant_of-self c =
     let board : Recorded = c.self.inside.board in
-    company-reported c.self.inside.settings board c.apply.new.self c.self.inside.open c.args.command.now c.apply.result
+    company-reported c.self.inside.settings board c.apply.new.self c.self.inside.is_open c.args.command.now c.apply.result
     c.self.invariant c.requires.a_report
     (subst (λ (s : CompanyState). report_count s.board.history < most_reports) (sym c.self.view_is) c.requires.few)
     c.apply.ensures.others c.apply.ensures.entry c.apply.ensures.no_memory

@@ -1,6 +1,7 @@
 use Rattle.fleet_league.proofs.Common.{◌++◌, ◌∷◌, [], List, ℕ, Ok, Err, refl, sym, ap, subst, ◌∙◌, KeepsCount-none, KeepsCount-then, ended_lines, between-none, follows, run-sink_failed, feed_limits, league_of, HasTold}
+use Rattle.line_text.specs.declared.line_reader.answers.NextLine.{NextLine}
 use Rattle.line_text.specs.declared.line_reader.answers.NextLine.TheVariants.{Line, Unfinished, End}
-use Rattle.fleet_league.proofs.league_session.LeagueEnds.{fault-stops}
+use Rattle.line_text.proofs.line_reader.FeedLines.{fault-stops}
 use Rattle.fleet_league.proofs.league_session.TextRuns.{scribe-same, told-nothing, told-written}
 use Rattle.fleet_league.proofs.league_session.session.take_lines.Goals as goal
 
@@ -172,4 +173,4 @@ returns-in-Ok-End-clause-faults g c = KeepsCount-then c.lines.invariant.faults c
 pub returns-in-Err-clause-faults : goal.returns-in-Err-clause-faults
 returns-in-Err-clause-faults g c =
     KeepsCount-then c.lines.invariant.faults
-    (fault-stops c.in-Err.stop (g.S.Source.faults c.lines.feed) (g.S.Source.faults c.next.new.source) c.in-Err.ensures.faults)
+    (fault-stops NextLine c.in-Err.stop (g.S.Source.faults c.lines.feed) (g.S.Source.faults c.next.new.source) c.in-Err.ensures.faults)

@@ -22,10 +22,10 @@ at-start c =
     c.in_ok-desk.ensures.fits (c.in_ok-desk.ensures.start ∙ sym (ap (λ (s : LeagueState). s.desk) c.outset.view_is)) c.in_ok-desk.ensures.history
     (ap (λ (m : CompanyState). m.board.start) c.in_ok-first.ensures ∙ c.in_ok-new.ensures.start)
     (ap (λ (m : CompanyState). m.board.history) c.in_ok-first.ensures ∙ c.in_ok-new.ensures.history)
-    (ap (λ (m : CompanyState). m.is_open) c.in_ok-first.ensures ∙ c.in_ok-new.ensures.open)
+    (ap (λ (m : CompanyState). m.is_open) c.in_ok-first.ensures ∙ c.in_ok-new.ensures.is_open)
     (ap (λ (m : CompanyState). m.board.start) c.in_ok-second.ensures ∙ c.in_ok-new-2.ensures.start)
     (ap (λ (m : CompanyState). m.board.history) c.in_ok-second.ensures ∙ c.in_ok-new-2.ensures.history)
-    (ap (λ (m : CompanyState). m.is_open) c.in_ok-second.ensures ∙ c.in_ok-new-2.ensures.open) in
+    (ap (λ (m : CompanyState). m.is_open) c.in_ok-second.ensures ∙ c.in_ok-new-2.ensures.is_open) in
     (start ∙ c.outset.view_is, fits)
 
 pub returns-clause-start : goal.returns-clause-start

@@ -1,5 +1,5 @@
 use Rattle.gr_reader.proofs.ReadLemmas.{taken-line}
-use Rattle.gr_reader.proofs.lines.MapLinesLineReader.line.Goals as goal
+use Rattle.gr_reader.proofs.lines.MapLinesLineParser.line.Goals as goal
 
 pub returns : goal.returns
 returns c first lines whole taken counted shown over =

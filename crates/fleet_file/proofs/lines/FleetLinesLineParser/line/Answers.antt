@@ -1,5 +1,5 @@
 use Rattle.fleet_file.proofs.ReadLemmas.{taken-line}
-use Rattle.fleet_file.proofs.lines.FleetLinesLineReader.line.Goals as goal
+use Rattle.fleet_file.proofs.lines.FleetLinesLineParser.line.Goals as goal
 
 pub words-requires : goal.words-requires
 words-requires c = let (first, lines, taken) = c.requires in taken.within

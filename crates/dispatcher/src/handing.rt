@@ -1,0 +1,35 @@
+//! Sources that a shelf brings by their names, and takes back.
+ghost use Rattle.std.specs.Prelude.{◌<◌, length, string_bytes, MatchResult};
+ghost use Rattle.ride_ports.specs.Contents.{given_back};
+ghost use Rattle.dispatcher.specs.Shelves.{shelved};
+ghost use Rattle.dispatcher.specs.inner.Handing.{Brings, Misses, TakesBack};
+
+use crate::stop::Stop;
+use ride_ports::{Shelf, Source};
+
+/// Brings the source of a name.
+pub fn bring<H: Shelf>(shelf: &mut H, name: String) -> Result<H::Src, Stop>
+    requires { length (H.asked shelf.old) < 8 }
+    ensures { MatchResult result
+        (λ source. Brings (string_bytes name) (H.Src.left source) (H.Src.faults source)
+        (shelved H.contents H.asked H.brought H.back H.faults shelf.old)
+        (shelved H.contents H.asked H.brought H.back H.faults shelf.new))
+        (λ _. Misses (string_bytes name)
+        (shelved H.contents H.asked H.brought H.back H.faults shelf.old)
+        (shelved H.contents H.asked H.brought H.back H.faults shelf.new)) }
+{
+    match shelf.bring(name) {
+        Ok(source) => Ok(source),
+        Err(_) => Err(Stop::ShelfFault),
+    }
+}
+
+/// Gives a source back.
+pub fn give_back<H: Shelf>(shelf: &mut H, source: H::Src)
+    requires { length (H.back shelf.old) < 8 }
+    ensures { TakesBack (given_back (H.Src.faults source) (H.Src.left source))
+        (shelved H.contents H.asked H.brought H.back H.faults shelf.old)
+        (shelved H.contents H.asked H.brought H.back H.faults shelf.new) }
+{
+    shelf.give_back(source);
+}
