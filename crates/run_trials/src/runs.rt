@@ -3,16 +3,34 @@ ghost use Rattle.std.specs.Prelude.{◌≡◌};
 ghost use Rattle.ride_ports.specs.inner.Calls.{ArePieces};
 ghost use Rattle.ride_ports.specs.inner.MemFile.{HaveDistinctNames, HavePieces};
 
-/// A file that one read gives whole, or that is given by reads of these lengths, of which some fail.
+/// A file that one read gives whole, or of which each read gives so many bytes, or of which a read fails.
 macro_rules! text {
     ($text:expr) => {
-        text!($text, &[], &[])
-    };
-    ($text:expr, $pieces:expr, $failing:expr) => {
         $crate::runs::File {
             text: $text,
-            pieces: $pieces,
-            failing: $failing,
+            by: None,
+            fails: None,
+        }
+    };
+    ($text:expr, by: $bytes:expr) => {
+        $crate::runs::File {
+            text: $text,
+            by: Some($bytes),
+            fails: None,
+        }
+    };
+    ($text:expr, fails: $read:expr) => {
+        $crate::runs::File {
+            text: $text,
+            by: None,
+            fails: Some($read),
+        }
+    };
+    ($text:expr, by: $bytes:expr, fails: $read:expr) => {
+        $crate::runs::File {
+            text: $text,
+            by: Some($bytes),
+            fails: Some($read),
         }
     };
 }
@@ -41,6 +59,7 @@ use gates::{Gated, Meeting, Watched};
 use resumption::resume;
 use ride_ports::{Gate, MemFile, MemShelf, MemSink, Sink};
 use std::process::Abort;
+use std::slice;
 use std::sync::Wait;
 use std::thread::Threads;
 use texts::is_like;
@@ -76,19 +95,18 @@ const REPLAY: &str = "replay --map m --fleet f --feed r";
 
 const AUDIT: &str = "audit --map m --fleet f --log l";
 
-/// The lengths of the pieces in which files are read: one, two or seven bytes, or all at once.
-const PIECES: [&[usize]; 4] = [&[1], &[2], &[7], &[]];
+/// How files are read: by one, two or seven bytes, or all at once.
+const WAYS: [Option<usize>; 4] = [Some(1), Some(2), Some(7), None];
 
 /// More bytes than each log here has.
 const ROOM: usize = 6_000_000;
 
-/// A file: its text, the lengths of the pieces in which reads give it, of which the last one holds on, and the numbers of the reads
-/// that fail.
+/// A file: its text, how many bytes each read gives, if that is not all at once, and the number of the read that fails, if one does.
 #[derive(Clone, Copy)]
 struct File<'a> {
     text: &'a str,
-    pieces: &'a [usize],
-    failing: &'a [u64],
+    by: Option<usize>,
+    fails: Option<u64>,
 }
 
 /// The files of a run under the names `m`, `f`, `r`, `d` and `l`, how many bytes its sink takes before it fails, the lengths of the
@@ -119,6 +137,16 @@ const WORKED: Setup<'static> = Setup {
     refuses: &[],
     meetings: &[],
 };
+
+// These files, where each read of the map, the fleet file and the feed gives so many bytes.
+fn read_by<'a>(files: Setup<'a>, by: Option<usize>) -> Setup<'a> {
+    Setup {
+        map: File { by, ..files.map },
+        fleet: File { by, ..files.fleet },
+        feed: File { by, ..files.feed },
+        ..files
+    }
+}
 
 /// How a run ends: its status, how many faults its shelf counts, and what it writes, in which each `*` is any part of a line.
 #[derive(Clone, Copy)]
@@ -158,17 +186,33 @@ impl<'a> Answer<'a> {
     }
 }
 
-// What a run over these files answers, which ends so.
-fn expect<'a, R: Abort + Threads + Wait + Sync + AllocGlobal>(
+// Asserts how a run over these files ends.
+fn expect<R: Abort + Threads + Wait + Sync + AllocGlobal>(
     rt: &R,
     shows: &str,
     words: &str,
-    files: Setup<'a>,
+    files: Setup<'_>,
     end: End<'_>,
-) -> Answer<'a> {
+) {
     let answer = answer_to(rt, words, files);
+    expect_end(rt, shows, words, &answer, end);
+}
+
+// Asserts how a run over these files ends, however the map, the fleet file and the feed are read.
+fn expect_however_read<R: Abort + Threads + Wait + Sync + AllocGlobal>(
+    rt: &R,
+    shows: &str,
+    words: &str,
+    files: Setup<'_>,
+    end: End<'_>,
+) {
+    for by in WAYS {
+        expect(rt, shows, words, read_by(files, by), end);
+    }
+}
+
+fn expect_end(rt: &impl Abort, shows: &str, words: &str, answer: &Answer<'_>, end: End<'_>) {
     assert!(rt; answer.is(end), "{shows}: {words}: {}", answer.text());
-    answer
 }
 
 // Asserts what an audit says of a log over a map and a fleet.
@@ -176,11 +220,11 @@ fn expect_audit<R: Abort + Threads + Wait + Sync + AllocGlobal>(
     rt: &R,
     shows: &str,
     files: Setup<'_>,
-    log: Answer<'_>,
+    log: &str,
     line: &str,
 ) {
     let files = Setup {
-        log: text!(log.text()),
+        log: text!(log),
         ..files
     };
     let end = End {
@@ -211,6 +255,22 @@ fn answer_to<'a, R: Abort + Threads + Wait + Sync + AllocGlobal>(
     }
 }
 
+// The lengths of the pieces of a file of which each read gives so many bytes.
+fn pieces_of(by: &Option<usize>) -> &[usize] {
+    match by {
+        Some(bytes) => slice::from_ref(bytes),
+        None => &[],
+    }
+}
+
+// The numbers of the reads of a file that fail.
+fn failing_of(fails: &Option<u64>) -> &[u64] {
+    match fails {
+        Some(read) => slice::from_ref(read),
+        None => &[],
+    }
+}
+
 // No piece is empty.
 fn expect_pieces(rt: &impl Abort, pieces: &[usize])
     ensures { ArePieces pieces.now }
@@ -219,29 +279,30 @@ fn expect_pieces(rt: &impl Abort, pieces: &[usize])
 }
 
 // The files of a run.
-fn files_of<'a>(rt: &impl Abort, setup: Setup<'a>) -> [MemFile<'a>; 5]
+fn files_of<'a>(rt: &impl Abort, setup: &'a Setup<'a>) -> [MemFile<'a>; 5]
     ensures names { HaveDistinctNames result }
     ensures pieces { HavePieces result }
 {
     [
-        file_of(rt, "m", setup.map),
-        file_of(rt, "f", setup.fleet),
-        file_of(rt, "r", setup.feed),
-        file_of(rt, "d", setup.drivers),
-        file_of(rt, "l", setup.log),
+        file_of(rt, "m", &setup.map),
+        file_of(rt, "f", &setup.fleet),
+        file_of(rt, "r", &setup.feed),
+        file_of(rt, "d", &setup.drivers),
+        file_of(rt, "l", &setup.log),
     ]
 }
 
-fn file_of<'a>(rt: &impl Abort, name: &'a str, file: File<'a>) -> MemFile<'a>
+fn file_of<'a>(rt: &impl Abort, name: &'a str, file: &'a File<'a>) -> MemFile<'a>
     ensures name { result.name.now ≡ name.now }
     ensures pieces { ArePieces result.pieces.now }
 {
-    expect_pieces(rt, file.pieces);
+    let pieces = pieces_of(&file.by);
+    expect_pieces(rt, pieces);
     MemFile {
         name,
         bytes: file.text.as_bytes(),
-        pieces: file.pieces,
-        failing: file.failing,
+        pieces,
+        failing: failing_of(&file.fails),
     }
 }
 
@@ -254,7 +315,7 @@ fn run_over<R: Abort + Threads + Wait + Sync + AllocGlobal, K: Sink, G: Gate>(
     gate: &G,
 ) -> (u8, u64) {
     let words = words_of(rt, words);
-    let files = files_of(rt, setup);
+    let files = files_of(rt, &setup);
     let mut shelf = MemShelf::new(rt.alloc(), &files, &[]);
     let status = if words
         .first()

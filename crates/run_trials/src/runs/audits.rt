@@ -263,8 +263,8 @@ d1 open 1 at 0 requests 7 plans 1@0\n\
 d1 commit 1 cost 180 seats 7:1:0:0 prices 7:181 pays outcomes 7:confirmed\n\
 f1 end\n\
 d1 end\n",
-            &[188],
-            &[2]
+            by: 188,
+            fails: 2
         ),
         status: 7,
         written: "no 5 prices\n",
@@ -273,7 +273,7 @@ d1 end\n",
     // The first read gives four lines, which are right.
     Case {
         shows: "a fault behind right lines",
-        log: text!(LOG, &[114], &[2]),
+        log: text!(LOG, by: 114, fails: 2),
         status: 5,
         faults: 1,
         ..AUDITED

@@ -1,6 +1,6 @@
 //! Feeds of bookings, and the plain feeds that they give.
 use super::cases::{Case, REPLAYED, expect_all};
-use super::{Answer, DEFAULTS, REPLAY, Setup, WORKED, answer_to, expect_audit};
+use super::{DEFAULTS, REPLAY, Setup, WORKED, answer_to, expect_audit};
 use std::process::Abort;
 use std::sync::Wait;
 use std::thread::Threads;
@@ -42,7 +42,7 @@ static RELEASES: [Case; 4] = [
     },
     Case {
         shows: "the same in pieces",
-        feed: text!(EVENING, &[7], &[]),
+        feed: text!(EVENING, by: 7),
         written: RELEASED,
         ..BOOKED
     },
@@ -90,7 +90,7 @@ static FAULTS: [Case; 3] = [
     },
     Case {
         shows: "a feed whose second read fails in the middle of a line",
-        feed: text!("clock 1\nclock 2\n", &[10], &[2]),
+        feed: text!("clock 1\nclock 2\n", by: 10, fails: 2),
         status: 5,
         faults: 1,
         written: "clock 1\n",
@@ -134,18 +134,19 @@ fn bookings_have_their_feeds_which_are_replayed(rt: HostRuntime) {
         feed: text!(EVENING),
         ..WORKED
     };
-    expect_replayed(&rt, answer_to(&rt, BOOK, evening));
+    let booked = answer_to(&rt, BOOK, evening);
+    expect_replayed(&rt, booked.text());
 }
 
 // The feed that the bookings give is replayed: one request is seated, and one is turned away.
-fn expect_replayed<R: Abort + Threads + Wait + Sync + AllocGlobal>(rt: &R, booked: Answer<'_>) {
+fn expect_replayed<R: Abort + Threads + Wait + Sync + AllocGlobal>(rt: &R, booked: &str) {
     let files = Setup {
         fleet: text!(DEFAULTS),
-        feed: text!(booked.text()),
+        feed: text!(booked),
         ..WORKED
     };
     let log = answer_to(rt, REPLAY, files);
     assert!(rt; log.status == 0);
     let line = "yes entries 9 confirmed 1 away 1 picked 0 dropped 0 finished yes\n";
-    expect_audit(rt, "the feed of bookings", files, log, line);
+    expect_audit(rt, "the feed of bookings", files, log.text(), line);
 }

@@ -93,7 +93,7 @@ fn expect_yes_to<'a, R: Abort + Threads + Wait + Sync + AllocGlobal>(
     assert!(rt; log.ends(0, 0), "{shows}: {}", log.text());
     expect_in_order(rt, shows, "f1", riders, log.text());
     expect_in_order(rt, shows, "f2", drivers, log.text());
-    expect_audit(rt, shows, files, log, "*finished yes\n");
+    expect_audit(rt, shows, files, log.text(), "*finished yes\n");
 }
 
 // Asserts that the lines of a feed in a log are answers to its lines, in order, and then its end.
@@ -116,8 +116,12 @@ fn answers_of(rt: &(impl Abort + AllocGlobal), actor: &str, feed: &str) -> Strin
     let mut answers = String::new(rt.alloc());
     for line in feed.lines() {
         let told = if line == "no command" { "bad " } else { line };
-        write!(answers, "{actor} {told}*\n").expect(rt, "there is memory");
+        push_answer(rt, &mut answers, actor, told, "*\n");
     }
-    write!(answers, "{actor} end\n").expect(rt, "there is memory");
+    push_answer(rt, &mut answers, actor, "end", "\n");
     answers
+}
+
+fn push_answer(rt: &impl Abort, answers: &mut String, actor: &str, told: &str, rest: &str) {
+    write!(answers, "{actor} {told}{rest}").expect(rt, "there is memory");
 }

@@ -1,6 +1,7 @@
 //! Drills: their lines, and the ranges of their options.
-use super::faults::expect_refused;
+use super::faults::expect_each_refused;
 use super::{Answer, End, Setup, WORKED, answer_to, expect};
+use std::process::Abort;
 
 /// A drill needs no files.
 const NO_FILES: Setup<'static> = Setup {
@@ -35,18 +36,19 @@ static DRILLS: [(&str, &str); 5] = [
     ),
 ];
 
-/// Words of drills that are not in order.
-static REFUSED: [&str; 6] = [
-    "drill --seed 1 --side 1 --vehicles 1 --requests 1",
-    "drill --seed 1 --side 101 --vehicles 1 --requests 1",
-    "drill --seed 1 --side 2 --vehicles 1001 --requests 1",
-    "drill --seed 1 --side 2 --vehicles 1 --requests 16001",
-    "drill --seed 2147483648 --side 2 --vehicles 1 --requests 1",
-    "drill --seed 1 --side two --vehicles 1 --requests 1",
-];
+/// Words of drills that are not in order, line by line.
+const REFUSED: &str = "drill --seed 1 --side 1 --vehicles 1 --requests 1\n\
+drill --seed 1 --side 101 --vehicles 1 --requests 1\n\
+drill --seed 1 --side 2 --vehicles 1001 --requests 1\n\
+drill --seed 1 --side 2 --vehicles 1 --requests 16001\n\
+drill --seed 2147483648 --side 2 --vehicles 1 --requests 1\n\
+drill --seed 1 --side two --vehicles 1 --requests 1\n";
 
 /// A drill of a city.
 const CITY: &str = "drill --side 40 --vehicles 50 --requests 400 --seed 1";
+
+/// How its line begins.
+const CITY_LINE: &str = "drill nodes 1600 arcs 6240 vehicles 50 requests 400 batches 50 ";
 
 #[test]
 fn drills_have_their_lines(rt: HostRuntime) {
@@ -58,40 +60,36 @@ fn drills_have_their_lines(rt: HostRuntime) {
         };
         expect(&rt, "a drill", words, NO_FILES, end);
     }
-    for words in REFUSED.as_slice() {
-        expect_refused(&rt, words);
-    }
+    expect_each_refused(&rt, REFUSED);
 }
 
 #[test]
 fn a_drill_of_a_city_is_the_same_each_time(rt: HostRuntime) {
     let first = answer_to(&rt, CITY, WORKED);
     let second = answer_to(&rt, CITY, WORKED);
-    assert!(rt; are_same(first, second));
+    assert!(rt; are_same(&rt, &first, &second));
 }
 
 // Whether two drills of the city ended well, with one line, whose numbers add up.
-fn are_same(first: Answer<'_>, second: Answer<'_>) -> bool {
-    first.status == 0 && first.text() == second.text() && adds_up(first.text())
+fn are_same(rt: &(impl Abort + AllocGlobal), first: &Answer<'_>, second: &Answer<'_>) -> bool {
+    first.status == 0 && first.text() == second.text() && adds_up(rt, first.text())
 }
 
-// Whether all requests of the city were confirmed or turned away, and all that were confirmed were dropped.
-fn adds_up(line: &str) -> bool {
-    let Some((confirmed, away, dropped)) = counts_of(line) else {
-        return false;
-    };
-    dropped == confirmed && sum_of(confirmed, away) == Some(400)
+// Whether a line says that all requests of the city were confirmed or turned away, and that all that were confirmed were dropped.
+fn adds_up(rt: &(impl Abort + AllocGlobal), line: &str) -> bool {
+    // More than all are not these, and make another line.
+    let confirmed = confirmed_in(line).unwrap_or(0).min(400);
+    let away = 400u32.saturating_sub(confirmed);
+    let wanted = format!(in rt.alloc();
+        "{CITY_LINE}confirmed {confirmed} away {away} dropped {confirmed}\n"
+    );
+    let wanted = wanted.expect(rt, "there is memory");
+    line == wanted.as_str()
 }
 
-// How many requests of the city were confirmed, turned away and dropped.
-fn counts_of(line: &str) -> Option<(&str, &str, &str)> {
-    let start = "drill nodes 1600 arcs 6240 vehicles 50 requests 400 batches 50 confirmed ";
-    let (confirmed, rest) = line.strip_prefix(start)?.split_once(" away ")?;
-    let (away, dropped) = rest.split_once(" dropped ")?;
-    Some((confirmed, away, dropped.strip_suffix('\n')?))
-}
-
-fn sum_of(confirmed: &str, away: &str) -> Option<u32> {
-    let confirmed = confirmed.parse::<u32>().ok()?;
-    confirmed.checked_add(away.parse::<u32>().ok()?)
+// How many requests a drill's line says that were confirmed.
+fn confirmed_in(line: &str) -> Option<u32> {
+    let (_, rest) = line.split_once(" confirmed ")?;
+    let (confirmed, _) = rest.split_once(' ')?;
+    confirmed.parse::<u32>().ok()
 }

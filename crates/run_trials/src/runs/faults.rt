@@ -1,6 +1,6 @@
 //! Words that are not in order, files that are missing, faults with the text before them, and files beyond their limits.
 use super::cases::{Case, REPLAYED, expect_all};
-use super::{End, FEED, LINE, LOG, ONE_BY_ONE, PIECES, ROOM, Setup, WORKED, expect};
+use super::{End, FEED, LOG, ONE_BY_ONE, ROOM, Setup, WORKED, expect, expect_however_read};
 use std::process::Abort;
 use std::sync::Wait;
 use std::thread::Threads;
@@ -48,8 +48,7 @@ a 2 3 60\n\
 a 3 2 60\n\
 a 3 4 60\n\
 a 4 5 60\n",
-            &[],
-            &[2]
+            fails: 2
         ),
         status: 3,
         written: "map refused 4 line 7\n",
@@ -65,8 +64,8 @@ a 2 3 60\n\
 a 3 2 60\n\
 a 3 4 60\n\
 a 4 5 60\n",
-            &[7],
-            &[10]
+            by: 7,
+            fails: 10
         ),
         status: 3,
         written: "map refused 4 line 7\n",
@@ -93,7 +92,7 @@ a 4 5 60\n",
 static CUT: [Case; 3] = [
     Case {
         shows: "a feed whose first read fails is cut",
-        feed: text!(FEED, &[24], &[1]),
+        feed: text!(FEED, by: 24, fails: 1),
         status: 5,
         faults: 1,
         written: "log 1 feeds 1 desks 1\n\
@@ -103,7 +102,7 @@ d1 end\n",
     },
     Case {
         shows: "a feed whose second read fails is cut behind its first line",
-        feed: text!(FEED, &[24], &[2]),
+        feed: text!(FEED, by: 24, fails: 2),
         status: 5,
         faults: 1,
         written: "log 1 feeds 1 desks 1\n\
@@ -114,7 +113,7 @@ d1 end\n",
     },
     Case {
         shows: "a fault of the sink comes before one of the feed",
-        feed: text!(FEED, &[24], &[2]),
+        feed: text!(FEED, by: 24, fails: 2),
         room: 10,
         status: 6,
         faults: 1,
@@ -152,30 +151,28 @@ d1 end\n",
     },
 ];
 
-/// Words that are not in order.
-static REFUSED: [&str; 21] = [
-    "",
-    "plan",
-    "--help",
-    "replay --help",
-    "replay --version",
-    "replay help",
-    "replay --map m --fleet f",
-    "replay --map m --fleet f --feed",
-    "replay --map m --map m --fleet f --feed r",
-    "replay --map m --fleet f --feed r more",
-    "replay --map m --fleet f --log l",
-    "audit --map m --fleet f --feed r",
-    "serve --map m --fleet f --riders r --drivers d --workers 0 --desks 1",
-    "serve --map m --fleet f --riders r --drivers d --workers 17 --desks 1",
-    "serve --map m --fleet f --riders r --drivers d --workers 1 --desks 0",
-    "serve --map m --fleet f --riders r --drivers d --workers 1 --desks 3",
-    "serve --map m --fleet f --riders r --drivers d --workers one --desks 1",
-    "ahead --map m --fleet f --feed r --reach 0",
-    "ahead --map m --fleet f --feed r --reach 1000001",
-    "ahead --map m --fleet f --feed r --reach x",
-    "ahead --map m --fleet f --feed r",
-];
+/// Words that are not in order, line by line.
+const REFUSED: &str = "\n\
+plan\n\
+--help\n\
+replay --help\n\
+replay --version\n\
+replay help\n\
+replay --map m --fleet f\n\
+replay --map m --fleet f --feed\n\
+replay --map m --map m --fleet f --feed r\n\
+replay --map m --fleet f --feed r more\n\
+replay --map m --fleet f --log l\n\
+audit --map m --fleet f --feed r\n\
+serve --map m --fleet f --riders r --drivers d --workers 0 --desks 1\n\
+serve --map m --fleet f --riders r --drivers d --workers 17 --desks 1\n\
+serve --map m --fleet f --riders r --drivers d --workers 1 --desks 0\n\
+serve --map m --fleet f --riders r --drivers d --workers 1 --desks 3\n\
+serve --map m --fleet f --riders r --drivers d --workers one --desks 1\n\
+ahead --map m --fleet f --feed r --reach 0\n\
+ahead --map m --fleet f --feed r --reach 1000001\n\
+ahead --map m --fleet f --feed r --reach x\n\
+ahead --map m --fleet f --feed r\n";
 
 /// Words that are in order, whatever the order of their options.
 static IN_ORDER: [&str; 4] = [
@@ -187,43 +184,51 @@ static IN_ORDER: [&str; 4] = [
 
 #[test]
 fn words_are_in_order_or_refused(rt: HostRuntime) {
-    for words in REFUSED.as_slice() {
-        expect_refused(&rt, words);
-    }
+    expect_each_refused(&rt, REFUSED);
     for words in IN_ORDER.as_slice() {
         expect_replayed(&rt, words);
     }
 }
 
-/// Asserts that words are refused, by a line of which a sink takes what it has room for.
-pub(super) fn expect_refused<R: Abort + Threads + Wait + Sync + AllocGlobal>(rt: &R, words: &str) {
-    for (room, written) in [(ROOM, "words refused\n"), (7, "words r")] {
-        let end = End {
-            status: 2,
-            faults: 0,
-            written,
-        };
-        let files = Setup { room, ..WORKED };
-        expect(rt, "words that are not in order", words, files, end);
+/// Asserts that the words of each of these lines are refused.
+pub(super) fn expect_each_refused<R: Abort + Threads + Wait + Sync + AllocGlobal>(
+    rt: &R,
+    lines: &str,
+) {
+    for words in lines.lines() {
+        expect_refused(rt, words);
     }
+}
+
+// Asserts that words are refused, by a line of which a sink takes what it has room for.
+fn expect_refused<R: Abort + Threads + Wait + Sync + AllocGlobal>(rt: &R, words: &str) {
+    expect_refusal(rt, words, ROOM, "words refused\n");
+    expect_refusal(rt, words, 7, "words r");
+}
+
+fn expect_refusal<R: Abort + Threads + Wait + Sync + AllocGlobal>(
+    rt: &R,
+    words: &str,
+    room: usize,
+    written: &str,
+) {
+    let files = Setup { room, ..WORKED };
+    let end = End {
+        status: 2,
+        faults: 0,
+        written,
+    };
+    expect(rt, "words that are not in order", words, files, end);
 }
 
 // Asserts that words give the worked request's log, whatever the pieces in which the files are read.
 fn expect_replayed<R: Abort + Threads + Wait + Sync + AllocGlobal>(rt: &R, words: &str) {
-    for pieces in PIECES {
-        let files = Setup {
-            map: text!(LINE, pieces, &[]),
-            fleet: text!(ONE_BY_ONE, pieces, &[]),
-            feed: text!(FEED, pieces, &[]),
-            ..WORKED
-        };
-        let end = End {
-            status: 0,
-            faults: 0,
-            written: LOG,
-        };
-        expect(rt, "words that are in order", words, files, end);
-    }
+    let end = End {
+        status: 0,
+        faults: 0,
+        written: LOG,
+    };
+    expect_however_read(rt, "words that are in order", words, WORKED, end);
 }
 
 #[test]

@@ -1,6 +1,6 @@
 //! Maps and fleet files that are refused, in pieces of any length: which line says so.
 use super::texts::text_of;
-use super::{End, LINE, ONE_BY_ONE, PIECES, REPLAY, Setup, WORKED, expect};
+use super::{End, LINE, ONE_BY_ONE, REPLAY, Setup, WORKED, expect_however_read};
 use std::process::Abort;
 use std::sync::Wait;
 use std::thread::Threads;
@@ -57,20 +57,18 @@ fn expect_refused<R: Abort + Threads + Wait + Sync + AllocGlobal>(
 ) {
     let map = text_of(rt, map);
     let fleet = text_of(rt, fleet);
-    for pieces in PIECES {
-        let files = Setup {
-            map: text!(map.as_str(), pieces, &[]),
-            fleet: text!(fleet.as_str(), pieces, &[]),
-            feed: text!(""),
-            ..WORKED
-        };
-        let end = End {
-            status,
-            faults: 0,
-            written,
-        };
-        expect(rt, shows, REPLAY, files, end);
-    }
+    let files = Setup {
+        map: text!(map.as_str()),
+        fleet: text!(fleet.as_str()),
+        feed: text!(""),
+        ..WORKED
+    };
+    let end = End {
+        status,
+        faults: 0,
+        written,
+    };
+    expect_however_read(rt, shows, REPLAY, files, end);
 }
 
 /// To how many bytes a map is cut, and the line with which it is refused.

@@ -1,6 +1,6 @@
 //! Sessions that go on from a log. Where a feed or a desk has nothing left to do beside another, the order of entries is one.
 use super::cases::{Case, REPLAYED, expect_all};
-use super::faults::expect_refused;
+use super::faults::expect_each_refused;
 use super::{File, LOG, ONE_BY_ONE};
 
 /// A session that goes on from its log.
@@ -8,7 +8,7 @@ pub(super) const RESUME: &str =
     "ride_resume --map m --fleet f --log l --riders r --drivers d --workers 1";
 
 /// A file that is not read: its first read fails.
-const UNREAD: File<'static> = text!("none of this is read\n", &[], &[1]);
+const UNREAD: File<'static> = text!("none of this is read\n", fails: 1);
 
 /// A session over four nodes in a line and one vehicle, with batches of one request.
 const RESUMED: Case = Case {
@@ -70,8 +70,7 @@ f1 request 7 2 4 1 600 300 = waiting\n\
 f1 batch = asked 1\n\
 d1 open 1 at 0 requests 7 plans 1@0\n\
 d1 commit 1 cost 180 seats 7:1:0:0 prices 7:180 pays outcomes 7:confirmed",
-            &[7],
-            &[]
+            by: 7
         ),
         written: "log 1 feeds 1 desks 1\n\
 f1 request 7 2 4 1 600 300 = waiting\n\
@@ -135,7 +134,7 @@ static PROMISED: [Case; 2] = [
             "log 1 feeds 1 desks 1\n\
 f1 request 7 2 4 1 600 300 = waiting\n"
         ),
-        feed: text!("clock 5\ncancel 7\nrequest 7 2 4 1 600 300\n", &[2], &[]),
+        feed: text!("clock 5\ncancel 7\nrequest 7 2 4 1 600 300\n", by: 2),
         drivers: UNREAD,
         written: "log 1 feeds 1 desks 1\n\
 f1 request 7 2 4 1 600 300 = waiting\n\
@@ -260,7 +259,7 @@ f1 end\n"
     },
     Case {
         shows: "a wrong line comes before a fault",
-        log: text!("log 1 feeds 1 desks 1\nf1 batch = asked 2\n", &[42], &[2]),
+        log: text!("log 1 feeds 1 desks 1\nf1 batch = asked 2\n", by: 42, fails: 2),
         status: 7,
         written: "no 2 reply\n",
         ..RESUMED
@@ -296,7 +295,7 @@ static MISSING: [Case; 3] = [
 static FAULTS: [Case; 3] = [
     Case {
         shows: "a log whose second read fails",
-        log: text!(LOG, &[24], &[2]),
+        log: text!(LOG, by: 24, fails: 2),
         status: 5,
         faults: 1,
         ..RESUMED
@@ -307,7 +306,7 @@ static FAULTS: [Case; 3] = [
             "log 1 feeds 1 desks 1\n\
 f1 request 7 2 4 1 600 300 = waiting\n"
         ),
-        feed: text!("cancel 7\nclock 5\n", &[9], &[2]),
+        feed: text!("cancel 7\nclock 5\n", by: 9, fails: 2),
         status: 5,
         faults: 1,
         written: "log 1 feeds 1 desks 1\n\
@@ -349,19 +348,17 @@ static TEXTS: [Case; 2] = [
     },
 ];
 
-/// Words that are not in order.
-static REFUSED: [&str; 10] = [
-    "ride_resume",
-    "ride_resume --help",
-    "ride_resume resume --map m --fleet f --log l --riders r --drivers d --workers 1",
-    "ride_resume --map m --fleet f --log l --riders r --drivers d",
-    "ride_resume --map m --fleet f --log l --riders r --workers 1",
-    "ride_resume --map m --fleet f --riders r --drivers d --workers 1",
-    "ride_resume --map m --map m --fleet f --log l --riders r --drivers d --workers 1",
-    "ride_resume --map m --fleet f --log l --riders r --drivers d --workers 0",
-    "ride_resume --map m --fleet f --log l --riders r --drivers d --workers 17",
-    "ride_resume --map m --fleet f --log l --riders r --drivers d --workers 1 --desks 1",
-];
+/// Words that are not in order, line by line.
+const REFUSED: &str = "ride_resume\n\
+ride_resume --help\n\
+ride_resume resume --map m --fleet f --log l --riders r --drivers d --workers 1\n\
+ride_resume --map m --fleet f --log l --riders r --drivers d\n\
+ride_resume --map m --fleet f --log l --riders r --workers 1\n\
+ride_resume --map m --fleet f --riders r --drivers d --workers 1\n\
+ride_resume --map m --map m --fleet f --log l --riders r --drivers d --workers 1\n\
+ride_resume --map m --fleet f --log l --riders r --drivers d --workers 0\n\
+ride_resume --map m --fleet f --log l --riders r --drivers d --workers 17\n\
+ride_resume --map m --fleet f --log l --riders r --drivers d --workers 1 --desks 1\n";
 
 #[test]
 fn sessions_go_on_from_logs(rt: HostRuntime) {
@@ -374,7 +371,5 @@ fn sessions_go_on_from_logs(rt: HostRuntime) {
     expect_all(&rt, MISSING.as_slice());
     expect_all(&rt, FAULTS.as_slice());
     expect_all(&rt, TEXTS.as_slice());
-    for words in REFUSED.as_slice() {
-        expect_refused(&rt, words);
-    }
+    expect_each_refused(&rt, REFUSED);
 }

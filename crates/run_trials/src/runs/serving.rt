@@ -176,7 +176,7 @@ fn expect_session<R: Abort + Threads + Wait + Sync + AllocGlobal>(rt: &R, case: 
     let log = answer_to(rt, case.words, files);
     let is_so = log.ends(0, 0) && has_lines(log.text(), &DESKS_AND_DRIVERS, case.lines);
     assert!(rt; is_so, "{}: {}", case.shows, log.text());
-    expect_audit(rt, case.shows, files, log, case.audit);
+    expect_audit(rt, case.shows, files, log.text(), case.audit);
 }
 
 fn seat_once<R: Abort + Threads + Wait + Sync + AllocGlobal>(rt: &R) {
@@ -187,7 +187,7 @@ fn seat_once<R: Abort + Threads + Wait + Sync + AllocGlobal>(rt: &R) {
     let log = answer_to(rt, BY_TWO_DESKS, files);
     assert!(rt; log.status == 0);
     let line = "yes entries 8 confirmed 1 away 0 picked 0 dropped 0 finished yes\n";
-    expect_audit(rt, "two desks", files, log, line);
+    expect_audit(rt, "two desks", files, log.text(), line);
 }
 
 /// A drivers' feed that fails, and its lines in the log.
@@ -198,12 +198,12 @@ struct Failing {
 
 static FAILING: [Failing; 2] = [
     Failing {
-        drivers: text!("", &[], &[1]),
+        drivers: text!("", fails: 1),
         lines: "f2 cut\n",
     },
     // In the middle of its second line, which is dropped.
     Failing {
-        drivers: text!("clock 0\nclock 0\n", &[11], &[2]),
+        drivers: text!("clock 0\nclock 0\n", by: 11, fails: 2),
         lines: "f2 clock 0 = now 0\nf2 cut\n",
     },
 ];

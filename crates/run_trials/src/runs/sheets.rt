@@ -1,5 +1,5 @@
 //! Sheets of idle vehicles sent ahead. Costs and orders were found by hand, over all pairings.
-use super::cases::{Case, REPLAYED, expect_all};
+use super::cases::{Case, REPLAYED, expect_all, expect_told};
 
 pub(super) const AHEAD: &str = "ahead --map m --fleet f --feed r --reach 600";
 
@@ -22,53 +22,59 @@ static REACHED: [Case; 2] = [
     Case {
         shows: "it is beyond reach, with the options in another order",
         words: "ahead --reach 119 --feed r --fleet f --map m",
-        feed: text!(LEFT_OUT, &[7], &[]),
+        feed: text!(LEFT_OUT, by: 7),
         written: "ahead 1 reach 119\nmoves 1 cost 119 goes prices 7:119 pays\nend\n",
         ..SENT
     },
 ];
 
-static SHEETS: [Case; 3] = [
-    Case {
-        shows: "fewer vehicles than requests",
-        feed: text!("request 7 3 4 1 100 300\nrequest 8 4 3 1 100 300\nbatch\n"),
-        written: "ahead 1 reach 600\n\
-moves 1 cost 720 goes 7:1@0:3:120 prices 7:540 8:600 pays 1:420\n\
-end\n",
-        ..SENT
-    },
-    Case {
-        shows: "more vehicles than requests",
-        fleet: text!("vehicle 1 2 1 0\nvehicle 2 2 4 0\nvehicle 3 2 3 0\n"),
-        feed: text!("off 3\nrequest 7 2 1 1 30 300\nbatch\n"),
-        written: "ahead 1 reach 600\nmoves 1 cost 60 goes 7:1@0:2:60 prices 7:* pays*\nend\n",
-        ..SENT
-    },
-    Case {
-        shows: "orders name the versions of the copies, and each batch has its sheet",
-        feed: text!(
-            "off 1\n\
-on 1\n\
-request 7 3 4 1 100 300\n\
-batch\n\
-request 8 2 4 1 600 300\n\
-batch\n\
-request 9 3 4 1 10 300\n\
-batch\n"
-        ),
-        written: "ahead 1 reach 600\n\
-moves 1 cost 120 goes 7:1@2:3:120 prices 7:120 pays\n\
-moves 2 cost 0 goes prices pays\n\
-moves 3 cost 600 goes prices 9:600 pays\n\
-end\n",
-        ..SENT
-    },
-];
+const SHEETS: &str = "
+[case] fewer vehicles than requests
+[feed]
+request 7 3 4 1 100 300
+request 8 4 3 1 100 300
+batch
+[written]
+ahead 1 reach 600
+moves 1 cost 720 goes 7:1@0:3:120 prices 7:540 8:600 pays 1:420
+end
+
+[case] more vehicles than requests
+[fleet]
+vehicle 1 2 1 0
+vehicle 2 2 4 0
+vehicle 3 2 3 0
+[feed]
+off 3
+request 7 2 1 1 30 300
+batch
+[written]
+ahead 1 reach 600
+moves 1 cost 60 goes 7:1@0:2:60 prices 7:* pays*
+end
+
+[case] orders name the versions of the copies, and each batch has its sheet
+[feed]
+off 1
+on 1
+request 7 3 4 1 100 300
+batch
+request 8 2 4 1 600 300
+batch
+request 9 3 4 1 10 300
+batch
+[written]
+ahead 1 reach 600
+moves 1 cost 120 goes 7:1@2:3:120 prices 7:120 pays
+moves 2 cost 0 goes prices pays
+moves 3 cost 600 goes prices 9:600 pays
+end
+";
 
 static FAULTS: [Case; 4] = [
     Case {
         shows: "a feed whose second read fails is cut",
-        feed: text!("request 7 3 4 1 100 300\nbatch\nbatch\n", &[30], &[2]),
+        feed: text!("request 7 3 4 1 100 300\nbatch\nbatch\n", by: 30, fails: 2),
         status: 5,
         faults: 1,
         written: "ahead 1 reach 600\nmoves 1 cost 120 goes 7:1@0:3:120 prices 7:120 pays\ncut\n",
@@ -100,6 +106,6 @@ static FAULTS: [Case; 4] = [
 #[test]
 fn vehicles_are_sent_ahead(rt: HostRuntime) {
     expect_all(&rt, REACHED.as_slice());
-    expect_all(&rt, SHEETS.as_slice());
+    expect_told(&rt, &SENT, SHEETS);
     expect_all(&rt, FAULTS.as_slice());
 }

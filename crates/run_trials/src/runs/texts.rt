@@ -26,11 +26,18 @@ fn push_repeated(rt: &(impl Abort + AllocGlobal), text: &mut String, repeated: &
 
 fn push_each(rt: &(impl Abort + AllocGlobal), text: &mut String, last: u32, piece: &str) {
     for number in 1..=last {
-        let digits = format!(in rt.alloc(); "{number}").expect(rt, "there is memory");
-        let numbered = piece.replace(rt.alloc(), "%", digits.as_str());
-        let numbered = numbered.expect(rt, "there is memory");
-        text.push_str(numbered.as_str())
-            .expect(rt, "there is memory");
+        push_numbered(rt, text, number, piece);
+    }
+}
+
+// Adds a piece with this number in place of each `%`.
+fn push_numbered(rt: &impl Abort, text: &mut String, number: u32, piece: &str) {
+    let mut parts = piece.split('%');
+    if let Some(first) = parts.next() {
+        text.push_str(first).expect(rt, "there is memory");
+    }
+    for part in parts {
+        write!(text, "{number}{part}").expect(rt, "there is memory");
     }
 }
 
@@ -56,13 +63,14 @@ pub(super) fn has_lines(text: &str, starts: &[&str], pattern: &str) -> bool {
     wanted.next().is_none()
 }
 
-fn begins(line: &str, starts: &[&str]) -> bool {
+/// Whether a text begins by one of these, or is empty.
+pub(super) fn begins(text: &str, starts: &[&str]) -> bool {
     for start in starts {
-        if line.starts_with(*start) {
+        if text.starts_with(*start) {
             return true;
         }
     }
-    line.is_empty()
+    text.is_empty()
 }
 
 fn is_line_like(line: &str, pattern: &str) -> bool {

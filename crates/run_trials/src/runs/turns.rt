@@ -4,7 +4,7 @@ use super::leagues::{FEED as RIDES, FIRST, LEAGUE, SECOND};
 use super::resumed::RESUME;
 use super::serving::SERVE;
 use super::sheets::{AHEAD, LEFT_OUT};
-use super::{AUDIT, Answer, LOG, REPLAY, Setup, WORKED, answer_to};
+use super::{AUDIT, Answer, File, LOG, REPLAY, Setup, WORKED, answer_to};
 use std::process::Abort;
 use std::sync::Wait;
 use std::thread::Threads;
@@ -37,90 +37,27 @@ enum Failing {
     Log,
 }
 
-/// Runs over the files of the worked request, or over others, with what each writes.
-static WRITTEN: [(&str, Setup<'static>, &str); 6] = [
-    (REPLAY, WORKED, LOG),
-    (AUDIT, WORKED, AUDITED),
-    (RESUME, WORKED, LOG),
-    (
-        AHEAD,
-        Setup {
-            feed: text!(LEFT_OUT),
-            ..WORKED
-        },
-        SHEET,
-    ),
-    (BOOK, WORKED, BOOKED),
-    (
-        LEAGUE,
-        Setup {
-            fleet: text!(FIRST),
-            feed: text!(RIDES),
-            drivers: text!(SECOND),
-            ..WORKED
-        },
-        ROUND,
-    ),
-];
-
-/// Runs, the file of drivers, which file's reads fail in turn, and how often it is read: a file of n bytes n / 7 times, and once more at
-/// its end.
-static READS: [(&str, &str, Failing, u64); 21] = [
-    (REPLAY, CLOCK, Failing::Map, 10),
-    (REPLAY, CLOCK, Failing::Fleet, 5),
-    (REPLAY, CLOCK, Failing::Feed, 6),
-    (AUDIT, CLOCK, Failing::Map, 10),
-    (AUDIT, CLOCK, Failing::Fleet, 5),
-    (AUDIT, CLOCK, Failing::Log, 30),
-    (RESUME, CLOCK, Failing::Map, 10),
-    (RESUME, CLOCK, Failing::Fleet, 5),
-    (RESUME, CLOCK, Failing::Log, 30),
-    (SERVE, CLOCK, Failing::Map, 10),
-    (SERVE, CLOCK, Failing::Fleet, 5),
-    (SERVE, CLOCK, Failing::Feed, 6),
-    (SERVE, CLOCK, Failing::Drivers, 3),
-    (AHEAD, CLOCK, Failing::Map, 10),
-    (AHEAD, CLOCK, Failing::Fleet, 5),
-    (AHEAD, CLOCK, Failing::Feed, 6),
-    (BOOK, CLOCK, Failing::Feed, 6),
-    (LEAGUE, SECOND, Failing::Map, 10),
-    (LEAGUE, SECOND, Failing::Fleet, 5),
-    (LEAGUE, SECOND, Failing::Drivers, 4),
-    (LEAGUE, SECOND, Failing::Feed, 6),
-];
-
-/// A session of two feeds that goes on from a head alone, and which feed's reads fail in turn.
-const BEGUN: Setup<'static> = Setup {
-    drivers: text!(CLOCK),
-    log: text!("log 1 feeds 2 desks 1\n"),
-    ..WORKED
-};
-
-static GOING_ON: [(Failing, u64); 2] = [(Failing::Feed, 6), (Failing::Drivers, 3)];
-
 // Files of which one is read by sevens, and one read of it fails.
-fn one_failing<'a>(files: Setup<'a>, which: Failing, read: &'a [u64]) -> Setup<'a> {
-    match which {
-        Failing::Map => Setup {
-            map: text!(files.map.text, &[7], read),
-            ..files
-        },
-        Failing::Fleet => Setup {
-            fleet: text!(files.fleet.text, &[7], read),
-            ..files
-        },
-        Failing::Feed => Setup {
-            feed: text!(files.feed.text, &[7], read),
-            ..files
-        },
-        Failing::Drivers => Setup {
-            drivers: text!(files.drivers.text, &[7], read),
-            ..files
-        },
-        Failing::Log => Setup {
-            log: text!(files.log.text, &[7], read),
-            ..files
-        },
+fn one_failing<'a>(files: &Setup<'a>, which: Failing, read: u64) -> Setup<'a> {
+    Setup {
+        map: failing_if(matches!(which, Failing::Map), files.map, read),
+        fleet: failing_if(matches!(which, Failing::Fleet), files.fleet, read),
+        feed: failing_if(matches!(which, Failing::Feed), files.feed, read),
+        drivers: failing_if(matches!(which, Failing::Drivers), files.drivers, read),
+        log: failing_if(matches!(which, Failing::Log), files.log, read),
+        ..*files
+    }
+}
+
+// The file as it is, or read by sevens, of which one read fails.
+fn failing_if<'a>(fails: bool, file: File<'a>, read: u64) -> File<'a> {
+    if !fails {
+        return file;
+    }
+    File {
+        text: file.text,
+        by: Some(7),
+        fails: Some(read),
     }
 }
 
@@ -133,30 +70,31 @@ fn refusing<'a>(files: Setup<'a>, refuses: &'a [u64]) -> Setup<'a> {
     }
 }
 
-/// The status of a run, the faults that its shelf counted, and how many bytes it wrote.
-type Told = (u8, u64, usize);
-
-fn told<R: Abort + Threads + Wait + Sync + AllocGlobal>(
+// A run ends by status 5 whichever of so many reads of these files fails. A file of n bytes is read n / 7 times, and once more at its
+// end.
+fn fail_reads<R: Abort + Threads + Wait + Sync + AllocGlobal>(
     rt: &R,
     words: &str,
-    files: Setup<'_>,
-) -> Told {
-    let answer = answer_to(rt, words, files);
-    (answer.status, answer.faults, answer.written().len())
+    files: &Setup<'_>,
+    reads: &[(Failing, u64)],
+) {
+    for (which, count) in reads {
+        fail_each_read(rt, words, files, *which, *count);
+    }
 }
 
 // A run ends by status 5 whichever of so many reads of a file fails, and well where the next one would.
 fn fail_each_read<R: Abort + Threads + Wait + Sync + AllocGlobal>(
     rt: &R,
     words: &str,
-    files: Setup<'_>,
+    files: &Setup<'_>,
     which: Failing,
     reads: u64,
 ) {
     for read in 1..=reads.saturating_add(1) {
-        let (status, faults, _) = told(rt, words, one_failing(files, which, &[read]));
-        let wanted = if read <= reads { (5, 1) } else { (0, 0) };
-        assert!(rt; (status, faults) == wanted, "{words}: read {read}");
+        let answer = answer_to(rt, words, one_failing(files, which, read));
+        let (status, faults) = if read <= reads { (5, 1) } else { (0, 0) };
+        assert!(rt; answer.ends(status, faults), "{words}: read {read}");
     }
 }
 
@@ -170,13 +108,13 @@ fn fail_each_write<R: Abort + Threads + Wait + Sync + AllocGlobal>(
     for write in 1..=text.len() as u64 / 7 {
         let refuses = [write];
         let answer = answer_to(rt, words, refusing(files, &refuses));
-        assert!(rt; is_cut(answer, text), "{words}: write {write}");
+        assert!(rt; is_cut(&answer, text), "{words}: write {write}");
     }
 }
 
 // Whether a run ended by status 6 with a part of its text.
-fn is_cut(answer: Answer<'_>, text: &str) -> bool {
-    answer.ends(6, 0) && answer.written().len() < text.len() && text.starts_with(answer.text())
+fn is_cut(answer: &Answer<'_>, text: &str) -> bool {
+    answer.ends(6, 0) && answer.written().len() < text.len() && is_begun(answer, text)
 }
 
 // A run ends by status 6 whichever byte is the last that its sink takes, and has written all bytes before.
@@ -187,52 +125,114 @@ fn fill_each_sink<R: Abort + Threads + Wait + Sync + AllocGlobal>(
     text: &str,
 ) {
     for room in 0..=text.len() {
-        let answer = answer_to(rt, words, Setup { room, ..files });
-        assert!(rt; is_filled(answer, text, room), "{words}: room {room}");
+        let files = Setup { room, ..files };
+        let answer = answer_to(rt, words, files);
+        assert!(rt; is_filled(&answer, text, room), "{words}: room {room}");
     }
 }
 
 // Whether a run wrote as much of its text as there was room for, and ended by status 6 where that was not all.
-fn is_filled(answer: Answer<'_>, text: &str, room: usize) -> bool {
+fn is_filled(answer: &Answer<'_>, text: &str, room: usize) -> bool {
     let status = if room < text.len() { 6 } else { 0 };
-    answer.ends(status, 0)
-        && answer.written().len() == room
-        && text.as_bytes().starts_with(answer.written())
+    answer.ends(status, 0) && answer.written().len() == room && is_begun(answer, text)
+}
+
+// Whether what a run wrote begins this text.
+fn is_begun(answer: &Answer<'_>, text: &str) -> bool {
+    text.as_bytes().starts_with(answer.written())
 }
 
 #[test]
 fn each_read_fails_in_turn(rt: HostRuntime) {
-    for &(words, drivers, which, reads) in READS.iter() {
-        let files = Setup {
-            drivers: text!(drivers),
-            ..WORKED
-        };
-        fail_each_read(&rt, words, files, which, reads);
-    }
-    for &(which, reads) in GOING_ON.iter() {
-        fail_each_read(&rt, RESUME, BEGUN, which, reads);
-    }
+    let (map, fleet) = ((Failing::Map, 10), (Failing::Fleet, 5));
+    let (feed, log) = ((Failing::Feed, 6), (Failing::Log, 30));
+    let files = Setup {
+        drivers: text!(CLOCK),
+        ..WORKED
+    };
+    fail_reads(&rt, REPLAY, &files, &[map, fleet, feed]);
+    fail_reads(&rt, AUDIT, &files, &[map, fleet, log]);
+    fail_reads(&rt, RESUME, &files, &[map, fleet, log]);
+    fail_reads(
+        &rt,
+        SERVE,
+        &files,
+        &[map, fleet, feed, (Failing::Drivers, 3)],
+    );
+    fail_reads(&rt, AHEAD, &files, &[map, fleet, feed]);
+    fail_reads(&rt, BOOK, &files, &[feed]);
+}
+
+#[test]
+fn each_read_of_a_league_and_of_a_log_with_feeds_fails_in_turn(rt: HostRuntime) {
+    let (feed, fleet) = ((Failing::Feed, 6), (Failing::Fleet, 5));
+    let league = Setup {
+        drivers: text!(SECOND),
+        ..WORKED
+    };
+    let reads = [(Failing::Map, 10), fleet, feed, (Failing::Drivers, 4)];
+    fail_reads(&rt, LEAGUE, &league, &reads);
+    // A session of two feeds that goes on from a head alone.
+    let begun = Setup {
+        drivers: text!(CLOCK),
+        log: text!("log 1 feeds 2 desks 1\n"),
+        ..WORKED
+    };
+    fail_reads(&rt, RESUME, &begun, &[feed, (Failing::Drivers, 3)]);
 }
 
 #[test]
 fn each_write_and_each_byte_fails_in_turn(rt: HostRuntime) {
-    for &(words, files, text) in WRITTEN.iter() {
-        fail_each_write(&rt, words, files, text);
-        fill_each_sink(&rt, words, files, text);
-    }
+    let worked = WORKED;
+    fail_writes(&rt, REPLAY, worked, LOG);
+    fail_writes(&rt, AUDIT, worked, AUDITED);
+    fail_writes(&rt, RESUME, worked, LOG);
+    fail_writes(&rt, BOOK, worked, BOOKED);
+    // A request that is left out, and two companies.
+    let left_out = Setup {
+        feed: text!(LEFT_OUT),
+        ..worked
+    };
+    fail_writes(&rt, AHEAD, left_out, SHEET);
+    let league = Setup {
+        fleet: text!(FIRST),
+        feed: text!(RIDES),
+        drivers: text!(SECOND),
+        ..worked
+    };
+    fail_writes(&rt, LEAGUE, league, ROUND);
+}
+
+// A run that writes this text ends by status 6 whichever write fails, and whichever byte is the last that its sink takes.
+fn fail_writes<R: Abort + Threads + Wait + Sync + AllocGlobal>(
+    rt: &R,
+    words: &str,
+    files: Setup<'_>,
+    text: &str,
+) {
+    fail_each_write(rt, words, files, text);
+    fill_each_sink(rt, words, files, text);
 }
 
 // The lines of a session have no one order, but one length together.
 #[test]
 fn a_session_ends_whichever_write_fails(rt: HostRuntime) {
     let all = LOG.len() + "f2 end\n".len();
+    let worked = WORKED;
     for room in 0..=all {
-        let (status, _, count) = told(&rt, SERVE, Setup { room, ..WORKED });
-        let wanted = if room < all { 6 } else { 0 };
-        assert!(rt; (status, count) == (wanted, room), "room {room}");
+        let answer = answer_to(&rt, SERVE, Setup { room, ..worked });
+        let status = if room < all { 6 } else { 0 };
+        assert!(rt; told(&answer) == (status, room), "room {room}");
     }
     for write in 1..=all as u64 / 7 {
-        let (status, _, count) = told(&rt, SERVE, refusing(WORKED, &[write]));
+        let refuses = [write];
+        let answer = answer_to(&rt, SERVE, refusing(worked, &refuses));
+        let (status, count) = told(&answer);
         assert!(rt; status == 6 && count < all, "write {write}");
     }
+}
+
+// The status of a run, and how many bytes it wrote.
+fn told(answer: &Answer<'_>) -> (u8, usize) {
+    (answer.status, answer.written().len())
 }
