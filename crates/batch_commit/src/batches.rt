@@ -3,7 +3,7 @@ ghost use Rattle.std.specs.Prelude.{◌≡◌, ◌≤◌, length, nat_eq};
 ghost use Rattle.std.specs.List.{IsDistinct};
 ghost use Rattle.ride_model.specs.Settings.{IsSettings};
 ghost use Rattle.ride_model.specs.Vehicle.{ride_ids};
-ghost use Rattle.ride_model.specs.Limits.{largest_batch};
+ghost use Rattle.ride_model.specs.declared.limits.TheConstants.{LARGEST_BATCH};
 
 use ride_model::{Fleet, Ride, Settings};
 use std::marker::Model;
@@ -36,9 +36,9 @@ impl Model for Batch {
       vehicles = b.vehicles;
     } };
 
-    ghost use Rattle.ride_model.specs.Limits.{largest_batch};
+    ghost use Rattle.ride_model.specs.declared.limits.TheConstants.{LARGEST_BATCH};
 
-    ghost invariant = { λ b. (length b.requests.items ≤ largest_batch) × IsDistinct nat_eq (ride_ids b.requests.items) × IsSettings b.settings };
+    ghost invariant = { λ b. (length b.requests.items ≤ LARGEST_BATCH) × IsDistinct nat_eq (ride_ids b.requests.items) × IsSettings b.settings };
 }
 
 impl Drop for Batch {
@@ -66,7 +66,7 @@ impl Batch {
         requests: Vec<Ride>,
         vehicles: Fleet,
     ) -> Batch
-        requires few { length requests.items ≤ largest_batch }
+        requires few { length requests.items ≤ LARGEST_BATCH }
         requires ids_differ { IsDistinct nat_eq (ride_ids requests.items) }
         requires settings_fit { IsSettings settings }
         ensures { result ≡ record {
@@ -116,7 +116,7 @@ impl Batch {
 
     pub fn requests(&self) -> &[Ride]
         ensures requests { result.now ≡ self.now.requests }
-        ensures few { length self.now.requests ≤ largest_batch }
+        ensures few { length self.now.requests ≤ LARGEST_BATCH }
         ensures ids_differ { IsDistinct nat_eq (ride_ids self.now.requests) }
     {
         self.requests.as_slice()

@@ -1,7 +1,7 @@
 //! What a board keeps of its feeds and desks.
 ghost use Rattle.std.specs.Prelude.{◌≡◌, ◌<◌, ◌≤◌};
 ghost use Rattle.ride_model.specs.Text.{IsOneOrTwo};
-ghost use Rattle.ride_model.specs.Limits.{most_batches};
+ghost use Rattle.ride_model.specs.declared.limits.TheConstants.{MOST_BATCHES};
 ghost use Rattle.board_core.specs.inner.Kept.{ending_of, places_kept, none_yet, is_finished, all_ended, all_whole, is_whole_end, with_ending, with_opened, with_closed, with_given_up};
 
 use crate::numbered::Numbered;
@@ -76,7 +76,7 @@ impl Desks {
 
     /// Notes that a desk opened the next batch.
     pub(crate) fn open(&mut self, desk: u8)
-        requires { self.old.opened < most_batches }
+        requires { self.old.opened < MOST_BATCHES }
         ensures { self.new ≡ with_opened desk self.old }
     {
         self.opened += 1;

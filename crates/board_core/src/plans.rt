@@ -6,7 +6,7 @@ ghost use Rattle.ride_model.specs.Vehicle.{IsLawful};
 ghost use Rattle.ride_model.specs.inner.Vehicle.{IsLawfulSomewhere};
 ghost use Rattle.ride_model.specs.Insertion.{without_ride, stops_without};
 ghost use Rattle.ride_model.specs.Step.{raised, served, served_reply};
-ghost use Rattle.ride_model.specs.Limits.{latest_ready, longest_dwell, most_stops};
+ghost use Rattle.ride_model.specs.declared.limits.TheConstants.{LATEST_READY, LONGEST_DWELL, MOST_STOPS};
 ghost use Rattle.stop_plans.specs.inner.Change.{HasFirstStopAt};
 ghost use Rattle.stop_plans.specs.inner.First.{IsFirst, is_visit};
 ghost use Rattle.stop_plans.specs.inner.Legged.{relegged};
@@ -56,7 +56,7 @@ fn nodes_without(vehicle: &Vehicle, id: u64) -> ArrayVec<u32, 17>
 // Adds the nodes of the stops that are not of the ride.
 fn push_others(nodes: &mut ArrayVec<u32, 17>, stops: &[Stop], id: u64)
     requires one { length nodes.old.items ≡ 1 }
-    requires few { length stops.now ≤ most_stops }
+    requires few { length stops.now ≤ MOST_STOPS }
     ensures { nodes.new.items ≡ nodes.old.items
         ++ map (λ (stop : Stop). stop.node) (stops_without id stops.now) }
 {
@@ -82,7 +82,7 @@ fn place_of(stops: &[Stop], id: u64, kind: Kind) -> usize
 // The travel time from the node at a place to the next, 0 where there is none.
 fn leg_along(setup: &mut Setup, nodes: &[u32], place: usize) -> u64
     requires nodes { All (IsNode setup.old.roads) nodes.now }
-    requires place { place ≤ most_stops }
+    requires place { place ≤ MOST_STOPS }
     ensures leg { result ≡ leg_along setup.old.roads nodes.now place }
     ensures setup { setup.new ≡ setup.old }
 {
@@ -121,8 +121,8 @@ pub(crate) fn serve(vehicle: &mut Vehicle, dwell: u64) -> Reply
     requires lawful { IsLawfulSomewhere vehicle.old }
     requires version { vehicle.old.version < 2 ^ 63 }
     requires at_stop { HasFirstStopAt vehicle.old }
-    requires dwell_limit { dwell ≤ longest_dwell }
-    requires in_the_day { vehicle.old.ready + dwell ≤ latest_ready }
+    requires dwell_limit { dwell ≤ LONGEST_DWELL }
+    requires in_the_day { vehicle.old.ready + dwell ≤ LATEST_READY }
     ensures vehicle { (stop : Stop) (rest : List Stop) → vehicle.old.stops.items ≡ stop ∷ rest
         → vehicle.new ≡ raised (served dwell vehicle.old stop rest stop.kind) }
     ensures reply { (stop : Stop) (rest : List Stop) → vehicle.old.stops.items ≡ stop ∷ rest

@@ -3,11 +3,11 @@ ghost use Rattle.std.specs.Prelude.{◌≡◌, ◌<◌, ◌++◌, [], ◌∷◌,
 ghost use Rattle.ride_model.specs.declared.reply.RequestState.TheVariants.{Waiting};
 ghost use Rattle.ride_model.specs.Batch.{is_waiting};
 ghost use Rattle.ride_model.specs.State.{AcceptedRequest};
-ghost use Rattle.ride_model.specs.Limits.{most_requests};
 ghost use Rattle.board_core.specs.inner.request_book.Book.{IsBook, request_of, with_state, waiting_of};
 ghost use Rattle.board_core.specs.inner.request_book.Marked.{marked};
 
 use indexmap::IndexMap;
+use ride_model::limits::MOST_REQUESTS;
 use ride_model::{NoMemory, RequestState, Ride};
 use std::alloc::Global;
 use std::marker::Model;
@@ -43,14 +43,11 @@ impl Model for RequestBook {
 }
 
 impl RequestBook {
-    /// The most requests of a book.
-    pub const MOST_REQUESTS: u32 = 100_000;
-
     /// No requests.
     pub fn new(alloc: Global) -> Result<RequestBook, NoMemory>
         ensures { IfOk result (λ book. book ≡ []) }
     {
-        let waiting = WaitList::new(alloc, Self::MOST_REQUESTS)?;
+        let waiting = WaitList::new(alloc, MOST_REQUESTS)?;
         Ok(RequestBook {
             requests: IndexMap::new(alloc),
             waiting,
@@ -76,7 +73,7 @@ impl RequestBook {
 
     /// Accepts the request of a ride, which waits.
     pub fn accept(&mut self, ride: Ride) -> Result<(), NoMemory>
-        requires room { length self.old < most_requests }
+        requires room { length self.old < MOST_REQUESTS }
         requires fresh { request_of self.old ride.id ≡ None }
         ensures accepted { OnOk result
             (self.new ≡ self.old ++ (record { ride = ride; state = Waiting }) ∷ []) }

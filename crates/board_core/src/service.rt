@@ -4,7 +4,7 @@ ghost use Rattle.ride_model.specs.declared.vehicle.Vehicle.{Vehicle};
 ghost use Rattle.ride_model.specs.Seating.{vehicle_ids};
 ghost use Rattle.ride_model.specs.State.{State};
 ghost use Rattle.ride_model.specs.Step.{step, clock_step, ask_step};
-ghost use Rattle.ride_model.specs.Limits.{most_vehicles};
+ghost use Rattle.ride_model.specs.declared.limits.TheConstants.{MOST_VEHICLES};
 ghost use Rattle.board_core.specs.inner.Given.{Given};
 ghost use Rattle.board_core.specs.inner.Opening.{IsRequest};
 ghost use Rattle.board_core.specs.inner.Service.{state_at, answered_at, placed_in, IsInOrder};
@@ -47,7 +47,7 @@ impl Drop for Service {
 impl Service {
     /// The service of a fleet, before anything happened.
     pub(crate) fn new(alloc: Global, fleet: &[Vehicle]) -> Result<Service, NoMemory>
-        requires { length fleet.now ≤ most_vehicles }
+        requires { length fleet.now ≤ MOST_VEHICLES }
         ensures clock { IfOk result (λ service. service.clock ≡ 0) }
         ensures vehicles { IfOk result (λ service. service.vehicles.items ≡ fleet.now) }
         ensures requests { IfOk result (λ service. service.requests ≡ []) }

@@ -1,5 +1,5 @@
 -- What the lines of a feed ask and give, one after the other.
-use Rattle.booking_desk.proofs.Common.{◌≡◌, ℕ, ◌+◌, Bool, true, false, cond, List, [], ◌∷◌, ◌++◌, Option, Some, None, length, take, take_all, refl, ap, sym, subst, ◌∙◌, append_assoc, append-nil, length-append, arith, filter, nat_lt, ◌≤◌, IfOk, MatchResult, Result, Ok, Err, cons_option, flat_map_more, filter_map-append, begins_with, fields_of, is_over_long, ended_after, ended_lines, Command, IsSpelledCommand, HasPut, put-nothing, put-two, BookReply, Held, Now, Refused, call_of, call_of_fields, calls_in, asked_text, over_long_line, part_of, parts_after, refusal_line, released_text, reply_text, request_line, text_of_lines, with_lf, Booking, DeskState, is_before, is_held, reply_to_book, most_bookings, IsRequest, after_book, after_reply, after_unbook, FeedDesk, AreSpelled, HasBooked, IsNew, IsSpelledBooking, DeskCall, book, unbook, clock, desk_after, released_at, each-append, each-filter}
+use Rattle.booking_desk.proofs.Common.{◌≡◌, ℕ, ◌+◌, Bool, true, false, cond, List, [], ◌∷◌, ◌++◌, Option, Some, None, length, take, take_all, refl, ap, sym, subst, ◌∙◌, append_assoc, append-nil, length-append, arith, filter, nat_lt, ◌≤◌, IfOk, MatchResult, Result, Ok, Err, cons_option, flat_map_more, filter_map-append, begins_with, fields_of, is_over_long, ended_after, ended_lines, Command, IsSpelledCommand, HasPut, put-nothing, put-two, BookReply, Held, Now, Refused, call_of, call_of_fields, calls_in, asked_text, over_long_line, part_of, parts_after, refusal_line, released_text, reply_text, request_line, text_of_lines, with_lf, Booking, DeskState, is_before, is_held, reply_to_book, MOST_REQUESTS, IsRequest, after_book, after_reply, after_unbook, FeedDesk, AreSpelled, HasBooked, IsNew, IsSpelledBooking, DeskCall, book, unbook, clock, desk_after, released_at, each-append, each-filter}
 use Rattle.booking_desk.proofs.AfterCalls.{booked-is, unbooked-is}
 
 pub begins-take : (line : List ℕ) → begins_with 35 (take 200 line) ≡ begins_with 35 line
@@ -77,7 +77,7 @@ short-whole line whole is short = is ∙ take_all 200 whole (nat_lt_false-le 200
 
 -- one more line was booked
 module _ (before later : Option (List ℕ)) (faults m : ℕ) (desk new : FeedDesk) (lines : List (List ℕ)) (whole : List ℕ)
-    (counted : desk.lines ≡ length lines) (desk_is : desk.desk ≡ desk_after most_bookings (calls_in lines)) (more : new.lines ≡ desk.lines + 1) where
+    (counted : desk.lines ≡ length lines) (desk_is : desk.desk ≡ desk_after MOST_REQUESTS (calls_in lines)) (more : new.lines ≡ desk.lines + 1) where
   count-is : new.lines ≡ length (lines ++ whole ∷ [])
   count-is = omega (arith, more, counted, length-append lines (whole ∷ []))
 
@@ -86,20 +86,20 @@ module _ (before later : Option (List ℕ)) (faults m : ℕ) (desk new : FeedDes
       → HasBooked before later faults m new (lines ++ whole ∷ [])
   over-next over same put = record {
     counted = count-is;
-    desk_is = same ∙ desk_is ∙ ap (desk_after most_bookings) (sym (calls-over_long lines whole over));
+    desk_is = same ∙ desk_is ∙ ap (desk_after MOST_REQUESTS) (sym (calls-over_long lines whole over));
     put = subst (λ t. HasPut before later faults m new.output t)
         (ap (λ t. text_of_lines lines ++ t) (sym (part-over_long (calls_in lines) (length lines + 1) whole over)) ∙ sym (text-push lines whole)) put;
   }
 
   pub asked-next : is_over_long whole ≡ false → (asked : Option DeskCall) → asked ≡ call_of_fields (fields_of whole)
-      → new.desk ≡ desk_after most_bookings (calls_in lines ++ cons_option asked [])
+      → new.desk ≡ desk_after MOST_REQUESTS (calls_in lines ++ cons_option asked [])
       → HasPut before later faults m new.output (text_of_lines lines ++ asked_text (calls_in lines) (desk.lines + 1) whole asked)
       → HasBooked before later faults m new (lines ++ whole ∷ [])
   asked-next short asked is after put =
       let number : desk.lines + 1 ≡ length lines + 1 = ap (λ n. n + 1) counted in
       record {
         counted = count-is;
-        desk_is = after ∙ ap (desk_after most_bookings) (sym (calls-short whole short lines asked is));
+        desk_is = after ∙ ap (desk_after MOST_REQUESTS) (sym (calls-short whole short lines asked is));
         put = subst (λ t. HasPut before later faults m new.output t)
             (ap (λ n. text_of_lines lines ++ asked_text (calls_in lines) n whole asked) number
             ∙ ap (λ t. text_of_lines lines ++ t) (sym (part-short whole short (calls_in lines) (length lines + 1) asked is)) ∙ sym (text-push lines whole)) put;
@@ -116,7 +116,7 @@ module _ (before later : Option (List ℕ)) (faults m : ℕ) (desk new : FeedDes
   book-next (Err e) short release request is after put = put
   book-next (Ok x) short release request is after put =
       asked-next short (Some (book release request)) is
-      (after ∙ ap (λ (d : DeskState). after_book d release request) desk_is ∙ booked-is most_bookings (calls_in lines) release request)
+      (after ∙ ap (λ (d : DeskState). after_book d release request) desk_is ∙ booked-is MOST_REQUESTS (calls_in lines) release request)
       (subst (λ (d : DeskState). HasPut before later faults m new.output
       (text_of_lines lines ++ reply_text (reply_to_book d release request) (desk.lines + 1) request)) desk_is put)
 
@@ -127,18 +127,18 @@ module _ (before later : Option (List ℕ)) (faults m : ℕ) (desk new : FeedDes
       → HasBooked before later faults m new (lines ++ whole ∷ [])
   unbook-next short id is after put =
       asked-next short (Some (unbook id)) is
-      (after ∙ ap (λ (d : DeskState). after_unbook d id) desk_is ∙ unbooked-is most_bookings (calls_in lines) id)
+      (after ∙ ap (λ (d : DeskState). after_unbook d id) desk_is ∙ unbooked-is MOST_REQUESTS (calls_in lines) id)
       (subst (λ (d : DeskState). HasPut before later faults m new.output
       (text_of_lines lines ++ cond (is_held id d.held) [] (refusal_line 21 (desk.lines + 1)))) desk_is put)
 
   -- a moment
   pub clock-next : is_over_long whole ≡ false → (time : ℕ) → Some (clock time) ≡ call_of_fields (fields_of whole)
-      → new.desk ≡ desk_after most_bookings (calls_in lines ++ clock time ∷ [])
-      → HasPut before later faults m new.output (text_of_lines lines ++ with_lf whole ++ released_text (released_at most_bookings (calls_in lines) time))
+      → new.desk ≡ desk_after MOST_REQUESTS (calls_in lines ++ clock time ∷ [])
+      → HasPut before later faults m new.output (text_of_lines lines ++ with_lf whole ++ released_text (released_at MOST_REQUESTS (calls_in lines) time))
       → HasBooked before later faults m new (lines ++ whole ∷ [])
   clock-next short time is after put =
       asked-next short (Some (clock time)) is after
-      (put-two before later faults m new.output (text_of_lines lines) (with_lf whole) (released_text (released_at most_bookings (calls_in lines) time)) put)
+      (put-two before later faults m new.output (text_of_lines lines) (with_lf whole) (released_text (released_at MOST_REQUESTS (calls_in lines) time)) put)
 
 -- what was released so far, and one more
 pub due-step : (text : List ℕ) (gone : List Booking) (b : Booking)

@@ -2,12 +2,17 @@
 pub use Rattle.model_laws.proofs.Common.{All, All-from_recursion, All-map, All-rest, All-weaker, AllByRecursion, AllPairs, AllZip, Bool, Command, Contains, Contains-append_left, Contains-keys_from_lookup, Contains-push, Entry, Equal, Err, Fed, Feed, Greater, IfOk, IfSome, IsDistinct, IsSome, IsSpelledCommand, IsStrictlySortedBy, IsTotalOrder, IsTrue, Less, List, MatchResult, None, Ok, Option, Ordering, Reply, Result, Some, [], and-false, ap, append-nil, append_assoc, arith, codes, command_of, cond, cons_option, decimal, drop, drop-append-le, drop-append_seam, eqb, eqb-true, err_from_is_err_and, exact_unsigned_eq, false, false_from_ne_true, filter-append, filter_map-append, find, flat_map_more, get_or, insert_entry, is_at, is_eq, is_lt, is_some, keys_of, leb, length, length-append, length-map, length-take, list_any, lookup, ltb, map, map-append, max, nat_cmp, nat_cmp_total, nat_lt, not, on_total, option_map, option_map_or, option_to_list, or-false, ordering_then, recursion_from_All, refl, remove_entry, slice_get, subst, suc, sym, take, take-append-le, take-append_seam, take_all, then_total, true, zero, ℕ, ◌&&◌, ◌++◌, ◌+◌, ◌<◌, ◌==◌, ◌^◌, ◌||◌, ◌↔◌, ◌∙◌, ◌∷◌, ◌≡◌, ◌≤◌}
 pub use Rattle.std.proofs.Common.{filter}
 pub use Rattle.std.specs.List.{fold}
-pub use Rattle.booking_desk.specs.BookLines.{call_of_fields, calls_in, call_of}
-pub use Rattle.booking_desk.specs.BookText.{text_of_lines, released_text, with_lf, held_line, refusal_line, reply_text, request_line, spelled_for, asked_text, last_line_after, over_long_line, part_of}
+pub use Rattle.booking_desk.specs.BookLines.{call_of_fields, call_of}
+pub use Rattle.booking_desk.specs.inner.BookText.{calls_in}
+pub use Rattle.booking_desk.specs.BookText.{text_of_lines, released_text, held_line, refusal_line, reply_text, request_line, spelled_for, asked_text, last_line_after, over_long_line, part_of}
+pub use Rattle.booking_desk.specs.inner.BookText.{with_lf}
 unfoldable pub use Rattle.booking_desk.specs.BookText.{parts_after}
 pub use Rattle.booking_desk.specs.Booked.{IsBooked}
-pub use Rattle.booking_desk.specs.Desk.{Booking, DeskState, request_id, id_of, is_before, put_in, is_booked, is_held, most_bookings, reply_to_book}
-pub use Rattle.booking_desk.specs.Released.{DeskCall, clock, book, unbook, clock_of, desk_after, call_id, made_of, released_at, sorted, standing, BookCall, book_calls, first_of_each_id, greatest_clock, is_unbook, is_unbooked}
+pub use Rattle.ride_model.specs.declared.limits.TheConstants.{MOST_REQUESTS}
+pub use Rattle.booking_desk.specs.Desk.{Booking, DeskState, request_id, id_of, is_before, put_in, is_held, reply_to_book}
+pub use Rattle.booking_desk.specs.inner.Desk.{is_booked}
+pub use Rattle.booking_desk.specs.Released.{DeskCall, clock, book, unbook, desk_after, call_id, made_of, released_at, sorted, standing, BookCall, book_calls, first_of_each_id, greatest_clock, is_unbook}
+pub use Rattle.booking_desk.specs.inner.Released.{clock_of, is_unbooked}
 pub use Rattle.booking_desk.specs.declared.feed_desk.FeedDesk.{FeedDesk}
 pub use Rattle.booking_desk.specs.declared.replies.BookReply.{BookReply}
 pub use Rattle.booking_desk.specs.declared.replies.BookReply.TheVariants.{Held, Now, Refused}

@@ -1,5 +1,5 @@
 -- What is due at a desk.
-use Rattle.booking_desk.proofs.Common.{◌≡◌, true, leb, List, [], ◌∷◌, ◌++◌, Option, Some, None, refl, sym, ap, subst, ◌∙◌, append_assoc, append-nil, option_map, IfSome, option_map_or, Command, Booking, DeskState, id_of, most_bookings, after_take, after_unbook, due_of, AreDue, with_due, DeskCall, clock_of, desk_after}
+use Rattle.booking_desk.proofs.Common.{◌≡◌, true, leb, List, [], ◌∷◌, ◌++◌, Option, Some, None, refl, sym, ap, subst, ◌∙◌, append_assoc, append-nil, option_map, IfSome, option_map_or, Command, Booking, DeskState, id_of, MOST_REQUESTS, after_take, after_unbook, due_of, AreDue, with_due, DeskCall, clock_of, desk_after}
 use Rattle.booking_desk.proofs.Moments.{due-first, none-else}
 
 -- the booking of which a request is
@@ -24,10 +24,10 @@ pub first-taken_due : (calls : List DeskCall) (b : Booking) (due : List Booking)
     → leb b.release (clock_of calls) ≡ true → new ≡ after_take desk → IfSome (due_of desk) (λ (x : Booking). desk.held ≡ x ∷ new.held)
     → new ≡ with_due calls due
 first-taken_due calls b due desk new is late taken stood =
-    let found : due_of desk ≡ Some b = ap due_of is ∙ due-first most_bookings calls b due late in
+    let found : due_of desk ≡ Some b = ap due_of is ∙ due-first MOST_REQUESTS calls b due late in
     let left : desk.held ≡ b ∷ new.held = subst (λ (o : Option Booking). IfSome o (λ (x : Booking). desk.held ≡ x ∷ new.held)) found stood in
-    let both : b ∷ new.held ≡ b ∷ due ++ (desk_after most_bookings calls).held = sym left ∙ ap (λ (d : DeskState). d.held) is in
-    let held : new.held ≡ due ++ (desk_after most_bookings calls).held = cc both in
+    let both : b ∷ new.held ≡ b ∷ due ++ (desk_after MOST_REQUESTS calls).held = sym left ∙ ap (λ (d : DeskState). d.held) is in
+    let held : new.held ≡ due ++ (desk_after MOST_REQUESTS calls).held = cc both in
     taken-rest desk new b found taken
     ∙ ap (λ (d : DeskState). record d { held = new.held }) is
     ∙ ap (λ bs. record (with_due calls due) { held = bs }) held
@@ -55,9 +55,9 @@ module _ (calls : List DeskCall) (due : List Booking) (desk : DeskState) (Gives 
 
       by : (left : List Booking) → due ≡ so_far.gone ++ left → desk ≡ with_due calls left → AreDue (clock_of calls) left → Releases calls due new After
       by [] parts now late =
-          absurd (let none : due_of desk ≡ None = ap due_of now ∙ none-else most_bookings calls in let some : due_of desk ≡ Some found.0 = found.1 in cc)
+          absurd (let none : due_of desk ≡ None = ap due_of now ∙ none-else MOST_REQUESTS calls in let some : due_of desk ≡ Some found.0 = found.1 in cc)
       by (b ∷ left) parts now (first, late) =
-          let first_is : due_of desk ≡ Some b = ap due_of now ∙ due-first most_bookings calls b left first in
+          let first_is : due_of desk ≡ Some b = ap due_of now ∙ due-first MOST_REQUESTS calls b left first in
           let same : Some found.0 ≡ Some b = sym found.1 ∙ first_is in
           let here : found.0 ≡ b = cc same in
           record {
@@ -70,11 +70,11 @@ module _ (calls : List DeskCall) (due : List Booking) (desk : DeskState) (Gives 
           }
 
   -- where none is due any more, all are gone
-  pub release-done : due_of desk ≡ None → (desk ≡ desk_after most_bookings calls) × Gives due
+  pub release-done : due_of desk ≡ None → (desk ≡ desk_after MOST_REQUESTS calls) × Gives due
   release-done none = by so_far.left so_far.parts so_far.desk_is so_far.late
     where
       by : (left : List Booking) → due ≡ so_far.gone ++ left → desk ≡ with_due calls left → AreDue (clock_of calls) left
-          → (desk ≡ desk_after most_bookings calls) × Gives due
+          → (desk ≡ desk_after MOST_REQUESTS calls) × Gives due
       by [] parts now late = (now, subst Gives (sym (parts ∙ append-nil so_far.gone)) so_far.gives)
       by (b ∷ left) parts now (first, late) =
-          absurd (let some : due_of desk ≡ Some b = ap due_of now ∙ due-first most_bookings calls b left first in cc)
+          absurd (let some : due_of desk ≡ Some b = ap due_of now ∙ due-first MOST_REQUESTS calls b left first in cc)

@@ -1,10 +1,10 @@
 -- What the lines of a feed with bookings ask of a desk.
-use Rattle.std.specs.Prelude.{ℕ, nat_lt, if◌then◌else◌, List, [], ◌∷◌, Option, Some, None, option_map, option_and_then, codes, filter_map}
+use Rattle.std.specs.Prelude.{ℕ, nat_lt, if◌then◌else◌, List, [], ◌∷◌, Option, Some, None, option_map, option_and_then, codes}
 use Rattle.std.specs.Str.{bytes_eq}
 use Rattle.line_text.specs.Fields.{fields_of, is_over_long, numbers_of}
 use Rattle.command_lines.specs.declared.verbs.Verb.TheVariants.{Request as ToRequest}
 use Rattle.command_lines.specs.Commands.{command_from}
-use Rattle.ride_model.specs.Limits.{latest_time}
+use Rattle.ride_model.specs.declared.limits.TheConstants.{LATEST_TIME}
 use Rattle.booking_desk.specs.Released.{DeskCall, book, unbook, clock}
 
 -- a booking: its release, and the six or seven numbers of its request
@@ -18,14 +18,13 @@ unbooking_of _ = None
 
 -- a moment: a time of at most 10^9
 abbrev pub moment_of : List ℕ → Option DeskCall
-moment_of (time ∷ []) = if nat_lt latest_time time then None else Some (clock time)
+moment_of (time ∷ []) = if nat_lt LATEST_TIME time then None else Some (clock time)
 moment_of _ = None
 
 -- what fields ask of a desk
 abbrev pub call_of_fields : List (List ℕ) → Option DeskCall
 call_of_fields [] = None
-call_of_fields (word ∷ fields) =
-    if bytes_eq word (codes "book") then option_and_then booking_of (numbers_of fields)
+call_of_fields (word ∷ fields) = if bytes_eq word (codes "book") then option_and_then booking_of (numbers_of fields)
     else (if bytes_eq word (codes "unbook") then option_and_then unbooking_of (numbers_of fields)
     else (if bytes_eq word (codes "clock") then option_and_then moment_of (numbers_of fields)
     else None))
@@ -33,7 +32,3 @@ call_of_fields (word ∷ fields) =
 -- what a line asks of a desk. A line of more than 200 bytes asks nothing
 abbrev pub call_of : List ℕ → Option DeskCall
 call_of line = if is_over_long line then None else call_of_fields (fields_of line)
-
--- what lines ask of a desk
-abbrev pub calls_in : List (List ℕ) → List DeskCall
-calls_in lines = filter_map call_of lines

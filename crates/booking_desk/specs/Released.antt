@@ -2,7 +2,7 @@
 use Rattle.std.specs.Prelude.{ℕ, ◌+◌, ◌==◌, ◌&&◌, not, nat_lt, nat_le, max, Bool, false, if◌then◌else◌, List, [], ◌∷◌, filter, map, take, drop}
 use Rattle.std.specs.List.{fold, list_any}
 use Rattle.ride_model.specs.declared.command.Command.{Command}
-use Rattle.ride_model.specs.Limits.{latest_time}
+use Rattle.ride_model.specs.declared.limits.TheConstants.{LATEST_TIME}
 use Rattle.booking_desk.specs.Desk.{Booking, DeskState, put_in, request_id}
 
 -- a call of a desk
@@ -19,22 +19,17 @@ pub record BookCall : Type 0 where
 abbrev pub call_id : BookCall → ℕ
 call_id call = request_id call.booking.request
 
--- the greatest of the times of these calls
+-- the greatest of a time and of the times of these calls
 abbrev pub greatest_clock : ℕ → List DeskCall → ℕ
 greatest_clock least [] = least
 greatest_clock least (clock time ∷ calls) = greatest_clock (max least time) calls
 greatest_clock least (book release request ∷ calls) = greatest_clock least calls
 greatest_clock least (unbook id ∷ calls) = greatest_clock least calls
 
-abbrev pub clock_of : List DeskCall → ℕ
-clock_of calls = greatest_clock 0 calls
-
 -- the calls of `book` for a release of at most 10^9, where the first call has this place
 abbrev pub book_calls : ℕ → List DeskCall → List BookCall
 book_calls place [] = []
-book_calls place (book release request ∷ calls) =
-    if nat_lt latest_time release
-    then book_calls (place + 1) calls
+book_calls place (book release request ∷ calls) = if nat_lt LATEST_TIME release then book_calls (place + 1) calls
     else record { place = place; booking = record { release = release; request = request } } ∷ book_calls (place + 1) calls
 book_calls place (unbook id ∷ calls) = book_calls (place + 1) calls
 book_calls place (clock time ∷ calls) = book_calls (place + 1) calls
@@ -53,13 +48,10 @@ is_unbook id (unbook other) = id == other
 is_unbook id (book release request) = false
 is_unbook id (clock time) = false
 
--- whether the booking of an id that was made by the call at a place was unbooked after it
-abbrev pub is_unbooked : List DeskCall → BookCall → Bool
-is_unbooked calls call = list_any (is_unbook (call_id call)) (drop call.place calls)
-
 -- the bookings that were made and not unbooked, in order of booking
 abbrev pub standing : ℕ → List DeskCall → List Booking
-standing most calls = map (λ (call : BookCall). call.booking) (filter (λ call. not (is_unbooked calls call)) (made_of most calls))
+standing most calls = map (λ (call : BookCall). call.booking)
+    (filter (λ call. not (list_any (is_unbook (call_id call)) (drop call.place calls))) (made_of most calls))
 
 -- bookings in order of release and, of one release, of id: each is put into those before it
 abbrev pub sorted : List Booking → List Booking
@@ -69,14 +61,14 @@ sorted bookings = fold (λ before booking. put_in booking before) [] bookings
 -- not come before
 abbrev pub released_at : ℕ → List DeskCall → ℕ → List Booking
 released_at most calls time =
-    filter (λ (booking : Booking). nat_lt (clock_of calls) booking.release && nat_le booking.release (max (clock_of calls) time))
+    filter (λ (booking : Booking). nat_lt (greatest_clock 0 calls) booking.release && nat_le booking.release (max (greatest_clock 0 calls) time))
     (sorted (standing most calls))
 
 -- a desk after these calls, where all that were due were taken after each
 abbrev pub desk_after : ℕ → List DeskCall → DeskState
 desk_after most calls = record {
   most = most;
-  clock = clock_of calls;
+  clock = greatest_clock 0 calls;
   booked = map call_id (made_of most calls);
-  held = filter (λ (booking : Booking). nat_lt (clock_of calls) booking.release) (sorted (standing most calls));
+  held = filter (λ (booking : Booking). nat_lt (greatest_clock 0 calls) booking.release) (sorted (standing most calls));
 }

@@ -4,4 +4,5 @@ pub mod Released
 pub mod Steps
 pub mod Releases
 pub mod Asked
+pub mod BookText
 pub mod FeedDesk

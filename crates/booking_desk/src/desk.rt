@@ -1,22 +1,17 @@
 //! The booking desk.
 ghost use Rattle.std.specs.Prelude.{◌≡◌, ◌≤◌, ◌∷◌, IsSome, IfOk, IfSome, OnErr, length, option_map};
-ghost use Rattle.booking_desk.specs.Desk.{Booking, is_held, most_bookings, reply_to_book, request_id};
+ghost use Rattle.ride_model.specs.declared.limits.TheConstants.{MOST_REQUESTS};
+ghost use Rattle.booking_desk.specs.Desk.{Booking, is_held, reply_to_book, request_id};
 ghost use Rattle.booking_desk.specs.inner.Desk.{IsDesk, IsRequest, after_book, after_clock, after_take, after_unbook, due_of, new_desk};
 
 use crate::{BookReply, NoMemory};
 use indexmap::IndexMap;
 use ride_model::Command;
 use ride_model::limits::LATEST_TIME;
+use ride_model::refusals::{BOOKED_BEFORE, DESK_FULL, LATE_RELEASE};
 use std::alloc::Global;
 use std::collections::BTreeMap;
 use std::marker::Model;
-
-/// The codes of refused bookings: the id was booked before, the release is too late, and the desk is full.
-const BOOKED_BEFORE: u8 = 19;
-
-const LATE_RELEASE: u8 = 20;
-
-const DESK_FULL: u8 = 22;
 
 /// Bookings, of which those that were neither unbooked nor taken are held in order of release and, of one release, of id.
 ///
@@ -45,12 +40,9 @@ impl Model for BookingDesk {
 }
 
 impl BookingDesk {
-    /// The most bookings of a desk.
-    pub const MOST_BOOKINGS: u32 = 100_000;
-
     /// A desk that takes at most so many bookings, with its clock at 0.
     pub fn new(alloc: Global, most: u32) -> Result<BookingDesk, NoMemory>
-        requires { most ≤ most_bookings }
+        requires { most ≤ MOST_REQUESTS }
         ensures { IfOk result (λ desk. desk ≡ new_desk most) }
     {
         let booked = IndexMap::with_capacity(alloc, most as usize)?;

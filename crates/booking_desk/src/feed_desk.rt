@@ -5,10 +5,11 @@ ghost use Rattle.ride_model.specs.Text.{IsSpelledCommand};
 ghost use Rattle.line_text.specs.inner.text_page.Output.{HasPut};
 ghost use Rattle.command_lines.specs.Limits.{most_lines};
 ghost use Rattle.booking_desk.specs.BookText.{held_line, over_long_line, refusal_line, released_text, reply_text, text_of_lines};
-ghost use Rattle.booking_desk.specs.Desk.{is_held, most_bookings, reply_to_book};
+ghost use Rattle.booking_desk.specs.Desk.{is_held, reply_to_book};
 ghost use Rattle.booking_desk.specs.inner.Desk.{after_book, after_unbook, IsRequest};
 ghost use Rattle.booking_desk.specs.inner.FeedDesk.{AreDue, AreSpelled, HasBooked, IsNew, with_due};
-ghost use Rattle.booking_desk.specs.Released.{DeskCall, clock, clock_of, desk_after, released_at};
+ghost use Rattle.booking_desk.specs.Released.{DeskCall, clock, desk_after, released_at};
+ghost use Rattle.booking_desk.specs.inner.Released.{clock_of};
 ghost use Rattle.booking_desk.specs.Desk.{Booking};
 
 use crate::asked::{Asked, asked_by};
@@ -16,11 +17,10 @@ use crate::plain_lines::{put_held, put_line, put_refusal, put_request};
 use crate::{BookReply, BookingDesk, NoMemory};
 use line_text::text_page::Output;
 use ride_model::Command;
+use ride_model::limits::MOST_REQUESTS;
+use ride_model::refusals::NOT_HELD;
 use ride_ports::Sink;
 use std::alloc::Global;
-
-/// The code of an unbooking of what is not held.
-const NOT_HELD: u8 = 21;
 
 /// A desk, the plain feed on its way out, and how many lines were taken.
 #[derive(Drop)]
@@ -34,7 +34,7 @@ impl FeedDesk {
     pub(crate) fn new(alloc: Global) -> Result<FeedDesk, NoMemory>
         ensures { IfOk result IsNew }
     {
-        let desk = BookingDesk::new(alloc, BookingDesk::MOST_BOOKINGS)?;
+        let desk = BookingDesk::new(alloc, MOST_REQUESTS)?;
         let output = Output::new(alloc)?;
         Ok(FeedDesk {
             desk,
@@ -169,14 +169,14 @@ impl FeedDesk {
         requires spelled { AreSpelled self.old.desk.held }
         ensures lines { self.new.lines ≡ self.old.lines }
         ensures spelled { AreSpelled self.new.desk.held }
-        ensures desk { (calls : List DeskCall) → self.old.desk ≡ desk_after most_bookings calls
-            → self.new.desk ≡ desk_after most_bookings (calls ++ clock time ∷ []) }
+        ensures desk { (calls : List DeskCall) → self.old.desk ≡ desk_after MOST_REQUESTS calls
+            → self.new.desk ≡ desk_after MOST_REQUESTS (calls ++ clock time ∷ []) }
         ensures put { (calls : List DeskCall)
             (before : Option (List ℕ)) (faults : ℕ) (text : List ℕ)
-            → self.old.desk ≡ desk_after most_bookings calls
+            → self.old.desk ≡ desk_after MOST_REQUESTS calls
             → HasPut before (K.written out.old) faults (K.faults out.old) self.old.output text
             → HasPut before (K.written out.new) faults (K.faults out.new) self.new.output
-            (text ++ released_text (released_at most_bookings calls time)) }
+            (text ++ released_text (released_at MOST_REQUESTS calls time)) }
     {
         self.desk.clock(time);
         release_due(&mut self.desk, &mut self.output, out);
@@ -214,7 +214,7 @@ fn release_due<K: Sink>(desk: &mut BookingDesk, output: &mut Output, out: &mut K
     ensures spelled { AreSpelled desk.new.held }
     ensures desk { (calls : List DeskCall) (due : List Booking) → desk.old ≡ with_due calls due
         → AreDue (clock_of calls) due
-        → desk.new ≡ desk_after most_bookings calls }
+        → desk.new ≡ desk_after MOST_REQUESTS calls }
     ensures put { (calls : List DeskCall) (due : List Booking)
         (before : Option (List ℕ)) (faults : ℕ) (text : List ℕ)
         → desk.old ≡ with_due calls due → AreDue (clock_of calls) due

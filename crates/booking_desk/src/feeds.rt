@@ -9,12 +9,12 @@ ghost use Rattle.line_text.specs.line_reader.Limits.{IsWithinLimits};
 ghost use Rattle.line_text.specs.inner.line_reader.Reader.{HasGiven};
 ghost use Rattle.command_lines.specs.Limits.{feed_limits};
 ghost use Rattle.line_text.specs.inner.text_page.Output.{HasPut};
-ghost use Rattle.booking_desk.specs.BookLines.{calls_in};
+ghost use Rattle.ride_model.specs.declared.limits.TheConstants.{MOST_REQUESTS};
+ghost use Rattle.booking_desk.specs.inner.BookText.{calls_in};
 ghost use Rattle.booking_desk.specs.BookText.{text_of_lines};
 ghost use Rattle.booking_desk.specs.Booked.{IsBooked};
 ghost use Rattle.booking_desk.specs.inner.FeedDesk.{IsNew, run_text};
 ghost use Rattle.booking_desk.specs.Released.{desk_after};
-ghost use Rattle.booking_desk.specs.Desk.{most_bookings};
 
 use crate::NoMemory;
 use crate::feed_desk::FeedDesk;
@@ -103,7 +103,7 @@ fn take_lines<S: Source, K: Sink>(
         desk.new.output.failed taken lines
         × HasPut (K.written out.old) (K.written out.new) (K.faults out.old) (K.faults out.new)
         desk.new.output (text_of_lines lines)
-        × IfNone result (desk.new.desk ≡ desk_after most_bookings (calls_in lines)) }
+        × IfNone result (desk.new.desk ≡ desk_after MOST_REQUESTS (calls_in lines)) }
     ensures faults { KeepsCount (is_source_failed result) (S.faults feed.old) (S.faults feed.new) }
 {
     'lines: loop {

@@ -3,7 +3,8 @@ ghost use Rattle.std.specs.Prelude.{◌≡◌, true};
 ghost use Rattle.ride_model.specs.Text.{IsSpelledCommand};
 ghost use Rattle.command_lines.specs.Commands.{spelling_of};
 ghost use Rattle.line_text.specs.inner.text_page.Output.{Puts};
-ghost use Rattle.booking_desk.specs.BookText.{held_line, refusal_line, request_line, spelled_for, with_lf};
+ghost use Rattle.booking_desk.specs.BookText.{held_line, refusal_line, request_line, spelled_for};
+ghost use Rattle.booking_desk.specs.inner.BookText.{with_lf};
 ghost use Rattle.booking_desk.specs.inner.Desk.{IsRequest};
 
 use crate::spelling::print_request;

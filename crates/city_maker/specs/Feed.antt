@@ -3,7 +3,7 @@ use Rattle.std.specs.Prelude.{ℕ, ◌+◌, ◌-◌, ◌*◌, ◌/◌, ◌%◌, 
 use Rattle.std.specs.List.{flat_map, range_with_len}
 use Rattle.ride_model.specs.declared.command.Command.{Command}
 use Rattle.ride_model.specs.declared.command.Command.TheVariants.{Request, Clock, Ask}
-use Rattle.ride_model.specs.Limits.{latest_time}
+use Rattle.ride_model.specs.declared.limits.TheConstants.{LATEST_TIME}
 use Rattle.city_maker.specs.declared.plan.CityPlan.{CityPlan}
 use Rattle.city_maker.specs.Draws.{draw_at}
 use Rattle.city_maker.specs.Plan.{nodes_of}
@@ -28,12 +28,9 @@ request_of plan before =
 
 -- what feed 1 gives for a group: its clock, its requests, fewer than eight in the last group, and an ask
 unfoldable pub group_of : CityPlan → ℕ → List Command
-group_of plan group =
-    Clock (30 * group)
-    ∷ map (request_of plan) (range_with_len (8 * group) (min 8 (plan.requests - 8 * group)))
-    ++ Ask ∷ []
+group_of plan group = Clock (30 * group)
+    ∷ map (request_of plan) (range_with_len (8 * group) (min 8 (plan.requests - 8 * group))) ++ Ask ∷ []
 
 -- the commands of feed 1: those of all groups, and a last clock
 unfoldable pub commands_of : CityPlan → List Command
-commands_of plan =
-    flat_map (group_of plan) (range_with_len 0 ((plan.requests + 7) / 8)) ++ Clock latest_time ∷ []
+commands_of plan = flat_map (group_of plan) (range_with_len 0 ((plan.requests + 7) / 8)) ++ Clock LATEST_TIME ∷ []

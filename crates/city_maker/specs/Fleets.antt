@@ -1,8 +1,9 @@
 -- The settings and the fleet of a city.
-use Rattle.std.specs.Prelude.{ℕ, ◌+◌, true, List, [], length, map}
+use Rattle.std.specs.Prelude.{ℕ, ◌+◌, List, length, map}
 use Rattle.std.specs.List.{range_with_len}
 use Rattle.ride_model.specs.declared.settings.Settings.{Settings}
 use Rattle.ride_model.specs.declared.vehicle.Vehicle.{Vehicle}
+use Rattle.ride_model.specs.Fleet.{idle_vehicle}
 use Rattle.city_maker.specs.declared.plan.CityPlan.{CityPlan}
 use Rattle.city_maker.specs.Draws.{draw_at}
 use Rattle.city_maker.specs.Plan.{nodes_of}
@@ -18,17 +19,7 @@ road_draws plan = length (neighbour_pairs plan.side)
 
 -- the vehicle that comes after so many others: of 4 seats, idle at a drawn node from time 0 on
 unfoldable pub vehicle_of : CityPlan → ℕ → Vehicle
-vehicle_of plan before = record {
-  id = before + 1;
-  seats = 4;
-  chairs = 0;
-  at = 1 + draw_at plan.seed (road_draws plan + before) (nodes_of plan);
-  ready = 0;
-  duty = true;
-  version = 0;
-  rides = record { items = [] };
-  stops = record { items = [] };
-}
+vehicle_of plan before = idle_vehicle (before + 1) 4 0 (1 + draw_at plan.seed (road_draws plan + before) (nodes_of plan)) 0
 
 -- the fleet of a city
 abbrev pub fleet_of : CityPlan → List Vehicle

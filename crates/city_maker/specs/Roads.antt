@@ -20,8 +20,7 @@ pairs_at side row column =
 
 -- all pairs of neighbours, for each node in rising order
 abbrev pub neighbour_pairs : ℕ → List (ℕ × ℕ)
-neighbour_pairs side =
-    flat_map (λ row. flat_map (pairs_at side row) (range_with_len 0 side)) (range_with_len 0 side)
+neighbour_pairs side = flat_map (λ row. flat_map (pairs_at side row) (range_with_len 0 side)) (range_with_len 0 side)
 
 -- the arcs there and back between the two nodes of a pair, of one drawn weight, where so many pairs come before it
 unfoldable pub arcs_between : ℕ → ℕ × (ℕ × ℕ) → List RoadArc

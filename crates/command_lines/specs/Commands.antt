@@ -12,8 +12,7 @@ use Rattle.command_lines.specs.declared.verbs.Verb.TheVariants.{Request as ToReq
 
 -- what a first field asks for
 abbrev pub verb_of : List ℕ → Option Verb
-verb_of word =
-    if bytes_eq word (codes "request") then Some ToRequest
+verb_of word = if bytes_eq word (codes "request") then Some ToRequest
     else (if bytes_eq word (codes "cancel") then Some ToCancel
     else (if bytes_eq word (codes "at") then Some ToBeAt
     else (if bytes_eq word (codes "done") then Some ToBeDone
@@ -40,8 +39,7 @@ command_from _ _ _ = None
 -- the command that fields spell
 abbrev pub command_of_fields : ℕ → List (List ℕ) → Option Command
 command_of_fields log [] = None
-command_of_fields log (word ∷ fields) =
-    option_and_then (λ verb. option_and_then (command_from log verb) (numbers_of fields)) (verb_of word)
+command_of_fields log (word ∷ fields) = option_and_then (λ verb. option_and_then (command_from log verb) (numbers_of fields)) (verb_of word)
 
 -- what a line of a feed says by its words: nothing where it is blank or a comment, else what its fields spell, or that it is bad
 abbrev pub said_by_words : {A : Type 0} → (List (List ℕ) → Option A) → A → Option (List (List ℕ)) → Option A

@@ -4,18 +4,16 @@ use Rattle.ride_model.specs.declared.command.Command.{Command}
 use Rattle.line_text.specs.declared.line_reader.limits.Limits.{Limits}
 use Rattle.line_text.specs.line_reader.Limits.{lines_within}
 use Rattle.command_lines.specs.Commands.{commands_from}
+use Rattle.command_lines.specs.declared.limits.TheConstants.{FEED_LIMITS}
 use Rattle.command_lines.specs.declared.forms.FeedForm.{FeedForm}
 
--- the most bytes and lines of a feed
-abbrev pub most_bytes : ℕ
-most_bytes = 67108864
-
+-- the most lines of a feed
 abbrev pub most_lines : ℕ
-most_lines = 1000000
+most_lines = FEED_LIMITS.lines
 
 -- the limits of a feed that may have so many lines: of a line the first 200 bytes are kept
 abbrev pub limits_of : ℕ → Limits
-limits_of lines = record { line = 200; bytes = most_bytes; lines = lines }
+limits_of lines = record FEED_LIMITS { lines = lines }
 
 -- those of a feed that begins
 abbrev pub feed_limits : Limits

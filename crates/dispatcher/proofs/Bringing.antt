@@ -1,5 +1,5 @@
 -- Sources that are brought, read and given back.
-use Rattle.dispatcher.proofs.Common.{◌≡◌, ℕ, ◌+◌, ◌<◌, List, [], ◌∷◌, ◌++◌, Option, Some, None, Result, Ok, Err, inl, inr, refl, ap, subst, ◌⊎◌, ◌∙◌, append_assoc, arith, IfSome, all_of_none, all_of_one, all_of_two, Format, Reads, Contents, GivenBack, bytes_at, IsContentOf, Rose, FailsIn, AsksOnce, IsReadBy, ReadsAs, IsLeftOf, IsSpent, Shelved, told_bytes, Stop, ShelfFault, Adds, Brings, Hands, Misses, MissesAfter, TakesBack, Sunk, IsUntouched, Reads-none, given_back}
+use Rattle.dispatcher.proofs.Common.{◌≡◌, ℕ, ◌+◌, ◌<◌, List, [], ◌∷◌, ◌++◌, Option, Some, None, Result, Ok, Err, inl, inr, refl, ap, subst, ◌⊎◌, ◌∙◌, append_assoc, arith, IfSome, all_of_none, all_of_one, all_of_two, Format, Reads, Contents, GivenBack, bytes_at, IsContentOf, Rose, FailsIn, AsksOnce, IsReadBy, ReadsAs, IsSpent, Shelved, told_bytes, Stop, ShelfFault, Adds, Brings, Hands, Misses, MissesAfter, TakesBack, Sunk, Reads-none, given_back}
 use Rattle.ride_ports.proofs.CountLemmas.{Rose-then_kept, Rose-after_kept}
 
 -- names that were asked for after others
@@ -24,6 +24,10 @@ bytes-of (Some contents) name bytes (some, is) = by bytes (bytes_at contents nam
     by b None same = tt
     by b (Some told) same = same
 
+-- some bytes of a file were taken, and the others were left in the source that was given back
+abbrev pub IsLeftOf : Option (List ℕ) → GivenBack → List ℕ → Type 0
+IsLeftOf file source taken = IfSome file (λ bytes. Reads (Some bytes) source.left taken)
+
 -- what holds of the bytes of a source holds of its file, where it says nothing of bytes that are not told
 pub of-file : (P : Option (List ℕ) → Type 0) (file bytes : Option (List ℕ)) → AreBytesOf file bytes → (P bytes → P None) → P bytes → P file
 of-file P None bytes are none is = none is
@@ -31,15 +35,15 @@ of-file P (Some told) bytes are none is = subst P are is
 
 pub left-of : (file bytes : Option (List ℕ)) (source : GivenBack) (taken : List ℕ) → AreBytesOf file bytes → Reads bytes source.left taken
     → IsLeftOf file source taken
-left-of None bytes source taken are reads = record { left = tt }
-left-of (Some told) bytes source taken are reads = record { left = subst (λ (o : Option (List ℕ)). Reads o source.left taken) are reads }
+left-of None bytes source taken are reads = tt
+left-of (Some told) bytes source taken are reads = subst (λ (o : Option (List ℕ)). Reads o source.left taken) are reads
 
 -- a count that rose from nothing is above it
 pub rose-above : (before after : ℕ) → before ≡ 0 → Rose before after → 0 < after
 rose-above before after none rose = omega (arith, none, rose (λ most. omega (arith, none, most)))
 
 -- a name that was not brought, alone and after another
-pub misses-first : {name : List ℕ} {old new : Shelved} {out : Sunk} {status : ℕ} → Misses name old new → status ≡ 5 → IsUntouched out
+pub misses-first : {name : List ℕ} {old new : Shelved} {out : Sunk} {status : ℕ} → Misses name old new → status ≡ 5 → out.after ≡ out.before
     → MissesAfter [] name old new out status
 misses-first misses is untouched = record {
   status_is = is;
@@ -52,7 +56,7 @@ misses-first misses is untouched = record {
 }
 
 pub misses-second : {first second : List ℕ} {bytes : Option (List ℕ)} {j k : ℕ} {a b c d : Shelved} {out : Sunk} {status : ℕ}
-    → Brings first bytes j a b → Misses second b c → TakesBack (given_back k bytes) c d → status ≡ 5 → IsUntouched out
+    → Brings first bytes j a b → Misses second b c → TakesBack (given_back k bytes) c d → status ≡ 5 → out.after ≡ out.before
     → MissesAfter (first ∷ []) second a d out status
 misses-second {first} {bytes} {k} {a} {d} brings misses takes is untouched = record {
   status_is = is;
@@ -65,42 +69,48 @@ misses-second {first} {bytes} {k} {a} {d} brings misses takes is untouched = rec
 }
 
 -- a text whose name was not brought, and one that was read from its source
-module _ {S V E : Type 0} (format : Format S V E) (stop_of : E → Stop) (name : List ℕ) where
-  pub asks-none : (old new : Shelved) → Misses name old new → AsksOnce format stop_of name old new (Err ShelfFault)
+module _ {S V E : Type 0} (format : Format S V E) (refused : E → Stop) (name : List ℕ) where
+  pub asks-none : (old new : Shelved) → Misses name old new → AsksOnce format refused name old new (Err ShelfFault)
   asks-none old new misses = record {
     sources = [];
     adds = misses.adds;
     left = tt;
-    answer = inr (inl refl);
+    answer = inr (inl (refl, all_of_none (FailsIn format (told_bytes old.told name))));
     whole = λ value is. absurd (cc is);
-    fault = λ is. (misses.rose, all_of_none (FailsIn format (told_bytes old.told name)));
+    rose = λ is. misses.rose;
   }
 
-  untold : (outcome : Result V Stop) (bytes : Option (List ℕ)) → ReadsAs format stop_of bytes outcome → ReadsAs format stop_of None outcome
+  untold : (outcome : Result V Stop) (bytes : Option (List ℕ)) → ReadsAs format refused bytes [] outcome → ReadsAs format refused None [] outcome
   untold (Ok value) bytes reads = tt
   untold (Err stop) bytes (inl memory) = inl memory
-  untold (Err stop) bytes (inr (inl fault)) = inr (inl fault)
-  untold (Err stop) bytes (inr (inr (e, is, refused))) = inr (inr (e, is, tt))
+  untold (Err stop) bytes (inr (inl fault)) = inr (inl (fault.0, all_of_none (FailsIn format None)))
+  untold (Err stop) bytes (inr (inr error)) = inr (inr (error.0, error.1, tt))
+
+  failed-so : (file : Option (List ℕ)) (source : GivenBack) (outcome : Result V Stop) → ReadsAs format refused file [] outcome
+      → (outcome ≡ Err ShelfFault → FailsIn format file source) → ReadsAs format refused file (source ∷ []) outcome
+  failed-so file source (Ok value) reads fails = reads
+  failed-so file source (Err stop) (inl memory) fails = inl memory
+  failed-so file source (Err stop) (inr (inl fault)) fails =
+      inr (inl (fault.0, all_of_one (FailsIn format file) source (fails (ap (λ (s : Stop). Err s) fault.0))))
+  failed-so file source (Err stop) (inr (inr error)) fails = inr (inr error)
 
   pub asks-one : (old mid new : Shelved) (bytes : Option (List ℕ)) (faults : ℕ) (source : GivenBack) (outcome : Result V Stop)
-      → Brings name bytes faults old mid → ReadsAs format stop_of bytes outcome → IsReadBy format bytes source outcome
-      → (outcome ≡ Err ShelfFault → 0 < source.faults) → TakesBack source mid new → AsksOnce format stop_of name old new outcome
+      → Brings name bytes faults old mid → ReadsAs format refused bytes [] outcome → IsReadBy format bytes source outcome
+      → (outcome ≡ Err ShelfFault → 0 < source.faults) → TakesBack source mid new → AsksOnce format refused name old new outcome
   asks-one old mid new bytes faults source outcome brings answer read failed takes =
       let file = told_bytes old.told name in
       let are = bytes-of old.told name bytes brings.content in
       record {
         sources = source ∷ [];
         adds = Adds-then brings.adds takes.adds;
-        left = ((read.taken, of-file (λ o. IsLeftOf o source read.taken) file bytes are (λ left. record { left = tt }) read.left), tt);
-        answer = of-file (λ o. ReadsAs format stop_of o outcome) file bytes are (untold outcome bytes) answer;
+        left = ((read.taken, of-file (λ o. IsLeftOf o source read.taken) file bytes are (λ left. tt) read.left), tt);
+        answer = failed-so file source outcome (of-file (λ o. ReadsAs format refused o [] outcome) file bytes are (untold outcome bytes) answer) (λ is.
+            of-file (λ o. FailsIn format o source) file bytes are
+            (λ fails. record { taken = fails.taken; left = tt; within = fails.within; sound = fails.sound }) (read.fault is));
         whole = λ value is.
             let spent = read.whole value is in
             (refl, all_of_one IsSpent source spent, takes.sound spent.no_fault ∙ brings.sound);
-        fault = λ is. (
-          subst (λ (k : ℕ). Rose k new.faults) brings.sound (takes.rises (failed is)),
-          all_of_one (FailsIn format file) source (of-file (λ o. FailsIn format o source) file bytes are
-              (λ fails. record { taken = fails.taken; left = record { left = tt }; within = fails.within; sound = fails.sound }) (read.fault is)),
-        );
+        rose = λ is. subst (λ (k : ℕ). Rose k new.faults) brings.sound (takes.rises (failed is));
       }
 
 -- what is known of a source that was brought, worked over and given back

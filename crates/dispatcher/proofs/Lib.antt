@@ -1,10 +1,8 @@
 pub mod Common
-pub mod Statuses
 pub mod Saying
 pub mod Bringing
 pub mod Reading
 pub mod TextRuns
-pub mod Ends
 pub mod Completing
 pub mod Running
 pub mod ServedFeeds

@@ -1,5 +1,5 @@
 -- The texts of a run, read one after another.
-use Rattle.dispatcher.proofs.Common.{◌≡◌, ℕ, ◌+◌, List, [], ◌∷◌, ◌++◌, Option, Ok, Err, IfSome, refl, sym, ap, subst, ◌∙◌, arith, length-append, All, length, map, length-map, map-append, All-append, All-head, all_of_none, all_of_one, Format, Contents, GivenBack, Rose, File, name_of, FailsAt, FailsIn, Meaning, Means, StopsAt, StopsBy, StopsReading, AreRead, AsksOnce, AreBack, AreGivenBack, IsFresh, IsSpent, Shelved, told_bytes, Stop, NoMemory, Adds}
+use Rattle.dispatcher.proofs.Common.{◌≡◌, ℕ, List, [], ◌∷◌, ◌++◌, Option, Ok, Err, IfSome, refl, sym, ap, subst, ◌∙◌, arith, length-append, drop, drop_at, All, length, map, length-map, map-append, All-append, all_of_none, all_of_one, Format, Contents, GivenBack, Rose, File, name_of, Meaning, Means, StopsAt, StopsBy, StopsReading, AreRead, AsksOnce, AreBack, AreGivenBack, IsFresh, IsSpent, Shelved, told_bytes, Stop, NoMemory, Adds}
 use Rattle.line_text.specs.Texts.{text_value}
 
 -- sources of the first names, and then of others
@@ -58,32 +58,23 @@ module _ (files : List File) (m : Meaning) (old mid new : Shelved) (read : AreRe
   }
 
   -- the text of one file more was read, or stopped the run
-  module _ (file : File) {S V E : Type 0} (format : Format S V E) (stop_of : E → Stop) where
+  module _ (file : File) {S V E : Type 0} (format : Format S V E) (refused : E → Stop) where
     abbrev told_file : Option (List ℕ)
     told_file = told_bytes old.told (name_of file)
 
-    pub one-more : (value : V) → AsksOnce format stop_of (name_of file) mid new (Ok value)
+    pub one-more : (value : V) → AsksOnce format refused (name_of file) mid new (Ok value)
         → (IfSome told_file (λ bytes. text_value format bytes ≡ Ok value) → Means old.told m file) → AreRead (files ++ file ∷ []) m old new
     one-more value asks means =
         let (many, spent, sound) = asks.whole value refl in
         read-more (file ∷ []) asks.sources asks.adds asks.left many spent sound (all_of_one (Means old.told m) file (means
         (subst (λ (t : Option Contents). IfSome (told_bytes t (name_of file)) (λ bytes. text_value format bytes ≡ Ok value)) read.told asks.answer)))
 
-    -- the one source that was given back last
-    last-is : (first before sources : List GivenBack) (source : GivenBack) → before ++ sources ≡ first ++ source ∷ [] → length sources ≡ 1
-        → sources ≡ source ∷ []
-    last-is [] [] sources source is one = is
-    last-is (f ∷ first) [] sources source is one =
-        absurd (omega (arith, one, ap length is ∙ length-append (f ∷ first) (source ∷ [])))
-    last-is [] (x ∷ before) sources source is one =
-        absurd (omega (arith, one, sym (length-append (x ∷ before) sources) ∙ ap length is))
-    last-is (f ∷ first) (x ∷ before) sources source is one = last-is first before sources source (cc is) one
-
-    pub one-stops : (later : List File) (stop : Stop) → AsksOnce format stop_of (name_of file) mid new (Err stop)
-        → (StopsBy format stop_of told_file stop → StopsAt old.told m file stop)
-        → ((s : GivenBack) → FailsIn format told_file s → FailsAt old.told m file s) → StopsReading (files ++ file ∷ later) stop old new
-    one-stops later stop asks stops fails =
-        let names : length new.asked ≡ length mid.asked + 1 = ap length asks.adds.asked ∙ length-append mid.asked (name_of file ∷ []) in
+    pub one-stops : (later : List File) (stop : Stop) → AsksOnce format refused (name_of file) mid new (Err stop)
+        → ((sources : List GivenBack) → StopsBy format refused told_file sources stop → StopsAt old.told m file sources stop)
+        → StopsReading (files ++ file ∷ later) stop old new
+    one-stops later stop asks stops =
+        let own : drop (length files) new.back ≡ asks.sources =
+        ap (drop (length files)) asks.adds.kept ∙ drop_at mid.back asks.sources (length files) (read.back.all_back ∙ read.brought) in
         record {
           earlier = files;
           file = file;
@@ -92,21 +83,16 @@ module _ (files : List File) (m : Meaning) (old mid new : Shelved) (read : AreRe
           asked_are = asked-more (file ∷ []) (length asks.sources) asks.sources asks.adds;
           meaning = m;
           means = read.means;
-          why = stops (subst (λ (t : Option Contents). StopsBy format stop_of (told_bytes t (name_of file)) stop) read.told asks.answer);
+          why = stops (drop (length files) new.back) (subst (λ (l : List GivenBack). StopsBy format refused told_file l stop) (sym own)
+              (subst (λ (t : Option Contents). StopsBy format refused (told_bytes t (name_of file)) asks.sources stop) read.told asks.answer));
           back = back-more (name_of file ∷ []) asks.sources asks.adds asks.left;
-          rose = λ is. subst (λ (k : ℕ). Rose k new.faults) read.faults (asks.fault (ap (λ (s : Stop). Err s) is)).0;
-          before_fault = λ first source is all last.
-              let one = last-is first mid.back asks.sources source (sym asks.adds.kept ∙ last)
-              (omega (arith, all, asks.adds.counted, names, many-back, read.back.all_back)) in
-              fails source (subst (λ (t : Option Contents). FailsIn format (told_bytes t (name_of file)) source) read.told
-              (All-head (FailsIn format (told_bytes mid.told (name_of file))) source []
-              (subst (λ (l : List GivenBack). All (FailsIn format (told_bytes mid.told (name_of file))) l) one
-              (asks.fault (ap (λ (s : Stop). Err s) is)).1)));
+          rose = λ is. subst (λ (k : ℕ). Rose k new.faults) read.faults (asks.rose (ap (λ (s : Stop). Err s) is));
         }
 
 -- memory was wanting after the last of some texts
 pub then-stops : (files : List File) (last : File) (m : Meaning) (old new : Shelved) → AreRead (files ++ last ∷ []) m old new
-    → All (Means old.told m) files → StopsAt old.told m last NoMemory → (more : List File) → StopsReading (files ++ last ∷ more) NoMemory old new
+    → All (Means old.told m) files → ((sources : List GivenBack) → StopsAt old.told m last sources NoMemory)
+    → (more : List File) → StopsReading (files ++ last ∷ more) NoMemory old new
 then-stops files last m old new read means why more = record {
   earlier = files;
   file = last;
@@ -115,8 +101,7 @@ then-stops files last m old new read means why more = record {
   asked_are = read.asked;
   meaning = m;
   means = means;
-  why = why;
+  why = why (drop (length files) new.back);
   back = read.back;
   rose = λ is. absurd (cc is);
-  before_fault = λ first source is. absurd (cc is);
 }

@@ -1,10 +1,8 @@
 -- What a service of two feeds tells of what was taken of them, and of its status.
-use Rattle.dispatcher.proofs.Common.{◌≡◌, ◌⊎◌, inl, inr, ℕ, ◌&&◌, Bool, true, false, List, [], Option, refl, sym, subst, ◌∙◌, IsTrue, list_all, range_with_len, given_back, Reads, Ran, Reads-none, ended_whole, replay, Feed, Whole, Entry, FeedRun, HasNotServed, HasServed, IsServed, new_feed, Meaning, start_of, HasAnswered, Sunk}
+use Rattle.dispatcher.proofs.Common.{◌≡◌, ◌⊎◌, inl, inr, ℕ, ◌&&◌, Bool, true, false, List, [], Option, refl, sym, ap, subst, ◌∙◌, IsTrue, list_all, range_with_len, given_back, Reads, Ran, Reads-none, ended_whole, replay, Feed, Whole, Entry, FeedRun, HasNotServed, HasServed, IsServed, new_feed, Meaning, start_of, HasAnswered, Sunk, ending-whole, nobody-whole, whole-status}
 use Rattle.live_sessions.specs.Serving.{IsFeedOf}
 use Rattle.ride_ports.specs.Status.{status_of}
-use Rattle.dispatcher.proofs.Ends.{ending-whole, nobody-whole}
 use Rattle.dispatcher.proofs.Bringing.{Worked}
-use Rattle.dispatcher.proofs.Statuses.{whole-status}
 
 two : (p : ℕ → Bool) → IsTrue (list_all p (range_with_len 1 2)) → (p 1 ≡ true) × (p 2 ≡ true)
 two p is = by (p 1) (p 2) is
@@ -32,10 +30,9 @@ module _ (m : Meaning) (desks : ℕ) (riders drivers : FeedRun) (ran : Ran) (out
     legal = has;
     of_riders = of_riders;
     of_drivers = of_drivers;
-    all_of_riders = riders_whole;
-    all_of_drivers = drivers_whole;
     too_long = long;
-    within = λ zero. ((of_riders.whole (riders_whole zero)).0.within, (of_drivers.whole (drivers_whole zero)).0.within);
+    all_of_riders = λ zero. (riders_whole zero, (of_riders.whole (riders_whole zero)).0.within);
+    all_of_drivers = λ zero. (drivers_whole zero, (of_drivers.whole (drivers_whole zero)).0.within);
   }
     where
       both_whole : status_of ran ≡ 0 → (ended_whole (replay (start_of m) entries) (Feed 1) ≡ true) × (ended_whole (replay (start_of m) entries) (Feed 2) ≡ true)
@@ -78,9 +75,9 @@ module _ (m : Meaning) (desks : ℕ) (riders drivers : FeedRun) (ran : Ran) (out
     }
 
     pub riders-worked : Served → Worked riders.bytes riders.faults_before (given_back riders.faults_after riders.left) status
-    riders-worked (inl not) = none-worked riders not.nothing_read_of_riders not.wanting
-    riders-worked (inr has) = some-worked 1 riders has.riders_taken has.entries has.of_riders has.all_of_riders
+    riders-worked (inl not) = none-worked riders not.nothing_read_of_riders (ap (λ (r : Ran). r.no_memory) not.ran_is)
+    riders-worked (inr has) = some-worked 1 riders has.riders_taken has.entries has.of_riders (λ zero. (has.all_of_riders zero).0)
 
     pub drivers-worked : Served → Worked drivers.bytes drivers.faults_before (given_back drivers.faults_after drivers.left) status
-    drivers-worked (inl not) = none-worked drivers not.nothing_read_of_drivers not.wanting
-    drivers-worked (inr has) = some-worked 2 drivers has.drivers_taken has.entries has.of_drivers has.all_of_drivers
+    drivers-worked (inl not) = none-worked drivers not.nothing_read_of_drivers (ap (λ (r : Ran). r.no_memory) not.ran_is)
+    drivers-worked (inr has) = some-worked 2 drivers has.drivers_taken has.entries has.of_drivers (λ zero. (has.all_of_drivers zero).0)

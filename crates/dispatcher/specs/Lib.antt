@@ -1,4 +1,3 @@
-pub mod Refusals
 pub mod Shelves
 pub mod Meanings
 pub mod Works

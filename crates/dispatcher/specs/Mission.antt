@@ -29,14 +29,15 @@ pub record Commit (entries : List Entry) : Type 0 where
   pub prices : List (ℕ × ℕ)
   pub pays : List (ℕ × ℕ)
   pub outcomes : List (ℕ × Outcome)
+  pub entry : Entry
+  pub entry_is : entry ≡ record { actor = Desk desk; event = Committed number cost seats prices pays outcomes }
   pub after : List Entry
-  pub stands : entries ≡ before ++ (record { actor = Desk desk; event = Committed number cost seats prices pays outcomes }) ∷ after
+  pub stands : entries ≡ before ++ entry ∷ after
 
 -- the seats of each commit are a least seating of the batch as it was opened, over the versions that its opening names, as the prices
 -- and payments of its own line prove
 abbrev pub SeatsAtLeastCost : State → List Entry → Type 0
-SeatsAtLeastCost start entries = (c : Commit entries)
-    → IsSomeAnd (open_batch_numbered (replay start c.before) c.desk c.number)
+SeatsAtLeastCost start entries = (c : Commit entries) → IsSomeAnd (open_batch_numbered (replay start c.before) c.desk c.number)
     (λ batch. CommitsBatch (replay start c.before) batch c.cost c.seats c.prices c.pays c.outcomes)
 
 -- a vehicle whose version is not the batch's any more is as it was before the commit
@@ -44,8 +45,7 @@ abbrev pub CommitsOnlyStanding : State → List Entry → Type 0
 CommitsOnlyStanding start entries = (c : Commit entries) (batch : BatchCopy) (id : ℕ)
     → open_batch_numbered (replay start c.before) c.desk c.number ≡ Some batch
     → version_of batch.vehicles id ≢ version_of (replay start c.before).vehicles id
-    → find_vehicle (replay start (c.before ++ (record { actor = Desk c.desk; event = Committed c.number c.cost c.seats c.prices c.pays c.outcomes }) ∷ [])).vehicles id
-    ≡ find_vehicle (replay start c.before).vehicles id
+    → find_vehicle (replay start (c.before ++ c.entry ∷ [])).vehicles id ≡ find_vehicle (replay start c.before).vehicles id
 
 -- one legal history is what was logged; each feed's commands stand in it once and in order, all of them; every batch is seated at
 -- least cost over the versions that it names, as its printed prices prove; only standing pairs are committed; and every confirmed ride

@@ -1,27 +1,20 @@
 -- How a run over the files of what was asked for ends.
-use Rattle.std.specs.Prelude.{◌≡◌, ◌⊎◌, ℕ, ⊤, List, [], ◌∷◌, ◌++◌, length, map, All, Option, Some, None, codes}
-use Rattle.ride_ports.specs.Contents.{Contents, GivenBack}
+use Rattle.std.specs.Prelude.{◌≡◌, ◌⊎◌, ℕ, List, [], ◌∷◌, ◌++◌, length, drop, map, All, Option, Some, IfSome, IsSomeAnd}
+use Rattle.ride_ports.specs.Contents.{Contents, GivenBack, given_back}
 use Rattle.ride_ports.specs.Count.{Rose}
 use Rattle.line_text.specs.line_reader.Limits.{IsTooLong, IsWithinLimits}
 use Rattle.command_lines.specs.Limits.{feed_limits}
 use Rattle.log_audit.specs.Limits.{log_limits}
 use Rattle.live_sessions.specs.Serving.{FeedRun}
-use Rattle.run_words.specs.Words.{Asked, a_replay, an_ahead, an_audit, a_service, a_drill, a_booking, a_league, feed_file, File, files_of, log_file, name_of}
-use Rattle.dispatcher.specs.Meanings.{FailsAt, IsTextOf, Meaning, Means, said_of, status_of, StopsAt}
-use Rattle.dispatcher.specs.Shelves.{AreBack, IsBackOf, IsFresh, IsSpent, IsUntouched, SaysTo, Shelved, Sunk, told_bytes}
+use Rattle.run_words.specs.Words.{Asked, a_replay, an_audit, a_service, a_drill, a_booking, a_league, feed_file, File, files_of, log_file, name_of}
+use Rattle.dispatcher.specs.Meanings.{IsTextOf, Meaning, Means, said_of, status_of, StopsAt}
+use Rattle.dispatcher.specs.Shelves.{AreBack, IsFresh, IsSpent, Says, Shelved, Sunk, told_bytes}
 use Rattle.dispatcher.specs.Verdicts.{Audits}
 use Rattle.dispatcher.specs.Works.{Books, Drills, PlaysLeague, Replays, Serves}
 use Rattle.dispatcher.specs.declared.stop.Stop.{Stop}
 use Rattle.dispatcher.specs.declared.stop.Stop.TheVariants.{ShelfFault}
 
--- memory was wanting before anything was asked for
-pub record IsUnread (shelf : Shelved) (out : Sunk) (status : ℕ) : Type 0 where
-  pub wanting : status ≡ 1
-  pub fresh : IsFresh shelf
-  pub untouched : IsUntouched out
-
--- a run stopped at the file that was asked for last, behind files that mean this. The shelf's count rose where it says so; where that
--- file had been brought, its source failed within the limit of its text, after no faulty line
+-- a run stopped at the file that was asked for last, behind files that mean this. The shelf's count rose where it says so
 pub record StopsReading (files : List File) (stop : Stop) (old new : Shelved) : Type 0 where
   pub earlier : List File
   pub file : File
@@ -30,32 +23,25 @@ pub record StopsReading (files : List File) (stop : Stop) (old new : Shelved) : 
   pub asked_are : new.asked ≡ map name_of (earlier ++ file ∷ [])
   pub meaning : Meaning
   pub means : All (Means old.told meaning) earlier
-  pub why : StopsAt old.told meaning file stop
+  pub why : StopsAt old.told meaning file (drop (length earlier) new.back) stop
   pub back : AreBack old.told new
   pub rose : stop ≡ ShelfFault → Rose old.faults new.faults
-  pub before_fault : (first : List GivenBack) (source : GivenBack) → stop ≡ ShelfFault → new.brought ≡ length new.asked → new.back ≡ first ++ source ∷ []
-      → FailsAt old.told meaning file source
 
 -- a run stopped before its work: the status and the line tell why, unless memory was wanting for that
-pub record HasStopped (files : List File) (old new : Shelved) (out : Sunk) (status : ℕ) : Type 0 where
-  pub stop : Stop
-  pub reading : StopsReading files stop old new
-  pub status_is : (status ≡ status_of stop) ⊎ (status ≡ 1)
-  pub said : status ≡ status_of stop → SaysTo out (said_of stop)
-  pub no_memory : status ≡ 1 → IsUntouched out
+abbrev pub HasStopped : List File → Shelved → Shelved → Sunk → ℕ → Type 0
+HasStopped files old new out status = (stop : Stop) × StopsReading files stop old new × Says out status (status_of stop) (said_of stop)
 
--- the source that was given back last is that of a file
+-- the source that was given back last is that of a file: it was brought without a fault, with the bytes of its name where they are told
 pub record IsOver (told : Option Contents) (name : List ℕ) (back : List GivenBack) : Type 0 where
   pub feed : FeedRun
-  pub source : GivenBack
   pub earlier : List GivenBack
-  pub back_is : back ≡ earlier ++ source ∷ []
-  pub of_file : IsBackOf (told_bytes told name) source feed
+  pub back_is : back ≡ earlier ++ given_back feed.faults_after feed.left ∷ []
+  pub bytes_are : IfSome (told_bytes told name) (λ bytes. feed.bytes ≡ Some bytes)
+  pub fresh : feed.faults_before ≡ 0
 
 -- what was done, by what was asked for
 abbrev pub Does : Asked → Option Contents → Meaning → List GivenBack → Sunk → ℕ → Type 0
-Does (a_replay map fleet feed) told m back out status = (over : IsOver told feed back) × Replays m None over.feed out status
-Does (an_ahead map fleet feed reach) told m back out status = (over : IsOver told feed back) × Replays m (Some reach) over.feed out status
+Does (a_replay map fleet feed reach) told m back out status = (over : IsOver told feed back) × Replays m reach over.feed out status
 Does (an_audit map fleet log) told m back out status = (over : IsOver told log back) × Audits m over.feed out status
 Does (a_service map fleet riders drivers workers desks) told m back out status =
     (second : IsOver told drivers back) × (first : IsOver told riders second.earlier) × Serves m desks first.feed second.feed out status
@@ -79,34 +65,17 @@ pub record HasWorked (ask : Asked) (old new : Shelved) (out : Sunk) (status : �
   pub sink_fault : status ≡ 6 → Rose out.faults_before out.faults_after
   pub untouched : files_of ask ≡ [] → new ≡ old
 
--- the words are not in order: that is said, unless memory was wanting, and nothing is asked for
-pub record RefusesWords (shelf : Shelved) (out : Sunk) (status : ℕ) : Type 0 where
-  pub fresh : IsFresh shelf
-  pub statuses : (status ≡ 2) ⊎ (status ≡ 1)
-  pub said : status ≡ 2 → SaysTo out (codes "words refused\n")
-  pub unread : status ≡ 1 → IsUntouched out
+-- the bytes of a file are told, and are its text; feeds and logs are within their limits
+abbrev pub IsWhole : Option Contents → Meaning → File → Type 0
+IsWhole told m (feed_file name) = IsSomeAnd (told_bytes told name) (IsWithinLimits feed_limits)
+IsWhole told m (log_file name) = IsSomeAnd (told_bytes told name) (λ bytes. IsTooLong log_limits bytes → ⊥)
+IsWhole told m file = IsSomeAnd (told_bytes told (name_of file)) (IsTextOf m file)
 
--- feeds and logs are within their limits
-abbrev pub IsWithin : File → List ℕ → Type 0
-IsWithin (feed_file name) bytes = IsWithinLimits feed_limits bytes
-IsWithin (log_file name) bytes = IsTooLong log_limits bytes → ⊥
-IsWithin _ bytes = ⊤
-
--- the bytes of a file are told, and are its text
-pub record IsWhole (told : Option Contents) (m : Meaning) (file : File) : Type 0 where
-  pub bytes : List ℕ
-  pub bytes_are : told_bytes told (name_of file) ≡ Some bytes
-  pub text : IsTextOf m file bytes
-  pub within : IsWithin file bytes
-
--- how a run ends that no fault kept from its end: whole, or for want of memory; an audit may find its log wrong
-abbrev pub MayEnd : Asked → ℕ → Type 0
-MayEnd (an_audit map fleet log) status = (status ≡ 0) ⊎ (status ≡ 1) ⊎ (status ≡ 7)
-MayEnd _ status = (status ≡ 0) ⊎ (status ≡ 1)
-
--- a run for what was asked ended so: memory was wanting before it began, or it stopped over a file, or it did its work. Where the
--- files are whole and no count rose, it did its work whole, or memory was wanting
+-- a run for what was asked ended so: memory was wanting before anything was asked for, or it stopped over a file, or it did its work.
+-- Where the files are whole and no count rose, it did its work whole, or memory was wanting; an audit may find its log wrong
 pub record IsRun (ask : Asked) (old new : Shelved) (out : Sunk) (status : ℕ) : Type 0 where
-  pub ended : IsUnread new out status ⊎ HasStopped (files_of ask) old new out status ⊎ HasWorked ask old new out status
+  pub ended : ((status ≡ 1) × IsFresh new × (out.after ≡ out.before)) ⊎ HasStopped (files_of ask) old new out status
+      ⊎ HasWorked ask old new out status
   pub complete : (m : Meaning) → All (IsWhole old.told m) (files_of ask)
-      → (Rose old.faults new.faults → ⊥) → (Rose out.faults_before out.faults_after → ⊥) → MayEnd ask status
+      → (Rose old.faults new.faults → ⊥) → (Rose out.faults_before out.faults_after → ⊥)
+      → (status ≡ 0) ⊎ (status ≡ 1) ⊎ ((map fleet log : List ℕ) × (ask ≡ an_audit map fleet log) × (status ≡ 7))

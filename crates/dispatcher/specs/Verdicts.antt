@@ -13,7 +13,7 @@ use Rattle.log_audit.specs.declared.verdict.Why.{Why}
 use Rattle.log_audit.specs.declared.verdict.Why.TheVariants.{Spelling, Actor, Reply, Batch, Seating, Prices, Outcomes}
 use Rattle.live_sessions.specs.Serving.{FeedRun}
 use Rattle.dispatcher.specs.Meanings.{Meaning, start_of}
-use Rattle.dispatcher.specs.Shelves.{IsUntouched, SaysTo, Sunk}
+use Rattle.dispatcher.specs.Shelves.{Says, Sunk}
 
 -- the word for what is wrong of a line
 abbrev pub word_of : Why → List ℕ
@@ -38,13 +38,12 @@ no_line line why = codes "no " ++ decimal line ++ codes " " ++ word_of why ++ co
 -- how an audit's answer is said: a right log by its totals, a wrong one by its first wrong line and what is wrong of it, and
 -- nothing where the log was too long, was not read, or memory was wanting
 abbrev pub EndsBy : Result Verdict AuditFault → ℕ → Sunk → Type 0
-EndsBy (Ok (Yes totals)) status out =
-    ((status ≡ 0) × Writes out.before out.after (yes_line totals)) ⊎ ((status ≡ 6) × WritesPrefix out.before out.after (yes_line totals))
-    ⊎ ((status ≡ 1) × IsUntouched out)
-EndsBy (Ok (No line why)) status out = ((status ≡ 7) × SaysTo out (no_line line why)) ⊎ ((status ≡ 1) × IsUntouched out)
-EndsBy (Err TooLong) status out = (status ≡ 8) × IsUntouched out
-EndsBy (Err ReadFault) status out = (status ≡ 5) × IsUntouched out
-EndsBy (Err NoMemory) status out = (status ≡ 1) × IsUntouched out
+EndsBy (Ok (Yes totals)) status out = ((status ≡ 0) × Writes out.before out.after (yes_line totals))
+    ⊎ ((status ≡ 6) × WritesPrefix out.before out.after (yes_line totals)) ⊎ ((status ≡ 1) × (out.after ≡ out.before))
+EndsBy (Ok (No line why)) status out = Says out status 7 (no_line line why)
+EndsBy (Err TooLong) status out = (status ≡ 8) × (out.after ≡ out.before)
+EndsBy (Err ReadFault) status out = (status ≡ 5) × (out.after ≡ out.before)
+EndsBy (Err NoMemory) status out = (status ≡ 1) × (out.after ≡ out.before)
 
 -- a log was audited: what its bytes are decides, and they are nothing else; a log that is right was read to its end; a source failed
 -- after bytes within the limits of which no line was wrong

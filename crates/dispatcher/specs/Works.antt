@@ -19,7 +19,7 @@ use Rattle.live_sessions.specs.Serving.{CountsFeeds, FeedRun, HasNotServed, HasS
 use Rattle.booking_desk.specs.Booked.{IsBooked}
 use Rattle.fleet_league.specs.league_session.Leagued.{IsLeagued}
 use Rattle.dispatcher.specs.Meanings.{Meaning, start_of}
-use Rattle.dispatcher.specs.Shelves.{IsUntouched, Sunk}
+use Rattle.dispatcher.specs.Shelves.{Sunk}
 
 -- a feed was replayed, as far as it was read: the log of its history was written, or where a reach is given the sheets of idle
 -- vehicles sent ahead after its commits
@@ -58,7 +58,7 @@ pub record Drills (plan : CityPlan) (out : Sunk) (status : ℕ) : Type 0 where
   pub no_source : ran.source_failed ≡ false
   pub no_limit : ran.too_long ≡ false
   pub drilled : ran.no_memory ≡ false → (entries : List Entry) × Drilled plan entries × IsLogged ran [] out.before out.after (summary_line plan entries)
-  pub nothing_written : ran.no_memory ≡ true → IsUntouched out
+  pub nothing_written : ran.no_memory ≡ true → out.after ≡ out.before
 
 -- a service answered both feeds: what was written is the text of one legal history, in which each feed's commands stand once and in order: all of them at status 0,
 -- which comes only where both feeds are within their limits
@@ -70,10 +70,9 @@ pub record HasAnswered (m : Meaning) (desks : ℕ) (riders drivers : FeedRun) (r
   pub legal : HasServed (start_of m) 2 desks ran entries
   pub of_riders : IsFeedOf (new_feed m.settings.log) 1 riders ran riders_taken entries
   pub of_drivers : IsFeedOf (new_feed m.settings.log) 2 drivers ran drivers_taken entries
-  pub all_of_riders : status_of ran ≡ 0 → of_riders.ending ≡ Whole
-  pub all_of_drivers : status_of ran ≡ 0 → of_drivers.ending ≡ Whole
   pub too_long : ran.too_long ≡ true → IsTooLong feed_limits riders_taken ⊎ IsTooLong feed_limits drivers_taken
-  pub within : status_of ran ≡ 0 → IsWithinLimits feed_limits riders_taken × IsWithinLimits feed_limits drivers_taken
+  pub all_of_riders : status_of ran ≡ 0 → (of_riders.ending ≡ Whole) × IsWithinLimits feed_limits riders_taken
+  pub all_of_drivers : status_of ran ≡ 0 → (of_drivers.ending ≡ Whole) × IsWithinLimits feed_limits drivers_taken
 
 -- a service ran: it answered both feeds, as far as each was read, or memory was wanting before anything was read or written. It
 -- says that a source failed only where one did

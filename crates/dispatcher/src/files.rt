@@ -1,12 +1,12 @@
 //! The texts of a run: each is brought by its name, read to its answer and given back.
-ghost use Rattle.std.specs.Prelude.{◌≡◌, ◌+◌, ◌<◌, ◌≤◌, length, option_map, string_bytes, Err, IfOk, OnErr};
+ghost use Rattle.std.specs.Prelude.{◌≡◌, ◌+◌, ◌<◌, ◌≤◌, [], length, option_map, string_bytes, Err, IfOk, OnErr};
 ghost use Rattle.ride_model.specs.declared.settings.Settings.{Settings};
 ghost use Rattle.ride_model.specs.Fleet.{MayStart};
 ghost use Rattle.ride_model.specs.Settings.{IsSettings};
 ghost use Rattle.ride_ports.specs.Contents.{given_back};
 ghost use Rattle.gr_reader.specs.MapText.{map_format};
 ghost use Rattle.fleet_file.specs.FleetText.{fleet_format};
-ghost use Rattle.dispatcher.specs.Meanings.{stop_of_fleet, stop_of_map};
+ghost use Rattle.dispatcher.specs.declared.stop.Stop.TheVariants.{FleetRefused, MapRefused};
 ghost use Rattle.dispatcher.specs.Shelves.{shelved, IsFresh};
 ghost use Rattle.dispatcher.specs.inner.Readings.{text_files, AsksOnce, BringsSecond, IsReadBy, MayBegin, ReadsAs, ReadsTexts};
 
@@ -66,7 +66,7 @@ pub fn bring_texts<H: Shelf>(
 fn bring_map<H: Shelf>(alloc: Global, shelf: &mut H, name: String) -> Result<Network, Stop>
     requires asked_room { length (H.asked shelf.old) < 8 }
     requires back_room { length (H.back shelf.old) < 8 }
-    ensures asks { AsksOnce map_format stop_of_map (string_bytes name)
+    ensures asks { AsksOnce map_format MapRefused (string_bytes name)
         (shelved H.contents H.asked H.brought H.back H.faults shelf.old)
         (shelved H.contents H.asked H.brought H.back H.faults shelf.new) result }
     ensures one_asked { length (H.asked shelf.new) ≡ length (H.asked shelf.old) + 1 }
@@ -83,26 +83,16 @@ fn bring_map<H: Shelf>(alloc: Global, shelf: &mut H, name: String) -> Result<Net
 // Reads a map to its answer.
 fn map_from<S: Source>(alloc: Global, source: &mut S) -> Result<Network, Stop>
     requires { S.faults source.old ≡ 0 }
-    ensures answer { ReadsAs map_format stop_of_map (S.left source.old) result }
+    ensures answer { ReadsAs map_format MapRefused (S.left source.old) [] result }
     ensures read { IsReadBy map_format (S.left source.old)
         (given_back (S.faults source.new) (S.left source.new)) result }
     ensures source_fault { result ≡ Err Stop.ShelfFault → 0 < S.faults source.new }
 {
     match read_map(alloc, source) {
         Ok(network) => Ok(network),
-        Err(error) => Err(stop_of_map(error)),
-    }
-}
-
-// Why a map's reading stopped.
-fn stop_of_map(error: MapError) -> Stop
-    ensures { result ≡ stop_of_map error }
-{
-    match error {
-        MapError::TooLong => Stop::LimitPassed,
-        MapError::ReadFault => Stop::ShelfFault,
-        MapError::NoMemory => Stop::NoMemory,
-        error => Stop::MapRefused(error),
+        Err(MapError::ReadFault) => Err(Stop::ShelfFault),
+        Err(MapError::NoMemory) => Err(Stop::NoMemory),
+        Err(error) => Err(Stop::MapRefused(error)),
     }
 }
 
@@ -139,7 +129,7 @@ fn bring_fleet<H: Shelf>(
 ) -> Result<(Settings, Fleet), Stop>
     requires asked_room { length (H.asked shelf.old) < 8 }
     requires back_room { length (H.back shelf.old) < 8 }
-    ensures asks { AsksOnce (fleet_format map.now.nodes) stop_of_fleet (string_bytes name)
+    ensures asks { AsksOnce (fleet_format map.now.nodes) FleetRefused (string_bytes name)
         (shelved H.contents H.asked H.brought H.back H.faults shelf.old)
         (shelved H.contents H.asked H.brought H.back H.faults shelf.new) result }
     ensures one_asked { length (H.asked shelf.new) ≡ length (H.asked shelf.old) + 1 }
@@ -161,7 +151,8 @@ fn fleet_from<S: Source>(
     map: &Network,
 ) -> Result<(Settings, Fleet), Stop>
     requires { S.faults source.old ≡ 0 }
-    ensures answer { ReadsAs (fleet_format map.now.nodes) stop_of_fleet (S.left source.old) result }
+    ensures answer { ReadsAs (fleet_format map.now.nodes) FleetRefused
+        (S.left source.old) [] result }
     ensures read { IsReadBy (fleet_format map.now.nodes) (S.left source.old)
         (given_back (S.faults source.new) (S.left source.new)) result }
     ensures start { IfOk result (λ read. MayStart map.now read.0 read.1) }
@@ -169,19 +160,9 @@ fn fleet_from<S: Source>(
 {
     match read_fleet(alloc, source, map) {
         Ok(read) => Ok(read),
-        Err(error) => Err(stop_of_fleet(error)),
-    }
-}
-
-// Why a fleet file's reading stopped.
-fn stop_of_fleet(error: FleetError) -> Stop
-    ensures { result ≡ stop_of_fleet error }
-{
-    match error {
-        FleetError::TooLong => Stop::LimitPassed,
-        FleetError::ReadFault => Stop::ShelfFault,
-        FleetError::NoMemory => Stop::NoMemory,
-        error => Stop::FleetRefused(error),
+        Err(FleetError::ReadFault) => Err(Stop::ShelfFault),
+        Err(FleetError::NoMemory) => Err(Stop::NoMemory),
+        Err(error) => Err(Stop::FleetRefused(error)),
     }
 }
 

@@ -4,11 +4,10 @@ ghost use Rattle.ride_ports.specs.Contents.{given_back};
 ghost use Rattle.dispatcher.specs.Shelves.{shelved};
 ghost use Rattle.dispatcher.specs.inner.Handing.{Brings, Misses, TakesBack};
 
-use crate::stop::Stop;
-use ride_ports::{Shelf, Source};
+use ride_ports::{Failed, Shelf, Source};
 
-/// Brings the source of a name.
-pub fn bring<H: Shelf>(shelf: &mut H, name: String) -> Result<H::Src, Stop>
+/// Returns the source of a name, of which no byte is read yet.
+pub fn bring<H: Shelf>(shelf: &mut H, name: String) -> Result<H::Src, Failed>
     requires { length (H.asked shelf.old) < 8 }
     ensures { MatchResult result
         (λ source. Brings (string_bytes name) (H.Src.left source) (H.Src.faults source)
@@ -18,10 +17,7 @@ pub fn bring<H: Shelf>(shelf: &mut H, name: String) -> Result<H::Src, Stop>
         (shelved H.contents H.asked H.brought H.back H.faults shelf.old)
         (shelved H.contents H.asked H.brought H.back H.faults shelf.new)) }
 {
-    match shelf.bring(name) {
-        Ok(source) => Ok(source),
-        Err(_) => Err(Stop::ShelfFault),
-    }
+    shelf.bring(name)
 }
 
 /// Gives a source back.

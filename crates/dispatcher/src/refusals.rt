@@ -1,7 +1,7 @@
 //! The lines that say why a text is refused.
 ghost use Rattle.std.specs.Prelude.{◌≡◌, IfOk};
-ghost use Rattle.dispatcher.specs.Meanings.{said_of};
-ghost use Rattle.dispatcher.specs.Refusals.{at_line, fleet_refusal, map_refusal};
+ghost use Rattle.dispatcher.specs.Meanings.{at_line, said_of};
+ghost use Rattle.dispatcher.specs.declared.stop.Stop.TheVariants.{FleetRefused, MapRefused};
 
 use crate::stop::Stop;
 use fleet_file::FleetError;
@@ -17,13 +17,13 @@ pub fn line_of_stop(alloc: Global, stop: Stop) -> Result<Vec<u8>, NoMemory>
     match stop {
         Stop::MapRefused(refusal) => map_line(alloc, refusal),
         Stop::FleetRefused(refusal) => fleet_line(alloc, refusal),
-        Stop::NoMemory | Stop::ShelfFault | Stop::LimitPassed => Ok(Vec::new(alloc)),
+        Stop::NoMemory | Stop::ShelfFault => Ok(Vec::new(alloc)),
     }
 }
 
 // The line of a map's refusal.
 fn map_line(alloc: Global, refusal: MapError) -> Result<Vec<u8>, NoMemory>
-    ensures { IfOk result (λ line. line.items ≡ map_refusal refusal) }
+    ensures { IfOk result (λ line. line.items ≡ said_of (MapRefused refusal)) }
 {
     match refusal {
         MapError::NoProblem => b"map refused 1\n".to_vec(alloc),
@@ -39,7 +39,7 @@ fn map_line(alloc: Global, refusal: MapError) -> Result<Vec<u8>, NoMemory>
 
 // The line of a fleet file's refusal.
 fn fleet_line(alloc: Global, refusal: FleetError) -> Result<Vec<u8>, NoMemory>
-    ensures { IfOk result (λ line. line.items ≡ fleet_refusal refusal) }
+    ensures { IfOk result (λ line. line.items ≡ said_of (FleetRefused refusal)) }
 {
     match refusal {
         FleetError::BadLine(line) => at_line(alloc, b"fleet", 1, line),
@@ -69,7 +69,8 @@ fn at_line(alloc: Global, text: &[u8], refusal: u64, line: u64) -> Result<Vec<u8
 
 // The line of a map with another number of arcs than it says.
 fn arc_count(alloc: Global, said: u64, found: u64) -> Result<Vec<u8>, NoMemory>
-    ensures { IfOk result (λ line. line.items ≡ map_refusal (MapError.ArcCount said found)) }
+    ensures { IfOk result (λ line. line.items
+        ≡ said_of (MapRefused (MapError.ArcCount said found))) }
 {
     let mut line = Vec::new(alloc);
     line.extend_from_slice(b"map refused 6 said ")?;

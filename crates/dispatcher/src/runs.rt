@@ -1,9 +1,9 @@
 //! A call for each word. None but `serve` waits.
-ghost use Rattle.std.specs.Prelude.{◌≤◌, string_bytes};
+ghost use Rattle.std.specs.Prelude.{◌≤◌, None, Some, string_bytes};
 ghost use Rattle.city_maker.specs.inner.Plan.{IsPlan};
-ghost use Rattle.ride_model.specs.Limits.{longest_reach, most_workers};
+ghost use Rattle.ride_model.specs.declared.limits.TheConstants.{LONGEST_REACH, MOST_WORKERS};
 ghost use Rattle.ride_model.specs.Text.{IsOneOrTwo};
-ghost use Rattle.run_words.specs.Words.{a_booking, a_drill, a_league, a_replay, a_service, an_ahead, an_audit};
+ghost use Rattle.run_words.specs.Words.{a_booking, a_drill, a_league, a_replay, a_service, an_audit};
 ghost use Rattle.dispatcher.specs.Runs.{IsRun};
 ghost use Rattle.dispatcher.specs.Shelves.{shelved, sunk, IsFresh};
 
@@ -28,7 +28,7 @@ pub fn replay<R: Threads + Sync, H: Shelf, K: Sink>(
 ) -> u8
     requires fresh { IsFresh (shelved H.contents H.asked H.brought H.back H.faults shelf.old) }
     ensures { IsRun (a_replay (string_bytes names.map)
-        (string_bytes names.fleet) (string_bytes feed))
+        (string_bytes names.fleet) (string_bytes feed) None)
         (shelved H.contents H.asked H.brought H.back H.faults shelf.old)
         (shelved H.contents H.asked H.brought H.back H.faults shelf.new)
         (sunk K.written K.faults out.old out.new) result }
@@ -51,9 +51,9 @@ pub fn ahead<R: Threads + Sync, H: Shelf, K: Sink>(
     out: &mut K,
 ) -> u8
     requires fresh { IsFresh (shelved H.contents H.asked H.brought H.back H.faults shelf.old) }
-    requires reach { (1 ≤ reach) × (reach ≤ longest_reach) }
-    ensures { IsRun (an_ahead (string_bytes names.map)
-        (string_bytes names.fleet) (string_bytes feed) reach)
+    requires reach { (1 ≤ reach) × (reach ≤ LONGEST_REACH) }
+    ensures { IsRun (a_replay (string_bytes names.map)
+        (string_bytes names.fleet) (string_bytes feed) (Some reach))
         (shelved H.contents H.asked H.brought H.back H.faults shelf.old)
         (shelved H.contents H.asked H.brought H.back H.faults shelf.new)
         (sunk K.written K.faults out.old out.new) result }
@@ -157,7 +157,7 @@ pub fn serve<R: Threads + Wait + Sync, H: Shelf, K: Sink, G: Gate>(
     out: &mut K,
     gate: &G,
 ) -> u8
-    requires workers { (1 ≤ crew.workers) × (crew.workers ≤ most_workers) }
+    requires workers { (1 ≤ crew.workers) × (crew.workers ≤ MOST_WORKERS) }
     requires desks { IsOneOrTwo crew.desks }
     requires fresh { IsFresh (shelved H.contents H.asked H.brought H.back H.faults shelf.old) }
     ensures { IsRun (a_service (string_bytes names.map) (string_bytes names.fleet)

@@ -1,6 +1,6 @@
 //! Services of two feeds, which are brought by their names and given back.
 ghost use Rattle.std.specs.Prelude.{◌<◌, ◌≤◌, length, string_bytes};
-ghost use Rattle.ride_model.specs.Limits.{most_workers};
+ghost use Rattle.ride_model.specs.declared.limits.TheConstants.{MOST_WORKERS};
 ghost use Rattle.ride_model.specs.Text.{IsOneOrTwo};
 ghost use Rattle.dispatcher.specs.Shelves.{shelved, sunk};
 ghost use Rattle.dispatcher.specs.inner.Readings.{MayBegin, meaning_of};
@@ -41,7 +41,7 @@ pub fn serve_feeds<R: Threads + Wait + Sync, H: Shelf, K: Sink, G: Gate>(
     gate: &G,
 ) -> u8
     requires start { MayBegin texts }
-    requires workers { (1 ≤ crew.workers) × (crew.workers ≤ most_workers) }
+    requires workers { (1 ≤ crew.workers) × (crew.workers ≤ MOST_WORKERS) }
     requires desks { IsOneOrTwo crew.desks }
     requires asked_room { length (H.asked shelf.old) < 7 }
     requires back_room { length (H.back shelf.old) < 7 }

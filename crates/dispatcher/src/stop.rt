@@ -8,8 +8,8 @@ pub enum Stop {
     NoMemory,
     /// The shelf, or a source that it brought, failed.
     ShelfFault,
-    /// A source gave more than its limit.
-    LimitPassed,
+    /// The map is refused, or longer than its limit.
     MapRefused(MapError),
+    /// A fleet file is.
     FleetRefused(FleetError),
 }

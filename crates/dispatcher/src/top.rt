@@ -1,8 +1,8 @@
 //! The top call.
-ghost use Rattle.std.specs.Prelude.{◌≡◌, map, None, string_bytes, IfSome};
+ghost use Rattle.std.specs.Prelude.{◌≡◌, codes, map, None, string_bytes, IfSome};
 ghost use Rattle.dispatcher.specs.Mission.{ServesWell};
-ghost use Rattle.dispatcher.specs.Runs.{IsRun, RefusesWords};
-ghost use Rattle.dispatcher.specs.Shelves.{shelved, sunk, IsFresh};
+ghost use Rattle.dispatcher.specs.Runs.{IsRun};
+ghost use Rattle.dispatcher.specs.Shelves.{shelved, sunk, IsFresh, Says};
 ghost use Rattle.run_words.specs.inner.Asks.{asked_by, IsInRange};
 ghost use Rattle.run_words.specs.Words.{ask_of};
 
@@ -32,8 +32,8 @@ pub fn run<R: Threads + Wait + Sync, H: Shelf, K: Sink, G: Gate>(
 
     // Words that are not in order are refused, and nothing is asked for.
     ensures refused { ask_of (map string_bytes words.now) ≡ None
-        → RefusesWords (shelved H.contents H.asked H.brought H.back H.faults shelf.new)
-        (sunk K.written K.faults out.old out.new) result }
+        → IsFresh (shelved H.contents H.asked H.brought H.back H.faults shelf.new)
+        × Says (sunk K.written K.faults out.old out.new) result 2 (codes "words refused\n") }
 
     // What they ask for is done: names are asked for in order, texts are read, every source is given back, and each status has its cause.
     ensures run { IfSome (ask_of (map string_bytes words.now))

@@ -1,6 +1,6 @@
 -- The cells of a grid.
 use Rattle.std.specs.Prelude.{◌≡◌, ℕ, ◌+◌, ◌*◌, ◌<◌, ◌≤◌, ◌^◌, List, length, slice_index_or, All, Option, None, IfSome}
-use Rattle.ride_model.specs.Limits.{largest_batch}
+use Rattle.ride_model.specs.declared.limits.TheConstants.{LARGEST_BATCH}
 
 -- a grid of rows and columns, its cells row by row: each an amount or none
 pub record GridCells : Type 0 where
@@ -22,7 +22,7 @@ widest_grid = 8000
 
 -- the limits of a grid
 pub record IsGrid (grid : GridCells) : Type 0 where
-  pub rows_limit : grid.rows ≤ largest_batch
+  pub rows_limit : grid.rows ≤ LARGEST_BATCH
   pub columns_limit : grid.columns ≤ widest_grid
   pub one_each : length grid.cells ≡ grid.rows * grid.columns
   pub amounts_limit : All IsSmall grid.cells

@@ -1,5 +1,5 @@
 -- Pairings of a grid's rows and columns, what they cost, and the prices that certify one.
-use Rattle.std.specs.Prelude.{◌≡◌, ℕ, ◌+◌, ◌<◌, ◌≤◌, List, length, slice_index_or, sum, sum_by, All, Option, Some, None, IfSome, IsSome}
+use Rattle.std.specs.Prelude.{◌≡◌, ℕ, ◌+◌, ◌<◌, ◌≤◌, List, length, slice_index_or, sum, sum_by, All, Option, Some, None, IfSome, IsSome, unwrap_or}
 use Rattle.std.specs.List.{range_with_len}
 use Rattle.dual_check.specs.Cells.{GridCells, cell_at}
 
@@ -18,11 +18,7 @@ pub record IsPairing (grid : GridCells) (pairing : List (Option ℕ)) : Type 0 w
 -- what a row costs by its column: the amount, and the penalty without a column
 abbrev pub row_cost : GridCells → ℕ → ℕ → Option ℕ → ℕ
 row_cost grid penalty row None = penalty
-row_cost grid penalty row (Some column) = amount_in (cell_at grid row column)
-  where
-    amount_in : Option ℕ → ℕ
-    amount_in None = 0
-    amount_in (Some amount) = amount
+row_cost grid penalty row (Some column) = unwrap_or (cell_at grid row column) 0
 
 -- the cost of a pairing: its amounts, and the penalty for each row without a column
 abbrev pub pairing_cost : GridCells → ℕ → List (Option ℕ) → ℕ

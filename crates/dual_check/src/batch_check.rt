@@ -4,7 +4,7 @@ ghost use Rattle.std.specs.List.{IsDistinct};
 ghost use Rattle.ride_model.specs.Road.{RoadMap};
 ghost use Rattle.ride_model.specs.Vehicle.{ride_ids};
 ghost use Rattle.ride_model.specs.Seating.{vehicle_ids, Certifies};
-ghost use Rattle.ride_model.specs.Limits.{largest_batch, most_vehicles};
+ghost use Rattle.ride_model.specs.declared.limits.TheConstants.{LARGEST_BATCH, MOST_VEHICLES};
 ghost use Rattle.batch_commit.specs.inner.Table.{FitsBatch, IsTableOf, HasSmallCosts};
 ghost use Rattle.batch_commit.specs.inner.Answer.{IsSeatAt, CertifiesOverCells};
 
@@ -62,10 +62,10 @@ fn certifies_over_cells(
     requires in_cells { All (λ seat. (r : ℕ) × (c : ℕ)
         × IsSeatAt batch.now table.now seat r c) seats.now }
     requires requests_are { requests.now ≡ ride_ids batch.now.requests }
-    requires few { length requests.now ≤ largest_batch }
+    requires few { length requests.now ≤ LARGEST_BATCH }
     requires requests_differ { IsDistinct nat_eq requests.now }
     requires fleet_is { fleet.now ≡ vehicle_ids batch.now.vehicles }
-    requires few_vehicles { length fleet.now ≤ most_vehicles }
+    requires few_vehicles { length fleet.now ≤ MOST_VEHICLES }
     requires vehicles_differ { IsDistinct nat_eq fleet.now }
     ensures { MatchBool result
         (CertifiesOverCells batch.now table.now seats.now prices.now pays.now)

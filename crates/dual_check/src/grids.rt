@@ -1,6 +1,6 @@
 //! Grids of amounts.
 ghost use Rattle.std.specs.Prelude.{◌≡◌, ◌+◌, ◌*◌, ◌<◌, ◌≤◌, ◌^◌, length, replicate, slice_set, take, drop, All, None, Some, IfOk};
-ghost use Rattle.ride_model.specs.Limits.{largest_batch};
+ghost use Rattle.ride_model.specs.declared.limits.TheConstants.{LARGEST_BATCH};
 ghost use Rattle.dual_check.specs.Cells.{cell_at, IsSmall, IsGrid, widest_grid};
 
 use crate::Cell;
@@ -29,7 +29,7 @@ impl Model for Grid {
 impl Grid {
     /// A grid without amounts.
     pub fn new(alloc: Global, rows: u32, columns: u32) -> Result<Grid, NoMemory>
-        requires rows_limit { rows ≤ largest_batch }
+        requires rows_limit { rows ≤ LARGEST_BATCH }
         requires columns_limit { columns ≤ widest_grid }
         ensures { IfOk result (λ grid. grid
             ≡ record { rows = rows; columns = columns; cells = replicate (rows * columns) None }) }

@@ -1,6 +1,6 @@
 //! Pairings of the rows and columns of a table of amounts, and what they cost.
 ghost use Rattle.std.specs.Prelude.{◌≡◌, ◌<◌, ◌≤◌, ◌*◌, ◌^◌, ℕ, length, IfSome, MatchBool, Some};
-ghost use Rattle.ride_model.specs.Limits.{largest_batch};
+ghost use Rattle.ride_model.specs.declared.limits.TheConstants.{LARGEST_BATCH};
 ghost use Rattle.dual_check.specs.Grid.{column_of, IsPairing, row_cost, pairing_cost};
 ghost use Rattle.dual_check.specs.inner.Parts.{StandsInCell, StandsInCells, IsFree, HasColumnsOnce};
 
@@ -8,7 +8,7 @@ use crate::amounts::Amounts;
 
 /// Whether columns of rows are a pairing of the table, which has so many columns.
 pub fn is_pairing<T: Amounts>(table: &T, columns: &[Option<u32>], many: u32) -> bool
-    requires few { length columns.now ≤ largest_batch }
+    requires few { length columns.now ≤ LARGEST_BATCH }
     requires columns_each { length columns.now ≡ (T.as_grid table.now).rows }
     requires many_is { many ≡ (T.as_grid table.now).columns }
     ensures { MatchBool result (IsPairing (T.as_grid table.now) columns.now)
@@ -19,7 +19,7 @@ pub fn is_pairing<T: Amounts>(table: &T, columns: &[Option<u32>], many: u32) -> 
 
 // Whether each row's column is one of the table's, with an amount there.
 fn stands_in_cells<T: Amounts>(table: &T, columns: &[Option<u32>], many: u32) -> bool
-    requires few { length columns.now ≤ largest_batch }
+    requires few { length columns.now ≤ LARGEST_BATCH }
     requires columns_each { length columns.now ≡ (T.as_grid table.now).rows }
     requires many_is { many ≡ (T.as_grid table.now).columns }
     ensures { MatchBool result (StandsInCells (T.as_grid table.now) columns.now)
@@ -84,7 +84,7 @@ fn has_column(columns: &[Option<u32>], column: u32) -> bool
 
 /// What a pairing costs.
 pub fn cost_of<T: Amounts>(table: &T, penalty: u64, columns: &[Option<u32>]) -> u128
-    requires few { length columns.now ≤ largest_batch }
+    requires few { length columns.now ≤ LARGEST_BATCH }
     requires paired { IsPairing (T.as_grid table.now) columns.now }
     ensures cost { result ≡ pairing_cost (T.as_grid table.now) penalty columns.now }
     ensures limit { result ≤ 128 * 2 ^ 64 }

@@ -10,7 +10,7 @@ pub record IsStarting (map : RoadMap) (v : Vehicle) : Type 0 where
   pub first_version : v.version ≡ 0
 
 starting : (map : RoadMap) (new : NewVehicle) → (new.node == 0 || nat_lt map.nodes new.node) ≡ false → has_value_out new ≡ false
-    → IsStarting map (idle_vehicle new)
+    → IsStarting map (idle_vehicle new.id new.seats new.chairs new.node new.ready)
 unfolding IsDistinct
 starting map new node values =
     let (some_node, node_in) = or_parts (new.node == 0) (nat_lt map.nodes new.node) node in
@@ -64,7 +64,7 @@ after-vehicle map number so_far next (Some new) all is =
     let (values, in_range) = passed (has_value_out new) _ _ next on_map in
     let (_, taken) = passed (nat_le 1000 (length so_far.vehicles)) _ _ next in_range in
     subst (λ (f : FleetSoFar). All (IsStarting map) f.vehicles) (same-ok _ next taken)
-    (All-append (IsStarting map) so_far.vehicles (idle_vehicle new ∷ []) all (all_of_one (IsStarting map) (idle_vehicle new) (starting map new node values)))
+    (All-append (IsStarting map) so_far.vehicles (idle_vehicle new.id new.seats new.chairs new.node new.ready ∷ []) all (all_of_one (IsStarting map) (idle_vehicle new.id new.seats new.chairs new.node new.ready) (starting map new node values)))
 
 after-line : (map : RoadMap) (number : ℕ) (so_far next : FleetSoFar) (words : Option (List (List ℕ))) → AllStarting map so_far
     → after_words map.nodes number so_far words ≡ Ok next → AllStarting map next

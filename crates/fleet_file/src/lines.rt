@@ -6,7 +6,8 @@ use crate::FleetError;
 use crate::settings::{Values, is_out, place_of};
 use crate::vehicles::{has_id, has_value_out, idle_vehicle, read_vehicle};
 use line_text::{Fields, LineParser, words_of};
-use ride_model::{Fleet, Vehicle};
+use ride_model::Vehicle;
+use ride_model::limits::MOST_VEHICLES;
 use std::alloc::Global;
 
 /// What the lines so far said.
@@ -101,7 +102,7 @@ impl FleetLines {
         if has_value_out(&new) {
             return Err(FleetError::ValueOut(number));
         }
-        if self.vehicles.len() >= Fleet::MOST_VEHICLES {
+        if self.vehicles.len() >= MOST_VEHICLES {
             return Err(FleetError::TooMany(number));
         }
         let Ok(()) = self.vehicles.push(idle_vehicle(&new)) else {

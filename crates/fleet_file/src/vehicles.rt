@@ -2,7 +2,8 @@
 ghost use Rattle.std.specs.Prelude.{◌≡◌, ◌==◌, ◌<◌, ◌^◌, false};
 ghost use Rattle.std.specs.List.{list_any};
 ghost use Rattle.line_text.specs.Fields.{numbers_of};
-ghost use Rattle.fleet_file.specs.FleetText.{has_value_out, idle_vehicle, vehicle_from};
+ghost use Rattle.ride_model.specs.Fleet.{idle_vehicle};
+ghost use Rattle.fleet_file.specs.FleetText.{has_value_out, vehicle_from};
 
 use arrayvec::ArrayVec;
 use line_text::Fields;
@@ -52,7 +53,8 @@ pub fn has_value_out(new: &NewVehicle) -> bool
 pub fn idle_vehicle(new: &NewVehicle) -> Vehicle
     requires values { has_value_out new.now ≡ false }
     requires node { new.now.node < 2 ^ 32 }
-    ensures { result ≡ idle_vehicle new.now }
+    ensures { result
+        ≡ idle_vehicle new.now.id new.now.seats new.now.chairs new.now.node new.now.ready }
 {
     Vehicle {
         id: new.id,

@@ -21,9 +21,11 @@ pub use Rattle.dual_check.specs.Cells.{GridCells, IsGrid, IsSmall}
 pub use Rattle.dual_check.specs.Grid.{pairing_cost, column_of, CertifiesPairing, row_cost, price_at, IsPairing}
 pub use Rattle.dual_check.specs.declared.paired.Paired.{Paired}
 pub use Rattle.dual_check.specs.inner.Costs.{amounts_over, amount_alone}
-pub use Rattle.fleet_league.specs.Awards.{won_rides, request_of, won_columns, asking_entries, request_entries, AreSeatsOf, confirming_entry, opening_entry, price_list, AddsAward, won_column}
+pub use Rattle.fleet_league.specs.Awards.{won_rides, request_of, won_columns, asking_entries, request_entries, AreSeatsOf, confirming_entry, opening_entry, AddsAward, won_column}
+pub use Rattle.fleet_league.specs.inner.Awards.{price_list}
 pub use Rattle.fleet_league.specs.Prices.{prices_by, prices_of}
-pub use Rattle.fleet_league.specs.Round.{company_prices, IsRound, StandsFrom, IsUnion, columns_before}
+pub use Rattle.fleet_league.specs.Round.{company_prices, IsRound, StandsFrom, IsUnion}
+pub use Rattle.fleet_league.specs.inner.Round.{columns_before}
 pub use Rattle.fleet_league.specs.declared.briefs.Brief.{Brief}
 pub use Rattle.fleet_league.specs.declared.briefs.Settled.TheVariants.{Timed}
 pub use Rattle.fleet_league.specs.declared.briefs.Win.{Win}
@@ -53,7 +55,8 @@ pub use Rattle.fleet_league.specs.league_session.League.{LeagueState, TakesLine,
 unfoldable pub use Rattle.fleet_league.specs.league_session.League.{TellsLines}
 pub use Rattle.fleet_league.specs.league_session.LeagueTexts.{told_line, award_field, head_line, last_line, pay_field, round_line}
 pub use Rattle.fleet_league.specs.league_session.Leagued.{IsLeagueText, IsLeagued, IsTextOf}
-pub use Rattle.fleet_league.specs.league_session.RoundParts.{brief_of, union_columns, paid_columns, rows_of, column_of_plan, column_in, own_pay_of, row_of, sheet_of, win_of}
+pub use Rattle.fleet_league.specs.league_session.RoundParts.{brief_of, union_columns, rows_of, column_of_plan, column_in, own_pay_of, sheet_of, win_of}
+pub use Rattle.fleet_league.specs.inner.league_session.RoundParts.{paid_columns, row_of}
 pub use Rattle.hungarian.proofs.BatchCertificates.{pay-amount, pay-cases, solved-certified}
 pub use Rattle.hungarian.proofs.Gathering.{each-gathered, gathered-in_order, gathered-none, gathered-some}
 pub use Rattle.hungarian.specs.Seats.{pay_at, pays_by}

@@ -28,10 +28,6 @@ won_column vehicles win = position (λ (v : Vehicle). v.id == win.vehicle) vehic
 abbrev pub won_columns : List Vehicle → List Win → List (Option ℕ)
 won_columns vehicles wins = map (won_column vehicles) wins
 
--- each win's request with its price
-abbrev pub price_list : List Win → List (ℕ × ℕ)
-price_list wins = map (λ (win : Win). (win.ride.id, win.price)) wins
-
 -- the request of a ride
 abbrev pub request_of : Ride → Command
 request_of ride = Request ride.id ride.from ride.to ride.seats ride.latest ride.longest ride.chairs
@@ -56,7 +52,7 @@ confirming_entry s brief seats = record {
   actor = Desk 1;
   event = Committed (s.opened + 1)
       (pairing_cost (prices_of s (won_rides brief.wins)) s.settings.penalty (won_columns s.vehicles brief.wins)) seats
-      (price_list brief.wins) brief.pays
+      (map (λ (win : Win). (win.ride.id, win.price)) brief.wins) brief.pays
       (map (λ (win : Win). (win.ride.id, ConfirmedState)) brief.wins);
 }
 

@@ -9,10 +9,6 @@ use Rattle.fleet_league.specs.declared.quotes.Quote.{Quote}
 abbrev pub company_prices : List Quote → List GridCells
 company_prices quotes = map (λ (quote : Quote). quote.prices) quotes
 
--- how many vehicles the companies before one have
-abbrev pub columns_before : List GridCells → ℕ → ℕ
-columns_before companies k = sum_by (λ (own : GridCells). own.columns) (take k companies)
-
 -- a company's prices stand in a grid from a column on
 pub record StandsFrom (first : ℕ) (own grid : GridCells) : Type 0 where
   pub cells_same : (row column : ℕ) → row < own.rows → column < own.columns → cell_at grid row (first + column) ≡ cell_at own row column
@@ -22,7 +18,8 @@ pub record IsUnion (companies : List GridCells) (grid : GridCells) : Type 0 wher
   pub fits : IsGrid grid
   pub rows_same : All (λ (own : GridCells). own.rows ≡ grid.rows) companies
   pub columns_all : grid.columns ≡ sum_by (λ (own : GridCells). own.columns) companies
-  pub stands : (k : ℕ) (own : GridCells) → slice_get companies k ≡ Some own → StandsFrom (columns_before companies k) own grid
+  pub stands : (k : ℕ) (own : GridCells) → slice_get companies k ≡ Some own
+      → StandsFrom (sum_by (λ (before : GridCells). before.columns) (take k companies)) own grid
 
 -- a round: a least pairing of the union grid, with prices that certify it
 pub record IsRound (penalty : ℕ) (companies : List GridCells) (round : Paired) : Type 0 where

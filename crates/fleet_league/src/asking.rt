@@ -1,7 +1,7 @@
 //! The wins of an award as requests of one batch.
 ghost use Rattle.std.specs.Prelude.{◌≡◌, ◌+◌, ◌≤◌, ◌++◌, ℕ, take, OnOk, OnErr};
 ghost use Rattle.board_core.specs.Recorded.{state_of};
-ghost use Rattle.ride_model.specs.Limits.{most_batches};
+ghost use Rattle.ride_model.specs.declared.limits.TheConstants.{MOST_BATCHES};
 ghost use Rattle.fleet_league.specs.Awards.{won_rides, request_of, request_entries, asking_entries};
 ghost use Rattle.fleet_league.specs.inner.Awarding.{MayAsk};
 
@@ -12,7 +12,7 @@ use ride_model::{Command, NoMemory, Ride};
 /// Requests the rides of wins, and asks for a batch of them.
 pub(crate) fn ask(board: &mut Board<'_>, wins: &[Win]) -> Result<(), NoMemory>
     requires may { MayAsk board.old (won_rides wins.now) }
-    requires few_asked { (state_of board.old).asked + 1 ≤ most_batches }
+    requires few_asked { (state_of board.old).asked + 1 ≤ MOST_BATCHES }
     ensures asked { OnOk result (board.new.history
         ≡ board.old.history ++ asking_entries (state_of board.old) wins.now) }
     ensures cut { OnErr result ((many : ℕ)

@@ -4,7 +4,7 @@ ghost use Rattle.std.specs.List.{IsDistinct};
 ghost use Rattle.ride_model.specs.Legal.{versions_of};
 ghost use Rattle.ride_model.specs.Road.{RoadMap};
 ghost use Rattle.ride_model.specs.Vehicle.{ride_ids};
-ghost use Rattle.ride_model.specs.Limits.{largest_batch};
+ghost use Rattle.ride_model.specs.declared.limits.TheConstants.{LARGEST_BATCH};
 ghost use Rattle.batch_commit.specs.inner.Table.{cell_at, FitsBatch, IsPriceable, IsTableOf};
 ghost use Rattle.board_core.specs.Recorded.{state_of};
 ghost use Rattle.fleet_league.specs.Awards.{won_rides};
@@ -38,7 +38,7 @@ impl<'r> Company<'r> {
     ) -> Result<Quote, NoMemory>
         requires is_open { IsTrue self.now.is_open }
         requires roads { pricer.old ≡ self.now.board.start.roads }
-        requires few { length rides.now ≤ largest_batch }
+        requires few { length rides.now ≤ LARGEST_BATCH }
         requires rides { All (IsNewRide (state_of self.now.board)) rides.now }
         requires ids_differ { IsDistinct nat_eq (ride_ids rides.now) }
         ensures time { IfOk result (λ quote. quote.time ≡ (state_of self.now.board).clock) }
@@ -62,7 +62,7 @@ impl<'r> Company<'r> {
     ) -> Result<PricedQuote, NoMemory>
         requires is_open { IsTrue self.now.is_open }
         requires roads { pricer.old ≡ self.now.board.start.roads }
-        requires few { length rides.now ≤ largest_batch }
+        requires few { length rides.now ≤ LARGEST_BATCH }
         requires rides { All (IsNewRide (state_of self.now.board)) rides.now }
         requires ids_differ { IsDistinct nat_eq (ride_ids rides.now) }
         ensures time { IfOk result (λ priced. priced.quote.time ≡ (state_of self.now.board).clock) }
@@ -97,7 +97,7 @@ impl<'r> Company<'r> {
         wins: &[Win],
     ) -> Result<PriceTable, NoMemory>
         requires roads { pricer.old ≡ self.now.board.start.roads }
-        requires few { length wins.now ≤ largest_batch }
+        requires few { length wins.now ≤ LARGEST_BATCH }
         requires rides { All (IsNewRide (state_of self.now.board)) (won_rides wins.now) }
         requires ids_differ { IsDistinct nat_eq (ride_ids (won_rides wins.now)) }
         ensures table { IfOk result (IsTableOf self.now.board.start.roads
@@ -111,7 +111,7 @@ impl<'r> Company<'r> {
 
     // Rides as the requests of a batch that no desk has opened, over the vehicles as they stand.
     fn batch_of(&self, rides: &[Ride]) -> Result<Batch, NoMemory>
-        requires few { length rides.now ≤ largest_batch }
+        requires few { length rides.now ≤ LARGEST_BATCH }
         requires rides { All (IsNewRide (state_of self.now.board)) rides.now }
         requires ids_differ { IsDistinct nat_eq (ride_ids rides.now) }
         ensures batch { IfOk result (λ batch. batch

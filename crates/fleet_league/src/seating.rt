@@ -4,11 +4,12 @@ ghost use Rattle.ride_model.specs.declared.vehicle.Vehicle.{Vehicle};
 ghost use Rattle.ride_model.specs.Road.{RoadMap};
 ghost use Rattle.ride_model.specs.Seating.{vehicle_ids};
 ghost use Rattle.ride_model.specs.Vehicle.{ride_ids};
-ghost use Rattle.ride_model.specs.Limits.{largest_batch, most_vehicles};
+ghost use Rattle.ride_model.specs.declared.limits.TheConstants.{LARGEST_BATCH, MOST_VEHICLES};
 ghost use Rattle.batch_commit.specs.inner.Answer.{CertifiesOverCells, undecided};
 ghost use Rattle.batch_commit.specs.inner.Table.{FitsBatch, IsTableOf};
 ghost use Rattle.hungarian.specs.inner.Seats.{seat_at, seats_by};
-ghost use Rattle.fleet_league.specs.Awards.{won_rides, won_column, won_columns, price_list, AreSeatsOf};
+ghost use Rattle.fleet_league.specs.Awards.{won_rides, won_column, won_columns, AreSeatsOf};
+ghost use Rattle.fleet_league.specs.inner.Awards.{price_list};
 ghost use Rattle.fleet_league.specs.inner.Awarding.{IsWonBatch};
 
 use crate::{Brief, Win};
@@ -77,10 +78,10 @@ fn seats_of(
     vehicles: &[Vehicle],
     wins: &[Win],
 ) -> Result<SeatList, NoMemory>
-    requires few { length wins.now ≤ largest_batch }
+    requires few { length wins.now ≤ LARGEST_BATCH }
     requires rows_are { table.now.rows ≡ length wins.now }
     requires columns_are { table.now.columns ≡ length vehicles.now }
-    requires few_vehicles { length vehicles.now ≤ most_vehicles }
+    requires few_vehicles { length vehicles.now ≤ MOST_VEHICLES }
     ensures { IfOk result (λ seats. seats
         ≡ seats_by table.now (ride_ids (won_rides wins.now)) (vehicle_ids vehicles.now)
         (won_columns vehicles.now wins.now) (length wins.now)) }
@@ -98,7 +99,7 @@ fn seats_of(
 fn seat_of(table: &PriceTable, vehicles: &[Vehicle], row: u32, win: &Win) -> Option<Seat>
     requires row_in { row < table.now.rows }
     requires columns_are { table.now.columns ≡ length vehicles.now }
-    requires few_vehicles { length vehicles.now ≤ most_vehicles }
+    requires few_vehicles { length vehicles.now ≤ MOST_VEHICLES }
     ensures { (requests : List ℕ) → slice_index requests row ≡ win.now.ride.id
         → result ≡ seat_at table.now requests (vehicle_ids vehicles.now) row
         (won_column vehicles.now win.now) }

@@ -5,7 +5,7 @@ ghost use Rattle.ride_model.specs.declared.vehicle.Ride.{Ride};
 ghost use Rattle.ride_model.specs.Road.{RoadMap};
 ghost use Rattle.ride_model.specs.State.{State};
 ghost use Rattle.ride_model.specs.Vehicle.{ride_ids};
-ghost use Rattle.ride_model.specs.Limits.{largest_batch};
+ghost use Rattle.ride_model.specs.declared.limits.TheConstants.{LARGEST_BATCH};
 ghost use Rattle.batch_commit.specs.inner.Table.{IsTableOf};
 ghost use Rattle.fleet_league.specs.Awards.{won_rides};
 ghost use Rattle.fleet_league.specs.inner.Quoting.{offer_row, place_of, quoting_batch};
@@ -25,8 +25,8 @@ pub fn table_of_won(
 ) -> Result<PriceTable, NoMemory>
     requires rows_are { table.now.rows ≡ length rides.now }
     requires vehicles_are { vehicles ≡ table.now.columns }
-    requires few_rides { length rides.now ≤ largest_batch }
-    requires few_wins { length wins.now ≤ largest_batch }
+    requires few_rides { length rides.now ≤ LARGEST_BATCH }
+    requires few_wins { length wins.now ≤ LARGEST_BATCH }
     requires differ { IsDistinct nat_eq (ride_ids rides.now) }
     requires of_them { All (Contains rides.now) (won_rides wins.now) }
     ensures { (roads : RoadMap) (s : State) → IsTableOf roads (quoting_batch s rides.now) table.now

@@ -1,7 +1,7 @@
 -- A text's refusal is neither want of memory nor a fault of reading.
 use Rattle.gr_reader.proofs.Common.{◌≢◌, ℕ, nat_lt, ◌==◌, ◌||◌, Bool, true, false, List, [], ◌∷◌, length, Option, Some, None, Err, refl, codes, bytes_eq, numbers_of, words_of, after_lines, RoadArc, Problem, MapError, NoMemory, ReadFault, MapSoFar, map_format, map_of, map_text, after_words, problem_line, arc_line, problem_of, checked_problem, checked_arc}
 use Rattle.line_text.proofs.NamedRefusals.{IsNamed, named-cond, named-and_then, named-lines, named-text as text-named, unnamed}
-use Rattle.ride_model.specs.Limits.{longest_arc}
+use Rattle.ride_model.specs.declared.limits.TheConstants.{LONGEST_ARC}
 
 is_named : MapError → Bool
 is_named NoMemory = false
@@ -23,7 +23,7 @@ named-arc : (number nodes : ℕ) (numbers : Option (List ℕ)) → IsNamed is_na
 unfolding IsNamed is_named
 named-arc number nodes (Some (tail ∷ head ∷ seconds ∷ [])) =
     named-cond is_named ((tail == 0 || nat_lt nodes tail) || (head == 0 || nat_lt nodes head)) _ _ refl
-    (named-cond is_named (nat_lt longest_arc seconds) _ _ refl tt)
+    (named-cond is_named (nat_lt LONGEST_ARC seconds) _ _ refl tt)
 named-arc number nodes _ = refl
 
 named-problem_line : (number : ℕ) (o : Option Problem) (arcs : List RoadArc) (fields : List (List ℕ)) → IsNamed is_named (problem_line number o arcs fields)

@@ -6,6 +6,7 @@ ghost use Rattle.gr_reader.specs.inner.Reading.{IsArcAmong, IsProblem};
 
 use crate::MapError;
 use line_text::{Fields, LineParser, words_of};
+use ride_model::limits::{LONGEST_ARC, MOST_ARCS, MOST_NODES};
 use ride_model::{Network, RoadArc};
 use std::alloc::Global;
 
@@ -155,7 +156,7 @@ fn read_problem(number: u64, fields: &mut Fields<'_>) -> Result<Problem, MapErro
     if nodes == 0 {
         return Err(MapError::BadLine(number));
     }
-    if nodes > u64::from(Network::MOST_NODES) || arcs > u64::from(Network::MOST_ARCS) {
+    if nodes > MOST_NODES || arcs > MOST_ARCS {
         return Err(MapError::TooLarge(number));
     }
     Ok(Problem {
@@ -189,7 +190,7 @@ fn read_arc(number: u64, nodes: u32, fields: &mut Fields<'_>) -> Result<RoadArc,
     if is_out(nodes, tail) || is_out(nodes, head) {
         return Err(MapError::NodeOut(number));
     }
-    if seconds > u64::from(Network::MOST_SECONDS) {
+    if seconds > LONGEST_ARC {
         return Err(MapError::WeightOut(number));
     }
     Ok(RoadArc {

@@ -2,7 +2,7 @@
 ghost use Rattle.std.specs.Prelude.{◌≡◌, ◌≢◌, ℕ, ◌+◌, ◌*◌, ◌<◌, ◌≤◌, length, IfOk, None};
 ghost use Rattle.batch_commit.specs.inner.Table.{HasSmallCosts, cell_at as offer_at};
 ghost use Rattle.dual_check.specs.Cells.{cell_at};
-ghost use Rattle.ride_model.specs.Limits.{largest_batch, most_vehicles};
+ghost use Rattle.ride_model.specs.declared.limits.TheConstants.{LARGEST_BATCH, MOST_VEHICLES};
 ghost use Rattle.hungarian.specs.inner.Costs.{cost_of, HasCosts};
 
 use batch_commit::PriceTable;
@@ -55,8 +55,8 @@ pub(crate) fn cost_grid(
 ) -> Result<Grid, NoMemory>
     requires rows_are { table.now.rows ≡ rows }
     requires columns_are { table.now.columns ≡ columns }
-    requires few_rows { rows ≤ largest_batch }
-    requires few_columns { columns ≤ most_vehicles }
+    requires few_rows { rows ≤ LARGEST_BATCH }
+    requires few_columns { columns ≤ MOST_VEHICLES }
     requires small { HasSmallCosts table.now }
     ensures { IfOk result (HasCosts table.now) }
 {

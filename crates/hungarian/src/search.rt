@@ -1,6 +1,6 @@
 //! Searches for shortest augmenting paths.
 ghost use Rattle.std.specs.Prelude.{◌≡◌, ℕ, ◌+◌, ◌-◌, ◌<◌, ◌≤◌, length, slice_set, slice_index_or, replicate, Some, None, IfOk};
-ghost use Rattle.ride_model.specs.Limits.{greatest_penalty};
+ghost use Rattle.ride_model.specs.declared.limits.TheConstants.{GREATEST_PENALTY};
 ghost use Rattle.dual_check.specs.Grid.{price_at};
 ghost use Rattle.hungarian.specs.inner.Mates.{mate};
 ghost use Rattle.hungarian.specs.inner.Ways.{IsShortened, IsNearest, IsRelaxable};
@@ -123,7 +123,7 @@ impl Search {
         root: u32,
     ) -> Path
         requires grid { IsGrid grid.now }
-        requires penalty_limit { penalty ≤ greatest_penalty }
+        requires penalty_limit { penalty ≤ GREATEST_PENALTY }
         requires root_in { root < grid.now.rows }
         requires partial { IsPartial grid.now penalty root matches.now duals.now }
         requires sized { IsSized grid.now.columns self.old }
@@ -160,8 +160,8 @@ impl Search {
 
 /// The shorter of a path and the one that ends by leaving out a row.
 fn sooner(path: Path, reach: Reach, penalty: u64) -> Path
-    requires distance_limit { reach.distance ≤ greatest_penalty }
-    requires penalty_limit { penalty ≤ greatest_penalty }
+    requires distance_limit { reach.distance ≤ GREATEST_PENALTY }
+    requires penalty_limit { penalty ≤ GREATEST_PENALTY }
     requires capped { reach.price ≤ penalty }
     ensures { result ≡ sooner_path path reach penalty }
 {

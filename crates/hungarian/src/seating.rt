@@ -2,7 +2,7 @@
 ghost use Rattle.std.specs.Prelude.{◌≡◌, ℕ, ◌<◌, ◌≤◌, length, IfOk, IfSome, Some};
 ghost use Rattle.ride_model.specs.Vehicle.{ride_ids};
 ghost use Rattle.ride_model.specs.Seating.{vehicle_ids};
-ghost use Rattle.ride_model.specs.Limits.{largest_batch};
+ghost use Rattle.ride_model.specs.declared.limits.TheConstants.{LARGEST_BATCH};
 ghost use Rattle.dual_check.specs.Grid.{column_of};
 ghost use Rattle.hungarian.specs.Seats.{pay_at, pays_by, prices_by};
 ghost use Rattle.hungarian.specs.inner.Seats.{seat_at, seats_by};
@@ -20,7 +20,7 @@ fn seat_at(
     column: Option<u32>,
 ) -> Option<Seat>
     requires row_in { row < length requests.now }
-    requires few { length requests.now ≤ largest_batch }
+    requires few { length requests.now ≤ LARGEST_BATCH }
     requires rows_are { table.now.rows ≡ length requests.now }
     requires columns_are { table.now.columns ≡ length vehicles.now }
     requires column_in { IfSome column (λ c. c < length vehicles.now) }
@@ -45,7 +45,7 @@ pub(crate) fn seats_by(
     vehicles: &[Vehicle],
     columns: &[Option<u32>],
 ) -> Result<SeatList, NoMemory>
-    requires few { length requests.now ≤ largest_batch }
+    requires few { length requests.now ≤ LARGEST_BATCH }
     requires rows_are { table.now.rows ≡ length requests.now }
     requires columns_are { table.now.columns ≡ length vehicles.now }
     requires one_each { length columns.now ≡ length requests.now }

@@ -1,6 +1,6 @@
 //! The rows of a grid, one after another.
 ghost use Rattle.std.specs.Prelude.{◌+◌, ◌<◌, ◌≤◌, IfOk};
-ghost use Rattle.ride_model.specs.Limits.{greatest_penalty};
+ghost use Rattle.ride_model.specs.declared.limits.TheConstants.{GREATEST_PENALTY};
 ghost use Rattle.dual_check.specs.Cells.{IsGrid};
 ghost use Rattle.dual_check.specs.Grid.{CertifiesPairing, IsLeastPairing};
 ghost use Rattle.hungarian.specs.inner.Labels.{IsSized};
@@ -23,7 +23,7 @@ fn add_row(
     search: &mut Search,
 )
     requires grid { IsGrid grid.now }
-    requires penalty_limit { penalty ≤ greatest_penalty }
+    requires penalty_limit { penalty ≤ GREATEST_PENALTY }
     requires row_in { row < grid.now.rows }
     requires partial { IsPartial grid.now penalty row matches.old duals.old }
     requires sized { IsSized grid.now.columns search.old }
@@ -37,7 +37,7 @@ fn add_row(
 
 /// A least pairing of a grid, with prices that certify it, where each row may be left out at the penalty.
 pub fn solve_grid(alloc: Global, grid: &Grid, penalty: u64) -> Result<Paired, NoMemory>
-    requires penalty_limit { penalty ≤ greatest_penalty }
+    requires penalty_limit { penalty ≤ GREATEST_PENALTY }
     ensures certified { IfOk result
         (λ paired. CertifiesPairing grid.now penalty paired.columns paired.prices paired.pays) }
     ensures least { IfOk result (λ paired. IsLeastPairing grid.now penalty paired.columns) }

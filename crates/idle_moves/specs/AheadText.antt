@@ -16,21 +16,12 @@ order_field order =
 abbrev pub sheet_line : MoveSheet → List ℕ
 sheet_line sheet = line_of (
     (codes "moves" ∷ decimal sheet.batch ∷ codes "cost" ∷ decimal sheet.cost ∷ []) ++ (codes "goes" ∷ map order_field sheet.moves)
-    ++ (codes "prices" ∷ map amount_field sheet.prices) ++ (codes "pays" ∷ map amount_field sheet.pays)
-    )
+    ++ (codes "prices" ∷ map amount_field sheet.prices) ++ (codes "pays" ∷ map amount_field sheet.pays))
 
 -- the first line: the version of the text, and the reach
 abbrev pub head_line : ℕ → List ℕ
 head_line reach = line_of (codes "ahead" ∷ codes "1" ∷ codes "reach" ∷ decimal reach ∷ [])
 
--- the lines of sheets
-abbrev pub sheet_lines : List MoveSheet → List ℕ
-sheet_lines sheets = flat_map sheet_line sheets
-
--- the last line: whether the feed was read whole
-abbrev pub last_line : Ending → List ℕ
-last_line ending = line_of (ending_word ending ∷ [])
-
--- the text of sheets over a feed that was read whole, or was cut
+-- the text of sheets: the first line, one for each, and a last one that says whether the feed was read whole
 abbrev pub ahead_text : ℕ → Ending → List MoveSheet → List ℕ
-ahead_text reach ending sheets = head_line reach ++ sheet_lines sheets ++ last_line ending
+ahead_text reach ending sheets = head_line reach ++ flat_map sheet_line sheets ++ line_of (ending_word ending ∷ [])

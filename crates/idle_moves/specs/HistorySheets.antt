@@ -24,8 +24,7 @@ pub record Commit : Type 0 where
 
 -- the commit that an event of an actor is after these entries, if it is one
 abbrev pub commit_by : List Entry → Actor → Event → Option Commit
-commit_by before (Desk desk) (Committed number _ seats _ _ _) =
-    Some (record { before = before; desk = desk; number = number; seats = seats })
+commit_by before (Desk desk) (Committed number _ seats _ _ _) = Some (record { before = before; desk = desk; number = number; seats = seats })
 commit_by before _ _ = None
 
 -- the commits among entries that follow others, in order
@@ -33,10 +32,6 @@ abbrev pub commits_after : List Entry → List Entry → List Commit
 commits_after before [] = []
 commits_after before (entry ∷ entries) =
     cons_option (commit_by before entry.actor entry.event) (commits_after (before ++ entry ∷ []) entries)
-
--- the commits of a history, in order
-abbrev pub commits_of : List Entry → List Commit
-commits_of entries = commits_after [] entries
 
 -- the sheet of a commit: of its seating, and of its batch as it stood at its opening, with the requests that waited there and
 -- copies of all vehicles of the state there
@@ -51,4 +46,4 @@ pub record IsSheetOf (start : State) (reach : ℕ) (commit : Commit) (sheet : Mo
 
 -- the sheets of a history are those of its commits, each once and in order
 abbrev pub AreSheetsOf : State → ℕ → List Entry → List MoveSheet → Type 0
-AreSheetsOf start reach entries sheets = AllZip (IsSheetOf start reach) (commits_of entries) sheets
+AreSheetsOf start reach entries sheets = AllZip (IsSheetOf start reach) (commits_after [] entries) sheets

@@ -1,5 +1,5 @@
 -- Sheets: which idle vehicles are sent ahead after a batch, and towards which requests.
-use Rattle.std.specs.Prelude.{◌≡◌, ℕ, ◌==◌, ◌&&◌, not, if◌then◌else◌, nat_le, Bool, List, length, map, filter, slice_index, Option, Some, None, option_map}
+use Rattle.std.specs.Prelude.{◌≡◌, ℕ, ◌==◌, ◌&&◌, not, if◌then◌else◌, nat_le, Bool, List, length, map, filter, slice_index, Option, Some, None, option_and_then, option_map}
 use Rattle.std.specs.List.{list_any, flat_map, filter_map, range_with_len}
 use Rattle.ride_model.specs.declared.offer.Seat.{Seat}
 use Rattle.ride_model.specs.declared.vehicle.Ride.{Ride}
@@ -16,13 +16,11 @@ use Rattle.idle_moves.specs.declared.moves.MoveSheet.{MoveSheet}
 
 -- whether a vehicle is idle, on duty and in no seat
 abbrev pub stands_by : List Seat → Vehicle → Bool
-stands_by seats v =
-    is_idle v && v.duty && not (list_any (λ (seat : Seat). seat.vehicle == v.id) seats)
+stands_by seats v = is_idle v && v.duty && not (list_any (λ (seat : Seat). seat.vehicle == v.id) seats)
 
 -- a travel time where it is at most the reach
 abbrev pub within : ℕ → Option ℕ → Option ℕ
-within reach None = None
-within reach (Some seconds) = if nat_le seconds reach then Some seconds else None
+within reach time = option_and_then (λ seconds. if nat_le seconds reach then Some seconds else None) time
 
 -- the grid of the travel times within reach: a row for each request, and in it from where each vehicle is to the pickup
 abbrev pub times_grid : RoadMap → ℕ → List Ride → List Vehicle → GridCells
@@ -34,15 +32,13 @@ times_grid roads reach rides vehicles = record {
 
 -- the order to the vehicle of a column, if any, to drive to the request of a row
 abbrev pub order_at : GridCells → List Ride → List Vehicle → ℕ → Option ℕ → Option Move
-order_at grid rides vehicles row None = None
-order_at grid rides vehicles row (Some column) =
-    option_map (λ seconds. record {
-      request = slice_index (ride_ids rides) row;
-      vehicle = slice_index (vehicle_ids vehicles) column;
-      version = slice_index (map (λ (v : Vehicle). v.version) vehicles) column;
-      node = slice_index (map (λ (ride : Ride). ride.from) rides) row;
-      seconds = seconds;
-    }) (cell_at grid row column)
+order_at grid rides vehicles row given = option_and_then (λ column. option_map (λ seconds. record {
+  request = slice_index (ride_ids rides) row;
+  vehicle = slice_index (vehicle_ids vehicles) column;
+  version = slice_index (map (λ (v : Vehicle). v.version) vehicles) column;
+  node = slice_index (map (λ (ride : Ride). ride.from) rides) row;
+  seconds = seconds;
+}) (cell_at grid row column)) given
 
 -- the orders of the first rows of a pairing
 abbrev pub orders_by : GridCells → List Ride → List Vehicle → List (Option ℕ) → ℕ → List Move
@@ -70,6 +66,4 @@ pub record IsSheetOver (roads : RoadMap) (reach : ℕ) (rides : List Ride) (vehi
 -- that are idle, on duty and in no seat, in fleet order
 pub record IsSheet (roads : RoadMap) (batch : BatchCopy) (seats : List Seat) (reach : ℕ) (sheet : MoveSheet) : Type 0 where
   pub batch_is : sheet.batch ≡ batch.number
-  pub over : IsSheetOver roads reach
-      (filter (λ (ride : Ride). not (has_seat seats ride.id)) batch.requests)
-      (filter (stands_by seats) batch.vehicles) sheet
+  pub over : IsSheetOver roads reach (filter (λ (ride : Ride). not (has_seat seats ride.id)) batch.requests) (filter (stands_by seats) batch.vehicles) sheet

@@ -1,3 +1,4 @@
+pub mod AheadText
 pub mod Standby
 pub mod Filling
 pub mod Raises

@@ -3,7 +3,7 @@ ghost use Rattle.std.specs.Prelude.{◌≡◌, ◌≢◌, ℕ, ◌+◌, ◌*◌,
 ghost use Rattle.std.specs.List.{flat_map};
 ghost use Rattle.ride_model.specs.declared.vehicle.Ride.{Ride};
 ghost use Rattle.ride_model.specs.Road.{IsNode};
-ghost use Rattle.ride_model.specs.Limits.{largest_batch, longest_reach, most_vehicles};
+ghost use Rattle.ride_model.specs.declared.limits.TheConstants.{LARGEST_BATCH, LONGEST_REACH, MOST_VEHICLES};
 ghost use Rattle.idle_moves.specs.Sheet.{within};
 ghost use Rattle.idle_moves.specs.inner.Standby.{cells_of};
 ghost use Rattle.idle_moves.specs.inner.Filling.{BeginsWith, with_cell};
@@ -41,7 +41,7 @@ fn write_cell(grid: &mut Grid, row: u32, column: u32, amount: Option<u64>)
 fn fill_row(grid: &mut Grid, row: u32, reach: u64, times: &[Option<u64>])
     requires row_in { row < grid.old.rows }
     requires columns { length times.now ≡ grid.old.columns }
-    requires reach_limit { reach ≤ longest_reach }
+    requires reach_limit { reach ≤ LONGEST_REACH }
     ensures rows_stay { grid.new.rows ≡ grid.old.rows }
     ensures columns_stay { grid.new.columns ≡ grid.old.columns }
     ensures filled { (before : List (Option ℕ)) → length before ≡ row * grid.old.columns
@@ -62,11 +62,11 @@ fn fill_rows(
     times: &mut TravelTimes,
     row_times: &mut [Option<u64>],
 )
-    requires few { length requests.now ≤ largest_batch }
+    requires few { length requests.now ≤ LARGEST_BATCH }
     requires rows { length requests.now ≡ grid.old.rows }
     requires columns { length towards.now.wanted ≡ grid.old.columns }
     requires places { length towards.now.wanted ≡ length row_times.old }
-    requires reach_limit { reach ≤ longest_reach }
+    requires reach_limit { reach ≤ LONGEST_REACH }
     requires roads { towards.now.roads ≡ times.old }
     requires pickups { All (λ (ride : Ride). IsNode times.old ride.from) requests.now }
     requires empty { BeginsWith [] grid.old }
@@ -90,9 +90,9 @@ pub(crate) fn times_grid(
     reach: u64,
     times: &mut TravelTimes,
 ) -> Result<Grid, NoMemory>
-    requires few_rows { length requests.now ≤ largest_batch }
-    requires few_columns { length nodes.now ≤ most_vehicles }
-    requires reach_limit { reach ≤ longest_reach }
+    requires few_rows { length requests.now ≤ LARGEST_BATCH }
+    requires few_columns { length nodes.now ≤ MOST_VEHICLES }
+    requires reach_limit { reach ≤ LONGEST_REACH }
     requires pickups { All (λ (ride : Ride). IsNode times.old ride.from) requests.now }
     requires stands { All (IsNode times.old) nodes.now }
     ensures grid { IfOk result (λ grid. grid ≡ record {

@@ -3,7 +3,7 @@ ghost use Rattle.std.specs.Prelude.{◌≡◌, ℕ, ◌<◌, ◌≤◌, length, 
 ghost use Rattle.ride_model.specs.declared.vehicle.Vehicle.{Vehicle};
 ghost use Rattle.ride_model.specs.Seating.{vehicle_ids};
 ghost use Rattle.ride_model.specs.Vehicle.{ride_ids};
-ghost use Rattle.ride_model.specs.Limits.{largest_batch};
+ghost use Rattle.ride_model.specs.declared.limits.TheConstants.{LARGEST_BATCH};
 ghost use Rattle.dual_check.specs.Grid.{column_of};
 ghost use Rattle.hungarian.specs.Seats.{pays_by};
 ghost use Rattle.idle_moves.specs.Sheet.{order_at, orders_by};
@@ -25,7 +25,7 @@ fn order_at(
     column: Option<u32>,
 ) -> Option<Move>
     requires row_in { row < length requests.now }
-    requires few { length requests.now ≤ largest_batch }
+    requires few { length requests.now ≤ LARGEST_BATCH }
     requires rows_are { grid.now.rows ≡ length requests.now }
     requires columns_are { grid.now.columns ≡ length vehicles.now }
     requires column_in { IfSome column (λ c. c < length vehicles.now) }
@@ -52,7 +52,7 @@ pub(crate) fn orders_by(
     vehicles: &[Standby],
     columns: &[Option<u32>],
 ) -> Result<MoveList, NoMemory>
-    requires few { length requests.now ≤ largest_batch }
+    requires few { length requests.now ≤ LARGEST_BATCH }
     requires rows_are { grid.now.rows ≡ length requests.now }
     requires columns_are { grid.now.columns ≡ length vehicles.now }
     requires one_each { length columns.now ≡ length requests.now }

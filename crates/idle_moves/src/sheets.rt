@@ -3,7 +3,7 @@ ghost use Rattle.std.specs.Prelude.{◌≡◌, ◌≤◌, ◌-◌, ◌<◌, ◌^
 ghost use Rattle.ride_model.specs.declared.vehicle.Ride.{Ride};
 ghost use Rattle.ride_model.specs.declared.vehicle.Vehicle.{Vehicle};
 ghost use Rattle.ride_model.specs.Road.{IsNode};
-ghost use Rattle.ride_model.specs.Limits.{largest_batch, longest_reach, most_vehicles};
+ghost use Rattle.ride_model.specs.declared.limits.TheConstants.{LARGEST_BATCH, LONGEST_REACH, MOST_VEHICLES};
 ghost use Rattle.dual_check.specs.Grid.{CertifiesPairing};
 ghost use Rattle.idle_moves.specs.declared.standby.Standby.{Standby};
 ghost use Rattle.idle_moves.specs.Sheet.{IsSheet, IsSheetOver, Shows};
@@ -33,7 +33,7 @@ pub fn plan_moves(
     reach: u64,
     times: &mut TravelTimes,
 ) -> Result<MoveSheet, NoMemory>
-    requires reach_limit { reach ≤ longest_reach }
+    requires reach_limit { reach ≤ LONGEST_REACH }
     requires pickups { All (λ (ride : Ride). IsNode times.old ride.from) batch.now.requests }
     requires stands { All (λ (v : Vehicle). IsNode times.old v.at) batch.now.vehicles }
     ensures sheet { IfOk result (IsSheet times.old batch.now answer.now.seating reach) }
@@ -63,9 +63,9 @@ fn plan_over(
     reach: u64,
     times: &mut TravelTimes,
 ) -> Result<MoveSheet, NoMemory>
-    requires few_requests { length requests.now ≤ largest_batch }
-    requires few_vehicles { length vehicles.now ≤ most_vehicles }
-    requires reach_limit { reach ≤ longest_reach }
+    requires few_requests { length requests.now ≤ LARGEST_BATCH }
+    requires few_vehicles { length vehicles.now ≤ MOST_VEHICLES }
+    requires reach_limit { reach ≤ LONGEST_REACH }
     requires pickups { All (λ (ride : Ride). IsNode times.old ride.from) requests.now }
     requires stands { All (λ (vehicle : Standby). IsNode times.old vehicle.node) vehicles.now }
     ensures number { IfOk result (λ sheet. sheet.batch ≡ number) }
@@ -89,10 +89,10 @@ fn sheet_of(
     vehicles: &[Standby],
     paired: &Paired,
 ) -> Result<MoveSheet, NoMemory>
-    requires few { length requests.now ≤ largest_batch }
+    requires few { length requests.now ≤ LARGEST_BATCH }
     requires rows_are { grid.now.rows ≡ length requests.now }
     requires columns_are { grid.now.columns ≡ length vehicles.now }
-    requires reach_limit { reach ≤ longest_reach }
+    requires reach_limit { reach ≤ LONGEST_REACH }
     requires certified { CertifiesPairing grid.now reach paired.now.columns
         paired.now.prices paired.now.pays }
     ensures number { IfOk result (λ sheet. sheet.batch ≡ number) }

@@ -1,7 +1,8 @@
 //! The lines of sheets.
 ghost use Rattle.std.specs.Prelude.{◌≡◌, ◌++◌, ◌∷◌, [], ℕ, List, codes, decimal};
 ghost use Rattle.trip_log.specs.inner.Prints.{Prints, fields_then};
-ghost use Rattle.idle_moves.specs.AheadText.{head_line, last_line, order_field, sheet_line};
+ghost use Rattle.idle_moves.specs.AheadText.{head_line, order_field, sheet_line};
+ghost use Rattle.idle_moves.specs.inner.AheadText.{last_line};
 
 use crate::{Move, MoveSheet};
 use arrayvec::ArrayVec;

@@ -3,7 +3,7 @@ ghost use Rattle.std.specs.Prelude.{◌≡◌, ◌≤◌, ◌⊎◌, length, IfS
 ghost use Rattle.ride_model.specs.declared.offer.Offer.{Offer};
 ghost use Rattle.ride_model.specs.Road.{RoadMap, lesser};
 ghost use Rattle.ride_model.specs.Offers.{offer_of, price};
-ghost use Rattle.ride_model.specs.Limits.{longest_dwell};
+ghost use Rattle.ride_model.specs.declared.limits.TheConstants.{LONGEST_DWELL};
 ghost use Rattle.insertion.specs.inner.Arrivals.{plan_of, is_by};
 ghost use Rattle.insertion.specs.inner.Asked.{IsAsked};
 ghost use Rattle.insertion.specs.inner.Drawn.{IsDrawnFor};
@@ -104,7 +104,7 @@ fn better(
 ) -> Option<Offer>
     requires drawn { (roads : RoadMap) × (offer : Option Offer)
         × IsDrawnFor roads vehicle.now ride.now dwell drawn offer }
-    requires dwell_limit { dwell ≤ longest_dwell }
+    requires dwell_limit { dwell ≤ LONGEST_DWELL }
     ensures cost { (roads : RoadMap) (offer : Option Offer)
         → IsDrawnFor roads vehicle.now ride.now dwell drawn offer
         → cost_if_any result ≡ lesser (cost_if_any best) (cost_if_any offer) }

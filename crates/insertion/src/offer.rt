@@ -6,7 +6,7 @@ ghost use Rattle.ride_model.specs.declared.vehicle.Vehicle.{Vehicle};
 ghost use Rattle.ride_model.specs.Road.{RoadMap};
 ghost use Rattle.ride_model.specs.Offers.{offer_of};
 ghost use Rattle.ride_model.specs.Settings.{IsSettings};
-ghost use Rattle.ride_model.specs.Limits.{latest_ready, longest_dwell};
+ghost use Rattle.ride_model.specs.declared.limits.TheConstants.{LATEST_READY, LONGEST_DWELL};
 ghost use Rattle.insertion.specs.inner.Arrivals.{plan_of, leave_at};
 ghost use Rattle.insertion.specs.inner.Asked.{IsAsked};
 ghost use Rattle.insertion.specs.inner.Drawn.{drives_more, IsDrawn, IsDrawnFor, AreShort};
@@ -87,7 +87,7 @@ fn priced(vehicle: &Vehicle, offer: Offer, settings: &Settings, plan: &Plan) -> 
     requires ranges { IsSettings settings.now }
     requires short { AreShort offer.joins }
     requires within { offer.i ≤ length plan.now.times.items }
-    requires start_limit { plan.now.start ≤ latest_ready }
+    requires start_limit { plan.now.start ≤ LATEST_READY }
     requires soon { All (λ time. time ≤ 10000000000000000) plan.now.times.items }
     ensures { result ≡ record offer {
       cost = settings.now.drive * drives_more settings.now.dwell
@@ -108,7 +108,7 @@ fn priced(vehicle: &Vehicle, offer: Offer, settings: &Settings, plan: &Plan) -> 
 pub fn kept(vehicle: &Vehicle, ride: &Ride, drawn: Offer, dwell: u64) -> Option<Offer>
     requires drawn { (roads : RoadMap) × (offer : Option Offer)
         × IsDrawn roads vehicle.now ride.now dwell drawn offer }
-    requires dwell_limit { dwell ≤ longest_dwell }
+    requires dwell_limit { dwell ≤ LONGEST_DWELL }
     ensures { (roads : RoadMap) (offer : Option Offer)
         → IsDrawn roads vehicle.now ride.now dwell drawn offer → result ≡ offer }
 {

@@ -1,7 +1,7 @@
 //! A vehicle's plan for a batch, and when it comes to which place.
 ghost use Rattle.std.specs.Prelude.{◌≡◌, ◌≤◌, length, All, IfSome};
 ghost use Rattle.ride_model.specs.inner.Vehicle.{IsRoutedSomewhere};
-ghost use Rattle.ride_model.specs.Limits.{latest_time, longest_dwell, longest_lead};
+ghost use Rattle.ride_model.specs.declared.limits.TheConstants.{LATEST_TIME, LONGEST_DWELL, LONGEST_LEAD};
 ghost use Rattle.insertion.specs.inner.Arrivals.{plan_of, leave_at, pickup_at};
 ghost use Rattle.insertion.specs.inner.Joined.{to_pickup_of};
 
@@ -25,9 +25,9 @@ pub struct Plan {
 /// A vehicle's plan for a batch of this time.
 pub fn plan_of(vehicle: &Vehicle, time: u64, settings: &Settings) -> Plan
     requires routed { IsRoutedSomewhere vehicle.now }
-    requires time_limit { time ≤ latest_time }
-    requires lead_limit { settings.now.lead ≤ longest_lead }
-    requires dwell_limit { settings.now.dwell ≤ longest_dwell }
+    requires time_limit { time ≤ LATEST_TIME }
+    requires lead_limit { settings.now.lead ≤ LONGEST_LEAD }
+    requires dwell_limit { settings.now.dwell ≤ LONGEST_DWELL }
     ensures { result ≡ plan_of vehicle.now time settings.now }
 {
     let start = start_of(vehicle, settings.lead, time);
@@ -44,7 +44,7 @@ pub fn pickup_at(near: &Near, dwell: u64, plan: &Plan, place: usize) -> Option<u
     requires within_plan { place ≤ length plan.now.times.items }
     requires start_limit { plan.now.start ≤ 10000000000000000 }
     requires soon { All (λ time. time ≤ 10000000000000000) plan.now.times.items }
-    requires dwell_limit { dwell ≤ longest_dwell }
+    requires dwell_limit { dwell ≤ LONGEST_DWELL }
     requires short { IfSome (to_pickup_of near.now place) (λ seconds. seconds ≤ 500000000000000) }
     ensures { result ≡ pickup_at near.now dwell plan.now place }
 {
@@ -57,7 +57,7 @@ pub fn leave_at(start: u64, dwell: u64, times: &[u64], place: usize) -> u64
     requires within { place ≤ length times.now }
     requires start_limit { start ≤ 10000000000000000 }
     requires soon { All (λ time. time ≤ 10000000000000000) times.now }
-    requires dwell_limit { dwell ≤ longest_dwell }
+    requires dwell_limit { dwell ≤ LONGEST_DWELL }
     ensures time { result ≡ leave_at start dwell times.now place }
     ensures bounded { result ≤ 10000000000003600 }
 {

@@ -1,7 +1,7 @@
 //! When a vehicle would start for a batch, and what the change of its plan costs.
 ghost use Rattle.std.specs.Prelude.{◌≡◌, ◌≤◌, ◌+◌, ◌*◌, ◌&&◌, length, nat_le};
 ghost use Rattle.ride_model.specs.Offers.{is_idle, is_open, start_of};
-ghost use Rattle.ride_model.specs.Limits.{latest_time, longest_lead, most_stops, greatest_weight};
+ghost use Rattle.ride_model.specs.declared.limits.TheConstants.{GREATEST_WEIGHT, LATEST_TIME, LONGEST_LEAD, MOST_STOPS};
 
 use ride_model::{Settings, Vehicle};
 
@@ -22,8 +22,8 @@ pub fn is_open(vehicle: &Vehicle, time: u64) -> bool
 
 /// When a vehicle would start for a batch of this time: an idle one not before the time and the lead.
 pub fn start_of(vehicle: &Vehicle, lead: u64, time: u64) -> u64
-    requires lead_limit { lead ≤ longest_lead }
-    requires time_limit { time ≤ latest_time }
+    requires lead_limit { lead ≤ LONGEST_LEAD }
+    requires time_limit { time ≤ LATEST_TIME }
     ensures { result ≡ start_of vehicle.now lead time }
 {
     if is_idle(vehicle) {
@@ -36,7 +36,7 @@ pub fn start_of(vehicle: &Vehicle, lead: u64, time: u64) -> u64
 /// The number of stops of a vehicle's plan.
 pub fn number_of_stops(vehicle: &Vehicle) -> usize
     ensures number { result ≡ length vehicle.now.stops.items }
-    ensures few { result ≤ most_stops }
+    ensures few { result ≤ MOST_STOPS }
 {
     vehicle.stops.as_slice().len()
 }
@@ -49,8 +49,8 @@ fn is_idle(vehicle: &Vehicle) -> bool
 
 /// The cost of so many more seconds of driving, and of so many to the pickup.
 pub fn cost(settings: &Settings, driven: u64, waited: u64) -> u64
-    requires drive_limit { settings.now.drive ≤ greatest_weight }
-    requires wait_limit { settings.now.wait ≤ greatest_weight }
+    requires drive_limit { settings.now.drive ≤ GREATEST_WEIGHT }
+    requires wait_limit { settings.now.wait ≤ GREATEST_WEIGHT }
     requires short_drive { driven ≤ 3000000000000000 }
     requires short_wait { waited ≤ 15000000000000000 }
     ensures { result ≡ settings.now.drive * driven + settings.now.wait * waited }

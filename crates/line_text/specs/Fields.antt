@@ -29,9 +29,7 @@ begins_field (b ∷ bytes) = not (is_blank b)
 -- the maximal runs of bytes other than space and tab
 unfoldable pub runs_of : List ℕ → List (List ℕ)
 runs_of [] = []
-runs_of (b ∷ bytes) =
-    if is_blank b
-    then runs_of bytes
+runs_of (b ∷ bytes) = if is_blank b then runs_of bytes
     else (if begins_field bytes then onto_first b (runs_of bytes) else (b ∷ []) ∷ runs_of bytes)
 
 -- the fields of a line. A CR that is not dropped is a byte of a field
@@ -41,8 +39,7 @@ fields_of line = runs_of (without_end line)
 -- the numbers that the fields are; absent where one is no number
 unfoldable pub numbers_of : List (List ℕ) → Option (List ℕ)
 numbers_of [] = Some []
-numbers_of (field ∷ fields) =
-    option_and_then (λ n. option_map (λ ns. n ∷ ns) (numbers_of fields)) (number_of field)
+numbers_of (field ∷ fields) = option_and_then (λ n. option_map (λ ns. n ∷ ns) (numbers_of fields)) (number_of field)
 
 -- whether the text begins with the byte
 abbrev pub begins_with : ℕ → List ℕ → Bool
@@ -61,7 +58,5 @@ unless_comment comment (field ∷ fields) = if begins_with comment field then []
 -- what a line says: its fields, and none of a comment. An over-long line is a comment where its very first byte is
 -- the comment byte, and else says nothing that can be read
 abbrev pub words_of : ℕ → List ℕ → Option (List (List ℕ))
-words_of comment line =
-    if is_over_long line
-    then (if begins_with comment line then Some [] else None)
+words_of comment line = if is_over_long line then (if begins_with comment line then Some [] else None)
     else Some (unless_comment comment (fields_of line))

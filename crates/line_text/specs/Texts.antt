@@ -29,7 +29,6 @@ after_ended format bytes = after_lines format 1 format.start (ended_lines bytes)
 
 -- what the text gives. Of a text of too many bytes the lines count that end within the first of them
 abbrev pub text_value : {S V E : Type 0} → Format S V E → List ℕ → Result V E
-text_value format bytes =
-    if nat_lt format.most (length bytes)
+text_value format bytes = if nat_lt format.most (length bytes)
     then and_then (after_ended format (take format.most bytes)) (λ _. Err format.too_long)
     else and_then (after_lines format 1 format.start (lines_of bytes)) format.finish

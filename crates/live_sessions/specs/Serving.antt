@@ -1,5 +1,5 @@
 -- What a session of two feeds gives.
-use Rattle.std.specs.Prelude.{◌≡◌, ℕ, ◌≤◌, ◌⊎◌, true, false, List, [], ◌∷◌, ◌++◌, Option, IsTrue, IsFalse}
+use Rattle.std.specs.Prelude.{◌≡◌, ℕ, ◌≤◌, ◌⊎◌, true, false, List, [], ◌∷◌, ◌++◌, All, Option, IsTrue, IsFalse}
 use Rattle.std.specs.List.{list_any}
 use Rattle.ride_model.specs.declared.command.Actor.TheVariants.{Feed, Desk}
 use Rattle.ride_model.specs.declared.entry.Ending.{Ending}
@@ -17,9 +17,8 @@ use Rattle.command_lines.specs.Feeds.{IsWhole}
 use Rattle.line_text.specs.line_reader.Limits.{IsTooLong}
 use Rattle.command_lines.specs.declared.forms.FeedForm.{FeedForm}
 use Rattle.command_lines.specs.Limits.{ended_commands, limits_of}
-use Rattle.model_laws.specs.history_laws.Start.{IsStart}
 use Rattle.board_core.specs.Recorded.{end_entry}
-use Rattle.session_loops.specs.Loops.{AreFed}
+use Rattle.model_laws.specs.history_laws.Start.{IsStart, is_fed}
 use Rattle.line_text.specs.line_reader.FeedRuns.{IsReadWhole}
 use Rattle.session_loops.specs.Stops.{AreFirstOf}
 
@@ -47,7 +46,7 @@ pub record IsFeedOf (form : FeedForm) (feed : ℕ) (run : FeedRun) (ran : Ran) (
   pub answers : List Entry
   pub ending : Ending
   pub part : entries_of (Feed feed) entries ≡ answers ++ end_entry (Feed feed) ending ∷ []
-  pub fed : AreFed answers
+  pub fed : All (λ (entry : Entry). IsTrue (is_fed entry.event)) answers
   pub first : AreFirstOf form run.bytes taken (fed_commands feed entries)
   pub whole : ending ≡ Whole → IsWhole form run.left (fed_commands feed entries) taken × (run.faults_after ≡ run.faults_before)
   pub cut : ran.no_memory ≡ false → ending ≡ Cut → (fed_commands feed entries ≡ ended_commands form taken)
@@ -60,8 +59,7 @@ pub record HasServed (start : State) (feeds desks : ℕ) (ran : Ran) (entries : 
   pub legal : IsLegal feeds desks start entries
   pub text : HasText start.settings.log feeds desks entries
   pub promises : KeepsPromises start entries
-  pub desks_whole : ran.no_memory ≡ false → (desk : ℕ) → IsNumbered desks desk
-      → IsTrue (ended_whole (replay start entries) (Desk desk))
+  pub desks_whole : ran.no_memory ≡ false → (desk : ℕ) → IsNumbered desks desk → IsTrue (ended_whole (replay start entries) (Desk desk))
   pub none_given_up : ran.no_memory ≡ false → IsFalse (list_any (λ (entry : Entry). is_abandoned entry.event) entries)
   pub finished : ran.no_memory ≡ false → IsReadWhole ran → IsFinished feeds desks start entries
 
@@ -72,10 +70,7 @@ pub record IsWrittenOut (ran : Ran) (before after : Option (List ℕ)) (text : L
 
 -- memory was wanting before anything was read or written, and nothing else kept the session from running whole
 pub record HasNotServed (riders drivers : FeedRun) (ran : Ran) (before after : Option (List ℕ)) : Type 0 where
-  pub wanting : ran.no_memory ≡ true
-  pub no_sink : ran.sink_failed ≡ false
-  pub no_source : ran.source_failed ≡ false
-  pub no_limit : ran.too_long ≡ false
+  pub ran_is : ran ≡ record { sink_failed = false; no_memory = true; source_failed = false; too_long = false }
   pub nothing_written : after ≡ before
   pub nothing_read_of_riders : riders.left ≡ riders.bytes
   pub nothing_read_of_drivers : drivers.left ≡ drivers.bytes

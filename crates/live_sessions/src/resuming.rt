@@ -2,7 +2,7 @@
 ghost use Rattle.std.specs.Prelude.{◌≡◌, ◌≢◌, ℕ, ◌≤◌, ◌⊎◌, ◌++◌, [], false, true, drop, is_err, length, All, IfOk, List, Option};
 ghost use Rattle.ride_model.specs.declared.entry.Entry.{Entry};
 ghost use Rattle.ride_model.specs.Text.{HasLine, IsOneOrTwo, entry_lines};
-ghost use Rattle.ride_model.specs.Limits.{most_workers};
+ghost use Rattle.ride_model.specs.declared.limits.TheConstants.{MOST_WORKERS};
 ghost use Rattle.ride_ports.specs.Count.{KeepsCount, most_count};
 ghost use Rattle.line_text.specs.inner.text_page.Output.{HasPut, IsFresh};
 ghost use Rattle.session_loops.specs.declared.scribes.Scribed.{Scribed};
@@ -53,7 +53,7 @@ pub fn resume<'r, R: Threads + Wait + Sync, S: Source, K: Sink, G: Gate>(
     gate: &G,
 ) -> Ran
     requires may_go_on { MayGoOn roads.now interrupted }
-    requires workers { (1 ≤ interrupted.workers) × (interrupted.workers ≤ most_workers) }
+    requires workers { (1 ≤ interrupted.workers) × (interrupted.workers ≤ MOST_WORKERS) }
     requires riders_count { S.faults riders.old ≢ most_count }
     requires drivers_count { S.faults drivers.old ≢ most_count }
 

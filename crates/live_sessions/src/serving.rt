@@ -3,7 +3,7 @@ ghost use Rattle.std.specs.Prelude.{◌≢◌, ◌≤◌, ◌⊎◌, false};
 ghost use Rattle.ride_model.specs.Fleet.{MayStart};
 ghost use Rattle.ride_model.specs.State.{start_state};
 ghost use Rattle.ride_model.specs.Text.{IsOneOrTwo};
-ghost use Rattle.ride_model.specs.Limits.{most_workers};
+ghost use Rattle.ride_model.specs.declared.limits.TheConstants.{MOST_WORKERS};
 ghost use Rattle.ride_ports.specs.Count.{KeepsCount, most_count};
 ghost use Rattle.live_sessions.specs.Serving.{CountsFeeds, HasNotServed};
 ghost use Rattle.live_sessions.specs.inner.Serving.{IsServed, feed_run};
@@ -39,7 +39,7 @@ pub fn serve<R: Threads + Wait + Sync, S: Source, K: Sink, G: Gate>(
     gate: &G,
 ) -> Ran
     requires start { MayStart roads.now outset.settings outset.fleet }
-    requires workers { (1 ≤ outset.workers) × (outset.workers ≤ most_workers) }
+    requires workers { (1 ≤ outset.workers) × (outset.workers ≤ MOST_WORKERS) }
     requires desks { IsOneOrTwo outset.desks }
     requires riders_count { S.faults riders.old ≢ most_count }
     requires drivers_count { S.faults drivers.old ≢ most_count }

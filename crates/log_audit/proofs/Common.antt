@@ -1,5 +1,5 @@
 -- The names that most proofs of this crate cite, passed on from one place. Declares nothing.
-pub use Rattle.model_laws.proofs.Common.{Abandoned, Actor, All, All-contains, All-from_recursion, All-weaker, AllByRecursion, BatchCopy, Bool, Certifies, Command, CommitsBatch, Committed, Contains-push, Desk, Ending, Entry, Err, Event, Fed, Feed, Finish, Global, HasLine, HasText, IfNone, IfOk, IfSome, IsBatchOver, IsCovered, IsDistinct, IsDistinct-head, IsDistinct-tail, IsFalse, IsLegalEntry, IsLegalEvent, IsNumbered, IsOneOrTwo, IsRoadMap, IsSeating, IsSome, IsSomeAnd, IsStart, IsTrue, List, MatchOption, NamesBatch, None, Offer, Ok, Opened, Option, Outcome, Reply, Result, Ride, RoadMap, Seat, Some, State, Vec, Vehicle, [], actor_field, after_abandon, after_commit, after_entry, after_opening, amount_of, and_from, and_parts, ap, append-nil, append_assoc, arith, cases_eq, cases_lt, cases_order, codes, concat, concat-append, cond, decimal, decimal_digit, drop, drop_more, entry_line, entry_lines, eq-eqb, eqb, eqb-false, eqb-true, err_from_is_err_and, event_fields, false, fed_commands, find, find_at, find_ride, find_vehicle, get_or, get_or-append_right, get_or-map, get_or-set_other, get_or-set_same, get_or_append_left, get_or_default, has_ended, has_seat, head_line, if◌then◌else◌, inl, inr, is_batch, is_some, join_with_byte, length, length-append, length-map, length-take, length_push, line_of, list_all, list_any, lt-ltb, ltb-true, map, map-append, may_open, min, nat_eq, nat_lt, ne_eqb, next_batch, not, open_batch_numbered, open_batch_of, option_and_then, option_copied, or_parts, outcomes_of, position, position-Some, position_or_len, price, recursion_from_All, refl, ride_ids, same_Some, same_from_place, seat_cost, seat_offer, seating_cost, slice_get_past, slice_index_or, slice_set, start_state, subst, suc, sum_by-cons, sym, take, take-append-add, take-append-drop, take-append-le, take_all, take_more, true, unwrap_or, vehicle_ids, versions_of, zero, ℕ, ◌&&◌, ◌*◌, ◌++◌, ◌+◌, ◌-◌, ◌<◌, ◌==◌, ◌^◌, ◌∙◌, ◌∷◌, ◌≡◌, ◌≢◌, ◌≤◌, ◌⊎◌}
+pub use Rattle.model_laws.proofs.Common.{Abandoned, Actor, All, All-contains, All-head, All-tail, All-from_recursion, All-weaker, AllByRecursion, BatchCopy, Bool, Certifies, Command, CommitsBatch, Committed, Contains-push, Desk, Ending, Entry, Err, Event, Fed, Feed, Finish, Global, HasLine, HasText, IfNone, IfOk, IfSome, IsBatchOver, IsCovered, IsDistinct, IsDistinct-head, IsDistinct-tail, IsFalse, IsLegalEntry, IsLegalEvent, IsNumbered, IsOneOrTwo, IsRoadMap, IsSeating, IsSome, IsSomeAnd, IsStart, IsTrue, List, MatchOption, NamesBatch, None, Offer, Ok, Opened, Option, Outcome, Reply, Result, Ride, RoadMap, Seat, Some, State, Vec, Vehicle, [], actor_field, after_abandon, after_commit, after_entry, after_opening, amount_of, and_from, and_parts, ap, append-nil, append_assoc, arith, cases_eq, cases_lt, cases_order, codes, concat, concat-append, cond, decimal, decimal_digit, drop, drop_more, entry_line, entry_lines, eq-eqb, eqb, eqb-false, eqb-true, err_from_is_err_and, event_fields, false, fed_commands, find, find_at, find_ride, find_vehicle, get_or, get_or-append_right, get_or-map, get_or-set_other, get_or-set_same, get_or_append_left, get_or_default, has_ended, has_seat, head_line, if◌then◌else◌, inl, inr, is_batch, is_some, join_with_byte, length, length-append, length-map, length-take, length_push, line_of, list_all, list_any, lt-ltb, ltb-true, map, map-append, may_open, min, nat_eq, nat_lt, ne_eqb, next_batch, not, open_batch_numbered, open_batch_of, option_and_then, option_copied, or_parts, outcomes_of, position, position-Some, position_or_len, price, recursion_from_All, refl, ride_ids, same_Some, same_from_place, seat_cost, seat_offer, seating_cost, slice_get_past, slice_index_or, slice_set, start_state, subst, suc, sum_by-cons, sym, take, take-append-add, take-append-drop, take-append-le, take_all, take_more, true, unwrap_or, vehicle_ids, versions_of, zero, ℕ, ◌&&◌, ◌*◌, ◌++◌, ◌+◌, ◌-◌, ◌<◌, ◌==◌, ◌^◌, ◌∙◌, ◌∷◌, ◌≡◌, ◌≢◌, ◌≤◌, ◌⊎◌}
 unfoldable pub use Rattle.model_laws.proofs.Common.{IsLegal, offer_of, replay, text_of}
 pub use Rattle.std.proofs.Common.{filter, sum_by}
 pub use Rattle.std.specs.List.{slice_get}
@@ -21,12 +21,12 @@ pub use Rattle.line_text.specs.declared.line_reader.answers.NextLine.TheVariants
 pub use Rattle.line_text.specs.inner.line_reader.Reader.{ReaderState, IsStopped}
 pub use Rattle.line_text.specs.line_reader.Limits.{IsTooLong}
 pub use Rattle.line_text.specs.line_reader.Reader.{HasNoLf}
-pub use Rattle.log_audit.specs.Audit.{IsAnswer, IsLogOf, IsWrongLine, IsWrongEntry, IsWrongNext, Tells, HasNoHead}
+pub use Rattle.log_audit.specs.Audit.{IsAnswer, IsLogOf, IsWrongLine, IsWrongEntry, IsWrongNext, Tells}
 pub use Rattle.log_audit.specs.Audited.{FailsAfter}
 pub use Rattle.log_audit.specs.Limits.{Counts, log_limits}
 pub use Rattle.log_audit.specs.LogLines.{TakesSome}
 pub use Rattle.log_audit.specs.Restored.{IsRestoration, IsBoardOf, IsHeadOrEnded, IsSameButRoom, StandsAt}
-pub use Rattle.log_audit.specs.Words.{IsFault, MayAct, Meets, rank}
+pub use Rattle.log_audit.specs.Words.{IsFault, Meets}
 pub use Rattle.log_audit.specs.declared.auditor.Auditor.{Auditor}
 pub use Rattle.log_audit.specs.declared.fault.Fault.{Fault}
 pub use Rattle.log_audit.specs.declared.restoring.Restoration.{Restoration}
@@ -37,7 +37,7 @@ pub use Rattle.log_audit.specs.declared.verdict.Verdict.{Verdict}
 pub use Rattle.log_audit.specs.declared.verdict.Verdict.TheVariants.{No, Yes}
 pub use Rattle.log_audit.specs.declared.verdict.Why.{Why}
 pub use Rattle.log_audit.specs.declared.verdict.Why.TheVariants.{Spelling, Outcomes, Prices, Seating}
-pub use Rattle.log_audit.specs.inner.Audited.{text_so_far, HasReadNoHead, HasReadHead, IsWrongLineAfter}
+pub use Rattle.log_audit.specs.inner.Audited.{text_so_far, HasNoHead, HasReadNoHead, HasReadHead, IsWrongLineAfter}
 pub use Rattle.log_audit.specs.inner.Auditing.{IsAuditing, LeavesDue, GoesOn, IsJudged, IsLineOf, HasGrown, IsUncommitted}
 pub use Rattle.log_audit.specs.inner.Due.{IsDueOf, IsDue, has_due}
 pub use Rattle.log_audit.specs.inner.LogLines.{HasRead, IsAtEnd, IsNext, IsStop, IsNextLine}

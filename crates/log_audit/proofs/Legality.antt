@@ -1,73 +1,52 @@
 -- The words why a line is wrong: together they are what makes an entry legal, and only one is the first that is not met.
-use Rattle.log_audit.proofs.Common.{◌≡◌, ℕ, ◌<◌, inl, inr, List, refl, sym, ◌∙◌, ap, subst, arith, ◌==◌, if◌then◌else◌, Option, Some, None, IsSome, IfSome, IsSomeAnd, All, nat_eq, IsDistinct, cases_order, Actor, Feed, Desk, Entry, Event, Fed, Finish, Opened, Committed, Abandoned, Outcome, Seat, outcomes_of, IsLegal, IsLegalEvent, CommitsBatch, replay, BatchCopy, IsSeating, Certifies, seating_cost, State, open_batch_numbered, ride_ids, certified_is_least, IsStart, consistent, open-batch, Why, Spelling, MayAct, Meets, rank, IsFault}
+use Rattle.log_audit.proofs.Common.{◌≡◌, ℕ, List, refl, sym, ◌∙◌, subst, Option, Some, None, IsSome, IfSome, IsSomeAnd, All, nat_eq, IsDistinct, Actor, Feed, Desk, Entry, Event, Fed, Finish, Opened, Committed, Abandoned, Outcome, Seat, outcomes_of, IsLegal, IsLegalEvent, CommitsBatch, replay, BatchCopy, IsSeating, Certifies, seating_cost, State, open_batch_numbered, ride_ids, certified_is_least, IsStart, consistent, open-batch, Why, Spelling, Meets, IsFault, [], ◌∷◌, ◌++◌, All-head, All-tail, AllByRecursion, All-from_recursion}
 use Rattle.log_audit.specs.declared.verdict.Why.TheVariants.{Actor as ToActor, Reply as ToReply, Batch as ToBatch, Seating as ToSeating, Prices as ToPrices, Outcomes as ToOutcomes}
 
--- the word at a place
-word_at : ℕ → Why
-word_at n =
-    if n == 0 then Spelling
-    else if n == 1 then ToActor
-    else if n == 2 then ToReply
-    else if n == 3 then ToBatch
-    else if n == 4 then ToSeating
-    else if n == 5 then ToPrices
-    else ToOutcomes
-
-word_back : (why : Why) → word_at (rank why) ≡ why
-unfolding word_at
-word_back Spelling = refl
-word_back ToActor = refl
-word_back ToReply = refl
-word_back ToBatch = refl
-word_back ToSeating = refl
-word_back ToPrices = refl
-word_back ToOutcomes = refl
+-- of two words that are each the first in a list of which something does not hold, one is the other
+first-same : (P : Why → Type 0) (before others after rest : List Why) (a b : Why) → before ++ a ∷ after ≡ others ++ b ∷ rest → All P before → (P a → ⊥)
+    → All P others → (P b → ⊥) → a ≡ b
+first-same P [] [] after rest a b same holds fails others_hold fails_too = cc same
+first-same P [] (w ∷ others) after rest a b same holds fails others_hold fails_too =
+    let is : w ≡ a = cc same in
+    absurd (fails (subst P is (All-head P w others others_hold)))
+first-same P (w ∷ before) [] after rest a b same holds fails others_hold fails_too =
+    let is : w ≡ b = cc same in
+    absurd (fails_too (subst P is (All-head P w before holds)))
+first-same P (w ∷ before) (x ∷ others) after rest a b same holds fails others_hold fails_too =
+    first-same P before others after rest a b (cc same) (All-tail P w before holds) fails (All-tail P x others others_hold) fails_too
 
 -- only one word is the first that is not met
 pub one-fault : (a b : Why) (feeds desks : ℕ) (s : State) (actor : Actor) (event : Event) → IsFault a feeds desks s actor event
     → IsFault b feeds desks s actor event → a ≡ b
-one-fault a b feeds desks s actor event one other = elim (cases_order (rank a) (rank b)) [
-  | inl same ↦ sym (word_back a) ∙ ap word_at same ∙ word_back b
-  | inr apart ↦ elim apart [
-    | inl less ↦ absurd (one.fault (other.before a less))
-    | inr more ↦ absurd (other.fault (one.before b more))
-  ]
-]
+one-fault a b feeds desks s actor event one other =
+    first-same (λ word. Meets word feeds desks s actor event) one.earlier other.earlier one.later other.later a b (one.order_is ∙ sym other.order_is)
+    one.before one.fault other.before other.fault
 
--- the reply is another
-pub fault-reply : (feeds desks : ℕ) (s : State) (actor : Actor) (event : Event) → MayAct feeds desks s actor event
-    → (Meets ToReply feeds desks s actor event → ⊥) → IsFault ToReply feeds desks s actor event
-fault-reply feeds desks s actor event may never = record { before = before; fault = never }
-  where
-    before : (e : Why) → rank e < 2 → Meets e feeds desks s actor event
-    before Spelling low = tt
-    before ToActor low = may
-    before ToReply low = absurd (omega arith)
-    before ToBatch low = absurd (omega arith)
-    before ToSeating low = absurd (omega arith)
-    before ToPrices low = absurd (omega arith)
-    before ToOutcomes low = absurd (omega arith)
+module _ (feeds desks : ℕ) (s : State) (actor : Actor) (event : Event) where
+  -- these words are met
+  met : (words : List Why) → AllByRecursion (λ word. Meets word feeds desks s actor event) words → All (λ word. Meets word feeds desks s actor event) words
+  met words each = All-from_recursion (λ word. Meets word feeds desks s actor event) words each
 
--- the batch is another
-pub fault-batch : (feeds desks : ℕ) (s : State) (actor : Actor) (event : Event) → MayAct feeds desks s actor event
-    → Meets ToReply feeds desks s actor event → (Meets ToBatch feeds desks s actor event → ⊥) → IsFault ToBatch feeds desks s actor event
-fault-batch feeds desks s actor event may answered never = record { before = before; fault = never }
-  where
-    before : (e : Why) → rank e < 3 → Meets e feeds desks s actor event
-    before Spelling low = tt
-    before ToActor low = may
-    before ToReply low = answered
-    before ToBatch low = absurd (omega arith)
-    before ToSeating low = absurd (omega arith)
-    before ToPrices low = absurd (omega arith)
-    before ToOutcomes low = absurd (omega arith)
+  -- the actor may not do this
+  pub fault_actor : (Meets ToActor feeds desks s actor event → ⊥) → IsFault ToActor feeds desks s actor event
+  fault_actor never = record { earlier = []; later = ToReply ∷ ToBatch ∷ ToSeating ∷ ToPrices ∷ ToOutcomes ∷ []; order_is = refl; before = met [] tt; fault = never }
+
+  -- the reply is another
+  pub fault-reply : Meets ToActor feeds desks s actor event → (Meets ToReply feeds desks s actor event → ⊥) → IsFault ToReply feeds desks s actor event
+  fault-reply may never = record { earlier = ToActor ∷ []; later = ToBatch ∷ ToSeating ∷ ToPrices ∷ ToOutcomes ∷ []; order_is = refl; before = met (ToActor ∷ []) (may, tt); fault = never }
+
+  -- the batch is another
+  pub fault-batch : Meets ToActor feeds desks s actor event → Meets ToReply feeds desks s actor event → (Meets ToBatch feeds desks s actor event → ⊥)
+      → IsFault ToBatch feeds desks s actor event
+  fault-batch may answered never =
+      record { earlier = ToActor ∷ ToReply ∷ []; later = ToSeating ∷ ToPrices ∷ ToOutcomes ∷ []; order_is = refl; before = met (ToActor ∷ ToReply ∷ []) (may, (answered, tt)); fault = never }
 
 module _ (feeds desks : ℕ) (s : State) (desk number cost : ℕ) (seats : List Seat) (prices pays : List (ℕ × ℕ)) (outcomes : List (ℕ × Outcome))
     (batch : BatchCopy) (found : open_batch_numbered s desk number ≡ Some batch) where
   abbrev event : Event
   event = Committed number cost seats prices pays outcomes
 
-  may : MayAct feeds desks s (Desk desk) event
+  may : Meets ToActor feeds desks s (Desk desk) event
   may = subst IsSome (sym found) refl
 
   -- what holds of the open batch
@@ -80,45 +59,49 @@ module _ (feeds desks : ℕ) (s : State) (desk number cost : ℕ) (seats : List 
   -- the seats are no seating, or the cost is another
   pub fault-seating : (IsSeating s.roads batch seats × (cost ≡ seating_cost s.roads batch seats) → ⊥)
       → IsFault ToSeating feeds desks s (Desk desk) event
-  fault-seating never = record { before = before; fault = λ h. never (to_batch (λ b. IsSeating s.roads b seats × (cost ≡ seating_cost s.roads b seats)) h) }
-    where
-      before : (e : Why) → rank e < 4 → Meets e feeds desks s (Desk desk) event
-      before Spelling low = tt
-      before ToActor low = may
-      before ToReply low = tt
-      before ToBatch low = tt
-      before ToSeating low = absurd (omega arith)
-      before ToPrices low = absurd (omega arith)
-      before ToOutcomes low = absurd (omega arith)
+  fault-seating never = record {
+    earlier = ToActor ∷ ToReply ∷ ToBatch ∷ [];
+    later = ToPrices ∷ ToOutcomes ∷ [];
+    order_is = refl;
+    before = met feeds desks s (Desk desk) event (ToActor ∷ ToReply ∷ ToBatch ∷ []) (may, (tt, (tt, tt)));
+    fault = λ h. never (to_batch (λ b. IsSeating s.roads b seats × (cost ≡ seating_cost s.roads b seats)) h);
+  }
 
   -- the prices do not certify it
   pub fault-prices : IsSeating s.roads batch seats × (cost ≡ seating_cost s.roads batch seats)
       → (Certifies s.roads batch seats prices pays → ⊥) → IsFault ToPrices feeds desks s (Desk desk) event
-  fault-prices seated never = record { before = before; fault = λ h. never (to_batch (λ b. Certifies s.roads b seats prices pays) h) }
-    where
-      before : (e : Why) → rank e < 5 → Meets e feeds desks s (Desk desk) event
-      before Spelling low = tt
-      before ToActor low = may
-      before ToReply low = tt
-      before ToBatch low = tt
-      before ToSeating low = of_batch (λ b. IsSeating s.roads b seats × (cost ≡ seating_cost s.roads b seats)) seated
-      before ToPrices low = absurd (omega arith)
-      before ToOutcomes low = absurd (omega arith)
+  fault-prices seated never = record {
+    earlier = ToActor ∷ ToReply ∷ ToBatch ∷ ToSeating ∷ [];
+    later = ToOutcomes ∷ [];
+    order_is = refl;
+    before = met feeds desks s (Desk desk) event (ToActor ∷ ToReply ∷ ToBatch ∷ ToSeating ∷ [])
+        (may, (tt, (tt, (of_batch (λ b. IsSeating s.roads b seats × (cost ≡ seating_cost s.roads b seats)) seated, tt))));
+    fault = λ h. never (to_batch (λ b. Certifies s.roads b seats prices pays) h);
+  }
 
   -- the outcomes are others
   pub fault-outcomes : IsSeating s.roads batch seats × (cost ≡ seating_cost s.roads batch seats)
       → Certifies s.roads batch seats prices pays → (outcomes ≡ outcomes_of batch seats s → ⊥)
       → IsFault ToOutcomes feeds desks s (Desk desk) event
-  fault-outcomes seated priced never = record { before = before; fault = λ h. never (to_batch (λ b. outcomes ≡ outcomes_of b seats s) h) }
-    where
-      before : (e : Why) → rank e < 6 → Meets e feeds desks s (Desk desk) event
-      before Spelling low = tt
-      before ToActor low = may
-      before ToReply low = tt
-      before ToBatch low = tt
-      before ToSeating low = of_batch (λ b. IsSeating s.roads b seats × (cost ≡ seating_cost s.roads b seats)) seated
-      before ToPrices low = of_batch (λ b. Certifies s.roads b seats prices pays) priced
-      before ToOutcomes low = absurd (omega arith)
+  fault-outcomes seated priced never = record {
+    earlier = ToActor ∷ ToReply ∷ ToBatch ∷ ToSeating ∷ ToPrices ∷ [];
+    later = [];
+    order_is = refl;
+    before = met feeds desks s (Desk desk) event (ToActor ∷ ToReply ∷ ToBatch ∷ ToSeating ∷ ToPrices ∷ []) (
+      may,
+      (
+        tt,
+        (
+          tt,
+          (
+            of_batch (λ b. IsSeating s.roads b seats × (cost ≡ seating_cost s.roads b seats)) seated,
+            (of_batch (λ b. Certifies s.roads b seats prices pays) priced, tt),
+          ),
+        ),
+      ),
+    );
+    fault = λ h. never (to_batch (λ b. outcomes ≡ outcomes_of b seats s) h);
+  }
 
 -- a commit of an open batch
 commit-words : (s : State) (o : Option BatchCopy) (cost : ℕ) (seats : List Seat) (prices pays : List (ℕ × ℕ)) (outcomes : List (ℕ × Outcome))
@@ -176,7 +159,7 @@ commit-legal feeds desks s desk n c ss ps qs os h ToOutcomes =
     of-commit (open_batch_numbered s desk n) (λ b. CommitsBatch s b c ss ps qs os) (λ b. os ≡ outcomes_of b ss s) (λ b k. k.outcomes_are) h
 
 -- each word of an event that only its actor's word can fail, and one more
-by-words : (feeds desks : ℕ) (s : State) (actor : Actor) (event : Event) → MayAct feeds desks s actor event
+by-words : (feeds desks : ℕ) (s : State) (actor : Actor) (event : Event) → Meets ToActor feeds desks s actor event
     → Meets ToReply feeds desks s actor event → Meets ToBatch feeds desks s actor event → Meets ToSeating feeds desks s actor event
     → Meets ToPrices feeds desks s actor event → Meets ToOutcomes feeds desks s actor event
     → (why : Why) → Meets why feeds desks s actor event

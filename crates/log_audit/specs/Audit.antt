@@ -22,12 +22,6 @@ pub record Tells (log : ℕ) (bytes : List ℕ) (entry : Entry) : Type 0 where
   pub short : length (entry_line log entry) ≤ log_limits.line + 1
   pub first : IsPrefix (entry_line log entry) bytes
 
--- bytes begin with no head of this version
-abbrev pub HasNoHead : ℕ → List ℕ → Type 0
-HasNoHead log bytes =
-    (feeds desks : ℕ) → IsOneOrTwo feeds → IsOneOrTwo desks
-    → IsPrefix (head_line log feeds desks) bytes → ⊥
-
 -- the bytes are the text of a legal history of a start, with so many feeds and desks
 pub record IsLogOf (start : State) (feeds desks : ℕ) (entries : List Entry) (bytes : List ℕ) : Type 0 where
   pub has_text : HasText start.settings.log feeds desks entries
@@ -36,11 +30,9 @@ pub record IsLogOf (start : State) (feeds desks : ℕ) (entries : List Entry) (b
 
 -- what comes after a legal history's text begins with no entry's line, or with that of an entry that is wrong there
 abbrev pub IsWrongNext : State → ℕ → ℕ → List Entry → List ℕ → Why → Type 0
-IsWrongNext start feeds desks entries rest Spelling =
-    (rest ≢ []) × ((entry : Entry) → Tells start.settings.log rest entry → ⊥)
+IsWrongNext start feeds desks entries rest Spelling = (rest ≢ []) × ((entry : Entry) → Tells start.settings.log rest entry → ⊥)
 IsWrongNext start feeds desks entries rest why =
-    (entry : Entry) × Tells start.settings.log rest entry
-    × IsFault why feeds desks (replay start entries) entry.actor entry.event
+    (entry : Entry) × Tells start.settings.log rest entry × IsFault why feeds desks (replay start entries) entry.actor entry.event
 
 -- the bytes are the text of a legal history, and then comes a wrong line, which has this number
 pub record IsWrongEntry (start : State) (bytes : List ℕ) (line : ℕ) (why : Why) : Type 0 where
@@ -54,23 +46,21 @@ pub record IsWrongEntry (start : State) (bytes : List ℕ) (line : ℕ) (why : W
   pub wrong : IsWrongNext start feeds desks entries rest why
   pub line_is : line ≡ length entries + 2
 
--- the first wrong line of a log, and the first word that it does not meet: no head stands first, or it comes after a
--- legal history's text
+-- the first wrong line of a log, and the first word that it does not meet: no head of the start's version stands first, or it comes
+-- after a legal history's text
 abbrev pub IsWrongLine : State → List ℕ → ℕ → Why → Type 0
-IsWrongLine start bytes line why =
-    (HasNoHead start.settings.log bytes × (line ≡ 1) × (why ≡ Spelling))
-    ⊎ IsWrongEntry start bytes line why
+IsWrongLine start bytes line why = (((feeds desks : ℕ) → IsOneOrTwo feeds → IsOneOrTwo desks
+    → IsPrefix (head_line start.settings.log feeds desks) bytes → ⊥) × (line ≡ 1) × (why ≡ Spelling)) ⊎ IsWrongEntry start bytes line why
 
 -- what an audit of these bytes answers: yes with the totals of the legal history whose text they are; no with the first wrong
 -- line and its first fault; or that they are too long, where no line that counts is wrong
 abbrev pub IsAnswer : State → List ℕ → Result Verdict AuditFault → Type 0
 IsAnswer start bytes (Ok (Yes totals)) =
-    (feeds desks : ℕ) × (entries : List Entry) × IsLogOf start feeds desks entries bytes
-    × AreTotalsOf feeds desks start entries totals × (IsTooLong log_limits bytes → ⊥)
+    (feeds desks : ℕ) × (entries : List Entry) × IsLogOf start feeds desks entries bytes × AreTotalsOf feeds desks start entries totals
+    × (IsTooLong log_limits bytes → ⊥)
 IsAnswer start bytes (Ok (No line why)) = IsWrongLine start bytes line why × Counts bytes line
 IsAnswer start bytes (Err TooLong) =
-    IsTooLong log_limits bytes
-    × ((line : ℕ) (why : Why) → IsWrongLine start bytes line why → Counts bytes line → ⊥)
+    IsTooLong log_limits bytes × ((line : ℕ) (why : Why) → IsWrongLine start bytes line why → Counts bytes line → ⊥)
 IsAnswer start bytes (Err _) = ⊥
 
 -- whether the source failed

@@ -13,5 +13,4 @@ pub record FailsAfter (start : State) (before left : Option (List ℕ)) : Type 0
   pub bytes : List ℕ
   pub reads : Reads before left bytes
   pub within : IsTooLong log_limits bytes → ⊥
-  pub none_wrong : (line : ℕ) (why : Why) → IsWrongLine start bytes line why
-      → line ≤ length (ended_lines bytes) → ⊥
+  pub none_wrong : (line : ℕ) (why : Why) → IsWrongLine start bytes line why → line ≤ length (ended_lines bytes) → ⊥

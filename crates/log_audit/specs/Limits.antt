@@ -10,5 +10,4 @@ log_limits = record { line = 131072; bytes = 1073741824; lines = 2100000 }
 
 -- a line counts: of a log that is too long only those lines do that an LF ends within the limits
 abbrev pub Counts : List ℕ → ℕ → Type 0
-Counts bytes line = IsTooLong log_limits bytes
-    → line ≤ min log_limits.lines (length (ended_lines (take log_limits.bytes bytes)))
+Counts bytes line = IsTooLong log_limits bytes → line ≤ min log_limits.lines (length (ended_lines (take log_limits.bytes bytes)))

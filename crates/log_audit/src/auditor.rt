@@ -94,6 +94,7 @@ impl<'r> Auditor<'r> {
     }
 
     /// Judges an entry and its line: appends it where it is right, or answers the first word that it does not meet, and what was due.
+    #[tactic(auto, using(crate::proofs::Legality::fault_actor))]
     pub(crate) fn judge<R: Threads + Sync>(
         &mut self,
         rt: &R,

@@ -39,6 +39,7 @@ pub(crate) struct Commit {
 
 impl<'r> Auditor<'r> {
     /// Judges the line of a commit.
+    #[tactic(auto, using(crate::proofs::Legality::fault_actor))]
     pub(crate) fn judge_committed<R: Threads + Sync>(
         &mut self,
         rt: &R,

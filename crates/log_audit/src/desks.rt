@@ -19,6 +19,7 @@ use ride_model::{Actor, Ending, NoMemory};
 
 impl<'r> Auditor<'r> {
     /// Judges the line of an opening.
+    #[tactic(auto, using(crate::proofs::Legality::fault_actor))]
     pub(crate) fn judge_opened(&mut self, desk: u8, line: &[u8]) -> Result<Option<Fault>, NoMemory>
         requires auditing { IsAuditing self.old }
         requires desk { IsOneOrTwo desk }
@@ -43,6 +44,7 @@ impl<'r> Auditor<'r> {
     }
 
     /// Judges that a batch is given up.
+    #[tactic(auto, using(crate::proofs::Legality::fault_actor))]
     pub(crate) fn judge_abandoned(&mut self, desk: u8, number: u64) -> Option<Fault>
         requires auditing { IsAuditing self.old }
         requires desk { IsOneOrTwo desk }

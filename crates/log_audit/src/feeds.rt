@@ -16,6 +16,7 @@ use ride_model::{Actor, Command, Ending, NoMemory};
 
 impl<'r> Auditor<'r> {
     /// Judges the line of a feed's command with its reply.
+    #[tactic(auto, using(crate::proofs::Legality::fault_actor))]
     pub(crate) fn judge_fed(
         &mut self,
         feed: u8,
@@ -44,6 +45,7 @@ impl<'r> Auditor<'r> {
     }
 
     /// Judges the end of an actor.
+    #[tactic(auto, using(crate::proofs::Legality::fault_actor))]
     pub(crate) fn judge_end(&mut self, actor: Actor, ending: Ending) -> Option<Fault>
         requires { IsAuditing self.old }
         ensures { IsJudged self.old self.new (end_entry actor ending) result }

@@ -6,7 +6,7 @@ ghost use Rattle.ride_model.specs.declared.vehicle.Ride.{Ride};
 ghost use Rattle.ride_model.specs.declared.vehicle.Vehicle.{Vehicle};
 ghost use Rattle.ride_model.specs.Seating.{has_seat, seat_offer};
 ghost use Rattle.ride_model.specs.Vehicle.{ride_ids};
-ghost use Rattle.ride_model.specs.Limits.{largest_batch};
+ghost use Rattle.ride_model.specs.declared.limits.TheConstants.{LARGEST_BATCH};
 ghost use Rattle.batch_commit.specs.inner.Table.{IsPriceable, IsTableOf};
 ghost use Rattle.pricing_workers.specs.inner.Seats.{IsOfferOf, IsWithin};
 ghost use Rattle.log_audit.specs.declared.seating.Placed.{Placed};
@@ -210,7 +210,7 @@ fn place_of_vehicle(vehicles: &[Vehicle], id: u64) -> Option<usize>
 
 // What the seats cost by their offers, with the penalty for each request without a seat.
 fn cost_of(batch: &Batch, placed: &[Placed]) -> u128
-    requires { length placed.now ≤ largest_batch }
+    requires { length placed.now ≤ LARGEST_BATCH }
     ensures { result ≡ sum_by (λ (one : Placed). one.offer.cost) placed.now
         + batch.now.settings.penalty * (length batch.now.requests - length placed.now) }
 {
@@ -221,7 +221,7 @@ fn cost_of(batch: &Batch, placed: &[Placed]) -> u128
 
 // What the offers cost in all.
 fn total(placed: &[Placed]) -> u128
-    requires { length placed.now ≤ largest_batch }
+    requires { length placed.now ≤ LARGEST_BATCH }
     ensures cost { result ≡ sum_by (λ (one : Placed). one.offer.cost) placed.now }
     ensures limit { result ≤ 128 * 2 ^ 64 }
 {

@@ -1,6 +1,6 @@
 //! The cells of a batch, some requests at a time.
 ghost use Rattle.std.specs.Prelude.{◌≡◌, ◌+◌, ◌*◌, ◌^◌, ◌<◌, ◌≤◌, length, All, IfOk};
-ghost use Rattle.ride_model.specs.Limits.{largest_batch};
+ghost use Rattle.ride_model.specs.declared.limits.TheConstants.{LARGEST_BATCH};
 ghost use Rattle.ride_model.specs.inner.Seating.{IsBatchOver};
 ghost use Rattle.batch_commit.specs.inner.Table.{IsTableOf};
 ghost use Rattle.pricing_workers.specs.inner.Cells.{ArePairsOf, AreRowsOf};
@@ -78,10 +78,10 @@ fn fill_parts<R: Threads + Sync, G: Gate>(
     cells: &mut [Option<Offer>],
 )
     requires ready { MayFill job.now.roads.now.roads job.now.batch.now job.now.wanted.now }
-    requires few { length requests.now ≤ largest_batch }
+    requires few { length requests.now ≤ LARGEST_BATCH }
     requires requests { All (IsRequest job.now.roads.now.roads job.now.batch.now) requests.now }
     requires wanted { job.now.roads.now.wanted ≡ job.now.wanted.now.nodes.items }
-    requires workers { (1 ≤ length scratches.old) × (length scratches.old ≤ largest_batch) }
+    requires workers { (1 ≤ length scratches.old) × (length scratches.old ≤ LARGEST_BATCH) }
     requires scratches { All (λ scratch. scratch.nodes ≡ job.now.roads.now.roads.nodes)
         scratches.old }
     requires some_times { 1 ≤ length times.old }

@@ -5,7 +5,7 @@ ghost use Rattle.ride_model.specs.declared.offer.Offer.{Offer};
 ghost use Rattle.ride_model.specs.declared.vehicle.Vehicle.{Vehicle};
 ghost use Rattle.ride_model.specs.Offers.{offer_of, price, start_of};
 ghost use Rattle.ride_model.specs.Road.{RoadMap};
-ghost use Rattle.ride_model.specs.Limits.{most_stops};
+ghost use Rattle.ride_model.specs.declared.limits.TheConstants.{MOST_STOPS};
 ghost use Rattle.insertion.specs.inner.Asked.{HoldsTimes, IsAsked};
 ghost use Rattle.insertion.specs.inner.Least.{cost_if_any};
 ghost use Rattle.slack_tables.specs.inner.SlackOf.{slack_of};
@@ -103,7 +103,7 @@ pub(crate) fn near(times: &Times, first: usize, vehicle: &Vehicle) -> Near
 
 // The times at so many nodes from a place of the rows on.
 fn near_stops(times: &Times, first: usize, count: usize) -> ArrayVec<NearStop, 16>
-    requires few { count ≤ most_stops }
+    requires few { count ≤ MOST_STOPS }
     requires wide { IsWide (first + count) times.now }
     ensures { result.items
         ≡ map (λ node. near_at times.now (first + node)) (range_with_len 0 count) }

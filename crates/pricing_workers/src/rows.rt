@@ -1,6 +1,6 @@
 //! The rows of times of some requests.
 ghost use Rattle.std.specs.Prelude.{◌≡◌, ◌≤◌, length, All};
-ghost use Rattle.ride_model.specs.Limits.{largest_batch};
+ghost use Rattle.ride_model.specs.declared.limits.TheConstants.{LARGEST_BATCH};
 ghost use Rattle.ride_model.specs.Vehicle.{IsRide};
 ghost use Rattle.pricing_workers.specs.inner.Rows.{HasRows, HoldTimes};
 
@@ -23,9 +23,9 @@ pub(crate) fn fill_times<R: Threads + Sync, G: Gate>(
     times: &mut [Times],
     gate: &G,
 )
-    requires few { length requests.now ≤ largest_batch }
+    requires few { length requests.now ≤ LARGEST_BATCH }
     requires requests { All (IsRide roads.now.roads) requests.now }
-    requires workers { (1 ≤ length scratches.old) × (length scratches.old ≤ largest_batch) }
+    requires workers { (1 ≤ length scratches.old) × (length scratches.old ≤ LARGEST_BATCH) }
     requires scratches { All (λ scratch. scratch.nodes ≡ roads.now.roads.nodes) scratches.old }
     requires count { length times.old ≡ length requests.now }
     requires times { All (HasRows (length roads.now.wanted)) times.old }
@@ -44,9 +44,9 @@ pub(crate) fn fill_times<R: Threads + Sync, G: Gate>(
     join_mut(
         rt,
         &mut ||
-            requires { (length front.now ≤ largest_batch)
+            requires { (length front.now ≤ LARGEST_BATCH)
                 × All (IsRide roads.now.roads) front.now
-                × ((1 ≤ length front_scratches.now) × (length front_scratches.now ≤ largest_batch))
+                × ((1 ≤ length front_scratches.now) × (length front_scratches.now ≤ LARGEST_BATCH))
                 × All (λ scratch. scratch.nodes ≡ roads.now.roads.nodes) front_scratches.now
                 × (length front_times.now ≡ length front.now)
                 × All (HasRows (length roads.now.wanted)) front_times.now }
@@ -55,9 +55,9 @@ pub(crate) fn fill_times<R: Threads + Sync, G: Gate>(
                 × (front_scratches.exit.now ≡ front_scratches.entry.now) }
         { fill_times(rt, roads, front, front_scratches, front_times, gate) },
         &mut ||
-            requires { (length back.now ≤ largest_batch)
+            requires { (length back.now ≤ LARGEST_BATCH)
                 × All (IsRide roads.now.roads) back.now
-                × ((1 ≤ length back_scratches.now) × (length back_scratches.now ≤ largest_batch))
+                × ((1 ≤ length back_scratches.now) × (length back_scratches.now ≤ LARGEST_BATCH))
                 × All (λ scratch. scratch.nodes ≡ roads.now.roads.nodes) back_scratches.now
                 × (length back_times.now ≡ length back.now)
                 × All (HasRows (length roads.now.wanted)) back_times.now }

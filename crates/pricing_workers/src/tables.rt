@@ -1,7 +1,7 @@
 //! The tables of a vehicle's plan, kept until what they were made of changes.
 ghost use Rattle.std.specs.Prelude.{◌≡◌, ◌≤◌, ◌↔◌, IsTrue};
 ghost use Rattle.ride_model.specs.inner.Vehicle.{IsLawfulSomewhere};
-ghost use Rattle.ride_model.specs.Limits.{latest_ready, longest_dwell};
+ghost use Rattle.ride_model.specs.declared.limits.TheConstants.{LATEST_READY, LONGEST_DWELL};
 ghost use Rattle.slack_tables.specs.inner.SlackOf.{slack_of};
 
 use ride_model::{Ride, Stop, Vehicle};
@@ -34,8 +34,8 @@ impl PlanTables {
     /// The tables of a vehicle that leaves at `start` and stands `dwell` seconds at each stop.
     pub(crate) fn of(vehicle: &Vehicle, start: u64, dwell: u64) -> PlanTables
         requires lawful { IsLawfulSomewhere vehicle.now }
-        requires start_limit { start ≤ latest_ready }
-        requires dwell_limit { dwell ≤ longest_dwell }
+        requires start_limit { start ≤ LATEST_READY }
+        requires dwell_limit { dwell ≤ LONGEST_DWELL }
         ensures { result ≡ slack_of vehicle.now start dwell }
     {
         PlanTables {
@@ -50,8 +50,8 @@ impl PlanTables {
     /// plan has a stop. The tables of a plan without stops know no time, so that an idle vehicle's stay as the clock runs.
     pub(crate) fn renew(&mut self, vehicle: &Vehicle, start: u64, dwell: u64)
         requires lawful { IsLawfulSomewhere vehicle.now }
-        requires start_limit { start ≤ latest_ready }
-        requires dwell_limit { dwell ≤ longest_dwell }
+        requires start_limit { start ≤ LATEST_READY }
+        requires dwell_limit { dwell ≤ LONGEST_DWELL }
         ensures { self.new ≡ slack_of vehicle.now start dwell }
     {
         let is_same = is_same_vehicle(&self.vehicle, vehicle);

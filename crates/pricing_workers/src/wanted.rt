@@ -5,7 +5,7 @@ ghost use Rattle.ride_model.specs.declared.vehicle.Stop.{Stop};
 ghost use Rattle.ride_model.specs.Offers.{start_of};
 ghost use Rattle.ride_model.specs.Settings.{IsSettings};
 ghost use Rattle.ride_model.specs.inner.Vehicle.{IsLawfulSomewhere};
-ghost use Rattle.ride_model.specs.Limits.{latest_ready, latest_time, longest_dwell};
+ghost use Rattle.ride_model.specs.declared.limits.TheConstants.{LATEST_READY, LATEST_TIME, LONGEST_DWELL};
 ghost use Rattle.slack_tables.specs.inner.SlackOf.{slack_of};
 ghost use Rattle.pricing_workers.specs.inner.Wanted.{IsWanted, nodes_of};
 
@@ -44,7 +44,7 @@ impl Wanted {
     /// same place of the batch before, and memory is taken only for more vehicles or nodes than any batch before had.
     pub(crate) fn renew(&mut self, batch: &Batch) -> Result<(), NoMemory>
         requires lawful { All IsLawfulSomewhere batch.now.vehicles }
-        requires time_limit { batch.now.time ≤ latest_time }
+        requires time_limit { batch.now.time ≤ LATEST_TIME }
         ensures { OnOk result
             (IsWanted batch.now.settings batch.now.time batch.now.vehicles self.new) }
     {
@@ -71,7 +71,7 @@ impl Wanted {
         requires place { place ≤ length self.old.plans.items }
         requires lawful { IsLawfulSomewhere vehicle.now }
         requires settings_fit { IsSettings settings.now }
-        requires time_limit { time ≤ latest_time }
+        requires time_limit { time ≤ LATEST_TIME }
         ensures nodes { OnOk result
             (self.new.nodes.items ≡ self.old.nodes.items ++ nodes_of vehicle.now) }
         ensures plans { OnOk result (take (place + 1) self.new.plans.items
@@ -119,8 +119,8 @@ fn renew_plan(
 ) -> Result<(), NoMemory>
     requires place { place ≤ length plans.old.items }
     requires lawful { IsLawfulSomewhere vehicle.now }
-    requires start_limit { start ≤ latest_ready }
-    requires dwell_limit { dwell ≤ longest_dwell }
+    requires start_limit { start ≤ LATEST_READY }
+    requires dwell_limit { dwell ≤ LONGEST_DWELL }
     ensures { OnOk result (take (place + 1) plans.new.items ≡ take place plans.old.items ++ record {
       first = first;
       tables = slack_of vehicle.now start dwell;

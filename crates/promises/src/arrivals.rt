@@ -1,7 +1,7 @@
 //! Arrivals at a ride's visits, and whether they break a limit.
 ghost use Rattle.std.specs.Prelude.{◌≡◌, ◌≤◌, length, All, IfSome};
 ghost use Rattle.stop_plans.specs.inner.First.{is_visit};
-ghost use Rattle.ride_model.specs.Limits.{longest_ride};
+ghost use Rattle.ride_model.specs.declared.limits.TheConstants.{LONGEST_RIDE};
 ghost use Rattle.promises.specs.inner.Arrivals.{arrival_of, boarding_of, breaks_between, breaks_along, IsLimited};
 
 use ride_model::{Kind, Ride, Stop};
@@ -24,7 +24,7 @@ pub fn breaks_limit(ride: &Ride, stops: &[Stop], times: &[u64]) -> bool
 
 // Whether a boarding and an arrival at the drop-off break a limit of a ride.
 fn is_broken_by(ride: &Ride, boarding: u64, dropoff: u64) -> bool
-    requires limited { ride.now.longest ≤ longest_ride }
+    requires limited { ride.now.longest ≤ LONGEST_RIDE }
     requires soon { boarding ≤ 10000000000000000 }
     ensures { result ≡ breaks_between ride.now boarding dropoff }
 {

@@ -4,7 +4,7 @@ ghost use Rattle.std.specs.List.{list_all};
 ghost use Rattle.ride_model.specs.declared.vehicle.Ride.{Ride};
 ghost use Rattle.ride_model.specs.Keeps.{keeps};
 ghost use Rattle.ride_model.specs.inner.Vehicle.{IsRoutedSomewhere};
-ghost use Rattle.ride_model.specs.Limits.{latest_ready, longest_dwell};
+ghost use Rattle.ride_model.specs.declared.limits.TheConstants.{LATEST_READY, LONGEST_DWELL};
 ghost use Rattle.promises.specs.inner.Arrivals.{breaks_along, IsLimited};
 
 use crate::arrivals::breaks_limit;
@@ -16,8 +16,8 @@ use stop_plans::times;
 /// the ride's latest time, each ride takes at most its longest time, and what is aboard always fits.
 pub fn keeps(vehicle: &Vehicle, start: u64, dwell: u64) -> bool
     requires routed { IsRoutedSomewhere vehicle.now }
-    requires start_limit { start ≤ latest_ready }
-    requires dwell_limit { dwell ≤ longest_dwell }
+    requires start_limit { start ≤ LATEST_READY }
+    requires dwell_limit { dwell ≤ LONGEST_DWELL }
     ensures { result ≡ keeps vehicle.now start dwell }
 {
     let times = times(vehicle, start, dwell);

@@ -3,7 +3,7 @@ ghost use Rattle.std.specs.Prelude.{◌≡◌, ◌≤◌, length, filter, All};
 ghost use Rattle.ride_model.specs.Keeps.{broken_of};
 ghost use Rattle.ride_model.specs.Vehicle.{ride_ids};
 ghost use Rattle.ride_model.specs.inner.Vehicle.{IsLawfulSomewhere};
-ghost use Rattle.ride_model.specs.Limits.{longest_dwell, most_rides};
+ghost use Rattle.ride_model.specs.declared.limits.TheConstants.{LONGEST_DWELL, MOST_RIDES};
 ghost use Rattle.promises.specs.inner.Arrivals.{breaks_along, IsLimited};
 
 use crate::arrivals::breaks_limit;
@@ -14,7 +14,7 @@ use stop_plans::times;
 /// stands `dwell` seconds at each stop.
 pub fn broken(vehicle: &Vehicle, dwell: u64) -> Ids
     requires lawful { IsLawfulSomewhere vehicle.now }
-    requires dwell_limit { dwell ≤ longest_dwell }
+    requires dwell_limit { dwell ≤ LONGEST_DWELL }
     ensures { result ≡ broken_of vehicle.now dwell }
 {
     let times = times(vehicle, vehicle.ready, dwell);
@@ -27,7 +27,7 @@ pub fn broken(vehicle: &Vehicle, dwell: u64) -> Ids
 
 // Those of these rides of which the arrivals at these stops break a limit.
 fn broken_among(rides: &[Ride], stops: &[Stop], times: &[u64]) -> Ids
-    requires few { length rides.now ≤ most_rides }
+    requires few { length rides.now ≤ MOST_RIDES }
     requires one_each { length times.now ≡ length stops.now }
     requires limited { All IsLimited rides.now }
     requires soon { All (λ time. time ≤ 10000000000000000) times.now }

@@ -1,9 +1,8 @@
 -- What a session that goes on tells of its feeds, and of what was taken of them.
-use Rattle.resumption.proofs.Common.{◌≡◌, ◌⊎◌, inl, inr, ℕ, ◌≤◌, ◌||◌, ◌&&◌, not, Bool, true, false, List, [], ◌∷◌, ◌++◌, Option, IfSome, refl, sym, subst, arith, leb-true, nat_le, list_any, and_parts, not-true, Reads, Ran, Reads-none, ended_whole, is_whole, replay, State, has_ended, is_actor, Actor, Feed, Ending, Whole, Entry, IsWithinLimits, limits_of, Recorded, IsFeedAfter, IsResumed, form_after, still_feeds, FeedRun, HasNotServed, Sunk, NoneWanting, none-status, whole-status, HasAnsweredOn, IsUnheard, room_of, still_gives}
+use Rattle.resumption.proofs.Common.{◌≡◌, ◌⊎◌, inl, inr, ℕ, ◌≤◌, ◌||◌, ◌&&◌, not, Bool, true, false, List, [], ◌∷◌, ◌++◌, Option, IfSome, refl, sym, ap, subst, arith, leb-true, nat_le, list_any, and_parts, not-true, Reads, Ran, Reads-none, ended_whole, is_whole, replay, State, has_ended, is_actor, Actor, Feed, Ending, Whole, Entry, IsWithinLimits, limits_of, Recorded, IsFeedAfter, IsResumed, form_after, still_feeds, FeedRun, HasNotServed, Sunk, NoneWanting, none-status, whole-status, HasAnsweredOn, IsUnheard, room_of, still_gives, ending-whole}
 use Rattle.model_laws.proofs.Histories.{replay-append}
 use Rattle.model_laws.proofs.history_laws.Others.{in_range}
 use Rattle.line_text.specs.Lines.{ended_after, rest_after}
-use Rattle.dispatcher.proofs.Ends.{ending-whole}
 
 -- who has not ended has not ended whole
 not-whole : (actor : Actor) (ended : List (Actor × Ending)) → list_any (λ (end : Actor × Ending). is_actor end.0 actor) ended ≡ false
@@ -99,26 +98,26 @@ module _ (board : Recorded) (riders drivers : FeedRun) (ran : Ran) (out : Sunk) 
   }
 
   pub riders-taken : Answered → Taken 1 riders
-  riders-taken (inl not) = none-taken 1 riders not.nothing_read_of_riders not.wanting
+  riders-taken (inl not) = none-taken 1 riders not.nothing_read_of_riders (ap (λ (r : Ran). r.no_memory) not.ran_is)
   riders-taken (inr has) =
       some-taken 1 riders has.resumed.riders_taken has.resumed.more has.resumed.of_riders (λ none. has.all_of_riders (none-status ran none))
       (still_gives board 1) refl
 
   pub drivers-taken : Answered → Taken 2 drivers
-  drivers-taken (inl not) = none-taken 2 drivers not.nothing_read_of_drivers not.wanting
+  drivers-taken (inl not) = none-taken 2 drivers not.nothing_read_of_drivers (ap (λ (r : Ran). r.no_memory) not.ran_is)
   drivers-taken (inr has) =
       some-taken 2 drivers has.resumed.drivers_taken has.resumed.more has.resumed.of_drivers (λ none. has.all_of_drivers (none-status ran none))
       (still_gives board 2) refl
 
   -- a feed that gives no command more is not read
   pub riders-over : Answered → (ran.source_failed ≡ false → riders.faults_after ≡ riders.faults_before) → still_gives board 1 ≡ false → IsUnheard riders
-  riders-over (inl not) sound over = record { nothing_read = not.nothing_read_of_riders; no_fault = sound not.no_source }
+  riders-over (inl not) sound over = record { nothing_read = not.nothing_read_of_riders; no_fault = sound (ap (λ (r : Ran). r.source_failed) not.ran_is) }
   riders-over (inr has) sound over =
       let after = (has.resumed.of_riders.over over).1 in
       record { nothing_read = after.nothing_read; no_fault = after.no_fault }
 
   pub drivers-over : Answered → (ran.source_failed ≡ false → drivers.faults_after ≡ drivers.faults_before) → still_gives board 2 ≡ false → IsUnheard drivers
-  drivers-over (inl not) sound over = record { nothing_read = not.nothing_read_of_drivers; no_fault = sound not.no_source }
+  drivers-over (inl not) sound over = record { nothing_read = not.nothing_read_of_drivers; no_fault = sound (ap (λ (r : Ran). r.source_failed) not.ran_is) }
   drivers-over (inr has) sound over =
       let after = (has.resumed.of_drivers.over over).1 in
       record { nothing_read = after.nothing_read; no_fault = after.no_fault }

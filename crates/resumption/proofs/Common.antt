@@ -1,14 +1,15 @@
 -- The names that most proofs of this crate cite, passed on from one place. Declares nothing.
-pub use Rattle.model_laws.proofs.Common.{Actor, All, All-append, All-head, All-tail, All-take, Bool, Command, Ending, Entry, Err, Feed, IfSome, List, None, Ok, Option, Result, RoadMap, Settings, Some, State, Vehicle, Whole, [], and_parts, ap, append-nil, append_assoc, arith, cases_Bool, command_of, ended_whole, false, fed_commands, filter_map, has_ended, inl, inr, is_actor, is_whole, leb-true, length, length-append, list_any, nat_le, not, not-true, refl, start_state, string_bytes, subst, sym, true, ℕ, ◌&&◌, ◌++◌, ◌+◌, ◌-◌, ◌||◌, ◌∙◌, ◌∷◌, ◌≡◌, ◌≢◌, ◌≤◌, ◌⊎◌}
+pub use Rattle.model_laws.proofs.Common.{Actor, All, All-append, All-head, All-tail, All-take, Bool, Command, Ending, Entry, Err, Feed, IfSome, List, None, Ok, Option, Result, RoadMap, Settings, Some, State, Vehicle, Whole, [], and_parts, ap, append-nil, append_assoc, arith, cases_Bool, command_of, ended_whole, false, fed_commands, filter_map, has_ended, inl, inr, is_actor, is_whole, leb-true, length, length-append, list_any, nat_le, not, not-true, refl, start_state, string_bytes, subst, sym, true, ℕ, ◌&&◌, ◌++◌, ◌+◌, ◌-◌, ◌||◌, ◌∙◌, ◌∷◌, ◌≡◌, ◌≢◌, ◌≤◌, ◌⊎◌, IsSomeAnd}
 unfoldable pub use Rattle.model_laws.proofs.Common.{replay, text_of}
 pub use Rattle.board_core.proofs.FedEntries.{fed_commands-append}
 pub use Rattle.board_core.specs.Recorded.{Recorded}
 pub use Rattle.command_lines.specs.Limits.{limits_of, feed_limits, most_lines, new_feed}
-pub use Rattle.dispatcher.proofs.Bringing.{Adds-then, AreBytesOf, bytes-of, bytes-told, left-of, rose-above}
-pub use Rattle.dispatcher.proofs.Statuses.{whole-status, NoneWanting, long-status, none-status, ran-status, sink-status, source-status, within-not-long}
+pub use Rattle.dispatcher.proofs.Bringing.{Adds-then, AreBytesOf, IsLeftOf, bytes-of, bytes-told, left-of, rose-above}
+pub use Rattle.dispatcher.proofs.Common.{NoneWanting, ending-whole, long-status, none-status, ran-status, sink-status, source-status, whole-status, within-not-long}
 pub use Rattle.dispatcher.specs.Meanings.{Means, start_of, Meaning, said_of, status_of}
-pub use Rattle.dispatcher.specs.Runs.{HasStopped, IsUnread, StopsReading}
-pub use Rattle.dispatcher.specs.Shelves.{Sunk, IsBackOf, Shelved, told_bytes, IsFresh, IsLeftOf, IsSpent, IsUntouched, SaysTo, sunk}
+pub use Rattle.dispatcher.specs.Runs.{HasStopped, StopsReading}
+pub use Rattle.dispatcher.specs.Shelves.{Sunk, Shelved, told_bytes, IsFresh, IsSpent, Says, sunk}
+pub use Rattle.dispatcher.specs.inner.Handing.{IsBackOf}
 pub use Rattle.line_text.specs.line_reader.Limits.{IsWithinLimits, IsTooLong}
 pub use Rattle.live_sessions.specs.Resuming.{IsFeedAfter, form_after, HaveFewCommands, still_feeds, HasResumed, IsResumed}
 pub use Rattle.live_sessions.specs.Serving.{FeedRun, HasNotServed, HasServed, IsFeedOf}

@@ -11,7 +11,7 @@ no-fault (Err ReadFault) other = absurd (other refl)
 module _ (out : Sunk) (status : ℕ) where
   pub told-five : (found : Result Restoration AuditFault) → EndsLog found status out → status ≡ 5 → found ≡ Err ReadFault
   told-five (Ok (Standing restored)) (many, (is, says)) five = absurd (omega (arith, is, five))
-  told-five (Ok (No line why)) (inl (is, says)) five = absurd (omega (arith, is, five))
+  told-five (Ok (No line why)) (inl (is, prefix, whole)) five = absurd (omega (arith, is, five))
   told-five (Ok (No line why)) (inr (is, says)) five = absurd (omega (arith, is, five))
   told-five (Err NoMemory) (is, says) five = absurd (omega (arith, is, five))
   told-five (Err TooLong) (is, says) five = absurd (omega (arith, is, five))
@@ -26,7 +26,7 @@ module _ (out : Sunk) (status : ℕ) where
   -- a log that gives no board ends nothing whole
   pub told-zero : (found : Result Restoration AuditFault) → EndsLog found status out → status ≡ 0 → ⊥
   told-zero (Ok (Standing restored)) (many, (is, says)) zero = omega (arith, is, zero)
-  told-zero (Ok (No line why)) (inl (is, says)) zero = omega (arith, is, zero)
+  told-zero (Ok (No line why)) (inl (is, prefix, whole)) zero = omega (arith, is, zero)
   told-zero (Ok (No line why)) (inr (is, says)) zero = omega (arith, is, zero)
   told-zero (Err NoMemory) (is, says) zero = omega (arith, is, zero)
   told-zero (Err TooLong) (is, says) zero = omega (arith, is, zero)

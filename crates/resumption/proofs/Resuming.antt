@@ -1,5 +1,5 @@
 -- How a resumption ends, by what was done over its texts.
-use Rattle.resumption.proofs.Common.{All, StopsReading, left-of, ◌≡◌, ◌⊎◌, inl, inr, ℕ, ◌+◌, List, [], ◌∷◌, ◌++◌, Option, Ok, IfSome, refl, sym, ap, subst, ◌∙◌, arith, append_assoc, All-append, Reads, Contents, GivenBack, Rose, Restored, Standing, HaveFewCommands, FeedRun, GoingOn, resumption_files, File, feed_file, fleet_file, log_file, map_file, Meaning, Means, said_of, start_of, status_of, HasStopped, IsBackOf, IsFresh, IsLeftOf, IsSpent, IsUntouched, SaysTo, Shelved, Sunk, told_bytes, HasGoneOn, HasRefusedLog, IsResumption, files_to_log}
+use Rattle.resumption.proofs.Common.{All, StopsReading, left-of, ◌≡◌, ◌⊎◌, inl, inr, ℕ, List, [], ◌∷◌, ◌++◌, Option, Ok, IfSome, refl, sym, ap, subst, ◌∙◌, arith, append_assoc, All-append, Reads, Contents, GivenBack, Rose, Restored, Standing, HaveFewCommands, FeedRun, GoingOn, resumption_files, File, feed_file, fleet_file, log_file, map_file, Meaning, Means, said_of, start_of, status_of, HasStopped, IsBackOf, IsLeftOf, IsSpent, Shelved, Sunk, told_bytes, HasGoneOn, HasRefusedLog, IsResumption, files_to_log, Says, AreBytesOf}
 use Rattle.model_laws.proofs.plain.Each.{all_of_none, all_of_one, all_of_two}
 use Rattle.dispatcher.specs.inner.Readings.{AreRead}
 use Rattle.dispatcher.specs.declared.stop.Stop.{Stop}
@@ -12,25 +12,12 @@ use Rattle.resumption.specs.inner.Steps.{RefusesLog, ResumesOver}
 use Rattle.resumption.proofs.Endings.{resumption-of}
 use Rattle.resumption.proofs.LogFaults.{told-fault, told-five}
 
--- memory was wanting before it began
-pub unread-resumption : (asked : GoingOn) (old : Shelved) (out : Sunk) → IsFresh old → IsUntouched out → IsResumption asked old old out 1
-unread-resumption asked old out fresh untouched = resumption-of asked old old out 1 (inl (record {
-  wanting = refl;
-  fresh = fresh;
-  untouched = untouched;
-}))
-
 -- it stopped at the map or at the fleet file
 pub stopped-resumption : (asked : GoingOn) (old new : Shelved) (out : Sunk) (status : ℕ) (stop : Stop)
-    → ((later : List File) → StopsReading (map_file asked.map ∷ fleet_file asked.fleet ∷ later) stop old new) → (status ≡ status_of stop) ⊎ (status ≡ 1)
-    → (status ≡ status_of stop → SaysTo out (said_of stop)) → (status ≡ 1 → IsUntouched out) → IsResumption asked old new out status
-stopped-resumption asked old new out status stop stops status_is said no_memory = resumption-of asked old new out status (inr (inl (record {
-  stop = stop;
-  reading = stops (log_file asked.log ∷ feed_file asked.riders ∷ feed_file asked.drivers ∷ []);
-  status_is = status_is;
-  said = said;
-  no_memory = no_memory;
-})))
+    → ((later : List File) → StopsReading (map_file asked.map ∷ fleet_file asked.fleet ∷ later) stop old new)
+    → Says out status (status_of stop) (said_of stop) → IsResumption asked old new out status
+stopped-resumption asked old new out status stop stops says = resumption-of asked old new out status
+    (inr (inl (stop, stops (log_file asked.log ∷ feed_file asked.riders ∷ feed_file asked.drivers ∷ []), says)))
 
 -- what was left of a source that was given back, and that nothing was
 left-of-back : (file : Option (List ℕ)) (source : GivenBack) (log : FeedRun) (taken : List ℕ) → IsBackOf file source log → Reads log.bytes log.left taken
@@ -64,10 +51,10 @@ module _ (asked : GoingOn) (m : Meaning) (old mid : Shelved) (read : AreRead (ma
         means = All-append (Means old.told m) texts (log_file asked.log ∷ []) read.means (all_of_one (Means old.told m) (log_file asked.log) (any-text _));
         over = record {
           feed = log.log;
-          source = log.source;
           earlier = mid.back;
-          back_is = log.adds.kept;
-          of_file = subst (λ (t : Option Contents). IsBackOf (told_bytes t asked.log) log.source log.log) read.told log.of_file;
+          back_is = log.adds.kept ∙ ap (λ s. mid.back ++ s ∷ []) log.of_file.back;
+          bytes_are = subst (λ (t : Option Contents). AreBytesOf (told_bytes t asked.log) log.log.bytes) read.told log.of_file.bytes_are;
+          fresh = log.of_file.fresh;
         };
         found = refuses.found;
         reads = log.reads;
@@ -104,24 +91,25 @@ module _ (asked : GoingOn) (m : Meaning) (old mid : Shelved) (read : AreRead (ma
               (all_of_two (Means old.told m) (feed_file asked.riders) (feed_file asked.drivers) (any-text _) (any-text _));
           drivers = record {
             feed = both.second;
-            source = both.second_source;
             earlier = next.back ++ both.first_source ∷ [];
-            back_is = both.adds.kept ∙ sym (append_assoc next.back (both.first_source ∷ []) (both.second_source ∷ []));
-            of_file = subst (λ (t : Option Contents). IsBackOf (told_bytes t asked.drivers) both.second_source both.second) three-read.told both.of_second;
+            back_is = both.adds.kept ∙ sym (append_assoc next.back (both.first_source ∷ []) (both.second_source ∷ []))
+                ∙ ap (λ s. (next.back ++ both.first_source ∷ []) ++ s ∷ []) both.of_second.back;
+            bytes_are = subst (λ (t : Option Contents). AreBytesOf (told_bytes t asked.drivers) both.second.bytes) three-read.told both.of_second.bytes_are;
+            fresh = both.of_second.fresh;
           };
           riders = record {
             feed = both.first;
-            source = both.first_source;
             earlier = next.back;
-            back_is = refl;
-            of_file = subst (λ (t : Option Contents). IsBackOf (told_bytes t asked.riders) both.first_source both.first) three-read.told both.of_first;
+            back_is = ap (λ s. next.back ++ s ∷ []) both.of_first.back;
+            bytes_are = subst (λ (t : Option Contents). AreBytesOf (told_bytes t asked.riders) both.first.bytes) three-read.told both.of_first.bytes_are;
+            fresh = both.of_first.fresh;
           };
           log = record {
             feed = log.log;
-            source = log.source;
             earlier = mid.back;
-            back_is = log.adds.kept;
-            of_file = subst (λ (t : Option Contents). IsBackOf (told_bytes t asked.log) log.source log.log) read.told log.of_file;
+            back_is = log.adds.kept ∙ ap (λ s. mid.back ++ s ∷ []) log.of_file.back;
+            bytes_are = subst (λ (t : Option Contents). AreBytesOf (told_bytes t asked.log) log.log.bytes) read.told log.of_file.bytes_are;
+            fresh = log.of_file.fresh;
           };
           restored = restored;
           reads = log.reads;
@@ -129,8 +117,8 @@ module _ (asked : GoingOn) (m : Meaning) (old mid : Shelved) (read : AreRead (ma
           goes_on = both.goes_on;
           log_spent = subst (λ (l : List GivenBack). All IsSpent l) (sym log.adds.kept)
               (All-append IsSpent mid.back (log.source ∷ []) read.spent (all_of_one IsSpent log.source log-spent));
-          riders_spent = both.first_spent;
-          drivers_spent = both.second_spent;
+          riders_spent = λ zero gives. subst IsSpent both.of_first.back (both.first_spent zero gives);
+          drivers_spent = λ zero gives. subst IsSpent both.of_second.back (both.second_spent zero gives);
           shelf_sound = λ zero. both.shelf_sound zero ∙ three-read.faults;
           sink_sound = both.sink_sound;
           shelf_fault = λ five. subst (λ (k : ℕ). Rose k new.faults) three-read.faults (both.shelf_fault five);
@@ -141,16 +129,16 @@ module _ (asked : GoingOn) (m : Meaning) (old mid : Shelved) (read : AreRead (ma
         → HasStopped (resumption_files asked) old new out status ⊎ HasGoneOn asked old new out status
     feeds-over new out status (inl none) =
         inl (missed (files_to_log asked) m old next new out status three-read [] (feed_file asked.riders) (feed_file asked.drivers ∷ [])
-        (all_of_none (Means old.told m)) (inr refl) none)
+        (all_of_none (Means old.told m)) (λ sources. inr refl) none)
     feeds-over new out status (inr (inl one)) =
         inl (missed (files_to_log asked) m old next new out status three-read (feed_file asked.riders ∷ []) (feed_file asked.drivers) []
-        (all_of_one (Means old.told m) (feed_file asked.riders) (any-text _)) (inr refl) one)
+        (all_of_one (Means old.told m) (feed_file asked.riders) (any-text _)) (λ sources. inr refl) one)
     feeds-over new out status (inr (inr both)) = inr (has-gone new out status both)
 
   ends-over : (new : Shelved) (out : Sunk) (status : ℕ) → ResumesOver m asked.log asked.riders asked.drivers mid new out status
       → HasStopped (resumption_files asked) old new out status ⊎ HasRefusedLog asked old new out status ⊎ HasGoneOn asked old new out status
   ends-over new out status (inl misses) =
-      inl (missed texts m old mid new out status read [] (log_file asked.log) feeds (all_of_none (Means old.told m)) (inr refl)
+      inl (missed texts m old mid new out status read [] (log_file asked.log) feeds (all_of_none (Means old.told m)) (λ sources. inr refl)
       (misses-first misses.in_vain misses.status_is misses.untouched))
   ends-over new out status (inr (inl refuses)) = inr (inl (has-refused new out status refuses))
   ends-over new out status (inr (inr stands)) = elim (feeds-over stands.restored stands.mid stands.log stands.few new out status stands.feeds) [

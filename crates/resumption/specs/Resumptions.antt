@@ -1,6 +1,6 @@
 -- How a session that was to go on from its log ends.
 use Rattle.std.specs.Prelude.{◌≡◌, ◌⊎◌, ℕ, true, List, [], ◌∷◌, length, map, All, Option, IfSome, Result, Ok}
-use Rattle.ride_ports.specs.Contents.{Contents}
+use Rattle.ride_ports.specs.Contents.{Contents, given_back}
 use Rattle.ride_ports.specs.Count.{Rose}
 use Rattle.line_text.specs.line_reader.Limits.{IsWithinLimits}
 use Rattle.board_core.specs.Recorded.{Recorded}
@@ -13,8 +13,8 @@ use Rattle.live_sessions.specs.Resuming.{HaveFewCommands}
 use Rattle.run_words.specs.Resumptions.{GoingOn, resumption_files}
 use Rattle.run_words.specs.Words.{File, fleet_file, log_file, map_file, name_of}
 use Rattle.dispatcher.specs.Meanings.{Meaning, Means, start_of}
-use Rattle.dispatcher.specs.Runs.{HasStopped, IsOver, IsUnread, IsWhole}
-use Rattle.dispatcher.specs.Shelves.{AreBack, IsSpent, Shelved, Sunk, told_bytes}
+use Rattle.dispatcher.specs.Runs.{HasStopped, IsOver, IsWhole}
+use Rattle.dispatcher.specs.Shelves.{AreBack, IsFresh, IsSpent, Shelved, Sunk, told_bytes}
 use Rattle.resumption.specs.Goings.{GoesOn, room_of, still_gives}
 use Rattle.resumption.specs.Logs.{EndsLog, ReadsLog}
 
@@ -52,8 +52,8 @@ pub record HasGoneOn (asked : GoingOn) (old new : Shelved) (out : Sunk) (status 
   pub few : HaveFewCommands restored.board.feeds restored.board.history
   pub goes_on : GoesOn restored.board riders.feed drivers.feed out status
   pub log_spent : All IsSpent riders.earlier
-  pub riders_spent : status ≡ 0 → still_gives restored.board 1 ≡ true → IsSpent riders.source
-  pub drivers_spent : status ≡ 0 → still_gives restored.board 2 ≡ true → IsSpent drivers.source
+  pub riders_spent : status ≡ 0 → still_gives restored.board 1 ≡ true → IsSpent (given_back riders.feed.faults_after riders.feed.left)
+  pub drivers_spent : status ≡ 0 → still_gives restored.board 2 ≡ true → IsSpent (given_back drivers.feed.faults_after drivers.feed.left)
   pub shelf_sound : status ≡ 0 → new.faults ≡ old.faults
   pub sink_sound : status ≡ 0 → out.faults_after ≡ out.faults_before
   pub shelf_fault : status ≡ 5 → Rose old.faults new.faults
@@ -76,7 +76,7 @@ pub record AreAllWhole (told : Option Contents) (asked : GoingOn) : Type 0 where
 -- it ended so: memory was wanting before it began, or it stopped over a file, or its log gave no board, or it went on. Where the files are
 -- whole and no count rose, it went on whole, or its log is wrong, or memory was wanting
 pub record IsResumption (asked : GoingOn) (old new : Shelved) (out : Sunk) (status : ℕ) : Type 0 where
-  pub ended : IsUnread new out status ⊎ HasStopped (resumption_files asked) old new out status ⊎ HasRefusedLog asked old new out status
-      ⊎ HasGoneOn asked old new out status
+  pub ended : ((status ≡ 1) × IsFresh new × (out.after ≡ out.before)) ⊎ HasStopped (resumption_files asked) old new out status
+      ⊎ HasRefusedLog asked old new out status ⊎ HasGoneOn asked old new out status
   pub complete : AreAllWhole old.told asked → (Rose old.faults new.faults → ⊥) → (Rose out.faults_before out.faults_after → ⊥)
       → (status ≡ 0) ⊎ (status ≡ 1) ⊎ (status ≡ 7)

@@ -1,6 +1,6 @@
 //! The feeds of a session that goes on, which are brought by their names and given back.
 ghost use Rattle.std.specs.Prelude.{◌<◌, ◌≤◌, length, string_bytes};
-ghost use Rattle.ride_model.specs.Limits.{most_workers};
+ghost use Rattle.ride_model.specs.declared.limits.TheConstants.{MOST_WORKERS};
 ghost use Rattle.live_sessions.specs.inner.Resuming.{MayGoOn};
 ghost use Rattle.dispatcher.specs.Shelves.{shelved, sunk};
 ghost use Rattle.resumption.specs.inner.Goings.{GoesOnOver};
@@ -25,7 +25,7 @@ pub fn go_on<'r, R: Threads + Wait + Sync, H: Shelf, K: Sink, G: Gate>(
     gate: &G,
 ) -> u8
     requires may_go_on { MayGoOn roads.now interrupted }
-    requires workers { (1 ≤ interrupted.workers) × (interrupted.workers ≤ most_workers) }
+    requires workers { (1 ≤ interrupted.workers) × (interrupted.workers ≤ MOST_WORKERS) }
     requires asked_room { length (H.asked shelf.old) < 7 }
     requires back_room { length (H.back shelf.old) < 7 }
     ensures { GoesOnOver interrupted.entry.board

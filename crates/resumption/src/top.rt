@@ -1,11 +1,10 @@
 //! The top call of a session that goes on.
-ghost use Rattle.std.specs.Prelude.{◌≡◌, ◌<◌, ◌≤◌, map, length, None, string_bytes, IfSome};
-ghost use Rattle.ride_model.specs.Limits.{most_workers};
+ghost use Rattle.std.specs.Prelude.{◌≡◌, ◌<◌, ◌≤◌, codes, map, length, None, string_bytes, IfSome};
+ghost use Rattle.ride_model.specs.declared.limits.TheConstants.{MOST_WORKERS};
 ghost use Rattle.run_words.specs.Resumptions.{resumption_of};
 ghost use Rattle.run_words.specs.inner.Resumptions.{asked_by_resumption};
 ghost use Rattle.dispatcher.specs.inner.Readings.{MayBegin, meaning_of};
-ghost use Rattle.dispatcher.specs.Runs.{RefusesWords};
-ghost use Rattle.dispatcher.specs.Shelves.{shelved, sunk, IsFresh};
+ghost use Rattle.dispatcher.specs.Shelves.{shelved, sunk, IsFresh, Says};
 ghost use Rattle.resumption.specs.Mission.{ResumesWell};
 ghost use Rattle.resumption.specs.Resumptions.{IsResumption};
 ghost use Rattle.resumption.specs.inner.Steps.{ResumesOver};
@@ -34,8 +33,8 @@ pub fn resume<R: Threads + Wait + Sync, H: Shelf, K: Sink, G: Gate>(
 
     // Words that are not in order are refused, and nothing is asked for.
     ensures refused { resumption_of (map string_bytes words.now) ≡ None
-        → RefusesWords (shelved H.contents H.asked H.brought H.back H.faults shelf.new)
-        (sunk K.written K.faults out.old out.new) result }
+        → IsFresh (shelved H.contents H.asked H.brought H.back H.faults shelf.new)
+        × Says (sunk K.written K.faults out.old out.new) result 2 (codes "words refused\n") }
 
     // What they ask for is done: names are asked for in order, the map, the fleet file and the log are read, every source is given back,
     // and each status has its cause.
@@ -79,7 +78,7 @@ fn resume_asked<R: Threads + Wait + Sync, H: Shelf, K: Sink, G: Gate>(
     out: &mut K,
     gate: &G,
 ) -> u8
-    requires workers { (1 ≤ asked.workers) × (asked.workers ≤ most_workers) }
+    requires workers { (1 ≤ asked.workers) × (asked.workers ≤ MOST_WORKERS) }
     requires fresh { IsFresh (shelved H.contents H.asked H.brought H.back H.faults shelf.old) }
     ensures { IsResumption (asked_by_resumption asked)
         (shelved H.contents H.asked H.brought H.back H.faults shelf.old)
@@ -117,7 +116,7 @@ fn resume_over<R: Threads + Wait + Sync, H: Shelf, K: Sink, G: Gate>(
     gate: &G,
 ) -> u8
     requires start { MayBegin texts }
-    requires workers { (1 ≤ rest.workers) × (rest.workers ≤ most_workers) }
+    requires workers { (1 ≤ rest.workers) × (rest.workers ≤ MOST_WORKERS) }
     requires asked_room { length (H.asked shelf.old) < 6 }
     requires back_room { length (H.back shelf.old) < 6 }
     ensures { ResumesOver (meaning_of texts) (string_bytes rest.log)

@@ -4,6 +4,7 @@ ghost use Rattle.booking_desk.specs.inner.Desk.{IsRequest};
 
 use crate::stopwatch::Stopwatch;
 use booking_desk::BookingDesk;
+use ride_model::limits::MOST_REQUESTS;
 use ride_model::{Command, NoMemory};
 use std::alloc::Global;
 use std::io;
@@ -83,7 +84,7 @@ pub fn small(rt: &impl Print, alloc: Global) -> io::Result<()> {
 /// Times the bookings of a day at a full desk.
 pub fn bookings<R: Clock + Print>(rt: &R, alloc: Global) -> io::Result<()> {
     let watch = Stopwatch::start(rt);
-    let released = day(alloc, BookingDesk::MOST_BOOKINGS)?;
+    let released = day(alloc, MOST_REQUESTS)?;
     let millis = watch.elapsed(rt).as_millis();
     println!(rt; "bookings 100000 released {released} in {millis} ms")
 }

@@ -35,8 +35,8 @@ pub use Rattle.std.specs.declared.cmp.Ordering.{Ordering}
 pub use Rattle.std.specs.declared.cmp.Ordering.TheVariants.{Less, Equal, Greater}
 pub use Rattle.ride_model.specs.Batch.{next_batch, outcome_of, seat_of, was_cancelled, after_outcomes, outcomes_of, after_opening, after_commit, is_waiting, after_abandon, after_outcome, outcome_by, waiting_rides, priced_start, version_of, with_request_states, confirm, may_open, standing_rides, with_confirmed, is_cancelled, is_in_batch, without_batch, seated_outcome}
 pub use Rattle.ride_model.specs.Drill.{drive, next_report, Follows, DrillStep, IsDrilled, give, report_of, entry_of}
-pub use Rattle.ride_model.specs.Drill.Follows.{done, ended, committed, given, opened, rested}
-pub use Rattle.ride_model.specs.Fleet.{IsFleet, MayStart}
+pub use Rattle.ride_model.specs.Drill.Follows.{done, ended, given, rested, worked}
+pub use Rattle.ride_model.specs.Fleet.{IsFleet, MayStart, idle_vehicle}
 pub use Rattle.ride_model.specs.History.{fed_commands, command_of, ended_whole, is_abandoned, is_whole, awaited_after, IsFinished, away_total, confirmed_total, dropped_total, is_away, outcomes_in, picked_total, awaited_in, is_confirmed, Awaited}
 unfoldable pub use Rattle.ride_model.specs.History.{entries_of}
 pub use Rattle.ride_model.specs.History.Awaited.{any, opening}
@@ -47,7 +47,7 @@ unfoldable pub use Rattle.ride_model.specs.Legal.{replay, IsLegal}
 pub use Rattle.ride_model.specs.Loads.{loads_fit, load_after, fits_load, is_aboard_after, is_aboard_from, is_pickup, loads_of}
 pub use Rattle.ride_model.specs.Offers.{start_of, price, is_open, offer_of_plan, leg_at, is_idle, joins_of, cost_of, offers, place_pairs}
 unfoldable pub use Rattle.ride_model.specs.Offers.{offer_of}
-pub use Rattle.ride_model.specs.Promises.{KeepsEvent, broken_by, is_late, KeepsDropoff, KeepsFrom, KeepsPickup, KeepsState, KeepsTimes}
+pub use Rattle.ride_model.specs.Promises.{KeepsEvent, broken_by, is_late, KeepsFrom, KeepsState, KeepsTimes}
 unfoldable pub use Rattle.ride_model.specs.Promises.{KeepsPromises}
 pub use Rattle.ride_model.specs.Road.{RoadMap, IsRoadMap, IsNode, lesser, IsArc, least_of, arcs_from}
 unfoldable pub use Rattle.ride_model.specs.Road.{travel, travel_within}

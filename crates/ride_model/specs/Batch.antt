@@ -1,5 +1,6 @@
 -- How a batch is opened, committed and abandoned.
 use Rattle.std.specs.Prelude.{ℕ, ◌+◌, ◌==◌, ◌&&◌, not, if◌then◌else◌, Bool, true, false, nat_lt, List, [], ◌∷◌, ◌++◌, map, filter, find, take, fold, Option, Some, None, is_some, unwrap_or}
+use Rattle.std.specs.Option.{option_map_or}
 use Rattle.ride_model.specs.declared.command.Actor.TheVariants.{Desk}
 use Rattle.ride_model.specs.declared.entry.Outcome.{Outcome}
 use Rattle.ride_model.specs.declared.entry.Outcome.TheVariants.{Confirmed, Away, Gone, Moved, Behind}
@@ -41,14 +42,9 @@ may_open s desk = not (has_ended s (Desk desk)) && not (is_some (open_batch_of s
 
 -- the batch that a desk opens: the next number, the clock's time, the first waiting requests, copies of all vehicles
 abbrev pub next_batch : State → ℕ → BatchCopy
-next_batch s desk = record {
-  number = s.opened + 1;
-  desk = desk;
-  time = s.clock;
-  settings = s.settings;
-  requests = take s.settings.batch (waiting_rides s);
-  vehicles = s.vehicles;
-}
+next_batch s desk =
+    let requests = take s.settings.batch (waiting_rides s) in
+    record { number = s.opened + 1; desk = desk; time = s.clock; settings = s.settings; requests = requests; vehicles = s.vehicles }
 
 -- the state with these rides' requests in one state
 abbrev pub with_request_states : RequestState → List Ride → State → State
@@ -66,19 +62,11 @@ seat_of seats id = find (λ (seat : Seat). seat.request == id) seats
 
 -- the version of a vehicle, 0 where there is none of the id
 abbrev pub version_of : List Vehicle → ℕ → ℕ
-version_of vehicles id = version_in (find_vehicle vehicles id)
-  where
-    version_in : Option Vehicle → ℕ
-    version_in None = 0
-    version_in (Some v) = v.version
+version_of vehicles id = option_map_or (λ (v : Vehicle). v.version) (find_vehicle vehicles id) 0
 
 -- when the vehicle of an id would start for the batch, by its copy
 abbrev pub priced_start : BatchCopy → ℕ → ℕ
-priced_start batch id = start_in (find_vehicle batch.vehicles id)
-  where
-    start_in : Option Vehicle → ℕ
-    start_in None = 0
-    start_in (Some v) = start_of v batch.settings.lead batch.time
+priced_start batch id = option_map_or (λ v. start_of v batch.settings.lead batch.time) (find_vehicle batch.vehicles id) 0
 
 -- what a commit makes of a seated request: its vehicle moved, or the start is behind the clock, or it is confirmed
 abbrev pub seated_outcome : BatchCopy → State → Seat → Outcome
@@ -98,11 +86,7 @@ outcome_by batch s false (Some seat) = seated_outcome batch s seat
 
 -- whether the request of an id was cancelled
 abbrev pub was_cancelled : State → ℕ → Bool
-was_cancelled s id = cancelled_in (request_state s id)
-  where
-    cancelled_in : Option RequestState → Bool
-    cancelled_in None = false
-    cancelled_in (Some state) = is_cancelled state
+was_cancelled s id = option_map_or is_cancelled (request_state s id) false
 
 -- what a commit makes of a request of the batch
 abbrev pub outcome_of : BatchCopy → List Seat → State → ℕ → Outcome
@@ -128,17 +112,15 @@ confirm batch ride seat (Some placed) s =
 abbrev pub after_outcome : BatchCopy → Ride → Option Seat → Outcome → State → State
 after_outcome batch ride _ Gone s = s
 after_outcome batch ride _ Away s = with_request_state ride.id (AwayState batch.number) s
-after_outcome batch ride _ (Moved _ _) s = with_request_state ride.id WaitingState s
-after_outcome batch ride _ (Behind _ _) s = with_request_state ride.id WaitingState s
 after_outcome batch ride None Confirmed s = s
 after_outcome batch ride (Some seat) Confirmed s = confirm batch ride seat (placed_vehicle s seat.vehicle) s
+after_outcome batch ride _ _ s = with_request_state ride.id WaitingState s
 
 -- the state after the outcomes of these requests, which are those at the commit's moment
 abbrev pub after_outcomes : BatchCopy → List Seat → State → List Ride → State → State
 after_outcomes batch seats moment [] s = s
 after_outcomes batch seats moment (ride ∷ rides) s =
-    after_outcomes batch seats moment rides
-    (after_outcome batch ride (seat_of seats ride.id) (outcome_of batch seats moment ride.id) s)
+    after_outcomes batch seats moment rides (after_outcome batch ride (seat_of seats ride.id) (outcome_of batch seats moment ride.id) s)
 
 -- the state with the batch no longer open
 abbrev pub without_batch : BatchCopy → State → State
@@ -150,11 +132,8 @@ after_commit batch seats s = without_batch batch (after_outcomes batch seats s b
 
 -- the requests of the batch that are still in it
 abbrev pub standing_rides : BatchCopy → State → List Ride
-standing_rides batch s = filter (λ (ride : Ride). is_still_in batch.number (request_state s ride.id)) batch.requests
-  where
-    is_still_in : ℕ → Option RequestState → Bool
-    is_still_in number None = false
-    is_still_in number (Some state) = is_in_batch number state
+standing_rides batch s =
+    filter (λ (ride : Ride). option_map_or (is_in_batch batch.number) (request_state s ride.id) false) batch.requests
 
 -- the state after the batch was given up: those of its requests that are still in it wait again
 abbrev pub after_abandon : BatchCopy → State → State

@@ -22,8 +22,7 @@ abbrev pub report_of : Vehicle → ℕ → List Stop → Option Command
 report_of v clock [] = None
 report_of v clock (first ∷ _) =
     let time = v.ready + first.leg in
-    if nat_le time clock
-    then (if v.at == first.node then Some (Done v.id) else Some (At v.id first.node time))
+    if nat_le time clock then (if v.at == first.node then Some (Done v.id) else Some (At v.id first.node time))
     else (if nat_lt v.ready clock then Some (At v.id first.node time) else None)
 
 -- what a map driver reports next: the first stop is served where the vehicle is there by the clock, else it is reported at
@@ -40,7 +39,7 @@ pub data DrillStep : Type 0 where
 abbrev pub entry_of : Actor → Event → Entry
 entry_of actor event = record { actor = actor; event = event }
 
--- a history from a state on goes through these steps in order; the openings and commits of desk 1 stand between them
+-- a history from a state on goes through these steps in order; what desk 1 does, its openings and commits, stands between them
 pub data Follows : State → List DrillStep → List Entry → Type 0 where
   done : {s : State} → Follows s [] []
   given : {s : State} {command : Command} {reply : Reply} {steps : List DrillStep} {entries : List Entry}
@@ -56,13 +55,8 @@ pub data Follows : State → List DrillStep → List Entry → Type 0 where
   ended : {s : State} {actor : Actor} {steps : List DrillStep} {entries : List Entry}
       → Follows (after_entry s (entry_of actor (Finish Whole))) steps entries
       → Follows s (end actor ∷ steps) (entry_of actor (Finish Whole) ∷ entries)
-  opened : {s : State} {batch time : ℕ} {requests : List ℕ} {plans : List (ℕ × ℕ)} {steps : List DrillStep} {entries : List Entry}
-      → Follows (after_entry s (entry_of (Desk 1) (Opened batch time requests plans))) steps entries
-      → Follows s steps (entry_of (Desk 1) (Opened batch time requests plans) ∷ entries)
-  committed : {s : State} {batch cost : ℕ} {seats : List Seat} {prices pays : List (ℕ × ℕ)} {outcomes : List (ℕ × Outcome)}
-      {steps : List DrillStep} {entries : List Entry}
-      → Follows (after_entry s (entry_of (Desk 1) (Committed batch cost seats prices pays outcomes))) steps entries
-      → Follows s steps (entry_of (Desk 1) (Committed batch cost seats prices pays outcomes) ∷ entries)
+  worked : {s : State} {event : Event} {steps : List DrillStep} {entries : List Entry}
+      → Follows (after_entry s (entry_of (Desk 1) event)) steps entries → Follows s steps (entry_of (Desk 1) event ∷ entries)
 
 -- a history of a drill: legal with two feeds and one desk, direct, finished, and in the order of its steps
 pub record IsDrilled (start : State) (steps : List DrillStep) (entries : List Entry) : Type 0 where

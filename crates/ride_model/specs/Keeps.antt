@@ -7,7 +7,7 @@ use Rattle.ride_model.specs.declared.vehicle.Vehicle.{Vehicle}
 use Rattle.ride_model.specs.Loads.{is_pickup, loads_fit}
 use Rattle.ride_model.specs.Times.{visits_of}
 use Rattle.ride_model.specs.Vehicle.{ride_ids}
-use Rattle.ride_model.specs.Limits.{most_stops}
+use Rattle.ride_model.specs.declared.limits.TheConstants.{MOST_STOPS}
 
 -- whether it is a pickup at this node
 abbrev pub is_pickup_at : ℕ → Stop → Bool
@@ -21,8 +21,7 @@ is_dropoff_at node stop = not (is_pickup stop.kind) && stop.node == node
 -- latest, and later a drop-off, at most longest seconds after the pickup; one aboard has a drop-off, at most longest
 -- seconds after it was picked up
 abbrev pub keeps_visits : Ride → Option ℕ → List (Stop × ℕ) → Bool
-keeps_visits ride None (pickup ∷ dropoff ∷ []) =
-    is_pickup_at ride.from pickup.0 && is_dropoff_at ride.to dropoff.0
+keeps_visits ride None (pickup ∷ dropoff ∷ []) = is_pickup_at ride.from pickup.0 && is_dropoff_at ride.to dropoff.0
     && nat_le pickup.1 ride.latest && nat_le dropoff.1 (pickup.1 + ride.longest)
 keeps_visits ride (Some picked) (dropoff ∷ []) =
     is_dropoff_at ride.to dropoff.0 && nat_le dropoff.1 (picked + ride.longest)
@@ -35,7 +34,7 @@ keeps_ride v start dwell ride = keeps_visits ride ride.picked (visits_of v start
 -- whether a vehicle keeps its promises from a start: at most 16 stops, each ride's promise, and all loads fit
 abbrev pub keeps : Vehicle → ℕ → ℕ → Bool
 keeps v start dwell =
-    nat_le (length v.stops.items) most_stops && list_all (keeps_ride v start dwell) v.rides.items && loads_fit v
+    nat_le (length v.stops.items) MOST_STOPS && list_all (keeps_ride v start dwell) v.rides.items && loads_fit v
 
 -- whether a stop's time breaks a limit of the ride
 abbrev pub breaks_visits : Ride → Option ℕ → List (Stop × ℕ) → Bool

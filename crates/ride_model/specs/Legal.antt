@@ -1,6 +1,7 @@
 -- Legal histories: each entry is right at the state that the entries before it give.
 use Rattle.std.specs.Prelude.{◌≡◌, ℕ, ◌≤◌, ⊤, Bool, List, [], ◌∷◌, map, Option, Some, None, IsTrue, IsFalse, IsSome, IsNone, IsSomeAnd}
 use Rattle.std.specs.List.{list_all, range_with_len}
+use Rattle.std.specs.Option.{option_map_or}
 use Rattle.ride_model.specs.declared.command.Actor.{Actor}
 use Rattle.ride_model.specs.declared.command.Actor.TheVariants.{Feed, Desk}
 use Rattle.ride_model.specs.declared.entry.Ending.{Ending}
@@ -22,16 +23,9 @@ abbrev pub after_event : State → Actor → Event → State
 after_event s actor (Fed command _) = (step s command).state
 after_event s actor (Finish ending) = with_end s actor ending
 after_event s (Desk desk) (Opened _ _ _ _) = after_opening s (next_batch s desk)
-after_event s (Desk desk) (Committed number _ seats _ _ _) = committed_in (open_batch_numbered s desk number)
-  where
-    committed_in : Option BatchCopy → State
-    committed_in None = s
-    committed_in (Some batch) = after_commit batch seats s
-after_event s (Desk desk) (Abandoned number) = abandoned_in (open_batch_numbered s desk number)
-  where
-    abandoned_in : Option BatchCopy → State
-    abandoned_in None = s
-    abandoned_in (Some batch) = after_abandon batch s
+after_event s (Desk desk) (Committed number _ seats _ _ _) =
+    option_map_or (λ batch. after_commit batch seats s) (open_batch_numbered s desk number) s
+after_event s (Desk desk) (Abandoned number) = option_map_or (λ batch. after_abandon batch s) (open_batch_numbered s desk number) s
 after_event s (Feed _) _ = s
 
 -- the state after an entry

@@ -1,5 +1,3 @@
-pub mod Limits
-pub mod Refusals
 pub mod Road
 pub mod Fleet
 pub mod Loads

@@ -26,8 +26,7 @@ is_open v time = v.duty && (is_idle v || nat_le time v.ready)
 
 -- the cost of a plan for a ride whose pickup stands at place i, in place of the old one
 abbrev pub cost_of : Settings → Vehicle → Vehicle → ℕ → ℕ → ℕ → ℕ
-cost_of settings old new i start time =
-    settings.drive * (drive_of new settings.dwell - drive_of old settings.dwell)
+cost_of settings old new i start time = settings.drive * (drive_of new settings.dwell - drive_of old settings.dwell)
     + settings.wait * (slice_index (times_of new start settings.dwell) i - time)
 
 -- the legs into and out of the new stops of a plan whose pickup was put before old place i and whose drop-off before old
@@ -36,12 +35,9 @@ abbrev pub leg_at : List Stop → ℕ → ℕ
 leg_at stops place = unwrap_or (option_map (λ (stop : Stop). stop.leg) (slice_get stops place)) 0
 
 abbrev pub joins_of : Vehicle → ℕ → ℕ → Joins
-joins_of new i j = record {
-  to_pickup = leg_at new.stops.items i;
-  after_pickup = leg_at new.stops.items (i + 1);
-  to_dropoff = leg_at new.stops.items (j + 1);
-  after_dropoff = leg_at new.stops.items (j + 2);
-}
+joins_of new i j =
+    let leg : ℕ → ℕ = leg_at new.stops.items in
+    record { to_pickup = leg i; after_pickup = leg (i + 1); to_dropoff = leg (j + 1); after_dropoff = leg (j + 2) }
 
 -- the offer of the plan new, where it keeps its promises
 abbrev pub offer_of_plan : Settings → Vehicle → ℕ → ℕ → ℕ → Vehicle → Option Offer
@@ -54,15 +50,13 @@ offer_of_plan settings old i j time new =
 -- the offer of a vehicle to a ride at the places i and j at a time; absent where the vehicle is not open, a place is out
 -- of range, or the plan would break a promise
 unfoldable pub offer_of : RoadMap → Settings → Vehicle → Ride → ℕ → ℕ → ℕ → Option Offer
-offer_of map settings v ride time i j =
-    if is_open v time && nat_le i j && nat_le j (length v.stops.items)
+offer_of map settings v ride time i j = if is_open v time && nat_le i j && nat_le j (length v.stops.items)
     then option_and_then (offer_of_plan settings v i j time) (inserted map v ride i j)
     else None
 
 -- the place pairs of a plan with so many stops
 abbrev pub place_pairs : ℕ → List (ℕ × ℕ)
-place_pairs stops =
-    flat_map (λ i. map (λ j. (i, j)) (range_with_len i (stops + 1 - i))) (range_with_len 0 (stops + 1))
+place_pairs stops = flat_map (λ i. map (λ j. (i, j)) (range_with_len i (stops + 1 - i))) (range_with_len 0 (stops + 1))
 
 -- all offers of a vehicle to a ride at a time
 abbrev pub offers : RoadMap → Settings → Vehicle → Ride → ℕ → List Offer

@@ -23,22 +23,16 @@ broken_by _ = []
 abbrev pub is_late : List ℕ → ℕ → Bool
 is_late late id = list_any (λ other. other == id) late
 
--- a pickup at a vehicle keeps the ride's latest, and a drop-off its longest
-abbrev pub KeepsPickup : Vehicle → Ride → Type 0
-KeepsPickup v ride = v.ready ≤ ride.latest
-
-abbrev pub KeepsDropoff : Vehicle → Ride → Type 0
-KeepsDropoff v ride = IfSome ride.picked (λ picked. v.ready ≤ picked + ride.longest)
-
 -- what holds of a ride of a vehicle, where both are there and the ride was not named late
 abbrev pub OfRide : State → List ℕ → ℕ → ℕ → (Vehicle → Ride → Type 0) → Type 0
 OfRide s late vehicle id P =
     IsFalse (is_late late id) → IfSome (find_vehicle s.vehicles vehicle) (λ v. IfSome (find_ride v.rides.items id) (P v))
 
--- a served stop of a ride that was not named late is in time, at the state before it
+-- a served stop of a ride that was not named late is in time, at the state before it: a pickup by the ride's latest, a drop-off by its longest
 abbrev pub KeepsEvent : State → List ℕ → Event → Type 0
-KeepsEvent s late (Fed (Done vehicle) (Picked id)) = OfRide s late vehicle id KeepsPickup
-KeepsEvent s late (Fed (Done vehicle) (Dropped id)) = OfRide s late vehicle id KeepsDropoff
+KeepsEvent s late (Fed (Done vehicle) (Picked id)) = OfRide s late vehicle id (λ v ride. v.ready ≤ ride.latest)
+KeepsEvent s late (Fed (Done vehicle) (Dropped id)) =
+    OfRide s late vehicle id (λ v ride. IfSome ride.picked (λ picked. v.ready ≤ picked + ride.longest))
 KeepsEvent s late _ = ⊤
 
 -- a vehicle's times from its ready time keep the limits of its rides that were not named late

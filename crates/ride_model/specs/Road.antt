@@ -1,7 +1,7 @@
 -- Road maps, walks and travel times.
 use Rattle.std.specs.Prelude.{ℕ, zero, suc, ◌+◌, ◌≤◌, min, ◌==◌, if◌then◌else◌, List, [], ◌∷◌, length, map, filter, All, Option, Some, None, option_map}
 use Rattle.ride_model.specs.declared.network.RoadArc.{RoadArc}
-use Rattle.ride_model.specs.Limits.{longest_arc, most_arcs, most_nodes}
+use Rattle.ride_model.specs.declared.limits.TheConstants.{LONGEST_ARC, MOST_ARCS, MOST_NODES}
 
 -- a road map: nodes 1 to nodes, and directed arcs among them
 pub record RoadMap : Type 0 where
@@ -14,13 +14,13 @@ IsNode map x = (1 ≤ x) × (x ≤ map.nodes)
 
 -- an arc joins two nodes, in at most 10^9 seconds
 abbrev pub IsArc : RoadMap → RoadArc → Type 0
-IsArc map arc = IsNode map arc.tail × IsNode map arc.head × (arc.seconds ≤ longest_arc)
+IsArc map arc = IsNode map arc.tail × IsNode map arc.head × (arc.seconds ≤ LONGEST_ARC)
 
 -- the limits of a map
 pub record IsRoadMap (map : RoadMap) : Type 0 where
   pub some_node : 1 ≤ map.nodes
-  pub nodes_limit : map.nodes ≤ most_nodes
-  pub arcs_limit : length map.arcs ≤ most_arcs
+  pub nodes_limit : map.nodes ≤ MOST_NODES
+  pub arcs_limit : length map.arcs ≤ MOST_ARCS
   pub arcs_fit : All (IsArc map) map.arcs
 
 -- the lesser of two weights, each of which may be absent
@@ -41,9 +41,7 @@ arcs_from arcs x = filter (λ (arc : RoadArc). arc.tail == x) arcs
 -- the least weight of a walk from x to y of at most so many arcs
 unfoldable pub travel_within : List RoadArc → ℕ → ℕ → ℕ → Option ℕ
 travel_within arcs zero x y = if x == y then Some 0 else None
-travel_within arcs (suc most) x y =
-    if x == y
-    then Some 0
+travel_within arcs (suc most) x y = if x == y then Some 0
     else least_of (map (λ (arc : RoadArc). option_map (λ t. arc.seconds + t) (travel_within arcs most arc.head y)) (arcs_from arcs x))
 
 -- the travel time from x to y as a number: a least walk meets no node twice, so that it has at most as many arcs as

@@ -35,11 +35,8 @@ find_vehicle vehicles id = find (λ (v : Vehicle). v.id == id) vehicles
 -- the offer of a seat's vehicle to its request at its places, over the batch's copies
 abbrev pub seat_offer : RoadMap → BatchCopy → Seat → Option Offer
 seat_offer roads batch seat =
-    option_and_then
-    (λ ride. option_and_then
-    (λ v. offer_of roads batch.settings v ride batch.time seat.i seat.j)
-    (find_vehicle batch.vehicles seat.vehicle))
-    (find_ride batch.requests seat.request)
+    option_and_then (λ ride. option_and_then (λ v. offer_of roads batch.settings v ride batch.time seat.i seat.j)
+    (find_vehicle batch.vehicles seat.vehicle)) (find_ride batch.requests seat.request)
 
 -- whether a request has a seat
 abbrev pub has_seat : List Seat → ℕ → Bool

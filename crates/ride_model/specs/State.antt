@@ -31,17 +31,8 @@ pub record State : Type 0 where
 
 -- the state of a fleet before anything happened
 abbrev pub start_state : RoadMap → Settings → List Vehicle → State
-start_state roads settings vehicles = record {
-  roads = roads;
-  settings = settings;
-  clock = 0;
-  vehicles = vehicles;
-  requests = [];
-  asked = 0;
-  opened = 0;
-  batches = [];
-  ended = [];
-}
+start_state roads settings vehicles =
+    record { roads = roads; settings = settings; clock = 0; vehicles = vehicles; requests = []; asked = 0; opened = 0; batches = []; ended = [] }
 
 -- whether two actors are one
 abbrev pub is_actor : Actor → Actor → Bool
@@ -75,9 +66,9 @@ request_state s id = option_map (λ (request : AcceptedRequest). request.state) 
 
 -- the state with another state of the request of an id
 abbrev pub with_request_state : ℕ → RequestState → State → State
-with_request_state id state s = record s {
-  requests = map (λ (request : AcceptedRequest). if request.ride.id == id then record request { state = state } else request) s.requests;
-}
+with_request_state id state s =
+    let marked = λ (request : AcceptedRequest). if request.ride.id == id then record request { state = state } else request in
+    record s { requests = map marked s.requests }
 
 -- the open batch of a desk
 abbrev pub open_batch_of : State → ℕ → Option BatchCopy

@@ -15,8 +15,8 @@ use Rattle.ride_model.specs.Road.{RoadMap, travel}
 use Rattle.ride_model.specs.Keeps.{broken_of}
 use Rattle.ride_model.specs.Insertion.{with_plan, rides_without, rerouted, without_ride}
 use Rattle.ride_model.specs.State.{State, AcceptedRequest, accepted_request, with_request_state, placed_vehicle, with_vehicle}
-use Rattle.ride_model.specs.Limits.{latest_ready, latest_time, longest_ride, most_batches, most_chairs, most_requests, most_seats}
-use Rattle.ride_model.specs.Refusals.{Refusal, code_of, batches_full, day_over, end_off_map, known_id, no_stop, no_way, not_at_stop, odd_load, odd_time, report_off_map, report_too_early, request_closed, requests_full, rider_aboard, same_ends, unknown_request, unknown_vehicle}
+use Rattle.ride_model.specs.declared.limits.TheConstants.{LATEST_READY, LATEST_TIME, LONGEST_RIDE, MOST_BATCHES, MOST_CHAIRS, MOST_REQUESTS, MOST_SEATS}
+use Rattle.ride_model.specs.declared.refusals.TheConstants.{BATCHES_FULL, DAY_OVER, END_OFF_MAP, KNOWN_ID, NOT_AT_STOP, NO_STOP, NO_WAY, ODD_LOAD, ODD_TIME, REPORT_OFF_MAP, REPORT_TOO_EARLY, REQUESTS_FULL, REQUEST_CLOSED, RIDER_ABOARD, SAME_ENDS, UNKNOWN_REQUEST, UNKNOWN_VEHICLE}
 
 -- a command's outcome: the state after it, and the reply
 pub record Answered : Type 0 where
@@ -26,9 +26,6 @@ pub record Answered : Type 0 where
 -- a refusal changes nothing
 abbrev pub refused : State → ℕ → Answered
 refused s code = record { state = s; reply = Refused code }
-
-abbrev pub refuse : State → Refusal → Answered
-refuse s why = refused s (code_of why)
 
 -- whether a number is that of a node
 abbrev pub is_node : RoadMap → ℕ → Bool
@@ -45,16 +42,14 @@ with_accepted s ride = record s { requests = s.requests ++ (record { ride = ride
 -- request ID FROM TO SEATS LATEST LONGEST CHAIRS
 unfoldable pub request_step : State → ℕ → ℕ → ℕ → ℕ → ℕ → ℕ → ℕ → Answered
 request_step s id from to seats latest longest chairs =
-    if is_some (accepted_request s id) then refuse s known_id
-    else if not (is_node s.roads from && is_node s.roads to) then refuse s end_off_map
-    else if from == to then refuse s same_ends
-    else if nat_lt most_seats seats || nat_lt most_chairs chairs || seats + chairs == 0 then refuse s odd_load
-    else if nat_lt latest_time latest || longest == 0 || nat_lt longest_ride longest then refuse s odd_time
-    else if nat_le most_requests (length s.requests) then refuse s requests_full
-    else record {
-      state = with_accepted s (record { id = id; from = from; to = to; seats = seats; chairs = chairs; latest = latest; longest = longest; picked = None });
-      reply = Waiting;
-    }
+    let ride : Ride = record { id = id; from = from; to = to; seats = seats; chairs = chairs; latest = latest; longest = longest; picked = None } in
+    if is_some (accepted_request s id) then refused s KNOWN_ID
+    else if not (is_node s.roads from && is_node s.roads to) then refused s END_OFF_MAP
+    else if from == to then refused s SAME_ENDS
+    else if nat_lt MOST_SEATS seats || nat_lt MOST_CHAIRS chairs || seats + chairs == 0 then refused s ODD_LOAD
+    else if nat_lt LATEST_TIME latest || longest == 0 || nat_lt LONGEST_RIDE longest then refused s ODD_TIME
+    else if nat_le MOST_REQUESTS (length s.requests) then refused s REQUESTS_FULL
+    else record { state = with_accepted s ride; reply = Waiting }
 
 -- a request that no vehicle has promised is cancelled
 abbrev pub cancelled : State → ℕ → Answered
@@ -62,24 +57,21 @@ cancelled s id = record { state = with_request_state id CancelledState s; reply 
 
 -- a request that a vehicle has promised is cancelled: the ride and its two stops leave the plan
 abbrev pub freed : State → ℕ → ℕ → Option (ℕ × Vehicle) → Answered
-freed s id vehicle None = refuse s unknown_vehicle
-freed s id vehicle (Some placed) = record {
-  state = with_request_state id CancelledState (with_vehicle s placed.0 (raised (without_ride s.roads placed.1 id)));
-  reply = Freed vehicle;
-}
+freed s id vehicle None = refused s UNKNOWN_VEHICLE
+freed s id vehicle (Some placed) =
+    let left = raised (without_ride s.roads placed.1 id) in
+    record { state = with_request_state id CancelledState (with_vehicle s placed.0 left); reply = Freed vehicle }
 
 -- a cancellation, by what has become of the request
 abbrev pub cancel_by_state : State → ℕ → RequestState → Answered
-cancel_by_state s id (Aboard _) = refuse s rider_aboard
-cancel_by_state s id DoneState = refuse s request_closed
-cancel_by_state s id (Away _) = refuse s request_closed
-cancel_by_state s id CancelledState = refuse s request_closed
 cancel_by_state s id WaitingState = cancelled s id
 cancel_by_state s id (InBatch _) = cancelled s id
 cancel_by_state s id (Confirmed vehicle) = freed s id vehicle (placed_vehicle s vehicle)
+cancel_by_state s id (Aboard _) = refused s RIDER_ABOARD
+cancel_by_state s id _ = refused s REQUEST_CLOSED
 
 abbrev pub cancel_found : State → ℕ → Option AcceptedRequest → Answered
-cancel_found s id None = refuse s unknown_request
+cancel_found s id None = refused s UNKNOWN_REQUEST
 cancel_found s id (Some request) = cancel_by_state s id request.state
 
 -- cancel ID
@@ -96,7 +88,7 @@ report_reply s after new old = if nat_le new old then OnMap else Late (new - old
 
 -- a report of a driving vehicle, by the travel time from the reported node to the first stop
 abbrev pub report_driving : State → ℕ → Vehicle → Vehicle → ℕ → Option ℕ → Answered
-report_driving s place v after old None = refuse s no_way
+report_driving s place v after old None = refused s NO_WAY
 report_driving s place v after old (Some leg) =
     record { state = with_vehicle s place after; reply = report_reply s after (after.ready + leg) old }
 
@@ -107,11 +99,10 @@ report s place v after (first ∷ _) =
     report_driving s place v after (v.ready + first.leg) (travel s.roads after.at first.node)
 
 abbrev pub at_found : State → ℕ → ℕ → Option (ℕ × Vehicle) → Answered
-at_found s node time None = refuse s unknown_vehicle
-at_found s node time (Some placed) =
-    if not (is_node s.roads node) then refuse s report_off_map
-    else if nat_lt latest_time time then refuse s odd_time
-    else if nat_lt time placed.1.ready then refuse s report_too_early
+at_found s node time None = refused s UNKNOWN_VEHICLE
+at_found s node time (Some placed) = if not (is_node s.roads node) then refused s REPORT_OFF_MAP
+    else if nat_lt LATEST_TIME time then refused s ODD_TIME
+    else if nat_lt time placed.1.ready then refused s REPORT_TOO_EARLY
     else report s placed.0 placed.1 (reported s node time placed.1) placed.1.stops.items
 
 -- at VEHICLE NODE TIME
@@ -140,18 +131,15 @@ served_state v Pickup = Aboard v.id
 served_state v Dropoff = DoneState
 
 abbrev pub done_at_stop : State → ℕ → Vehicle → List Stop → Answered
-done_at_stop s place v [] = refuse s no_stop
+done_at_stop s place v [] = refused s NO_STOP
 done_at_stop s place v (stop ∷ rest) =
-    if not (v.at == stop.node) then refuse s not_at_stop
-    else if nat_lt latest_ready (v.ready + s.settings.dwell) then refuse s day_over
-    else record {
-      state = with_request_state stop.ride (served_state v stop.kind)
-          (with_vehicle s place (raised (served s.settings.dwell v stop rest stop.kind)));
-      reply = served_reply stop stop.kind;
-    }
+    let left = with_vehicle s place (raised (served s.settings.dwell v stop rest stop.kind)) in
+    if not (v.at == stop.node) then refused s NOT_AT_STOP
+    else if nat_lt LATEST_READY (v.ready + s.settings.dwell) then refused s DAY_OVER
+    else record { state = with_request_state stop.ride (served_state v stop.kind) left; reply = served_reply stop stop.kind }
 
 abbrev pub done_found : State → Option (ℕ × Vehicle) → Answered
-done_found s None = refuse s unknown_vehicle
+done_found s None = refused s UNKNOWN_VEHICLE
 done_found s (Some placed) = done_at_stop s placed.0 placed.1 placed.1.stops.items
 
 -- done VEHICLE
@@ -159,7 +147,7 @@ unfoldable pub done_step : State → ℕ → Answered
 done_step s vehicle = done_found s (placed_vehicle s vehicle)
 
 abbrev pub duty_found : State → Bool → Option (ℕ × Vehicle) → Answered
-duty_found s duty None = refuse s unknown_vehicle
+duty_found s duty None = refused s UNKNOWN_VEHICLE
 duty_found s duty (Some placed) =
     record { state = with_vehicle s placed.0 (raised (record placed.1 { duty = duty })); reply = Duty }
 
@@ -169,14 +157,12 @@ duty_step s vehicle duty = duty_found s duty (placed_vehicle s vehicle)
 
 -- clock TIME
 unfoldable pub clock_step : State → ℕ → Answered
-clock_step s time =
-    if nat_lt latest_time time then refuse s odd_time
+clock_step s time = if nat_lt LATEST_TIME time then refused s ODD_TIME
     else record { state = record s { clock = max time s.clock }; reply = Now (max time s.clock) }
 
 -- batch
 unfoldable pub ask_step : State → Answered
-ask_step s =
-    if nat_le most_batches s.asked then refuse s batches_full
+ask_step s = if nat_le MOST_BATCHES s.asked then refused s BATCHES_FULL
     else record { state = record s { asked = s.asked + 1 }; reply = Asked (s.asked + 1) }
 
 -- a command

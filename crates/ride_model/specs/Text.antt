@@ -14,7 +14,7 @@ use Rattle.ride_model.specs.declared.entry.Outcome.TheVariants.{Confirmed, Away,
 use Rattle.ride_model.specs.declared.offer.Seat.{Seat}
 use Rattle.ride_model.specs.declared.reply.Reply.{Reply}
 use Rattle.ride_model.specs.declared.reply.Reply.TheVariants.{Waiting, Cancelled, Freed, OnMap, Late, Picked, Dropped, Duty, Now, Asked, Noted, Refused}
-use Rattle.ride_model.specs.Limits.{most_rides}
+use Rattle.ride_model.specs.declared.limits.TheConstants.{MOST_RIDES}
 
 -- a line: its fields with one blank between them, and a line feed
 abbrev pub line_of : List (List ℕ) → List ℕ
@@ -147,7 +147,7 @@ IsSpelledCommand log (Bad line) = IsSpelled line
 
 abbrev pub IsSpelledReply : Reply → Type 0
 IsSpelledReply (Freed vehicle) = IsSpelled vehicle
-IsSpelledReply (Late seconds broken) = IsSpelled seconds × All IsSpelled broken × (length broken ≤ most_rides)
+IsSpelledReply (Late seconds broken) = IsSpelled seconds × All IsSpelled broken × (length broken ≤ MOST_RIDES)
 IsSpelledReply (Picked ride) = IsSpelled ride
 IsSpelledReply (Dropped ride) = IsSpelled ride
 IsSpelledReply (Now time) = IsSpelled time

@@ -8,19 +8,19 @@ use Rattle.ride_model.specs.declared.vehicle.Stop.{Stop}
 use Rattle.ride_model.specs.declared.vehicle.Vehicle.{Vehicle}
 use Rattle.ride_model.specs.Road.{RoadMap, IsNode, travel}
 use Rattle.ride_model.specs.Loads.{loads_fit}
-use Rattle.ride_model.specs.Limits.{latest_ready, latest_time, longest_ride, most_chairs, most_seats, most_vehicle_seats, most_vehicle_chairs}
+use Rattle.ride_model.specs.declared.limits.TheConstants.{LATEST_READY, LATEST_TIME, LONGEST_RIDE, MOST_CHAIRS, MOST_SEATS, MOST_VEHICLE_CHAIRS, MOST_VEHICLE_SEATS}
 
 -- a ride joins two different nodes, has a load and has limits in their ranges
 pub record IsRide (map : RoadMap) (ride : Ride) : Type 0 where
   pub from_node : IsNode map ride.from
   pub to_node : IsNode map ride.to
   pub nodes_differ : ride.from ≢ ride.to
-  pub seats_limit : ride.seats ≤ most_seats
-  pub chairs_limit : ride.chairs ≤ most_chairs
+  pub seats_limit : ride.seats ≤ MOST_SEATS
+  pub chairs_limit : ride.chairs ≤ MOST_CHAIRS
   pub some_load : 1 ≤ ride.seats + ride.chairs
-  pub latest_limit : ride.latest ≤ latest_time
+  pub latest_limit : ride.latest ≤ LATEST_TIME
   pub some_seconds : 1 ≤ ride.longest
-  pub longest_limit : ride.longest ≤ longest_ride
+  pub longest_limit : ride.longest ≤ LONGEST_RIDE
 
 -- the visits that a ride still needs, in order, by whether its rider is aboard
 abbrev pub visits_due : Ride → Option ℕ → List (Kind × ℕ)
@@ -53,10 +53,10 @@ HasLegs map at (stop ∷ stops) = (travel map at stop.node ≡ Some stop.leg) ×
 -- a vehicle whose record is in order, its loads aside
 pub record IsRouted (map : RoadMap) (v : Vehicle) : Type 0 where
   pub some_seat : 1 ≤ v.seats
-  pub seats_limit : v.seats ≤ most_vehicle_seats
-  pub chairs_limit : v.chairs ≤ most_vehicle_chairs
+  pub seats_limit : v.seats ≤ MOST_VEHICLE_SEATS
+  pub chairs_limit : v.chairs ≤ MOST_VEHICLE_CHAIRS
   pub at_node : IsNode map v.at
-  pub ready_limit : v.ready ≤ latest_ready
+  pub ready_limit : v.ready ≤ LATEST_READY
   pub rides_fit : All (IsRide map) v.rides.items
   pub picked_before : All (λ (ride : Ride). IfSome ride.picked (λ picked. picked ≤ v.ready)) v.rides.items
   pub planned : IsPlanFor v.rides.items v.stops.items

@@ -24,9 +24,6 @@ impl Model for Fleet {
 }
 
 impl Fleet {
-    /// The most vehicles of a fleet.
-    pub const MOST_VEHICLES: usize = 1_000;
-
     /// The fleet of these vehicles, in order.
     pub fn new(vehicles: Vec<Vehicle>) -> Fleet
         requires { IsFleet vehicles.items }

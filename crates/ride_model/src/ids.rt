@@ -1,6 +1,6 @@
 //! Short lists of ids.
 ghost use Rattle.std.specs.Prelude.{◌≡◌, ◌<◌, ◌≤◌, [], ◌∷◌, ◌++◌, length};
-ghost use Rattle.ride_model.specs.Limits.{most_rides};
+ghost use Rattle.ride_model.specs.declared.limits.TheConstants.{MOST_RIDES};
 
 use arrayvec::ArrayVec;
 use std::marker::Model;
@@ -20,9 +20,6 @@ impl Model for Ids {
 }
 
 impl Ids {
-    /// The most ids of a list.
-    pub const MOST: usize = 16;
-
     /// No ids.
     pub fn new() -> Ids
         ensures { result ≡ [] }
@@ -34,7 +31,7 @@ impl Ids {
 
     /// Adds an id at the end.
     pub fn push(&mut self, id: u64)
-        requires { length self.old < most_rides }
+        requires { length self.old < MOST_RIDES }
         ensures { self.new ≡ self.old ++ id ∷ [] }
     {
         self.items.push(id);
@@ -44,7 +41,7 @@ impl Ids {
     #[inline]
     pub fn items(&self) -> &[u64]
         ensures items { result.now ≡ self.now }
-        ensures at_most_16 { length self.now ≤ most_rides }
+        ensures at_most_16 { length self.now ≤ MOST_RIDES }
     {
         self.items.as_slice()
     }

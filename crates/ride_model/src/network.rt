@@ -30,13 +30,6 @@ impl Model for Network {
 }
 
 impl Network {
-    /// The most nodes of a network.
-    pub const MOST_NODES: u32 = 500_000;
-    /// The most arcs of a network.
-    pub const MOST_ARCS: u32 = 2_000_000;
-    /// The most seconds of an arc.
-    pub const MOST_SECONDS: u32 = 1_000_000_000;
-
     /// The network of these nodes and arcs, in order.
     pub fn new(nodes: u32, arcs: Vec<RoadArc>) -> Network
         requires { IsRoadMap (record { nodes = nodes; arcs = arcs.items }) }

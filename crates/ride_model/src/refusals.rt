@@ -1,4 +1,4 @@
-//! Why commands are refused, by the codes of replies.
+//! Why commands, reports and bookings are refused: the numbers that say so.
 
 /// A request whose id was accepted before.
 pub const KNOWN_ID: u8 = 1;
@@ -50,3 +50,18 @@ pub const BATCHES_FULL: u8 = 16;
 
 /// A stop served after the day.
 pub const DAY_OVER: u8 = 17;
+
+/// A report to a company that is none.
+pub const UNKNOWN_COMPANY: u8 = 18;
+
+/// A booking whose id was booked before.
+pub const BOOKED_BEFORE: u8 = 19;
+
+/// A release after the latest time.
+pub const LATE_RELEASE: u8 = 20;
+
+/// A booking that is not held.
+pub const NOT_HELD: u8 = 21;
+
+/// No more bookings are taken.
+pub const DESK_FULL: u8 = 22;

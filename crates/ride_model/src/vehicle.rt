@@ -1,6 +1,6 @@
 //! Vehicles with their rides and stops.
 ghost use Rattle.std.specs.Prelude.{◌≡◌, ◌≤◌, length};
-ghost use Rattle.ride_model.specs.Limits.{most_stops};
+ghost use Rattle.ride_model.specs.declared.limits.TheConstants.{MOST_STOPS};
 
 use arrayvec::ArrayVec;
 
@@ -89,7 +89,7 @@ impl Vehicle {
 }
 
 fn copy_of<T: Copy + Default>(items: &[T]) -> ArrayVec<T, 16>
-    requires { length items.now ≤ most_stops }
+    requires { length items.now ≤ MOST_STOPS }
     ensures { result.items ≡ items.now }
 {
     let mut copy = ArrayVec::new();

@@ -1,7 +1,7 @@
 -- What the words of a session that goes on from its log ask for.
 use Rattle.std.specs.Prelude.{ℕ, List, [], ◌∷◌, Option, Some, None, option_map}
 use Rattle.clap.specs.Simple.{App}
-use Rattle.ride_model.specs.Limits.{most_workers}
+use Rattle.ride_model.specs.declared.limits.TheConstants.{MOST_WORKERS}
 use Rattle.run_words.specs.Words.{File, command_with, feed_file, fleet_file, log_file, map_file, number_within, values_of}
 
 -- what is asked for, by the names of its files: that the session of a log over a map and a fleet file goes on with riders and drivers, by
@@ -20,14 +20,12 @@ going_on map fleet log riders drivers workers =
 
 -- its command, which takes the first word for its name
 abbrev pub resumption_command : App
-resumption_command = command_with "ride_resume"
-    ("map" ∷ "fleet" ∷ "log" ∷ "riders" ∷ "drivers" ∷ "workers" ∷ [])
+resumption_command = command_with "ride_resume" ("map" ∷ "fleet" ∷ "log" ∷ "riders" ∷ "drivers" ∷ "workers" ∷ [])
 
 -- what the values of its options ask for; nothing where one is wanting or out of its range
 abbrev pub resumption_asked : List (Option (List ℕ)) → Option GoingOn
-resumption_asked
-    (Some map ∷ Some fleet ∷ Some log ∷ Some riders ∷ Some drivers ∷ Some workers ∷ []) =
-    option_map (going_on map fleet log riders drivers) (number_within 1 most_workers workers)
+resumption_asked (Some map ∷ Some fleet ∷ Some log ∷ Some riders ∷ Some drivers ∷ Some workers ∷ []) =
+    option_map (going_on map fleet log riders drivers) (number_within 1 MOST_WORKERS workers)
 resumption_asked _ = None
 
 -- what words ask for; nothing where they are not in order

@@ -4,8 +4,8 @@ ghost use Rattle.clap.specs.Simple.{app_of, with_rule};
 ghost use Rattle.clap.specs.Walk.{rule_of};
 ghost use Rattle.run_words.specs.declared.words.Word.TheVariants.{Ahead, Audit, Book, Drill, League, Replay, Serve};
 ghost use Rattle.run_words.specs.Resumptions.{resumption_command};
-ghost use Rattle.run_words.specs.Words.{command_by_word, option_rule};
-ghost use Rattle.run_words.specs.inner.Words.{bare_command};
+ghost use Rattle.run_words.specs.Words.{command_by_word};
+ghost use Rattle.run_words.specs.inner.Words.{bare_command, option_rule};
 
 use crate::{Word, WordsError};
 use clap::{Arg, ArgAction, Command};

@@ -1,6 +1,5 @@
 //! The words of a session that goes on from its log.
 ghost use Rattle.std.specs.Prelude.{◌≤◌, map, string_bytes, IfOk};
-ghost use Rattle.ride_model.specs.Limits.{most_workers};
 ghost use Rattle.run_words.specs.Resumptions.{resumption_asked, resumption_command, resumption_of};
 ghost use Rattle.run_words.specs.inner.Resumptions.{IsResumptionOf};
 ghost use Rattle.run_words.specs.inner.Words.{found_by};
@@ -28,7 +27,7 @@ pub struct Resumption {
 pub fn read_resumption(alloc: Global, words: &[String]) -> Result<Resumption, WordsError>
     ensures resumption { IsResumptionOf (resumption_of (map string_bytes words.now)) result }
     ensures workers { IfOk result (λ resumption. (1 ≤ resumption.workers)
-        × (resumption.workers ≤ most_workers)) }
+        × (resumption.workers ≤ MOST_WORKERS)) }
 {
     let given = read_by(resumption_command(alloc)?, words)?;
     resumption_given(alloc, &given)
@@ -39,7 +38,7 @@ fn resumption_given(alloc: Global, given: &ArgMatches<'_>) -> Result<Resumption,
     ensures resumption { IsResumptionOf
         (resumption_asked (found_by resumption_command given.now)) result }
     ensures workers { IfOk result (λ resumption. (1 ≤ resumption.workers)
-        × (resumption.workers ≤ most_workers)) }
+        × (resumption.workers ≤ MOST_WORKERS)) }
 {
     let names = three_names(alloc, given, "log")?;
     let riders = text(alloc, given, "riders")?;

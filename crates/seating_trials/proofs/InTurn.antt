@@ -7,7 +7,7 @@ use Rattle.std.proofs.lemmas.Bool.{and_parts}
 use Rattle.ride_model.specs.declared.vehicle.Ride.{Ride}
 use Rattle.ride_model.specs.declared.vehicle.Vehicle.{Vehicle}
 use Rattle.ride_model.specs.Fleet.{IsFleet}
-use Rattle.ride_model.specs.Limits.{latest_time}
+use Rattle.ride_model.specs.declared.limits.TheConstants.{LATEST_TIME}
 use Rattle.ride_model.specs.Seating.{BatchCopy}
 use Rattle.ride_model.specs.inner.Seating.{IsBatchOver}
 use Rattle.ride_model.specs.Vehicle.{IsLawful, IsRide, ride_ids}
@@ -94,7 +94,7 @@ over-map time v true h = record {
 }
 
 -- the batch is over the line
-pub over-line : (time : ℕ) (v : Vehicle) (more : Bool) (batch : BatchCopy) → batch ≡ turn_of time v more → time ≤ latest_time
+pub over-line : (time : ℕ) (v : Vehicle) (more : Bool) (batch : BatchCopy) → batch ≡ turn_of time v more → time ≤ LATEST_TIME
     → may_drive v ≡ true → IsOverLine batch
 over-line time v more batch is soon h =
     subst IsOverLine (sym is) (record { in_time = soon; over_map = over-map time v more h; lawful = fleet-lawful v more h })

@@ -1,6 +1,6 @@
 //! Batches that a pricer prices in turn, whatever has changed between them.
 ghost use Rattle.std.specs.Prelude.{◌≡◌, ◌≤◌, length, IsTrue};
-ghost use Rattle.ride_model.specs.Limits.{latest_time};
+ghost use Rattle.ride_model.specs.declared.limits.TheConstants.{LATEST_TIME};
 ghost use Rattle.batch_commit.specs.inner.Table.{FitsBatch};
 ghost use Rattle.plan_trials.specs.LineRoad.{vehicle_with};
 ghost use Rattle.plan_trials.specs.SmallPlans.{four_nodes};
@@ -122,7 +122,7 @@ fn expect(
     wanted: [Option<u64>; 4],
 )
     requires line { kept.old ≡ four_nodes }
-    requires soon { time ≤ latest_time }
+    requires soon { time ≤ LATEST_TIME }
     requires few_rides { length plan.1.now ≤ 16 }
     requires few_stops { length plan.2.now ≤ 16 }
     requires drives { IsTrue (may_drive (vehicle_with plan.0.at plan.0.ready plan.0.seats

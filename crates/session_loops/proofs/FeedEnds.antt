@@ -1,9 +1,8 @@
 -- What a feed's loop has answered, and how it ends.
-use Rattle.session_loops.proofs.Common.{◌≡◌, ℕ, ◌+◌, ◌-◌, ◌<◌, ◌≤◌, true, false, List, [], ◌∷◌, ◌++◌, Option, Some, None, length, refl, ap, sym, subst, ◌∙◌, arith, length-append, true≢false, IfSome, MatchOption, IsTrue, All-nil, All-push, filter_map-append, Command, Ending, Whole, Cut, Entry, Fed, command_of, Ran, Reads, KeepsCount, Reads-none, Reads-then, ReadStop, commands_of, IsWhole, FeedState, HasGiven, FeedForm, AreFirst, ended_commands, limits_of, given-few, is_fed, end_entry, Known, AddsEntry, AddsNone, actor_of, commands_in, NoMemory, OfFeed, HasFed, RunsFeed, AddsAnswer, HasMade, HasSubmitted, IsStoppedBy, AreFirstOf}
+use Rattle.session_loops.proofs.Common.{◌≡◌, ℕ, ◌+◌, ◌-◌, ◌<◌, ◌≤◌, true, false, List, [], ◌∷◌, ◌++◌, Option, Some, None, length, refl, ap, sym, subst, ◌∙◌, arith, length-append, true≢false, IfSome, MatchOption, IsTrue, All, All-nil, All-push, filter_map-append, Command, Ending, Whole, Cut, Entry, Fed, command_of, Ran, Reads, KeepsCount, Reads-none, Reads-then, ReadStop, commands_of, IsWhole, FeedState, HasGiven, FeedForm, AreFirst, ended_commands, limits_of, given-few, is_fed, end_entry, Known, AddsEntry, AddsNone, actor_of, commands_in, NoMemory, OfFeed, HasFed, RunsFeed, AddsAnswer, HasMade, HasSubmitted, IsStoppedBy, AreFirstOf}
 use Rattle.line_text.specs.declared.line_reader.answers.ReadStop.TheVariants.{SourceFailed, TooLong}
 use Rattle.line_text.specs.line_reader.Limits.{IsTooLong, IsWithinLimits}
 use Rattle.line_text.specs.declared.line_reader.stops.Stop.{Stop}
-use Rattle.session_loops.specs.Loops.{AreFed}
 use Rattle.line_text.specs.inner.line_reader.FeedRuns.{is_no_memory, is_source_failed, is_too_long, ran_of}
 use Rattle.line_text.specs.line_reader.FeedRuns.{IsReadWhole}
 use Rattle.session_loops.specs.inner.Stops.{ending_of}
@@ -12,7 +11,7 @@ use Rattle.session_loops.proofs.MadeEntries.{made-none, made-then, made-same, ma
 -- the entries of a feed's pass that answer these commands
 pub record HasAnswered (old new : Known) (answers : List Entry) (commands : List Command) : Type 0 where
   pub made : HasMade old new answers
-  pub fed : AreFed answers
+  pub fed : All (λ (entry : Entry). IsTrue (is_fed entry.event)) answers
   pub commands_are : commands_in answers ≡ commands
 
 -- with the answer to one more

@@ -5,3 +5,5 @@ pub mod MadeEntries
 pub mod FeedEnds
 pub mod BatchRuns
 pub mod Scribing
+pub mod Statuses
+pub mod WholeEnds

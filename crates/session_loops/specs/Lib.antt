@@ -1,3 +1,2 @@
 pub mod Stops
-pub mod Loops
 pub mod inner

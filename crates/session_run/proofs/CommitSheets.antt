@@ -1,5 +1,5 @@
 -- The sheets of histories that go on.
-use Rattle.session_run.proofs.Common.{◌≡◌, ℕ, true, List, [], ◌∷◌, ◌++◌, Option, Some, None, refl, sym, ap, subst, ◌∙◌, append_assoc, append-nil, cons_option, Desk, Entry, Ending, Feed, next_batch, replay, BatchCopy, State, SolvedBatch, Recorded, state_of, opened_entry, end_entry, committed_entry, MoveSheet, AllZip, Commit, IsSheetOf, commit_by, commits_after, commits_of, Answered, AddsSheets, CommitsPlanned, IsPlanned, is_whole, sheets_in}
+use Rattle.session_run.proofs.Common.{◌≡◌, ℕ, true, List, [], ◌∷◌, ◌++◌, Option, Some, None, refl, sym, ap, subst, ◌∙◌, append_assoc, append-nil, cons_option, Desk, Entry, Ending, Feed, next_batch, replay, BatchCopy, State, SolvedBatch, Recorded, state_of, opened_entry, end_entry, committed_entry, MoveSheet, AllZip, Commit, IsSheetOf, commit_by, commits_after, Answered, AddsSheets, CommitsPlanned, IsPlanned, is_whole, sheets_in}
 use Rattle.idle_moves.specs.Sheet.{IsSheet}
 use Rattle.session_run.specs.declared.batches.Answered.TheVariants.{Whole, Wanting}
 
@@ -30,20 +30,20 @@ paired-append R (x ∷ xs) xs' (y ∷ ys) ys' first second = (first.0, paired-ap
 pub adds-none : (reach : ℕ) (old new : Recorded) (entry : Entry) → new.start ≡ old.start → new.history ≡ old.history ++ entry ∷ []
     → ((before : List Entry) → commit_by before entry.actor entry.event ≡ None) → AddsSheets reach [] old new
 adds-none reach old new entry start history none sheets are =
-    subst (λ (s : State). AllZip (IsSheetOf s reach) (commits_of new.history) (sheets ++ [])) (sym start)
+    subst (λ (s : State). AllZip (IsSheetOf s reach) (commits_after [] new.history) (sheets ++ [])) (sym start)
     (subst (λ (commits : List Commit). AllZip (IsSheetOf old.start reach) commits (sheets ++ [])) (sym commits)
-    (paired-append (IsSheetOf old.start reach) (commits_of old.history) [] sheets [] are tt))
+    (paired-append (IsSheetOf old.start reach) (commits_after [] old.history) [] sheets [] are tt))
   where
-    commits : commits_of new.history ≡ commits_of old.history ++ []
+    commits : commits_after [] new.history ≡ commits_after [] old.history ++ []
     commits =
-        ap commits_of history ∙ commits-append [] old.history (entry ∷ [])
-        ∙ ap (λ o. commits_of old.history ++ cons_option o []) (none old.history)
+        ap (commits_after []) history ∙ commits-append [] old.history (entry ∷ [])
+        ∙ ap (λ o. commits_after [] old.history ++ cons_option o []) (none old.history)
 
 -- the sheets of a board that goes on twice
 pub adds-then : (reach : ℕ) (first second : List MoveSheet) (a b c : Recorded) → AddsSheets reach first a b → AddsSheets reach second b c
     → AddsSheets reach (first ++ second) a c
 adds-then reach first second a b c adds more sheets are =
-    subst (λ (l : List MoveSheet). AllZip (IsSheetOf c.start reach) (commits_of c.history) l) (append_assoc sheets first second)
+    subst (λ (l : List MoveSheet). AllZip (IsSheetOf c.start reach) (commits_after [] c.history) l) (append_assoc sheets first second)
     (more (sheets ++ first) (adds sheets are))
 
 -- a batch that was opened and committed at once adds its sheet
@@ -59,8 +59,8 @@ adds-commit reach old middle new solved sheet start same_start batch opening clo
     commit : Commit
     commit = record { before = middle.history; desk = solved.batch.desk; number = solved.batch.number; seats = solved.answer.seating }
 
-    commits : commits_of new.history ≡ commits_of middle.history ++ commit ∷ []
-    commits = ap commits_of closing ∙ commits-append [] middle.history (committed_entry (state_of middle) solved ∷ [])
+    commits : commits_after [] new.history ≡ commits_after [] middle.history ++ commit ∷ []
+    commits = ap (commits_after []) closing ∙ commits-append [] middle.history (committed_entry (state_of middle) solved ∷ [])
 
     sheet_of : IsSheetOf middle.start reach commit sheet
     sheet_of = record {
@@ -75,9 +75,9 @@ adds-commit reach old middle new solved sheet start same_start batch opening clo
 
     last : AddsSheets reach (sheet ∷ []) middle new
     last sheets are =
-        subst (λ (s : State). AllZip (IsSheetOf s reach) (commits_of new.history) (sheets ++ sheet ∷ [])) (sym same_start)
+        subst (λ (s : State). AllZip (IsSheetOf s reach) (commits_after [] new.history) (sheets ++ sheet ∷ [])) (sym same_start)
         (subst (λ (l : List Commit). AllZip (IsSheetOf middle.start reach) l (sheets ++ sheet ∷ [])) (sym commits)
-        (paired-append (IsSheetOf middle.start reach) (commits_of middle.history) (commit ∷ []) sheets (sheet ∷ []) are (sheet_of, tt)))
+        (paired-append (IsSheetOf middle.start reach) (commits_after [] middle.history) (commit ∷ []) sheets (sheet ∷ []) are (sheet_of, tt)))
 
 pub adds-planned : (r : ℕ) (reach : Option ℕ) (answered : Answered) (batch : BatchCopy) (old middle new : Recorded) → reach ≡ Some r
     → is_whole answered ≡ true → middle.start ≡ old.start → new.start ≡ middle.start → batch ≡ next_batch (state_of old) 1

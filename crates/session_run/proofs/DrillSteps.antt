@@ -1,5 +1,5 @@
 -- The steps of a drill, one after the other.
-use Rattle.session_run.proofs.Common.{◌≡◌, ℕ, ◌+◌, ◌<◌, get_or, map, take, true, false, List, [], ◌∷◌, ◌++◌, Some, None, length, refl, sym, ap, subst, ◌∙◌, arith, append_assoc, append-nil, length-append, slice_get, flat_map, range_with_len, flat_map-append, take_more, Actor, Feed, Desk, Command, Ask, At, Bad, Cancel, Clock, Done, Off, On, Request, Entry, Event, Fed, Finish, Opened, Committed, Abandoned, Vehicle, DrillStep, Follows, give, drive, entry_of, next_report, done, given, reported, rested, ended, opened, committed, fed_commands, after_entry, replay, State, step, Recorded, state_of, fed_entry, state-push, steps_with, GoesBy, IsDrilling, IsReporting, AddsAnswer, Answers, AreOfABatch, IsCommit, IsOpening, is_asked}
+use Rattle.session_run.proofs.Common.{◌≡◌, ℕ, ◌+◌, ◌<◌, get_or, map, take, true, false, List, [], ◌∷◌, ◌++◌, Some, None, length, refl, sym, ap, subst, ◌∙◌, arith, append_assoc, append-nil, length-append, slice_get, flat_map, range_with_len, flat_map-append, take_more, Actor, Feed, Desk, Command, Ask, At, Bad, Cancel, Clock, Done, Off, On, Request, Entry, Event, Fed, Finish, Opened, Committed, Abandoned, Vehicle, DrillStep, Follows, give, drive, entry_of, next_report, done, given, reported, rested, ended, worked, fed_commands, after_entry, replay, State, step, Recorded, state_of, fed_entry, state-push, steps_with, GoesBy, IsDrilling, IsReporting, AddsAnswer, Answers, AreOfABatch, IsCommit, IsOpening, is_asked}
 use Rattle.session_run.proofs.Answering.{applied-asked, applied-awaited, applied-none_given_up, applied-others, applied-session}
 
 -- steps after others
@@ -11,39 +11,21 @@ follows-then ys fs s xs es (given more) rest = given (follows-then ys fs _ _ _ m
 follows-then ys fs s xs es (reported there next more) rest = reported there next (follows-then ys fs _ _ _ more rest)
 follows-then ys fs s xs es (rested there none more) rest = rested there none (follows-then ys fs _ _ _ more rest)
 follows-then ys fs s xs es (ended more) rest = ended (follows-then ys fs _ _ _ more rest)
-follows-then ys fs s xs es (opened more) rest = opened (follows-then ys fs _ _ _ more rest)
-follows-then ys fs s xs es (committed more) rest = committed (follows-then ys fs _ _ _ more rest)
+follows-then ys fs s xs es (worked more) rest = worked (follows-then ys fs _ _ _ more rest)
 
--- an opening of the first desk may come before the next step
-opening-first : (s : State) (actor : Actor) (event : Event) (steps : List DrillStep) (entries : List Entry) → actor ≡ Desk 1 → IsOpening event
-    → Follows (after_entry s (entry_of actor event)) steps entries → Follows s steps (entry_of actor event ∷ entries)
-opening-first s actor (Opened b t r p) steps entries is opens rest =
-    subst (λ a. Follows (after_entry s (entry_of a (Opened b t r p))) steps entries → Follows s steps (entry_of a (Opened b t r p) ∷ entries))
-    (sym is) (λ more. opened more) rest
-opening-first s actor (Fed c r) steps entries is opens rest = absurd opens
-opening-first s actor (Finish e) steps entries is opens rest = absurd opens
-opening-first s actor (Committed b c ss ps qs os) steps entries is opens rest = absurd opens
-opening-first s actor (Abandoned b) steps entries is opens rest = absurd opens
-
--- and so may a commit
-commit-first : (s : State) (actor : Actor) (event : Event) (steps : List DrillStep) (entries : List Entry) → actor ≡ Desk 1 → IsCommit event
-    → Follows (after_entry s (entry_of actor event)) steps entries → Follows s steps (entry_of actor event ∷ entries)
-commit-first s actor (Committed b c ss ps qs os) steps entries is commits rest =
-    subst (λ a. Follows (after_entry s (entry_of a (Committed b c ss ps qs os))) steps entries
-    → Follows s steps (entry_of a (Committed b c ss ps qs os) ∷ entries))
-    (sym is) (λ more. committed more) rest
-commit-first s actor (Fed c r) steps entries is commits rest = absurd commits
-commit-first s actor (Finish e) steps entries is commits rest = absurd commits
-commit-first s actor (Opened b t r p) steps entries is commits rest = absurd commits
-commit-first s actor (Abandoned b) steps entries is commits rest = absurd commits
+-- what the first desk does may come before the next step
+desk-first : (s : State) (entry : Entry) (steps : List DrillStep) (entries : List Entry) → entry.actor ≡ Desk 1
+    → Follows (after_entry s entry) steps entries → Follows s steps (entry ∷ entries)
+desk-first s entry steps entries is rest =
+    subst (λ a. Follows (after_entry s (entry_of a entry.event)) steps entries → Follows s steps (entry_of a entry.event ∷ entries))
+    (sym is) (λ more. worked more) rest
 
 -- the entries of a batch
 batch-follows : (s : State) (batch : List Entry) → AreOfABatch batch → Follows s [] batch
 batch-follows s [] of_batch = done
 batch-follows s (opening ∷ []) of_batch = absurd of_batch
 batch-follows s (opening ∷ commit ∷ []) of_batch =
-    opening-first s opening.actor opening.event [] (commit ∷ []) of_batch.opener of_batch.opens
-    (commit-first (after_entry s opening) commit.actor commit.event [] [] of_batch.committer of_batch.commits done)
+    desk-first s opening [] (commit ∷ []) of_batch.opener (desk-first (after_entry s opening) commit [] [] of_batch.committer done)
 batch-follows s (opening ∷ commit ∷ other ∷ more) of_batch = absurd of_batch
 
 -- a command is given

@@ -117,13 +117,13 @@ module _ (start : State) (begins : IsStart start) (ran : Ran) (feed : Option (Li
         settled = ends.settled;
         first = first_now ends.commands;
         whole = λ _ whole. absurd (not_whole whole);
-        cut = λ memory _. record {
-          commands = commands;
-          prompt = ends.prompt (running.prompt (sym wanting ∙ memory));
-          ended = ap (λ (s : State). (replay s new.history).ended) (sym (new_start ∙ old_start)) ∙ ends.ended
+        cut = λ memory _. (
+          commands,
+          ends.prompt (running.prompt (sym wanting ∙ memory)),
+          ap (λ (s : State). (replay s new.history).ended) (sym (new_start ∙ old_start)) ∙ ends.ended
               ∙ ap (λ e. (Feed 1, e) ∷ (Desk 1, cond (eqb (state_of old).opened (state_of old).asked) Whole Cut) ∷ []) is_cut
-              ∙ ap (λ e. (Feed 1, Cut) ∷ (Desk 1, e) ∷ []) (whole-desk (state_of old).opened (state_of old).asked running.all_opened);
-        };
+              ∙ ap (λ e. (Feed 1, Cut) ∷ (Desk 1, e) ∷ []) (whole-desk (state_of old).opened (state_of old).asked running.all_opened),
+        );
         within = λ _. within;
         too_long = too_long;
         ended_whole = not_whole_end ending _ is_cut ends.ended;
@@ -151,18 +151,18 @@ module _ (start : State) (begins : IsStart start) (ran : Ran) (feed : Option (Li
         promises = keeps_promises 1 1 start new.history begins lawful;
         settled = ends.settled;
         first = first_now ends.commands;
-        whole = λ memory _. record {
-          within = within;
-          commands = commands;
-          finished = record {
+        whole = λ memory _. (
+          within,
+          commands,
+          record {
             feeds_whole = (λ i. list_all (λ feed. list_any (λ (end : Actor × Ending). is_actor end.0 (Feed feed) && is_whole end.1) (ended i)) (range_with_len 1 1));
             desks_whole = (λ i. list_all (λ desk. list_any (λ (end : Actor × Ending). is_actor end.0 (Desk desk) && is_whole end.1) (ended i)) (range_with_len 1 1));
             all_opened = ap (λ (s : State). s.opened) at ∙ ends.opened ∙ running.all_opened ∙ sym (ap (λ (s : State). s.asked) at ∙ ends.asked);
             none_open = ap (λ (s : State). s.batches) at ∙ ends.batches;
             none_given_up = (ends.prompt (running.prompt (sym wanting ∙ memory))).none_given_up;
-          };
-          direct = (ends.prompt (running.prompt (sym wanting ∙ memory))).direct;
-        };
+          },
+          (ends.prompt (running.prompt (sym wanting ∙ memory))).direct,
+        );
         cut = λ _ not_whole. absurd (not_whole read);
         within = λ _ _. within;
         too_long = λ is. absurd (cc (is, read.1));

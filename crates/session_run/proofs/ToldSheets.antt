@@ -1,5 +1,5 @@
 -- What was told of a session that goes on.
-use Rattle.session_run.proofs.Common.{◌≡◌, ℕ, Bool, true, false, cond, List, [], ◌∷◌, ◌++◌, Option, Some, None, length, take, refl, sym, ap, subst, ◌∙◌, append_assoc, append-nil, take-append_seam, ◌||◌, not, flat_map-append, Ending, Entry, text_of, Feed, Desk, Recorded, end_entry, MoveSheet, ahead_text, head_line, last_line, sheet_line, sheet_lines, AreSheetsOf, HasPut, OutputState, Answered, sheets_text, SessionState, is_whole, sheets_in, HasToldAllBy, HasToldBy, IsTold, TellsSheets, IsPrompt, GoesOn, GoesOnTo, GoesOnWith}
+use Rattle.session_run.proofs.Common.{◌≡◌, ℕ, Bool, true, false, cond, List, [], ◌∷◌, ◌++◌, Option, Some, None, length, take, refl, sym, ap, subst, ◌∙◌, append_assoc, append-nil, take-append_seam, ◌||◌, not, flat_map, flat_map-append, Ending, Entry, text_of, Feed, Desk, Recorded, end_entry, MoveSheet, ahead_text, head_line, last_line, sheet_line, AreSheetsOf, HasPut, OutputState, Answered, sheets_text, SessionState, is_whole, sheets_in, HasToldAllBy, HasToldBy, IsTold, TellsSheets, IsPrompt, GoesOn, GoesOnTo, GoesOnWith}
 use Rattle.session_run.proofs.CommitSheets.{adds-ends}
 use Rattle.session_run.proofs.Ends.{ends-prompt}
 
@@ -16,23 +16,23 @@ told-first told earlier now faults n output old new more start grows all has =
 
 -- the head and the lines of sheets, and of more
 lines-more : (reach : ℕ) (sheets more : List MoveSheet)
-    → (head_line reach ++ sheet_lines sheets) ++ sheet_lines more ≡ head_line reach ++ sheet_lines (sheets ++ more)
+    → (head_line reach ++ flat_map sheet_line sheets) ++ flat_map sheet_line more ≡ head_line reach ++ flat_map sheet_line (sheets ++ more)
 lines-more reach sheets more =
-    append_assoc (head_line reach) (sheet_lines sheets) (sheet_lines more)
+    append_assoc (head_line reach) (flat_map sheet_line sheets) (flat_map sheet_line more)
     ∙ ap (λ text. head_line reach ++ text) (sym (flat_map-append sheet_line sheets more))
 
 -- a session before and after an answer, of which sheets are told
 module _ (reach : ℕ) (answered : Answered) (earlier now later : Option (List ℕ)) (faults n m : ℕ) (old new : SessionState)
     (wanting : new.no_memory ≡ (old.no_memory || not (is_whole answered)))
     (logged : (text : List ℕ) → HasPut earlier now faults n old.output text
-    → HasPut earlier later faults m new.output (text ++ cond new.no_memory [] (sheet_lines (sheets_in answered)))) where
+    → HasPut earlier later faults m new.output (text ++ cond new.no_memory [] (flat_map sheet_line (sheets_in answered)))) where
   -- where memory was wanting no more is told
   told-wanting : new.no_memory ≡ true → GoesOn old.board new.board
-      → TellsSheets reach (λ sheets. head_line reach ++ sheet_lines sheets) earlier now faults n old
-      → TellsSheets reach (λ sheets. head_line reach ++ sheet_lines sheets) earlier later faults m new
+      → TellsSheets reach (λ sheets. head_line reach ++ flat_map sheet_line sheets) earlier now faults n old
+      → TellsSheets reach (λ sheets. head_line reach ++ flat_map sheet_line sheets) earlier later faults m new
   told-wanting is goes_on tells =
       let (rest, begins) = tells.begins in
-      let text : List ℕ = head_line reach ++ sheet_lines tells.sheets in
+      let text : List ℕ = head_line reach ++ flat_map sheet_line tells.sheets in
       record {
         first = tells.first;
         sheets = tells.sheets;
@@ -44,18 +44,18 @@ module _ (reach : ℕ) (answered : Answered) (earlier now later : Option (List �
         sheets_are = subst (λ s. AreSheetsOf s reach tells.first tells.sheets) (sym goes_on.start) tells.sheets_are;
         all = λ sound. absurd (cc (is, sound));
         logged = subst (λ (t : List ℕ). HasPut earlier later faults m new.output t)
-            (ap (λ b. text ++ cond b [] (sheet_lines (sheets_in answered))) is ∙ append-nil text) (logged text tells.logged);
+            (ap (λ b. text ++ cond b [] (flat_map sheet_line (sheets_in answered))) is ∙ append-nil text) (logged text tells.logged);
       }
 
   -- else the sheets of what came
   told-whole : (told : ℕ) → new.no_memory ≡ false → GoesOnWith (Some reach) told answered old.board new.board
-      → TellsSheets reach (λ sheets. head_line reach ++ sheet_lines sheets) earlier now faults n old
-      → TellsSheets reach (λ sheets. head_line reach ++ sheet_lines sheets) earlier later faults m new
+      → TellsSheets reach (λ sheets. head_line reach ++ flat_map sheet_line sheets) earlier now faults n old
+      → TellsSheets reach (λ sheets. head_line reach ++ flat_map sheet_line sheets) earlier later faults m new
   told-whole told is goes_on tells =
       let (sound, whole) = neither old.no_memory (is_whole answered) (sym wanting ∙ is) in
       let first : tells.first ≡ old.board.history = tells.all sound in
       let more : List MoveSheet = sheets_in answered in
-      let text : List ℕ = head_line reach ++ sheet_lines tells.sheets in
+      let text : List ℕ = head_line reach ++ flat_map sheet_line tells.sheets in
       record {
         first = new.board.history;
         sheets = tells.sheets ++ more;
@@ -65,7 +65,7 @@ module _ (reach : ℕ) (answered : Answered) (earlier now later : Option (List �
             (subst (λ h. AreSheetsOf old.board.start reach h tells.sheets) first tells.sheets_are);
         all = λ _. refl;
         logged = subst (λ (t : List ℕ). HasPut earlier later faults m new.output t)
-            (ap (λ b. text ++ cond b [] (sheet_lines more)) is ∙ lines-more reach tells.sheets more) (logged text tells.logged);
+            (ap (λ b. text ++ cond b [] (flat_map sheet_line more)) is ∙ lines-more reach tells.sheets more) (logged text tells.logged);
       }
     where
       neither : (a b : Bool) → (a || not b) ≡ false → (a ≡ false) × (b ≡ true)
@@ -74,11 +74,11 @@ module _ (reach : ℕ) (answered : Answered) (earlier now later : Option (List �
       neither false false h = absurd (cc h)
 
   pub told-more : (told : ℕ) → GoesOnWith (Some reach) told answered old.board new.board
-      → TellsSheets reach (λ sheets. head_line reach ++ sheet_lines sheets) earlier now faults n old
-      → TellsSheets reach (λ sheets. head_line reach ++ sheet_lines sheets) earlier later faults m new
+      → TellsSheets reach (λ sheets. head_line reach ++ flat_map sheet_line sheets) earlier now faults n old
+      → TellsSheets reach (λ sheets. head_line reach ++ flat_map sheet_line sheets) earlier later faults m new
   told-more told goes_on tells = by_test new.no_memory refl
     where
-      by_test : (b : Bool) → new.no_memory ≡ b → TellsSheets reach (λ sheets. head_line reach ++ sheet_lines sheets) earlier later faults m new
+      by_test : (b : Bool) → new.no_memory ≡ b → TellsSheets reach (λ sheets. head_line reach ++ flat_map sheet_line sheets) earlier later faults m new
       by_test true is = told-wanting is goes_on.goes_on tells
       by_test false is = told-whole told is goes_on tells
 
@@ -87,13 +87,13 @@ pub told-last : (reach told : ℕ) (ending : Ending) (earlier now later : Option
     → new.no_memory ≡ old.no_memory → GoesOnTo ending told old.board new.board
     → ((text : List ℕ) → HasPut earlier now faults n old.output text
     → HasPut earlier later faults m new.output (text ++ cond old.no_memory [] (last_line ending)))
-    → TellsSheets reach (λ sheets. head_line reach ++ sheet_lines sheets) earlier now faults n old
+    → TellsSheets reach (λ sheets. head_line reach ++ flat_map sheet_line sheets) earlier now faults n old
     → TellsSheets reach (sheets_text reach new.no_memory ending) earlier later faults m new
 told-last reach told ending earlier now later faults n m old new same goes_on logged tells =
     by_test old.no_memory refl
   where
     lines : List ℕ
-    lines = head_line reach ++ sheet_lines tells.sheets
+    lines = head_line reach ++ flat_map sheet_line tells.sheets
 
     by_test : (b : Bool) → old.no_memory ≡ b → TellsSheets reach (sheets_text reach new.no_memory ending) earlier later faults m new
     by_test true is =

@@ -1,5 +1,6 @@
 -- What a session writes that sends idle vehicles ahead.
 use Rattle.std.specs.Prelude.{◌≡◌, ℕ, ◌++◌, ◌||◌, false, if◌then◌else◌, List, Option, Some, None}
+use Rattle.std.specs.List.{flat_map}
 use mathlib.Core.List.{IsPrefix}
 use Rattle.ride_model.specs.declared.entry.Ending.TheVariants.{Whole, Cut}
 use Rattle.ride_model.specs.declared.entry.Entry.{Entry}
@@ -7,7 +8,7 @@ use Rattle.ride_model.specs.State.{State}
 use Rattle.ride_model.specs.Text.{text_of}
 use Rattle.ride_ports.specs.declared.outcome.Ran.{Ran}
 use Rattle.idle_moves.specs.declared.moves.MoveSheet.{MoveSheet}
-use Rattle.idle_moves.specs.AheadText.{ahead_text, head_line, sheet_lines}
+use Rattle.idle_moves.specs.AheadText.{ahead_text, head_line, sheet_line}
 use Rattle.idle_moves.specs.HistorySheets.{AreSheetsOf}
 use Rattle.session_run.specs.Logged.{IsLogged}
 use Rattle.session_run.specs.Running.{IsPrompt}
@@ -22,8 +23,7 @@ pub record TellsAhead (start : State) (reach : ℕ) (ran : Ran) (taken : List �
   pub prompt : IsPrompt first
   pub sheets_are : AreSheetsOf start reach first sheets
   pub all : ran.no_memory ≡ false → first ≡ entries
-  pub written : IsLogged ran taken before after (
-      if ran.no_memory then head_line reach ++ sheet_lines sheets
+  pub written : IsLogged ran taken before after (if ran.no_memory then head_line reach ++ flat_map sheet_line sheets
       else ahead_text reach (if ran.source_failed || ran.too_long then Cut else Whole) sheets)
 
 -- what was written of a session: its log, or its sheets where a reach is given

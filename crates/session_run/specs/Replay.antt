@@ -1,5 +1,6 @@
 -- What a replay of a feed gives.
 use Rattle.std.specs.Prelude.{◌≡◌, ℕ, true, false, List, Option, [], ◌∷◌, IfSome, IsTrue}
+use Rattle.std.specs.List.{list_all}
 use Rattle.ride_model.specs.declared.command.Actor.TheVariants.{Feed, Desk}
 use Rattle.ride_model.specs.declared.entry.Ending.TheVariants.{Whole, Cut}
 use Rattle.ride_model.specs.declared.entry.Entry.{Entry}
@@ -16,33 +17,22 @@ use Rattle.model_laws.specs.history_laws.Start.{IsStart}
 use Rattle.line_text.specs.line_reader.FeedRuns.{IsReadWhole}
 use Rattle.session_loops.specs.Stops.{AreFirstOf}
 use Rattle.session_run.specs.Running.{IsPrompt}
-use Rattle.session_run.specs.Settled.{IsSettled}
+use Rattle.session_run.specs.Settled.{settles}
 
--- a feed within the limits was answered to its end, each accepted ask at once by a commit
-pub record IsWhole (start : State) (taken : List ℕ) (entries : List Entry) : Type 0 where
-  pub within : IsWithinLimits feed_limits taken
-  pub commands : fed_commands 1 entries ≡ commands_of start.settings.log taken
-  pub finished : IsFinished 1 1 start entries
-  pub direct : IsDirect entries
-
--- a feed was answered up to its last whole line within the limits, each accepted ask at once by a commit, and then cut
-pub record IsCut (start : State) (taken : List ℕ) (entries : List Entry) : Type 0 where
-  pub commands : fed_commands 1 entries ≡ ended_commands (new_feed start.settings.log) taken
-  pub prompt : IsPrompt entries
-  pub ended : (replay start entries).ended ≡ (Feed 1, Cut) ∷ (Desk 1, Whole) ∷ []
-
--- a history of one feed and one desk answers the first commands of a feed, of whose bytes these were taken: all of them
--- where nothing was wanting, those within the limits and before a fault where only the source was. It says that the feed ended whole
--- only where all were answered
+-- a history of one feed and one desk answers the first commands of a feed, of whose bytes these were taken: all of them where nothing
+-- was wanting, and those of its whole lines within the limits, after which it was cut, where only the source was; each accepted ask at
+-- once by a commit. It says that the feed ended whole only where all were answered
 pub record IsReplay (start : State) (ran : Ran) (feed : Option (List ℕ)) (taken : List ℕ) (entries : List Entry) : Type 0 where
   pub begins : IsStart start
   pub legal : IsLegal 1 1 start entries
   pub text : HasText start.settings.log 1 1 entries
   pub promises : KeepsPromises start entries
-  pub settled : IsSettled entries
+  pub settled : IsTrue (list_all (λ (entry : Entry). settles entry.event) entries)
   pub first : AreFirstOf (new_feed start.settings.log) feed taken (fed_commands 1 entries)
-  pub whole : ran.no_memory ≡ false → IsReadWhole ran → IsWhole start taken entries
-  pub cut : ran.no_memory ≡ false → (IsReadWhole ran → ⊥) → IsCut start taken entries
+  pub whole : ran.no_memory ≡ false → IsReadWhole ran → IsWithinLimits feed_limits taken
+      × (fed_commands 1 entries ≡ commands_of start.settings.log taken) × IsFinished 1 1 start entries × IsDirect entries
+  pub cut : ran.no_memory ≡ false → (IsReadWhole ran → ⊥) → (fed_commands 1 entries ≡ ended_commands (new_feed start.settings.log) taken)
+      × IsPrompt entries × ((replay start entries).ended ≡ (Feed 1, Cut) ∷ (Desk 1, Whole) ∷ [])
   pub within : ran.no_memory ≡ false → ran.too_long ≡ false → IsWithinLimits feed_limits taken
   pub too_long : ran.too_long ≡ true → IsTooLong feed_limits taken
   pub ended_whole : IsTrue (ended_whole (replay start entries) (Feed 1)) → IsWithinLimits feed_limits taken

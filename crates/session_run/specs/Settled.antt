@@ -1,7 +1,6 @@
 -- Histories in which each commit stands directly after its opening.
-use Rattle.std.specs.Prelude.{ℕ, ◌||◌, Bool, true, List, IsTrue}
+use Rattle.std.specs.Prelude.{ℕ, ◌||◌, Bool, true}
 use Rattle.std.specs.List.{list_all}
-use Rattle.ride_model.specs.declared.entry.Entry.{Entry}
 use Rattle.ride_model.specs.declared.entry.Event.{Event}
 use Rattle.ride_model.specs.declared.entry.Event.TheVariants.{Committed}
 use Rattle.ride_model.specs.declared.entry.Outcome.{Outcome}
@@ -11,7 +10,3 @@ use Rattle.ride_model.specs.History.{is_away, is_confirmed}
 abbrev pub settles : Event → Bool
 settles (Committed _ _ _ _ _ outcomes) = list_all (λ (item : ℕ × Outcome). is_confirmed item.1 || is_away item.1) outcomes
 settles _ = true
-
--- no outcome of a history is moved, behind or gone
-abbrev pub IsSettled : List Entry → Type 0
-IsSettled entries = IsTrue (list_all (λ (entry : Entry). settles entry.event) entries)

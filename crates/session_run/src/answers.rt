@@ -3,7 +3,7 @@ ghost use Rattle.std.specs.Prelude.{◌≡◌, ◌<◌, ◌≤◌, ℕ, length, 
 ghost use Rattle.std.specs.Option.{ForSome};
 ghost use Rattle.ride_model.specs.History.{fed_commands};
 ghost use Rattle.ride_model.specs.Text.{IsSpelledCommand};
-ghost use Rattle.ride_model.specs.Limits.{longest_reach};
+ghost use Rattle.ride_model.specs.declared.limits.TheConstants.{LONGEST_REACH};
 ghost use Rattle.ride_model.specs.inner.Limits.{most_commands};
 ghost use Rattle.board_core.specs.Recorded.{state_of};
 ghost use Rattle.session_run.specs.inner.Planning.{AddsSheets, is_whole, sheets_in};
@@ -28,7 +28,7 @@ pub(crate) fn answer<'r, R: Threads + Sync>(
     requires roads { tools.old ≡ board.old.start.roads }
     requires few { length (fed_commands 1 board.old.history) < most_commands }
     requires spelled { IsSpelledCommand board.old.start.settings.log command.now }
-    requires reach_limit { ForSome reach (λ r. r ≤ longest_reach) }
+    requires reach_limit { ForSome reach (λ r. r ≤ LONGEST_REACH) }
     ensures answered { IfOk result
         (λ answered. Answers (is_whole answered) command.now board.old board.new) }
     ensures sheets { IfOk result (λ answered. is_whole answered ≡ true

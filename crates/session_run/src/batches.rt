@@ -1,7 +1,7 @@
 //! The batch after an accepted ask.
 ghost use Rattle.std.specs.Prelude.{◌≡◌, ◌≤◌, ◌++◌, ◌∷◌, [], ℕ, true, Some, IfOk, MatchOption, OnErr};
 ghost use Rattle.std.specs.Option.{ForSome};
-ghost use Rattle.ride_model.specs.Limits.{longest_reach};
+ghost use Rattle.ride_model.specs.declared.limits.TheConstants.{LONGEST_REACH};
 ghost use Rattle.batch_commit.specs.inner.Table.{IsPriceable, IsTableOf};
 ghost use Rattle.board_core.specs.Recorded.{state_of};
 ghost use Rattle.board_core.specs.inner.Recorded.{committed_entry};
@@ -57,7 +57,7 @@ pub(crate) fn run_batch<'r, R: Threads + Sync>(
 ) -> Result<Answered, NoMemory>
     requires asked { IsAsked board.old }
     requires roads { tools.old ≡ board.old.start.roads }
-    requires reach_limit { ForSome reach (λ r. r ≤ longest_reach) }
+    requires reach_limit { ForSome reach (λ r. r ≤ LONGEST_REACH) }
     ensures ran { IfOk result (λ answered. RunsBatch (is_whole answered) board.old board.new) }
     ensures sheets { IfOk result (λ answered. is_whole answered ≡ true
         → (r : ℕ) → reach ≡ Some r → AddsSheets r (sheets_in answered) board.old board.new) }
@@ -80,7 +80,7 @@ fn close_batch<R: Threads + Sync>(
 ) -> Answered
     requires opened { IsOpened batch board.old }
     requires roads { tools.old ≡ board.old.start.roads }
-    requires reach_limit { ForSome reach (λ r. r ≤ longest_reach) }
+    requires reach_limit { ForSome reach (λ r. r ≤ LONGEST_REACH) }
     ensures closed { Closes (is_whole result) board.old board.new }
     ensures planned { is_whole result ≡ true
         → CommitsPlanned reach batch result board.old board.new }
@@ -103,7 +103,7 @@ fn close_batch<R: Threads + Sync>(
 
 /// Plans the moves of a solved batch, where a reach is given.
 fn plan(tools: &mut Tools<'_>, solved: &Solved, reach: Option<u64>) -> Answered
-    requires reach_limit { ForSome reach (λ r. r ≤ longest_reach) }
+    requires reach_limit { ForSome reach (λ r. r ≤ LONGEST_REACH) }
     requires priceable { IsPriceable tools.old solved.now.batch }
     ensures planned { IsPlanned tools.old reach solved.now result }
     ensures tools { tools.new ≡ tools.old }

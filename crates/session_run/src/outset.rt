@@ -2,7 +2,7 @@
 ghost use Rattle.std.specs.Prelude.{◌≡◌, ◌≤◌};
 ghost use Rattle.std.specs.Option.{ForSome};
 ghost use Rattle.ride_model.specs.Fleet.{MayStart};
-ghost use Rattle.ride_model.specs.Limits.{longest_reach};
+ghost use Rattle.ride_model.specs.declared.limits.TheConstants.{LONGEST_REACH};
 ghost use Rattle.ride_model.specs.State.{start_state};
 ghost use Rattle.session_run.specs.inner.Writing.{reach_of};
 
@@ -25,7 +25,7 @@ impl<'r> Model for Outset<'r> {
     ghost use Rattle.std.specs.Prelude.{◌≤◌};
     ghost use Rattle.std.specs.Option.{ForSome};
     ghost use Rattle.ride_model.specs.Fleet.{MayStart};
-    ghost use Rattle.ride_model.specs.Limits.{longest_reach};
+    ghost use Rattle.ride_model.specs.declared.limits.TheConstants.{LONGEST_REACH};
     ghost use Rattle.ride_model.specs.State.{start_state};
     ghost use Rattle.session_run.specs.inner.SessionState.{SessionStart};
     ghost use Rattle.session_run.specs.inner.Writing.{reach_of};
@@ -38,7 +38,7 @@ impl<'r> Model for Outset<'r> {
     } };
 
     ghost invariant = { λ o. MayStart o.roads.now o.settings o.fleet
-        × ForSome (reach_of o.writes) (λ r. r ≤ longest_reach) };
+        × ForSome (reach_of o.writes) (λ r. r ≤ LONGEST_REACH) };
 }
 
 impl<'r> Outset<'r> {
@@ -50,7 +50,7 @@ impl<'r> Outset<'r> {
         writes: Writes,
     ) -> Outset<'r>
         requires start { MayStart roads.now settings fleet }
-        requires reach_limit { ForSome (reach_of writes) (λ r. r ≤ longest_reach) }
+        requires reach_limit { ForSome (reach_of writes) (λ r. r ≤ LONGEST_REACH) }
         ensures { result ≡ record {
           start = start_state roads.now settings fleet;
           reach = reach_of writes;

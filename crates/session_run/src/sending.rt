@@ -3,7 +3,7 @@ ghost use Rattle.std.specs.Prelude.{◌≡◌, ℕ, ◌≤◌, [], false, List, 
 ghost use Rattle.ride_model.specs.Fleet.{MayStart};
 ghost use Rattle.ride_model.specs.declared.entry.Entry.{Entry};
 ghost use Rattle.ride_model.specs.State.{start_state};
-ghost use Rattle.ride_model.specs.Limits.{longest_reach};
+ghost use Rattle.ride_model.specs.declared.limits.TheConstants.{LONGEST_REACH};
 ghost use Rattle.ride_ports.specs.Bytes.{Reads};
 ghost use Rattle.ride_ports.specs.Count.{KeepsCount};
 ghost use Rattle.session_run.specs.Ahead.{TellsAhead};
@@ -33,7 +33,7 @@ pub fn ahead<R: Threads + Sync, S: Source, K: Sink>(
     out: &mut K,
 ) -> Ran
     requires start { MayStart roads.now settings fleet }
-    requires reach_limit { (1 ≤ reach) × (reach ≤ longest_reach) }
+    requires reach_limit { (1 ≤ reach) × (reach ≤ LONGEST_REACH) }
 
     // What is written are the sheets of a history that answers the feed.
     ensures sheets { (taken : List ℕ) × (entries : List Entry)

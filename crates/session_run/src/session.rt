@@ -1,5 +1,6 @@
 //! A board, and what is written of it.
 ghost use Rattle.std.specs.Prelude.{◌≡◌, ℕ, ◌<◌, ◌≤◌, ◌++◌, ◌∷◌, ◌||◌, [], length, take, not, false, true, if◌then◌else◌, nat_eq, IfOk, OnErr, OnOk, List, Option, Some};
+ghost use Rattle.std.specs.List.{flat_map};
 ghost use Rattle.ride_model.specs.declared.command.Actor.TheVariants.{Desk, Feed};
 ghost use Rattle.ride_model.specs.declared.entry.Ending.TheVariants.{Cut, Whole};
 ghost use Rattle.ride_model.specs.History.{fed_commands};
@@ -7,7 +8,8 @@ ghost use Rattle.ride_model.specs.Legal.{IsLegal};
 ghost use Rattle.ride_model.specs.Text.{HasText, IsSpelledCommand, text_of};
 ghost use Rattle.ride_model.specs.inner.Limits.{most_commands};
 ghost use Rattle.board_core.specs.Recorded.{Recorded, end_entry, state_of};
-ghost use Rattle.idle_moves.specs.AheadText.{last_line, sheet_lines};
+ghost use Rattle.idle_moves.specs.AheadText.{sheet_line};
+ghost use Rattle.idle_moves.specs.inner.AheadText.{last_line};
 ghost use Rattle.line_text.specs.inner.text_page.Output.{HasPut, IsFresh};
 ghost use Rattle.session_run.specs.inner.Planning.{is_whole, sheets_in};
 ghost use Rattle.session_run.specs.inner.Reading.{HasTold, HasToldAll, IsTold};
@@ -53,10 +55,10 @@ impl<'r> Model for Session<'r> {
       no_memory = s.no_memory;
     } };
 
-    ghost use Rattle.ride_model.specs.Limits.{longest_reach};
+    ghost use Rattle.ride_model.specs.declared.limits.TheConstants.{LONGEST_REACH};
 
     ghost invariant = { λ s. (s.tools ≡ s.board.start.roads)
-        × ForSome (reach_of s.writes) (λ r. r ≤ longest_reach) };
+        × ForSome (reach_of s.writes) (λ r. r ≤ LONGEST_REACH) };
 }
 
 impl Drop for Session<'_> {
@@ -307,7 +309,8 @@ impl<'r> Session<'r> {
         ensures told { (earlier : Option (List ℕ)) (faults : ℕ) (text : List ℕ)
             → HasPut earlier (K.written out.old) faults (K.faults out.old) self.old.output text
             → HasPut earlier (K.written out.new) faults (K.faults out.new) self.new.output
-            (text ++ (if self.old.no_memory then [] else sheet_lines (sheets_in answered.now))) }
+            (text ++ (if self.old.no_memory then []
+            else flat_map sheet_line (sheets_in answered.now))) }
         ensures others { self.new ≡ record self.old { output = self.new.output } }
     {
         if self.no_memory {

@@ -1,5 +1,6 @@
 //! What is written of a session's sheets.
-ghost use Rattle.idle_moves.specs.AheadText.{head_line, last_line, sheet_line};
+ghost use Rattle.idle_moves.specs.AheadText.{head_line, sheet_line};
+ghost use Rattle.idle_moves.specs.inner.AheadText.{last_line};
 ghost use Rattle.line_text.specs.inner.text_page.Output.{HasPut, IsFresh, Puts};
 
 use idle_moves::{MoveSheet, print_end, print_head, print_sheet};

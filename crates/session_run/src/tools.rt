@@ -1,6 +1,6 @@
 //! What the desk of a session of one feed works with.
 ghost use Rattle.std.specs.Prelude.{◌≡◌, ◌≤◌, IfOk, IfErr};
-ghost use Rattle.ride_model.specs.Limits.{longest_reach};
+ghost use Rattle.ride_model.specs.declared.limits.TheConstants.{LONGEST_REACH};
 ghost use Rattle.batch_commit.specs.inner.Table.{IsPriceable, IsTableOf};
 ghost use Rattle.idle_moves.specs.Sheet.{IsSheet};
 
@@ -77,7 +77,7 @@ impl<'r> Tools<'r> {
 
     /// The orders that send idle vehicles ahead after a solved batch, each within a reach of seconds.
     pub(crate) fn moves(&mut self, solved: &Solved, reach: u64) -> Result<MoveSheet, NoMemory>
-        requires reach_limit { reach ≤ longest_reach }
+        requires reach_limit { reach ≤ LONGEST_REACH }
         requires priceable { IsPriceable self.old solved.now.batch }
         ensures sheet { IfOk result (IsSheet self.old solved.now.batch
             solved.now.answer.seating reach) }

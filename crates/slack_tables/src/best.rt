@@ -3,7 +3,7 @@ ghost use Rattle.std.specs.Prelude.{◌≡◌, ◌≤◌, ◌<◌, ◌+◌, ◌&
 ghost use Rattle.ride_model.specs.declared.offer.Offer.{Offer};
 ghost use Rattle.ride_model.specs.Road.{RoadMap};
 ghost use Rattle.ride_model.specs.Offers.{start_of, is_open, offer_of, price};
-ghost use Rattle.ride_model.specs.Limits.{latest_time};
+ghost use Rattle.ride_model.specs.declared.limits.TheConstants.{LATEST_TIME};
 ghost use Rattle.insertion.specs.inner.Asked.{IsAsked};
 ghost use Rattle.insertion.specs.inner.Least.{cost_if_any};
 ghost use Rattle.slack_tables.specs.inner.Tables.{load_at};
@@ -108,7 +108,7 @@ fn cheapest_behind(terms: &Terms, slack: &Slack, near: &Near, pickup: Pickup) ->
     requires within { pickup.place ≤ length slack.now.times }
     requires room { has_room terms.now (load_at slack.now pickup.place) ≡ true }
     requires picks_up { pickup_at terms.now slack.now near.now pickup.place ≡ Some pickup.time }
-    requires soon { pickup.time ≤ latest_time }
+    requires soon { pickup.time ≤ LATEST_TIME }
     ensures cost { cost_found result
         ≡ least_at terms.now slack.now near.now pickup.place (pickup.place + 1) }
     ensures places { IfSome result (IsFound terms.now slack.now near.now) }
@@ -130,7 +130,7 @@ fn cheapest_apart(terms: &Terms, slack: &Slack, near: &Near, pickup: Pickup) -> 
     requires picks_up { pickup_at terms.now slack.now near.now pickup.place ≡ Some pickup.time }
     requires is_late { lateness terms.now slack.now near.now pickup.place pickup.time
         ≡ Some pickup.late }
-    requires soon { pickup.time ≤ latest_time }
+    requires soon { pickup.time ≤ LATEST_TIME }
     requires not_late { pickup.late ≤ 600000000000000 }
     ensures cost { cost_found result
         ≡ least_at terms.now slack.now near.now pickup.place (pickup.place + 1) }

@@ -1,6 +1,6 @@
 //! What a ride costs at a pair of places, by the tables of the plan.
 ghost use Rattle.std.specs.Prelude.{◌≡◌, ◌≤◌, ◌<◌, ◌+◌, ◌-◌, length, slice_index, IfSome};
-ghost use Rattle.ride_model.specs.Limits.{latest_time};
+ghost use Rattle.ride_model.specs.declared.limits.TheConstants.{LATEST_TIME};
 ghost use Rattle.slack_tables.specs.inner.SlackOf.{AreTables};
 ghost use Rattle.slack_tables.specs.inner.Tables.{load_at};
 ghost use Rattle.slack_tables.specs.inner.Search.{leave_at, last_time, has_room, at_most, pickup_at, lateness, within_rooms, added, cost_of, cost_of_dropoff, cost_together, cost_apart, IsShort, AreTerms, IsSearch};
@@ -39,7 +39,7 @@ pub fn pickup_at(terms: &Terms, slack: &Slack, near: &Near, place: usize) -> Opt
     requires search { IsSearch terms.now slack.now near.now }
     requires within { place ≤ length slack.now.times }
     ensures value { result ≡ pickup_at terms.now slack.now near.now place }
-    ensures bounded { IfSome result (λ time. time ≤ latest_time) }
+    ensures bounded { IfSome result (λ time. time ≤ LATEST_TIME) }
 {
     let leg = leg_to_pickup(near.at_from, near.stops.as_slice(), place)?;
     at_most(terms.latest, leave_at(terms, slack, place) + leg)
@@ -50,7 +50,7 @@ pub fn pickup_at(terms: &Terms, slack: &Slack, near: &Near, place: usize) -> Opt
 pub fn lateness(terms: &Terms, slack: &Slack, near: &Near, place: usize, pickup: u64) -> Option<u64>
     requires search { IsSearch terms.now slack.now near.now }
     requires within { place < length slack.now.times }
-    requires soon { pickup ≤ latest_time }
+    requires soon { pickup ≤ LATEST_TIME }
     ensures value { result ≡ lateness terms.now slack.now near.now place pickup }
     ensures bounded { IfSome result (λ seconds. seconds ≤ 600000000000000) }
 {
@@ -68,7 +68,7 @@ pub fn lateness(terms: &Terms, slack: &Slack, near: &Near, place: usize, pickup:
 pub fn cost_together(terms: &Terms, slack: &Slack, near: &Near, pickup: Pickup) -> Option<u64>
     requires search { IsSearch terms.now slack.now near.now }
     requires within { pickup.place ≤ length slack.now.times }
-    requires soon { pickup.time ≤ latest_time }
+    requires soon { pickup.time ≤ LATEST_TIME }
     requires not_late { pickup.late ≡ 0 }
     ensures { result ≡ cost_together terms.now slack.now near.now pickup.place pickup.time }
 {
@@ -88,7 +88,7 @@ pub fn cost_apart(
     requires search { IsSearch terms.now slack.now near.now }
     requires in_order { pickup.place ≤ place }
     requires within { place ≤ length slack.now.times }
-    requires soon { pickup.time ≤ latest_time }
+    requires soon { pickup.time ≤ LATEST_TIME }
     requires not_late { pickup.late ≤ 600000000000000 }
     ensures { result ≡ cost_apart terms.now slack.now near.now pickup.place
         place pickup.late pickup.time }
@@ -112,7 +112,7 @@ fn cost_of_dropoff(
     requires search { IsSearch terms.now slack.now near.now }
     requires in_order { pickup.place ≤ place }
     requires within { place ≤ length slack.now.times }
-    requires soon { pickup.time ≤ latest_time }
+    requires soon { pickup.time ≤ LATEST_TIME }
     requires leaves { leave ≤ 20000000000000000 }
     requires short { IsShort leg }
     ensures { result ≡ cost_of_dropoff terms.now slack.now near.now pickup.place place
@@ -173,7 +173,7 @@ fn within_rooms(slack: &Slack, pickup: Pickup, place: usize, delay: u64) -> Opti
 #[inline(always)]
 fn cost_of(terms: &Terms, pickup: u64, seconds: u64) -> u64
     requires terms { AreTerms terms.now }
-    requires soon { pickup ≤ latest_time }
+    requires soon { pickup ≤ LATEST_TIME }
     requires short { seconds ≤ 600000000000000 }
     ensures { result ≡ cost_of terms.now pickup seconds }
 {

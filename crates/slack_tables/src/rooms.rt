@@ -1,7 +1,7 @@
 //! By how much the stops of a plan may be later.
 ghost use Rattle.std.specs.Prelude.{◌≡◌, ◌≤◌, ◌+◌, ◌-◌, map};
 ghost use Rattle.std.specs.List.{range_with_len};
-ghost use Rattle.ride_model.specs.Limits.{most_stops};
+ghost use Rattle.ride_model.specs.declared.limits.TheConstants.{MOST_STOPS};
 ghost use Rattle.slack_tables.specs.inner.SlackOf.{rooms_of};
 ghost use Rattle.slack_tables.specs.inner.Tables.{rows_of};
 ghost use Rattle.slack_tables.specs.inner.Trips.{room_in, room_of};
@@ -17,7 +17,7 @@ pub type Row = ArrayVec<u64, 17>;
 
 /// The rows of rooms of a plan with so many stops.
 pub fn rows(trips: &[Trip], stops: usize) -> ArrayVec<Row, 17>
-    requires { stops ≤ most_stops }
+    requires { stops ≤ MOST_STOPS }
     ensures { rows_of result.items ≡ rooms_of trips.now stops }
 {
     let mut rows = ArrayVec::new();
@@ -29,7 +29,7 @@ pub fn rows(trips: &[Trip], stops: usize) -> ArrayVec<Row, 17>
 
 // The rooms for a change before a place.
 fn row(trips: &[Trip], change: usize, stops: usize) -> Row
-    requires few { stops ≤ most_stops }
+    requires few { stops ≤ MOST_STOPS }
     requires within { change ≤ stops }
     ensures { result.items ≡ map (room_of trips.now change)
         (range_with_len change (stops + 1 - change)) }

@@ -1,7 +1,7 @@
 //! The tables of a plan.
 ghost use Rattle.std.specs.Prelude.{◌≡◌, ◌≤◌, ◌<◌, ◌+◌, ◌-◌, ◌∷◌, length, slice_index, slice_index_or, []};
 ghost use Rattle.ride_model.specs.inner.Vehicle.{IsLawfulSomewhere};
-ghost use Rattle.ride_model.specs.Limits.{latest_ready, longest_dwell, most_stops};
+ghost use Rattle.ride_model.specs.declared.limits.TheConstants.{LATEST_READY, LONGEST_DWELL, MOST_STOPS};
 ghost use Rattle.slack_tables.specs.inner.Tables.{PlanSlack, load_at, room_at};
 ghost use Rattle.slack_tables.specs.inner.SlackOf.{slack_of};
 
@@ -34,8 +34,8 @@ impl Slack {
     /// The tables of a vehicle that leaves at `start` and stands `dwell` seconds at each stop.
     pub fn of(vehicle: &Vehicle, start: u64, dwell: u64) -> Slack
         requires lawful { IsLawfulSomewhere vehicle.now }
-        requires start_limit { start ≤ latest_ready }
-        requires dwell_limit { dwell ≤ longest_dwell }
+        requires start_limit { start ≤ LATEST_READY }
+        requires dwell_limit { dwell ≤ LONGEST_DWELL }
         ensures { result ≡ slack_of vehicle.now start dwell }
     {
         let stops = vehicle.stops.as_slice();
@@ -98,7 +98,7 @@ impl Slack {
 
 // The load at the start and those after each stop.
 fn from_start(first: Load, after: &[Load]) -> ArrayVec<Load, 17>
-    requires { length after.now ≤ most_stops }
+    requires { length after.now ≤ MOST_STOPS }
     ensures { result.items ≡ first ∷ after.now }
 {
     let mut loads = ArrayVec::new();

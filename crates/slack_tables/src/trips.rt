@@ -2,7 +2,7 @@
 ghost use Rattle.std.specs.Prelude.{◌≡◌, ◌≤◌, length, All, IfSome};
 ghost use Rattle.std.specs.List.{filter_map};
 ghost use Rattle.ride_model.specs.declared.vehicle.Ride.{Ride};
-ghost use Rattle.ride_model.specs.Limits.{most_rides};
+ghost use Rattle.ride_model.specs.declared.limits.TheConstants.{MOST_RIDES};
 ghost use Rattle.stop_plans.specs.inner.First.{is_visit};
 ghost use Rattle.promises.specs.inner.Arrivals.{IsLimited};
 ghost use Rattle.slack_tables.specs.inner.Trips.{first_visit, boarding_visit, trip_of};
@@ -33,7 +33,7 @@ pub struct Trip {
 
 /// The trips of these rides, where these are the stops and the arrivals at them.
 pub fn trips_of(rides: &[Ride], stops: &[Stop], times: &[u64]) -> ArrayVec<Trip, 16>
-    requires few { length rides.now ≤ most_rides }
+    requires few { length rides.now ≤ MOST_RIDES }
     requires one_each { length times.now ≡ length stops.now }
     requires limited { All IsLimited rides.now }
     requires soon { All (λ time. time ≤ 10000000000000000) times.now }

@@ -2,7 +2,7 @@
 ghost use Rattle.std.specs.Prelude.{◌≡◌, ◌<◌, ◌≤◌, length};
 ghost use Rattle.ride_model.specs.declared.vehicle.Vehicle.{Vehicle};
 ghost use Rattle.ride_model.specs.Road.{RoadMap};
-ghost use Rattle.ride_model.specs.Limits.{most_stops};
+ghost use Rattle.ride_model.specs.declared.limits.TheConstants.{MOST_STOPS};
 ghost use Rattle.stop_plans.specs.inner.Change.{InsertsInto};
 ghost use Rattle.stop_plans.specs.inner.Legged.{relegged, with_stop};
 
@@ -47,7 +47,7 @@ pub fn insert_ride(vehicle: &mut Vehicle, ride: Ride, offer: &Offer)
 // Puts a stop before the one at a place, whose leg becomes `after`.
 fn insert_stop(stops: &mut ArrayVec<Stop, 16>, place: usize, stop: Stop, after: u64)
     requires within { place ≤ length stops.old.items }
-    requires room { length stops.old.items < most_stops }
+    requires room { length stops.old.items < MOST_STOPS }
     ensures { stops.new.items ≡ with_stop place stop after stops.old.items }
 {
     set_leg(stops.as_mut_slice(), place, after);

@@ -4,7 +4,7 @@ ghost use Rattle.ride_model.specs.declared.vehicle.Stop.{Stop};
 ghost use Rattle.ride_model.specs.Insertion.{rides_without};
 ghost use Rattle.ride_model.specs.Step.{rides_with_picked, served, served_reply};
 ghost use Rattle.ride_model.specs.inner.Vehicle.{IsLawfulSomewhere};
-ghost use Rattle.ride_model.specs.Limits.{latest_ready, longest_dwell};
+ghost use Rattle.ride_model.specs.declared.limits.TheConstants.{LATEST_READY, LONGEST_DWELL};
 ghost use Rattle.stop_plans.specs.inner.Change.{HasFirstStopAt};
 
 use crate::remove::drop_ride;
@@ -15,8 +15,8 @@ use ride_model::{Kind, Reply, Ride, Vehicle};
 pub fn serve_first(vehicle: &mut Vehicle, dwell: u64) -> Reply
     requires lawful { IsLawfulSomewhere vehicle.old }
     requires at_stop { HasFirstStopAt vehicle.old }
-    requires dwell_limit { dwell ≤ longest_dwell }
-    requires in_the_day { vehicle.old.ready + dwell ≤ latest_ready }
+    requires dwell_limit { dwell ≤ LONGEST_DWELL }
+    requires in_the_day { vehicle.old.ready + dwell ≤ LATEST_READY }
     ensures vehicle { (stop : Stop) (rest : List Stop) → vehicle.old.stops.items ≡ stop ∷ rest
         → vehicle.new ≡ served dwell vehicle.old stop rest stop.kind }
     ensures reply { (stop : Stop) (rest : List Stop) → vehicle.old.stops.items ≡ stop ∷ rest

@@ -3,7 +3,7 @@ ghost use Rattle.std.specs.Prelude.{◌≡◌, ◌≤◌, ◌+◌, [], length, m
 ghost use Rattle.ride_model.specs.declared.vehicle.Ride.{Ride};
 ghost use Rattle.ride_model.specs.Loads.{is_pickup, load_after, loads_of};
 ghost use Rattle.ride_model.specs.inner.Vehicle.{IsRoutedSomewhere};
-ghost use Rattle.ride_model.specs.Limits.{most_rides, most_stops};
+ghost use Rattle.ride_model.specs.declared.limits.TheConstants.{MOST_RIDES, MOST_STOPS};
 ghost use Rattle.stop_plans.specs.inner.Aboard.{boarded, load_aboard, loads_behind, IsSmall};
 
 use arrayvec::ArrayVec;
@@ -28,8 +28,8 @@ pub fn load_at_start(vehicle: &Vehicle) -> Load
 
 // What is aboard after each of these stops.
 fn loads_along(rides: &[Ride], stops: &[Stop]) -> ArrayVec<Load, 16>
-    requires few_rides { length rides.now ≤ most_rides }
-    requires few_stops { length stops.now ≤ most_stops }
+    requires few_rides { length rides.now ≤ MOST_RIDES }
+    requires few_stops { length stops.now ≤ MOST_STOPS }
     requires small { All IsSmall rides.now }
     ensures { result.items ≡ loads_behind rides.now
         (map (λ (ride : Ride). is_some ride.picked) rides.now) stops.now }
@@ -46,7 +46,7 @@ fn loads_along(rides: &[Ride], stops: &[Stop]) -> ArrayVec<Load, 16>
 
 // Whether each rider is aboard at the start.
 fn aboard_at_start(rides: &[Ride]) -> ArrayVec<bool, 16>
-    requires { length rides.now ≤ most_rides }
+    requires { length rides.now ≤ MOST_RIDES }
     ensures riders { result.items ≡ map (λ (ride : Ride). is_some ride.picked) rides.now }
     ensures one_each { length result.items ≡ length rides.now }
 {
@@ -59,7 +59,7 @@ fn aboard_at_start(rides: &[Ride]) -> ArrayVec<bool, 16>
 
 // Lets the rider of a stop in or out. Returns the load that is aboard then, where this one was before it.
 fn load_behind(rides: &[Ride], aboard: &mut [bool], load: Load, stop: &Stop) -> Load
-    requires few { length rides.now ≤ most_rides }
+    requires few { length rides.now ≤ MOST_RIDES }
     requires one_flag_each { length aboard.old ≡ length rides.now }
     requires small { All IsSmall rides.now }
     requires aboard { load ≡ load_aboard rides.now aboard.old }
@@ -115,7 +115,7 @@ fn part_of(ride: &Ride, aboard: bool) -> Load
 
 // The load of those who are aboard.
 fn load_of(rides: &[Ride], aboard: &[bool]) -> Load
-    requires few { length rides.now ≤ most_rides }
+    requires few { length rides.now ≤ MOST_RIDES }
     requires one_flag_each { length aboard.now ≡ length rides.now }
     requires small { All IsSmall rides.now }
     ensures { result ≡ load_aboard rides.now aboard.now }

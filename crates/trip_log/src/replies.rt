@@ -1,10 +1,10 @@
 //! Replies, read from the fields of a line.
 ghost use Rattle.std.specs.Prelude.{◌≡◌, ◌≤◌, length};
-ghost use Rattle.ride_model.specs.Limits.{most_rides};
 ghost use Rattle.trip_log.specs.inner.Reads.{broken_from, late_from, numbered_reply, plain_reply, reply_from, short_reply};
 
 use crate::items::take_number;
 use line_text::{Fields, read_number};
+use ride_model::limits::MOST_RIDES;
 use ride_model::{Ids, Reply};
 
 /// The reply that the fields spell.
@@ -94,13 +94,13 @@ fn read_broken(fields: &mut Fields<'_>) -> Option<Ids>
     if word != b"broken".as_slice() {
         return None;
     }
-    let ids = fields.numbers::<{ Ids::MOST }>()?;
+    let ids = fields.numbers::<{ MOST_RIDES }>()?;
     Some(ids_of(ids.as_slice()))
 }
 
 // A list of these ids.
 fn ids_of(ids: &[u64]) -> Ids
-    requires { length ids.now ≤ most_rides }
+    requires { length ids.now ≤ MOST_RIDES }
     ensures { result ≡ ids.now }
 {
     let mut list = Ids::new();

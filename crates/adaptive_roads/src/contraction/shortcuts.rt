@@ -10,7 +10,8 @@ ghost use Rattle.adaptive_roads.specs.inner.contraction.Growth.{IsHierarchyGraph
 
 use crate::contraction::graph::{Graph, MOST_LINKS, Neighbor};
 use crate::contraction::witness::Witness;
-use ride_model::{Network, RoadArc};
+use ride_model::RoadArc;
+use ride_model::limits::LONGEST_ARC;
 use road_times::Side;
 use std::alloc::AllocError;
 
@@ -49,7 +50,7 @@ fn cover_pair(
     if witness.reaches(onward.node, seconds) {
         return Ok(true);
     }
-    if seconds > u64::from(Network::MOST_SECONDS) {
+    if seconds > LONGEST_ARC {
         return Ok(false);
     }
     if graph.arcs.len() >= MOST_LINKS {

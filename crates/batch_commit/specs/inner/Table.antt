@@ -8,11 +8,11 @@ use Rattle.ride_model.specs.Offers.{offer_of, price}
 use Rattle.ride_model.specs.Seating.{BatchCopy}
 use Rattle.ride_model.specs.inner.Seating.{IsBatchOver}
 use Rattle.ride_model.specs.Vehicle.{IsLawful}
-use Rattle.ride_model.specs.Limits.{latest_time}
+use Rattle.ride_model.specs.declared.limits.TheConstants.{LATEST_TIME}
 
 -- a batch can be priced over a map
 pub record IsPriceable (roads : RoadMap) (batch : BatchCopy) : Type 0 where
-  pub in_time : batch.time ≤ latest_time
+  pub in_time : batch.time ≤ LATEST_TIME
   pub over_map : IsBatchOver roads batch
   pub lawful : All (IsLawful roads) batch.vehicles
 

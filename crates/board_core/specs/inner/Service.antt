@@ -10,7 +10,7 @@ use Rattle.ride_model.specs.Seating.{BatchCopy, vehicle_ids}
 use Rattle.ride_model.specs.State.{State}
 use Rattle.ride_model.specs.Step.{Answered}
 use Rattle.ride_model.specs.Vehicle.{IsLawful}
-use Rattle.ride_model.specs.Limits.{latest_time, most_batches}
+use Rattle.ride_model.specs.declared.limits.TheConstants.{LATEST_TIME, MOST_BATCHES}
 use Rattle.model_laws.specs.inner.history_laws.Consistent.{HasPromised, IsWithVehicle}
 use Rattle.board_core.specs.inner.request_book.Book.{waiting_of}
 use Rattle.board_core.specs.declared.service.Service.{Service}
@@ -43,8 +43,8 @@ HasRoomAbove v = v.version < 2 ^ 63
 pub record IsInOrder (setup : Given) (service : Service) : Type 0 where
   pub map_fits : IsRoadMap setup.roads
   pub settings_fit : IsSettings setup.settings
-  pub clock_fits : service.clock ≤ latest_time
-  pub few_asked : service.asked ≤ most_batches
+  pub clock_fits : service.clock ≤ LATEST_TIME
+  pub few_asked : service.asked ≤ MOST_BATCHES
   pub fleet_fits : IsFleet service.vehicles.items
   pub ids_are : setup.ids ≡ vehicle_ids service.vehicles.items
   pub lawful : All (IsLawful setup.roads) service.vehicles.items

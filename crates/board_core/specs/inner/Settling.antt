@@ -13,7 +13,7 @@ use Rattle.ride_model.specs.Seating.{find_vehicle, vehicle_ids}
 use Rattle.ride_model.specs.inner.Seating.{IsBatchOver}
 use Rattle.ride_model.specs.State.{State}
 use Rattle.ride_model.specs.Vehicle.{IsLawful, ride_ids}
-use Rattle.ride_model.specs.Limits.{latest_time}
+use Rattle.ride_model.specs.declared.limits.TheConstants.{LATEST_TIME}
 use Rattle.batch_commit.specs.inner.Answer.{CertifiesOverCells}
 use Rattle.batch_commit.specs.inner.Solved.{SolvedBatch}
 use Rattle.batch_commit.specs.inner.Table.{IsTableOf}
@@ -30,7 +30,7 @@ started v start = record v { ready = if is_idle v then start else v.ready }
 -- are earlier records of the moment's vehicles, and with the outcomes of the moment
 pub record IsCommitted (setup : Given) (moment : State) (solved : SolvedBatch) : Type 0 where
   pub map_fits : IsRoadMap setup.roads
-  pub in_time : solved.batch.time ≤ latest_time
+  pub in_time : solved.batch.time ≤ LATEST_TIME
   pub over_map : IsBatchOver setup.roads solved.batch
   pub requests_differ : IsDistinct nat_eq (ride_ids solved.batch.requests)
   pub fleet_fits : IsFleet solved.batch.vehicles

@@ -4,7 +4,7 @@ use Rattle.ride_model.specs.declared.vehicle.Ride.{Ride}
 use Rattle.ride_model.specs.Road.{RoadMap}
 use Rattle.ride_model.specs.State.{State, AcceptedRequest}
 use Rattle.ride_model.specs.Step.{Answered, is_node, request_step}
-use Rattle.ride_model.specs.Limits.{latest_time, longest_ride, most_chairs, most_requests, most_seats}
+use Rattle.ride_model.specs.declared.limits.TheConstants.{LATEST_TIME, LONGEST_RIDE, MOST_CHAIRS, MOST_REQUESTS, MOST_SEATS}
 use Rattle.board_core.specs.inner.request_book.Book.{request_of}
 use Rattle.board_core.specs.declared.wishes.Wish.{Wish}
 
@@ -29,9 +29,9 @@ wish_step s wish = request_step s wish.id wish.from wish.to wish.seats wish.late
 pub record MayBeAccepted (requests : List AcceptedRequest) (wish : Wish) : Type 0 where
   pub from_limit : wish.from < 2 ^ 32
   pub to_limit : wish.to < 2 ^ 32
-  pub seats_limit : wish.seats ≤ most_seats
-  pub chairs_limit : wish.chairs ≤ most_chairs
-  pub room : length requests < most_requests
+  pub seats_limit : wish.seats ≤ MOST_SEATS
+  pub chairs_limit : wish.chairs ≤ MOST_CHAIRS
+  pub room : length requests < MOST_REQUESTS
   pub fresh : request_of requests wish.id ≡ None
 
 -- whether it joins two nodes of the map
@@ -40,8 +40,8 @@ joins_nodes roads wish = is_node roads wish.from && is_node roads wish.to
 
 -- whether there are too many seats or chairs, or none
 abbrev pub has_odd_load : Wish → Bool
-has_odd_load wish = nat_lt most_seats wish.seats || nat_lt most_chairs wish.chairs || wish.seats + wish.chairs == 0
+has_odd_load wish = nat_lt MOST_SEATS wish.seats || nat_lt MOST_CHAIRS wish.chairs || wish.seats + wish.chairs == 0
 
 -- whether a limit is out of its range
 abbrev pub has_odd_limits : Wish → Bool
-has_odd_limits wish = nat_lt latest_time wish.latest || wish.longest == 0 || nat_lt longest_ride wish.longest
+has_odd_limits wish = nat_lt LATEST_TIME wish.latest || wish.longest == 0 || nat_lt LONGEST_RIDE wish.longest

@@ -6,7 +6,7 @@ ghost use Rattle.ride_model.specs.Road.{IsRoadMap, IsNode};
 ghost use Rattle.ride_model.specs.Settings.{IsSettings};
 ghost use Rattle.ride_model.specs.Vehicle.{IsLawful};
 ghost use Rattle.ride_model.specs.inner.Vehicle.{IsLawfulSomewhere};
-ghost use Rattle.ride_model.specs.Limits.{latest_time, longest_dwell};
+ghost use Rattle.ride_model.specs.declared.limits.TheConstants.{LONGEST_DWELL};
 ghost use Rattle.board_core.specs.inner.Given.{Given};
 ghost use Rattle.board_core.specs.inner.Service.{state_at, answered_at, IsInOrder, HasRoomAbove};
 ghost use Rattle.board_core.specs.inner.Reports.{lateness_of, IsMoved};
@@ -117,7 +117,7 @@ fn move_to(vehicle: &mut Vehicle, setup: &mut Setup, node: u32, time: u64) -> Re
     requires version { vehicle.old.version < 2 ^ 63 }
     requires node { IsNode setup.old.roads node }
     requires late { vehicle.old.ready ≤ time }
-    requires time_limit { time ≤ latest_time }
+    requires time_limit { time ≤ LATEST_TIME }
     ensures moved { IsMoved setup.old vehicle.old node time result vehicle.new }
     ensures setup { setup.new ≡ setup.old }
 {
@@ -136,7 +136,7 @@ fn move_to(vehicle: &mut Vehicle, setup: &mut Setup, node: u32, time: u64) -> Re
 // The reply to a report by which the first stop is reached at `new` in place of `old`.
 fn lateness(vehicle: &Vehicle, new: u64, old: u64, dwell: u64) -> Reply
     requires lawful { IsLawfulSomewhere vehicle.now }
-    requires dwell_limit { dwell ≤ longest_dwell }
+    requires dwell_limit { dwell ≤ LONGEST_DWELL }
     ensures { result ≡ lateness_of vehicle.now dwell new old }
 {
     if new <= old {

@@ -5,7 +5,6 @@ ghost use Rattle.ride_model.specs.Road.{IsRoadMap};
 ghost use Rattle.ride_model.specs.State.{State, request_state};
 ghost use Rattle.ride_model.specs.Step.{cancel_step, refused, with_accepted};
 ghost use Rattle.ride_model.specs.declared.reply.Reply.TheVariants.{Waiting};
-ghost use Rattle.ride_model.specs.Limits.{most_chairs, most_requests, most_seats};
 ghost use Rattle.board_core.specs.inner.Given.{Given};
 ghost use Rattle.board_core.specs.inner.Service.{state_at, answered_at, IsInOrder};
 ghost use Rattle.board_core.specs.inner.Wishes.{ride_of, wish_step, joins_nodes, has_odd_load, has_odd_limits, MayBeAccepted};
@@ -16,7 +15,7 @@ use crate::request_book::RequestBook;
 use crate::service::Service;
 use crate::setup::Setup;
 use crate::wishes::Wish;
-use ride_model::limits::{LATEST_TIME, LONGEST_RIDE, MOST_CHAIRS, MOST_SEATS};
+use ride_model::limits::{LATEST_TIME, LONGEST_RIDE, MOST_CHAIRS, MOST_REQUESTS, MOST_SEATS};
 use ride_model::refusals::{
     END_OFF_MAP, KNOWN_ID, ODD_LOAD, ODD_TIME, REQUEST_CLOSED, REQUESTS_FULL, RIDER_ABOARD,
     SAME_ENDS, UNKNOWN_REQUEST, UNKNOWN_VEHICLE,
@@ -127,9 +126,9 @@ fn is_known(requests: &RequestBook, id: u64) -> bool
 
 // Whether no more requests are accepted.
 fn is_full(requests: &RequestBook) -> bool
-    ensures { result ≡ nat_le most_requests (length requests.now) }
+    ensures { result ≡ nat_le MOST_REQUESTS (length requests.now) }
 {
-    requests.len() >= RequestBook::MOST_REQUESTS as usize
+    requests.len() >= MOST_REQUESTS as usize
 }
 
 // Whether a ride is to join two nodes of the map.
@@ -157,8 +156,8 @@ fn has_odd_limits(wish: &Wish) -> bool
 fn ride_of(wish: &Wish) -> Ride
     requires from { wish.now.from < 2 ^ 32 }
     requires to { wish.now.to < 2 ^ 32 }
-    requires seats { wish.now.seats ≤ most_seats }
-    requires chairs { wish.now.chairs ≤ most_chairs }
+    requires seats { wish.now.seats ≤ MOST_SEATS }
+    requires chairs { wish.now.chairs ≤ MOST_CHAIRS }
     ensures { result ≡ ride_of wish.now }
 {
     Ride {

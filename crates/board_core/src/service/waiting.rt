@@ -6,7 +6,7 @@ ghost use Rattle.ride_model.specs.Batch.{with_request_states, standing_rides, wa
 ghost use Rattle.ride_model.specs.Fleet.{IsFleet};
 ghost use Rattle.ride_model.specs.Settings.{IsSettings};
 ghost use Rattle.ride_model.specs.Vehicle.{ride_ids};
-ghost use Rattle.ride_model.specs.Limits.{largest_batch};
+ghost use Rattle.ride_model.specs.declared.limits.TheConstants.{LARGEST_BATCH};
 ghost use Rattle.model_laws.specs.inner.Requests.{is_in};
 ghost use Rattle.board_core.specs.inner.Given.{Given};
 ghost use Rattle.board_core.specs.inner.Marking.{marked_in, state_in, still_in};
@@ -70,7 +70,7 @@ impl Service {
 
     /// Whether each of these requests was cancelled.
     pub(crate) fn cancelled(&self, rides: &[Ride]) -> ArrayVec<bool, 128>
-        requires { length rides.now ≤ largest_batch }
+        requires { length rides.now ≤ LARGEST_BATCH }
         ensures { (setup : Given) (rest : State)
             → result.items ≡ map (was_cancelled
             (state_at setup self.now rest)) (ride_ids rides.now) }
@@ -94,7 +94,7 @@ fn mark(requests: &mut RequestBook, ids: &[u64], state: RequestState)
 
 // The requests that are still in a batch.
 fn standing(requests: &RequestBook, rides: &[Ride], number: u64) -> ArrayVec<u64, 128>
-    requires { length rides.now ≤ largest_batch }
+    requires { length rides.now ≤ LARGEST_BATCH }
     ensures { result.items ≡ ride_ids (still_in requests.now number rides.now) }
 {
     let mut ids = ArrayVec::new();

@@ -1,16 +1,20 @@
 -- What only lemmas and lower contracts use beside Desk.antt.
-use Rattle.std.specs.Prelude.{ℕ, ◌≤◌, ◌==◌, not, nat_le, max, Bool, if◌then◌else◌, List, [], ◌∷◌, ◌++◌, length, filter, find, map, All, AllPairs, Contains, Option, IsTrue, nat_eq}
-use Rattle.std.specs.List.{IsDistinct}
+use Rattle.std.specs.Prelude.{ℕ, ◌≤◌, ◌==◌, not, nat_le, max, Bool, List, [], ◌∷◌, ◌++◌, length, filter, find, map, All, AllPairs, Contains, Option, IsTrue, nat_eq}
+use Rattle.std.specs.List.{IsDistinct, list_any}
 use Rattle.std.specs.Option.{option_map_or}
 use Rattle.ride_model.specs.declared.command.Command.{Command}
 use Rattle.ride_model.specs.declared.command.Command.TheVariants.{Request}
 use Rattle.booking_desk.specs.declared.replies.BookReply.{BookReply}
 use Rattle.booking_desk.specs.declared.replies.BookReply.TheVariants.{Held, Now, Refused}
-use Rattle.booking_desk.specs.Desk.{Booking, DeskState, request_id, id_of, is_before, put_in, most_bookings, reply_to_book}
+use Rattle.ride_model.specs.declared.limits.TheConstants.{MOST_REQUESTS}
+use Rattle.booking_desk.specs.Desk.{Booking, DeskState, request_id, id_of, is_before, put_in, reply_to_book}
 
 -- a desk that nothing was booked at
 abbrev pub new_desk : ℕ → DeskState
 new_desk most = record { most = most; clock = 0; booked = []; held = [] }
+
+abbrev pub is_booked : ℕ → List ℕ → Bool
+is_booked id booked = list_any (λ other. id == other) booked
 
 abbrev pub IsRequest : Command → Type 0
 IsRequest (Request id from to seats latest longest chairs) = Unit {0}
@@ -51,7 +55,7 @@ after_take desk = option_map_or (λ booking. after_unbook desk (id_of booking)) 
 -- a desk of at most 100,000 bookings: what is held are requests that were booked, of distinct ids and in order
 pub record IsDesk (desk : DeskState) : Type 0 where
   pub few : length desk.booked ≤ desk.most
-  pub most_few : desk.most ≤ most_bookings
+  pub most_few : desk.most ≤ MOST_REQUESTS
   pub few_held : length desk.held ≤ length desk.booked
   pub requests : All (λ (booking : Booking). IsRequest booking.request) desk.held
   pub were_booked : All (λ (booking : Booking). Contains desk.booked (id_of booking)) desk.held

@@ -5,11 +5,13 @@ use Rattle.line_text.specs.declared.line_reader.stops.Stop.{Stop}
 use Rattle.ride_model.specs.Text.{IsSpelledCommand}
 use Rattle.line_text.specs.inner.text_page.Output.{HasPut, IsFresh}
 use Rattle.booking_desk.specs.declared.feed_desk.FeedDesk.{FeedDesk}
-use Rattle.booking_desk.specs.BookLines.{calls_in}
+use Rattle.booking_desk.specs.inner.BookText.{calls_in}
 use Rattle.booking_desk.specs.BookText.{last_line_after, text_of_lines}
-use Rattle.booking_desk.specs.Desk.{Booking, DeskState, most_bookings}
+use Rattle.ride_model.specs.declared.limits.TheConstants.{MOST_REQUESTS}
+use Rattle.booking_desk.specs.Desk.{Booking, DeskState}
 use Rattle.booking_desk.specs.inner.Desk.{IsRequest, is_due, new_desk}
-use Rattle.booking_desk.specs.Released.{DeskCall, call_id, clock_of, desk_after, made_of}
+use Rattle.booking_desk.specs.Released.{DeskCall, call_id, desk_after, made_of}
+use Rattle.booking_desk.specs.inner.Released.{clock_of}
 
 -- each booking is of a request that has a text
 pub record IsSpelledBooking (booking : Booking) : Type 0 where
@@ -22,10 +24,10 @@ AreSpelled bookings = AllByRecursion IsSpelledBooking bookings
 -- a desk after calls, at which bookings that are due are still held
 abbrev pub with_due : List DeskCall → List Booking → DeskState
 with_due calls due = record {
-  most = most_bookings;
+  most = MOST_REQUESTS;
   clock = clock_of calls;
-  booked = map call_id (made_of most_bookings calls);
-  held = due ++ (desk_after most_bookings calls).held;
+  booked = map call_id (made_of MOST_REQUESTS calls);
+  held = due ++ (desk_after MOST_REQUESTS calls).held;
 }
 
 abbrev pub AreDue : ℕ → List Booking → Type 0
@@ -34,13 +36,13 @@ AreDue time bookings = AllByRecursion (λ (booking : Booking). is_due time booki
 -- nothing was done yet
 pub record IsNew (desk : FeedDesk) : Type 0 where
   pub lines : desk.lines ≡ 0
-  pub bare : desk.desk ≡ new_desk most_bookings
+  pub bare : desk.desk ≡ new_desk MOST_REQUESTS
   pub output : IsFresh desk.output
 
 -- these lines were booked, and what they give was put out
 pub record HasBooked (before now : Option (List ℕ)) (faults_before faults_now : ℕ) (desk : FeedDesk) (lines : List (List ℕ)) : Type 0 where
   pub counted : desk.lines ≡ length lines
-  pub desk_is : desk.desk ≡ desk_after most_bookings (calls_in lines)
+  pub desk_is : desk.desk ≡ desk_after MOST_REQUESTS (calls_in lines)
   pub put : HasPut before now faults_before faults_now desk.output (text_of_lines lines)
 
 -- what the lines of a feed give that was stopped, or was not

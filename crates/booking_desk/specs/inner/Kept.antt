@@ -5,7 +5,8 @@ use Rattle.std.specs.Map.{keys_of, lookup}
 use Rattle.std.specs.Ordering.{nat_cmp, ordering_then}
 use Rattle.std.specs.declared.cmp.Ordering.{Ordering}
 use Rattle.ride_model.specs.declared.command.Command.{Command}
-use Rattle.booking_desk.specs.Desk.{Booking, most_bookings, request_id}
+use Rattle.ride_model.specs.declared.limits.TheConstants.{MOST_REQUESTS}
+use Rattle.booking_desk.specs.Desk.{Booking, request_id}
 use Rattle.booking_desk.specs.inner.Desk.{IsRequest}
 
 -- the booking that an entry keeps under its release and its id
@@ -28,7 +29,7 @@ pub record IsHeldEntry (booked : List (ℕ × ℕ)) (entry : (ℕ × ℕ) × Com
 -- at most so many bookings, and at most as many are held
 pub record IsKept (most : ℕ) (booked : List (ℕ × ℕ)) (held : List ((ℕ × ℕ) × Command)) : Type 0 where
   pub few : length booked ≤ most
-  pub most_few : most ≤ most_bookings
+  pub most_few : most ≤ MOST_REQUESTS
   pub few_held : length held ≤ length booked
   pub in_order : IsStrictlySortedBy key_cmp (keys_of held)
   pub entries : All (IsHeldEntry booked) held

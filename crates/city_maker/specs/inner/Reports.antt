@@ -9,7 +9,7 @@ use Rattle.ride_model.specs.Road.{IsRoadMap}
 use Rattle.ride_model.specs.Settings.{IsSettings}
 use Rattle.ride_model.specs.State.{State}
 use Rattle.ride_model.specs.Vehicle.{IsLawful}
-use Rattle.ride_model.specs.Limits.{latest_time}
+use Rattle.ride_model.specs.declared.limits.TheConstants.{LATEST_TIME}
 
 -- a report was accepted, and is not late
 abbrev pub IsOnTime : Reply → Type 0
@@ -25,5 +25,5 @@ pub record DrivesInTheDay (s : State) (place : ℕ) (v : Vehicle) : Type 0 where
   pub fleet_fits : IsFleet s.vehicles
   pub placed : slice_get s.vehicles place ≡ Some v
   pub lawful : IsLawful s.roads v
-  pub clock_in_day : s.clock ≤ latest_time
-  pub arrives_in_day : (first : Stop) (rest : List Stop) → v.stops.items ≡ first ∷ rest → v.ready + first.leg ≤ latest_time
+  pub clock_in_day : s.clock ≤ LATEST_TIME
+  pub arrives_in_day : (first : Stop) (rest : List Stop) → v.stops.items ≡ first ∷ rest → v.ready + first.leg ≤ LATEST_TIME

@@ -1,9 +1,10 @@
 -- Sources that a shelf brings by their names, and takes back.
-use Rattle.std.specs.Prelude.{◌≡◌, ℕ, ◌+◌, ◌<◌, ◌≤◌, List, [], ◌∷◌, ◌++◌, length, All, Option}
-use Rattle.ride_ports.specs.Contents.{GivenBack}
+use Rattle.std.specs.Prelude.{◌≡◌, ℕ, ◌+◌, ◌<◌, ◌≤◌, List, [], ◌∷◌, ◌++◌, length, All, Option, Some, IfSome}
+use Rattle.ride_ports.specs.Contents.{GivenBack, given_back}
 use Rattle.ride_ports.specs.Count.{Rose}
 use Rattle.ride_ports.specs.inner.Contents.{IsContentOf}
-use Rattle.dispatcher.specs.Shelves.{AreGivenBack, IsSpent, IsUntouched, Shelved, Sunk}
+use Rattle.live_sessions.specs.Serving.{FeedRun}
+use Rattle.dispatcher.specs.Shelves.{AreGivenBack, IsSpent, Shelved, Sunk}
 
 -- names were asked of a shelf, so many sources were brought, and these were given back
 pub record Adds (names : List (List ℕ)) (brought : ℕ) (back : List GivenBack) (old new : Shelved) : Type 0 where
@@ -31,6 +32,12 @@ pub record TakesBack (source : GivenBack) (old new : Shelved) : Type 0 where
   pub rises : 0 < source.faults → Rose old.faults new.faults
   pub never_falls : old.faults ≤ new.faults
 
+-- a source was brought for a file without a fault, with the bytes of its name where they are told; it was read, and given back
+pub record IsBackOf (file : Option (List ℕ)) (source : GivenBack) (feed : FeedRun) : Type 0 where
+  pub bytes_are : IfSome file (λ told. feed.bytes ≡ Some told)
+  pub fresh : feed.faults_before ≡ 0
+  pub back : source ≡ given_back feed.faults_after feed.left
+
 -- a name was not brought, after the sources of others, which were given back with nothing written
 pub record MissesAfter (others : List (List ℕ)) (name : List ℕ) (old new : Shelved) (out : Sunk) (status : ℕ) : Type 0 where
   pub status_is : status ≡ 5
@@ -39,7 +46,7 @@ pub record MissesAfter (others : List (List ℕ)) (name : List ℕ) (old new : S
   pub adds : Adds (others ++ name ∷ []) (length sources) sources old new
   pub left : AreGivenBack old.told (others ++ name ∷ []) sources
   pub rose : Rose old.faults new.faults
-  pub untouched : IsUntouched out
+  pub untouched : out.after ≡ out.before
 
 -- the sources of names were brought, something was done over them, and they were given back: a whole run leaves nothing of them, and no
 -- count rises in it

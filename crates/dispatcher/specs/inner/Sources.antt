@@ -1,13 +1,13 @@
 -- What is done over one source, and over the two feeds of a service.
 use Rattle.std.specs.Prelude.{◌≡◌, ◌⊎◌, ℕ, ◌≤◌, ⊤, List, [], ◌∷◌, None, Some, IfSome}
-use Rattle.ride_model.specs.Limits.{longest_reach}
+use Rattle.ride_model.specs.declared.limits.TheConstants.{LONGEST_REACH}
 use Rattle.ride_ports.specs.Bytes.{Reads}
 use Rattle.ride_ports.specs.Contents.{GivenBack}
 use Rattle.ride_ports.specs.Count.{Rose}
 use Rattle.live_sessions.specs.Serving.{FeedRun}
-use Rattle.dispatcher.specs.inner.Handing.{Hands, MissesAfter}
+use Rattle.dispatcher.specs.inner.Handing.{Hands, IsBackOf, MissesAfter}
 use Rattle.dispatcher.specs.inner.Readings.{MayBegin, meaning_of}
-use Rattle.dispatcher.specs.Shelves.{IsBackOf, Shelved, Sunk, told_bytes}
+use Rattle.dispatcher.specs.Shelves.{Shelved, Sunk, told_bytes}
 use Rattle.dispatcher.specs.Meanings.{Meaning}
 use Rattle.dispatcher.specs.Verdicts.{Audits}
 use Rattle.dispatcher.specs.Works.{Books, PlaysLeague, Replays, Serves}
@@ -17,7 +17,7 @@ use Rattle.dispatcher.specs.declared.sources.Work.TheVariants.{Replay, Ahead, Au
 -- what a work is done over allows it
 abbrev pub MayWork : Work → Type 0
 MayWork (Replay texts) = MayBegin texts
-MayWork (Ahead texts reach) = MayBegin texts × (1 ≤ reach) × (reach ≤ longest_reach)
+MayWork (Ahead texts reach) = MayBegin texts × (1 ≤ reach) × (reach ≤ LONGEST_REACH)
 MayWork (Audit texts) = MayBegin texts
 MayWork (League texts) = MayBegin texts
 MayWork Book = ⊤

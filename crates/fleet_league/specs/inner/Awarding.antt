@@ -9,7 +9,7 @@ use Rattle.ride_model.specs.Seating.{BatchCopy}
 use Rattle.ride_model.specs.State.{State, AcceptedRequest}
 use Rattle.ride_model.specs.Text.{IsSpelledCommand}
 use Rattle.ride_model.specs.Vehicle.{ride_ids}
-use Rattle.ride_model.specs.Limits.{most_batches, most_requests}
+use Rattle.ride_model.specs.declared.limits.TheConstants.{MOST_BATCHES, MOST_REQUESTS}
 use Rattle.ride_model.specs.inner.Limits.{most_commands}
 use Rattle.board_core.specs.Recorded.{Recorded, state_of}
 use Rattle.fleet_league.specs.declared.briefs.Brief.{Brief}
@@ -24,7 +24,7 @@ use Rattle.fleet_league.specs.inner.Awards.{IsCertifiedBy, IsCertifiedOver}
 pub record AreNew (s : State) (rides : List Ride) : Type 0 where
   pub each : All (IsNewRide s) rides
   pub differ : IsDistinct nat_eq (ride_ids rides)
-  pub room : length s.requests + length rides ≤ most_requests
+  pub room : length s.requests + length rides ≤ MOST_REQUESTS
 
 -- a board of one feed takes the rides of wins as requests, and an ask after them
 pub record MayAsk (board : Recorded) (rides : List Ride) : Type 0 where
@@ -67,6 +67,6 @@ pub record MayConfirm (board : Recorded) (brief : Brief) : Type 0 where
   pub one_desk : board.desks ≡ 1
   pub idle : IsIdle board
   pub asks : MayAsk board (won_rides brief.wins)
-  pub few_asked : (state_of board).asked + 1 ≤ most_batches
+  pub few_asked : (state_of board).asked + 1 ≤ MOST_BATCHES
   pub few_wins : length brief.wins ≤ (state_of board).settings.batch
   pub certified : IsCertifiedOver (state_of board) brief

@@ -6,7 +6,7 @@ use Rattle.ride_model.specs.declared.entry.Entry.{Entry}
 use Rattle.ride_model.specs.declared.entry.Event.TheVariants.{Abandoned}
 use Rattle.ride_model.specs.declared.vehicle.Vehicle.{Vehicle}
 use Rattle.ride_model.specs.Legal.{replay, versions_of}
-use Rattle.ride_model.specs.Limits.{most_batches, most_requests}
+use Rattle.ride_model.specs.declared.limits.TheConstants.{MOST_BATCHES, MOST_REQUESTS}
 use Rattle.ride_model.specs.Seating.{vehicle_ids, amount_ids, has_amount}
 use Rattle.ride_model.specs.State.{State}
 use Rattle.dual_check.specs.Cells.{GridCells}
@@ -20,6 +20,10 @@ use Rattle.fleet_league.specs.declared.briefs.Win.{Win}
 use Rattle.fleet_league.specs.declared.quotes.Quote.{Quote}
 use Rattle.fleet_league.specs.Prices.{prices_of}
 use Rattle.fleet_league.specs.Awards.{won_rides, won_columns, asking_entries, opening_entry}
+
+-- each win's request with its price
+abbrev pub price_list : List Win → List (ℕ × ℕ)
+price_list wins = map (λ (win : Win). (win.ride.id, win.price)) wins
 
 -- over prices of vehicles the wins are a pairing, each with a vehicle of the fleet, that their prices and the pays certify; the
 -- pays are above 0 and in fleet order
@@ -47,8 +51,8 @@ pub record AreOfOneState (board : Recorded) (quote : Quote) (brief : Brief) : Ty
 -- a board has room for so many wins: a batch of its settings takes them, and it takes so many requests and one batch more
 pub record HasRoomFor (board : Recorded) (many : ℕ) : Type 0 where
   pub in_batch : many ≤ board.start.settings.batch
-  pub requests : length (state_of board).requests + many ≤ most_requests
-  pub batches : (state_of board).asked < most_batches
+  pub requests : length (state_of board).requests + many ≤ MOST_REQUESTS
+  pub batches : (state_of board).asked < MOST_BATCHES
 
 -- the first of the vehicles, in fleet order, whose version is not the quoted one, with the quoted one
 abbrev pub first_moved : List (ℕ × ℕ) → List Vehicle → Option ((ℕ × ℕ) × Vehicle)

@@ -1,4 +1,5 @@
 pub mod Feed
+pub mod RoundParts
 pub mod League
 pub mod LeagueBoards
 pub mod LeagueRuns

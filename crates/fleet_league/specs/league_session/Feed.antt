@@ -32,14 +32,12 @@ only is_one command = if is_one command then Some command else None
 
 -- the command to the league that fields spell
 abbrev pub league_line_of : ℕ → List (List ℕ) → Option FeedLine
-league_line_of log fields =
-    option_map (λ command. League command) (option_and_then (only is_league_command) (command_of_fields log fields))
+league_line_of log fields = option_map (λ command. League command) (option_and_then (only is_league_command) (command_of_fields log fields))
 
 -- the report to a company that fields spell: the company's number, and then a report of a driver
 abbrev pub company_line_of : ℕ → List (List ℕ) → Option FeedLine
 company_line_of log [] = None
-company_line_of log (field ∷ fields) =
-    option_and_then (λ company. option_map (λ command. Company company command)
+company_line_of log (field ∷ fields) = option_and_then (λ company. option_map (λ command. Company company command)
     (option_and_then (only is_driver_report) (command_of_fields log fields))) (number_of field)
 
 -- what fields say, if they are no bad line

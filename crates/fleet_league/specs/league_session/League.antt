@@ -1,5 +1,6 @@
 -- A league of two companies, and what each line of its feed makes of it.
 use Rattle.std.specs.Prelude.{◌≡◌, ◌≢◌, ℕ, ◌+◌, ◌==◌, nat_lt, if◌then◌else◌, Bool, false, List, [], ◌∷◌, ◌++◌, take, is_some, IsTrue, IsFalse}
+use Rattle.std.specs.List.{zip}
 use Rattle.ride_model.specs.declared.command.Command.{Command}
 use Rattle.ride_model.specs.declared.command.Command.TheVariants.{Request, Cancel, Clock, Ask}
 use Rattle.ride_model.specs.declared.entry.Entry.{Entry}
@@ -14,8 +15,8 @@ use Rattle.ride_model.specs.Legal.{IsLegal, replay}
 use Rattle.ride_model.specs.Road.{RoadMap}
 use Rattle.ride_model.specs.State.{State, request_state, start_state}
 use Rattle.ride_model.specs.Step.{step}
-use Rattle.ride_model.specs.Limits.{most_batches}
-use Rattle.ride_model.specs.Refusals.{batches_full, code_of, unknown_company}
+use Rattle.ride_model.specs.declared.limits.TheConstants.{MOST_BATCHES}
+use Rattle.ride_model.specs.declared.refusals.TheConstants.{BATCHES_FULL, UNKNOWN_COMPANY}
 use Rattle.dual_check.specs.declared.paired.Paired.{Paired}
 use Rattle.dual_check.specs.Grid.{pairing_cost}
 use Rattle.fleet_league.specs.declared.briefs.Brief.{Brief}
@@ -31,7 +32,7 @@ use Rattle.fleet_league.specs.Awards.{AddsAward}
 use Rattle.fleet_league.specs.league_session.LeagueTexts.{told_line}
 use Rattle.fleet_league.specs.Prices.{quote_of}
 use Rattle.fleet_league.specs.Round.{IsRound, company_prices}
-use Rattle.fleet_league.specs.league_session.RoundParts.{brief_of, paid_columns, rows_of, sheet_of, union_columns}
+use Rattle.fleet_league.specs.league_session.RoundParts.{brief_of, rows_of, sheet_of, union_columns}
 
 -- a league: the desk that judges its requests, which has no vehicles and is asked for each round, and the companies' boards. A
 -- request waits where it waits at the desk, and is with a company whose board has accepted it. A round closes its requests at the
@@ -72,24 +73,22 @@ is_with board id = is_some (request_state board id)
 -- a report to the company of its number, if there is one
 abbrev pub league_answer : LeagueState → FeedLine → LeagueAnswer
 league_answer s (League (Request id from to seats latest longest chairs)) = by_desk s (Request id from to seats latest longest chairs)
-league_answer s (League (Cancel id)) =
-    if is_with s.first id then by_first s (Cancel id)
+league_answer s (League (Cancel id)) = if is_with s.first id then by_first s (Cancel id)
     else if is_with s.second id then by_second s (Cancel id)
     else by_desk s (Cancel id)
 league_answer s (League (Clock time)) = record {
   league = record s { first = (step s.first (Clock time)).state; second = (step s.second (Clock time)).state };
   reply = (step s.first (Clock time)).reply;
 }
-league_answer s (League Ask) = record { league = s; reply = Refused (code_of batches_full) }
+league_answer s (League Ask) = record { league = s; reply = Refused BATCHES_FULL }
 league_answer s (League _) = record { league = s; reply = Noted }
-league_answer s (Company company command) =
-    if company == 1 then by_first s command
+league_answer s (Company company command) = if company == 1 then by_first s command
     else if company == 2 then by_second s command
-    else record { league = s; reply = Refused (code_of unknown_company) }
+    else record { league = s; reply = Refused UNKNOWN_COMPANY }
 
 -- whether a line makes a round: a batch, where fewer than 2,000 rounds were made
 abbrev pub makes_round : LeagueState → FeedLine → Bool
-makes_round s (League Ask) = nat_lt s.desk.asked most_batches
+makes_round s (League Ask) = nat_lt s.desk.asked MOST_BATCHES
 makes_round s _ = false
 
 -- the rides of the next round: the first that wait
@@ -105,7 +104,7 @@ abbrev pub round_rows : List Quote → List Ride → Paired → List RoundRow
 round_rows quotes rides round = rows_of (union_columns quotes) rides round
 
 abbrev pub round_columns : List Quote → Paired → List (RoundColumn × ℕ)
-round_columns quotes round = paid_columns (union_columns quotes) round
+round_columns quotes round = zip (union_columns quotes) round.pays
 
 -- the desk after a round of rides
 abbrev pub after_round : State → List Ride → State
@@ -147,6 +146,5 @@ pub record TakesLine (old new : LeagueState) (line : FeedLine) (told : Told) : T
 -- lines of a feed take a league on, one after another, and give a text
 unfoldable pub TellsLines : ℕ → LeagueState → List FeedLine → LeagueState → List ℕ → Type 0
 TellsLines log old [] new text = (new ≡ old) × (text ≡ [])
-TellsLines log old (line ∷ lines) new text =
-    (between : LeagueState) × (told : Told) × (rest : List ℕ) × TakesLine old between line told
+TellsLines log old (line ∷ lines) new text = (between : LeagueState) × (told : Told) × (rest : List ℕ) × TakesLine old between line told
     × TellsLines log between lines new rest × (text ≡ told_line log line told ++ rest)

@@ -21,44 +21,32 @@ column_of_plan company plan = record { company = company; vehicle = plan.0; vers
 
 -- the columns of the union of quotes: by company, numbered from 1, and then in fleet order
 abbrev pub union_columns : List Quote → List RoundColumn
-union_columns quotes =
-    flat_map (λ (placed : ℕ × Quote). map (column_of_plan placed.0) placed.1.plans) (enumerate_from 1 quotes)
-
--- a ride with the column of its place, if it has one, and its price
-abbrev pub row_of : List RoundColumn → (Ride × Option ℕ) × ℕ → RoundRow
-row_of columns row = record { ride = row.0.0; column = option_and_then (slice_get columns) row.0.1; price = row.1 }
+union_columns quotes = flat_map (λ (placed : ℕ × Quote). map (column_of_plan placed.0) placed.1.plans) (enumerate_from 1 quotes)
 
 -- the rides of a round, with the columns that they are paired with and their prices
 abbrev pub rows_of : List RoundColumn → List Ride → Paired → List RoundRow
-rows_of columns rides round = map (row_of columns) (zip (zip rides round.columns) round.prices)
-
--- the columns of a round, with what they pay
-abbrev pub paid_columns : List RoundColumn → Paired → List (RoundColumn × ℕ)
-paid_columns columns round = zip columns round.pays
+rows_of columns rides round = map (λ (row : (Ride × Option ℕ) × ℕ).
+    record { ride = row.0.0; column = option_and_then (slice_get columns) row.0.1; price = row.1 }) (zip (zip rides round.columns) round.prices)
 
 -- a row's award, if it has a column
 abbrev pub award_of : RoundRow → Option RoundAward
 award_of row = option_map (λ (column : RoundColumn).
     record { request = row.ride.id; company = column.company; vehicle = column.vehicle; version = column.version }) row.column
 
--- a row's request with its price, and with what becomes of it
-abbrev pub price_of : RoundRow → ℕ × ℕ
-price_of row = (row.ride.id, row.price)
-
+-- a row's request with what becomes of it
 abbrev pub outcome_of : RoundRow → ℕ × Outcome
 outcome_of row = (row.ride.id, if is_some row.column then Confirmed else Away)
 
 -- what a column pays, where it is above 0
 abbrev pub pay_of : RoundColumn × ℕ → Option RoundPay
-pay_of paid =
-    if nat_lt 0 paid.1 then Some (record { company = paid.0.company; vehicle = paid.0.vehicle; amount = paid.1 }) else None
+pay_of paid = if nat_lt 0 paid.1 then Some (record { company = paid.0.company; vehicle = paid.0.vehicle; amount = paid.1 }) else None
 
 -- what is told of a round of a cost
 abbrev pub sheet_of : ℕ → List RoundRow → List (RoundColumn × ℕ) → RoundSheet
 sheet_of cost rows paid = record {
   cost = cost;
   awards = filter_map award_of rows;
-  prices = map price_of rows;
+  prices = map (λ (row : RoundRow). (row.ride.id, row.price)) rows;
   pays = filter_map pay_of paid;
   outcomes = map outcome_of rows;
 }
@@ -74,8 +62,7 @@ win_of company row = option_map (λ (column : RoundColumn).
 
 -- what a company's vehicle pays, where it is above 0
 abbrev pub own_pay_of : ℕ → RoundColumn × ℕ → Option (ℕ × ℕ)
-own_pay_of company paid =
-    option_and_then (λ (column : RoundColumn). pay_at column.vehicle paid.1) (column_in company paid.0)
+own_pay_of company paid = option_and_then (λ (column : RoundColumn). pay_at column.vehicle paid.1) (column_in company paid.0)
 
 -- a company's part of a round: its wins in the order of requests, and what its vehicles pay
 abbrev pub brief_of : ℕ → List RoundRow → List (RoundColumn × ℕ) → Brief

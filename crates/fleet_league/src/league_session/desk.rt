@@ -10,7 +10,7 @@ ghost use Rattle.ride_model.specs.State.{State, request_state};
 ghost use Rattle.ride_model.specs.Step.{step};
 ghost use Rattle.ride_model.specs.Text.{IsSpelled, IsSpelledCommand};
 ghost use Rattle.ride_model.specs.Vehicle.{ride_ids};
-ghost use Rattle.ride_model.specs.Limits.{most_batches, largest_batch};
+ghost use Rattle.ride_model.specs.declared.limits.TheConstants.{LARGEST_BATCH};
 ghost use Rattle.ride_model.specs.inner.Limits.{most_commands};
 ghost use Rattle.model_laws.specs.inner.history_laws.Consistent.{IsOpenBatch};
 ghost use Rattle.board_core.specs.Recorded.{state_of};
@@ -82,10 +82,10 @@ impl<'r> RequestDesk<'r> {
         requires fits { IsDesk self.old }
         requires few { length (fed_commands 1 self.old.history) < most_commands }
         ensures none_left { IfOk result
-            (λ opened. opened ≡ None → (most_batches ≤ (state_of self.old).asked)
+            (λ opened. opened ≡ None → (MOST_BATCHES ≤ (state_of self.old).asked)
             × (self.new ≡ self.old)) }
         ensures opened { (batch : BatchCopy) → IfOk result (λ opened. opened ≡ Some batch
-            → ((state_of self.old).asked < most_batches)
+            → ((state_of self.old).asked < MOST_BATCHES)
             × HasOpened (state_of self.old) batch self.new) }
         ensures rides { (batch : BatchCopy) → IfOk result (λ opened. opened ≡ Some batch
             → batch.requests ≡ take (state_of self.old).settings.batch
@@ -114,13 +114,13 @@ impl<'r> RequestDesk<'r> {
     /// Closes the requests of an open round.
     pub(crate) fn close_round(&mut self, batch: Batch) -> Result<(), NoMemory>
         requires opened { (before : State) × HasOpened before batch self.old }
-        requires few { length (fed_commands 1 self.old.history) + largest_batch < most_commands }
+        requires few { length (fed_commands 1 self.old.history) + LARGEST_BATCH < most_commands }
         ensures state { (before : State) → HasOpened before batch self.old
             → OnOk result (state_of self.new ≡ after_round before batch.requests) }
         ensures fits { OnOk result (IsDesk self.new) }
         ensures some_more { OnOk result
             (length (fed_commands 1 self.new.history)
-            ≤ length (fed_commands 1 self.old.history) + largest_batch) }
+            ≤ length (fed_commands 1 self.old.history) + LARGEST_BATCH) }
         ensures start { self.new.start ≡ self.old.start }
     {
         cancel_all(&mut self.board, batch.requests())?;

@@ -2,7 +2,7 @@
 ghost use Rattle.std.specs.Prelude.{◌≡◌, ◌^◌, ◌<◌, ◌≤◌, ℕ, length, sum, All, IfOk};
 ghost use Rattle.dual_check.specs.Cells.{GridCells};
 ghost use Rattle.dual_check.specs.Grid.{CertifiesPairing, pairing_cost};
-ghost use Rattle.ride_model.specs.Limits.{largest_batch, greatest_penalty};
+ghost use Rattle.ride_model.specs.declared.limits.TheConstants.{GREATEST_PENALTY, LARGEST_BATCH};
 ghost use Rattle.fleet_league.specs.declared.quotes.Quote.{Quote};
 ghost use Rattle.fleet_league.specs.league_session.League.{IsRoundOf, round_columns, round_rows};
 ghost use Rattle.fleet_league.specs.inner.Round.{IsPriced};
@@ -59,7 +59,7 @@ pub(crate) fn parts_of(
     quotes: &[Quote; 2],
     rides: &[Ride],
 ) -> Result<RoundParts, NoMemory>
-    requires penalty_limit { penalty ≤ greatest_penalty }
+    requires penalty_limit { penalty ≤ GREATEST_PENALTY }
     requires priced { All (λ (quote : Quote). IsPriced quote.prices) quotes.now }
     requires same_rides { All (λ (quote : Quote). quote.prices.rows ≡ length rides.now) quotes.now }
     ensures { IfOk result (λ parts.
@@ -96,8 +96,8 @@ pub fn part_of(
 
 // What a certified pairing costs: what the rows are priced at less what the columns pay.
 fn cost_of(round: &Paired) -> u64
-    requires { (grid : GridCells) × (penalty : ℕ) × (grid.rows ≤ largest_batch)
-        × (penalty ≤ greatest_penalty)
+    requires { (grid : GridCells) × (penalty : ℕ) × (grid.rows ≤ LARGEST_BATCH)
+        × (penalty ≤ GREATEST_PENALTY)
         × CertifiesPairing grid penalty round.now.columns round.now.prices round.now.pays }
     ensures { (grid : GridCells) (penalty : ℕ)
         → CertifiesPairing grid penalty round.now.columns round.now.prices round.now.pays

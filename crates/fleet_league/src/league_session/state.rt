@@ -16,14 +16,11 @@ use crate::league_session::members::Member;
 use crate::league_session::outset::Outset;
 use crate::league_session::playing::play;
 use crate::league_session::sheets::Told;
-use ride_model::refusals::BATCHES_FULL;
+use ride_model::refusals::{BATCHES_FULL, UNKNOWN_COMPANY};
 use ride_model::{Command, NoMemory, Reply};
 use std::alloc::Global;
 use std::marker::Model;
 use std::thread::Threads;
-
-/// The refusal of a report to a company that is none.
-const UNKNOWN_COMPANY: u8 = 18;
 
 /// A league of two companies. Its desk judges requests; a company has those that it has won.
 pub(crate) struct League<'r> {

@@ -3,7 +3,7 @@ use Rattle.std.specs.Prelude.{◌≡◌, ◌≢◌, ℕ, ◌≤◌, List, [], le
 use Rattle.line_text.specs.Texts.{after_lines}
 use Rattle.ride_model.specs.declared.network.RoadArc.{RoadArc}
 use Rattle.ride_model.specs.Road.{IsArc}
-use Rattle.ride_model.specs.Limits.{most_arcs, most_nodes}
+use Rattle.ride_model.specs.declared.limits.TheConstants.{MOST_ARCS, MOST_NODES}
 use Rattle.gr_reader.specs.declared.lines.Problem.{Problem}
 use Rattle.gr_reader.specs.declared.lines.MapLines.{MapLines}
 use Rattle.gr_reader.specs.declared.errors.MapError.{MapError}
@@ -13,8 +13,8 @@ use Rattle.gr_reader.specs.MapText.{MapSoFar, map_format}
 -- a problem within the limits
 pub record IsProblem (problem : Problem) : Type 0 where
   pub some_node : 1 ≤ problem.nodes
-  pub nodes_limit : problem.nodes ≤ most_nodes
-  pub arcs_limit : problem.arcs ≤ most_arcs
+  pub nodes_limit : problem.nodes ≤ MOST_NODES
+  pub arcs_limit : problem.arcs ≤ MOST_ARCS
 
 -- an arc in a map of so many nodes
 abbrev pub IsArcAmong : ℕ → RoadArc → Type 0

@@ -1,6 +1,6 @@
 -- By how much a search raises prices and payments.
 use Rattle.std.specs.Prelude.{◌≡◌, ◌≢◌, ℕ, ◌+◌, ◌-◌, ◌<◌, ◌≤◌, ◌==◌, if◌then◌else◌, length, Option, Some, None}
-use Rattle.ride_model.specs.Limits.{greatest_penalty}
+use Rattle.ride_model.specs.declared.limits.TheConstants.{GREATEST_PENALTY}
 use Rattle.dual_check.specs.Grid.{price_at}
 use Rattle.hungarian.specs.declared.matches.Matches.{Matches}
 use Rattle.hungarian.specs.declared.duals.Duals.{Duals}
@@ -50,9 +50,9 @@ pub record IsRaisable (matches : Matches) (search : Search) (far column : ℕ) (
   pub ranks_each : length search.ranks.items ≡ length old.pays.items
   pub distances_each : length search.distances.items ≡ length old.pays.items
   pub near : 0 < rank_at search column → distance_at search column ≤ far
-  pub far_limit : far ≤ greatest_penalty
-  pub pay_limit : price_at old.pays.items column ≤ greatest_penalty
-  pub price_limit : (row : ℕ) → mate matches.columns.items row ≡ Some column → price_at old.prices.items row ≤ greatest_penalty
+  pub far_limit : far ≤ GREATEST_PENALTY
+  pub pay_limit : price_at old.pays.items column ≤ GREATEST_PENALTY
+  pub price_limit : (row : ℕ) → mate matches.columns.items row ≡ Some column → price_at old.prices.items row ≤ GREATEST_PENALTY
 
 -- prices and payments that can be raised: no number is large, and no settled column is beyond the distance
 pub record AreRaisable (matches : Matches) (search : Search) (root far : ℕ) (old : Duals) : Type 0 where
@@ -64,6 +64,6 @@ pub record AreRaisable (matches : Matches) (search : Search) (root far : ℕ) (o
   pub ranks_each : length search.ranks.items ≡ length old.pays.items
   pub distances_each : length search.distances.items ≡ length old.pays.items
   pub near : (column : ℕ) → 0 < rank_at search column → distance_at search column ≤ far
-  pub far_limit : far ≤ greatest_penalty
-  pub prices_limit : (row : ℕ) → price_at old.prices.items row ≤ greatest_penalty
-  pub pays_limit : (column : ℕ) → price_at old.pays.items column ≤ greatest_penalty
+  pub far_limit : far ≤ GREATEST_PENALTY
+  pub prices_limit : (row : ℕ) → price_at old.prices.items row ≤ GREATEST_PENALTY
+  pub pays_limit : (column : ℕ) → price_at old.pays.items column ≤ GREATEST_PENALTY

@@ -1,6 +1,6 @@
 -- How a row changes the ways to columns, and which open column is the nearest.
 use Rattle.std.specs.Prelude.{◌≡◌, ℕ, ◌+◌, ◌<◌, ◌≤◌, ◌^◌, ◌==◌, ◌&&◌, ◌⊎◌, nat_lt, if◌then◌else◌, List, slice_index, Option, Some, MatchOption, IfSome}
-use Rattle.ride_model.specs.Limits.{greatest_penalty}
+use Rattle.ride_model.specs.declared.limits.TheConstants.{GREATEST_PENALTY}
 use Rattle.hungarian.specs.declared.relaxing.Reach.{Reach}
 use Rattle.hungarian.specs.declared.relaxing.Nearest.{Nearest}
 
@@ -19,8 +19,8 @@ pub record IsShortened (reach : Reach) (cell : Option ℕ) (pay had had_source d
 
 -- a way by a reached row can be computed: its numbers are not large, and the price is covered
 pub record IsRelaxable (reach : Reach) (cell : Option ℕ) (pay : ℕ) : Type 0 where
-  pub distance_limit : reach.distance ≤ greatest_penalty
-  pub pay_limit : pay ≤ greatest_penalty
+  pub distance_limit : reach.distance ≤ GREATEST_PENALTY
+  pub pay_limit : pay ≤ GREATEST_PENALTY
   pub amount_limit : IfSome cell (λ amount. amount < 2 ^ 42)
   pub covered : IfSome cell (λ amount. reach.price ≤ amount + pay)
 

@@ -8,7 +8,7 @@ use Rattle.ride_model.specs.Road.{RoadMap, IsRoadMap, travel}
 use Rattle.ride_model.specs.Settings.{IsSettings}
 use Rattle.ride_model.specs.Vehicle.{IsRide, IsLawful}
 use Rattle.ride_model.specs.inner.Vehicle.{IsFresh}
-use Rattle.ride_model.specs.Limits.{latest_time}
+use Rattle.ride_model.specs.declared.limits.TheConstants.{LATEST_TIME}
 use Rattle.insertion.specs.declared.near.Near.{Near}
 use Rattle.insertion.specs.declared.near.NearStop.{NearStop}
 
@@ -36,6 +36,6 @@ pub record IsAsked (roads : RoadMap) (v : Vehicle) (ride : Ride) (time : ℕ) (s
   pub ride_fits : IsRide roads ride
   pub waits : ride.picked ≡ None
   pub fresh : IsFresh v.rides.items ride.id
-  pub time_limit : time ≤ latest_time
+  pub time_limit : time ≤ LATEST_TIME
   pub settings_fit : IsSettings settings
   pub near_holds : HoldsTimes roads v ride near

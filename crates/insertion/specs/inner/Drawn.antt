@@ -8,7 +8,7 @@ use Rattle.ride_model.specs.declared.vehicle.Vehicle.{Vehicle}
 use Rattle.ride_model.specs.Road.{RoadMap}
 use Rattle.ride_model.specs.Keeps.{keeps}
 use Rattle.ride_model.specs.Offers.{leg_at}
-use Rattle.ride_model.specs.Limits.{latest_ready}
+use Rattle.ride_model.specs.declared.limits.TheConstants.{LATEST_READY}
 use Rattle.stop_plans.specs.inner.Change.{InsertsInto}
 
 -- how long a vehicle stands more with two stops more, up to the last arrival
@@ -33,7 +33,7 @@ pub record AreShort (joins : Joins) : Type 0 where
 pub record IsDrawn (roads : RoadMap) (v : Vehicle) (ride : Ride) (dwell : ℕ) (drawn : Offer) (offer : Option Offer) : Type 0 where
   pub new : Vehicle
   pub inserts : InsertsInto roads v ride drawn new
-  pub start_limit : drawn.start ≤ latest_ready
+  pub start_limit : drawn.start ≤ LATEST_READY
   pub offer_is : offer ≡ (if keeps new drawn.start dwell then Some drawn else None)
 
 -- where none is drawn there is no offer

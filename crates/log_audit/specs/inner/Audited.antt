@@ -1,11 +1,12 @@
 -- What only lemmas and lower contracts use beside Audited.antt.
 use Rattle.std.specs.Prelude.{◌≡◌, ℕ, ◌++◌, ◌∷◌, [], List, Option, IfSome}
+use mathlib.Core.List.{IsPrefix}
 use Rattle.ride_model.specs.Text.{IsOneOrTwo, head_line, text_of}
 use Rattle.board_core.specs.Recorded.{Recorded}
 use Rattle.trip_log.specs.declared.reading.Head.{Head}
 use Rattle.line_text.specs.inner.line_reader.Reader.{ReaderState}
 use Rattle.log_audit.specs.declared.verdict.Why.{Why}
-use Rattle.log_audit.specs.Audit.{HasNoHead, IsWrongNext}
+use Rattle.log_audit.specs.Audit.{IsWrongNext}
 use Rattle.log_audit.specs.Limits.{Counts}
 use Rattle.log_audit.specs.inner.LogLines.{HasRead}
 
@@ -15,6 +16,10 @@ pub record HasReadHead (before left : Option (List ℕ)) (lines : ReaderState) (
   pub feeds_fit : IsOneOrTwo head.feeds
   pub desks_fit : IsOneOrTwo head.desks
   pub read : HasRead before left lines (head_line log head.feeds head.desks)
+
+-- bytes begin with no head of this version
+abbrev pub HasNoHead : ℕ → List ℕ → Type 0
+HasNoHead log bytes = (feeds desks : ℕ) → IsOneOrTwo feeds → IsOneOrTwo desks → IsPrefix (head_line log feeds desks) bytes → ⊥
 
 -- a source has no head as its first line
 abbrev pub HasReadNoHead : Option (List ℕ) → ℕ → Type 0

@@ -1,5 +1,5 @@
 -- A served stop of a ride that was not named late is in time, and the times of the stops that are left stay as they were.
-use Rattle.model_laws.proofs.Common.{◌≡◌, ℕ, ◌+◌, ◌≤◌, ◌||◌, Bool, true, false, not, cond, List, [], ◌∷◌, ◌++◌, eqb, ltb, ltb-false, refl, sym, ◌∙◌, ap, subst, arith, map, Option, Some, None, slice_set, ◌==◌, nat_lt, IfSome, filter, eqb-true, not-true, or_parts, not-false, same_Some, Done, Fed, Kind, Pickup, Dropoff, Ride, Stop, Vehicle, breaks_visits, broken_by, is_late, KeepsPickup, KeepsDropoff, KeepsEvent, travel, find_ride, find_vehicle, State, placed_vehicle, Answered, raised, served, served_reply, done_at_stop, done_found, IsPlanFor, IsRouted, HasLegs, visits_due, visit_of, stops_of, IsStart}
+use Rattle.model_laws.proofs.Common.{◌≡◌, ℕ, ◌+◌, ◌≤◌, ◌||◌, Bool, true, false, not, cond, List, [], ◌∷◌, ◌++◌, eqb, ltb, ltb-false, refl, sym, ◌∙◌, ap, subst, arith, map, Option, Some, None, slice_set, ◌==◌, nat_lt, IfSome, filter, eqb-true, not-true, or_parts, not-false, same_Some, Done, Fed, Kind, Pickup, Dropoff, Ride, Stop, Vehicle, breaks_visits, broken_by, is_late, KeepsEvent, travel, find_ride, find_vehicle, State, placed_vehicle, Answered, raised, served, served_reply, done_at_stop, done_found, IsPlanFor, IsRouted, HasLegs, visits_due, visit_of, stops_of, IsStart}
 use Rattle.model_laws.proofs.plain.Among.{Among, among_map_back, among_filter_back, found_among}
 use Rattle.model_laws.proofs.plain.Numbers.{eqb-comm}
 use Rattle.model_laws.proofs.AboardLoads.{filter-kept, filter-skipped}
@@ -110,7 +110,7 @@ module _ (s : State) (v : Vehicle) (stop : Stop) (rest : List Stop) (r : IsRoute
 
   -- a drop-off is in time
   dropped_in_time : stop.kind ≡ Dropoff → (ride : Ride) → Among ride v.rides.items → eqb ride.id stop.ride ≡ true
-      → is_late late ride.id ≡ false → KeepsDropoff v ride
+      → is_late late ride.id ≡ false → IfSome ride.picked (λ picked. v.ready ≤ picked + ride.longest)
   dropped_in_time kind_is ride there is h =
       by_picked ride.picked
       (sym (ap (λ visits. breaks_visits ride ride.picked ((stop, v.ready) ∷ visits)) none_left) ∙ own_whole ride there is h)
@@ -171,7 +171,7 @@ module _ (s : State) (v : Vehicle) (stop : Stop) (rest : List Stop) (r : IsRoute
   served_event vehicle found Pickup kind_is =
       λ h. rw found (by_ride h (find_ride v.rides.items stop.ride) refl)
     where
-      by_ride : is_late late stop.ride ≡ false → (o : Option Ride) → find_ride v.rides.items stop.ride ≡ o → IfSome o (KeepsPickup v)
+      by_ride : is_late late stop.ride ≡ false → (o : Option Ride) → find_ride v.rides.items stop.ride ≡ o → IfSome o (λ r. v.ready ≤ r.latest)
       by_ride h None is = tt
       by_ride h (Some ride) is =
           let (there, same) = found_among (λ (x : Ride). x.id == stop.ride) v.rides.items ride is in
@@ -179,7 +179,7 @@ module _ (s : State) (v : Vehicle) (stop : Stop) (rest : List Stop) (r : IsRoute
   served_event vehicle found Dropoff kind_is =
       λ h. rw found (by_ride h (find_ride v.rides.items stop.ride) refl)
     where
-      by_ride : is_late late stop.ride ≡ false → (o : Option Ride) → find_ride v.rides.items stop.ride ≡ o → IfSome o (KeepsDropoff v)
+      by_ride : is_late late stop.ride ≡ false → (o : Option Ride) → find_ride v.rides.items stop.ride ≡ o → IfSome o (λ r. IfSome r.picked (λ picked. v.ready ≤ picked + r.longest))
       by_ride h None is = tt
       by_ride h (Some ride) is =
           let (there, same) = found_among (λ (x : Ride). x.id == stop.ride) v.rides.items ride is in

@@ -5,19 +5,11 @@ use Rattle.model_laws.proofs.RequestStates.{request_state-opening}
 use Rattle.model_laws.proofs.history_laws.Leaving.{is_batch-own}
 use Rattle.model_laws.proofs.history_laws.Opening.{is_of-among}
 
--- whether a request was cancelled, by its state
-was-cancelled : (s : State) (id : ℕ) → was_cancelled s id ≡ option_map_or is_cancelled (request_state s id) false
-was-cancelled s id = by_state (request_state s id) refl
-  where
-    by_state : (o : Option RequestState) → request_state s id ≡ o → was_cancelled s id ≡ option_map_or is_cancelled o false
-    by_state None is = rw is refl
-    by_state (Some state) is = rw is refl
-
 -- no request of a batch that was just opened is cancelled
 pub opened-not_cancelled : (s : State) (batch : BatchCopy) (ride : Ride) → Among ride batch.requests
     → was_cancelled (after_opening s batch) ride.id ≡ false
 opened-not_cancelled s batch ride there =
-    was-cancelled (after_opening s batch) ride.id ∙ ap (λ o. option_map_or is_cancelled o false) (request_state-opening s batch ride.id
+    ap (λ o. option_map_or is_cancelled o false) (request_state-opening s batch ride.id
     ∙ ap (λ b. cond b (option_map (λ _. InBatch batch.number) (request_state s ride.id)) (request_state s ride.id))
     (is_of-among batch.requests ride there)) ∙ marked (request_state s ride.id)
   where

@@ -4,7 +4,7 @@ ghost use Rattle.ride_model.specs.declared.entry.Entry.{Entry};
 ghost use Rattle.ride_model.specs.declared.vehicle.Vehicle.{Vehicle};
 ghost use Rattle.ride_model.specs.State.{State};
 ghost use Rattle.ride_model.specs.Legal.{IsLegal, replay};
-ghost use Rattle.ride_model.specs.Limits.{most_stops};
+ghost use Rattle.ride_model.specs.declared.limits.TheConstants.{MOST_STOPS};
 ghost use Rattle.model_laws.specs.history_laws.Start.{IsStart};
 ghost use Rattle.model_laws.specs.inner.history_laws.Start.{fed_total};
 ghost use Rattle.model_laws.specs.inner.history_laws.Consistent.{IsConsistent};
@@ -30,7 +30,7 @@ pub fn equal_versions_are_equal_records()
 pub fn plans_have_at_most_16_stops()
     ensures stops { (feeds desks : ℕ) (start : State) (entries : List Entry) → IsStart start
         → IsLegal feeds desks start entries
-        → All (λ (v : Vehicle). length v.stops.items ≤ most_stops) (replay start entries).vehicles }
+        → All (λ (v : Vehicle). length v.stops.items ≤ MOST_STOPS) (replay start entries).vehicles }
     ensures rides { (feeds desks : ℕ) (start : State) (entries : List Entry) → IsStart start
         → IsLegal feeds desks start entries
         → All (λ (v : Vehicle). length v.rides.items ≤ length v.stops.items)

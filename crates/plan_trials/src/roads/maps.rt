@@ -96,7 +96,7 @@ fn arc_within(rt: &impl Abort, nodes: u32, arc: (u32, u32, u32)) -> RoadArc
 {
     let (tail, head, seconds) = arc;
     assert!(rt;
-        1 <= tail && tail <= nodes && 1 <= head && head <= nodes && seconds <= Network::MOST_SECONDS
+        1 <= tail && tail <= nodes && 1 <= head && head <= nodes && seconds <= 1_000_000_000
     );
     RoadArc {
         tail,
@@ -114,7 +114,7 @@ pub(super) fn network(
 ) -> Network
     ensures { result.nodes ≡ nodes }
 {
-    assert!(rt; 1 <= nodes && nodes <= Network::MOST_NODES && arcs.len() <= 2_000_000);
+    assert!(rt; 1 <= nodes && nodes <= 500_000 && arcs.len() <= 2_000_000);
     let mut list = Vec::new(alloc);
     for arc in arcs {
         let arc = arc_within(rt, nodes, *arc);

@@ -7,7 +7,7 @@ use Rattle.ride_model.specs.Seating.{BatchCopy}
 use Rattle.ride_model.specs.Settings.{IsSettings}
 use Rattle.ride_model.specs.Vehicle.{IsRide, IsLawful}
 use Rattle.ride_model.specs.inner.Vehicle.{IsFresh}
-use Rattle.ride_model.specs.Limits.{latest_time}
+use Rattle.ride_model.specs.declared.limits.TheConstants.{LATEST_TIME}
 use Rattle.pricing_workers.specs.declared.times.Times.{Times}
 use Rattle.pricing_workers.specs.declared.wanted.Wanted.{Wanted}
 use Rattle.pricing_workers.specs.inner.Rows.{HoldsRows, HoldTimes}
@@ -23,7 +23,7 @@ pub record IsRequest (roads : RoadMap) (batch : BatchCopy) (ride : Ride) : Type 
 pub record MayFill (roads : RoadMap) (batch : BatchCopy) (wanted : Wanted) : Type 0 where
   pub map_fits : IsRoadMap roads
   pub settings_fit : IsSettings batch.settings
-  pub time_limit : batch.time ≤ latest_time
+  pub time_limit : batch.time ≤ LATEST_TIME
   pub lawful : All (IsLawful roads) batch.vehicles
   pub wanted_is : IsWanted batch.settings batch.time batch.vehicles wanted
 

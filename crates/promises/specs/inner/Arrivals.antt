@@ -4,7 +4,7 @@ use Rattle.ride_model.specs.declared.vehicle.Kind.{Kind}
 use Rattle.ride_model.specs.declared.vehicle.Kind.TheVariants.{Pickup, Dropoff}
 use Rattle.ride_model.specs.declared.vehicle.Ride.{Ride}
 use Rattle.ride_model.specs.declared.vehicle.Stop.{Stop}
-use Rattle.ride_model.specs.Limits.{latest_ready, longest_ride}
+use Rattle.ride_model.specs.declared.limits.TheConstants.{LATEST_READY, LONGEST_RIDE}
 use Rattle.stop_plans.specs.inner.First.{is_visit}
 
 -- the first arrival at a visit of this kind of a ride
@@ -33,5 +33,5 @@ breaks_along stops times ride =
 
 -- a ride of at most 10^6 seconds, of a rider who boarded by the end of the last day
 pub record IsLimited (ride : Ride) : Type 0 where
-  pub longest_limit : ride.longest ≤ longest_ride
-  pub picked_limit : IfSome ride.picked (λ picked. picked ≤ latest_ready)
+  pub longest_limit : ride.longest ≤ LONGEST_RIDE
+  pub picked_limit : IfSome ride.picked (λ picked. picked ≤ LATEST_READY)

@@ -4,8 +4,8 @@ use Rattle.ride_ports.specs.Contents.{GivenBack}
 use Rattle.ride_ports.specs.Count.{Rose}
 use Rattle.board_core.specs.Recorded.{Recorded}
 use Rattle.live_sessions.specs.Serving.{FeedRun}
-use Rattle.dispatcher.specs.Shelves.{AreGivenBack, IsBackOf, IsSpent, Shelved, Sunk, told_bytes}
-use Rattle.dispatcher.specs.inner.Handing.{Adds, MissesAfter}
+use Rattle.dispatcher.specs.Shelves.{AreGivenBack, IsSpent, Shelved, Sunk, told_bytes}
+use Rattle.dispatcher.specs.inner.Handing.{Adds, IsBackOf, MissesAfter}
 use Rattle.resumption.specs.Goings.{still_gives, GoesOn}
 
 -- both feeds were brought, the session went on over them, and they were given back. Where it ran whole, nothing is left of a feed that

@@ -7,8 +7,8 @@ use Rattle.log_audit.specs.declared.restoring.Restoration.{Restoration}
 use Rattle.log_audit.specs.declared.verdict.AuditFault.{AuditFault}
 use Rattle.log_audit.specs.declared.verdict.AuditFault.TheVariants.{ReadFault}
 use Rattle.live_sessions.specs.Serving.{FeedRun}
-use Rattle.dispatcher.specs.Shelves.{IsBackOf, Shelved, told_bytes}
-use Rattle.dispatcher.specs.inner.Handing.{Adds, Misses}
+use Rattle.dispatcher.specs.Shelves.{Shelved, told_bytes}
+use Rattle.dispatcher.specs.inner.Handing.{Adds, IsBackOf, Misses}
 use Rattle.resumption.specs.Logs.{ReadsLog}
 
 -- the source of a log was brought, read and given back

@@ -6,7 +6,7 @@ use Rattle.log_audit.specs.declared.restoring.Restoration.TheVariants.{Standing}
 use Rattle.log_audit.specs.declared.verdict.AuditFault.{AuditFault}
 use Rattle.live_sessions.specs.Resuming.{HaveFewCommands}
 use Rattle.dispatcher.specs.Meanings.{Meaning, start_of}
-use Rattle.dispatcher.specs.Shelves.{IsUntouched, Shelved, Sunk}
+use Rattle.dispatcher.specs.Shelves.{Shelved, Sunk}
 use Rattle.resumption.specs.inner.Goings.{GoesOnOver}
 use Rattle.resumption.specs.Logs.{EndsLog}
 use Rattle.dispatcher.specs.inner.Handing.{Misses}
@@ -16,7 +16,7 @@ use Rattle.resumption.specs.inner.Logs.{HandsLogBack}
 pub record MissesLog (name : List ℕ) (old new : Shelved) (out : Sunk) (status : ℕ) : Type 0 where
   pub status_is : status ≡ 5
   pub in_vain : Misses name old new
-  pub untouched : IsUntouched out
+  pub untouched : out.after ≡ out.before
 
 -- it gave no board to go on from, and that was said
 pub record RefusesLog (m : Meaning) (name : List ℕ) (old new : Shelved) (out : Sunk) (status : ℕ) : Type 0 where

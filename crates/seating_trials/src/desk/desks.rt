@@ -3,6 +3,7 @@ ghost use Rattle.booking_desk.specs.inner.Desk.{IsRequest};
 
 use booking_desk::{BookReply, BookingDesk};
 use ride_model::Command;
+use ride_model::limits::MOST_REQUESTS;
 use std::alloc::Global;
 use std::process::Abort;
 
@@ -77,7 +78,7 @@ fn tell(rt: &impl Abort, told: &mut Vec<u64>, number: u64) {
 
 /// What a desk of so many bookings tells of a day.
 fn told_of(rt: &impl Abort, alloc: Global, most: u32, actions: &[Action]) -> Vec<u64> {
-    assert!(rt; most <= BookingDesk::MOST_BOOKINGS);
+    assert!(rt; most <= MOST_REQUESTS);
     let mut desk = BookingDesk::new(alloc, most).expect(rt, "there is memory");
     let mut told = Vec::new(alloc);
     for action in actions {

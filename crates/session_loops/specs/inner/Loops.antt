@@ -1,5 +1,5 @@
--- What only lemmas and lower contracts use beside Loops.antt.
-use Rattle.std.specs.Prelude.{◌≡◌, ℕ, ◌≤◌, ◌++◌, ⊤, true, false, List, [], ◌∷◌, length, take, Option, Some, None, IsFalse}
+-- What the loops of feeds, desks and the scribe leave of a shared board's passes.
+use Rattle.std.specs.Prelude.{◌≡◌, ℕ, ◌≤◌, ◌++◌, ⊤, true, false, List, [], ◌∷◌, length, take, All, Option, Some, None, IsFalse, IsTrue}
 use mathlib.Core.List.{IsPrefix}
 use Rattle.ride_model.specs.declared.entry.Ending.{Ending}
 use Rattle.ride_model.specs.declared.entry.Ending.TheVariants.{Whole, Cut}
@@ -19,7 +19,7 @@ use Rattle.board_core.specs.Recorded.{end_entry, opened_entry}
 use Rattle.fleet_board.specs.inner.Passes.{Known, actor_of, all_ended, commands_in, root_of, seen_state}
 use Rattle.session_loops.specs.Stops.{AreFirstOf}
 use Rattle.line_text.specs.line_reader.FeedRuns.{IsReadWhole}
-use Rattle.session_loops.specs.Loops.{AreFed}
+use Rattle.model_laws.specs.history_laws.Start.{is_fed}
 
 -- a pass has seen more, made these entries and ended its actor so; nothing else of it changed
 pub record EndsWith (old new : Known) (made : List Entry) (ending : Ending) : Type 0 where
@@ -31,7 +31,7 @@ pub record EndsWith (old new : Known) (made : List Entry) (ending : Ending) : Ty
 -- was wanting, those within the limits and before a fault where only the source was
 pub record HasFed (form : FeedForm) (feed left : Option (List ℕ)) (ran : Ran) (taken : List ℕ) (answers : List Entry) (ending : Ending) : Type 0 where
   pub reads : Reads feed left taken
-  pub fed : AreFed answers
+  pub fed : All (λ (entry : Entry). IsTrue (is_fed entry.event)) answers
   pub first : AreFirstOf form feed taken (commands_in answers)
   pub whole : ran.no_memory ≡ false → IsReadWhole ran → (ending ≡ Whole) × IsWhole form left (commands_in answers) taken
   pub cut : ran.no_memory ≡ false → (IsReadWhole ran → ⊥) → (ending ≡ Cut) × (commands_in answers ≡ ended_commands form taken)

@@ -1,5 +1,5 @@
 -- What feeds and desks have made of their passes before they end.
-use Rattle.std.specs.Prelude.{◌≡◌, ℕ, ◌++◌, ⊤, Bool, true, false, List, Option, MatchOption, IsFalse}
+use Rattle.std.specs.Prelude.{◌≡◌, ℕ, ◌++◌, ⊤, Bool, true, false, List, All, Option, MatchOption, IsFalse, IsTrue}
 use mathlib.Core.List.{IsPrefix}
 use Rattle.ride_model.specs.declared.command.Command.{Command}
 use Rattle.ride_model.specs.declared.command.Actor.{Actor}
@@ -17,7 +17,7 @@ use Rattle.board_core.specs.Recorded.{opened_entry}
 use Rattle.fleet_board.specs.inner.Passes.{Known, AddsEntry, commands_in}
 use Rattle.line_text.specs.declared.line_reader.stops.Stop.{Stop}
 use Rattle.line_text.specs.declared.line_reader.stops.Stop.TheVariants.{NoMemory, OfFeed}
-use Rattle.session_loops.specs.Loops.{AreFed}
+use Rattle.model_laws.specs.history_laws.Start.{is_fed}
 use Rattle.session_loops.specs.inner.Loops.{AreBatches, Closes}
 use Rattle.session_loops.specs.Stops.{AreFirstOf}
 
@@ -43,7 +43,7 @@ pub record HasSubmitted (form : FeedForm) (feed left : Option (List ℕ)) (stop 
   pub taken : List ℕ
   pub answers : List Entry
   pub made : HasMade old new answers
-  pub fed : AreFed answers
+  pub fed : All (λ (entry : Entry). IsTrue (is_fed entry.event)) answers
   pub reads : Reads feed left taken
   pub first : AreFirstOf form feed taken (commands_in answers)
   pub ended : MatchOption stop (IsWhole form left (commands_in answers) taken) (λ why. IsStoppedBy form why (commands_in answers) taken)

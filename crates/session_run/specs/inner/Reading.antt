@@ -1,5 +1,6 @@
 -- What a session has answered of its feed.
 use Rattle.std.specs.Prelude.{◌≡◌, ℕ, ◌++◌, ◌||◌, if◌then◌else◌, Bool, true, false, List, Option, Some, None, MatchOption}
+use Rattle.std.specs.List.{flat_map}
 use mathlib.Core.List.{IsPrefix}
 use Rattle.ride_model.specs.declared.entry.Ending.{Ending}
 use Rattle.ride_model.specs.declared.entry.Ending.TheVariants.{Whole, Cut}
@@ -13,7 +14,7 @@ use Rattle.command_lines.specs.inner.Feeds.{IsStopped}
 use Rattle.command_lines.specs.Limits.{new_feed}
 use Rattle.board_core.specs.Recorded.{Recorded}
 use Rattle.idle_moves.specs.declared.moves.MoveSheet.{MoveSheet}
-use Rattle.idle_moves.specs.AheadText.{ahead_text, head_line, sheet_lines}
+use Rattle.idle_moves.specs.AheadText.{ahead_text, head_line, sheet_line}
 use Rattle.idle_moves.specs.HistorySheets.{AreSheetsOf}
 use Rattle.line_text.specs.inner.text_page.Output.{HasPut, OutputState}
 use Rattle.session_loops.specs.Stops.{AreFirstOf}
@@ -30,7 +31,7 @@ feed_ending ran = if ran.source_failed || ran.too_long then Cut else Whole
 -- the text of sheets, without its last line where memory was wanting
 abbrev pub sheets_text : ℕ → Bool → Ending → List MoveSheet → List ℕ
 sheets_text reach no_memory ending sheets =
-    if no_memory then head_line reach ++ sheet_lines sheets else ahead_text reach ending sheets
+    if no_memory then head_line reach ++ flat_map sheet_line sheets else ahead_text reach ending sheets
 
 -- why a session's feed was stopped after these bytes: memory was wanting, or the feed gave no more
 abbrev pub IsEnded : ℕ → Stop → Recorded → Bool → List ℕ → Type 0
@@ -71,7 +72,7 @@ pub record TellsSheets (reach : ℕ) (text : List MoveSheet → List ℕ) (earli
 abbrev pub HasToldBy : Option ℕ → Option (List ℕ) → Option (List ℕ) → ℕ → ℕ → SessionState → Type 0
 HasToldBy None earlier now faults_before faults_now s = IsTold earlier now faults_before faults_now s.output s.board
 HasToldBy (Some reach) earlier now faults_before faults_now s =
-    TellsSheets reach (λ sheets. head_line reach ++ sheet_lines sheets) earlier now faults_before faults_now s
+    TellsSheets reach (λ sheets. head_line reach ++ flat_map sheet_line sheets) earlier now faults_before faults_now s
 
 abbrev pub HasTold : Option (List ℕ) → Option (List ℕ) → ℕ → ℕ → SessionState → Type 0
 HasTold earlier now faults_before faults_now s = HasToldBy s.reach earlier now faults_before faults_now s

@@ -1,6 +1,6 @@
 -- What only lemmas and lower contracts use beside Running.antt.
-use Rattle.std.specs.Prelude.{◌≡◌, ◌≢◌, ℕ, ◌+◌, ◌⊎◌, ◌++◌, ⊤, Bool, true, false, List, [], ◌∷◌, All, IsFalse, Some}
-use Rattle.std.specs.List.{list_any}
+use Rattle.std.specs.Prelude.{◌≡◌, ◌≢◌, ℕ, ◌+◌, ◌⊎◌, ◌++◌, ⊤, Bool, true, false, List, [], ◌∷◌, All, IsFalse, IsTrue, Some}
+use Rattle.std.specs.List.{list_all, list_any}
 use Rattle.ride_model.specs.declared.command.Actor.TheVariants.{Desk, Feed}
 use Rattle.ride_model.specs.declared.command.Command.{Command}
 use Rattle.ride_model.specs.declared.entry.Entry.{Entry}
@@ -14,12 +14,16 @@ use Rattle.ride_model.specs.History.Awaited.{opening, commit}
 use Rattle.ride_model.specs.Seating.{BatchCopy}
 use Rattle.model_laws.specs.inner.history_laws.Consistent.{IsOpenBatch}
 use Rattle.board_core.specs.Recorded.{Recorded, state_of}
-use Rattle.session_run.specs.Settled.{IsSettled}
+use Rattle.session_run.specs.Settled.{settles}
 use Rattle.session_run.specs.Running.{IsPrompt}
 
 -- whether a batch was given up
 abbrev pub gave_up : List Entry → Bool
 gave_up entries = list_any (λ (entry : Entry). is_abandoned entry.event) entries
+
+-- no outcome of a history is moved, behind or gone
+abbrev pub IsSettled : List Entry → Type 0
+IsSettled entries = IsTrue (list_all (λ (entry : Entry). settles entry.event) entries)
 
 -- an event opens a batch, or commits one
 abbrev pub IsOpening : Event → Type 0

@@ -6,7 +6,7 @@ use Rattle.ride_model.specs.declared.vehicle.Load.{Load}
 use Rattle.ride_model.specs.declared.vehicle.Ride.{Ride}
 use Rattle.ride_model.specs.declared.vehicle.Vehicle.{Vehicle}
 use Rattle.ride_model.specs.Road.{least_of}
-use Rattle.ride_model.specs.Limits.{latest_ready, latest_time, longest_dwell, longest_ride, greatest_weight}
+use Rattle.ride_model.specs.declared.limits.TheConstants.{GREATEST_WEIGHT, LATEST_READY, LATEST_TIME, LONGEST_DWELL, LONGEST_RIDE}
 use Rattle.insertion.specs.declared.near.Near.{Near}
 use Rattle.insertion.specs.declared.near.NearStop.{NearStop}
 use Rattle.insertion.specs.inner.Joined.{leg_before, leg_after}
@@ -145,12 +145,12 @@ pub record IsNearStop (stop : NearStop) : Type 0 where
 
 -- the ranges of the terms
 pub record AreTerms (terms : Terms) : Type 0 where
-  pub start_limit : terms.start ≤ latest_ready
-  pub dwell_limit : terms.dwell ≤ longest_dwell
-  pub drive_limit : terms.drive ≤ greatest_weight
-  pub wait_limit : terms.wait ≤ greatest_weight
-  pub latest_limit : terms.latest ≤ latest_time
-  pub longest_limit : terms.longest ≤ longest_ride
+  pub start_limit : terms.start ≤ LATEST_READY
+  pub dwell_limit : terms.dwell ≤ LONGEST_DWELL
+  pub drive_limit : terms.drive ≤ GREATEST_WEIGHT
+  pub wait_limit : terms.wait ≤ GREATEST_WEIGHT
+  pub latest_limit : terms.latest ≤ LATEST_TIME
+  pub longest_limit : terms.longest ≤ LONGEST_RIDE
   pub few_seats : terms.takes.seats ≤ 8
   pub few_chairs : terms.takes.chairs ≤ 4
 

@@ -7,7 +7,7 @@ use Rattle.ride_model.specs.declared.vehicle.Vehicle.{Vehicle}
 use Rattle.ride_model.specs.Loads.{load_after, loads_of}
 use Rattle.ride_model.specs.Times.{times_of}
 use Rattle.ride_model.specs.Keeps.{keeps}
-use Rattle.ride_model.specs.Limits.{most_stops}
+use Rattle.ride_model.specs.declared.limits.TheConstants.{MOST_STOPS}
 use Rattle.slack_tables.specs.declared.trips.Trip.{Trip}
 use Rattle.slack_tables.specs.inner.Tables.{PlanSlack}
 use Rattle.slack_tables.specs.inner.Trips.{trip_of, room_of}
@@ -33,7 +33,7 @@ slack_of v start dwell = record {
 -- tables of one shape: one load more than arrivals, and a row for each load that ends at the last place; arrivals and loads are
 -- of a lawful vehicle's size
 pub record AreTables (slack : PlanSlack) : Type 0 where
-  pub few : length slack.times ≤ most_stops
+  pub few : length slack.times ≤ MOST_STOPS
   pub one_load_more : length slack.loads ≡ length slack.times + 1
   pub one_row_more : length slack.rooms ≡ length slack.times + 1
   pub rows_end : (change : ℕ) → change ≤ length slack.times

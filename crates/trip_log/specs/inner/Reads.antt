@@ -16,7 +16,7 @@ use Rattle.ride_model.specs.declared.offer.Seat.{Seat}
 use Rattle.ride_model.specs.declared.reply.Reply.{Reply}
 use Rattle.ride_model.specs.declared.reply.Reply.TheVariants.{Waiting, Cancelled, Freed, OnMap, Late, Picked, Dropped, Duty, Now, Asked}
 use Rattle.ride_model.specs.declared.reply.Reply.TheVariants.{Noted, Refused}
-use Rattle.ride_model.specs.Limits.{most_rides}
+use Rattle.ride_model.specs.declared.limits.TheConstants.{MOST_RIDES}
 use Rattle.command_lines.specs.inner.Commands.{command_of}
 use Rattle.trip_log.specs.declared.kinds.Kind.{Kind}
 use Rattle.trip_log.specs.declared.kinds.Kind.TheVariants.{End as ToEnd, Cut as ToCut, Bad as ToBad, Open as ToOpen, Commit as ToCommit}
@@ -56,7 +56,7 @@ numbered_reply word number =
 
 -- at most as many ids as a vehicle has rides
 abbrev pub few_ids : List ℕ → Option (List ℕ)
-few_ids ids = if nat_le (length ids) most_rides then Some ids else None
+few_ids ids = if nat_le (length ids) MOST_RIDES then Some ids else None
 
 -- the rides that a late report breaks
 abbrev pub broken_from : List (List ℕ) → Option (List ℕ)

@@ -4,7 +4,7 @@ ghost use Rattle.line_text.specs.Lines.{lines_of};
 ghost use Rattle.ride_model.specs.declared.entry.Entry.{Entry};
 ghost use Rattle.ride_model.specs.History.{fed_commands};
 ghost use Rattle.ride_model.specs.Legal.{IsLegal};
-ghost use Rattle.ride_model.specs.Limits.{most_batches};
+ghost use Rattle.ride_model.specs.declared.limits.TheConstants.{MOST_BATCHES};
 ghost use Rattle.ride_model.specs.State.{State};
 ghost use Rattle.ride_model.specs.Text.{HasText, IsOneOrTwo, entry_line, text_of};
 ghost use Rattle.model_laws.specs.history_laws.Start.{IsStart};
@@ -27,7 +27,7 @@ pub fn commands_come_from_feeds()
 pub fn entries_are_few()
     ensures { (feeds desks : ℕ) (start : State) (entries : List Entry) → IsStart start
         → IsOneOrTwo feeds → IsOneOrTwo desks → IsLegal feeds desks start entries
-        → length entries ≤ fed_total entries + 2 * most_batches + most_ends }
+        → length entries ≤ fed_total entries + 2 * MOST_BATCHES + most_ends }
 {}
 
 /// The text of a legal history has so many bytes at most for each command, for each batch that may be asked for, for each end
@@ -36,7 +36,7 @@ pub fn texts_are_short()
     ensures { (feeds desks : ℕ) (start : State) (entries : List Entry) → IsStart start
         → IsLegal feeds desks start entries → HasText start.settings.log feeds desks entries
         → length (text_of start.settings.log feeds desks entries)
-        ≤ longest_fed * fed_total entries + longest_batch * most_batches
+        ≤ longest_fed * fed_total entries + longest_batch * MOST_BATCHES
         + longest_end * most_ends + longest_head }
 {}
 

@@ -1,7 +1,7 @@
 -- A graph of arcs that grows while its nodes are contracted.
 use Rattle.std.specs.Prelude.{◌≡◌, ◌≢◌, ℕ, ◌+◌, ◌^◌, ◌<◌, ◌≤◌, List, [], ◌∷◌, ◌++◌, length, slice_index_or}
 use Rattle.ride_model.specs.declared.network.RoadArc.{RoadArc}
-use Rattle.ride_model.specs.Limits.{longest_arc}
+use Rattle.ride_model.specs.declared.limits.TheConstants.{LONGEST_ARC}
 use Rattle.road_times.specs.declared.side.Side.{Side}
 use Rattle.road_times.specs.declared.side.Side.TheVariants.{Out, Back}
 use Rattle.road_times.specs.inner.Turned.{turned_arc}
@@ -46,7 +46,7 @@ pub record IsFit (nodes : ℕ) (arc : RoadArc) : Type 0 where
   pub tail : arc.tail ≤ nodes
   pub some_head : 1 ≤ arc.head
   pub head : arc.head ≤ nodes
-  pub seconds : arc.seconds ≤ longest_arc
+  pub seconds : arc.seconds ≤ LONGEST_ARC
 
 -- a graph of arcs in order
 pub record IsGraphOf (nodes : ℕ) (arcs : List RoadArc) (chains : List Chain) (first_out first_back levels order : List ℕ) : Type 0 where

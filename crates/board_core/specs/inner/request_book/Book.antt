@@ -5,11 +5,11 @@ use Rattle.ride_model.specs.declared.reply.RequestState.{RequestState}
 use Rattle.ride_model.specs.declared.vehicle.Ride.{Ride}
 use Rattle.ride_model.specs.State.{AcceptedRequest}
 use Rattle.ride_model.specs.Batch.{is_waiting}
-use Rattle.ride_model.specs.Limits.{most_requests}
+use Rattle.ride_model.specs.declared.limits.TheConstants.{MOST_REQUESTS}
 
 -- at most 100,000 requests, of distinct ids
 pub record IsBook (requests : List AcceptedRequest) : Type 0 where
-  pub few : length requests ≤ most_requests
+  pub few : length requests ≤ MOST_REQUESTS
   pub ids_differ : IsDistinct nat_eq (map (λ (request : AcceptedRequest). request.ride.id) requests)
 
 -- the request of an id

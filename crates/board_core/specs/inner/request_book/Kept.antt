@@ -2,7 +2,7 @@
 use Rattle.std.specs.Prelude.{◌≡◌, ℕ, ◌+◌, if◌then◌else◌, List, [], ◌∷◌, map, All}
 use Rattle.ride_model.specs.State.{AcceptedRequest}
 use Rattle.ride_model.specs.Batch.{is_waiting}
-use Rattle.ride_model.specs.Limits.{most_requests}
+use Rattle.ride_model.specs.declared.limits.TheConstants.{MOST_REQUESTS}
 use Rattle.board_core.specs.declared.request_book.Accepted.{Accepted}
 use Rattle.board_core.specs.inner.request_book.Book.{IsBook}
 use Rattle.wait_list.specs.inner.Waiting.{Waiting}
@@ -25,5 +25,5 @@ waiting_places place (request ∷ requests) =
 pub record IsKept (entries : List (ℕ × Accepted)) (waiting : Waiting) : Type 0 where
   pub book : IsBook (requests_in entries)
   pub keys_are : All (λ (entry : ℕ × Accepted). entry.0 ≡ entry.1.ride.id) entries
-  pub room : waiting.capacity ≡ most_requests
+  pub room : waiting.capacity ≡ MOST_REQUESTS
   pub places_are : waiting.places ≡ waiting_places 0 (requests_in entries)

@@ -6,4 +6,4 @@ use Rattle.dispatcher.proofs.runs.book.Goals as goal
 
 pub returns : goal.returns
 returns g c =
-    work-run _ _ _ _ _ _ _ (none-read nothing _ c.requires.fresh) _ (feed_file _) _ refl (inr refl) (any-text _) (λ over did. (over, did)) c.work_over.ensures
+    work-run _ _ _ _ _ _ _ (none-read nothing _ c.requires.fresh) _ (feed_file _) _ refl (λ sources. inr refl) (any-text _) (λ over did. (over, did)) c.work_over.ensures

@@ -1,7 +1,6 @@
-use Rattle.dispatcher.proofs.Common.{inr, refl, sym, ◌∙◌, a_drill}
+use Rattle.dispatcher.proofs.Common.{inr, refl, sym, ◌∙◌, a_drill, sink-status, source-status, whole-status}
 use Rattle.dispatcher.proofs.Reading.{none-read}
 use Rattle.dispatcher.proofs.Running.{run-of}
-use Rattle.dispatcher.proofs.Statuses.{sink-status, source-status, whole-status}
 use Rattle.dispatcher.proofs.TextRuns.{nothing}
 use Rattle.dispatcher.proofs.runs.drill.Goals as goal
 

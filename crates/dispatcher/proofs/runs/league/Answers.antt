@@ -4,9 +4,8 @@ use Rattle.dispatcher.proofs.runs.league.Goals as goal
 
 pub returns-in-Ok : goal.returns-in-Ok
 returns-in-Ok g c =
-    work-run _ _ _ _ _ _ _ c.in-Ok.ensures.texts _ (feed_file _) _ refl (inr refl) (any-text _) (λ over did. (over, did)) c.work_over.ensures
+    work-run _ _ _ _ _ _ _ c.in-Ok.ensures.texts _ (feed_file _) _ refl (λ sources. inr refl) (any-text _) (λ over did. (over, did)) c.work_over.ensures
 
 pub returns-in-Err : goal.returns-in-Err
 returns-in-Err g c =
-    stopped-run _ (text_files _ _ (Some _)) _ _ _ _ _ _ refl c.in-Err.ensures.texts c.answer.ensures.status c.answer.ensures.said
-    c.answer.ensures.no_memory
+    stopped-run _ (text_files _ _ (Some _)) _ _ _ _ _ _ refl c.in-Err.ensures.texts c.answer.ensures

@@ -7,5 +7,4 @@ returns-in-Ok g c = serve-run _ _ _ _ _ _ _ _ _ _ _ _ c.in-Ok.ensures.texts c.se
 
 pub returns-in-Err : goal.returns-in-Err
 returns-in-Err g c =
-    stopped-run _ (text_files _ _ None) _ _ _ _ _ _ refl c.in-Err.ensures.texts c.answer.ensures.status c.answer.ensures.said
-    c.answer.ensures.no_memory
+    stopped-run _ (text_files _ _ None) _ _ _ _ _ _ refl c.in-Err.ensures.texts c.answer.ensures

@@ -1,7 +1,6 @@
-use Rattle.dispatcher.proofs.Common.{inl, inr, refl, sym, ◌∙◌, given_back, feed_run, meaning_of}
+use Rattle.dispatcher.proofs.Common.{inl, inr, refl, sym, ◌∙◌, given_back, feed_run, meaning_of, sink-status, source-status, whole-status}
 use Rattle.dispatcher.proofs.Bringing.{bytes-of, bytes-told, hands-two, misses-first, misses-second}
 use Rattle.dispatcher.proofs.ServedFeeds.{drivers-worked, riders-worked, served-of}
-use Rattle.dispatcher.proofs.Statuses.{sink-status, source-status, whole-status}
 use Rattle.dispatcher.proofs.serving.serve_feeds.Goals as goal
 
 pub returns-in_default : goal.returns-in_default

@@ -14,7 +14,7 @@ use Rattle.ride_model.specs.State.{State, AcceptedRequest, accepted_request, req
 use Rattle.ride_model.specs.Step.{step}
 use Rattle.ride_model.specs.Text.{IsSpelled, IsSpelledCommand}
 use Rattle.ride_model.specs.Vehicle.{ride_ids}
-use Rattle.ride_model.specs.Limits.{largest_batch}
+use Rattle.ride_model.specs.declared.limits.TheConstants.{LARGEST_BATCH}
 use Rattle.model_laws.specs.inner.Requests.{is_of}
 use Rattle.board_core.specs.Recorded.{Recorded, state_of}
 use Rattle.fleet_league.specs.Awards.{request_of}
@@ -46,7 +46,7 @@ pub record HasOpened (before : State) (batch : BatchCopy) (desk : Recorded) : Ty
   pub all_opened : before.opened ≡ before.asked
   pub number_is : batch.number ≡ before.opened + 1
   pub desk_is : batch.desk ≡ 1
-  pub few : length batch.requests ≤ largest_batch
+  pub few : length batch.requests ≤ LARGEST_BATCH
   pub differ : IsDistinct nat_eq (ride_ids batch.requests)
   pub in_batch : All (λ (ride : Ride). request_state (state_of desk) ride.id ≡ Some (InBatch batch.number)) batch.requests
   pub ids_spelled : All (λ (ride : Ride). IsSpelled ride.id) batch.requests

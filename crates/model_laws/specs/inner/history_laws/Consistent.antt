@@ -12,7 +12,7 @@ use Rattle.ride_model.specs.Seating.{BatchCopy, find_vehicle, vehicle_ids}
 use Rattle.ride_model.specs.inner.Seating.{IsBatchOver}
 use Rattle.ride_model.specs.State.{State, AcceptedRequest, accepted_request}
 use Rattle.ride_model.specs.Vehicle.{IsRide, IsLawful, ride_ids}
-use Rattle.ride_model.specs.Limits.{latest_time, most_batches, most_requests}
+use Rattle.ride_model.specs.declared.limits.TheConstants.{LATEST_TIME, MOST_BATCHES, MOST_REQUESTS}
 
 -- the ids of the accepted requests, in order of acceptance
 abbrev pub request_ids : List AcceptedRequest → List ℕ
@@ -80,10 +80,10 @@ pub record IsConsistent (desks fed : ℕ) (start s : State) : Type 0 where
   pub roads_stay : s.roads ≡ start.roads
   pub settings_stay : s.settings ≡ start.settings
   pub fleet_stays : vehicle_ids s.vehicles ≡ vehicle_ids start.vehicles
-  pub clock_fits : s.clock ≤ latest_time
-  pub few_asked : s.asked ≤ most_batches
+  pub clock_fits : s.clock ≤ LATEST_TIME
+  pub few_asked : s.asked ≤ MOST_BATCHES
   pub few_opened : s.opened ≤ s.asked
-  pub few_requests : length s.requests ≤ most_requests
+  pub few_requests : length s.requests ≤ MOST_REQUESTS
   pub requests_differ : IsDistinct nat_eq (request_ids s.requests)
   pub requests_fit : All (λ (request : AcceptedRequest). IsRide s.roads request.ride) s.requests
   pub requests_wait : All (λ (request : AcceptedRequest). request.ride.picked ≡ None) s.requests

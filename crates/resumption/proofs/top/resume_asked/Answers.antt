@@ -7,5 +7,4 @@ returns-in-Ok g c = resumption-over (asked_by_resumption c.args.asked) _ _ _ c.i
 
 pub returns-in-Err : goal.returns-in-Err
 returns-in-Err g c =
-    stopped-resumption (asked_by_resumption c.args.asked) _ _ _ c.answer.result c.in-Err.stop c.in-Err.ensures.texts c.answer.ensures.status
-    c.answer.ensures.said c.answer.ensures.no_memory
+    stopped-resumption (asked_by_resumption c.args.asked) _ _ _ c.answer.result c.in-Err.stop c.in-Err.ensures.texts c.answer.ensures

@@ -16,7 +16,7 @@ add-requires-clause-fits c =
       tail = into.tail;
       some_head = onward.some_head;
       head = onward.head;
-      seconds = omega (arith, c.if-seconds-from.false, c.from-3.ensures);
+      seconds = omega (arith, c.if-seconds-gt-LONGEST_ARC.false);
     }
 
 pub returns-then-reaches-clause-covered : goal.returns-then-reaches-clause-covered

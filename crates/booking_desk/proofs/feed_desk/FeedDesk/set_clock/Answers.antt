@@ -1,16 +1,16 @@
-use Rattle.booking_desk.proofs.Common.{◌++◌, ◌∷◌, [], ap, ◌∙◌, DeskState, most_bookings, after_clock, clock, released_at}
+use Rattle.booking_desk.proofs.Common.{◌++◌, ◌∷◌, [], ap, ◌∙◌, DeskState, MOST_REQUESTS, after_clock, clock, released_at}
 use Rattle.booking_desk.proofs.Moments.{clock-set, released-due}
 use Rattle.booking_desk.proofs.feed_desk.FeedDesk.set_clock.Goals as goal
 
 pub returns-clause-desk : goal.returns-clause-desk
 returns-clause-desk g c calls is =
     let time = c.args.time in
-    let set = c.clock.ensures ∙ ap (λ (d : DeskState). after_clock d time) is ∙ clock-set most_bookings calls time in
-    c.release_due.ensures.desk (calls ++ clock time ∷ []) (released_at most_bookings calls time) set (released-due most_bookings calls time)
+    let set = c.clock.ensures ∙ ap (λ (d : DeskState). after_clock d time) is ∙ clock-set MOST_REQUESTS calls time in
+    c.release_due.ensures.desk (calls ++ clock time ∷ []) (released_at MOST_REQUESTS calls time) set (released-due MOST_REQUESTS calls time)
 
 pub returns-clause-put : goal.returns-clause-put
 returns-clause-put g c calls before faults text is has =
     let time = c.args.time in
-    let set = c.clock.ensures ∙ ap (λ (d : DeskState). after_clock d time) is ∙ clock-set most_bookings calls time in
-    c.release_due.ensures.put (calls ++ clock time ∷ []) (released_at most_bookings calls time) before faults text set
-    (released-due most_bookings calls time) has
+    let set = c.clock.ensures ∙ ap (λ (d : DeskState). after_clock d time) is ∙ clock-set MOST_REQUESTS calls time in
+    c.release_due.ensures.put (calls ++ clock time ∷ []) (released_at MOST_REQUESTS calls time) before faults text set
+    (released-due MOST_REQUESTS calls time) has

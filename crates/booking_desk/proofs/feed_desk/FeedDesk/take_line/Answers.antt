@@ -1,4 +1,4 @@
-use Rattle.booking_desk.proofs.Common.{◌≡◌, ◌++◌, true, false, Option, Some, None, refl, sym, ap, subst, ◌∙◌, append-nil, List, ℕ, fields_of, is_over_long, HasPut, call_of_fields, calls_in, text_of_lines, with_lf, DeskCall, book, clock, desk_after, unbook, most_bookings}
+use Rattle.booking_desk.proofs.Common.{◌≡◌, ◌++◌, true, false, Option, Some, None, refl, sym, ap, subst, ◌∙◌, append-nil, List, ℕ, fields_of, is_over_long, HasPut, call_of_fields, calls_in, text_of_lines, with_lf, DeskCall, book, clock, desk_after, unbook, MOST_REQUESTS}
 use Rattle.booking_desk.specs.declared.asked.Asked.{Asked}
 use Rattle.booking_desk.specs.inner.Asked.{as_call}
 use Rattle.booking_desk.proofs.BookedLines.{asked-next, book-next, clock-next, over-next, short-whole, unbook-next}
@@ -16,7 +16,7 @@ returns-in-None-clause-booked g c before faults lines whole has line over =
     let is : c.args.line.now ≡ whole = short-whole c.args.line.now whole line short in
     let asked : ◌≡◌ {A = Option DeskCall} None (call_of_fields (fields_of whole)) = c.in-None.ensures.call ∙ ap (λ l. call_of_fields (fields_of l)) is in
     asked-next before _ faults _ c.args.self.now _ lines whole has.counted has.desk_is refl short None asked
-    (has.desk_is ∙ ap (desk_after most_bookings) (sym (append-nil (calls_in lines))))
+    (has.desk_is ∙ ap (desk_after MOST_REQUESTS) (sym (append-nil (calls_in lines))))
     (subst (λ (l : List ℕ). HasPut before (g.K.Sink.written c.put_line.new.out) faults (g.K.Sink.faults c.put_line.new.out) c.put_line.new.output
     (text_of_lines lines ++ with_lf l)) is (c.put_line.ensures before faults (text_of_lines lines) has.put))
 

@@ -1,4 +1,4 @@
-use Rattle.session_run.proofs.Common.{◌≡◌, ℕ, Option, Some, None, cond, [], ◌++◌, take, sym, ap, subst, ◌∙◌, ◌||◌, not, text_of, Recorded, sheet_lines, HasPut, SessionState, reach_of, is_whole, sheets_in, HasToldBy, GoesOnWith}
+use Rattle.session_run.proofs.Common.{◌≡◌, ℕ, Option, Some, None, cond, [], ◌++◌, take, sym, ap, subst, ◌∙◌, ◌||◌, not, text_of, Recorded, sheet_line, HasPut, SessionState, reach_of, is_whole, sheets_in, HasToldBy, GoesOnWith, flat_map}
 use Rattle.session_run.proofs.ToldSheets.{told-first, told-more}
 use Rattle.session_run.proofs.session.Session.tell.Goals as goal
 
@@ -20,7 +20,7 @@ returns-in-Sheets-clause-told g c earlier faults board goes has =
     (told-more reach c.args.answered.now earlier (g.K.Sink.written c.args.out.now) (g.K.Sink.written c.tell_sheet.new.out) faults
     (g.K.Sink.faults c.args.out.now) (g.K.Sink.faults c.tell_sheet.new.out) old new wanting
     (λ text before. subst (λ b. HasPut earlier (g.K.Sink.written c.tell_sheet.new.out) faults (g.K.Sink.faults c.tell_sheet.new.out) new.output
-    (text ++ cond b [] (sheet_lines (sheets_in c.args.answered.now)))) (sym (ap (λ (s : SessionState). s.no_memory) others))
+    (text ++ cond b [] (flat_map sheet_line (sheets_in c.args.answered.now)))) (sym (ap (λ (s : SessionState). s.no_memory) others))
     (c.tell_sheet.ensures.told earlier faults text
     (subst (λ (s : SessionState). HasPut earlier (g.K.Sink.written c.args.out.now) faults (g.K.Sink.faults c.args.out.now) s.output text) (sym view) before)))
     c.args.told

@@ -1,8 +1,7 @@
 -- Who has ended whole after a legal history, by his own part of it.
-use Rattle.dispatcher.proofs.Common.{◌≡◌, ℕ, true, false, ◌||◌, List, [], ◌∷◌, ◌++◌, refl, sym, ap, ◌∙◌, IsTrue, All-weaker, list_any-append, list_any_none, Feed, Ending, Whole, Cut, Entry, Event, Finish, entries_of, ended_whole, is_whole, replay, State, is_whole_end, has_whole_end, IsStart, is_fed}
+use Rattle.model_laws.proofs.Common.{◌≡◌, ℕ, true, false, ◌||◌, List, [], ◌∷◌, ◌++◌, refl, sym, ap, ◌∙◌, IsTrue, All, All-weaker, list_any-append, list_any_none, Feed, Ending, Whole, Cut, Entry, Event, Finish, entries_of, ended_whole, is_whole, replay, State, is_whole_end, has_whole_end, IsStart, is_fed}
 use Rattle.model_laws.proofs.history_laws.Finished.{whole-after}
 use Rattle.board_core.specs.Recorded.{end_entry}
-use Rattle.session_loops.specs.Loops.{AreFed}
 
 -- answers to commands are no ends
 fed-no-end : (event : Event) → IsTrue (is_fed event) → is_whole_end event ≡ false
@@ -16,7 +15,8 @@ whole-of Cut is = absurd (cc is)
 -- a feed that had not ended whole at a state, and has after entries, has a whole end in its part of them
 pub ending-whole : (feed : ℕ) (s : State) (entries answers : List Entry) (ending : Ending) → ended_whole s (Feed feed) ≡ false
     → ended_whole (replay s entries) (Feed feed) ≡ true
-    → entries_of (Feed feed) entries ≡ answers ++ end_entry (Feed feed) ending ∷ [] → AreFed answers → ending ≡ Whole
+    → entries_of (Feed feed) entries ≡ answers ++ end_entry (Feed feed) ending ∷ []
+    → All (λ (entry : Entry). IsTrue (is_fed entry.event)) answers → ending ≡ Whole
 ending-whole feed s entries answers ending nobody whole part fed =
     whole-of ending (
     sym (ap (λ b. b || (is_whole ending || false)) (list_any_none (λ (entry : Entry). is_whole_end entry.event) answers

@@ -1,10 +1,14 @@
 -- What a session's status tells of what was wanting.
-use Rattle.dispatcher.proofs.Common.{◌≡◌, ◌⊎◌, inl, inr, ℕ, ◌≤◌, ◌+◌, true, false, List, length, Option, Some, refl, ap, sym, subst, ◌∙◌, arith, length-append, Reads, Ran, Reads-told, IsTooLong, IsWithinLimits}
+use Rattle.model_laws.proofs.Common.{◌≡◌, ◌⊎◌, inl, inr, ℕ, ◌≤◌, ◌+◌, true, false, List, length, Option, Some, refl, ap, sym, subst, ◌∙◌, arith, length-append}
+use Rattle.ride_ports.proofs.ByteLemmas.{Reads-told}
+use Rattle.ride_ports.specs.Bytes.{Reads}
 use Rattle.ride_ports.specs.Status.{status_of as status_ran}
-use Rattle.line_text.specs.Lines.{lines_of}
+use Rattle.ride_ports.specs.declared.outcome.Ran.{Ran}
 use Rattle.line_text.proofs.LineLemmas.{lines-grow}
+use Rattle.line_text.specs.Lines.{lines_of}
 use Rattle.line_text.specs.declared.line_reader.limits.Limits.{Limits}
 use Rattle.line_text.specs.line_reader.FeedRuns.{IsReadWhole}
+use Rattle.line_text.specs.line_reader.Limits.{IsTooLong, IsWithinLimits}
 
 -- what a session's status may be
 pub ran-status : (ran : Ran) → (status_ran ran ≡ 0) ⊎ (status_ran ran ≡ 1) ⊎ (status_ran ran ≡ 5) ⊎ (status_ran ran ≡ 6) ⊎ (status_ran ran ≡ 8)
