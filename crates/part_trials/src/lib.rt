@@ -1,12 +1,8 @@
-//! Trials of texts and of the outside (`texts`), and of lists, queues, locks and the book of requests. It has nothing but tests.
+//! Trials of texts and of the outside (`texts`), and of the waiting list, the lock and the book of requests. It has nothing but tests.
 #![tactic(auto)]
 
 #[cfg(test)]
-mod links;
-#[cfg(test)]
 mod locks;
-#[cfg(test)]
-mod queues;
 #[cfg(test)]
 mod requests;
 #[cfg(test)]

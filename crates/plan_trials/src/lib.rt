@@ -1,4 +1,4 @@
-//! Trials of roads (`roads`), plans, offers and cities, and rows worked by hand (`worked_rows`). Its library is the small roads, rides and
+//! Trials of lists and queues, roads (`roads`), plans, offers and cities, and rows worked by hand (`worked_rows`). Its library is the small roads, rides and
 //! vehicles and the town (`trial_town`) that other trials and the bench share.
 #![tactic(auto)]
 
@@ -10,7 +10,11 @@ mod drawn_plans;
 mod limits;
 pub mod line_road;
 #[cfg(test)]
+mod links;
+#[cfg(test)]
 mod offers;
+#[cfg(test)]
+mod queues;
 #[cfg(test)]
 mod roads;
 #[cfg(test)]

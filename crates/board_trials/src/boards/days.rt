@@ -14,7 +14,7 @@ use batch_commit::Batch;
 use board_core::{Board, Opening};
 use plan_trials::trial_town::{fleet, settings};
 use pricing_workers::{Pricer, seat_batch};
-use ride_model::{Actor, Command, Ending, Entry, NoMemory, Reply, RequestState};
+use ride_model::{Actor, Command, Ending, Entry, NoMemory, RequestState};
 use ride_ports::{MemSink, OpenGate};
 use std::alloc::Global;
 use std::marker::Model;
@@ -162,7 +162,7 @@ impl<'r> Day<'r> {
     /// Takes a step, with ample memory.
     pub(super) fn take<R: Threads + Sync + Abort>(&mut self, rt: &R, step: &Step) {
         match step {
-            Step::Tell(feed, command) => self.tell(rt, *feed, *command),
+            Step::Tell(feed, command) => tell(rt, &mut self.board, *feed, *command),
             Step::Open(desk) => assert!(rt; matches!(self.open(rt, *desk), Ok(Got::Batch))),
             Step::FindNone(desk) => assert!(rt; matches!(self.open(rt, *desk), Ok(Got::Idle))),
             Step::FindEnd(desk) => assert!(rt; matches!(self.open(rt, *desk), Ok(Got::Ended))),
@@ -172,11 +172,6 @@ impl<'r> Day<'r> {
             Step::Reserve(entries) => assert!(rt; self.board.reserve(*entries).is_ok()),
             Step::Show(look) => assert!(rt; shows(&self.board, look)),
         }
-    }
-
-    // Gives a feed's command.
-    fn tell(&mut self, rt: &impl Abort, feed: u8, command: Command) {
-        assert!(rt; tell(rt, &mut self.board, feed, command).is_ok());
     }
 
     // Lets a desk open its next batch.
@@ -288,13 +283,8 @@ fn count(board: &Board<'_>) -> usize
     board.entries().len()
 }
 
-/// Gives a feed's command.
-pub(super) fn tell(
-    rt: &impl Abort,
-    board: &mut Board<'_>,
-    feed: u8,
-    command: Command,
-) -> Result<Reply, NoMemory>
+/// Gives a feed's command, with ample memory.
+pub(super) fn tell(rt: &impl Abort, board: &mut Board<'_>, feed: u8, command: Command)
     ensures start { board.new.start ≡ board.old.start }
     ensures held { (b : BatchCopy)
         → open_batch_numbered (state_of board.old) b.desk b.number ≡ Some b
@@ -304,11 +294,11 @@ pub(super) fn tell(
     assert!(rt; !board.has_ended(Actor::Feed(feed)));
     assert!(rt; count(board) < 1_000_000_000);
     assert!(rt; is_spelled(&command));
-    board.apply(feed, &command)
+    assert!(rt; board.apply(feed, &command).is_ok());
 }
 
-/// What a desk gets that asks for a batch.
-pub(super) fn open(rt: &impl Abort, board: &mut Board<'_>, desk: u8) -> Result<Opening, NoMemory>
+// What a desk gets that asks for a batch.
+fn open(rt: &impl Abort, board: &mut Board<'_>, desk: u8) -> Result<Opening, NoMemory>
     ensures start { board.new.start ≡ board.old.start }
     ensures held { (b : BatchCopy)
         → open_batch_numbered (state_of board.old) b.desk b.number ≡ Some b
@@ -321,6 +311,19 @@ pub(super) fn open(rt: &impl Abort, board: &mut Board<'_>, desk: u8) -> Result<O
     assert!(rt; !board.has_ended(Actor::Desk(desk)));
     assert!(rt; board.open_of(desk).is_none());
     board.open_batch(desk)
+}
+
+/// The batch that a desk opens, which was asked for.
+pub(super) fn opened(rt: &impl Abort, board: &mut Board<'_>, desk: u8) -> Batch
+    ensures start { board.new.start ≡ board.old.start }
+    ensures desk { result.desk ≡ desk }
+    ensures held { open_batch_numbered (state_of board.new) result.desk result.number
+        ≡ Some result }
+{
+    match open(rt, board, desk) {
+        Ok(Opening::Batch(batch)) => batch,
+        _ => panic!(rt; "a batch was asked for"),
+    }
 }
 
 // Commits the batch that is kept.

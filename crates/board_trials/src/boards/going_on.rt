@@ -3,15 +3,15 @@ ghost use Rattle.std.specs.Prelude.{◌≡◌, Some};
 ghost use Rattle.ride_model.specs.State.{open_batch_numbered};
 ghost use Rattle.board_core.specs.Recorded.{state_of};
 
-use super::days::{open, tell};
+use super::days::{opened, tell};
 use super::{SEVEN, roads};
 use adaptive_roads::Roads;
 use batch_commit::Batch;
-use board_core::{Board, Opening};
-use fleet_board::{PassSet, SharedBoard, Tail};
+use board_core::Board;
+use fleet_board::{PassSet, SharedBoard};
 use plan_trials::trial_town::{fleet, settings};
 use pricing_workers::Pricer;
-use ride_model::{Actor, Command, Ending, Event};
+use ride_model::{Actor, Command, Ending, Entry, Event};
 use ride_ports::OpenGate;
 use session_loops::desk_loop;
 use std::process::Abort;
@@ -30,22 +30,32 @@ fn open_one(rt: &impl Abort, board: &mut Board<'_>) -> Batch
     ensures held { open_batch_numbered (state_of board.new) result.desk result.number
         ≡ Some result }
 {
-    assert!(rt; tell(rt, board, 1, SEVEN).is_ok());
-    assert!(rt; tell(rt, board, 1, Command::Ask).is_ok());
-    match open(rt, board, 1) {
-        Ok(Opening::Batch(batch)) => batch,
-        _ => panic!(rt; "a batch was asked for"),
+    tell(rt, board, 1, SEVEN);
+    tell(rt, board, 1, Command::Ask);
+    opened(rt, board, 1)
+}
+
+// The batch that an event opens, 0 where it opens none.
+fn opened_by(event: &Event) -> u64 {
+    match event {
+        Event::Opened { batch, .. } => *batch,
+        _ => 0,
+    }
+}
+
+// The batch that an event commits, 0 where it commits none.
+fn committed_by(event: &Event) -> u64 {
+    match event {
+        Event::Committed { batch, .. } => *batch,
+        _ => 0,
     }
 }
 
 // Whether all is there: the fifth entry is the commit of the batch that the third opened.
-fn is_whole(tail: &Tail) -> bool {
-    let entries = tail.entries.as_slice();
-    if entries.len() != ENTRIES || !tail.settled {
-        return false;
-    }
-    matches!(entries[2].event, Event::Opened { batch: 1, .. })
-        && matches!(entries[4].event, Event::Committed { batch: 1, .. })
+fn is_whole(entries: &[Entry]) -> bool {
+    entries.len() == ENTRIES
+        && opened_by(&entries[2].event) == 1
+        && committed_by(&entries[4].event) == 1
 }
 
 // Shares a board on which a batch is open, and lets its actors go on to their ends.
@@ -86,7 +96,7 @@ fn go_on<R: Threads + Wait + Sync + Abort + AllocGlobal>(
     let Ok(tail) = board.tail(rt, rt.alloc(), &mut scribe, 0, 100) else {
         panic!(rt; "there is memory");
     };
-    assert!(rt; is_whole(&tail));
+    assert!(rt; tail.settled && is_whole(tail.entries.as_slice()));
 }
 
 // The same over the town.

@@ -1,14 +1,13 @@
 //! Both ways to search a pair's places, over the first batch of a generated city.
 ghost use Rattle.std.specs.Prelude.{◌≡◌, ◌≤◌, ◌<◌, Some, IfOk, length};
-ghost use Rattle.ride_model.specs.Seating.{BatchCopy};
 ghost use Rattle.ride_model.specs.State.{open_batch_numbered};
 ghost use Rattle.board_core.specs.Recorded.{state_of};
 
 use super::Town;
-use super::days::{open, tell};
+use super::days::{opened, tell};
 use adaptive_roads::Roads;
 use batch_commit::{Batch, PriceTable};
-use board_core::{Board, Opening};
+use board_core::Board;
 use pricing_workers::{Pricer, Search, price_batch_by};
 use ride_model::{Command, NoMemory};
 use ride_ports::OpenGate;
@@ -110,23 +109,15 @@ fn expect_batch<R: Threads + Sync + Abort>(
 }
 
 /// The batch after the first commands, of which the last asks for it.
-fn first_batch(
-    rt: &impl Abort,
-    board: &mut Board<'_>,
-    commands: &[Command],
-) -> Result<Batch, NoMemory>
+fn first_batch(rt: &impl Abort, board: &mut Board<'_>, commands: &[Command]) -> Batch
     ensures start { board.new.start ≡ board.old.start }
-    ensures held { IfOk result (λ (b : BatchCopy). open_batch_numbered
-        (state_of board.new) b.desk b.number ≡ Some b) }
+    ensures held { open_batch_numbered (state_of board.new) result.desk result.number
+        ≡ Some result }
 {
     for command in commands {
-        tell(rt, board, 1, *command)?;
+        tell(rt, board, 1, *command);
     }
-    match open(rt, board, 1)? {
-        Opening::Batch(batch) => Ok(batch),
-        Opening::Idle => panic!(rt; "a batch was asked for"),
-        Opening::Ended => panic!(rt; "a batch was asked for"),
-    }
+    opened(rt, board, 1)
 }
 
 /// The first batch of a town's feed, on a new board.
@@ -146,8 +137,6 @@ pub(super) fn expect_first_batch<R: Threads + Sync + Abort>(
     let Ok(mut board) = Board::new(alloc, roads, settings, fleet, 1, 1) else {
         panic!(rt; "there is memory");
     };
-    let Ok(batch) = first_batch(rt, &mut board, &commands[..10]) else {
-        panic!(rt; "there is memory");
-    };
+    let batch = first_batch(rt, &mut board, &commands[..10]);
     expect_batch(rt, alloc, &board, &batch, roads);
 }

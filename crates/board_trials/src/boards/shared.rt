@@ -1,6 +1,6 @@
 //! Boards that passes share: a booking that comes due, desks that seat, a rider who cancels in an open batch, orders that go stale, and
 //! what a scribe reads.
-ghost use Rattle.std.specs.Prelude.{◌≡◌, ◌≤◌, ◌<◌, ℕ, [], ◌∷◌, length, All, IfOk};
+ghost use Rattle.std.specs.Prelude.{◌≡◌, ◌≤◌, ◌<◌, ℕ, [], ◌∷◌, length, All};
 ghost use Rattle.ride_model.specs.Legal.{versions_of};
 ghost use Rattle.ride_model.specs.Text.{IsSpelledCommand};
 ghost use Rattle.turn_lock.specs.Passes.{knowledge};
@@ -21,7 +21,7 @@ use fleet_board::{ActorPass, PassSet, SharedBoard};
 use idle_moves::{Move, VersionWatch};
 use plan_trials::trial_town::{fleet, settings};
 use pricing_workers::{Pricer, seat_batch};
-use ride_model::{Command, Entry, Event, NoMemory, Outcome};
+use ride_model::{Command, Entry, Event, Outcome};
 use ride_ports::OpenGate;
 use std::alloc::Global;
 use std::process::Abort;
@@ -70,7 +70,6 @@ const AT_NODE_1: Command = at_node!(1);
 const AT_NODE_2: Command = at_node!(2);
 
 /// A report of a node that is not on the map.
-/// A node that is not on the map.
 const AT_NODE_9: Command = at_node!(9);
 
 /// Desks open batches and commit them.
@@ -207,16 +206,20 @@ fn tell_all<'r, R: Wait + Abort>(
 }
 
 // A desk whose one booking is due.
-fn desk_with_one(rt: &impl Abort, alloc: Global) -> Result<BookingDesk, NoMemory>
-    ensures { IfOk result (λ desk. (log : ℕ)
-        → All (λ (booking : Booking). IsSpelledCommand log booking.request) desk.held) }
+fn desk_with_one(rt: &impl Abort, alloc: Global) -> BookingDesk
+    ensures { (log : ℕ)
+        → All (λ (booking : Booking). IsSpelledCommand log booking.request) result.held }
 {
     let request = NINE;
     assert!(rt; is_spelled(&request));
-    let mut desk = BookingDesk::new(alloc, 1)?;
-    desk.book(60, &request)?;
+    let Ok(mut desk) = BookingDesk::new(alloc, 1) else {
+        panic!(rt; "there is memory");
+    };
+    let Ok(_) = desk.book(60, &request) else {
+        panic!(rt; "there is memory");
+    };
     desk.clock(60);
-    Ok(desk)
+    desk
 }
 
 // What is due is submitted once.
@@ -228,9 +231,7 @@ fn release<'r, R: Wait + Abort + AllocGlobal>(
     requires { MayFeed board.now feed.old }
     ensures { MayFeed board.now feed.new }
 {
-    let Ok(mut desk) = desk_with_one(rt, rt.alloc()) else {
-        panic!(rt; "there is memory");
-    };
+    let mut desk = desk_with_one(rt, rt.alloc());
     assert!(rt; seen(feed) < 1_000);
     assert!(rt; desk.release_due(rt, board, feed) == Ok(1));
     assert!(rt; desk.held() == 0 && feed.seen() == 1);
@@ -288,24 +289,21 @@ fn commit<'r, R: Threads + Wait + Sync + Abort>(
     }
 }
 
-// One desk opens a batch, where the play has one, and commits it.
+// One desk opens a batch, and commits it once this was told.
 fn seat_by_one<'r, R: Threads + Wait + Sync + Abort>(
     rt: &R,
     board: &SharedBoard<'r>,
     feed: &mut ActorPass<'r>,
     desk: &mut ActorPass<'r>,
     pricer: &mut Pricer<'_>,
-    play: &Play,
+    told_then: &[Command],
 )
     requires feed { MayFeed board.now feed.old }
     requires desk { MayOpen board.now desk.old }
     requires roads { pricer.old ≡ (root_of (knowledge desk.old)).start.roads }
 {
-    if play.batches == 0 {
-        return;
-    }
     let batch = open(rt, board, desk);
-    tell_all(rt, board, feed, play.told_then);
+    tell_all(rt, board, feed, told_then);
     commit(rt, board, desk, pricer, batch);
 }
 
@@ -496,13 +494,15 @@ fn share<'r, R: Threads + Wait + Sync + Abort + AllocGlobal>(
         panic!(rt; "a board has a desk");
     };
     begin(rt, &board, &mut feed, play);
-    if play.batches < 2 {
-        seat_by_one(rt, &board, &mut feed, &mut first, pricer, play);
-    } else {
-        let Some(mut second) = desk_2 else {
-            panic!(rt; "this board has two desks");
-        };
-        seat_by_two(rt, &board, &mut first, &mut second, pricer);
+    match play.batches {
+        0 => {}
+        1 => seat_by_one(rt, &board, &mut feed, &mut first, pricer, play.told_then),
+        _ => {
+            let Some(mut second) = desk_2 else {
+                panic!(rt; "this board has two desks");
+            };
+            seat_by_two(rt, &board, &mut first, &mut second, pricer);
+        }
     }
     expect_read(rt, &board, &mut scribe, watch, play);
 }

@@ -1,5 +1,5 @@
 use Rattle.std.proofs.Common.{◌≡◌, length}
-use Rattle.part_trials.proofs.links.ends_well.Given as goal
+use Rattle.plan_trials.proofs.links.ends_well.Given as goal
 
 abbrev pub invariant-loop-step : goal.invariant-loop-step
 invariant-loop-step g l = record {
