@@ -84,7 +84,7 @@ module _ {S V E : Type 0} (format : Format S V E) (refused : E → Stop) (name :
   untold (Ok value) bytes reads = tt
   untold (Err stop) bytes (inl memory) = inl memory
   untold (Err stop) bytes (inr (inl fault)) = inr (inl (fault.0, all_of_none (FailsIn format None)))
-  untold (Err stop) bytes (inr (inr error)) = inr (inr (error.0, error.1, tt))
+  untold (Err stop) bytes (inr (inr error)) = inr (inr (error.0, error.1, error.2, tt))
 
   failed-so : (file : Option (List ℕ)) (source : GivenBack) (outcome : Result V Stop) → ReadsAs format refused file [] outcome
       → (outcome ≡ Err ShelfFault → FailsIn format file source) → ReadsAs format refused file (source ∷ []) outcome

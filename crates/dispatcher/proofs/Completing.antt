@@ -40,7 +40,7 @@ no-text-stop : {S V E : Type 0} (format : Format S V E) (refused : E → Stop) (
 no-text-stop format refused None sources value stop whole stops = absurd whole
 no-text-stop format refused (Some text) sources value stop whole (inl memory) = inl memory
 no-text-stop format refused (Some text) sources value stop whole (inr (inl fault)) = inr fault.0
-no-text-stop format refused (Some text) sources value stop whole (inr (inr (e, is, error))) = absurd (cc (error, whole))
+no-text-stop format refused (Some text) sources value stop whole (inr (inr (e, is, refusal, error))) = absurd (cc (error, whole))
 
 one-network : (file : Option (List ℕ)) (one other : RoadMap) → IsSomeAnd file (λ text. map_text text ≡ Ok one)
     → IfSome file (λ text. map_text text ≡ Ok other) → other ≡ one

@@ -1,5 +1,5 @@
 -- What the texts of a run mean, and why one stops it.
-use Rattle.std.specs.Prelude.{◌≡◌, ◌⊎◌, ℕ, ◌≤◌, ⊤, List, [], ◌++◌, length, All, Option, Some, Ok, Err, IfSome, IsOk, codes, decimal}
+use Rattle.std.specs.Prelude.{◌≡◌, ◌≢◌, ◌⊎◌, ℕ, ◌≤◌, ⊤, List, [], ◌++◌, length, All, Option, Some, Ok, Err, IfSome, IsOk, codes, decimal}
 use Rattle.ride_ports.specs.Bytes.{Reads}
 use Rattle.ride_ports.specs.Contents.{Contents, GivenBack}
 use Rattle.line_text.specs.Texts.{Format, after_ended, text_value}
@@ -7,9 +7,9 @@ use Rattle.ride_model.specs.Road.{RoadMap}
 use Rattle.ride_model.specs.State.{State, start_state}
 use Rattle.ride_model.specs.declared.settings.Settings.{Settings}
 use Rattle.ride_model.specs.declared.vehicle.Vehicle.{Vehicle}
-use Rattle.gr_reader.specs.declared.errors.MapError.TheVariants.{NoProblem, SecondProblem, BadLine, NodeOut, WeightOut, ArcCount, TooLarge, TooLong}
+use Rattle.gr_reader.specs.declared.errors.MapError.TheVariants.{NoProblem, SecondProblem, BadLine, NodeOut, WeightOut, ArcCount, TooLarge, TooLong, ReadFault, NoMemory as NoMemoryForMap}
 use Rattle.gr_reader.specs.MapText.{map_format, map_text}
-use Rattle.fleet_file.specs.declared.errors.FleetError.TheVariants.{BadLine as FleetBadLine, Repeat, NodeOut as FleetNodeOut, ValueOut, TooMany, TooLong as FleetTooLong}
+use Rattle.fleet_file.specs.declared.errors.FleetError.TheVariants.{BadLine as FleetBadLine, Repeat, NodeOut as FleetNodeOut, ValueOut, TooMany, TooLong as FleetTooLong, ReadFault as FleetReadFault, NoMemory as NoMemoryForFleet}
 use Rattle.fleet_file.specs.FleetText.{fleet_format, fleet_text}
 use Rattle.run_words.specs.Words.{File, map_file, fleet_file, second_fleet_file, name_of}
 use Rattle.dispatcher.specs.Shelves.{told_bytes}
@@ -43,11 +43,17 @@ pub record FailsIn {S V E : Type 0} (format : Format S V E) (file : Option (List
   pub within : length taken ≤ format.most
   pub sound : IsOk (after_ended format taken)
 
+-- a text is refused for what it says: no fault of a source and no want of memory is a refusal
+abbrev pub IsRefusal : Stop → Type 0
+IsRefusal (MapRefused e) = (e ≢ ReadFault) × (e ≢ NoMemoryForMap)
+IsRefusal (FleetRefused e) = (e ≢ FleetReadFault) × (e ≢ NoMemoryForFleet)
+IsRefusal _ = ⊥
+
 -- why a run stops at a text of this format, of which these sources were given back: memory was wanting; the shelf failed, and then so
 -- did each of them; or the text's error, which is that of its bytes where they are told
 abbrev pub StopsBy : {S V E : Type 0} → Format S V E → (E → Stop) → Option (List ℕ) → List GivenBack → Stop → Type 0
 StopsBy {E} format refused told sources stop = (stop ≡ NoMemory) ⊎ ((stop ≡ ShelfFault) × All (FailsIn format told) sources)
-    ⊎ ((e : E) × (stop ≡ refused e) × IfSome told (λ bytes. text_value format bytes ≡ Err e))
+    ⊎ ((e : E) × (stop ≡ refused e) × IsRefusal stop × IfSome told (λ bytes. text_value format bytes ≡ Err e))
 
 -- why one stops at a file, where the texts before it mean this. Feeds and logs are judged as they are read
 abbrev pub StopsAt : Option Contents → Meaning → File → List GivenBack → Stop → Type 0
