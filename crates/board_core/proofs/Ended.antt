@@ -1,5 +1,5 @@
 -- Actors that end.
-use Rattle.board_core.proofs.Common.{◌≡◌, ℕ, ◌+◌, ◌≤◌, Bool, true, false, ◌&&◌, ◌||◌, cond, List, [], ◌∷◌, ◌++◌, refl, sym, ◌∙◌, ap, subst, length-append, arith, Option, Some, None, is_some, option_map, list_any, eqb-true, list_any-append, or-true, or-false, Actor, Feed, Desk, Ending, Entry, Finish, ended_whole, is_whole, is_abandoned, after_event, IsLegalEvent, State, is_actor, has_ended, with_end, open_batch_of, BatchCopy, IsOneOrTwo, replay-push, Desks, Service, Given, ending_of, is_whole_end, places_kept, with_ending, Mirrors, IsBoard, at_number, with_number, one_if_some, Recorded, state_of}
+use Rattle.board_core.proofs.Common.{◌≡◌, ℕ, ◌+◌, ◌≤◌, Bool, true, false, ◌&&◌, ◌||◌, cond, List, [], ◌∷◌, ◌++◌, refl, sym, ◌∙◌, ap, subst, length-append, arith, Option, Some, None, is_some, option_map, list_any, eqb-true, list_any-append, or-true, or-false, Actor, Feed, Desk, Ending, Entry, Finish, ended_whole, is_whole, is_abandoned, after_event, IsLegalEvent, State, is_actor, has_ended, open_batch_of, BatchCopy, IsOneOrTwo, replay-push, Desks, Service, Given, ending_of, is_whole_end, places_kept, with_ending, Mirrors, IsBoard, at_number, with_number, one_if_some, Recorded, state_of}
 use Rattle.board_core.proofs.FedEntries.{within-push, none-of_others}
 use Rattle.board_core.proofs.Numbering.{at_number-with, count-with, count-le}
 use Rattle.board_core.proofs.Boards.{pushed, recorded-push, abandoned-push}
@@ -52,9 +52,9 @@ places-with kept (Desk number) ending fits lives =
 -- what is kept mirrors the state after an end
 mirrors-ended : (setup : Given) (service : Service) (kept : Desks) (s : State) (old new : List Entry) (actor : Actor) (ending : Ending)
     → Mirrors setup service kept s old → IsOneOrTwo (number_of actor) → has_ended s actor ≡ false → kept.given_up ≡ list_any (λ (entry : Entry). is_abandoned entry.event) new
-    → Mirrors setup service (with_ending actor ending kept) (with_end s actor ending) new
+    → Mirrors setup service (with_ending actor ending kept) (record s { ended = s.ended ++ (actor, ending) ∷ [] }) new
 mirrors-ended setup service kept s old new actor ending m fits lives given_up = record {
-  state_is = ap (λ t. with_end t actor ending) m.state_is;
+  state_is = ap (λ (t : State). record t { ended = t.ended ++ (actor, ending) ∷ [] }) m.state_is;
   opened_is = same_opened actor;
   open_are = same_open actor;
   ended_are = λ other. list_any-append (λ (end : Actor × Ending). is_actor end.0 other) s.ended ((actor, ending) ∷ [])
@@ -120,7 +120,7 @@ board-ended setup service kept capacity room board actor ending is legal rises =
     let s : State = state_of board in
     let entry : Entry = record { actor = actor; event = Finish ending } in
     let may = may-finish board.feeds board.desks s actor ending is.recorded.feeds_fit.1 is.recorded.desks_fit.1 legal in
-    let after_end : state_of (pushed board entry board.spare) ≡ with_end s actor ending
+    let after_end : state_of (pushed board entry board.spare) ≡ record s { ended = s.ended ++ (actor, ending) ∷ [] }
     = replay-push board.start board.history entry ∙ by_actor s actor in
     record {
       ids_are = is.ids_are;
@@ -139,6 +139,6 @@ board-ended setup service kept capacity room board actor ending is legal rises =
       );
     }
   where
-    by_actor : (s : State) (a : Actor) → after_event s a (Finish ending) ≡ with_end s a ending
+    by_actor : (s : State) (a : Actor) → after_event s a (Finish ending) ≡ record s { ended = s.ended ++ (a, ending) ∷ [] }
     by_actor s (Feed n) = refl
     by_actor s (Desk n) = refl

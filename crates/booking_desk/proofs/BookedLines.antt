@@ -1,10 +1,19 @@
 -- What the lines of a feed ask and give, one after the other.
-use Rattle.booking_desk.proofs.Common.{◌≡◌, ℕ, ◌+◌, Bool, true, false, cond, List, [], ◌∷◌, ◌++◌, Option, Some, None, length, take, take_all, refl, ap, sym, subst, ◌∙◌, append_assoc, append-nil, length-append, arith, filter, nat_lt, ◌≤◌, IfOk, MatchResult, Result, Ok, Err, cons_option, flat_map_more, filter_map-append, begins_with, fields_of, is_over_long, ended_after, ended_lines, Command, IsSpelledCommand, HasPut, put-nothing, put-two, BookReply, Held, Now, Refused, call_of, call_of_fields, calls_in, asked_text, over_long_line, part_of, parts_after, refusal_line, released_text, reply_text, request_line, text_of_lines, with_lf, Booking, DeskState, is_before, is_held, reply_to_book, MOST_REQUESTS, IsRequest, after_book, after_reply, after_unbook, FeedDesk, AreSpelled, HasBooked, IsNew, IsSpelledBooking, DeskCall, book, unbook, clock, desk_after, released_at, each-append, each-filter}
+use Rattle.booking_desk.proofs.Common.{◌≡◌, ℕ, ◌+◌, Bool, true, false, cond, List, [], ◌∷◌, ◌++◌, Option, Some, None, length, take, take_all, refl, ap, sym, subst, ◌∙◌, append_assoc, append-nil, arith, filter, nat_lt, ◌≤◌, OnOk, Result, Ok, Err, cons_option, flat_map_more, filter_map-append, fields_of, is_over_long, Command, IsSpelledCommand, BookReply, Held, Now, Refused, call_of, call_of_fields, calls_in, asked_text, over_long_line, part_of, parts_after, refusal_line, released_text, reply_text, request_line, text_of_lines, with_lf, Booking, DeskState, is_before, is_held, reply_to_book, MOST_REQUESTS, IsRequest, after_book, after_reply, after_unbook, AreSpelled, HasBooked, IsSpelledBooking, PutsOn, new_desk, DeskCall, book, unbook, clock, desk_after, released_at, each-append, each-filter}
 use Rattle.booking_desk.proofs.AfterCalls.{booked-is, unbooked-is}
 
-pub begins-take : (line : List ℕ) → begins_with 35 (take 200 line) ≡ begins_with 35 line
-begins-take [] = refl
-begins-take (b ∷ line) = refl
+-- a fact, where a call went well
+on-ok : {T E A : Type 0} (r : Result T E) → A → OnOk r A
+on-ok (Ok x) fact = fact
+on-ok (Err e) fact = tt
+
+on-ok-then : {T E A B : Type 0} (r : Result T E) → (A → B) → OnOk r A → OnOk r B
+on-ok-then (Ok x) then fact = then fact
+on-ok-then (Err e) then fact = tt
+
+pub over_long-take : (line : List ℕ) → over_long_line (take 200 line) ≡ over_long_line line
+over_long-take [] = refl
+over_long-take (b ∷ line) = refl
 
 -- what is held after a booking has a text
 pub spelled-book : (desk : DeskState) (release : ℕ) (request : Command) → IsRequest request → IsSpelledCommand 2 request → AreSpelled desk.held
@@ -76,69 +85,79 @@ short-whole line whole is short = is ∙ take_all 200 whole (nat_lt_false-le 200
     nat_lt_false-le a b h = grind arith
 
 -- one more line was booked
-module _ (before later : Option (List ℕ)) (faults m : ℕ) (desk new : FeedDesk) (lines : List (List ℕ)) (whole : List ℕ)
-    (counted : desk.lines ≡ length lines) (desk_is : desk.desk ≡ desk_after MOST_REQUESTS (calls_in lines)) (more : new.lines ≡ desk.lines + 1) where
-  count-is : new.lines ≡ length (lines ++ whole ∷ [])
-  count-is = omega (arith, more, counted, length-append lines (whole ∷ []))
+module _ (lines : List (List ℕ)) (text : List ℕ) (desk : DeskState) (whole : List ℕ) (number : ℕ) (has : HasBooked lines text desk)
+    (numbered : number ≡ length lines + 1) where
+  -- what is on a page then, where memory was not wanting
+  abbrev pub TakesIt : List ℕ → List ℕ → DeskState → Type 0
+  TakesIt before after new = (more : List ℕ) × (after ≡ before ++ more) × HasBooked (lines ++ whole ∷ []) (text ++ more) new
 
-  pub over-next : is_over_long whole ≡ true → new.desk ≡ desk.desk
-      → HasPut before later faults m new.output (text_of_lines lines ++ over_long_line whole)
-      → HasBooked before later faults m new (lines ++ whole ∷ [])
-  over-next over same put = record {
-    counted = count-is;
-    desk_is = same ∙ desk_is ∙ ap (desk_after MOST_REQUESTS) (sym (calls-over_long lines whole over));
-    put = subst (λ t. HasPut before later faults m new.output t)
-        (ap (λ t. text_of_lines lines ++ t) (sym (part-over_long (calls_in lines) (length lines + 1) whole over)) ∙ sym (text-push lines whole)) put;
-  }
+  pub takes-part : {T E : Type 0} (r : Result T E) (before after part : List ℕ) (new : DeskState) → part ≡ part_of (calls_in lines) (length lines + 1) whole
+      → OnOk r (new ≡ desk_after MOST_REQUESTS (calls_in (lines ++ whole ∷ []))) → OnOk r (AreSpelled new.held) → PutsOn r before after part
+      → OnOk r (TakesIt before after new)
+  takes-part (Err e) before after part new is after_is spelled put = tt
+  takes-part (Ok x) before after part new is after_is spelled put = (
+    part,
+    put,
+    record {
+      text_is = (λ i. has.text_is i ++ is i) ∙ sym (text-push lines whole);
+      desk_is = after_is;
+      spelled = spelled;
+    },
+  )
 
-  pub asked-next : is_over_long whole ≡ false → (asked : Option DeskCall) → asked ≡ call_of_fields (fields_of whole)
-      → new.desk ≡ desk_after MOST_REQUESTS (calls_in lines ++ cons_option asked [])
-      → HasPut before later faults m new.output (text_of_lines lines ++ asked_text (calls_in lines) (desk.lines + 1) whole asked)
-      → HasBooked before later faults m new (lines ++ whole ∷ [])
-  asked-next short asked is after put =
-      let number : desk.lines + 1 ≡ length lines + 1 = ap (λ n. n + 1) counted in
-      record {
-        counted = count-is;
-        desk_is = after ∙ ap (desk_after MOST_REQUESTS) (sym (calls-short whole short lines asked is));
-        put = subst (λ t. HasPut before later faults m new.output t)
-            (ap (λ n. text_of_lines lines ++ asked_text (calls_in lines) n whole asked) number
-            ∙ ap (λ t. text_of_lines lines ++ t) (sym (part-short whole short (calls_in lines) (length lines + 1) asked is)) ∙ sym (text-push lines whole)) put;
-      }
+  pub takes-over : {T E : Type 0} (r : Result T E) (before after : List ℕ) → is_over_long whole ≡ true → PutsOn r before after (over_long_line whole)
+      → OnOk r (TakesIt before after desk)
+  takes-over r before after over put =
+      takes-part r before after (over_long_line whole) desk (sym (part-over_long (calls_in lines) (length lines + 1) whole over))
+      (on-ok r (has.desk_is ∙ ap (desk_after MOST_REQUESTS) (sym (calls-over_long lines whole over)))) (on-ok r has.spelled) put
 
-  -- a booking
-  pub book-next : {T E : Type 0} (r : Result T E) → is_over_long whole ≡ false → (release : ℕ) (request : Command)
-      → Some (book release request) ≡ call_of_fields (fields_of whole)
-      → IfOk r (λ _. new.desk ≡ after_book desk.desk release request)
-      → MatchResult r
-      (λ _. HasPut before later faults m new.output (text_of_lines lines ++ reply_text (reply_to_book desk.desk release request) (desk.lines + 1) request))
-      (λ _. HasPut before later faults m new.output (text_of_lines lines))
-      → MatchResult r (λ _. HasBooked before later faults m new (lines ++ whole ∷ [])) (λ _. HasPut before later faults m new.output (text_of_lines lines))
-  book-next (Err e) short release request is after put = put
-  book-next (Ok x) short release request is after put =
-      asked-next short (Some (book release request)) is
-      (after ∙ ap (λ (d : DeskState). after_book d release request) desk_is ∙ booked-is MOST_REQUESTS (calls_in lines) release request)
-      (subst (λ (d : DeskState). HasPut before later faults m new.output
-      (text_of_lines lines ++ reply_text (reply_to_book d release request) (desk.lines + 1) request)) desk_is put)
+  -- what it asks
+  module _ (short : is_over_long whole ≡ false) (asked : Option DeskCall) (is : asked ≡ call_of_fields (fields_of whole)) where
+    part-is : asked_text (calls_in lines) number whole asked ≡ part_of (calls_in lines) (length lines + 1) whole
+    part-is =
+        ap (λ n. asked_text (calls_in lines) n whole asked) numbered ∙ sym (part-short whole short (calls_in lines) (length lines + 1) asked is)
 
-  -- an unbooking
-  pub unbook-next : is_over_long whole ≡ false → (id : ℕ) → Some (unbook id) ≡ call_of_fields (fields_of whole)
-      → new.desk ≡ after_unbook desk.desk id
-      → HasPut before later faults m new.output (text_of_lines lines ++ cond (is_held id desk.desk.held) [] (refusal_line 21 (desk.lines + 1)))
-      → HasBooked before later faults m new (lines ++ whole ∷ [])
-  unbook-next short id is after put =
-      asked-next short (Some (unbook id)) is
-      (after ∙ ap (λ (d : DeskState). after_unbook d id) desk_is ∙ unbooked-is MOST_REQUESTS (calls_in lines) id)
-      (subst (λ (d : DeskState). HasPut before later faults m new.output
-      (text_of_lines lines ++ cond (is_held id d.held) [] (refusal_line 21 (desk.lines + 1)))) desk_is put)
+    calls-are : (new : DeskState) → new ≡ desk_after MOST_REQUESTS (calls_in lines ++ cons_option asked [])
+        → new ≡ desk_after MOST_REQUESTS (calls_in (lines ++ whole ∷ []))
+    calls-are new after_is = after_is ∙ ap (desk_after MOST_REQUESTS) (sym (calls-short whole short lines asked is))
 
-  -- a moment
-  pub clock-next : is_over_long whole ≡ false → (time : ℕ) → Some (clock time) ≡ call_of_fields (fields_of whole)
-      → new.desk ≡ desk_after MOST_REQUESTS (calls_in lines ++ clock time ∷ [])
-      → HasPut before later faults m new.output (text_of_lines lines ++ with_lf whole ++ released_text (released_at MOST_REQUESTS (calls_in lines) time))
-      → HasBooked before later faults m new (lines ++ whole ∷ [])
-  clock-next short time is after put =
-      asked-next short (Some (clock time)) is after
-      (put-two before later faults m new.output (text_of_lines lines) (with_lf whole) (released_text (released_at MOST_REQUESTS (calls_in lines) time)) put)
+    pub takes-asked : {T E : Type 0} (r : Result T E) (before after : List ℕ) (new : DeskState)
+        → OnOk r (new ≡ desk_after MOST_REQUESTS (calls_in lines ++ cons_option asked [])) → OnOk r (AreSpelled new.held)
+        → PutsOn r before after (asked_text (calls_in lines) number whole asked) → OnOk r (TakesIt before after new)
+    takes-asked (Err e) before after new after_is spelled put = tt
+    takes-asked (Ok x) before after new after_is spelled put =
+        takes-part {E = Unit {0}} (Ok x) before after (asked_text (calls_in lines) number whole asked) new part-is (calls-are new after_is) spelled put
+
+  module _ (short : is_over_long whole ≡ false) {T E : Type 0} (r : Result T E) (before after : List ℕ) (new : DeskState) where
+    -- a line that asks nothing
+    pub takes-plain : None ≡ call_of_fields (fields_of whole) → PutsOn r before after (with_lf whole) → OnOk r (TakesIt before after desk)
+    takes-plain is put =
+        takes-asked short None is r before after desk
+        (on-ok r (has.desk_is ∙ ap (desk_after MOST_REQUESTS) (sym (append-nil (calls_in lines))))) (on-ok r has.spelled) put
+
+    -- a booking
+    pub takes-book : (release : ℕ) (request : Command) → Some (book release request) ≡ call_of_fields (fields_of whole)
+        → OnOk r (new ≡ after_book desk release request) → OnOk r (AreSpelled new.held)
+        → PutsOn r before after (reply_text (reply_to_book desk release request) number request) → OnOk r (TakesIt before after new)
+    takes-book release request is after_is spelled put =
+        takes-asked short (Some (book release request)) is r before after new
+        (on-ok-then r (λ (same : new ≡ after_book desk release request). same ∙ ap (λ (d : DeskState). after_book d release request) has.desk_is
+        ∙ booked-is MOST_REQUESTS (calls_in lines) release request) after_is) spelled
+        (subst (λ (d : DeskState). PutsOn r before after (reply_text (reply_to_book d release request) number request)) has.desk_is put)
+
+    -- an unbooking
+    pub takes-unbook : (id : ℕ) → Some (unbook id) ≡ call_of_fields (fields_of whole) → new ≡ after_unbook desk id → AreSpelled new.held
+        → PutsOn r before after (cond (is_held id desk.held) [] (refusal_line 21 number)) → OnOk r (TakesIt before after new)
+    takes-unbook id is after_is spelled put =
+        takes-asked short (Some (unbook id)) is r before after new
+        (on-ok r (after_is ∙ ap (λ (d : DeskState). after_unbook d id) has.desk_is ∙ unbooked-is MOST_REQUESTS (calls_in lines) id)) (on-ok r spelled)
+        (subst (λ (d : DeskState). PutsOn r before after (cond (is_held id d.held) [] (refusal_line 21 number))) has.desk_is put)
+
+    -- a moment
+    pub takes-clock : (time : ℕ) → Some (clock time) ≡ call_of_fields (fields_of whole)
+        → OnOk r (new ≡ desk_after MOST_REQUESTS (calls_in lines ++ clock time ∷ [])) → OnOk r (AreSpelled new.held)
+        → PutsOn r before after (with_lf whole ++ released_text (released_at MOST_REQUESTS (calls_in lines) time)) → OnOk r (TakesIt before after new)
+    takes-clock time is after_is spelled put = takes-asked short (Some (clock time)) is r before after new after_is spelled put
 
 -- what was released so far, and one more
 pub due-step : (text : List ℕ) (gone : List Booking) (b : Booking)
@@ -146,13 +165,9 @@ pub due-step : (text : List ℕ) (gone : List Booking) (b : Booking)
 due-step text gone b = flat_map_more (λ (x : Booking). request_line x.request) text gone b
 
 -- no line was booked yet
-pub booked-nothing : (now : Option (List ℕ)) (n : ℕ) (desk : FeedDesk) → IsNew desk → HasBooked now now n n desk (ended_lines [])
-unfolding ended_after parts_after
-booked-nothing now n desk new = record {
-  counted = new.lines;
-  desk_is = new.bare;
-  put = put-nothing now n desk.output new.output;
-}
+pub booked-nothing : HasBooked [] [] (new_desk MOST_REQUESTS)
+unfolding parts_after
+booked-nothing = record { text_is = refl; desk_is = refl; spelled = tt }
 
 -- what no lines give
 pub text-nothing : text_of_lines [] ≡ []

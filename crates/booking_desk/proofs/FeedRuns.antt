@@ -1,21 +1,9 @@
 -- What was written of a feed that was booked to its end, or was stopped.
-use Rattle.booking_desk.proofs.Common.{◌≡◌, ℕ, false, List, [], ◌++◌, Option, Some, None, refl, sym, subst, ◌∙◌, HasRun, ran_of, are-taken, none-first, Reads-none, WritesPrefix-of_first, feed_limits, HasPut, OutputState, put-nothing, written-prefix, written-whole, FeedDesk, last_line_after, text_of_lines, IsBooked, HasBooked, run_text}
+use Rattle.booking_desk.proofs.Common.{◌≡◌, ℕ, false, List, [], ◌++◌, Option, Some, None, refl, sym, subst, HasRun, ran_of, are-taken, none-first, Reads-none, WritesPrefix-of_first, feed_limits, HasPut, OutputState, put-nothing, written-prefix, written-whole, last_line_after, text_of_lines, IsBooked, run_text}
 use Rattle.line_text.specs.declared.line_reader.stops.Stop.{Stop}
 use Rattle.line_text.specs.declared.line_reader.stops.Stop.TheVariants.{NoMemory}
 use Rattle.ride_ports.specs.Bytes.{Writes, WritesPrefix}
 use Rattle.booking_desk.proofs.BookedLines.{text-nothing}
-
--- writing what was put changes no lines
-pub booked-written : (before now later : Option (List ℕ)) (faults n m : ℕ) (desk new : FeedDesk) (lines same : List (List ℕ)) → same ≡ lines
-    → new.desk ≡ desk.desk → new.lines ≡ desk.lines
-    → ((start : Option (List ℕ)) (at : ℕ) (text : List ℕ) → HasPut start now at n desk.output text → HasPut start later at m new.output text)
-    → HasBooked before now faults n desk lines → HasBooked before later faults m new same
-booked-written before now later faults n m desk new lines same is desk_same lines_same put booked =
-    subst (λ (ls : List (List ℕ)). HasBooked before later faults m new ls) (sym is) (record {
-      counted = lines_same ∙ booked.counted;
-      desk_is = desk_same ∙ booked.desk_is;
-      put = put before faults (text_of_lines lines) booked.put;
-    })
 
 -- what was written is a first part of what the lines give with the last line
 run-prefix : {before after : Option (List ℕ)} (stop : Option Stop) (lines : List (List ℕ)) → WritesPrefix before after (run_text stop lines)

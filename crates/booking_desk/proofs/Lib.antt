@@ -13,5 +13,6 @@ pub mod Moments
 pub mod Once
 pub mod Due
 pub mod Releasing
+pub mod PagePuts
 pub mod BookedLines
 pub mod FeedRuns

@@ -12,22 +12,18 @@ abbrev pub booking_of : List ℕ → Option DeskCall
 booking_of [] = None
 booking_of (release ∷ numbers) = option_map (book release) (command_from 2 ToRequest numbers)
 
-abbrev pub unbooking_of : List ℕ → Option DeskCall
-unbooking_of (id ∷ []) = Some (unbook id)
-unbooking_of _ = None
+-- what is asked by a number that stands alone
+abbrev pub by_one : (ℕ → Option DeskCall) → List ℕ → Option DeskCall
+by_one asked (number ∷ []) = asked number
+by_one asked _ = None
 
--- a moment: a time of at most 10^9
-abbrev pub moment_of : List ℕ → Option DeskCall
-moment_of (time ∷ []) = if nat_lt LATEST_TIME time then None else Some (clock time)
-moment_of _ = None
-
--- what fields ask of a desk
+-- what fields ask of a desk. A moment is a time of at most 10^9
 abbrev pub call_of_fields : List (List ℕ) → Option DeskCall
 call_of_fields [] = None
 call_of_fields (word ∷ fields) = if bytes_eq word (codes "book") then option_and_then booking_of (numbers_of fields)
-    else (if bytes_eq word (codes "unbook") then option_and_then unbooking_of (numbers_of fields)
-    else (if bytes_eq word (codes "clock") then option_and_then moment_of (numbers_of fields)
-    else None))
+    else if bytes_eq word (codes "unbook") then option_and_then (by_one (λ id. Some (unbook id))) (numbers_of fields)
+    else if bytes_eq word (codes "clock")
+    then option_and_then (by_one (λ time. if nat_lt LATEST_TIME time then None else Some (clock time))) (numbers_of fields) else None
 
 -- what a line asks of a desk. A line of more than 200 bytes asks nothing
 abbrev pub call_of : List ℕ → Option DeskCall

@@ -1,6 +1,6 @@
 -- The plain feed that a feed with bookings gives, line by line.
 use Rattle.std.specs.Prelude.{ℕ, ◌+◌, ◌==◌, if◌then◌else◌, List, [], ◌∷◌, ◌++◌, length, Option, Some, None, codes, decimal, filter_map}
-use Rattle.std.specs.List.{flat_map}
+use Rattle.std.specs.List.{flat_map, list_any}
 use Rattle.line_text.specs.Fields.{begins_with, is_over_long}
 use Rattle.ride_model.specs.declared.command.Command.{Command}
 use Rattle.ride_model.specs.declared.command.Command.TheVariants.{Request}
@@ -10,7 +10,7 @@ use Rattle.booking_desk.specs.declared.replies.BookReply.{BookReply}
 use Rattle.booking_desk.specs.declared.replies.BookReply.TheVariants.{Held, Now, Refused}
 use Rattle.booking_desk.specs.BookLines.{call_of}
 use Rattle.ride_model.specs.declared.limits.TheConstants.{MOST_REQUESTS}
-use Rattle.booking_desk.specs.Desk.{Booking, is_held, reply_to_book}
+use Rattle.booking_desk.specs.Desk.{Booking, id_of, reply_to_book}
 use Rattle.booking_desk.specs.Released.{DeskCall, book, unbook, clock, desk_after, released_at}
 
 -- the version of the log in whose canonical spelling a request stands: with six numbers where it has no chairs, else with seven
@@ -25,10 +25,6 @@ request_line request = spelling_of (spelled_for request) request ++ 10 ∷ []
 abbrev pub refusal_line : ℕ → ℕ → List ℕ
 refusal_line code number = codes "# refused " ++ decimal code ++ codes " line " ++ decimal number ++ 10 ∷ []
 
--- the line of how many bookings are held
-abbrev pub held_line : ℕ → List ℕ
-held_line count = codes "# held " ++ decimal count ++ 10 ∷ []
-
 -- what stands for an over-long line: a comment, or a bad line
 abbrev pub over_long_line : List ℕ → List ℕ
 over_long_line line = (if begins_with 35 line then codes "#" else codes "bad") ++ 10 ∷ []
@@ -39,18 +35,15 @@ reply_text Held number request = []
 reply_text Now number request = request_line request
 reply_text (Refused code) number request = refusal_line code number
 
--- the lines of requests that are released
-abbrev pub released_text : List Booking → List ℕ
-released_text bookings = flat_map (λ (booking : Booking). request_line booking.request) bookings
-
 -- what the line of a number gives by what it asks of a desk after other calls: a line that asks nothing stands as it is
 abbrev pub asked_text : List DeskCall → ℕ → List ℕ → Option DeskCall → List ℕ
 asked_text calls number line None = line ++ 10 ∷ []
 asked_text calls number line (Some (book release request)) =
     reply_text (reply_to_book (desk_after MOST_REQUESTS calls) release request) number request
 asked_text calls number line (Some (unbook id)) =
-    if is_held id (desk_after MOST_REQUESTS calls).held then [] else refusal_line NOT_HELD number
-asked_text calls number line (Some (clock time)) = (line ++ 10 ∷ []) ++ released_text (released_at MOST_REQUESTS calls time)
+    if list_any (λ booking. id_of booking == id) (desk_after MOST_REQUESTS calls).held then [] else refusal_line NOT_HELD number
+asked_text calls number line (Some (clock time)) =
+    (line ++ 10 ∷ []) ++ flat_map (λ (booking : Booking). request_line booking.request) (released_at MOST_REQUESTS calls time)
 
 -- what the line of a number gives after the calls of the lines before it
 abbrev pub part_of : List DeskCall → ℕ → List ℕ → List ℕ
@@ -65,6 +58,6 @@ parts_after before (line ∷ lines) = part_of (filter_map call_of before) (lengt
 abbrev pub text_of_lines : List (List ℕ) → List ℕ
 text_of_lines lines = parts_after [] lines
 
--- the last line after them
+-- the last line after them: how many bookings are held
 abbrev pub last_line_after : List (List ℕ) → List ℕ
-last_line_after lines = held_line (length (desk_after MOST_REQUESTS (filter_map call_of lines)).held)
+last_line_after lines = codes "# held " ++ decimal (length (desk_after MOST_REQUESTS (filter_map call_of lines)).held) ++ 10 ∷ []

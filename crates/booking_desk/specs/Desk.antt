@@ -4,7 +4,7 @@ use Rattle.std.specs.List.{list_any}
 use Rattle.std.specs.Ordering.{is_lt, nat_cmp, ordering_then}
 use Rattle.ride_model.specs.declared.command.Command.{Command}
 use Rattle.ride_model.specs.declared.command.Command.TheVariants.{Request}
-use Rattle.ride_model.specs.declared.limits.TheConstants.{LATEST_TIME, MOST_REQUESTS}
+use Rattle.ride_model.specs.declared.limits.TheConstants.{LATEST_TIME}
 use Rattle.ride_model.specs.declared.refusals.TheConstants.{BOOKED_BEFORE, DESK_FULL, LATE_RELEASE}
 use Rattle.booking_desk.specs.declared.replies.BookReply.{BookReply}
 use Rattle.booking_desk.specs.declared.replies.BookReply.TheVariants.{Held, Now, Refused}
@@ -38,13 +38,9 @@ is_before a b = is_lt (ordering_then (nat_cmp a.release b.release) (nat_cmp (id_
 abbrev pub put_in : Booking → List Booking → List Booking
 put_in booking bookings = filter (λ other. is_before other booking) bookings ++ booking ∷ filter (λ other. is_before booking other) bookings
 
-abbrev pub is_held : ℕ → List Booking → Bool
-is_held id bookings = list_any (λ booking. id_of booking == id) bookings
-
 -- how a booking is answered: the release is not after the latest time, the id was never booked, and the desk is not full
 abbrev pub reply_to_book : DeskState → ℕ → Command → BookReply
 reply_to_book desk release request = if nat_lt LATEST_TIME release then Refused LATE_RELEASE
     else (if list_any (λ id. request_id request == id) desk.booked then Refused BOOKED_BEFORE
     else (if nat_le desk.most (length desk.booked) then Refused DESK_FULL
-    else (if nat_le release desk.clock then Now
-    else Held)))
+    else (if nat_le release desk.clock then Now else Held)))

@@ -23,16 +23,14 @@ call_id call = request_id call.booking.request
 abbrev pub greatest_clock : ℕ → List DeskCall → ℕ
 greatest_clock least [] = least
 greatest_clock least (clock time ∷ calls) = greatest_clock (max least time) calls
-greatest_clock least (book release request ∷ calls) = greatest_clock least calls
-greatest_clock least (unbook id ∷ calls) = greatest_clock least calls
+greatest_clock least (_ ∷ calls) = greatest_clock least calls
 
 -- the calls of `book` for a release of at most 10^9, where the first call has this place
 abbrev pub book_calls : ℕ → List DeskCall → List BookCall
 book_calls place [] = []
 book_calls place (book release request ∷ calls) = if nat_lt LATEST_TIME release then book_calls (place + 1) calls
     else record { place = place; booking = record { release = release; request = request } } ∷ book_calls (place + 1) calls
-book_calls place (unbook id ∷ calls) = book_calls (place + 1) calls
-book_calls place (clock time ∷ calls) = book_calls (place + 1) calls
+book_calls place (_ ∷ calls) = book_calls (place + 1) calls
 
 -- the first call for each id
 abbrev pub first_of_each_id : List BookCall → List BookCall
@@ -45,8 +43,7 @@ made_of most calls = take most (first_of_each_id (book_calls 0 calls))
 
 abbrev pub is_unbook : ℕ → DeskCall → Bool
 is_unbook id (unbook other) = id == other
-is_unbook id (book release request) = false
-is_unbook id (clock time) = false
+is_unbook id _ = false
 
 -- the bookings that were made and not unbooked, in order of booking
 abbrev pub standing : ℕ → List DeskCall → List Booking

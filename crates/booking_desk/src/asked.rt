@@ -1,9 +1,11 @@
 //! What a line asks of a desk.
-ghost use Rattle.std.specs.Prelude.{◌≡◌, ◌∷◌, ℕ, List, IfSome, option_and_then, option_map};
+ghost use Rattle.std.specs.Prelude.{◌≡◌, ◌∷◌, ℕ, List, IfSome, None, Some, if◌then◌else◌, nat_lt, option_and_then, option_map};
 ghost use Rattle.line_text.specs.Fields.{fields_of, numbers_of};
 ghost use Rattle.ride_model.specs.Text.{IsSpelled, IsSpelledCommand};
 ghost use Rattle.booking_desk.specs.inner.Asked.{IsSpelledAsked, as_call};
-ghost use Rattle.booking_desk.specs.BookLines.{booking_of, call_of_fields, moment_of, unbooking_of};
+ghost use Rattle.ride_model.specs.declared.limits.TheConstants.{LATEST_TIME};
+ghost use Rattle.booking_desk.specs.BookLines.{booking_of, by_one, call_of_fields};
+ghost use Rattle.booking_desk.specs.Released.{clock, unbook};
 
 use line_text::Fields;
 use ride_model::Command;
@@ -77,7 +79,7 @@ fn booking_of(fields: &mut Fields<'_>) -> Option<Asked>
 /// The unbooking of an id.
 fn unbooking_of(fields: &mut Fields<'_>) -> Option<Asked>
     ensures call { option_map as_call result
-        ≡ option_and_then unbooking_of (numbers_of fields.old) }
+        ≡ option_and_then (by_one (λ id. Some (unbook id))) (numbers_of fields.old) }
     ensures spelled { IfSome result IsSpelledAsked }
 {
     let numbers = fields.numbers::<1>()?;
@@ -89,7 +91,8 @@ fn unbooking_of(fields: &mut Fields<'_>) -> Option<Asked>
 
 /// The moment of a time that is in its range.
 fn moment_of(fields: &mut Fields<'_>) -> Option<Asked>
-    ensures call { option_map as_call result ≡ option_and_then moment_of (numbers_of fields.old) }
+    ensures call { option_map as_call result ≡ option_and_then (by_one (λ time.
+        if nat_lt LATEST_TIME time then None else Some (clock time))) (numbers_of fields.old) }
     ensures spelled { IfSome result IsSpelledAsked }
 {
     let numbers = fields.numbers::<1>()?;

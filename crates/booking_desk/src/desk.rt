@@ -1,8 +1,8 @@
 //! The booking desk.
 ghost use Rattle.std.specs.Prelude.{◌≡◌, ◌≤◌, ◌∷◌, IsSome, IfOk, IfSome, OnErr, length, option_map};
 ghost use Rattle.ride_model.specs.declared.limits.TheConstants.{MOST_REQUESTS};
-ghost use Rattle.booking_desk.specs.Desk.{Booking, is_held, reply_to_book, request_id};
-ghost use Rattle.booking_desk.specs.inner.Desk.{IsDesk, IsRequest, after_book, after_clock, after_take, after_unbook, due_of, new_desk};
+ghost use Rattle.booking_desk.specs.Desk.{Booking, reply_to_book, request_id};
+ghost use Rattle.booking_desk.specs.inner.Desk.{is_held, IsDesk, IsRequest, after_book, after_clock, after_take, after_unbook, due_of, new_desk};
 
 use crate::{BookReply, NoMemory};
 use indexmap::IndexMap;

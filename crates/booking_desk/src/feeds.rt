@@ -1,6 +1,5 @@
 //! Feeds with bookings, and the plain feeds that they give.
-ghost use Rattle.std.specs.List.{list_any};
-ghost use Rattle.std.specs.Prelude.{◌≡◌, ◌==◌, ℕ, [], false, List, Option, IfNone, IfOk, IfSome};
+ghost use Rattle.std.specs.Prelude.{◌≡◌, ℕ, [], false, List, IfOk, IfSome};
 ghost use Rattle.ride_ports.specs.Bytes.{Reads};
 ghost use Rattle.ride_ports.specs.Count.{KeepsCount};
 ghost use Rattle.line_text.specs.inner.line_reader.FeedRuns.{HasRun, is_source_failed};
@@ -8,18 +7,19 @@ ghost use Rattle.line_text.specs.line_reader.FeedRuns.{IsReadWhole, IsUnhindered
 ghost use Rattle.line_text.specs.line_reader.Limits.{IsWithinLimits};
 ghost use Rattle.line_text.specs.inner.line_reader.Reader.{HasGiven};
 ghost use Rattle.command_lines.specs.Limits.{feed_limits};
-ghost use Rattle.line_text.specs.inner.text_page.Output.{HasPut};
+ghost use Rattle.line_text.specs.inner.text_page.Output.{HasPut, IsFresh};
 ghost use Rattle.ride_model.specs.declared.limits.TheConstants.{MOST_REQUESTS};
-ghost use Rattle.booking_desk.specs.inner.BookText.{calls_in};
-ghost use Rattle.booking_desk.specs.BookText.{text_of_lines};
 ghost use Rattle.booking_desk.specs.Booked.{IsBooked};
-ghost use Rattle.booking_desk.specs.inner.FeedDesk.{IsNew, run_text};
-ghost use Rattle.booking_desk.specs.Released.{desk_after};
+ghost use Rattle.booking_desk.specs.inner.Desk.{new_desk};
+ghost use Rattle.booking_desk.specs.inner.FeedDesk.{run_text};
 
-use crate::NoMemory;
-use crate::feed_desk::FeedDesk;
+use crate::plain_lines::put_held;
+use crate::{BookingDesk, NoMemory};
 use command_lines::FEED_LIMITS;
-use line_text::line_reader::{LineReader, NextLine, Stop, ran_of};
+use line_text::line_reader::{LineReader, Stop, ran_of};
+use line_text::take_lines;
+use line_text::text_page::Output;
+use ride_model::limits::MOST_REQUESTS;
 use ride_ports::{Ran, Sink, Source};
 use std::alloc::Global;
 
@@ -40,105 +40,53 @@ pub fn book_feed<S: Source, K: Sink>(alloc: Global, feed: &mut S, out: &mut K) -
         (S.faults feed.old) (S.faults feed.new) }
     ensures sink_faults { KeepsCount result.sink_failed (K.faults out.old) (K.faults out.new) }
 {
-    let Ok((mut reader, mut desk)) = begin(alloc) else {
+    let Ok((mut reader, mut desk, mut output)) = begin(alloc) else {
         return ran_of(Some(Stop::NoMemory), false);
     };
-    let stop = run_feed(&mut reader, &mut desk, feed, out);
-    desk.end(out);
-    ran_of(stop, desk.failed())
+    let stop = run_feed(&mut reader, &mut desk, &mut output, feed, out);
+    output.end(out);
+    ran_of(stop, output.failed())
 }
 
-/// A reader of a feed and a desk, at their start.
-fn begin(alloc: Global) -> Result<(LineReader, FeedDesk), NoMemory>
+/// A reader of a feed, a desk, and the plain feed on its way out, at their start.
+fn begin(alloc: Global) -> Result<(LineReader, BookingDesk, Output), NoMemory>
     ensures limits { IfOk result (λ made. made.0.limits ≡ feed_limits) }
     ensures nothing_given { IfOk result (λ made. HasGiven made.0 []) }
     ensures nothing_pending { IfOk result (λ made. made.0.pending ≡ []) }
-    ensures nothing_done { IfOk result (λ made. IsNew made.1) }
+    ensures bare { IfOk result (λ made. made.1 ≡ new_desk MOST_REQUESTS) }
+    ensures fresh { IfOk result (λ made. IsFresh made.2) }
 {
     let reader = LineReader::new(alloc, FEED_LIMITS)?;
-    let desk = FeedDesk::new(alloc)?;
-    Ok((reader, desk))
+    let desk = BookingDesk::new(alloc, MOST_REQUESTS)?;
+    let output = Output::new(alloc)?;
+    Ok((reader, desk, output))
 }
 
 /// Books a feed to its end, with the last line, or until something stops it or the sink fails.
 fn run_feed<S: Source, K: Sink>(
     reader: &mut LineReader,
-    desk: &mut FeedDesk,
+    desk: &mut BookingDesk,
+    output: &mut Output,
     feed: &mut S,
     out: &mut K,
 ) -> Option<Stop>
     requires limits { reader.old.limits ≡ feed_limits }
     requires nothing_given { HasGiven reader.old [] }
     requires nothing_pending { reader.old.pending ≡ [] }
-    requires nothing_done { IsNew desk.old }
+    requires bare { desk.old ≡ new_desk MOST_REQUESTS }
+    requires fresh { IsFresh output.old }
     ensures ran { (taken : List ℕ) × (lines : List (List ℕ))
         × HasRun feed_limits (S.left feed.old) (S.left feed.new) result
-        desk.new.output.failed taken lines
+        output.new.failed taken lines
         × HasPut (K.written out.old) (K.written out.new) (K.faults out.old) (K.faults out.new)
-        desk.new.output (run_text result lines) }
+        output.new (run_text result lines) }
     ensures faults { KeepsCount (is_source_failed result) (S.faults feed.old) (S.faults feed.new) }
 {
-    match take_lines(reader, desk, feed, out) {
+    match take_lines(reader, desk, output, feed, out) {
         None => {
-            desk.put_held(out);
+            put_held(output, out, desk.held());
             None
         }
         Some(stop) => Some(stop),
-    }
-}
-
-/// Takes the lines of a feed to its end, or until something stops it or the sink fails.
-fn take_lines<S: Source, K: Sink>(
-    reader: &mut LineReader,
-    desk: &mut FeedDesk,
-    feed: &mut S,
-    out: &mut K,
-) -> Option<Stop>
-    requires limits { reader.old.limits ≡ feed_limits }
-    requires nothing_given { HasGiven reader.old [] }
-    requires nothing_pending { reader.old.pending ≡ [] }
-    requires nothing_done { IsNew desk.old }
-    ensures ran { (taken : List ℕ) × (lines : List (List ℕ))
-        × HasRun feed_limits (S.left feed.old) (S.left feed.new) result
-        desk.new.output.failed taken lines
-        × HasPut (K.written out.old) (K.written out.new) (K.faults out.old) (K.faults out.new)
-        desk.new.output (text_of_lines lines)
-        × IfNone result (desk.new.desk ≡ desk_after MOST_REQUESTS (calls_in lines)) }
-    ensures faults { KeepsCount (is_source_failed result) (S.faults feed.old) (S.faults feed.new) }
-{
-    'lines: loop {
-        match reader.next(feed) {
-            Ok(NextLine::Line) => match desk.take_line(out, reader.line(), reader.over()) {
-                Ok(()) => {}
-                Err(_) => return Some(Stop::NoMemory),
-            },
-            Ok(NextLine::Unfinished) => {
-                return match desk.take_line(out, reader.line(), reader.over()) {
-                    Ok(()) => None,
-                    Err(_) => Some(Stop::NoMemory),
-                };
-            }
-            Ok(NextLine::End) => return None,
-            Err(stop) => return Some(Stop::OfFeed(stop)),
-        }
-        write_before_wait(reader, desk, out);
-        if desk.failed() {
-            return None;
-        }
-    }
-}
-
-/// Writes all that is not written yet, where the feed's next line may have to be waited for.
-fn write_before_wait<K: Sink>(reader: &LineReader, desk: &mut FeedDesk, out: &mut K)
-    ensures written { list_any (λ byte. byte == 10) reader.now.pending ≡ false
-        → desk.new.output.failed ≡ false → desk.new.output.page ≡ [] }
-    ensures desk { desk.new.desk ≡ desk.old.desk }
-    ensures lines { desk.new.lines ≡ desk.old.lines }
-    ensures put { (before : Option (List ℕ)) (faults : ℕ) (text : List ℕ)
-        → HasPut before (K.written out.old) faults (K.faults out.old) desk.old.output text
-        → HasPut before (K.written out.new) faults (K.faults out.new) desk.new.output text }
-{
-    if !reader.has_line() {
-        desk.end(out);
     }
 }

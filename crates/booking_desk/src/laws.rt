@@ -1,8 +1,8 @@
 //! Laws of desks: what is true of every list of steps from a new desk.
 ghost use Rattle.std.specs.Prelude.{◌≡◌, ◌≤◌, ℕ, List, Contains, IfSome, map, false, nat_eq, true};
 ghost use Rattle.std.specs.List.{IsDistinct};
-ghost use Rattle.booking_desk.specs.Desk.{Booking, id_of, is_held};
-ghost use Rattle.booking_desk.specs.inner.Desk.{is_booked};
+ghost use Rattle.booking_desk.specs.Desk.{Booking, id_of};
+ghost use Rattle.booking_desk.specs.inner.Desk.{is_booked, is_held};
 ghost use Rattle.booking_desk.specs.inner.Desk.{after_unbook, due_of, new_desk};
 ghost use Rattle.booking_desk.specs.Released.{book, desk_after};
 ghost use Rattle.booking_desk.specs.inner.Released.{clock_of};

@@ -1,5 +1,5 @@
 -- The reports of a vehicle's driver are accepted, and none is late.
-use Rattle.city_maker.proofs.Common.{◌≡◌, ℕ, zero, suc, ◌+◌, ◌≤◌, ◌==◌, nat_eq, nat_lt, nat_le, Bool, true, false, cond, List, [], ◌∷◌, map, Option, Some, None, inl, inr, refl, sym, ap, ◌∙◌, subst, arith, true≢false, find, slice_get, not, IsDistinct, enumerate_from, AllByRecursion, eq-eqb, le-leb, le-ltb, leb-true, All-contains, IsDistinct-head, IsDistinct-tail, Command, At, Done, OnMap, Kind, Pickup, Dropoff, Stop, Vehicle, report_of, IsNode, State, placed_vehicle, Answered, step, at_step, done_step, at_found, done_found, done_at_stop, is_node, served_reply, report, reported, report_driving, report_reply, IsRide}
+use Rattle.city_maker.proofs.Common.{◌≡◌, ℕ, zero, suc, ◌+◌, ◌≤◌, ◌==◌, nat_eq, nat_lt, nat_le, Bool, true, false, cond, List, [], ◌∷◌, map, Option, Some, None, inl, inr, refl, sym, ap, ◌∙◌, subst, arith, true≢false, find, slice_get, not, IsDistinct, enumerate_from, AllByRecursion, eq-eqb, le-leb, le-ltb, leb-true, All-contains, IsDistinct-head, IsDistinct-tail, Command, At, Done, OnMap, Kind, Pickup, Dropoff, Stop, Vehicle, report_of, IsNode, State, placed_vehicle, Answered, step, at_found, done_found, done_at_stop, is_node, served_reply, report, reported, report_driving, report_reply, IsRide}
 use Rattle.model_laws.proofs.plain.Among.{Among, contains_from_among}
 use Rattle.model_laws.proofs.PlanStops.{stop-of-ride}
 use Rattle.model_laws.proofs.TravelTimes.{travel-same}
@@ -57,7 +57,6 @@ module _ (s : State) (place : ℕ) (v : Vehicle) (first : Stop) (rest : List Sto
 
   -- a report of the first stop at the time of its arrival
   at-on_time : IsOnTime (step s (At v.id first.node (v.ready + first.leg))).reply
-  unfolding at_step
   at-on_time =
       let time = v.ready + first.leg in
       let after = reported s first.node time v in
@@ -75,7 +74,6 @@ module _ (s : State) (place : ℕ) (v : Vehicle) (first : Stop) (rest : List Sto
 
   -- the first stop is served where the vehicle is there by the clock
   done-on_time : v.at == first.node ≡ true → v.ready + first.leg ≤ s.clock → IsOnTime (step s (Done v.id)).reply
-  unfolding done_step
   done-on_time there by_clock =
       let in_day : v.ready + s.settings.dwell ≤ 1000003600 = omega (arith, drives.clock_in_day, drives.settings_fit.dwell_limit) in
       let answered = ap (done_found s) found ∙ ap (done_at_stop s place v) stops_are in

@@ -17,8 +17,7 @@ draws_before plan before = road_draws plan + plan.vehicles + 3 * before
 -- the request that comes after so many others, of which eight make a group. It begins at a drawn node, and ends at another
 -- one: where the second draw is the same node, at the one after it, or at node 1 after the last. It takes 1 or 2 seats
 unfoldable pub request_of : CityPlan → ℕ → Command
-request_of plan before =
-    let nodes : ℕ = nodes_of plan in
+request_of plan before = let nodes : ℕ = nodes_of plan in
     let draws : ℕ = draws_before plan before in
     let from : ℕ = 1 + draw_at plan.seed draws nodes in
     let drawn : ℕ = 1 + draw_at plan.seed (draws + 1) nodes in

@@ -13,8 +13,7 @@ node_at side row column = row * side + column + 1
 
 -- a node first with its right neighbour and then with its lower one, where there is one
 unfoldable pub pairs_at : ℕ → ℕ → ℕ → List (ℕ × ℕ)
-pairs_at side row column =
-    let node : ℕ → ℕ → ℕ = node_at side in
+pairs_at side row column = let node : ℕ → ℕ → ℕ = node_at side in
     (if nat_lt (column + 1) side then (node row column, node row (column + 1)) ∷ [] else [])
     ++ (if nat_lt (row + 1) side then (node row column, node (row + 1) column) ∷ [] else [])
 
@@ -24,9 +23,7 @@ neighbour_pairs side = flat_map (λ row. flat_map (pairs_at side row) (range_wit
 
 -- the arcs there and back between the two nodes of a pair, of one drawn weight, where so many pairs come before it
 unfoldable pub arcs_between : ℕ → ℕ × (ℕ × ℕ) → List RoadArc
-arcs_between seed (before, pair) =
-    let seconds = 30 + draw_at seed before 91 in
-    record { tail = pair.0; head = pair.1; seconds = seconds }
+arcs_between seed (before, pair) = let seconds = 30 + draw_at seed before 91 in record { tail = pair.0; head = pair.1; seconds = seconds }
     ∷ record { tail = pair.1; head = pair.0; seconds = seconds } ∷ []
 
 -- the arcs of pairs of neighbours, one draw a pair

@@ -2,7 +2,7 @@
 use Rattle.dispatcher.proofs.Common.{◌≡◌, ◌⊎◌, inl, inr, ℕ, true, List, [], ◌∷◌, ◌++◌, drop, length, Option, Some, None, Result, Ok, Err, IfSome, IsSomeAnd, refl, sym, ap, subst, ◌∙◌, All, All-head, All-tail, ⊤, Format, Reads, Contents, GivenBack, Rose, Ran, RoadMap, Settings, fleet_format, map_format, map_text, IsTooLong, IsWithinLimits, feed_limits, IsAnswer, AuditFault, ReadFault, TooLong, Verdict, Yes, No, FeedRun, Asked, a_replay, an_audit, a_service, a_drill, a_booking, a_league, File, map_file, fleet_file, second_fleet_file, feed_file, log_file, files_of, all_of_none, all_of_one, IsFresh, Meaning, Means, StopsAt, StopsBy, start_of, status_of, HasStopped, HasWorked, IsOver, IsWhole, Shelved, Sunk, told_bytes, Audits, EndsBy, Stop, FleetRefused, MapRefused, NoMemory, ShelfFault, long-status, ran-status, within-not-long}
 use Rattle.ride_ports.specs.Status.{status_of as status_ran}
 use Rattle.line_text.specs.Texts.{text_value}
-use Rattle.log_audit.specs.Limits.{log_limits}
+use Rattle.log_audit.specs.declared.limits.TheConstants.{LOG_LIMITS}
 use Rattle.log_audit.specs.declared.verdict.AuditFault.TheVariants.{NoMemory as AuditNoMemory}
 use Rattle.dispatcher.proofs.Bringing.{AreBytesOf}
 
@@ -102,7 +102,7 @@ feed-not-long None feed taken whole are reads long = absurd whole
 feed-not-long (Some bytes) feed taken whole are reads long =
     within-not-long feed_limits bytes taken feed.left whole (subst (λ (o : Option (List ℕ)). Reads o feed.left taken) are reads) long
 
-log-not-long : (file : Option (List ℕ)) (m : Meaning) (log : FeedRun) (out : Sunk) (status : ℕ) → IsSomeAnd file (λ bytes. IsTooLong log_limits bytes → ⊥)
+log-not-long : (file : Option (List ℕ)) (m : Meaning) (log : FeedRun) (out : Sunk) (status : ℕ) → IsSomeAnd file (λ bytes. IsTooLong LOG_LIMITS bytes → ⊥)
     → AreBytesOf file log.bytes → (audits : Audits m log out status) → audits.found ≡ Err TooLong → ⊥
 log-not-long None m log out status whole are audits long = absurd whole
 log-not-long (Some bytes) m log out status whole are audits long =
@@ -169,11 +169,11 @@ module _ (old new : Shelved) (out : Sunk) (status : ℕ) (no_shelf : Rose old.fa
       ran-ends (a_drill plan) worked.did.ran worked worked.did.status_is (λ long. absurd (cc (worked.did.no_limit, long)))
   worked-ends (a_booking feed) worked whole =
       let (over, did) = worked.did in
-      feed-ends (a_booking feed) [] feed did.ran did.taken worked whole over did.status_is did.reads did.booked.too_long
+      feed-ends (a_booking feed) [] feed did.ran did.taken worked whole over did.status_is did.reads did.told.too_long
   worked-ends (a_league map fleet second feed) worked whole =
       let (over, did) = worked.did in
       feed-ends (a_league map fleet second feed) (map_file map ∷ fleet_file fleet ∷ second_fleet_file second ∷ []) feed did.ran did.taken worked whole
-      over did.status_is did.reads did.leagued.too_long
+      over did.status_is did.reads did.told.too_long
 
 -- however a run ended
 pub completes : (ask : Asked) (old new : Shelved) (out : Sunk) (status : ℕ)

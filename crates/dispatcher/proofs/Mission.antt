@@ -5,27 +5,28 @@ use Rattle.command_lines.specs.Commands.{commands_of}
 use Rattle.command_lines.specs.Feeds.{IsWhole}
 use Rattle.model_laws.proofs.history_laws.Unmoved.{unmoved-by_commit}
 use Rattle.model_laws.proofs.Histories.{IsLegal-parts}
-use Rattle.ride_model.specs.Seating.{find_vehicle}
+use Rattle.ride_model.specs.Drill.{entry_of}
 use Rattle.gr_reader.specs.declared.errors.MapError.TheVariants.{TooLong}
 use Rattle.fleet_file.specs.declared.errors.FleetError.TheVariants.{TooLong as FleetTooLong}
-use Rattle.dispatcher.specs.Mission.{Commit, CommitsOnlyStanding, SeatsAtLeastCost, ServesWell}
+use Rattle.dispatcher.specs.Mission.{CommitsOnlyStanding, SeatsAtLeastCost, ServesWell}
 use Rattle.dispatcher.proofs.Bringing.{AreBytesOf}
 
 module _ (feeds desks : ℕ) (start : State) (entries : List Entry) (legal : IsLegal feeds desks start entries) where
   -- what was before a commit is legal, and so is the commit after it
-  parts : (c : Commit entries) → IsLegal feeds desks start c.before
-      × IsLegal feeds desks (replay start c.before) (record { actor = Desk c.desk; event = Committed c.number c.cost c.seats c.prices c.pays c.outcomes } ∷ c.after)
-  parts c = IsLegal-parts feeds desks start c.before (record { actor = Desk c.desk; event = Committed c.number c.cost c.seats c.prices c.pays c.outcomes } ∷ c.after)
-      (subst (λ (l : List Entry). IsLegal feeds desks start l) (c.stands ∙ ap (λ (e : Entry). c.before ++ e ∷ c.after) c.entry_is) legal)
+  parts : (before after : List Entry) (entry : Entry) → entries ≡ before ++ entry ∷ after
+      → IsLegal feeds desks start before × IsLegal feeds desks (replay start before) (entry ∷ after)
+  parts before after entry stands =
+      IsLegal-parts feeds desks start before (entry ∷ after) (subst (λ (l : List Entry). IsLegal feeds desks start l) stands legal)
 
   pub seats-least : SeatsAtLeastCost start entries
   unfolding IsLegal
-  seats-least c = (parts c).1.0
+  seats-least before after desk number cost seats prices pays outcomes stands =
+      (parts before after (entry_of (Desk desk) (Committed number cost seats prices pays outcomes)) stands).1.0
 
   pub only-standing : IsStart start → CommitsOnlyStanding start entries
-  only-standing begins c batch id opened moved =
-      subst (λ (e : Entry). find_vehicle (replay start (c.before ++ e ∷ [])).vehicles id ≡ find_vehicle (replay start c.before).vehicles id) (sym c.entry_is)
-      (unmoved-by_commit feeds desks start c.before c.desk c.number c.cost c.seats c.prices c.pays c.outcomes batch id begins (parts c).0 opened moved)
+  only-standing begins before after desk number cost seats prices pays outcomes stands batch id opened moved =
+      let legal_before = (parts before after (entry_of (Desk desk) (Committed number cost seats prices pays outcomes)) stands).0 in
+      unmoved-by_commit feeds desks start before desk number cost seats prices pays outcomes batch id begins legal_before opened moved
 
 -- all commands of a file's bytes were answered, where its feed was
 pub answers-all : (form : FeedForm) (file : Option (List ℕ)) (feed : FeedRun) (taken : List ℕ) (commands : List Command) → AreBytesOf file feed.bytes

@@ -8,6 +8,7 @@ use Rattle.ride_model.specs.declared.entry.Event.TheVariants.{Committed}
 use Rattle.ride_model.specs.declared.entry.Outcome.{Outcome}
 use Rattle.ride_model.specs.declared.offer.Seat.{Seat}
 use Rattle.ride_model.specs.Batch.{version_of}
+use Rattle.ride_model.specs.Drill.{entry_of}
 use Rattle.ride_model.specs.History.{IsFinished, fed_commands}
 use Rattle.ride_model.specs.Legal.{CommitsBatch, IsLegal, replay}
 use Rattle.ride_model.specs.Promises.{KeepsPromises}
@@ -19,33 +20,22 @@ use Rattle.run_words.specs.Words.{Asked, a_service, files_of}
 use Rattle.dispatcher.specs.Meanings.{Meaning, Means, start_of}
 use Rattle.dispatcher.specs.Shelves.{Sunk, told_bytes}
 
--- a commit in a history: what was before it, its line, and what came after
-pub record Commit (entries : List Entry) : Type 0 where
-  pub before : List Entry
-  pub desk : ℕ
-  pub number : ℕ
-  pub cost : ℕ
-  pub seats : List Seat
-  pub prices : List (ℕ × ℕ)
-  pub pays : List (ℕ × ℕ)
-  pub outcomes : List (ℕ × Outcome)
-  pub entry : Entry
-  pub entry_is : entry ≡ record { actor = Desk desk; event = Committed number cost seats prices pays outcomes }
-  pub after : List Entry
-  pub stands : entries ≡ before ++ entry ∷ after
-
 -- the seats of each commit are a least seating of the batch as it was opened, over the versions that its opening names, as the prices
 -- and payments of its own line prove
 abbrev pub SeatsAtLeastCost : State → List Entry → Type 0
-SeatsAtLeastCost start entries = (c : Commit entries) → IsSomeAnd (open_batch_numbered (replay start c.before) c.desk c.number)
-    (λ batch. CommitsBatch (replay start c.before) batch c.cost c.seats c.prices c.pays c.outcomes)
+SeatsAtLeastCost start entries = (before after : List Entry) (desk number cost : ℕ) (seats : List Seat) (prices pays : List (ℕ × ℕ))
+    (outcomes : List (ℕ × Outcome)) → entries ≡ before ++ entry_of (Desk desk) (Committed number cost seats prices pays outcomes) ∷ after
+    → IsSomeAnd (open_batch_numbered (replay start before) desk number)
+    (λ batch. CommitsBatch (replay start before) batch cost seats prices pays outcomes)
 
 -- a vehicle whose version is not the batch's any more is as it was before the commit
 abbrev pub CommitsOnlyStanding : State → List Entry → Type 0
-CommitsOnlyStanding start entries = (c : Commit entries) (batch : BatchCopy) (id : ℕ)
-    → open_batch_numbered (replay start c.before) c.desk c.number ≡ Some batch
-    → version_of batch.vehicles id ≢ version_of (replay start c.before).vehicles id
-    → find_vehicle (replay start (c.before ++ c.entry ∷ [])).vehicles id ≡ find_vehicle (replay start c.before).vehicles id
+CommitsOnlyStanding start entries = (before after : List Entry) (desk number cost : ℕ) (seats : List Seat) (prices pays : List (ℕ × ℕ))
+    (outcomes : List (ℕ × Outcome)) → entries ≡ before ++ entry_of (Desk desk) (Committed number cost seats prices pays outcomes) ∷ after
+    → (batch : BatchCopy) (id : ℕ) → open_batch_numbered (replay start before) desk number ≡ Some batch
+    → version_of batch.vehicles id ≢ version_of (replay start before).vehicles id
+    → find_vehicle (replay start (before ++ entry_of (Desk desk) (Committed number cost seats prices pays outcomes) ∷ [])).vehicles id
+    ≡ find_vehicle (replay start before).vehicles id
 
 -- one legal history is what was logged; each feed's commands stand in it once and in order, all of them; every batch is seated at
 -- least cost over the versions that it names, as its printed prices prove; only standing pairs are committed; and every confirmed ride

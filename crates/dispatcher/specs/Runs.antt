@@ -4,7 +4,7 @@ use Rattle.ride_ports.specs.Contents.{Contents, GivenBack, given_back}
 use Rattle.ride_ports.specs.Count.{Rose}
 use Rattle.line_text.specs.line_reader.Limits.{IsTooLong, IsWithinLimits}
 use Rattle.command_lines.specs.Limits.{feed_limits}
-use Rattle.log_audit.specs.Limits.{log_limits}
+use Rattle.log_audit.specs.declared.limits.TheConstants.{LOG_LIMITS}
 use Rattle.live_sessions.specs.Serving.{FeedRun}
 use Rattle.run_words.specs.Words.{Asked, a_replay, an_audit, a_service, a_drill, a_booking, a_league, feed_file, File, files_of, log_file, name_of}
 use Rattle.dispatcher.specs.Meanings.{IsTextOf, Meaning, Means, said_of, status_of, StopsAt}
@@ -68,7 +68,7 @@ pub record HasWorked (ask : Asked) (old new : Shelved) (out : Sunk) (status : �
 -- the bytes of a file are told, and are its text; feeds and logs are within their limits
 abbrev pub IsWhole : Option Contents → Meaning → File → Type 0
 IsWhole told m (feed_file name) = IsSomeAnd (told_bytes told name) (IsWithinLimits feed_limits)
-IsWhole told m (log_file name) = IsSomeAnd (told_bytes told name) (λ bytes. IsTooLong log_limits bytes → ⊥)
+IsWhole told m (log_file name) = IsSomeAnd (told_bytes told name) (λ bytes. IsTooLong LOG_LIMITS bytes → ⊥)
 IsWhole told m file = IsSomeAnd (told_bytes told (name_of file)) (IsTextOf m file)
 
 -- a run for what was asked ended so: memory was wanting before anything was asked for, or it stopped over a file, or it did its work.

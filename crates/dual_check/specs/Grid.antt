@@ -12,8 +12,7 @@ pub record IsPairing (grid : GridCells) (pairing : List (Option ℕ)) : Type 0 w
   pub one_each : length pairing ≡ grid.rows
   pub in_grid : (row column : ℕ) → column_of pairing row ≡ Some column → column < grid.columns
   pub in_cells : (row column : ℕ) → column_of pairing row ≡ Some column → IsSome (cell_at grid row column)
-  pub columns_once : (row other column : ℕ) → column_of pairing row ≡ Some column → column_of pairing other ≡ Some column
-      → row ≡ other
+  pub columns_once : (row other column : ℕ) → column_of pairing row ≡ Some column → column_of pairing other ≡ Some column → row ≡ other
 
 -- what a row costs by its column: the amount, and the penalty without a column
 abbrev pub row_cost : GridCells → ℕ → ℕ → Option ℕ → ℕ
@@ -22,14 +21,12 @@ row_cost grid penalty row (Some column) = unwrap_or (cell_at grid row column) 0
 
 -- the cost of a pairing: its amounts, and the penalty for each row without a column
 abbrev pub pairing_cost : GridCells → ℕ → List (Option ℕ) → ℕ
-pairing_cost grid penalty pairing =
-    sum_by (λ row. row_cost grid penalty row (column_of pairing row)) (range_with_len 0 grid.rows)
+pairing_cost grid penalty pairing = sum_by (λ row. row_cost grid penalty row (column_of pairing row)) (range_with_len 0 grid.rows)
 
 -- a pairing of which no other of the grid costs less
 pub record IsLeastPairing (grid : GridCells) (penalty : ℕ) (pairing : List (Option ℕ)) : Type 0 where
   pub paired : IsPairing grid pairing
-  pub least : (other : List (Option ℕ)) → IsPairing grid other
-      → pairing_cost grid penalty pairing ≤ pairing_cost grid penalty other
+  pub least : (other : List (Option ℕ)) → IsPairing grid other → pairing_cost grid penalty pairing ≤ pairing_cost grid penalty other
 
 -- the price of a row, and what a column pays
 abbrev pub price_at : List ℕ → ℕ → ℕ

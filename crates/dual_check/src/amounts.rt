@@ -1,6 +1,7 @@
 //! Tables of amounts.
 ghost use Rattle.std.specs.Prelude.{◌≡◌, ◌+◌, ◌<◌, ◌≤◌, length, IfSome, MatchBool};
-ghost use Rattle.dual_check.specs.Cells.{GridCells, cell_at, widest_grid};
+ghost use Rattle.dual_check.specs.Cells.{GridCells, cell_at};
+ghost use Rattle.dual_check.specs.declared.grids.TheConstants.{WIDEST_GRID};
 ghost use Rattle.dual_check.specs.inner.Parts.{CoversCells, CoversRow};
 ghost use Rattle.dual_check.specs.inner.Costs.{cost_grid};
 
@@ -21,7 +22,7 @@ pub trait Amounts {
     fn is_row_covered(&self, row: u32, price: u64, pays: &[u64]) -> bool
         requires row_in { row < (as_grid self.now).rows }
         requires pays_each { length pays.now ≡ (as_grid self.now).columns }
-        requires few { (as_grid self.now).columns ≤ widest_grid }
+        requires few { (as_grid self.now).columns ≤ WIDEST_GRID }
         ensures { MatchBool result (CoversRow (as_grid self.now) row price pays.now)
             (CoversRow (as_grid self.now) row price pays.now → ⊥) }
     {

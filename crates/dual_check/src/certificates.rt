@@ -1,7 +1,7 @@
 //! Whether prices certify a pairing of a table of amounts.
 ghost use Rattle.std.specs.Prelude.{◌≡◌, ◌+◌, ◌≤◌, length, sum, MatchBool};
 ghost use Rattle.ride_model.specs.declared.limits.TheConstants.{LARGEST_BATCH};
-ghost use Rattle.dual_check.specs.Cells.{widest_grid};
+ghost use Rattle.dual_check.specs.declared.grids.TheConstants.{WIDEST_GRID};
 ghost use Rattle.dual_check.specs.Grid.{IsPairing, CertifiesPairing, pairing_cost};
 ghost use Rattle.dual_check.specs.inner.Parts.{CoversGrid};
 
@@ -18,7 +18,7 @@ pub fn certifies_pairing<T: Amounts>(
     pays: &[u64],
 ) -> bool
     requires few_rows { (T.as_grid table.now).rows ≤ LARGEST_BATCH }
-    requires few_columns { (T.as_grid table.now).columns ≤ widest_grid }
+    requires few_columns { (T.as_grid table.now).columns ≤ WIDEST_GRID }
     requires columns_each { length columns.now ≡ (T.as_grid table.now).rows }
     requires prices_each { length prices.now ≡ (T.as_grid table.now).rows }
     requires pays_each { length pays.now ≡ (T.as_grid table.now).columns }
@@ -35,7 +35,7 @@ pub fn certifies_pairing<T: Amounts>(
 // Whether no row's price is above an amount and its column's payment.
 fn are_rows_covered<T: Amounts>(table: &T, prices: &[u64], pays: &[u64]) -> bool
     requires few_rows { (T.as_grid table.now).rows ≤ LARGEST_BATCH }
-    requires few_columns { (T.as_grid table.now).columns ≤ widest_grid }
+    requires few_columns { (T.as_grid table.now).columns ≤ WIDEST_GRID }
     requires prices_each { length prices.now ≡ (T.as_grid table.now).rows }
     requires pays_each { length pays.now ≡ (T.as_grid table.now).columns }
     ensures { MatchBool result (CoversGrid (T.as_grid table.now) prices.now pays.now)
@@ -58,7 +58,7 @@ fn is_balanced<T: Amounts>(
     pays: &[u64],
 ) -> bool
     requires few_rows { length prices.now ≤ LARGEST_BATCH }
-    requires few_columns { length pays.now ≤ widest_grid }
+    requires few_columns { length pays.now ≤ WIDEST_GRID }
     requires columns_few { length columns.now ≤ LARGEST_BATCH }
     requires paired { IsPairing (T.as_grid table.now) columns.now }
     ensures { MatchBool result

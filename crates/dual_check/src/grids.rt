@@ -1,12 +1,16 @@
 //! Grids of amounts.
 ghost use Rattle.std.specs.Prelude.{◌≡◌, ◌+◌, ◌*◌, ◌<◌, ◌≤◌, ◌^◌, length, replicate, slice_set, take, drop, All, None, Some, IfOk};
 ghost use Rattle.ride_model.specs.declared.limits.TheConstants.{LARGEST_BATCH};
-ghost use Rattle.dual_check.specs.Cells.{cell_at, IsSmall, IsGrid, widest_grid};
+ghost use Rattle.dual_check.specs.Cells.{cell_at, IsSmall, IsGrid};
+ghost use Rattle.dual_check.specs.declared.grids.TheConstants.{WIDEST_GRID};
 
 use crate::Cell;
 use ride_model::NoMemory;
 use std::alloc::Global;
 use std::marker::Model;
+
+/// The most columns of a grid: the vehicles of eight fleets.
+pub const WIDEST_GRID: u32 = 8_000;
 
 /// For each row and column an amount, or none.
 #[derive(Drop)]
@@ -30,7 +34,7 @@ impl Grid {
     /// A grid without amounts.
     pub fn new(alloc: Global, rows: u32, columns: u32) -> Result<Grid, NoMemory>
         requires rows_limit { rows ≤ LARGEST_BATCH }
-        requires columns_limit { columns ≤ widest_grid }
+        requires columns_limit { columns ≤ WIDEST_GRID }
         ensures { IfOk result (λ grid. grid
             ≡ record { rows = rows; columns = columns; cells = replicate (rows * columns) None }) }
     {

@@ -17,5 +17,5 @@ mod spreads;
 pub use batch_check::certifies;
 pub use cells::Cell;
 pub use grid_check::certifies_grid;
-pub use grids::Grid;
+pub use grids::{Grid, WIDEST_GRID};
 pub use paired::{ColumnList, NumberList, Paired};

@@ -1,6 +1,6 @@
 //! Prices and payments as lists of numbers.
 ghost use Rattle.std.specs.Prelude.{◌≡◌, ◌≤◌, ◌+◌, ◌*◌, ◌^◌, length, sum, All, IsTrue, MatchBool, ◌↔◌};
-ghost use Rattle.dual_check.specs.Cells.{widest_grid};
+ghost use Rattle.dual_check.specs.declared.grids.TheConstants.{WIDEST_GRID};
 
 /// Whether each price is at most the penalty.
 pub fn are_capped(prices: &[u64], penalty: u64) -> bool
@@ -11,9 +11,9 @@ pub fn are_capped(prices: &[u64], penalty: u64) -> bool
 
 /// The sum of at most 8,000 amounts.
 pub fn total(amounts: &[u64]) -> u128
-    requires { length amounts.now ≤ widest_grid }
+    requires { length amounts.now ≤ WIDEST_GRID }
     ensures total { result ≡ sum amounts.now }
-    ensures limit { result ≤ widest_grid * 2 ^ 64 }
+    ensures limit { result ≤ WIDEST_GRID * 2 ^ 64 }
 {
     let mut total = 0;
     for amount in amounts {

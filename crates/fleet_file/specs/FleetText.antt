@@ -43,8 +43,7 @@ value_at values place = unwrap_or (slice_index_or values place None) (setting_at
 
 -- the settings with these values
 abbrev pub settings_of : List (Option ℕ) → Settings
-settings_of values =
-    let at : ℕ → ℕ = value_at values in
+settings_of values = let at : ℕ → ℕ = value_at values in
     record { batch = at 0; penalty = at 1; drive = at 2; wait = at 3; lead = at 4; dwell = at 5; log = at 6 }
 
 -- what the lines so far said: the value of each setting that was set, by its place, and vehicles

@@ -1,5 +1,5 @@
 -- Reports leave a company's board idle.
-use Rattle.fleet_league.proofs.Common.{◌≡◌, ℕ, ◌+◌, ◌<◌, ◌≤◌, Bool, true, false, not, cond, List, [], ◌∷◌, ◌++◌, length, Option, Some, None, Result, Ok, Err, refl, sym, ap, subst, ◌∙◌, arith, length-append, map, count_by, nat_lt, option_map, ◌==◌, OnOk, OnErr, filter, AllocError, length-map, sum_by-append, Command, Request, Cancel, At, Done, On, Off, Clock, Ask, Bad, Entry, Reply, Refused, RequestState, Waiting, InBatch, Aboard, Away, Cancelled, Kind, Pickup, Dropoff, Stop, Vehicle, is_waiting, waiting_rides, entries_of, fed_commands, Settings, replay, RoadMap, travel, State, AcceptedRequest, accepted_request, placed_vehicle, start_state, Answered, is_node, cancel_by_state, cancel_found, cancel_step, freed, reported, report, report_driving, at_found, at_step, served_state, done_at_stop, done_found, done_step, duty_found, duty_step, clock_step, step, marked, marked-ride, consistent, find_request, leaves-step, Recorded, state_of, fed_entry, fed_commands-append, state-push, is_report, report_count, most_reports, IsIdle, IsCompany}
+use Rattle.fleet_league.proofs.Common.{◌≡◌, ℕ, ◌+◌, ◌<◌, ◌≤◌, Bool, true, false, not, cond, List, [], ◌∷◌, ◌++◌, length, Option, Some, None, Result, Ok, Err, refl, sym, ap, subst, ◌∙◌, arith, length-append, map, count_by, nat_lt, option_map, ◌==◌, OnOk, OnErr, filter, AllocError, length-map, sum_by-append, Command, Request, Cancel, At, Done, On, Off, Clock, Ask, Bad, Entry, Reply, Refused, RequestState, Waiting, InBatch, Aboard, Away, Cancelled, Kind, Pickup, Dropoff, Stop, Vehicle, is_waiting, waiting_rides, entries_of, fed_commands, Settings, replay, RoadMap, travel, State, AcceptedRequest, accepted_request, placed_vehicle, start_state, Answered, is_node, cancel_by_state, cancel_found, freed, reported, report, report_driving, at_found, served_state, done_at_stop, done_found, duty_found, clock_step, step, marked, marked-ride, consistent, find_request, leaves-step, Recorded, state_of, fed_entry, fed_commands-append, state-push, is_report, report_count, most_reports, IsIdle, IsCompany}
 use Rattle.ride_model.specs.declared.reply.RequestState.TheVariants.{Confirmed, Done as DoneState}
 use Rattle.model_laws.proofs.history_laws.Changes.{find_request-map}
 use Rattle.model_laws.proofs.history_laws.Others.{keeps_none}
@@ -131,7 +131,7 @@ of_duty s duty (Some p) = record { none_wait = λ none. none; as_many = refl; as
 
 -- each report
 pub quiet-step : (s : State) (command : Command) → is_report command ≡ true → Quiet s (step s command)
-unfolding cancel_step at_step done_step duty_step clock_step
+unfolding clock_step
 quiet-step s (Request id from to seats latest longest chairs) is = absurd (cc is)
 quiet-step s (Cancel id) is = of_cancel s id (accepted_request s id)
 quiet-step s (At vehicle node time) is = of_at s node time (placed_vehicle s vehicle)

@@ -22,29 +22,22 @@ use Rattle.fleet_league.specs.Prices.{prices_of}
 abbrev pub won_rides : List Win → List Ride
 won_rides wins = map (λ (win : Win). win.ride) wins
 
-abbrev pub won_column : List Vehicle → Win → Option ℕ
-won_column vehicles win = position (λ (v : Vehicle). v.id == win.vehicle) vehicles
-
 abbrev pub won_columns : List Vehicle → List Win → List (Option ℕ)
-won_columns vehicles wins = map (won_column vehicles) wins
+won_columns vehicles wins = map (λ (win : Win). position (λ (v : Vehicle). v.id == win.vehicle) vehicles) wins
 
 -- the request of a ride
 abbrev pub request_of : Ride → Command
 request_of ride = Request ride.id ride.from ride.to ride.seats ride.latest ride.longest ride.chairs
 
 -- the entries by which wins are requested, and by which a batch of them is asked for
-abbrev pub request_entries : List Win → List Entry
-request_entries wins = map (λ (win : Win). record { actor = Feed 1; event = Fed (request_of win.ride) Waiting }) wins
-
 abbrev pub asking_entries : State → List Win → List Entry
-asking_entries s wins = request_entries wins ++ (record { actor = Feed 1; event = Fed Ask (Asked (s.asked + 1)) }) ∷ []
+asking_entries s wins = map (λ (win : Win). record { actor = Feed 1; event = Fed (request_of win.ride) Waiting }) wins
+    ++ (record { actor = Feed 1; event = Fed Ask (Asked (s.asked + 1)) }) ∷ []
 
 -- the entries by which this batch is opened, committed and given up
 abbrev pub opening_entry : State → List Win → Entry
-opening_entry s wins = record {
-  actor = Desk 1;
-  event = Opened (s.opened + 1) s.clock (ride_ids (won_rides wins)) (versions_of s.vehicles);
-}
+opening_entry s wins =
+    record { actor = Desk 1; event = Opened (s.opened + 1) s.clock (ride_ids (won_rides wins)) (versions_of s.vehicles) }
 
 -- its cost is that of the pairs, and each win is confirmed
 abbrev pub confirming_entry : State → Brief → List Seat → Entry

@@ -2,7 +2,8 @@
 ghost use Rattle.std.specs.Prelude.{◌≡◌, ◌+◌, ◌≤◌, ◌++◌, ℕ, take, OnOk, OnErr};
 ghost use Rattle.board_core.specs.Recorded.{state_of};
 ghost use Rattle.ride_model.specs.declared.limits.TheConstants.{MOST_BATCHES};
-ghost use Rattle.fleet_league.specs.Awards.{won_rides, request_of, request_entries, asking_entries};
+ghost use Rattle.fleet_league.specs.Awards.{won_rides, request_of, asking_entries};
+ghost use Rattle.fleet_league.specs.inner.Awards.{request_entries};
 ghost use Rattle.fleet_league.specs.inner.Awarding.{MayAsk};
 
 use crate::Win;

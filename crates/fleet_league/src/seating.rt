@@ -8,8 +8,8 @@ ghost use Rattle.ride_model.specs.declared.limits.TheConstants.{LARGEST_BATCH, M
 ghost use Rattle.batch_commit.specs.inner.Answer.{CertifiesOverCells, undecided};
 ghost use Rattle.batch_commit.specs.inner.Table.{FitsBatch, IsTableOf};
 ghost use Rattle.hungarian.specs.inner.Seats.{seat_at, seats_by};
-ghost use Rattle.fleet_league.specs.Awards.{won_rides, won_column, won_columns, AreSeatsOf};
-ghost use Rattle.fleet_league.specs.inner.Awards.{price_list};
+ghost use Rattle.fleet_league.specs.Awards.{won_rides, won_columns, AreSeatsOf};
+ghost use Rattle.fleet_league.specs.inner.Awards.{price_list, won_column};
 ghost use Rattle.fleet_league.specs.inner.Awarding.{IsWonBatch};
 
 use crate::{Brief, Win};

@@ -1,6 +1,7 @@
 //! The grid of the prices of several companies.
 ghost use Rattle.std.specs.Prelude.{◌≡◌, ℕ, ◌+◌, ◌<◌, ◌≤◌, ◌^◌, length, sum_by, All, IfOk, IfSome, None};
-ghost use Rattle.dual_check.specs.Cells.{cell_at, widest_grid};
+ghost use Rattle.dual_check.specs.Cells.{cell_at};
+ghost use Rattle.dual_check.specs.declared.grids.TheConstants.{WIDEST_GRID};
 ghost use Rattle.fleet_league.specs.declared.quotes.Quote.{Quote};
 ghost use Rattle.fleet_league.specs.inner.Filling.{ChangesOnly};
 ghost use Rattle.fleet_league.specs.Round.{IsUnion, StandsFrom, company_prices};
@@ -36,7 +37,7 @@ fn vehicles_of(quotes: &[Quote]) -> u32
     requires few_companies { length quotes.now ≤ 8 }
     requires priced { All (λ (quote : Quote). IsPriced quote.prices) quotes.now }
     ensures sum { result ≡ sum_by (λ (quote : Quote). quote.prices.columns) quotes.now }
-    ensures few { result ≤ widest_grid }
+    ensures few { result ≤ WIDEST_GRID }
 {
     let mut vehicles = 0;
     for quote in quotes {

@@ -26,13 +26,11 @@ checked_problem number _ = Err (BadLine number)
 -- the problem that the fields after `p` say, in a line of this number
 abbrev pub problem_of : ℕ → List (List ℕ) → Result Problem MapError
 problem_of number [] = Err (BadLine number)
-problem_of number (word ∷ fields) = if bytes_eq word (codes "sp") then checked_problem number (numbers_of fields)
-    else Err (BadLine number)
+problem_of number (word ∷ fields) = if bytes_eq word (codes "sp") then checked_problem number (numbers_of fields) else Err (BadLine number)
 
 -- the arc that numbers are, in a line of this number, of a map of so many nodes
 abbrev pub checked_arc : ℕ → ℕ → Option (List ℕ) → Result RoadArc MapError
-checked_arc number nodes (Some (tail ∷ head ∷ seconds ∷ [])) =
-    let is_out : ℕ → Bool = λ node. node == 0 || nat_lt nodes node in
+checked_arc number nodes (Some (tail ∷ head ∷ seconds ∷ [])) = let is_out : ℕ → Bool = λ node. node == 0 || nat_lt nodes node in
     if is_out tail || is_out head then Err (NodeOut number)
     else (if nat_lt LONGEST_ARC seconds then Err (WeightOut number)
     else Ok (record { tail = tail; head = head; seconds = seconds }))

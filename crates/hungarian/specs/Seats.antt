@@ -13,5 +13,4 @@ pay_at vehicle amount = if amount == 0 then None else Some (vehicle, amount)
 
 -- those of the first vehicles whose columns pay, with what they pay
 abbrev pub pays_by : List ℕ → List ℕ → ℕ → List (ℕ × ℕ)
-pays_by fleet amounts count = filter_map (λ column. pay_at (slice_index fleet column) (price_at amounts column))
-    (range_with_len 0 count)
+pays_by fleet amounts count = filter_map (λ column. pay_at (slice_index fleet column) (price_at amounts column)) (range_with_len 0 count)

@@ -1,6 +1,6 @@
 //! The columns as they are seen from a row.
 ghost use Rattle.std.specs.Prelude.{◌≡◌, ℕ, ◌+◌, ◌<◌, ◌≤◌, ◌^◌, length, slice_index, slice_index_or, Some, None};
-ghost use Rattle.dual_check.specs.Cells.{widest_grid};
+ghost use Rattle.dual_check.specs.declared.grids.TheConstants.{WIDEST_GRID};
 ghost use Rattle.hungarian.specs.inner.Ways.{IsShortened, IsNearest, IsRelaxable, IsDistanceBy, nearest_of};
 
 use dual_check::Cell;
@@ -60,7 +60,7 @@ fn shorter(reach: Reach, cell: Cell, pay: u64, had: Way) -> Way
 #[inline(always)]
 fn nearer(nearest: Nearest, ranks: &[u32], column: usize, distance: u64) -> Nearest
     requires column_in { column < length ranks.now }
-    requires few { length ranks.now ≤ widest_grid }
+    requires few { length ranks.now ≤ WIDEST_GRID }
     ensures nearer { result ≡ nearest_of nearest column distance (slice_index ranks.now column) }
 {
     if distance < nearest.distance && ranks[column] == 0 {
@@ -85,7 +85,7 @@ pub(crate) fn relax(
     distances: &mut [u64],
     sources: &mut [u32],
 ) -> Nearest
-    requires few { length cells.now ≤ widest_grid }
+    requires few { length cells.now ≤ WIDEST_GRID }
     requires pays_each { length pays.now ≡ length cells.now }
     requires ranks_each { length ranks.now ≡ length cells.now }
     requires distances_each { length distances.old ≡ length cells.now }

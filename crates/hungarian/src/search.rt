@@ -5,7 +5,8 @@ ghost use Rattle.dual_check.specs.Grid.{price_at};
 ghost use Rattle.hungarian.specs.inner.Mates.{mate};
 ghost use Rattle.hungarian.specs.inner.Ways.{IsShortened, IsNearest, IsRelaxable};
 ghost use Rattle.hungarian.specs.inner.Labels.{distance_at, source_at, rank_at, IsSized, IsNext, IsPath, sooner_path};
-ghost use Rattle.dual_check.specs.Cells.{cell_at, IsGrid, widest_grid};
+ghost use Rattle.dual_check.specs.Cells.{cell_at, IsGrid};
+ghost use Rattle.dual_check.specs.declared.grids.TheConstants.{WIDEST_GRID};
 ghost use Rattle.hungarian.specs.inner.Partial.{IsPartial};
 
 use crate::duals::Duals;
@@ -67,7 +68,7 @@ impl Search {
 
     /// Settles an open column, and answers its distance.
     fn settle(&mut self, column: u32) -> u64
-        requires room { self.old.steps < widest_grid }
+        requires room { self.old.steps < WIDEST_GRID }
         requires column_in { column < length self.old.ranks.items }
         requires same { length self.old.distances.items ≡ length self.old.ranks.items }
         ensures distance { result ≡ distance_at self.old column }

@@ -1,6 +1,6 @@
 -- The names that most proofs of this crate cite, passed on from one place. Declares nothing.
 pub use Rattle.model_laws.proofs.Common.{Abandoned, Aboard, AcceptedRequest, Actor, All, All-filter, All-from_recursion, All-map, All-weaker, AllByRecursion, Answered, Ask, At, Away, Bad, BatchCopy, Behind, Bool, Cancel, Cancelled, Clock, Command, CommitsBatch, Committed, Confirmed, Desk, Done, Dropoff, Entry, Err, Event, Fed, Feed, Finish, Gone, IfOk, IfSome, InBatch, IsConsistent, IsDistinct, IsDistinct-head, IsDistinct-tail, IsLegalEvent, IsNode, IsOpenBatch, IsSomeAnd, IsStart, Kind, Late, List, Moved, None, Off, Ok, On, OnMap, Opened, Option, Outcome, Pickup, Request, RequestState, Result, Ride, RoadMap, Seat, Some, State, Stop, Vehicle, Waiting, [], accepted_request, add-one, after_commit, after_outcome, amount_field, amount_of, ap, append-nil, append_assoc, arith, at_found, broken_of, cancel_by_state, cancel_found, codes, cond, count_by-le-length, decimal, done_at_stop, done_found, drop, drop-cons, duty_found, enumerate_from, eqb, eqb-true, err_from_is_err_and, false, fed_total, filter, find, find_vehicle, flat_map, flat_map-append, fold_more, freed, get_or, get_or-map, has_seat, inl, inr, is_fed, is_idle, is_node, is_some, keys_of, length, length-append, length-map, length-take, length-take-le, lookup, map, map_more, min, mul-add-lt, nat_le, nat_lt, next_batch, not, open_batch_numbered, option_map, outcome_of, outcomes_of, placed_vehicle, position-Some, priced_start, recursion_from_All, refl, replicate, report, report_driving, reported, ride_ids, routed, same_Some, seat_of, served, served_reply, set, set-append_seam, slice_get, slice_index_or, step, stops_with, subst, suc, sum, sum_by-le, sym, take, take-append-add, take-append-drop, take-append-le, take_all, take_min, take_more, true, unwrap_or, values_of, vehicle_ids, versions_of, with_confirmed, with_plan, with_vehicle, without_ride, zero, ℕ, ◌&&◌, ◌*◌, ◌++◌, ◌+◌, ◌-◌, ◌<◌, ◌==◌, ◌^◌, ◌||◌, ◌∙◌, ◌∷◌, ◌≡◌, ◌≤◌}
-unfoldable pub use Rattle.model_laws.proofs.Common.{IsLegal, ask_step, at_step, cancel_step, clock_step, done_step, duty_step, replay, request_step, travel}
+unfoldable pub use Rattle.model_laws.proofs.Common.{IsLegal, ask_step, clock_step, replay, request_step, travel}
 pub use Rattle.dual_check.proofs.ItemOrders.{map-map}
 pub use Rattle.dual_check.specs.Cells.{GridCells, cell_at}
 pub use Rattle.dual_check.specs.Grid.{CertifiesPairing, IsLeastPairing, column_of, price_at}

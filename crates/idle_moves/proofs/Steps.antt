@@ -1,5 +1,5 @@
 -- Which versions rise by an answered command: as its reply tells.
-use Rattle.idle_moves.proofs.Common.{◌≡◌, ℕ, ◌+◌, Bool, true, false, cond, List, [], ◌∷◌, Option, Some, None, eqb, refl, is_some, not, nat_lt, nat_le, length, ◌&&◌, ◌||◌, ◌==◌, ◌-◌, IsDistinct, Command, Request, Cancel, At, Done, On, Off, Clock, Ask, Bad, OnMap, Late, RequestState, Waiting, InBatch, Aboard, Away, Cancelled, Kind, Pickup, Dropoff, Stop, Vehicle, without_ride, broken_of, versions_of, travel, vehicle_ids, State, AcceptedRequest, accepted_request, placed_vehicle, with_vehicle, Answered, cancel_by_state, cancel_found, cancel_step, freed, reported, report, report_driving, at_found, at_step, served, served_reply, done_at_stop, done_found, done_step, duty_found, duty_step, clock_step, ask_step, request_step, is_node, step, raised, raised_if, vehicle_changed}
+use Rattle.idle_moves.proofs.Common.{◌≡◌, ℕ, ◌+◌, Bool, true, false, cond, List, [], ◌∷◌, Option, Some, None, eqb, refl, is_some, not, nat_lt, nat_le, length, ◌&&◌, ◌||◌, ◌==◌, ◌-◌, IsDistinct, Command, Request, Cancel, At, Done, On, Off, Clock, Ask, Bad, OnMap, Late, RequestState, Waiting, InBatch, Aboard, Away, Cancelled, Kind, Pickup, Dropoff, Stop, Vehicle, without_ride, broken_of, versions_of, travel, vehicle_ids, State, AcceptedRequest, accepted_request, placed_vehicle, with_vehicle, Answered, cancel_by_state, cancel_found, freed, reported, report, report_driving, at_found, served, served_reply, done_at_stop, done_found, duty_found, clock_step, ask_step, request_step, is_node, step, raised, raised_if, vehicle_changed}
 use Rattle.ride_model.specs.declared.reply.RequestState.TheVariants.{Confirmed, Done as DoneState}
 use Rattle.ride_model.specs.Step.{raised as raised_vehicle}
 use Rattle.idle_moves.proofs.Raising.{versions-set}
@@ -105,7 +105,7 @@ module _ (s : State) (distinct : IsDistinct eqb (vehicle_ids s.vehicles)) where
 
   -- each command
   pub step-rises : (command : Command) → Rises s command (step s command)
-  unfolding request_step cancel_step at_step done_step duty_step clock_step ask_step
+  unfolding request_step clock_step ask_step
   step-rises (Request id from to seats latest longest chairs) =
       let command : Command = Request id from to seats latest longest chairs in
       either s command (is_some (accepted_request s id)) _ _ refl

@@ -7,3 +7,4 @@ mod ReadingLemmas
 pub mod TextLemmas
 pub mod PrintedLemmas
 pub mod NamedRefusals
+pub mod LineTaking

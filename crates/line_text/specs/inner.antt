@@ -1,5 +1,6 @@
 pub mod Lines
 pub mod Cutter
 pub mod Reading
+pub mod Taking
 pub mod line_reader
 pub mod text_page

@@ -1,5 +1,5 @@
 -- The text of a legal history is within the limits of an audit.
-use Rattle.log_audit.proofs.Common.{◌≡◌, ℕ, ◌≤◌, inl, inr, List, Result, Ok, length, refl, arith, All, All-weaker, lines_of, Entry, fed_commands, IsLegal, IsNumbered, State, HasText, text_of, IsStart, text-le, Totals, AreTotalsOf, AuditFault, Verdict, Yes, IsAnswer, log_limits, IsTooLong}
+use Rattle.log_audit.proofs.Common.{◌≡◌, ℕ, ◌≤◌, inl, inr, List, Result, Ok, length, refl, arith, All, All-weaker, lines_of, Entry, fed_commands, IsLegal, IsNumbered, State, HasText, text_of, IsStart, text-le, Totals, AreTotalsOf, AuditFault, Verdict, Yes, IsAnswer, LOG_LIMITS, IsTooLong}
 use Rattle.command_lines.specs.Limits.{feed_limits}
 use Rattle.trip_log.proofs.limit_laws.FedCommands.{few-fed}
 use Rattle.trip_log.proofs.limit_laws.Tallies.{few-entries}
@@ -10,7 +10,7 @@ use Rattle.log_audit.proofs.OneAnswer.{one-answer}
 pub text-within : (feeds desks : ℕ) (start : State) (entries : List Entry) → IsStart start → IsLegal feeds desks start entries
     → HasText start.settings.log feeds desks entries
     → ((feed : ℕ) → IsNumbered feeds feed → length (fed_commands feed entries) ≤ feed_limits.lines)
-    → IsTooLong log_limits (text_of start.settings.log feeds desks entries) → ⊥
+    → IsTooLong LOG_LIMITS (text_of start.settings.log feeds desks entries) → ⊥
 text-within feeds desks start entries begins legal has few (inl far) =
     omega (
       arith,
@@ -30,9 +30,9 @@ text-within feeds desks start entries begins legal has few (inr many) =
 -- each of its lines
 pub lines-within : (feeds desks : ℕ) (start : State) (entries : List Entry) → IsStart start → IsLegal feeds desks start entries
     → HasText start.settings.log feeds desks entries
-    → All (λ line. length line ≤ log_limits.line) (lines_of (text_of start.settings.log feeds desks entries))
+    → All (λ line. length line ≤ LOG_LIMITS.line) (lines_of (text_of start.settings.log feeds desks entries))
 lines-within feeds desks start entries begins legal has =
-    All-weaker (λ (line : List ℕ). length line ≤ 58815) (λ (line : List ℕ). length line ≤ log_limits.line) (λ line short. omega (arith, short))
+    All-weaker (λ (line : List ℕ). length line ≤ 58815) (λ (line : List ℕ). length line ≤ LOG_LIMITS.line) (λ line short. omega (arith, short))
     (lines_of (text_of start.settings.log feeds desks entries)) (each-line feeds desks start entries begins legal has)
 
 -- an audit of it answers yes

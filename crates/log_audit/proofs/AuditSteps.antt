@@ -1,5 +1,5 @@
 -- The steps of an audit: its head, a line after it, and how it ends.
-use Rattle.log_audit.proofs.Common.{◌≡◌, ◌≢◌, ℕ, ◌+◌, ◌≤◌, inl, inr, true, false, List, [], ◌∷◌, ◌++◌, length, take, Option, None, Some, refl, sym, ◌∙◌, ap, subst, arith, append_assoc, length-append, IfSome, IfNone, IfOk, Result, Ok, Err, MatchOption, nat_lt, codes, decimal, ltb-true, lt-ltb, cases_lt, decimal_digit, take_all, ended_after, ended_lines, rest_after, rest_of, Entry, IsLegal, State, HasLine, HasText, IsOneOrTwo, entry_line, head_line, line_of, text_of, IsStart, Recorded, state_of, Auditor, Fault, Head, for_one_or_two, texts-same, NextLine, Line, Unfinished, End, ReaderState, HasNoLf, AuditFault, ReadFault, TooLong, NoMemory, Verdict, No, Why, Spelling, HasNoHead, IsAnswer, IsLogOf, IsWrongLine, FailsAfter, HasReadHead, HasReadNoHead, IsWrongLineAfter, text_so_far, IsAuditing, IsJudged, IsLineOf, LeavesDue, Counts, IsTooLong, log_limits, HasRead, IsAtEnd, IsNext, IsNextLine, IsStop, StopsReading, IsFault}
+use Rattle.log_audit.proofs.Common.{◌≡◌, ◌≢◌, ℕ, ◌+◌, ◌≤◌, inl, inr, true, false, List, [], ◌∷◌, ◌++◌, length, take, Option, None, Some, refl, sym, ◌∙◌, ap, subst, arith, append_assoc, length-append, IfSome, IfNone, IfOk, Result, Ok, Err, MatchOption, nat_lt, codes, decimal, ltb-true, lt-ltb, cases_lt, decimal_digit, take_all, ended_after, ended_lines, rest_after, rest_of, Entry, IsLegal, State, HasLine, HasText, IsOneOrTwo, entry_line, head_line, line_of, text_of, IsStart, Recorded, state_of, Auditor, Fault, Head, for_one_or_two, texts-same, NextLine, Line, Unfinished, End, ReaderState, HasNoLf, AuditFault, ReadFault, TooLong, NoMemory, Verdict, No, Why, Spelling, HasNoHead, IsAnswer, IsLogOf, IsWrongLine, FailsAfter, HasReadHead, HasReadNoHead, IsWrongLineAfter, text_so_far, IsAuditing, IsJudged, IsLineOf, LeavesDue, Counts, IsTooLong, LOG_LIMITS, HasRead, IsAtEnd, IsNext, IsNextLine, IsStop, StopsReading, IsFault}
 use Rattle.log_audit.proofs.Ends.{all-read, count-text, counts-front, ends-fault, ends-too_long, one-line-more, wrong-next}
 use Rattle.log_audit.proofs.LogParts.{few-bytes, lines-counted, lines_within, told-by}
 use Rattle.log_audit.proofs.OneAnswer.{one-answer}
@@ -11,12 +11,12 @@ lf-some [] more = λ e. cc e
 lf-some (x ∷ line) more = λ e. cc e
 
 -- a line that is too long spells no entry
-pub over-wrong : (board : Recorded) (line : List ℕ) → HasNoLf line → nat_lt log_limits.line (length line) ≡ true → IsWrongLineAfter board line Spelling
+pub over-wrong : (board : Recorded) (line : List ℕ) → HasNoLf line → nat_lt LOG_LIMITS.line (length line) ≡ true → IsWrongLineAfter board line Spelling
 over-wrong board line none over = λ more. (
   lf-some line more,
   λ entry tells.
       let same = entry-first board.start.settings.log entry line more tells.first.0 tells.spelled none (sym tells.first.1) in
-      omega (arith, tells.short, ap length same, length-append line (10 ∷ []), ltb-true log_limits.line (length line) over),
+      omega (arith, tells.short, ap length same, length-append line (10 ∷ []), ltb-true LOG_LIMITS.line (length line) over),
 )
 
 -- nor does one that is no entry's
@@ -30,7 +30,7 @@ none-wrong board line none never = λ more. (
 )
 
 -- a line with a fault
-fault-wrong : (board : Recorded) (entry : Entry) (line : List ℕ) (why : Why) → length line ≤ log_limits.line → IsLineOf board.start.settings.log entry line
+fault-wrong : (board : Recorded) (entry : Entry) (line : List ℕ) (why : Why) → length line ≤ LOG_LIMITS.line → IsLineOf board.start.settings.log entry line
     → IsFault why board.feeds board.desks (state_of board) entry.actor entry.event → IsWrongLineAfter board line why
 fault-wrong board entry line why few is fault = λ more.
     wrong-next board.start board.feeds board.desks board.history ((line ++ 10 ∷ []) ++ more) entry why
@@ -46,7 +46,7 @@ LineJudged old new line fault = MatchOption fault
     (IsAuditing new × (new.board.start ≡ old.board.start) × (text_so_far new.board ≡ text_so_far old.board ++ line ++ 10 ∷ []))
     (λ (f : Fault). IsWrongLineAfter old.board line f.why × LeavesDue old new f.why f.batch)
 
-line-judged : (old new : Auditor) (entry : Entry) (line : List ℕ) (fault : Option Fault) → length line ≤ log_limits.line
+line-judged : (old new : Auditor) (entry : Entry) (line : List ℕ) (fault : Option Fault) → length line ≤ LOG_LIMITS.line
     → IsLineOf old.board.start.settings.log entry line → IsJudged old new entry fault → LineJudged old new line fault
 line-judged old new entry line None few is goes =
     let log = old.board.start.settings.log in (
@@ -66,19 +66,19 @@ spelling-left old new line f is wrong =
     subst (λ (x : Fault). IsWrongLineAfter old.board line x.why × LeavesDue old new x.why x.batch) (sym is) (wrong, tt)
 
 -- what is shown of a line that is not too long is the line
-pub shown-all : (line shown : List ℕ) → shown ≡ take log_limits.line line → nat_lt log_limits.line (length line) ≢ true
-    → (length line ≤ log_limits.line) × (shown ≡ line)
+pub shown-all : (line shown : List ℕ) → shown ≡ take LOG_LIMITS.line line → nat_lt LOG_LIMITS.line (length line) ≢ true
+    → (length line ≤ LOG_LIMITS.line) × (shown ≡ line)
 shown-all line shown is fits =
-    let few : length line ≤ log_limits.line = few-bytes in (few, is ∙ take_all log_limits.line line few)
+    let few : length line ≤ LOG_LIMITS.line = few-bytes in (few, is ∙ take_all LOG_LIMITS.line line few)
   where
-    few-bytes : length line ≤ log_limits.line
-    few-bytes = elim (cases_lt log_limits.line (length line)) [
-      | inl more ↦ absurd (fits (lt-ltb log_limits.line (length line) more))
+    few-bytes : length line ≤ LOG_LIMITS.line
+    few-bytes = elim (cases_lt LOG_LIMITS.line (length line)) [
+      | inl more ↦ absurd (fits (lt-ltb LOG_LIMITS.line (length line) more))
       | inr few ↦ omega (arith, few)
     ]
 
-pub judged-line : (old new : Auditor) (entry : Entry) (line shown : List ℕ) (why : Option Fault) → shown ≡ take log_limits.line line
-    → nat_lt log_limits.line (length line) ≢ true → IsLineOf old.board.start.settings.log entry shown → IsJudged old new entry why
+pub judged-line : (old new : Auditor) (entry : Entry) (line shown : List ℕ) (why : Option Fault) → shown ≡ take LOG_LIMITS.line line
+    → nat_lt LOG_LIMITS.line (length line) ≢ true → IsLineOf old.board.start.settings.log entry shown → IsJudged old new entry why
     → LineJudged old new line why
 judged-line old new entry line shown why is fits of_line judged =
     let (few, same) = shown-all line shown is fits in
@@ -101,13 +101,13 @@ stops-reading before left start old_start feeds desks entries text NoMemory begi
 
 -- how many entries there are
 pub few-entries : (before left : Option (List ℕ)) (lines : ReaderState) (start : State) (feeds desks : ℕ) (entries : List Entry) (text : List ℕ)
-    → IsLogOf start feeds desks entries text → HasRead before left lines text → length entries + 1 + lines.lines_left ≡ log_limits.lines
+    → IsLogOf start feeds desks entries text → HasRead before left lines text → length entries + 1 + lines.lines_left ≡ LOG_LIMITS.lines
 few-entries before left lines start feeds desks entries text good read =
     omega (arith, lines-counted read, count-text start feeds desks entries text good)
 
 -- a line that spells no entry
-pub unread-wrong : (old : Auditor) (line shown read : List ℕ) (o : Option Entry) → IsAuditing old → HasNoLf line → shown ≡ take log_limits.line line
-    → nat_lt log_limits.line (length line) ≢ true → read ≡ shown → o ≡ None
+pub unread-wrong : (old : Auditor) (line shown read : List ℕ) (o : Option Entry) → IsAuditing old → HasNoLf line → shown ≡ take LOG_LIMITS.line line
+    → nat_lt LOG_LIMITS.line (length line) ≢ true → read ≡ shown → o ≡ None
     → IfNone o ((entry : Entry) → HasLine old.log entry → entry_line old.log entry ≢ read ++ 10 ∷ [])
     → IsWrongLineAfter old.board line Spelling
 unread-wrong old line shown read o auditing none is fits read_is nothing never =
@@ -120,7 +120,7 @@ unread-wrong old line shown read o auditing none is fits read_is nothing never =
 
 -- a line whose entry was judged
 pub read-judged : {E : Type 0} (old new : Auditor) (line shown read : List ℕ) (o : Option Entry) (entry : Entry) (r : Result (Option Fault) E)
-    → IsAuditing old → shown ≡ take log_limits.line line → nat_lt log_limits.line (length line) ≢ true → read ≡ shown → o ≡ Some entry
+    → IsAuditing old → shown ≡ take LOG_LIMITS.line line → nat_lt LOG_LIMITS.line (length line) ≢ true → read ≡ shown → o ≡ Some entry
     → IfSome o (HasLine old.log) → IfSome o (λ e. entry_line old.log e ≡ read ++ 10 ∷ []) → IfOk r (IsJudged old new entry)
     → IfOk r (LineJudged old new line)
 read-judged {E} old new line shown read o entry r auditing is fits read_is some has told judged = by_result r judged
@@ -193,7 +193,7 @@ head-over before left lines version n fits is next over =
       head-short version feeds desks fits f d,
       ap length same,
       length-append line (10 ∷ []),
-      ltb-true log_limits.line (length line) (sym it.over ∙ over),
+      ltb-true LOG_LIMITS.line (length line) (sym it.over ∙ over),
     )) fits
 
 pub head-found : (before left : Option (List ℕ)) (lines : ReaderState) (version : ℕ) (n : NextLine) (shown : List ℕ) (o : Option Head) → IsOneOrTwo version
@@ -204,7 +204,7 @@ pub head-found : (before left : Option (List ℕ)) (lines : ReaderState) (versio
     → MatchOption o (HasReadNoHead before version) (HasReadHead before left lines version)
 head-found before left lines version n shown o fits is next over shown_is found never =
     let (line, it) = subst (IsNext before left lines []) is next in
-    let same : (length line ≤ log_limits.line) × (lines.cutter.shown ≡ line)
+    let same : (length line ≤ LOG_LIMITS.line) × (lines.cutter.shown ≡ line)
     = shown-all line lines.cutter.shown it.shown (λ more. not-true (sym over ∙ it.over ∙ more)) in
     by_head line it (shown_is ∙ same.1) o found never
   where
@@ -266,7 +266,7 @@ stops-head before left start ReadFault (rest, none, reads, within) = record {
 }
 stops-head before left start TooLong stopped = by_case before stopped
   where
-    by_case : (o : Option (List ℕ)) → IfSome o (λ all. (more : List ℕ) × (all ≡ [] ++ more) × IsTooLong log_limits all × (lines_within all ≤ length (ended_lines [])))
+    by_case : (o : Option (List ℕ)) → IfSome o (λ all. (more : List ℕ) × (all ≡ [] ++ more) × IsTooLong LOG_LIMITS all × (lines_within all ≤ length (ended_lines [])))
         → IfSome o (λ all. IsAnswer start all (Err TooLong))
     by_case None h = tt
     by_case (Some all) (more, is, long, within) = (

@@ -23,7 +23,8 @@ pub use Rattle.line_text.specs.line_reader.Limits.{IsTooLong}
 pub use Rattle.line_text.specs.line_reader.Reader.{HasNoLf}
 pub use Rattle.log_audit.specs.Audit.{IsAnswer, IsLogOf, IsWrongLine, IsWrongEntry, IsWrongNext, Tells}
 pub use Rattle.log_audit.specs.Audited.{FailsAfter}
-pub use Rattle.log_audit.specs.Limits.{Counts, log_limits}
+pub use Rattle.log_audit.specs.Limits.{Counts}
+pub use Rattle.log_audit.specs.declared.limits.TheConstants.{LOG_LIMITS}
 pub use Rattle.log_audit.specs.LogLines.{TakesSome}
 pub use Rattle.log_audit.specs.Restored.{IsRestoration, IsBoardOf, IsHeadOrEnded, IsSameButRoom, StandsAt}
 pub use Rattle.log_audit.specs.Words.{IsFault, Meets}

@@ -1,5 +1,5 @@
 -- How an audit ends.
-use Rattle.log_audit.proofs.Common.{◌≡◌, ◌≢◌, ℕ, ◌+◌, ◌-◌, ◌≤◌, inr, List, [], ◌∷◌, ◌++◌, length, take, Option, None, Some, refl, sym, ◌∙◌, ap, subst, arith, append_assoc, append-nil, length-append, IfSome, Ok, Err, take-append-add, ne_eqb, length-map, Reads, Reads-to_end, ended_after, rest_after, ended_lines, rest_of, ended_lines-append, ended_after-no_end, rest_after-append, rest_after-no_end, HasNoEnd, Entry, State, replay, entry_line, IsStart, cut-text, rest-text, ReaderState, HasNoLf, ReadFault, TooLong, Totals, Yes, No, Why, Spelling, Tells, IsLogOf, IsWrongEntry, IsWrongNext, IsAnswer, FailsAfter, log_limits, IsTooLong, Counts, IsAtEnd, IsNextLine, IsStop, AreTotalsOf, IsFault}
+use Rattle.log_audit.proofs.Common.{◌≡◌, ◌≢◌, ℕ, ◌+◌, ◌-◌, ◌≤◌, inr, List, [], ◌∷◌, ◌++◌, length, take, Option, None, Some, refl, sym, ◌∙◌, ap, subst, arith, append_assoc, append-nil, length-append, IfSome, Ok, Err, take-append-add, ne_eqb, length-map, Reads, Reads-to_end, ended_after, rest_after, ended_lines, rest_of, ended_lines-append, ended_after-no_end, rest_after-append, rest_after-no_end, HasNoEnd, Entry, State, replay, entry_line, IsStart, cut-text, rest-text, ReaderState, HasNoLf, ReadFault, TooLong, Totals, Yes, No, Why, Spelling, Tells, IsLogOf, IsWrongEntry, IsWrongNext, IsAnswer, FailsAfter, LOG_LIMITS, IsTooLong, Counts, IsAtEnd, IsNextLine, IsStop, AreTotalsOf, IsFault}
 use Rattle.trip_log.specs.inner.Cuts.{front_of}
 use Rattle.log_audit.specs.declared.verdict.Why.TheVariants.{Actor as ToActor, Reply as ToReply, Batch as ToBatch, Seating as ToSeating, Prices as ToPrices, Outcomes as ToOutcomes}
 use Rattle.log_audit.proofs.LogParts.{few-bytes, lines-counted, lines_within, told-by}
@@ -54,7 +54,7 @@ ends-yes before left start feeds desks entries text totals good are end =
       entries,
       good,
       are,
-      λ long. end.within (subst (IsTooLong log_limits) (sym (append-nil text)) long),
+      λ long. end.within (subst (IsTooLong LOG_LIMITS) (sym (append-nil text)) long),
     ))
 
 -- its last line has no LF
@@ -78,17 +78,17 @@ ends-unfinished before left start feeds desks entries text rest line good end so
     )
 
 -- a line that an LF ends within the limits counts
-pub counts-front : (front more : List ℕ) (line : ℕ) → length front ≤ log_limits.bytes → length (ended_lines front) ≤ log_limits.lines
+pub counts-front : (front more : List ℕ) (line : ℕ) → length front ≤ LOG_LIMITS.bytes → length (ended_lines front) ≤ LOG_LIMITS.lines
     → line ≤ length (ended_lines front) → Counts (front ++ more) line
 counts-front front more line few_bytes few_lines low long =
-    let split : take log_limits.bytes (front ++ more) ≡ front ++ take (log_limits.bytes - length front) more = take-append-more log_limits.bytes front more few_bytes in
+    let split : take LOG_LIMITS.bytes (front ++ more) ≡ front ++ take (LOG_LIMITS.bytes - length front) more = take-append-more LOG_LIMITS.bytes front more few_bytes in
     omega (
       arith,
       low,
       few_lines,
       ap (λ l. length (ended_lines l)) split,
-      ap length (ended_lines-append front (take (log_limits.bytes - length front) more)),
-      length-append (ended_lines front) (ended_after (rest_of front) (take (log_limits.bytes - length front) more)),
+      ap length (ended_lines-append front (take (LOG_LIMITS.bytes - length front) more)),
+      length-append (ended_lines front) (ended_after (rest_of front) (take (LOG_LIMITS.bytes - length front) more)),
     )
   where
     take-append-more : (n : ℕ) (xs ys : List ℕ) → length xs ≤ n → take n (xs ++ ys) ≡ xs ++ take (n - length xs) ys
@@ -179,7 +179,7 @@ pub ends-too_long : (before left : Option (List ℕ)) (start : State) (feeds des
     → IsLogOf start feeds desks entries text → IsStop before left text TooLong → IfSome before (λ all. IsAnswer start all (Err TooLong))
 ends-too_long before left start feeds desks entries text begins good stop = by_case before stop
   where
-    by_case : (o : Option (List ℕ)) → IfSome o (λ all. (more : List ℕ) × (all ≡ text ++ more) × IsTooLong log_limits all × (lines_within all ≤ length (ended_lines text)))
+    by_case : (o : Option (List ℕ)) → IfSome o (λ all. (more : List ℕ) × (all ≡ text ++ more) × IsTooLong LOG_LIMITS all × (lines_within all ≤ length (ended_lines text)))
         → IfSome o (λ all. IsAnswer start all (Err TooLong))
     by_case None h = tt
     by_case (Some all) (more, is, long, within) = (

@@ -12,14 +12,15 @@ use Rattle.log_audit.specs.declared.verdict.Verdict.{Verdict}
 use Rattle.log_audit.specs.declared.verdict.Verdict.TheVariants.{Yes, No}
 use Rattle.log_audit.specs.declared.verdict.Why.{Why}
 use Rattle.log_audit.specs.declared.verdict.Why.TheVariants.{Spelling}
-use Rattle.log_audit.specs.Limits.{log_limits, Counts}
+use Rattle.log_audit.specs.Limits.{Counts}
+use Rattle.log_audit.specs.declared.limits.TheConstants.{LOG_LIMITS}
 use Rattle.board_core.specs.Totals.{AreTotalsOf}
 use Rattle.log_audit.specs.Words.{IsFault}
 
 -- bytes begin with the line of an entry, its LF with it
 pub record Tells (log : ℕ) (bytes : List ℕ) (entry : Entry) : Type 0 where
   pub spelled : HasLine log entry
-  pub short : length (entry_line log entry) ≤ log_limits.line + 1
+  pub short : length (entry_line log entry) ≤ LOG_LIMITS.line + 1
   pub first : IsPrefix (entry_line log entry) bytes
 
 -- the bytes are the text of a legal history of a start, with so many feeds and desks
@@ -57,10 +58,10 @@ IsWrongLine start bytes line why = (((feeds desks : ℕ) → IsOneOrTwo feeds �
 abbrev pub IsAnswer : State → List ℕ → Result Verdict AuditFault → Type 0
 IsAnswer start bytes (Ok (Yes totals)) =
     (feeds desks : ℕ) × (entries : List Entry) × IsLogOf start feeds desks entries bytes × AreTotalsOf feeds desks start entries totals
-    × (IsTooLong log_limits bytes → ⊥)
+    × (IsTooLong LOG_LIMITS bytes → ⊥)
 IsAnswer start bytes (Ok (No line why)) = IsWrongLine start bytes line why × Counts bytes line
 IsAnswer start bytes (Err TooLong) =
-    IsTooLong log_limits bytes × ((line : ℕ) (why : Why) → IsWrongLine start bytes line why → Counts bytes line → ⊥)
+    IsTooLong LOG_LIMITS bytes × ((line : ℕ) (why : Why) → IsWrongLine start bytes line why → Counts bytes line → ⊥)
 IsAnswer start bytes (Err _) = ⊥
 
 -- whether the source failed

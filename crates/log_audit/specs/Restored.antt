@@ -10,7 +10,8 @@ use Rattle.log_audit.specs.declared.restoring.Restoration.{Restoration}
 use Rattle.log_audit.specs.declared.restoring.Restoration.TheVariants.{Standing, No}
 use Rattle.log_audit.specs.declared.verdict.AuditFault.{AuditFault}
 use Rattle.log_audit.specs.Audit.{IsAnswer, IsLogOf, IsWrongLine}
-use Rattle.log_audit.specs.Limits.{Counts, log_limits}
+use Rattle.log_audit.specs.Limits.{Counts}
+use Rattle.log_audit.specs.declared.limits.TheConstants.{LOG_LIMITS}
 
 -- the bytes are the text of the board's history, and then what no LF ends; the batches are those that are open then
 pub record StandsAt (start : State) (bytes : List ℕ) (restored : Restored) : Type 0 where
@@ -18,7 +19,7 @@ pub record StandsAt (start : State) (bytes : List ℕ) (restored : Restored) : T
   pub torn : List ℕ
   pub bytes_are : bytes ≡ text ++ torn
   pub no_lf : HasNoLf torn
-  pub within : IsTooLong log_limits bytes → ⊥
+  pub within : IsTooLong LOG_LIMITS bytes → ⊥
   pub start_is : restored.board.start ≡ start
   pub log : IsLogOf start restored.board.feeds restored.board.desks restored.board.history text
   pub first_is : restored.first ≡ open_batch_of (state_of restored.board) 1
@@ -27,7 +28,7 @@ pub record StandsAt (start : State) (bytes : List ℕ) (restored : Restored) : T
 -- a board stands at this start, with fewer entries than a log may have lines, and with the batches that are open on it
 pub record IsBoardOf (start : State) (restored : Restored) : Type 0 where
   pub start_is : restored.board.start ≡ start
-  pub few : length restored.board.history < log_limits.lines
+  pub few : length restored.board.history < LOG_LIMITS.lines
   pub first_is : restored.first ≡ open_batch_of (state_of restored.board) 1
   pub second_is : restored.second ≡ open_batch_of (state_of restored.board) 2
 

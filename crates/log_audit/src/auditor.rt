@@ -3,7 +3,7 @@ ghost use Rattle.std.specs.Prelude.{◌≡◌, ◌≢◌, ◌<◌, ◌++◌, ◌
 ghost use Rattle.ride_model.specs.declared.entry.Entry.{Entry};
 ghost use Rattle.ride_model.specs.Text.{IsOneOrTwo, entry_line};
 ghost use Rattle.log_audit.specs.inner.Auditing.{IsAuditing, IsJudged, IsLineOf};
-ghost use Rattle.log_audit.specs.Limits.{log_limits};
+ghost use Rattle.log_audit.specs.declared.limits.TheConstants.{LOG_LIMITS};
 
 use crate::Why;
 use crate::commits::Commit;
@@ -102,7 +102,7 @@ impl<'r> Auditor<'r> {
         line: &[u8],
     ) -> Result<Option<Fault>, NoMemory>
         requires auditing { IsAuditing self.old }
-        requires few { length self.old.board.history < log_limits.lines }
+        requires few { length self.old.board.history < LOG_LIMITS.lines }
         requires line { IsLineOf self.old.board.start.settings.log entry line.now }
         ensures { IfOk result (IsJudged self.old self.new entry) }
     {

@@ -17,10 +17,9 @@ ghost use Rattle.log_audit.specs.inner.Reading.{HasReadLog, HasReadWrong};
 
 use crate::auditor::Auditor;
 use crate::fault::Fault;
-use crate::lines::MOST_LINE;
 use crate::outset::Outset;
 use crate::reading::{Ended, Reading, read_log};
-use crate::{AuditFault, Why};
+use crate::{AuditFault, LOG_LIMITS, Why};
 use adaptive_roads::Roads;
 use pricing_workers::Search;
 use ride_model::{Fleet, NoMemory, Settings};
@@ -139,7 +138,7 @@ fn last_line(alloc: Global, auditor: &Auditor<'_>) -> Result<Option<Vec<u8>>, No
     let Some(entry) = auditor.board.entries().last() else {
         return Ok(None);
     };
-    let mut sink = MemSink::new(alloc, MOST_LINE + 1, &[], &[])?;
+    let mut sink = MemSink::new(alloc, LOG_LIMITS.line + 1, &[], &[])?;
     match print_entry(entry, auditor.log, &mut sink) {
         Ok(()) => Ok(Some(sink.written().to_vec(alloc)?)),
         Err(_) => Err(AllocError),

@@ -7,7 +7,7 @@ ghost use Rattle.ride_model.specs.Legal.{IsNumbered, IsLegalEvent};
 ghost use Rattle.ride_model.specs.State.{has_ended};
 ghost use Rattle.board_core.specs.Recorded.{state_of, end_entry};
 ghost use Rattle.log_audit.specs.inner.Auditing.{IsAuditing, IsJudged, IsLineOf};
-ghost use Rattle.log_audit.specs.Limits.{log_limits};
+ghost use Rattle.log_audit.specs.declared.limits.TheConstants.{LOG_LIMITS};
 
 use crate::Why;
 use crate::auditor::Auditor;
@@ -24,7 +24,7 @@ impl<'r> Auditor<'r> {
         line: &[u8],
     ) -> Result<Option<Fault>, NoMemory>
         requires auditing { IsAuditing self.old }
-        requires few { length self.old.board.history < log_limits.lines }
+        requires few { length self.old.board.history < LOG_LIMITS.lines }
         requires line { (reply : Reply)
             × IsLineOf self.old.log (record {
               actor = Feed feed;

@@ -16,7 +16,7 @@ ghost use Rattle.log_audit.specs.declared.verdict.Verdict.{Verdict};
 ghost use Rattle.log_audit.specs.declared.verdict.Verdict.TheVariants.{Yes};
 ghost use Rattle.log_audit.specs.declared.verdict.Why.{Why};
 ghost use Rattle.log_audit.specs.Audit.{IsAnswer};
-ghost use Rattle.log_audit.specs.Limits.{log_limits};
+ghost use Rattle.log_audit.specs.declared.limits.TheConstants.{LOG_LIMITS};
 ghost use Rattle.log_audit.specs.Words.{Meets};
 
 /// An entry is legal after a legal history exactly where it meets each word.
@@ -42,10 +42,10 @@ pub fn every_log_is_within_limits()
         → IsLegal feeds desks start entries → HasText start.settings.log feeds desks entries
         → ((feed : ℕ) → IsNumbered feeds feed
         → length (fed_commands feed entries) ≤ feed_limits.lines)
-        → IsTooLong log_limits (text_of start.settings.log feeds desks entries) → ⊥ }
+        → IsTooLong LOG_LIMITS (text_of start.settings.log feeds desks entries) → ⊥ }
     ensures lines { (feeds desks : ℕ) (start : State) (entries : List Entry) → IsStart start
         → IsLegal feeds desks start entries → HasText start.settings.log feeds desks entries
-        → All (λ line. length line ≤ log_limits.line)
+        → All (λ line. length line ≤ LOG_LIMITS.line)
         (lines_of (text_of start.settings.log feeds desks entries)) }
 {}
 

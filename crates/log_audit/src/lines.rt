@@ -5,29 +5,17 @@ ghost use Rattle.log_audit.specs.Audit.{is_read_fault};
 ghost use Rattle.log_audit.specs.LogLines.{TakesSome};
 ghost use Rattle.log_audit.specs.inner.LogLines.{HasRead, IsNext, IsStop};
 
-use crate::AuditFault;
-use line_text::line_reader::{Limits, LineReader, NextLine, ReadStop};
+use crate::{AuditFault, LOG_LIMITS};
+use line_text::line_reader::{LineReader, NextLine, ReadStop};
 use ride_model::NoMemory;
 use ride_ports::Source;
 use std::alloc::Global;
-
-/// The most bytes of a line without its LF.
-pub(crate) const MOST_LINE: usize = 131_072;
-/// The most bytes of a log.
-const MOST_BYTES: usize = 1 << 30;
-/// The most lines of a log.
-const MOST_LINES: u32 = 2_100_000;
 
 /// A reader of a log.
 pub(crate) fn log_reader(alloc: Global) -> Result<LineReader, NoMemory>
     ensures { (left : Option (List ℕ)) → IfOk result (λ lines. HasRead left left lines []) }
 {
-    let limits = Limits {
-        line: MOST_LINE,
-        bytes: MOST_BYTES,
-        lines: MOST_LINES,
-    };
-    LineReader::new(alloc, limits)
+    LineReader::new(alloc, LOG_LIMITS)
 }
 
 /// Reads the next line of a log.

@@ -6,7 +6,7 @@ ghost use Rattle.ride_ports.specs.Count.{KeepsCount};
 ghost use Rattle.log_audit.specs.Audit.{is_read_fault};
 ghost use Rattle.log_audit.specs.inner.Audited.{HasReadHead, HasReadNoHead, IsWrongLineAfter, text_so_far};
 ghost use Rattle.log_audit.specs.inner.Auditing.{IsAuditing, LeavesDue};
-ghost use Rattle.log_audit.specs.Limits.{log_limits};
+ghost use Rattle.log_audit.specs.declared.limits.TheConstants.{LOG_LIMITS};
 ghost use Rattle.log_audit.specs.LogLines.{TakesSome};
 ghost use Rattle.log_audit.specs.inner.LogLines.{HasRead, IsStop};
 ghost use Rattle.log_audit.specs.inner.Reading.{HasEnded, HasReadLog, StopsReading};
@@ -155,9 +155,9 @@ fn judge_line<R: Threads + Sync>(
     lines: &LineReader,
 ) -> Result<Option<Fault>, NoMemory>
     requires auditing { IsAuditing auditor.old }
-    requires few { length auditor.old.board.history < log_limits.lines }
-    ensures { (line : List ℕ) → HasNoLf line → lines.now.cutter.shown ≡ take log_limits.line line
-        → lines.now.cutter.over ≡ nat_lt log_limits.line (length line)
+    requires few { length auditor.old.board.history < LOG_LIMITS.lines }
+    ensures { (line : List ℕ) → HasNoLf line → lines.now.cutter.shown ≡ take LOG_LIMITS.line line
+        → lines.now.cutter.over ≡ nat_lt LOG_LIMITS.line (length line)
         → IfOk result (λ fault. MatchOption fault
         (IsAuditing auditor.new × (auditor.new.board.start ≡ auditor.old.board.start)
         × (text_so_far auditor.new.board ≡ text_so_far auditor.old.board ++ line ++ 10 ∷ []))

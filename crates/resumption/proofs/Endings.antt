@@ -1,7 +1,7 @@
 -- Which statuses are left to a resumption of whole files without faults.
 use Rattle.resumption.proofs.Common.{◌≡◌, ◌⊎◌, inl, inr, ℕ, Bool, true, false, List, [], ◌∷◌, Option, Some, Result, Ok, Err, IfSome, refl, subst, ◌∙◌, arith, All, All-head, All-tail, All-take, Contents, Rose, Ran, State, Entry, IsTooLong, IsWithinLimits, Reads, Recorded, limits_of, Restored, Restoration, Standing, No, AuditFault, NoMemory, ReadFault, TooLong, IsRestoration, HaveFewCommands, IsFeedAfter, form_after, FeedRun, GoingOn, resumption_files, feed_file, fleet_file, log_file, map_file, Means, start_of, HasStopped, AreBytesOf, Shelved, Sunk, told_bytes, long-status, ran-status, within-not-long, still_gives, EndsLog, ReadsLog, AreAllWhole, HasGoneOn, HasRefusedLog, HasRoom, IsResumption, None, IsSomeAnd, ap, IsFresh, feed_limits}
 use Rattle.command_lines.specs.declared.forms.FeedForm.{FeedForm}
-use Rattle.log_audit.specs.Limits.{log_limits}
+use Rattle.log_audit.specs.declared.limits.TheConstants.{LOG_LIMITS}
 use Rattle.dispatcher.specs.Runs.{IsWhole}
 use Rattle.dispatcher.proofs.Completing.{map-first, whole-stops}
 use Rattle.resumption.proofs.AnsweredFeeds.{none-within}
@@ -28,7 +28,7 @@ module _ (told : Option Contents) (asked : GoingOn) (whole : AreAllWhole told as
 
 -- a log within its limits is not too long
 restored-not-long : (start : State) (file : Option (List ℕ)) (log : FeedRun) (found : Result Restoration AuditFault)
-    → IsSomeAnd file (λ bytes. IsTooLong log_limits bytes → ⊥) → AreBytesOf file log.bytes → ReadsLog start log found → found ≡ Err TooLong → ⊥
+    → IsSomeAnd file (λ bytes. IsTooLong LOG_LIMITS bytes → ⊥) → AreBytesOf file log.bytes → ReadsLog start log found → found ≡ Err TooLong → ⊥
 restored-not-long start None log found whole are reads long = absurd whole
 restored-not-long start (Some bytes) log found whole are reads long =
     whole (subst (λ (o : Option (List ℕ)). IfSome o (λ b. IsRestoration start b (Err TooLong))) are

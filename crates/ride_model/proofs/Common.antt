@@ -53,10 +53,10 @@ pub use Rattle.ride_model.specs.Road.{RoadMap, IsRoadMap, IsNode, lesser, IsArc,
 unfoldable pub use Rattle.ride_model.specs.Road.{travel, travel_within}
 pub use Rattle.ride_model.specs.Seating.{BatchCopy, vehicle_ids, find_vehicle, seat_offer, has_seat, Certifies, seating_cost, amount_of, IsSeating, amount_ids, find_ride, seat_cost, has_amount, IsLeastSeating, IsCovered}
 pub use Rattle.ride_model.specs.Settings.{IsSettings}
-pub use Rattle.ride_model.specs.State.{State, AcceptedRequest, open_batch_numbered, has_ended, start_state, placed_vehicle, is_actor, open_batch_of, accepted_request, is_batch, request_state, with_vehicle, with_request_state, with_end}
+pub use Rattle.ride_model.specs.State.{State, AcceptedRequest, open_batch_numbered, has_ended, start_state, placed_vehicle, is_actor, open_batch_of, accepted_request, is_batch, request_state, with_vehicle, with_request_state}
 pub use Rattle.ride_model.specs.Step.{step, Answered, is_node, raised, reported, cancel_by_state, done_at_stop, done_found, freed, report, at_found, cancel_found, report_driving, duty_found, served_reply, with_accepted, served, served_state, rides_with_picked, cancelled, refused, report_reply}
-unfoldable pub use Rattle.ride_model.specs.Step.{cancel_step, done_step, request_step, at_step, ask_step, duty_step, clock_step}
-pub use Rattle.ride_model.specs.Text.{IsSpelledCommand, IsOneOrTwo, HasLine, entry_lines, entry_line, head_line, HasText, IsSpelled, actor_field, amount_field, event_fields, IsSpelledOutcome, IsSpelledPair, IsSpelledReply, IsSpelledSeat, outcome_field, IsSpelledActor, fed_fields, line_of, plan_field, seat_field, IsSpelledEvent, broken_fields, IsNotedIfBad, chairs_fields, reply_fields, command_fields}
+unfoldable pub use Rattle.ride_model.specs.Step.{request_step, ask_step, clock_step}
+pub use Rattle.ride_model.specs.Text.{IsSpelledCommand, IsOneOrTwo, HasLine, entry_lines, entry_line, head_line, HasText, IsSpelled, actor_field, amount_field, event_fields, IsSpelledOutcome, IsSpelledPair, IsSpelledReply, IsSpelledSeat, outcome_field, IsSpelledActor, fed_fields, line_of, plan_field, seat_field, IsSpelledEvent, broken_fields, IsNotedIfBad, reply_fields, command_fields}
 unfoldable pub use Rattle.ride_model.specs.Text.{text_of}
 pub use Rattle.ride_model.specs.Times.{times_from, times_of, drive_of, visits_of}
 pub use Rattle.ride_model.specs.Vehicle.{ride_ids, IsLawful, IsRide, IsRouted, HasLegs, stops_of, visit_of, visits_due, IsPlanFor}

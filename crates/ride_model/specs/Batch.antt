@@ -42,8 +42,7 @@ may_open s desk = not (has_ended s (Desk desk)) && not (is_some (open_batch_of s
 
 -- the batch that a desk opens: the next number, the clock's time, the first waiting requests, copies of all vehicles
 abbrev pub next_batch : State → ℕ → BatchCopy
-next_batch s desk =
-    let requests = take s.settings.batch (waiting_rides s) in
+next_batch s desk = let requests = take s.settings.batch (waiting_rides s) in
     record { number = s.opened + 1; desk = desk; time = s.clock; settings = s.settings; requests = requests; vehicles = s.vehicles }
 
 -- the state with these rides' requests in one state
@@ -52,8 +51,7 @@ with_request_states state rides s = fold (λ after (ride : Ride). with_request_s
 
 -- the state after a desk opened its next batch
 abbrev pub after_opening : State → BatchCopy → State
-after_opening s batch =
-    let marked = with_request_states (InBatch batch.number) batch.requests s in
+after_opening s batch = let marked = with_request_states (InBatch batch.number) batch.requests s in
     record marked { opened = s.opened + 1; batches = s.batches ++ batch ∷ [] }
 
 -- the seat of a request
@@ -70,8 +68,7 @@ priced_start batch id = option_map_or (λ v. start_of v batch.settings.lead batc
 
 -- what a commit makes of a seated request: its vehicle moved, or the start is behind the clock, or it is confirmed
 abbrev pub seated_outcome : BatchCopy → State → Seat → Outcome
-seated_outcome batch s seat =
-    let named = version_of batch.vehicles seat.vehicle in
+seated_outcome batch s seat = let named = version_of batch.vehicles seat.vehicle in
     let stands = version_of s.vehicles seat.vehicle in
     let start = priced_start batch seat.vehicle in
     if not (named == stands) then Moved named stands
@@ -98,8 +95,7 @@ outcomes_of batch seats s = map (λ id. (id, outcome_of batch seats s id)) (ride
 
 -- the vehicle with a confirmed ride at its places, ready from the start on where it was idle
 abbrev pub with_confirmed : State → BatchCopy → Ride → Seat → Vehicle → Vehicle
-with_confirmed s batch ride seat v =
-    let started = record v { ready = if is_idle v then priced_start batch seat.vehicle else v.ready } in
+with_confirmed s batch ride seat v = let started = record v { ready = if is_idle v then priced_start batch seat.vehicle else v.ready } in
     raised (unwrap_or (inserted s.roads started ride seat.i seat.j) started)
 
 -- the state after a ride was confirmed
@@ -132,8 +128,7 @@ after_commit batch seats s = without_batch batch (after_outcomes batch seats s b
 
 -- the requests of the batch that are still in it
 abbrev pub standing_rides : BatchCopy → State → List Ride
-standing_rides batch s =
-    filter (λ (ride : Ride). option_map_or (is_in_batch batch.number) (request_state s ride.id) false) batch.requests
+standing_rides batch s = filter (λ (ride : Ride). option_map_or (is_in_batch batch.number) (request_state s ride.id) false) batch.requests
 
 -- the state after the batch was given up: those of its requests that are still in it wait again
 abbrev pub after_abandon : BatchCopy → State → State

@@ -20,8 +20,7 @@ use Rattle.ride_model.specs.History.{IsDirect, IsFinished}
 -- the report of a driver whose vehicle has these stops before it
 abbrev pub report_of : Vehicle → ℕ → List Stop → Option Command
 report_of v clock [] = None
-report_of v clock (first ∷ _) =
-    let time = v.ready + first.leg in
+report_of v clock (first ∷ _) = let time = v.ready + first.leg in
     if nat_le time clock then (if v.at == first.node then Some (Done v.id) else Some (At v.id first.node time))
     else (if nat_lt v.ready clock then Some (At v.id first.node time) else None)
 

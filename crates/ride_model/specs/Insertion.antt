@@ -31,8 +31,7 @@ with_plan v rides stops = record v { rides = record { items = rides }; stops = r
 -- the vehicle with the ride last among its rides and its stops at the places i and j, the legs those of the road;
 -- absent where a leg is
 abbrev pub inserted : RoadMap → Vehicle → Ride → ℕ → ℕ → Option Vehicle
-inserted map v ride i j =
-    option_map (with_plan v (v.rides.items ++ ride ∷ [])) (routed map v.at (stops_with ride i j v.stops.items))
+inserted map v ride i j = option_map (with_plan v (v.rides.items ++ ride ∷ [])) (routed map v.at (stops_with ride i j v.stops.items))
 
 -- the stops that are not of this ride
 abbrev pub stops_without : ℕ → List Stop → List Stop

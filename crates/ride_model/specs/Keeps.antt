@@ -23,8 +23,7 @@ is_dropoff_at node stop = not (is_pickup stop.kind) && stop.node == node
 abbrev pub keeps_visits : Ride → Option ℕ → List (Stop × ℕ) → Bool
 keeps_visits ride None (pickup ∷ dropoff ∷ []) = is_pickup_at ride.from pickup.0 && is_dropoff_at ride.to dropoff.0
     && nat_le pickup.1 ride.latest && nat_le dropoff.1 (pickup.1 + ride.longest)
-keeps_visits ride (Some picked) (dropoff ∷ []) =
-    is_dropoff_at ride.to dropoff.0 && nat_le dropoff.1 (picked + ride.longest)
+keeps_visits ride (Some picked) (dropoff ∷ []) = is_dropoff_at ride.to dropoff.0 && nat_le dropoff.1 (picked + ride.longest)
 keeps_visits _ _ _ = false
 
 -- whether the promise to a ride is kept from a start
@@ -33,13 +32,11 @@ keeps_ride v start dwell ride = keeps_visits ride ride.picked (visits_of v start
 
 -- whether a vehicle keeps its promises from a start: at most 16 stops, each ride's promise, and all loads fit
 abbrev pub keeps : Vehicle → ℕ → ℕ → Bool
-keeps v start dwell =
-    nat_le (length v.stops.items) MOST_STOPS && list_all (keeps_ride v start dwell) v.rides.items && loads_fit v
+keeps v start dwell = nat_le (length v.stops.items) MOST_STOPS && list_all (keeps_ride v start dwell) v.rides.items && loads_fit v
 
 -- whether a stop's time breaks a limit of the ride
 abbrev pub breaks_visits : Ride → Option ℕ → List (Stop × ℕ) → Bool
-breaks_visits ride None (pickup ∷ dropoff ∷ []) =
-    nat_lt ride.latest pickup.1 || nat_lt (pickup.1 + ride.longest) dropoff.1
+breaks_visits ride None (pickup ∷ dropoff ∷ []) = nat_lt ride.latest pickup.1 || nat_lt (pickup.1 + ride.longest) dropoff.1
 breaks_visits ride (Some picked) (dropoff ∷ []) = nat_lt (picked + ride.longest) dropoff.1
 breaks_visits _ _ _ = false
 

@@ -1,5 +1,5 @@
 -- Legal histories: each entry is right at the state that the entries before it give.
-use Rattle.std.specs.Prelude.{◌≡◌, ℕ, ◌≤◌, ⊤, Bool, List, [], ◌∷◌, map, Option, Some, None, IsTrue, IsFalse, IsSome, IsNone, IsSomeAnd}
+use Rattle.std.specs.Prelude.{◌≡◌, ◌++◌, ℕ, ◌≤◌, ⊤, Bool, List, [], ◌∷◌, map, Option, Some, None, IsTrue, IsFalse, IsSome, IsNone, IsSomeAnd}
 use Rattle.std.specs.List.{list_all, range_with_len}
 use Rattle.std.specs.Option.{option_map_or}
 use Rattle.ride_model.specs.declared.command.Actor.{Actor}
@@ -14,14 +14,14 @@ use Rattle.ride_model.specs.declared.offer.Seat.{Seat}
 use Rattle.ride_model.specs.declared.vehicle.Vehicle.{Vehicle}
 use Rattle.ride_model.specs.Vehicle.{ride_ids}
 use Rattle.ride_model.specs.Seating.{BatchCopy, IsLeastSeating, Certifies, seating_cost}
-use Rattle.ride_model.specs.State.{State, has_ended, with_end, open_batch_of, open_batch_numbered}
+use Rattle.ride_model.specs.State.{State, has_ended, open_batch_of, open_batch_numbered}
 use Rattle.ride_model.specs.Step.{step}
 use Rattle.ride_model.specs.Batch.{may_open, next_batch, after_opening, outcomes_of, after_commit, after_abandon}
 
 -- the state after an event of an actor
 abbrev pub after_event : State → Actor → Event → State
 after_event s actor (Fed command _) = (step s command).state
-after_event s actor (Finish ending) = with_end s actor ending
+after_event s actor (Finish ending) = record s { ended = s.ended ++ (actor, ending) ∷ [] }
 after_event s (Desk desk) (Opened _ _ _ _) = after_opening s (next_batch s desk)
 after_event s (Desk desk) (Committed number _ seats _ _ _) =
     option_map_or (λ batch. after_commit batch seats s) (open_batch_numbered s desk number) s
@@ -90,5 +90,4 @@ IsLegalEntry feeds desks s entry = IsLegalEvent feeds desks s entry.actor entry.
 -- a history is legal from a state on, with so many feeds and desks
 unfoldable pub IsLegal : ℕ → ℕ → State → List Entry → Type 0
 IsLegal feeds desks s [] = ⊤
-IsLegal feeds desks s (entry ∷ entries) =
-    IsLegalEntry feeds desks s entry × IsLegal feeds desks (after_entry s entry) entries
+IsLegal feeds desks s (entry ∷ entries) = IsLegalEntry feeds desks s entry × IsLegal feeds desks (after_entry s entry) entries

@@ -35,14 +35,12 @@ abbrev pub leg_at : List Stop → ℕ → ℕ
 leg_at stops place = unwrap_or (option_map (λ (stop : Stop). stop.leg) (slice_get stops place)) 0
 
 abbrev pub joins_of : Vehicle → ℕ → ℕ → Joins
-joins_of new i j =
-    let leg : ℕ → ℕ = leg_at new.stops.items in
+joins_of new i j = let leg : ℕ → ℕ = leg_at new.stops.items in
     record { to_pickup = leg i; after_pickup = leg (i + 1); to_dropoff = leg (j + 1); after_dropoff = leg (j + 2) }
 
 -- the offer of the plan new, where it keeps its promises
 abbrev pub offer_of_plan : Settings → Vehicle → ℕ → ℕ → ℕ → Vehicle → Option Offer
-offer_of_plan settings old i j time new =
-    let start = start_of old settings.lead time in
+offer_of_plan settings old i j time new = let start = start_of old settings.lead time in
     if keeps new start settings.dwell
     then Some (record { i = i; j = j; cost = cost_of settings old new i start time; start = start; joins = joins_of new i j })
     else None

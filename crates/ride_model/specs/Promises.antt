@@ -37,8 +37,7 @@ KeepsEvent s late _ = ⊤
 
 -- a vehicle's times from its ready time keep the limits of its rides that were not named late
 abbrev pub KeepsTimes : State → List ℕ → Vehicle → Type 0
-KeepsTimes s late v =
-    All (λ (ride : Ride). IsFalse (is_late late ride.id) → IsFalse (breaks_ride v s.settings.dwell ride)) v.rides.items
+KeepsTimes s late v = All (λ (ride : Ride). IsFalse (is_late late ride.id) → IsFalse (breaks_ride v s.settings.dwell ride)) v.rides.items
 
 -- at a state every vehicle is lawful, its loads included, and its times keep what was promised
 pub record KeepsState (s : State) (late : List ℕ) : Type 0 where

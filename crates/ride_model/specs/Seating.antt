@@ -34,8 +34,7 @@ find_vehicle vehicles id = find (λ (v : Vehicle). v.id == id) vehicles
 
 -- the offer of a seat's vehicle to its request at its places, over the batch's copies
 abbrev pub seat_offer : RoadMap → BatchCopy → Seat → Option Offer
-seat_offer roads batch seat =
-    option_and_then (λ ride. option_and_then (λ v. offer_of roads batch.settings v ride batch.time seat.i seat.j)
+seat_offer roads batch seat = option_and_then (λ ride. option_and_then (λ v. offer_of roads batch.settings v ride batch.time seat.i seat.j)
     (find_vehicle batch.vehicles seat.vehicle)) (find_ride batch.requests seat.request)
 
 -- whether a request has a seat
@@ -55,14 +54,12 @@ seat_cost roads batch seat = unwrap_or (option_map (λ (offer : Offer). offer.co
 
 -- the cost of a seating: its offers' costs, and the penalty for each request without a seat
 abbrev pub seating_cost : RoadMap → BatchCopy → List Seat → ℕ
-seating_cost roads batch seats =
-    sum_by (seat_cost roads batch) seats + batch.settings.penalty * (length batch.requests - length seats)
+seating_cost roads batch seats = sum_by (seat_cost roads batch) seats + batch.settings.penalty * (length batch.requests - length seats)
 
 -- a seating of which no other of the batch costs less
 pub record IsLeastSeating (roads : RoadMap) (batch : BatchCopy) (seats : List Seat) : Type 0 where
   pub seating : IsSeating roads batch seats
-  pub least : (others : List Seat) → IsSeating roads batch others
-      → seating_cost roads batch seats ≤ seating_cost roads batch others
+  pub least : (others : List Seat) → IsSeating roads batch others → seating_cost roads batch seats ≤ seating_cost roads batch others
 
 -- the ids of a list of amounts
 abbrev pub amount_ids : List (ℕ × ℕ) → List ℕ

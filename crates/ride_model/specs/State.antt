@@ -44,10 +44,6 @@ is_actor _ _ = false
 abbrev pub has_ended : State → Actor → Bool
 has_ended s actor = list_any (λ (end : Actor × Ending). is_actor end.0 actor) s.ended
 
--- the state after an actor's end
-abbrev pub with_end : State → Actor → Ending → State
-with_end s actor ending = record s { ended = s.ended ++ (actor, ending) ∷ [] }
-
 -- the vehicle of an id, with its place in the fleet
 abbrev pub placed_vehicle : State → ℕ → Option (ℕ × Vehicle)
 placed_vehicle s id = find (λ (placed : ℕ × Vehicle). placed.1.id == id) (enumerate_from 0 s.vehicles)

@@ -58,8 +58,7 @@ cancelled s id = record { state = with_request_state id CancelledState s; reply 
 -- a request that a vehicle has promised is cancelled: the ride and its two stops leave the plan
 abbrev pub freed : State → ℕ → ℕ → Option (ℕ × Vehicle) → Answered
 freed s id vehicle None = refused s UNKNOWN_VEHICLE
-freed s id vehicle (Some placed) =
-    let left = raised (without_ride s.roads placed.1 id) in
+freed s id vehicle (Some placed) = let left = raised (without_ride s.roads placed.1 id) in
     record { state = with_request_state id CancelledState (with_vehicle s placed.0 left); reply = Freed vehicle }
 
 -- a cancellation, by what has become of the request
@@ -70,13 +69,10 @@ cancel_by_state s id (Confirmed vehicle) = freed s id vehicle (placed_vehicle s 
 cancel_by_state s id (Aboard _) = refused s RIDER_ABOARD
 cancel_by_state s id _ = refused s REQUEST_CLOSED
 
+-- cancel ID, by the request of the id
 abbrev pub cancel_found : State → ℕ → Option AcceptedRequest → Answered
 cancel_found s id None = refused s UNKNOWN_REQUEST
 cancel_found s id (Some request) = cancel_by_state s id request.state
-
--- cancel ID
-unfoldable pub cancel_step : State → ℕ → Answered
-cancel_step s id = cancel_found s id (accepted_request s id)
 
 -- the vehicle after a report: it is at the node at the time, and its first leg begins there
 abbrev pub reported : State → ℕ → ℕ → Vehicle → Vehicle
@@ -95,9 +91,9 @@ report_driving s place v after old (Some leg) =
 -- a report by the vehicle's stops
 abbrev pub report : State → ℕ → Vehicle → Vehicle → List Stop → Answered
 report s place v after [] = record { state = with_vehicle s place after; reply = OnMap }
-report s place v after (first ∷ _) =
-    report_driving s place v after (v.ready + first.leg) (travel s.roads after.at first.node)
+report s place v after (first ∷ _) = report_driving s place v after (v.ready + first.leg) (travel s.roads after.at first.node)
 
+-- at VEHICLE NODE TIME, by the vehicle of the id with its place
 abbrev pub at_found : State → ℕ → ℕ → Option (ℕ × Vehicle) → Answered
 at_found s node time None = refused s UNKNOWN_VEHICLE
 at_found s node time (Some placed) = if not (is_node s.roads node) then refused s REPORT_OFF_MAP
@@ -105,21 +101,14 @@ at_found s node time (Some placed) = if not (is_node s.roads node) then refused 
     else if nat_lt time placed.1.ready then refused s REPORT_TOO_EARLY
     else report s placed.0 placed.1 (reported s node time placed.1) placed.1.stops.items
 
--- at VEHICLE NODE TIME
-unfoldable pub at_step : State → ℕ → ℕ → ℕ → Answered
-at_step s vehicle node time = at_found s node time (placed_vehicle s vehicle)
-
 -- the rides after a pickup
 abbrev pub rides_with_picked : ℕ → ℕ → List Ride → List Ride
-rides_with_picked id time rides =
-    map (λ (ride : Ride). if ride.id == id then record ride { picked = Some time } else ride) rides
+rides_with_picked id time rides = map (λ (ride : Ride). if ride.id == id then record ride { picked = Some time } else ride) rides
 
 -- the vehicle after its first stop was served, its version aside: the stop goes, and so does a ride that was dropped
 abbrev pub served : ℕ → Vehicle → Stop → List Stop → Kind → Vehicle
-served dwell v stop rest Pickup =
-    with_plan (record v { ready = v.ready + dwell }) (rides_with_picked stop.ride v.ready v.rides.items) rest
-served dwell v stop rest Dropoff =
-    with_plan (record v { ready = v.ready + dwell }) (rides_without stop.ride v.rides.items) rest
+served dwell v stop rest Pickup = with_plan (record v { ready = v.ready + dwell }) (rides_with_picked stop.ride v.ready v.rides.items) rest
+served dwell v stop rest Dropoff = with_plan (record v { ready = v.ready + dwell }) (rides_without stop.ride v.rides.items) rest
 
 -- the reply to a served stop, and what becomes of its request
 abbrev pub served_reply : Stop → Kind → Reply
@@ -132,28 +121,20 @@ served_state v Dropoff = DoneState
 
 abbrev pub done_at_stop : State → ℕ → Vehicle → List Stop → Answered
 done_at_stop s place v [] = refused s NO_STOP
-done_at_stop s place v (stop ∷ rest) =
-    let left = with_vehicle s place (raised (served s.settings.dwell v stop rest stop.kind)) in
+done_at_stop s place v (stop ∷ rest) = let left = with_vehicle s place (raised (served s.settings.dwell v stop rest stop.kind)) in
     if not (v.at == stop.node) then refused s NOT_AT_STOP
     else if nat_lt LATEST_READY (v.ready + s.settings.dwell) then refused s DAY_OVER
     else record { state = with_request_state stop.ride (served_state v stop.kind) left; reply = served_reply stop stop.kind }
 
+-- done VEHICLE, likewise
 abbrev pub done_found : State → Option (ℕ × Vehicle) → Answered
 done_found s None = refused s UNKNOWN_VEHICLE
 done_found s (Some placed) = done_at_stop s placed.0 placed.1 placed.1.stops.items
 
--- done VEHICLE
-unfoldable pub done_step : State → ℕ → Answered
-done_step s vehicle = done_found s (placed_vehicle s vehicle)
-
+-- on VEHICLE, off VEHICLE, likewise
 abbrev pub duty_found : State → Bool → Option (ℕ × Vehicle) → Answered
 duty_found s duty None = refused s UNKNOWN_VEHICLE
-duty_found s duty (Some placed) =
-    record { state = with_vehicle s placed.0 (raised (record placed.1 { duty = duty })); reply = Duty }
-
--- on VEHICLE, off VEHICLE
-unfoldable pub duty_step : State → ℕ → Bool → Answered
-duty_step s vehicle duty = duty_found s duty (placed_vehicle s vehicle)
+duty_found s duty (Some placed) = record { state = with_vehicle s placed.0 (raised (record placed.1 { duty = duty })); reply = Duty }
 
 -- clock TIME
 unfoldable pub clock_step : State → ℕ → Answered
@@ -168,11 +149,11 @@ ask_step s = if nat_le MOST_BATCHES s.asked then refused s BATCHES_FULL
 -- a command
 abbrev pub step : State → Command → Answered
 step s (Request id from to seats latest longest chairs) = request_step s id from to seats latest longest chairs
-step s (Cancel id) = cancel_step s id
-step s (At vehicle node time) = at_step s vehicle node time
-step s (Done vehicle) = done_step s vehicle
-step s (On vehicle) = duty_step s vehicle true
-step s (Off vehicle) = duty_step s vehicle false
+step s (Cancel id) = cancel_found s id (accepted_request s id)
+step s (At vehicle node time) = at_found s node time (placed_vehicle s vehicle)
+step s (Done vehicle) = done_found s (placed_vehicle s vehicle)
+step s (On vehicle) = duty_found s true (placed_vehicle s vehicle)
+step s (Off vehicle) = duty_found s false (placed_vehicle s vehicle)
 step s (Clock time) = clock_step s time
 step s Ask = ask_step s
 step s (Bad _) = record { state = s; reply = Noted }

@@ -28,15 +28,11 @@ abbrev pub actor_field : Actor → List ℕ
 actor_field (Feed number) = codes "f" ++ decimal number
 actor_field (Desk number) = codes "d" ++ decimal number
 
--- the chairs of a request, which version 2 of the log spells
-abbrev pub chairs_fields : ℕ → ℕ → List (List ℕ)
-chairs_fields log chairs = if log == 2 then decimal chairs ∷ [] else []
-
--- the canonical spelling of a command
+-- the canonical spelling of a command; version 2 of the log spells the chairs of a request
 abbrev pub command_fields : ℕ → Command → List (List ℕ)
 command_fields log (Request id from to seats latest longest chairs) =
     (codes "request" ∷ decimal id ∷ decimal from ∷ decimal to ∷ decimal seats ∷ decimal latest ∷ decimal longest ∷ [])
-    ++ chairs_fields log chairs
+    ++ (if log == 2 then decimal chairs ∷ [] else [])
 command_fields log (Cancel id) = codes "cancel" ∷ decimal id ∷ []
 command_fields log (At vehicle node time) = codes "at" ∷ decimal vehicle ∷ decimal node ∷ decimal time ∷ []
 command_fields log (Done vehicle) = codes "done" ∷ decimal vehicle ∷ []
@@ -79,15 +75,12 @@ seat_field seat = joined (decimal seat.request ∷ decimal seat.vehicle ∷ deci
 abbrev pub amount_field : ℕ × ℕ → List ℕ
 amount_field amount = joined (decimal amount.0 ∷ decimal amount.1 ∷ [])
 
-abbrev pub outcome_words : Outcome → List (List ℕ)
-outcome_words Confirmed = codes "confirmed" ∷ []
-outcome_words Away = codes "away" ∷ []
-outcome_words Gone = codes "gone" ∷ []
-outcome_words (Moved named stands) = codes "moved" ∷ decimal named ∷ decimal stands ∷ []
-outcome_words (Behind start now) = codes "behind" ∷ decimal start ∷ decimal now ∷ []
-
 abbrev pub outcome_field : ℕ × Outcome → List ℕ
-outcome_field item = joined (decimal item.0 ∷ outcome_words item.1)
+outcome_field (id, Confirmed) = joined (decimal id ∷ codes "confirmed" ∷ [])
+outcome_field (id, Away) = joined (decimal id ∷ codes "away" ∷ [])
+outcome_field (id, Gone) = joined (decimal id ∷ codes "gone" ∷ [])
+outcome_field (id, Moved named stands) = joined (decimal id ∷ codes "moved" ∷ decimal named ∷ decimal stands ∷ [])
+outcome_field (id, Behind start now) = joined (decimal id ∷ codes "behind" ∷ decimal start ∷ decimal now ∷ [])
 
 abbrev pub event_fields : ℕ → Event → List (List ℕ)
 event_fields log (Fed command reply) = fed_fields log command reply
@@ -108,8 +101,7 @@ entry_line log entry = line_of (actor_field entry.actor ∷ event_fields log ent
 
 -- the head line
 abbrev pub head_line : ℕ → ℕ → ℕ → List ℕ
-head_line log feeds desks =
-    line_of (codes "log" ∷ decimal log ∷ codes "feeds" ∷ decimal feeds ∷ codes "desks" ∷ decimal desks ∷ [])
+head_line log feeds desks = line_of (codes "log" ∷ decimal log ∷ codes "feeds" ∷ decimal feeds ∷ codes "desks" ∷ decimal desks ∷ [])
 
 -- the lines of entries
 abbrev pub entry_lines : ℕ → List Entry → List ℕ
@@ -173,8 +165,7 @@ IsSpelledOutcome (id, _) = IsSpelled id
 
 -- an event of an actor that has a text: its numbers have one, feeds are fed, and desks open, commit and abandon
 abbrev pub IsSpelledEvent : ℕ → Actor → Event → Type 0
-IsSpelledEvent log (Feed _) (Fed command reply) =
-    IsSpelledCommand log command × IsSpelledReply reply × IsNotedIfBad command reply
+IsSpelledEvent log (Feed _) (Fed command reply) = IsSpelledCommand log command × IsSpelledReply reply × IsNotedIfBad command reply
 IsSpelledEvent log actor (Finish ending) = ⊤
 IsSpelledEvent log (Desk _) (Opened batch time requests plans) =
     IsSpelled batch × IsSpelled time × All IsSpelled requests × All IsSpelledPair plans

@@ -14,8 +14,7 @@ pub record Contents : Type 0 where
 
 -- the bytes of the first file with this name, or else those of every further name
 abbrev pub bytes_at : Contents → List ℕ → Option (List ℕ)
-bytes_at contents name =
-    let file = find (λ (f : StoredFile). bytes_eq f.name name) contents.files
+bytes_at contents name = let file = find (λ (f : StoredFile). bytes_eq f.name name) contents.files
     in option_or (option_map (λ (f : StoredFile). f.bytes) file) contents.other
 
 -- what is kept of a source that was given back: its count, and the bytes that it had left

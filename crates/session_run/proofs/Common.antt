@@ -1,6 +1,6 @@
 -- The names that most proofs of this crate cite, passed on from one place. Declares nothing.
 pub use Rattle.model_laws.proofs.Common.{Abandoned, Actor, All, All-get_or, All-map, Ask, Asked, At, Awaited, Bad, BatchCopy, Bool, Cancel, Clock, Command, CommitsBatch, Committed, Cut, Desk, Done, DrillStep, Dropoff, Dropped, Duty, Ending, Entry, Err, Event, Fed, Feed, Finish, Follows, Freed, HasText, IfOk-weaker, IfSome, IsDistinct, IsDrilled, IsFalse, IsFleet, IsLawful, IsLegalEntry, IsNode, IsOpenBatch, IsRoadMap, IsSome, IsSomeAnd, IsSpelledCommand, IsStart, IsTrue, Kind, Late, List, MayEnd, MayStart, None, Noted, Now, Off, Ok, On, OnErr, OnMap, OnOk, Opened, Option, Outcome, Picked, Pickup, Refused, Reply, Request, Result, Ride, RoadMap, Seat, Settings, Some, State, Vehicle, Whole, [], after_abandon, after_commit, after_entry, after_opening, after_outcomes, all_feeds_ended, and_from, any, ap, append-nil, append_assoc, arith, at_found, awaited_after, awaited_in, broken_of, command_of, worked, cond, cons_option, done, done_at_stop, done_found, drive, drop, ended, ended_whole, entry_lines, entry_of, eq-eqb, eqb, false, fed_commands, find, flat_map, flat_map-append, fold-append, get_or, get_or_from_slice_get, give, given, has_ended, inl, inr, is_abandoned, is_actor, is_err, is_node, is_some, length, length-append, length-map, length-map-range_with_len, list_all, list_all-append, list_any, list_any-append, lt-ltb, map, map-range_with_len_more, min, nat_eq, nat_le, nat_lt, ne_eqb, next_batch, next_report, not, on_err_weaker, on_ok_weaker, open_batch_numbered, opening, option_and_then, option_map, outcome_by, outcome_of, outcomes_of, placed_vehicle, range_with_len, refl, report, report_driving, report_of, rested, ride_ids, seat_of, seat_offer, seated_outcome, seating_cost, served_reply, slice_get, slice_get-map, slice_get_read, slice_get_within, start_state, step, subst, sym, take, take-append_seam, take_all, take_more, true, true≢false, vehicle_ids, was_cancelled, ℕ, ◌&&◌, ◌*◌, ◌++◌, ◌+◌, ◌-◌, ◌<◌, ◌==◌, ◌^◌, ◌||◌, ◌∙◌, ◌∷◌, ◌≡◌, ◌≢◌, ◌≤◌}
-unfoldable pub use Rattle.model_laws.proofs.Common.{IsLegal, at_step, done_step, entries_of, replay, text_of, travel}
+unfoldable pub use Rattle.model_laws.proofs.Common.{IsLegal, entries_of, replay, text_of, travel}
 pub use Rattle.std.proofs.Common.{filter_map}
 pub use Rattle.std.specs.List.{AllZip}
 pub use Rattle.batch_commit.specs.inner.Solved.{SolvedBatch}

@@ -1,5 +1,5 @@
 -- What drivers report: it asks for nothing, and its numbers have a text.
-use Rattle.session_run.proofs.Common.{◌≡◌, ℕ, ◌+◌, ◌-◌, Bool, true, false, cond, List, [], ◌∷◌, Option, Some, None, refl, subst, not, ◌==◌, nat_lt, nat_le, Command, At, Done, Late, OnMap, Kind, Dropoff, Pickup, Vehicle, next_report, report_of, broken_of, travel, State, placed_vehicle, at_found, at_step, done_at_stop, done_found, done_step, is_node, report, report_driving, served_reply, step, is_asked}
+use Rattle.session_run.proofs.Common.{◌≡◌, ℕ, ◌+◌, ◌-◌, Bool, true, false, cond, List, [], ◌∷◌, Option, Some, None, refl, subst, not, ◌==◌, nat_lt, nat_le, Command, At, Done, Late, OnMap, Kind, Dropoff, Pickup, Vehicle, next_report, report_of, broken_of, travel, State, placed_vehicle, at_found, done_at_stop, done_found, is_node, report, report_driving, served_reply, step, is_asked}
 use Rattle.ride_model.specs.declared.vehicle.Stop.{Stop}
 use Rattle.ride_model.specs.Step.{Answered, reported}
 
@@ -66,7 +66,6 @@ report-cases P v clock command is at_stop served = by_stops v.stops.items refl i
 -- a driver asks for no batch
 pub report-asks_for_none : (s : State) (v : Vehicle) (clock : ℕ) (command : Command) → next_report v clock ≡ Some command
     → is_asked (step s command).reply ≡ false
-unfolding at_step done_step
 report-asks_for_none s v clock command is =
     report-cases (λ c. is_asked (step s c).reply ≡ false) v clock command is
     (λ first rest stops_are. at-asks_none s first.node (v.ready + first.leg) (placed_vehicle s v.id)) (done-asks_none s (placed_vehicle s v.id))

@@ -1,5 +1,5 @@
 -- Printers in turn, and the texts of lists.
-use Rattle.trip_log.proofs.Common.{◌≡◌, ℕ, ◌+◌, ◌<◌, List, [], ◌∷◌, ◌++◌, map, take, drop, get_or, length, Option, Result, Ok, Err, refl, ap, sym, subst, ◌∙◌, append_assoc, append-nil, arith, join_with_byte, flat_map-append, take-append-drop, take_more, ◌≢◌, codes, decimal, Command, Request, Cancel, At, Done, On, Off, Clock, Ask, Bad, Opened, Committed, Outcome, Seat, Reply, line_of, event_fields, fed_fields, reply_fields, chairs_fields, broken_fields, plan_field, seat_field, amount_field, outcome_field, spelling_of, Prints, listed, fields_then, fields_end}
+use Rattle.trip_log.proofs.Common.{◌==◌, if◌then◌else◌, ◌≡◌, ℕ, ◌+◌, ◌<◌, List, [], ◌∷◌, ◌++◌, map, take, drop, get_or, length, Option, Result, Ok, Err, refl, ap, sym, subst, ◌∙◌, append_assoc, append-nil, arith, join_with_byte, flat_map-append, take-append-drop, take_more, ◌≢◌, codes, decimal, Command, Request, Cancel, At, Done, On, Off, Clock, Ask, Bad, Opened, Committed, Outcome, Seat, Reply, line_of, event_fields, fed_fields, reply_fields, broken_fields, plan_field, seat_field, amount_field, outcome_field, spelling_of, Prints, listed, fields_then, fields_end}
 use Rattle.ride_ports.proofs.ByteLemmas.{Writes-then, WritesPrefix-of_first, WritesPrefix-of_second}
 use Rattle.ride_ports.proofs.Counts.{KeepsCount-then}
 
@@ -153,7 +153,7 @@ answer_text log command reply not_bad = by_command command not_bad
     by_command : (c : Command) → ((number : ℕ) → c ≢ Bad number)
         → spelling_of log c ++ fields_end (codes "=" ∷ reply_fields reply) ≡ line_of (fed_fields log c reply)
     by_command (Request id from to seats latest longest chairs) other =
-        both (codes "request") ((decimal id ∷ decimal from ∷ decimal to ∷ decimal seats ∷ decimal latest ∷ decimal longest ∷ []) ++ chairs_fields log chairs)
+        both (codes "request") ((decimal id ∷ decimal from ∷ decimal to ∷ decimal seats ∷ decimal latest ∷ decimal longest ∷ []) ++ (if log == 2 then decimal chairs ∷ [] else []))
     by_command (Cancel id) other = both (codes "cancel") (decimal id ∷ [])
     by_command (At vehicle node time) other = both (codes "at") (decimal vehicle ∷ decimal node ∷ decimal time ∷ [])
     by_command (Done vehicle) other = both (codes "done") (decimal vehicle ∷ [])
@@ -180,7 +180,7 @@ answered_text first log command reply not_bad = by_command command not_bad
     by_command : (c : Command) → ((number : ℕ) → c ≢ Bad number)
         → (first ++ 32 ∷ []) ++ (spelling_of log c ++ fields_end (codes "=" ∷ reply_fields reply)) ≡ line_of (first ∷ fed_fields log c reply)
     by_command (Request id from to seats latest longest chairs) other =
-        both (codes "request") ((decimal id ∷ decimal from ∷ decimal to ∷ decimal seats ∷ decimal latest ∷ decimal longest ∷ []) ++ chairs_fields log chairs)
+        both (codes "request") ((decimal id ∷ decimal from ∷ decimal to ∷ decimal seats ∷ decimal latest ∷ decimal longest ∷ []) ++ (if log == 2 then decimal chairs ∷ [] else []))
     by_command (Cancel id) other = both (codes "cancel") (decimal id ∷ [])
     by_command (At vehicle node time) other = both (codes "at") (decimal vehicle ∷ decimal node ∷ decimal time ∷ [])
     by_command (Done vehicle) other = both (codes "done") (decimal vehicle ∷ [])

@@ -1,5 +1,5 @@
 -- Entries that were printed read back.
-use Rattle.trip_log.proofs.Common.{◌≡◌, ◌≢◌, ℕ, ◌^◌, ◌<◌, ◌≤◌, ◌==◌, inr, Bool, true, false, cond, List, [], ◌∷◌, ◌++◌, length, map, All, Some, None, refl, ap, sym, subst, ◌∙◌, append_assoc, append-nil, arith, codes, decimal, join_with_byte, AllByRecursion, le-leb, and_from, eqb-true, eqb-false, decimal_digit, append_cancel_right, recursion_from_All, list_all-append, before_end, fields_of, runs_of, without_end, number_of, fields_of-joined, number_of-decimal, numbers_of-decimals, Actor, Feed, Desk, Command, Request, Cancel, At, Done, On, Off, Clock, Ask, Bad, Whole, Cut, Entry, Event, Fed, Finish, Opened, Committed, Abandoned, Outcome, Seat, Reply, Waiting, Cancelled, Freed, OnMap, Late, Picked, Dropped, Duty, Now, Asked, Noted, Refused, actor_field, broken_fields, chairs_fields, command_fields, entry_line, event_fields, fed_fields, reply_fields, amount_field, outcome_field, plan_field, seat_field, HasLine, IsNotedIfBad, IsOneOrTwo, IsSpelled, IsSpelledActor, IsSpelledCommand, IsSpelledReply, IsSpelledEvent, IsSpelledOutcome, IsSpelledPair, IsSpelledSeat, spelling_of, pair_from, seat_from, outcome_from, items_of, fields_then, actor_from, broken_from, commit_from, entry_from, event_from, event_of_fields, event_of_word, fed_from, kind_of, open_from, reply_from}
+use Rattle.trip_log.proofs.Common.{if◌then◌else◌, ◌≡◌, ◌≢◌, ℕ, ◌^◌, ◌<◌, ◌≤◌, ◌==◌, inr, Bool, true, false, cond, List, [], ◌∷◌, ◌++◌, length, map, All, Some, None, refl, ap, sym, subst, ◌∙◌, append_assoc, append-nil, arith, codes, decimal, join_with_byte, AllByRecursion, le-leb, and_from, eqb-true, eqb-false, decimal_digit, append_cancel_right, recursion_from_All, list_all-append, before_end, fields_of, runs_of, without_end, number_of, fields_of-joined, number_of-decimal, numbers_of-decimals, Actor, Feed, Desk, Command, Request, Cancel, At, Done, On, Off, Clock, Ask, Bad, Whole, Cut, Entry, Event, Fed, Finish, Opened, Committed, Abandoned, Outcome, Seat, Reply, Waiting, Cancelled, Freed, OnMap, Late, Picked, Dropped, Duty, Now, Asked, Noted, Refused, actor_field, broken_fields, command_fields, entry_line, event_fields, fed_fields, reply_fields, amount_field, outcome_field, plan_field, seat_field, HasLine, IsNotedIfBad, IsOneOrTwo, IsSpelled, IsSpelledActor, IsSpelledCommand, IsSpelledReply, IsSpelledEvent, IsSpelledOutcome, IsSpelledPair, IsSpelledSeat, spelling_of, pair_from, seat_from, outcome_from, items_of, fields_then, actor_from, broken_from, commit_from, entry_from, event_from, event_of_fields, event_of_word, fed_from, kind_of, open_from, reply_from}
 use Rattle.command_lines.proofs.Printed.{reads-back}
 use Rattle.trip_log.proofs.CutLemmas.{Avoids, all-joined, cut_at-first, front_of-push}
 use Rattle.trip_log.proofs.ItemLemmas.{amount-reads, items-read, items_of-nil, no_item, outcome-reads, plan-reads, seat-reads}
@@ -100,7 +100,7 @@ fields_of-then (field ∷ fields) solid =
 digits-avoid : (n : ℕ) → n < 10 ^ 18 → Avoids 61 (decimal n)
 digits-avoid n small = avoids-decimal 61 n (inr (omega arith)) (omega arith)
 
-chairs-avoid : (log chairs : ℕ) → chairs < 10 ^ 18 → AllByRecursion (λ field. Avoids 61 field) (chairs_fields log chairs)
+chairs-avoid : (log chairs : ℕ) → chairs < 10 ^ 18 → AllByRecursion (λ field. Avoids 61 field) (if log == 2 then decimal chairs ∷ [] else [])
 chairs-avoid log chairs small = on (log == 2)
   where
     on : (v : Bool) → AllByRecursion (λ field. Avoids 61 field) (cond v (decimal chairs ∷ []) [])
@@ -175,7 +175,7 @@ fed-event-reads : (log feed : ℕ) (command : Command) (reply : Reply) → IsOne
     → event_from log (Feed feed) (join_with_byte 32 (fed_fields log command reply)) ≡ Some (Fed command reply)
 fed-event-reads log feed (Request a b c d e f g) reply log_is p q other solid =
     answered-reads log feed (Request a b c d e f g) reply log_is (λ n is. cc) other p q (codes "request")
-    ((decimal a ∷ decimal b ∷ decimal c ∷ decimal d ∷ decimal e ∷ decimal f ∷ []) ++ chairs_fields log g) refl refl solid
+    ((decimal a ∷ decimal b ∷ decimal c ∷ decimal d ∷ decimal e ∷ decimal f ∷ []) ++ (if log == 2 then decimal g ∷ [] else [])) refl refl solid
 fed-event-reads log feed (Cancel a) reply log_is p q other solid =
     answered-reads log feed (Cancel a) reply log_is (λ n is. cc) other p q (codes "cancel") (decimal a ∷ []) refl refl solid
 fed-event-reads log feed (At a b c) reply log_is p q other solid =

@@ -1,5 +1,5 @@
 -- The fields of a line have only bytes above the blank.
-use Rattle.trip_log.proofs.Common.{◌≡◌, ◌≢◌, ℕ, ◌^◌, ◌<◌, ◌≤◌, ◌==◌, not, nat_le, ◌⊎◌, Bool, true, false, cond, List, [], ◌∷◌, ◌++◌, length, map, All, refl, ◌∙◌, arith, length-append, codes, decimal, list_all, join_with_byte, AllByRecursion, all_ascii_digits, and_parts, and_from, leb-true, le-leb, ne_eqb, not_from_false, decimal_nonempty, digits_decimal, All-head, All-tail, list_all-append, is_dropped, IsPlain, digit_texts, Actor, Feed, Desk, Command, Request, Cancel, At, Done, On, Off, Clock, Ask, Bad, Whole, Cut, Entry, Event, Fed, Finish, Opened, Committed, Abandoned, Outcome, Confirmed, Away, Gone, Moved, Behind, Seat, Reply, Waiting, Cancelled, Freed, OnMap, Late, Picked, Dropped, Duty, Now, Asked, Noted, Refused, actor_field, broken_fields, chairs_fields, command_fields, event_fields, fed_fields, reply_fields, amount_field, outcome_field, plan_field, seat_field, HasLine, IsSpelled, IsSpelledActor, IsSpelledCommand, IsSpelledReply, IsSpelledEvent, IsSpelledOutcome, IsSpelledPair, IsSpelledSeat}
+use Rattle.trip_log.proofs.Common.{if◌then◌else◌, ◌≡◌, ◌≢◌, ℕ, ◌^◌, ◌<◌, ◌≤◌, ◌==◌, not, nat_le, ◌⊎◌, Bool, true, false, cond, List, [], ◌∷◌, ◌++◌, length, map, All, refl, ◌∙◌, arith, length-append, codes, decimal, list_all, join_with_byte, AllByRecursion, all_ascii_digits, and_parts, and_from, leb-true, le-leb, ne_eqb, not_from_false, decimal_nonempty, digits_decimal, All-head, All-tail, list_all-append, is_dropped, IsPlain, digit_texts, Actor, Feed, Desk, Command, Request, Cancel, At, Done, On, Off, Clock, Ask, Bad, Whole, Cut, Entry, Event, Fed, Finish, Opened, Committed, Abandoned, Outcome, Confirmed, Away, Gone, Moved, Behind, Seat, Reply, Waiting, Cancelled, Freed, OnMap, Late, Picked, Dropped, Duty, Now, Asked, Noted, Refused, actor_field, broken_fields, command_fields, event_fields, fed_fields, reply_fields, amount_field, outcome_field, plan_field, seat_field, HasLine, IsSpelled, IsSpelledActor, IsSpelledCommand, IsSpelledReply, IsSpelledEvent, IsSpelledOutcome, IsSpelledPair, IsSpelledSeat}
 use Rattle.std.proofs.lemmas.Str.Parse.{tells_all_ascii_digits}
 use Rattle.trip_log.proofs.CutLemmas.{Avoids, all-joined, all-weaken}
 
@@ -134,7 +134,7 @@ pub solid-actor : (actor : Actor) → IsSpelledActor actor → IsSolid (actor_fi
 solid-actor (Feed n) p = solid-more (codes "f") (decimal n) (solid-word 102 [] refl) (digits-above n (omega (arith, p.1)))
 solid-actor (Desk n) p = solid-more (codes "d") (decimal n) (solid-word 100 [] refl) (digits-above n (omega (arith, p.1)))
 
-solid-chairs : (log chairs : ℕ) → chairs < 10 ^ 18 → AreSolid (chairs_fields log chairs)
+solid-chairs : (log chairs : ℕ) → chairs < 10 ^ 18 → AreSolid (if log == 2 then decimal chairs ∷ [] else [])
 solid-chairs log chairs small = on (log == 2)
   where
     on : (v : Bool) → AreSolid (cond v (decimal chairs ∷ []) [])

@@ -1,7 +1,8 @@
 //! What drivers report: where they are, stops that were served, and duty.
 ghost use Rattle.std.specs.Prelude.{◌≡◌, ◌<◌, ◌≤◌, ◌^◌, All};
-ghost use Rattle.ride_model.specs.State.{State};
-ghost use Rattle.ride_model.specs.Step.{at_step, done_step, duty_step, served_state};
+ghost use Rattle.ride_model.specs.declared.command.Command.TheVariants.{At, Done};
+ghost use Rattle.ride_model.specs.State.{State, placed_vehicle};
+ghost use Rattle.ride_model.specs.Step.{duty_found, served_state, step};
 ghost use Rattle.ride_model.specs.Road.{IsRoadMap, IsNode};
 ghost use Rattle.ride_model.specs.Settings.{IsSettings};
 ghost use Rattle.ride_model.specs.Vehicle.{IsLawful};
@@ -27,7 +28,7 @@ impl Service {
     pub(crate) fn report(&mut self, setup: &mut Setup, id: u64, node: u64, time: u64) -> Reply
         requires { IsInOrder setup.old self.old }
         ensures answered { (rest : State)
-            → at_step (state_at setup.old self.old rest) id node time
+            → step (state_at setup.old self.old rest) (At id node time)
             ≡ answered_at setup.old self.new rest result }
         ensures setup { setup.new ≡ setup.old }
     {
@@ -56,7 +57,7 @@ impl Service {
     pub(crate) fn serve(&mut self, setup: &Setup, id: u64) -> Reply
         requires { IsInOrder setup.now self.old }
         ensures { (rest : State)
-            → done_step (state_at setup.now self.old rest) id
+            → step (state_at setup.now self.old rest) (Done id)
             ≡ answered_at setup.now self.new rest result }
     {
         let Some(place) = self.place_of(setup.places(), id) else {
@@ -84,7 +85,8 @@ impl Service {
     pub(crate) fn set_duty(&mut self, setup: &Setup, id: u64, duty: bool) -> Reply
         requires { IsInOrder setup.now self.old }
         ensures { (rest : State)
-            → duty_step (state_at setup.now self.old rest) id duty
+            → duty_found (state_at setup.now self.old rest) duty
+            (placed_vehicle (state_at setup.now self.old rest) id)
             ≡ answered_at setup.now self.new rest result }
     {
         let Some(place) = self.place_of(setup.places(), id) else {

@@ -1,9 +1,10 @@
 //! What riders ask for: rides, and to be let go.
 ghost use Rattle.std.specs.Prelude.{◌≡◌, ◌<◌, ◌≤◌, ◌^◌, length, nat_le, is_some, IfOk, OnErr, MatchOption, Some, None};
+ghost use Rattle.ride_model.specs.declared.command.Command.TheVariants.{Cancel};
 ghost use Rattle.ride_model.specs.declared.reply.RequestState.TheVariants.{Confirmed};
 ghost use Rattle.ride_model.specs.Road.{IsRoadMap};
 ghost use Rattle.ride_model.specs.State.{State, request_state};
-ghost use Rattle.ride_model.specs.Step.{cancel_step, refused, with_accepted};
+ghost use Rattle.ride_model.specs.Step.{refused, step, with_accepted};
 ghost use Rattle.ride_model.specs.declared.reply.Reply.TheVariants.{Waiting};
 ghost use Rattle.board_core.specs.inner.Given.{Given};
 ghost use Rattle.board_core.specs.inner.Service.{state_at, answered_at, IsInOrder};
@@ -72,7 +73,7 @@ impl Service {
     pub(crate) fn cancel(&mut self, setup: &mut Setup, id: u64) -> Reply
         requires { IsInOrder setup.old self.old }
         ensures answered { (rest : State)
-            → cancel_step (state_at setup.old self.old rest) id
+            → step (state_at setup.old self.old rest) (Cancel id)
             ≡ answered_at setup.old self.new rest result }
         ensures setup { setup.new ≡ setup.old }
     {
@@ -102,7 +103,7 @@ impl Service {
         requires confirmed { (rest : State)
             → request_state (state_at setup.old self.old rest) id ≡ Some (Confirmed vehicle) }
         ensures answered { (rest : State)
-            → cancel_step (state_at setup.old self.old rest) id
+            → step (state_at setup.old self.old rest) (Cancel id)
             ≡ answered_at setup.old self.new rest result }
         ensures setup { setup.new ≡ setup.old }
     {

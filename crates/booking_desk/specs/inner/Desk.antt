@@ -16,6 +16,9 @@ new_desk most = record { most = most; clock = 0; booked = []; held = [] }
 abbrev pub is_booked : ℕ → List ℕ → Bool
 is_booked id booked = list_any (λ other. id == other) booked
 
+abbrev pub is_held : ℕ → List Booking → Bool
+is_held id bookings = list_any (λ booking. id_of booking == id) bookings
+
 abbrev pub IsRequest : Command → Type 0
 IsRequest (Request id from to seats latest longest chairs) = Unit {0}
 IsRequest _ = ⊥

@@ -1,15 +1,13 @@
 -- A desk that books a feed, line by line.
-use Rattle.std.specs.Prelude.{◌≡◌, ℕ, true, List, ◌++◌, length, map, Option, Some, None}
+use Rattle.std.specs.Prelude.{◌≡◌, ℕ, true, List, ◌++◌, map, Option, Some, None}
 use Rattle.std.specs.List.{AllByRecursion}
 use Rattle.line_text.specs.declared.line_reader.stops.Stop.{Stop}
 use Rattle.ride_model.specs.Text.{IsSpelledCommand}
-use Rattle.line_text.specs.inner.text_page.Output.{HasPut, IsFresh}
-use Rattle.booking_desk.specs.declared.feed_desk.FeedDesk.{FeedDesk}
 use Rattle.booking_desk.specs.inner.BookText.{calls_in}
 use Rattle.booking_desk.specs.BookText.{last_line_after, text_of_lines}
 use Rattle.ride_model.specs.declared.limits.TheConstants.{MOST_REQUESTS}
 use Rattle.booking_desk.specs.Desk.{Booking, DeskState}
-use Rattle.booking_desk.specs.inner.Desk.{IsRequest, is_due, new_desk}
+use Rattle.booking_desk.specs.inner.Desk.{IsRequest, is_due}
 use Rattle.booking_desk.specs.Released.{DeskCall, call_id, desk_after, made_of}
 use Rattle.booking_desk.specs.inner.Released.{clock_of}
 
@@ -33,17 +31,11 @@ with_due calls due = record {
 abbrev pub AreDue : ℕ → List Booking → Type 0
 AreDue time bookings = AllByRecursion (λ (booking : Booking). is_due time booking ≡ true) bookings
 
--- nothing was done yet
-pub record IsNew (desk : FeedDesk) : Type 0 where
-  pub lines : desk.lines ≡ 0
-  pub bare : desk.desk ≡ new_desk MOST_REQUESTS
-  pub output : IsFresh desk.output
-
--- these lines were booked, and what they give was put out
-pub record HasBooked (before now : Option (List ℕ)) (faults_before faults_now : ℕ) (desk : FeedDesk) (lines : List (List ℕ)) : Type 0 where
-  pub counted : desk.lines ≡ length lines
-  pub desk_is : desk.desk ≡ desk_after MOST_REQUESTS (calls_in lines)
-  pub put : HasPut before now faults_before faults_now desk.output (text_of_lines lines)
+-- a desk has booked these lines, which give this text
+pub record HasBooked (lines : List (List ℕ)) (text : List ℕ) (desk : DeskState) : Type 0 where
+  pub text_is : text ≡ text_of_lines lines
+  pub desk_is : desk ≡ desk_after MOST_REQUESTS (calls_in lines)
+  pub spelled : AreSpelled desk.held
 
 -- what the lines of a feed give that was stopped, or was not
 abbrev pub run_text : Option Stop → List (List ℕ) → List ℕ

@@ -1,5 +1,7 @@
 -- The requests of a batch are cancelled one after another, and the batch is given up.
-use Rattle.fleet_league.proofs.Common.{◌≡◌, ℕ, ◌+◌, ◌<◌, Bool, true, false, cond, not, inl, inr, List, [], ◌∷◌, ◌++◌, length, take, get_or, eqb, Some, None, refl, sym, ap, ◌∙◌, arith, length-append, map, find, option_map, All, filter, IsDistinct, get_or-map, get_or-take, length-map, length-take-le, take_more, fold-append, Command, Cancel, RequestState, Cancelled, InBatch, Waiting, Ride, after_abandon, after_opening, standing_rides, with_request_states, fed_commands, BatchCopy, State, AcceptedRequest, is_batch, request_state, with_request_state, Answered, cancel_step, cancelled, ride_ids, is_in, is_of, Among, contains_from_among, abandon-is, marked, opening-is, request_state-marked, state_if_there, with_request_states-is, is_of-among, of_rides, same-place, Recorded, state_of, fed_entry, state-push}
+use Rattle.fleet_league.proofs.Common.{◌≡◌, ℕ, ◌+◌, ◌<◌, Bool, true, false, cond, not, inl, inr, List, [], ◌∷◌, ◌++◌, length, take, get_or, eqb, Some, None, refl, sym, ap, ◌∙◌, arith, length-append, map, find, option_map, All, filter, IsDistinct, get_or-map, get_or-take, length-map, length-take-le, take_more, fold-append, Command, Cancel, RequestState, Cancelled, InBatch, Waiting, Ride, after_abandon, after_opening, standing_rides, with_request_states, fed_commands, BatchCopy, State, AcceptedRequest, is_batch, request_state, with_request_state, Answered, cancelled, ride_ids, is_in, is_of, Among, contains_from_among, abandon-is, marked, opening-is, request_state-marked, state_if_there, with_request_states-is, is_of-among, of_rides, same-place, Recorded, state_of, fed_entry, state-push}
+use Rattle.ride_model.specs.State.{accepted_request}
+use Rattle.ride_model.specs.Step.{cancel_found}
 use Rattle.board_core.proofs.Steps.{cancel-by_state}
 use Rattle.fleet_league.proofs.Reports.{fed-push}
 
@@ -61,7 +63,7 @@ cancelled-more old now after number rides k d in_batch differ are low others his
     let s : State = state_of now in
     let ride : Ride = get_or rides k d in
     let command : Command = Cancel ride.id in
-    let answered : cancel_step s ride.id ≡ cancelled s ride.id
+    let answered : cancel_found s ride.id (accepted_request s ride.id) ≡ cancelled s ride.id
     = cancel-by_state s ride.id (InBatch number) (next-in-batch old now number rides k d in_batch differ are low) in
     let k_of : length (take k rides) ≡ k = length-take-le k rides (omega (arith, low)) in
     let more_of : length (take (k + 1) rides) ≡ k + 1 = length-take-le (k + 1) rides (omega (arith, low)) in

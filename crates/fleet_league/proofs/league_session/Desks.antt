@@ -1,5 +1,5 @@
 -- The desk of a league's requests, from line to line.
-use Rattle.fleet_league.proofs.Common.{◌≡◌, ℕ, ◌+◌, inl, inr, Bool, true, false, cond, not, List, [], ◌∷◌, ◌++◌, length, Option, Some, None, Result, Ok, Err, refl, sym, ap, subst, ◌∙◌, arith, length-append, ◌==◌, ◌&&◌, ◌||◌, find, map, option_map, nat_le, nat_lt, is_some, All, OnOk, option_or, find-append, AllocError, Command, Request, Cancel, At, Done, On, Off, Clock, Ask, Bad, Reply, Refused, RequestState, Waiting, InBatch, Aboard, Away, Cancelled, Settings, Ride, Vehicle, IsFleet, MayStart, fed_commands, replay, RoadMap, IsSettings, State, AcceptedRequest, accepted_request, placed_vehicle, start_state, Answered, cancel_by_state, cancel_found, cancel_step, freed, is_node, request_step, step, with_accepted, IsSpelledCommand, among_map_back, of_all, all_of, marked, request_state-marked, state_if_there, state_in, leaves-step, Recorded, state_of, fed_entry, state-push, request_of, IsDesk, is_riders}
+use Rattle.fleet_league.proofs.Common.{◌≡◌, ℕ, ◌+◌, inl, inr, Bool, true, false, cond, not, List, [], ◌∷◌, ◌++◌, length, Option, Some, None, Result, Ok, Err, refl, sym, ap, subst, ◌∙◌, arith, length-append, ◌==◌, ◌&&◌, ◌||◌, find, map, option_map, nat_le, nat_lt, is_some, All, OnOk, option_or, find-append, AllocError, Command, Request, Cancel, At, Done, On, Off, Clock, Ask, Bad, Reply, Refused, RequestState, Waiting, InBatch, Aboard, Away, Cancelled, Settings, Ride, Vehicle, IsFleet, MayStart, fed_commands, replay, RoadMap, IsSettings, State, AcceptedRequest, accepted_request, placed_vehicle, start_state, Answered, cancel_by_state, cancel_found, freed, is_node, request_step, step, with_accepted, IsSpelledCommand, among_map_back, of_all, all_of, marked, request_state-marked, state_if_there, state_in, leaves-step, Recorded, state_of, fed_entry, state-push, request_of, IsDesk, is_riders}
 use Rattle.std.specs.List.{IsDistinct}
 use Rattle.ride_model.specs.declared.reply.RequestState.TheVariants.{Confirmed, Done as DoneState}
 use Rattle.fleet_league.proofs.PricedQuotes.{among_append_back}
@@ -148,7 +148,7 @@ of_accepted log s ride reply here = record {
 
 -- each command of a rider
 pub tame-step : (log : ℕ) (s : State) (command : Command) → is_riders command ≡ true → IsSpelledCommand log command → Tame log s (step s command)
-unfolding request_step cancel_step
+unfolding request_step
 tame-step log s (Request id from to seats latest longest chairs) is spelled =
     either log s (is_some (accepted_request s id)) _ _ (refuses log s 1)
     (either log s (not (is_node s.roads from && is_node s.roads to)) _ _ (refuses log s 2)

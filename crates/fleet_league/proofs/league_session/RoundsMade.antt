@@ -66,13 +66,13 @@ module _ (boards : LeagueBoards) (lines : ℕ) (rides : List Ride) (now : MakesN
         answered = λ none. absurd (cc (none, below));
         made = λ some. (
           sheet,
-          record {
-            desk_is = state_is ∙ ap (after_round s) now.rides_are;
-            played = subst (λ (rs : List Ride). PlaysRound s.settings.penalty rs (state_of boards.first.board) (state_of new.first.board)
+          (
+            state_is ∙ ap (after_round s) now.rides_are,
+            subst (λ (rs : List Ride). PlaysRound s.settings.penalty rs (state_of boards.first.board) (state_of new.first.board)
                 (state_of boards.second.board) (state_of new.second.board) sheet) now.rides_are
                 (subst (λ (n : ℕ). PlaysRound n rides (state_of boards.first.board) (state_of new.first.board) (state_of boards.second.board)
-                (state_of new.second.board) sheet) cost plays);
-          },
+                (state_of new.second.board) sheet) cost plays),
+          ),
           ap (λ (n : ℕ). Round n sheet) number_is,
         );
       }

@@ -1,9 +1,10 @@
 -- What only lemmas and lower contracts use beside Awards.antt.
-use Rattle.std.specs.Prelude.{◌≡◌, ℕ, ◌+◌, ◌<◌, ◌≤◌, ◌⊎◌, ◌==◌, not, if◌then◌else◌, List, [], ◌∷◌, ◌++◌, length, map, filter, find, take, All, Contains, Option, Some, None, option_map}
+use Rattle.std.specs.Prelude.{◌≡◌, ℕ, ◌+◌, ◌<◌, ◌≤◌, ◌⊎◌, ◌==◌, not, if◌then◌else◌, List, [], ◌∷◌, ◌++◌, length, map, filter, find, position, take, All, Contains, Option, Some, None, option_map}
 use Rattle.std.specs.List.{zip}
-use Rattle.ride_model.specs.declared.command.Actor.TheVariants.{Desk}
+use Rattle.ride_model.specs.declared.command.Actor.TheVariants.{Desk, Feed}
 use Rattle.ride_model.specs.declared.entry.Entry.{Entry}
-use Rattle.ride_model.specs.declared.entry.Event.TheVariants.{Abandoned}
+use Rattle.ride_model.specs.declared.entry.Event.TheVariants.{Abandoned, Fed}
+use Rattle.ride_model.specs.declared.reply.Reply.TheVariants.{Waiting}
 use Rattle.ride_model.specs.declared.vehicle.Vehicle.{Vehicle}
 use Rattle.ride_model.specs.Legal.{replay, versions_of}
 use Rattle.ride_model.specs.declared.limits.TheConstants.{MOST_BATCHES, MOST_REQUESTS}
@@ -19,7 +20,15 @@ use Rattle.fleet_league.specs.declared.briefs.Settled.TheVariants.{Confirmed, Mo
 use Rattle.fleet_league.specs.declared.briefs.Win.{Win}
 use Rattle.fleet_league.specs.declared.quotes.Quote.{Quote}
 use Rattle.fleet_league.specs.Prices.{prices_of}
-use Rattle.fleet_league.specs.Awards.{won_rides, won_columns, asking_entries, opening_entry}
+use Rattle.fleet_league.specs.Awards.{won_rides, won_columns, request_of, asking_entries, opening_entry}
+
+-- the place in the fleet of a win's vehicle
+abbrev pub won_column : List Vehicle → Win → Option ℕ
+won_column vehicles win = position (λ (v : Vehicle). v.id == win.vehicle) vehicles
+
+-- the entries by which wins are requested
+abbrev pub request_entries : List Win → List Entry
+request_entries wins = map (λ (win : Win). record { actor = Feed 1; event = Fed (request_of win.ride) Waiting }) wins
 
 -- each win's request with its price
 abbrev pub price_list : List Win → List (ℕ × ℕ)

@@ -50,11 +50,7 @@ line_of_fields log (word ∷ fields) =
 abbrev pub said_by : ℕ → ℕ → List ℕ → Option FeedLine
 said_by log number line = said_by_words (line_of_fields log) (League (Bad number)) (words_of 35 line)
 
--- what lines say of which the first has this number
+-- what lines say that are neither blank nor comments, in order, where the first has this number
 unfoldable pub said_from : ℕ → ℕ → List (List ℕ) → List FeedLine
 said_from log number [] = []
 said_from log number (line ∷ lines) = cons_option (said_by log number line) (said_from log (number + 1) lines)
-
--- what the lines of a feed say that are neither blank nor comments, in order
-abbrev pub said_in : ℕ → List (List ℕ) → List FeedLine
-said_in log lines = said_from log 1 lines

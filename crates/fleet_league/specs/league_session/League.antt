@@ -50,50 +50,31 @@ league_start roads settings first second = record {
   second = start_state roads settings second;
 }
 
--- the league after a line that makes no round, and the reply to it
-pub record LeagueAnswer : Type 0 where
-  pub league : LeagueState
-  pub reply : Reply
+-- a league after one of its boards has taken a command, and the board's reply
+abbrev pub answered_by : (State → LeagueState) → State → Command → LeagueState × Reply
+answered_by league board command = (league (step board command).state, (step board command).reply)
 
--- a command that the desk answers, or a company's board
-abbrev pub by_desk : LeagueState → Command → LeagueAnswer
-by_desk s command = record { league = record s { desk = (step s.desk command).state }; reply = (step s.desk command).reply }
-
-abbrev pub by_first : LeagueState → Command → LeagueAnswer
-by_first s command = record { league = record s { first = (step s.first command).state }; reply = (step s.first command).reply }
-
-abbrev pub by_second : LeagueState → Command → LeagueAnswer
-by_second s command = record { league = record s { second = (step s.second command).state }; reply = (step s.second command).reply }
-
--- whether a company's board has accepted the request of an id
-abbrev pub is_with : State → ℕ → Bool
-is_with board id = is_some (request_state board id)
-
--- what a line gives that makes no round: a cancellation goes to the company that the request is with, the clock to every company, and
--- a report to the company of its number, if there is one
-abbrev pub league_answer : LeagueState → FeedLine → LeagueAnswer
-league_answer s (League (Request id from to seats latest longest chairs)) = by_desk s (Request id from to seats latest longest chairs)
-league_answer s (League (Cancel id)) = if is_with s.first id then by_first s (Cancel id)
-    else if is_with s.second id then by_second s (Cancel id)
-    else by_desk s (Cancel id)
-league_answer s (League (Clock time)) = record {
-  league = record s { first = (step s.first (Clock time)).state; second = (step s.second (Clock time)).state };
-  reply = (step s.first (Clock time)).reply;
-}
-league_answer s (League Ask) = record { league = s; reply = Refused BATCHES_FULL }
-league_answer s (League _) = record { league = s; reply = Noted }
-league_answer s (Company company command) = if company == 1 then by_first s command
-    else if company == 2 then by_second s command
-    else record { league = s; reply = Refused UNKNOWN_COMPANY }
+-- the league after a line that makes no round, and the reply to it: a request goes to the desk, a cancellation to the company whose
+-- board has accepted the request, if there is one, the clock to every company, and a report to the company of its number
+abbrev pub league_answer : LeagueState → FeedLine → LeagueState × Reply
+league_answer s (League (Request id from to seats latest longest chairs)) =
+    answered_by (λ board. record s { desk = board }) s.desk (Request id from to seats latest longest chairs)
+league_answer s (League (Cancel id)) =
+    if is_some (request_state s.first id) then answered_by (λ board. record s { first = board }) s.first (Cancel id)
+    else if is_some (request_state s.second id) then answered_by (λ board. record s { second = board }) s.second (Cancel id)
+    else answered_by (λ board. record s { desk = board }) s.desk (Cancel id)
+league_answer s (League (Clock time)) =
+    answered_by (λ board. record s { first = board; second = (step s.second (Clock time)).state }) s.first (Clock time)
+league_answer s (League Ask) = (s, Refused BATCHES_FULL)
+league_answer s (League _) = (s, Noted)
+league_answer s (Company company command) = if company == 1 then answered_by (λ board. record s { first = board }) s.first command
+    else if company == 2 then answered_by (λ board. record s { second = board }) s.second command
+    else (s, Refused UNKNOWN_COMPANY)
 
 -- whether a line makes a round: a batch, where fewer than 2,000 rounds were made
 abbrev pub makes_round : LeagueState → FeedLine → Bool
 makes_round s (League Ask) = nat_lt s.desk.asked MOST_BATCHES
 makes_round s _ = false
-
--- the rides of the next round: the first that wait
-abbrev pub next_rides : LeagueState → List Ride
-next_rides s = take s.desk.settings.batch (waiting_rides s.desk)
 
 -- what two companies' boards quote for rides, as they stand
 abbrev pub quotes_of : State → State → List Ride → List Quote
@@ -108,9 +89,7 @@ round_columns quotes round = zip (union_columns quotes) round.pays
 
 -- the desk after a round of rides
 abbrev pub after_round : State → List Ride → State
-after_round desk rides =
-    let closed = with_request_states Cancelled rides desk in
-    record closed { asked = desk.asked + 1; opened = desk.opened + 1 }
+after_round desk rides = record (with_request_states Cancelled rides desk) { asked = desk.asked + 1; opened = desk.opened + 1 }
 
 -- a board after a confirmed award of a brief: as it was, where nothing was won, and else after entries that are legal at it
 pub record IsAwarded (brief : Brief) (old new : State) : Type 0 where
@@ -134,13 +113,13 @@ pub record PlaysRound (penalty : ℕ) (rides : List Ride) (first new_first secon
   pub second_awarded : IsAwarded second_brief second new_second
 
 -- a league's round was made of the first requests that waited
-pub record MakesRound (old new : LeagueState) (sheet : RoundSheet) : Type 0 where
-  pub desk_is : new.desk ≡ after_round old.desk (next_rides old)
-  pub played : PlaysRound old.desk.settings.penalty (next_rides old) old.first new.first old.second new.second sheet
+abbrev pub MakesRound : LeagueState → LeagueState → RoundSheet → Type 0
+MakesRound old new sheet = let rides = take old.desk.settings.batch (waiting_rides old.desk) in (new.desk ≡ after_round old.desk rides)
+    × PlaysRound old.desk.settings.penalty rides old.first new.first old.second new.second sheet
 
 -- a line of a feed takes a league on, and this becomes of it
 pub record TakesLine (old new : LeagueState) (line : FeedLine) (told : Told) : Type 0 where
-  pub answered : IsFalse (makes_round old line) → (new ≡ (league_answer old line).league) × (told ≡ Answer (league_answer old line).reply)
+  pub answered : IsFalse (makes_round old line) → (new ≡ (league_answer old line).0) × (told ≡ Answer (league_answer old line).1)
   pub made : IsTrue (makes_round old line) → (sheet : RoundSheet) × MakesRound old new sheet × (told ≡ Round (old.desk.asked + 1) sheet)
 
 -- lines of a feed take a league on, one after another, and give a text

@@ -1,7 +1,6 @@
 -- What a round gives: the columns of its union with the companies' vehicles, what is told of it, and each company's part.
 use Rattle.std.specs.Prelude.{ℕ, ◌==◌, if◌then◌else◌, nat_lt, List, map, slice_get, Option, Some, None, is_some, option_and_then, option_map}
 use Rattle.std.specs.List.{enumerate_from, filter_map, flat_map, zip}
-use Rattle.ride_model.specs.declared.entry.Outcome.{Outcome}
 use Rattle.ride_model.specs.declared.entry.Outcome.TheVariants.{Confirmed, Away}
 use Rattle.ride_model.specs.declared.vehicle.Ride.{Ride}
 use Rattle.dual_check.specs.declared.paired.Paired.{Paired}
@@ -15,13 +14,10 @@ use Rattle.fleet_league.specs.declared.league_session.sheets.RoundPay.{RoundPay}
 use Rattle.fleet_league.specs.declared.league_session.sheets.RoundSheet.{RoundSheet}
 use Rattle.fleet_league.specs.declared.quotes.Quote.{Quote}
 
--- a vehicle of the company of a number, with its version
-abbrev pub column_of_plan : ℕ → ℕ × ℕ → RoundColumn
-column_of_plan company plan = record { company = company; vehicle = plan.0; version = plan.1 }
-
--- the columns of the union of quotes: by company, numbered from 1, and then in fleet order
+-- the columns of the union of quotes, each a vehicle with its version: by company, numbered from 1, and then in fleet order
 abbrev pub union_columns : List Quote → List RoundColumn
-union_columns quotes = flat_map (λ (placed : ℕ × Quote). map (column_of_plan placed.0) placed.1.plans) (enumerate_from 1 quotes)
+union_columns quotes = flat_map (λ (placed : ℕ × Quote). map {B = RoundColumn} (λ (plan : ℕ × ℕ).
+    record { company = placed.0; vehicle = plan.0; version = plan.1 }) placed.1.plans) (enumerate_from 1 quotes)
 
 -- the rides of a round, with the columns that they are paired with and their prices
 abbrev pub rows_of : List RoundColumn → List Ride → Paired → List RoundRow
@@ -33,22 +29,18 @@ abbrev pub award_of : RoundRow → Option RoundAward
 award_of row = option_map (λ (column : RoundColumn).
     record { request = row.ride.id; company = column.company; vehicle = column.vehicle; version = column.version }) row.column
 
--- a row's request with what becomes of it
-abbrev pub outcome_of : RoundRow → ℕ × Outcome
-outcome_of row = (row.ride.id, if is_some row.column then Confirmed else Away)
-
 -- what a column pays, where it is above 0
 abbrev pub pay_of : RoundColumn × ℕ → Option RoundPay
 pay_of paid = if nat_lt 0 paid.1 then Some (record { company = paid.0.company; vehicle = paid.0.vehicle; amount = paid.1 }) else None
 
--- what is told of a round of a cost
+-- what is told of a round of a cost: of each request its award, its price and what becomes of it
 abbrev pub sheet_of : ℕ → List RoundRow → List (RoundColumn × ℕ) → RoundSheet
 sheet_of cost rows paid = record {
   cost = cost;
   awards = filter_map award_of rows;
   prices = map (λ (row : RoundRow). (row.ride.id, row.price)) rows;
   pays = filter_map pay_of paid;
-  outcomes = map outcome_of rows;
+  outcomes = map (λ (row : RoundRow). (row.ride.id, if is_some row.column then Confirmed else Away)) rows;
 }
 
 -- a column of the company of a number

@@ -1,11 +1,12 @@
 //! The companies of a league.
-ghost use Rattle.std.specs.Prelude.{◌≡◌, ◌<◌, IfOk, OnOk, IsTrue};
+ghost use Rattle.std.specs.Prelude.{◌≡◌, ◌<◌, IfOk, OnOk, IsTrue, is_some};
+ghost use Rattle.ride_model.specs.State.{request_state};
 ghost use Rattle.ride_model.specs.Step.{step};
 ghost use Rattle.ride_model.specs.Text.{IsSpelledCommand};
 ghost use Rattle.batch_commit.specs.inner.Table.{IsTableOf};
 ghost use Rattle.board_core.specs.Recorded.{state_of};
 ghost use Rattle.fleet_league.specs.inner.Companies.{is_report, most_reports, report_count};
-ghost use Rattle.fleet_league.specs.league_session.League.{IsAwarded, is_with};
+ghost use Rattle.fleet_league.specs.league_session.League.{IsAwarded};
 ghost use Rattle.fleet_league.specs.inner.Winning.{MayPlay, MayWin};
 ghost use Rattle.fleet_league.specs.inner.league_session.LeagueBoards.{IsPlayed, IsReported, IsSound};
 ghost use Rattle.fleet_league.specs.Prices.{quote_of};
@@ -79,7 +80,7 @@ impl<'r> Member<'r> {
 
     /// Whether the company has a request.
     pub(crate) fn has(&self, id: u64) -> bool
-        ensures { result ≡ is_with (state_of self.now.board) id }
+        ensures { result ≡ is_some (request_state (state_of self.now.board) id) }
     {
         self.company.board().request_state(id).is_some()
     }

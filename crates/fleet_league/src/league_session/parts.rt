@@ -1,8 +1,8 @@
 //! What a round gives: what is told of it, and each company's part.
 ghost use Rattle.std.specs.Prelude.{◌≡◌, map, IfOk};
 ghost use Rattle.std.specs.List.{filter_map};
-ghost use Rattle.fleet_league.specs.league_session.RoundParts.{award_of, brief_of, own_pay_of, outcome_of, pay_of, sheet_of, win_of};
-ghost use Rattle.fleet_league.specs.inner.league_session.RoundParts.{price_of};
+ghost use Rattle.fleet_league.specs.league_session.RoundParts.{award_of, brief_of, own_pay_of, pay_of, sheet_of, win_of};
+ghost use Rattle.fleet_league.specs.inner.league_session.RoundParts.{outcome_of, price_of};
 
 use crate::league_session::rows::{RoundColumn, RoundRow};
 use crate::league_session::sheets::{RoundAward, RoundPay, RoundSheet};

@@ -1,7 +1,7 @@
 //! The rows and the columns of a round: rides, and the vehicles of all companies.
 ghost use Rattle.std.specs.Prelude.{◌≡◌, ◌++◌, ◌∷◌, [], option_and_then, slice_get, map, IfOk, OnOk};
-ghost use Rattle.fleet_league.specs.league_session.RoundParts.{column_of_plan, rows_of, union_columns};
-ghost use Rattle.fleet_league.specs.inner.league_session.RoundParts.{paid_columns, row_of};
+ghost use Rattle.fleet_league.specs.league_session.RoundParts.{rows_of, union_columns};
+ghost use Rattle.fleet_league.specs.inner.league_session.RoundParts.{column_of_plan, paid_columns, row_of};
 
 use crate::{NoMemory, Quote};
 use dual_check::Paired;

@@ -1,6 +1,5 @@
 //! The session of a league.
-ghost use Rattle.std.specs.List.{list_any};
-ghost use Rattle.std.specs.Prelude.{◌≡◌, ◌==◌, ℕ, [], false, List, Option, IfOk, IfSome};
+ghost use Rattle.std.specs.Prelude.{◌≡◌, ℕ, [], false, true, List, Option, IfOk, IfSome};
 ghost use Rattle.ride_model.specs.Fleet.{MayStart};
 ghost use Rattle.ride_ports.specs.Bytes.{Reads};
 ghost use Rattle.ride_ports.specs.Count.{KeepsCount};
@@ -9,16 +8,20 @@ ghost use Rattle.line_text.specs.line_reader.FeedRuns.{IsReadWhole, IsUnhindered
 ghost use Rattle.line_text.specs.line_reader.Limits.{IsWithinLimits};
 ghost use Rattle.line_text.specs.inner.line_reader.Reader.{HasGiven};
 ghost use Rattle.command_lines.specs.Limits.{feed_limits};
-ghost use Rattle.line_text.specs.inner.text_page.Output.{HasPut};
+ghost use Rattle.line_text.specs.inner.text_page.Output.{HasPut, IsFresh};
 ghost use Rattle.fleet_league.specs.inner.league_session.LeagueBoards.{league_of};
-ghost use Rattle.fleet_league.specs.inner.league_session.LeagueRuns.{IsNew, IsScribe, PutsText, ended_text};
+ghost use Rattle.fleet_league.specs.inner.league_session.LeagueRuns.{HasTold, ended_text};
 ghost use Rattle.fleet_league.specs.league_session.Leagued.{IsLeagueText, IsLeagued};
 
 use crate::league_session::outset::Outset;
+use crate::league_session::printing::{head_line, last_line};
 use crate::league_session::scribe::Scribe;
+use crate::league_session::stops::ending_of;
 use adaptive_roads::Roads;
 use command_lines::FEED_LIMITS;
-use line_text::line_reader::{LineReader, NextLine, Stop, ran_of};
+use line_text::line_reader::{LineReader, Stop, ran_of};
+use line_text::take_lines;
+use line_text::text_page::Output;
 use ride_model::{Fleet, NoMemory, Settings};
 use ride_ports::{Ran, Sink, Source};
 use std::alloc::Global;
@@ -56,107 +59,71 @@ pub fn league<R: Threads + Sync, S: Source, K: Sink>(
     ensures sink_faults { KeepsCount result.sink_failed (K.faults out.old) (K.faults out.new) }
 {
     let outset = Outset::new(roads, settings, first, second);
-    let Ok((mut reader, mut scribe)) = begin(alloc, outset) else {
+    let Ok((mut reader, mut scribe, mut output)) = begin(rt, alloc, outset) else {
         return ran_of(Some(Stop::NoMemory), false);
     };
-    let stop = run_feed(rt, &mut reader, &mut scribe, feed, out);
-    scribe.end(out);
-    ran_of(stop, scribe.failed())
+    let stop = run_feed(&mut reader, &mut scribe, &mut output, feed, out);
+    output.end(out);
+    ran_of(stop, output.failed())
 }
 
-// A reader of a feed and a scribe, at their start.
-fn begin<'r>(alloc: Global, outset: Outset<'r>) -> Result<(LineReader, Scribe<'r>), NoMemory>
+// A reader of a feed, a scribe, and the text on its way out, at their start.
+fn begin<'t, 'r, R>(
+    rt: &'t R,
+    alloc: Global,
+    outset: Outset<'r>,
+) -> Result<(LineReader, Scribe<'t, 'r, R>, Output), NoMemory>
     ensures limits { IfOk result (λ made. made.0.limits ≡ feed_limits) }
     ensures nothing_given { IfOk result (λ made. HasGiven made.0 []) }
     ensures nothing_pending { IfOk result (λ made. made.0.pending ≡ []) }
-    ensures nothing_done { IfOk result (λ made. IsNew made.1) }
     ensures start { IfOk result (λ made. league_of made.1.league ≡ outset.entry) }
+    ensures nothing_told { IfOk result (λ made.
+        HasTold (league_of made.1.league) [] [] made.1.log made.1.league) }
+    ensures fresh { IfOk result (λ made. IsFresh made.2) }
 {
     let reader = LineReader::new(alloc, FEED_LIMITS)?;
-    let scribe = Scribe::new(alloc, outset)?;
-    Ok((reader, scribe))
+    let output = Output::new(alloc)?;
+    let scribe = Scribe::new(rt, alloc, outset)?;
+    Ok((reader, scribe, output))
 }
 
 // Puts the text of a feed: the first line, what becomes of its lines until the end or a stop, and the last line, if it has one.
 fn run_feed<R: Threads + Sync, S: Source, K: Sink>(
-    rt: &R,
     reader: &mut LineReader,
-    scribe: &mut Scribe<'_>,
+    scribe: &mut Scribe<'_, '_, R>,
+    output: &mut Output,
     feed: &mut S,
     out: &mut K,
 ) -> Option<Stop>
     requires limits { reader.old.limits ≡ feed_limits }
     requires nothing_given { HasGiven reader.old [] }
     requires nothing_pending { reader.old.pending ≡ [] }
-    requires nothing_done { IsNew scribe.old }
+    requires nothing_told { HasTold (league_of scribe.old.league) []
+        [] scribe.old.log scribe.old.league }
+    requires fresh { IsFresh output.old }
     ensures ran { (taken : List ℕ) × (lines : List (List ℕ)) × (text : List ℕ)
         × HasRun feed_limits (S.left feed.old) (S.left feed.new) result
-        scribe.new.output.failed taken lines
+        output.new.failed taken lines
         × IsLeagueText (league_of scribe.old.league) lines text
         × HasPut (K.written out.old) (K.written out.new) (K.faults out.old) (K.faults out.new)
-        scribe.new.output (ended_text result text) }
+        output.new (ended_text result text) }
     ensures faults { KeepsCount (is_source_failed result) (S.faults feed.old) (S.faults feed.new) }
 {
-    scribe.put_head(out);
-    let stop = take_lines(rt, reader, scribe, feed, out);
-    scribe.put_end(out, stop);
+    output.put(out, head_line());
+    let stop = take_lines(reader, scribe, output, feed, out);
+    put_end(output, out, stop);
     stop
 }
 
-// Takes the lines of a feed to its end, or until something stops it or the sink fails.
-fn take_lines<R: Threads + Sync, S: Source, K: Sink>(
-    rt: &R,
-    reader: &mut LineReader,
-    scribe: &mut Scribe<'_>,
-    feed: &mut S,
-    out: &mut K,
-) -> Option<Stop>
-    requires limits { reader.old.limits ≡ feed_limits }
-    requires nothing_given { HasGiven reader.old [] }
-    requires nothing_pending { reader.old.pending ≡ [] }
-    requires no_line { scribe.old.lines ≡ 0 }
-    requires log { scribe.old.log ≡ (league_of scribe.old.league).desk.settings.log }
-    requires fits { IsScribe scribe.old }
-    ensures ran { (taken : List ℕ) × (lines : List (List ℕ))
-        × HasRun feed_limits (S.left feed.old) (S.left feed.new) result
-        scribe.new.output.failed taken lines
-        × PutsText (league_of scribe.old.league) (K.written out.old)
-        (K.faults out.old) scribe.old.output
-        (K.written out.new) (K.faults out.new) scribe.new.output lines }
-    ensures faults { KeepsCount (is_source_failed result) (S.faults feed.old) (S.faults feed.new) }
-{
-    'lines: loop {
-        write_before_wait(reader, scribe, out);
-        if scribe.failed() {
-            return None;
-        }
-        match reader.next(feed) {
-            Ok(NextLine::Line) => match scribe.take_line(rt, out, reader.line(), reader.over()) {
-                Ok(()) => {}
-                Err(_) => return Some(Stop::NoMemory),
-            },
-            Ok(NextLine::Unfinished) => {
-                return match scribe.take_line(rt, out, reader.line(), reader.over()) {
-                    Ok(()) => None,
-                    Err(_) => Some(Stop::NoMemory),
-                };
-            }
-            Ok(NextLine::End) => return None,
-            Err(stop) => return Some(Stop::OfFeed(stop)),
-        }
-    }
-}
-
-// Writes all that is not written yet, where the feed's next line may have to be waited for.
-fn write_before_wait<K: Sink>(reader: &LineReader, scribe: &mut Scribe<'_>, out: &mut K)
-    ensures written { list_any (λ byte. byte == 10) reader.now.pending ≡ false
-        → scribe.new.output.failed ≡ false → scribe.new.output.page ≡ [] }
+// Puts the last line, where the text of a feed that was stopped, or was not, has one.
+fn put_end<K: Sink>(output: &mut Output, out: &mut K, stop: Option<Stop>)
     ensures put { (before : Option (List ℕ)) (faults : ℕ) (text : List ℕ)
-        → HasPut before (K.written out.old) faults (K.faults out.old) scribe.old.output text
-        → HasPut before (K.written out.new) faults (K.faults out.new) scribe.new.output text }
-    ensures others { scribe.new ≡ record scribe.old { output = scribe.new.output } }
+        → HasPut before (K.written out.old) faults (K.faults out.old) output.old text
+        → HasPut before (K.written out.new) faults (K.faults out.new)
+        output.new (ended_text stop text) }
+    ensures still_failed { output.old.failed ≡ true → output.new.failed ≡ true }
 {
-    if !reader.has_line() {
-        scribe.end(out);
+    if let Some(ending) = ending_of(stop) {
+        output.put(out, last_line(ending));
     }
 }

@@ -1,5 +1,5 @@
 -- The lines of a feed that were taken when it ended or was stopped.
-use Rattle.line_text.proofs.Common.{◌≡◌, ◌≢◌, ℕ, ◌<◌, Bool, true, false, nat_lt, take, List, [], ◌∷◌, ◌++◌, length, Option, Some, None, Result, Ok, Err, refl, ap, sym, subst, ◌∙◌, arith, append_assoc, append-nil, length-append, IfSome, MatchResult, false_from_ne_true, ended_lines, last_line, lines_of, rest_of, Reads, Reads-none, Reads-then, Reads-to_end, Reads-told, NextLine, Line, Unfinished, End, ReadStop, SourceFailed, TooLong, Limits, IsTooLong, IsWithinLimits, lines_within, HasGiven, ReaderState, IsAtEnd, IsNext, IsNextLine, IsShown, IsStopped, KeepsCount}
+use Rattle.line_text.proofs.Common.{◌≡◌, ◌≢◌, ℕ, ◌+◌, ◌-◌, ◌^◌, ◌<◌, min, Bool, true, false, nat_lt, take, List, [], ◌∷◌, ◌++◌, length, Option, Some, None, Result, Ok, Err, refl, ap, sym, subst, ◌∙◌, arith, append_assoc, append-nil, length-append, IfSome, MatchResult, false_from_ne_true, ended_lines, last_line, lines_of, rest_of, Reads, Reads-none, Reads-then, Reads-to_end, Reads-told, NextLine, Line, Unfinished, End, ReadStop, SourceFailed, TooLong, Limits, IsTooLong, IsWithinLimits, lines_within, HasGiven, ReaderState, IsAtEnd, IsNext, IsNextLine, IsShown, IsStopped, KeepsCount}
 use mathlib.Core.List.{IsPrefix}
 use Rattle.line_text.proofs.LineLemmas.{last_line-some}
 use Rattle.ride_ports.specs.declared.outcome.Ran.{Ran}
@@ -132,15 +132,17 @@ few-last limits left bytes rest end some =
 -- wanting for it the feed is stopped
 pub record HasCome (limits : Limits) (feed left : Option (List ℕ)) (reader : ReaderState) (bytes came line : List ℕ) : Type 0 where
   pub few : length (ended_lines bytes) < limits.lines
+  pub numbered : reader.cutter.number ≡ min (length (ended_lines bytes) + 1) (2 ^ 64 - 1)
   pub shown : reader.cutter.shown ≡ take limits.line line
   pub over : reader.cutter.over ≡ nat_lt limits.line (length line)
   pub wanting : (failed : Bool) → HasRun limits feed left (Some NoMemory) failed (bytes ++ came) (ended_lines bytes)
 
-has-come : (limits : Limits) (feed left : Option (List ℕ)) (reader : ReaderState) (number : ℕ) (bytes came line : List ℕ) → reader.limits ≡ limits
-    → rest_of bytes ≡ [] → Reads feed left (bytes ++ came) → length (ended_lines bytes) < limits.lines → IsShown reader number line
-    → HasCome limits feed left reader bytes came line
-has-come limits feed left reader number bytes came line are whole reads few shown = record {
+has-come : (limits : Limits) (feed left : Option (List ℕ)) (reader : ReaderState) (bytes came line : List ℕ) → reader.limits ≡ limits
+    → rest_of bytes ≡ [] → Reads feed left (bytes ++ came) → length (ended_lines bytes) < limits.lines
+    → IsShown reader (length (ended_lines bytes) + 1) line → HasCome limits feed left reader bytes came line
+has-come limits feed left reader bytes came line are whole reads few shown = record {
   few = few;
+  numbered = shown.numbered;
   shown = shown.bytes ∙ ap (λ (l : Limits). take l.line line) are;
   over = shown.over ∙ ap (λ (l : Limits). nat_lt l.line (length line)) are;
   wanting = λ failed. run-cut limits feed left NoMemory failed bytes came whole reads tt;
@@ -162,13 +164,13 @@ each-follows : (limits : Limits) (feed left : Option (List ℕ)) (reader : Reade
     → MatchResult answer (IsNext left reader bytes came) (IsStopped limits bytes came) → Follows limits feed left reader bytes came answer
 each-follows limits feed left reader bytes came (Ok Line) are whole reads (line, next) = (
   line,
-  has-come limits feed left reader _ bytes came line are whole reads (few-next limits reader bytes came line are next) next.shown,
+  has-come limits feed left reader bytes came line are whole reads (few-next limits reader bytes came line are next) next.shown,
   record { given = next.given; reads = reads-line feed left reader bytes came line reads next },
   next.lines_are,
 )
 each-follows limits feed left reader bytes came (Ok Unfinished) are whole reads (at_end, some, shown) =
     let end : IsAtEnd left limits bytes came = subst (λ (l : Limits). IsAtEnd left l bytes came) are at_end in (
-      has-come limits feed left reader _ bytes came came are whole reads (few-last limits left bytes came end some) shown,
+      has-come limits feed left reader bytes came came are whole reads (few-last limits left bytes came end some) shown,
       λ failed. run-whole limits feed left failed bytes came (ended_lines bytes ++ came ∷ []) reads end
           (ap (λ ls. ended_lines bytes ++ ls) (sym (last_line-some came some))),
     )

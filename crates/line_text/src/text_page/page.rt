@@ -9,18 +9,18 @@ use ride_ports::{Failed, Sink, write_all};
 use std::alloc::Global;
 use std::marker::Model;
 
-/// The bytes of a page.
-const PAGE: usize = 1 << 16;
+/// The bytes for which a page takes memory at once.
+pub(crate) const PAGE: usize = 1 << 16;
 
-/// Takes text up to its room, and fails where it is full.
+/// Takes text, and grows with it. As a sink it fails for want of memory alone.
 #[derive(Drop)]
-pub(crate) struct Page {
+pub struct Page {
     text: Vec<u8>,
     faults: u64,
 }
 
 impl Model for Page {
-    ghost use Rattle.std.specs.Prelude.{◌≤◌, vec_capacity, length};
+    ghost use Rattle.std.specs.Prelude.{◌≤◌};
     ghost use Rattle.ride_ports.specs.Count.{most_count};
     ghost use Rattle.line_text.specs.inner.text_page.Output.{PageState};
 
@@ -28,11 +28,12 @@ impl Model for Page {
 
     ghost view = { λ p. record { text = p.text.items; faults = p.faults } };
 
-    ghost invariant = { λ p. (length p.text.items ≤ 65536) × (65536 ≤ vec_capacity p.text) × (p.faults ≤ most_count) };
+    ghost invariant = { λ p. p.faults ≤ most_count };
 }
 
 impl Page {
-    pub(crate) fn new(alloc: Global) -> Result<Page, NoMemory>
+    /// An empty page, with memory for 2^16 bytes.
+    pub fn new(alloc: Global) -> Result<Page, NoMemory>
         ensures { IfOk result (λ page. page.text ≡ []) }
     {
         Ok(Page {
@@ -41,16 +42,24 @@ impl Page {
         })
     }
 
-    /// Puts bytes on the page, where there is room for them.
+    /// Puts bytes on the page.
+    pub fn put(&mut self, bytes: &[u8]) -> Result<(), NoMemory>
+        ensures put { OnOk result
+            (self.new ≡ record self.old { text = self.old.text ++ bytes.now }) }
+        ensures kept { OnErr result (self.new ≡ self.old) }
+    {
+        self.text.extend_from_slice(bytes)
+    }
+
+    /// Puts bytes on the page, where it stays within 2^16 bytes, and answers whether it did.
     pub(crate) fn add(&mut self, bytes: &[u8]) -> bool
         ensures { MatchBool result (self.new
             ≡ record self.old { text = self.old.text ++ bytes.now }) (self.new ≡ self.old) }
     {
-        if bytes.len() > PAGE - self.text.len() {
+        if bytes.len() > PAGE.saturating_sub(self.text.len()) {
             return false;
         }
-        self.text.extend_from_slice(bytes).unwrap();
-        true
+        self.put(bytes).is_ok()
     }
 
     /// How many bytes stand on the page.
@@ -81,7 +90,7 @@ impl Page {
     }
 
     /// Counts a fault.
-    fn fail(&mut self) -> Failed
+    pub(crate) fn fail(&mut self) -> Failed
         ensures failed { self.new ≡ record self.old { faults = raised self.old.faults } }
         ensures small { self.old.faults ≤ most_count }
     {
@@ -98,12 +107,9 @@ impl Sink for Page {
     ghost faults = { λ p. p.faults };
 
     fn write(&mut self, piece: &[u8]) -> Result<usize, Failed> {
-        let room = PAGE - self.text.len();
-        if room == 0 {
-            return Err(self.fail());
+        match self.text.extend_from_slice(piece) {
+            Ok(()) => Ok(piece.len()),
+            Err(_) => Err(self.fail()),
         }
-        let count = piece.len().min(room);
-        self.text.extend_from_slice(&piece[..count]).unwrap();
-        Ok(count)
     }
 }

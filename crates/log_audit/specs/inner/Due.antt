@@ -10,7 +10,8 @@ use Rattle.log_audit.specs.declared.verdict.AuditFault.{AuditFault}
 use Rattle.log_audit.specs.declared.verdict.Why.{Why}
 use Rattle.log_audit.specs.declared.verdict.Why.TheVariants.{Spelling, Actor as ToActor}
 use Rattle.log_audit.specs.Audit.{IsAnswer, IsLogOf, IsWrongEntry, IsWrongLine}
-use Rattle.log_audit.specs.Limits.{Counts, log_limits}
+use Rattle.log_audit.specs.Limits.{Counts}
+use Rattle.log_audit.specs.declared.limits.TheConstants.{LOG_LIMITS}
 
 -- whether a line was due in place of a wrong one: not where that spells no entry, or its actor may not act
 abbrev pub has_due : Why → Bool
@@ -32,7 +33,7 @@ pub record IsDue (start : State) (bytes line : List ℕ) : Type 0 where
 
 -- no line is wrong
 abbrev pub IsRight : State → List ℕ → Type 0
-IsRight start bytes = (feeds desks : ℕ) × (entries : List Entry) × IsLogOf start feeds desks entries bytes × (IsTooLong log_limits bytes → ⊥)
+IsRight start bytes = (feeds desks : ℕ) × (entries : List Entry) × IsLogOf start feeds desks entries bytes × (IsTooLong LOG_LIMITS bytes → ⊥)
 
 -- the first wrong line is one in whose place none was due
 abbrev pub HasNoneDue : State → List ℕ → Type 0

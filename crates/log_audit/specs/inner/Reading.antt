@@ -14,7 +14,7 @@ use Rattle.log_audit.specs.Audit.{IsAnswer, IsLogOf}
 use Rattle.log_audit.specs.Audited.{FailsAfter}
 use Rattle.log_audit.specs.inner.Audited.{HasReadNoHead, IsWrongLineAfter, text_so_far}
 use Rattle.log_audit.specs.inner.Auditing.{IsAuditing, LeavesDue}
-use Rattle.log_audit.specs.Limits.{log_limits}
+use Rattle.log_audit.specs.declared.limits.TheConstants.{LOG_LIMITS}
 use Rattle.log_audit.specs.inner.LogLines.{IsAtEnd, IsNextLine}
 
 -- all of a log was read: the text of the board's history, and then some bytes that no LF ends
@@ -22,7 +22,7 @@ pub record HasReadAll (before left : Option (List ℕ)) (start : State) (auditor
   pub auditing : IsAuditing auditor
   pub start_is : auditor.board.start ≡ start
   pub log : IsLogOf auditor.board.start auditor.board.feeds auditor.board.desks auditor.board.history (text_so_far auditor.board)
-  pub few : length auditor.board.history < log_limits.lines
+  pub few : length auditor.board.history < LOG_LIMITS.lines
   pub end : IsAtEnd before left (text_so_far auditor.board) rest
 
 -- the text of a board's history was read, and then a wrong line, which has this number

@@ -1,5 +1,5 @@
 -- What is kept is kept where a request is accepted; and by each command.
-use Rattle.model_laws.proofs.Common.{◌≡◌, ℕ, ◌+◌, ◌≤◌, ◌&&◌, ◌||◌, ◌⊎◌, Bool, true, false, not, cond, inl, inr, List, [], ◌∷◌, ◌++◌, length, eqb, ltb-false, refl, sym, ap, subst, arith, length-append, map, max, Some, None, is_some, find, ◌==◌, nat_le, nat_lt, nat_eq, ⊤, IsDistinct, AllByRecursion, eqb-false, leb-false, or_parts, not-false, and_parts, IsDistinct-head, IsDistinct-tail, IsDistinct-cons, map-append, Command, Request, Cancel, At, Done, On, Off, Clock, Ask, Bad, Ride, Vehicle, find_vehicle, State, AcceptedRequest, accepted_request, placed_vehicle, is_node, with_accepted, request_step, cancel_step, at_step, done_step, duty_step, clock_step, ask_step, step, IsRide, ride_ids, IsStart, request_ids, promised_as, vehicle_of_request}
+use Rattle.model_laws.proofs.Common.{◌≡◌, ℕ, ◌+◌, ◌≤◌, ◌&&◌, ◌||◌, ◌⊎◌, Bool, true, false, not, cond, inl, inr, List, [], ◌∷◌, ◌++◌, length, eqb, ltb-false, refl, sym, ap, subst, arith, length-append, map, max, Some, None, is_some, find, ◌==◌, nat_le, nat_lt, nat_eq, ⊤, IsDistinct, AllByRecursion, eqb-false, leb-false, or_parts, not-false, and_parts, IsDistinct-head, IsDistinct-tail, IsDistinct-cons, map-append, Command, Request, Cancel, At, Done, On, Off, Clock, Ask, Bad, Ride, Vehicle, find_vehicle, State, AcceptedRequest, accepted_request, placed_vehicle, is_node, with_accepted, request_step, clock_step, ask_step, step, IsRide, ride_ids, IsStart, request_ids, promised_as, vehicle_of_request}
 use Rattle.ride_model.specs.declared.reply.RequestState.TheVariants.{Waiting as WaitingState}
 use Rattle.model_laws.proofs.plain.Among.{Among, among_push_back}
 use Rattle.model_laws.proofs.plain.Lists.{distinct-push}
@@ -142,7 +142,6 @@ ask_goes desks fed ok start s inv =
 pub step_goes : (desks fed : ℕ) (ok : ℕ → Type 0) (start s : State) (command : Command) → IsStart start → Inv desks fed ok start s
     → IsFine ok command
     → Goes desks (fed + 1) ok start s (step s command).state
-unfolding cancel_step at_step done_step duty_step
 step_goes desks fed ok start s (Request id from to seats latest longest chairs) begins inv fine =
     request_goes desks fed ok start s id from to seats latest longest chairs inv fine
 step_goes desks fed ok start s (Cancel id) begins inv fine = cancel_goes desks fed ok start s id begins inv (accepted_request s id) refl

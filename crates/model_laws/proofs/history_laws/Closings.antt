@@ -1,5 +1,5 @@
 -- A request is closed at most once.
-use Rattle.model_laws.proofs.Common.{◌≡◌, ℕ, ◌+◌, ◌-◌, ◌≤◌, ◌&&◌, ◌||◌, ◌⊎◌, Bool, true, false, not, cond, inl, inr, List, [], ◌∷◌, length, eqb, refl, sym, ◌∙◌, ap, subst, arith, map, Option, Some, None, is_some, count_by, ◌==◌, nat_le, nat_lt, IsSomeAnd, AllByRecursion, IsDistinct, eqb-true, sum_by-cons, IsDistinct-head, IsDistinct-tail, or-false, Actor, Feed, Desk, Command, Request, Cancel, At, Done, On, Off, Clock, Ask, Bad, Entry, Event, Fed, Finish, Opened, Committed, Abandoned, Outcome, Gone, Moved, Behind, Seat, OnMap, Late, RequestState, Waiting, InBatch, Aboard, Away, Cancelled, Kind, Pickup, Dropoff, Ride, Stop, Vehicle, is_in_batch, is_cancelled, was_cancelled, seat_of, outcome_by, outcome_of, outcomes_of, after_commit, is_away, CommitsBatch, IsLegalEvent, IsLegal, after_event, after_entry, without_ride, broken_of, travel, BatchCopy, State, AcceptedRequest, accepted_request, placed_vehicle, with_vehicle, with_request_state, open_batch_numbered, Answered, is_node, raised, freed, cancel_by_state, cancel_found, cancel_step, reported, report, report_driving, at_found, at_step, served, served_reply, served_state, done_at_stop, done_found, done_step, duty_found, duty_step, clock_step, ask_step, request_step, step, ride_ids, IsStart, is_closed, closings_in, closings_of, promised_as, IsInBatch}
+use Rattle.model_laws.proofs.Common.{◌≡◌, ℕ, ◌+◌, ◌-◌, ◌≤◌, ◌&&◌, ◌||◌, ◌⊎◌, Bool, true, false, not, cond, inl, inr, List, [], ◌∷◌, length, eqb, refl, sym, ◌∙◌, ap, subst, arith, map, Option, Some, None, is_some, count_by, ◌==◌, nat_le, nat_lt, IsSomeAnd, AllByRecursion, IsDistinct, eqb-true, sum_by-cons, IsDistinct-head, IsDistinct-tail, or-false, Actor, Feed, Desk, Command, Request, Cancel, At, Done, On, Off, Clock, Ask, Bad, Entry, Event, Fed, Finish, Opened, Committed, Abandoned, Outcome, Gone, Moved, Behind, Seat, OnMap, Late, RequestState, Waiting, InBatch, Aboard, Away, Cancelled, Kind, Pickup, Dropoff, Ride, Stop, Vehicle, is_in_batch, is_cancelled, was_cancelled, seat_of, outcome_by, outcome_of, outcomes_of, after_commit, is_away, CommitsBatch, IsLegalEvent, IsLegal, after_event, after_entry, without_ride, broken_of, travel, BatchCopy, State, AcceptedRequest, accepted_request, placed_vehicle, with_vehicle, with_request_state, open_batch_numbered, Answered, is_node, raised, freed, cancel_by_state, cancel_found, reported, report, report_driving, at_found, served, served_reply, served_state, done_at_stop, done_found, duty_found, clock_step, ask_step, request_step, step, ride_ids, IsStart, is_closed, closings_in, closings_of, promised_as, IsInBatch}
 use Rattle.ride_model.specs.declared.entry.Outcome.TheVariants.{Confirmed as ConfirmedState, Away as AwayState}
 use Rattle.ride_model.specs.declared.reply.RequestState.TheVariants.{Confirmed, Done as DoneState}
 use Rattle.model_laws.proofs.plain.Among.{Among, among_map_back}
@@ -161,7 +161,6 @@ ask_closes s q = answer_by (ClosesBy q Ask s) (nat_le 2000 s.asked) _ _ (λ _. i
 -- what each command closes
 step_closes : (desks fed : ℕ) (start s : State) (q : ℕ) (command : Command) → IsStart start → Inv desks fed any_id start s
     → ClosesBy q command s (step s command)
-unfolding cancel_step at_step done_step duty_step
 step_closes desks fed start s q (Request id from to seats latest longest chairs) begins inv = request_closes s q id from to seats latest
     longest chairs
 step_closes desks fed start s q (Cancel id) begins inv = cancel_closes s q id (accepted_request s id) refl

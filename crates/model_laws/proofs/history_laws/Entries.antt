@@ -1,5 +1,5 @@
 -- What is kept is kept by each entry, and holds at the start.
-use Rattle.model_laws.proofs.Common.{◌≡◌, ℕ, ◌+◌, cond, [], length, refl, sym, ◌∙◌, ap, subst, arith, map, Option, Some, None, nat_eq, IsSome, IsSomeAnd, IsDistinct, Actor, Feed, Desk, Ending, Event, Fed, Finish, Opened, Committed, Abandoned, Ride, Vehicle, CommitsBatch, IsLegalEvent, after_event, BatchCopy, State, AcceptedRequest, with_end, open_batch_numbered, IsLawful, visits_due, visit_of, stops_of, IsStart, is_fed}
+use Rattle.model_laws.proofs.Common.{◌∷◌, ◌++◌, ◌≡◌, ℕ, ◌+◌, cond, [], length, refl, sym, ◌∙◌, ap, subst, arith, map, Option, Some, None, nat_eq, IsSome, IsSomeAnd, IsDistinct, Actor, Feed, Desk, Ending, Event, Fed, Finish, Opened, Committed, Abandoned, Ride, Vehicle, CommitsBatch, IsLegalEvent, after_event, BatchCopy, State, AcceptedRequest, open_batch_numbered, IsLawful, visits_due, visit_of, stops_of, IsStart, is_fed}
 use Rattle.model_laws.proofs.plain.Among.{Among}
 use Rattle.model_laws.proofs.plain.Each.{of_all}
 use Rattle.model_laws.proofs.history_laws.Lookups.{distinct_nil}
@@ -54,7 +54,7 @@ start_inv desks ok start begins =
 
 -- an actor ends
 ended_goes : (desks fed : ℕ) (ok : ℕ → Type 0) (start s : State) (actor : Actor) (ending : Ending) → Inv desks fed ok start s
-    → Goes desks fed ok start s (with_end s actor ending)
+    → Goes desks fed ok start s (record s { ended = s.ended ++ (actor, ending) ∷ [] })
 ended_goes desks fed ok start s actor ending inv = record {
   inv = record {
     roads_stay = inv.roads_stay;
@@ -74,7 +74,7 @@ ended_goes desks fed ok start s actor ending inv = record {
     with_vehicles = inv.with_vehicles;
     versions_fit = inv.versions_fit;
     batches_fit = λ b there.
-        open_batch-later desks s (with_end s actor ending) b refl refl (omega arith) (omega arith) (all_earlier-same s.vehicles)
+        open_batch-later desks s (record s { ended = s.ended ++ (actor, ending) ∷ [] }) b refl refl (omega arith) (omega arith) (all_earlier-same s.vehicles)
         (λ ride within. record { state = within.state; accepted = within.accepted; in_or_cancelled = within.in_or_cancelled })
         (inv.batches_fit b there);
     numbers_differ = inv.numbers_differ;
@@ -109,9 +109,9 @@ pub event_goes : (feeds desks fed : ℕ) (ok : ℕ → Type 0) (start s : State)
 event_goes feeds desks fed ok start s (Feed feed) (Fed command reply) begins inv legal fine = step_goes desks fed ok start s command begins
     inv fine
 event_goes feeds desks fed ok start s (Feed feed) (Finish ending) begins inv legal fine =
-    no_more desks fed ok start s (with_end s (Feed feed) ending) (ended_goes desks fed ok start s (Feed feed) ending inv)
+    no_more desks fed ok start s (record s { ended = s.ended ++ ((Feed feed), ending) ∷ [] }) (ended_goes desks fed ok start s (Feed feed) ending inv)
 event_goes feeds desks fed ok start s (Desk desk) (Finish ending) begins inv legal fine =
-    no_more desks fed ok start s (with_end s (Desk desk) ending) (ended_goes desks fed ok start s (Desk desk) ending inv)
+    no_more desks fed ok start s (record s { ended = s.ended ++ ((Desk desk), ending) ∷ [] }) (ended_goes desks fed ok start s (Desk desk) ending inv)
 event_goes feeds desks fed ok start s (Desk desk) (Opened number time requests plans) begins inv (desk_in, may, names) fine =
     no_more desks fed ok start s (after_event s (Desk desk) (Opened number time requests plans))
     (opened_goes desks fed ok start s begins inv desk desk_in may)

@@ -1,5 +1,5 @@
 -- Each command keeps what was promised, but for the rides that its reply names as broken.
-use Rattle.model_laws.proofs.Common.{◌≡◌, ℕ, ◌+◌, ◌&&◌, ◌||◌, Bool, true, false, not, List, [], ◌++◌, eqb, refl, Option, Some, None, is_some, length, ◌==◌, nat_le, nat_lt, not-true, Command, Request, Cancel, At, Done, On, Off, Clock, Ask, Bad, Fed, RequestState, InBatch, Aboard, Away, Ride, Vehicle, without_ride, KeepsEvent, State, AcceptedRequest, accepted_request, placed_vehicle, is_node, raised, freed, cancel_by_state, cancel_found, duty_found, request_step, cancel_step, at_step, done_step, duty_step, clock_step, ask_step, step, IsRouted, IsStart}
+use Rattle.model_laws.proofs.Common.{◌≡◌, ℕ, ◌+◌, ◌&&◌, ◌||◌, Bool, true, false, not, List, [], ◌++◌, eqb, refl, Option, Some, None, is_some, length, ◌==◌, nat_le, nat_lt, not-true, Command, Request, Cancel, At, Done, On, Off, Clock, Ask, Bad, Fed, RequestState, InBatch, Aboard, Away, Ride, Vehicle, without_ride, KeepsEvent, State, AcceptedRequest, accepted_request, placed_vehicle, is_node, raised, freed, cancel_by_state, cancel_found, duty_found, request_step, clock_step, ask_step, step, IsRouted, IsStart}
 use Rattle.ride_model.specs.declared.reply.RequestState.TheVariants.{Waiting as WaitingState, Confirmed, Done as DoneState, Cancelled as CancelledState}
 use Rattle.model_laws.proofs.plain.Among.{among_filter_back}
 use Rattle.model_laws.proofs.Removal.{breaks_ride-without}
@@ -86,7 +86,6 @@ module _ (desks fed : ℕ) (ok : ℕ → Type 0) (start s : State) (begins : IsS
   -- each command
   pub step_keeps : (command : Command)
       → KeepsEvent s late (Fed command (step s command).reply) × AnswerKeeps s.settings.dwell late command (step s command)
-  unfolding cancel_step at_step done_step duty_step
   step_keeps (Request id from to seats latest longest chairs) = (tt, request_keeps id from to seats latest longest chairs)
   step_keeps (Cancel id) = (tt, cancel_keeps id (accepted_request s id))
   step_keeps (At vehicle node time) =

@@ -1,5 +1,5 @@
 -- Replies have a text.
-use Rattle.model_laws.proofs.Common.{◌≡◌, ◌≢◌, ℕ, ◌+◌, ◌-◌, ◌<◌, ◌≤◌, ◌^◌, ◌&&◌, ◌||◌, Bool, true, false, not, cond, List, [], ◌∷◌, length, eqb, ltb-false, leb-false, refl, subst, arith, Option, Some, None, is_some, ◌==◌, nat_le, nat_lt, All, filter, length-map, Command, Request, Cancel, At, Done, On, Off, Clock, Ask, Bad, Reply, OnMap, Late, Noted, Refused, RequestState, InBatch, Aboard, Away, Kind, Pickup, Dropoff, Ride, Stop, Vehicle, travel, breaks_ride, broken_of, State, AcceptedRequest, accepted_request, placed_vehicle, Answered, is_node, freed, cancel_by_state, cancel_found, cancel_step, reported, report, report_driving, at_found, at_step, served_reply, done_at_stop, done_found, done_step, duty_found, duty_step, clock_step, ask_step, request_step, step, IsSpelled, IsSpelledReply, IsNotedIfBad, IsStart, promised_as}
+use Rattle.model_laws.proofs.Common.{◌≡◌, ◌≢◌, ℕ, ◌+◌, ◌-◌, ◌<◌, ◌≤◌, ◌^◌, ◌&&◌, ◌||◌, Bool, true, false, not, cond, List, [], ◌∷◌, length, eqb, ltb-false, leb-false, refl, subst, arith, Option, Some, None, is_some, ◌==◌, nat_le, nat_lt, All, filter, length-map, Command, Request, Cancel, At, Done, On, Off, Clock, Ask, Bad, Reply, OnMap, Late, Noted, Refused, RequestState, InBatch, Aboard, Away, Kind, Pickup, Dropoff, Ride, Stop, Vehicle, travel, breaks_ride, broken_of, State, AcceptedRequest, accepted_request, placed_vehicle, Answered, is_node, freed, cancel_by_state, cancel_found, reported, report, report_driving, at_found, served_reply, done_at_stop, done_found, duty_found, clock_step, ask_step, request_step, step, IsSpelled, IsSpelledReply, IsNotedIfBad, IsStart, promised_as}
 use Rattle.ride_model.specs.declared.reply.RequestState.TheVariants.{Waiting as WaitingState, Confirmed, Done as DoneState, Cancelled as CancelledState}
 use Rattle.model_laws.proofs.plain.Among.{Among, among_map_back, among_filter_back, found_among}
 use Rattle.model_laws.proofs.plain.Each.{of_all, all_of}
@@ -179,7 +179,6 @@ ask_said s =
 -- the reply to each command
 pub step_said : (desks fed : ℕ) (start s : State) (command : Command) → IsStart start → Inv desks fed IsSpelled start s
     → IsSpelledReply (step s command).reply × IsNotedIfBad command (step s command).reply
-unfolding cancel_step at_step done_step duty_step
 step_said desks fed start s (Request id from to seats latest longest chairs) begins inv = request_said s id from to seats latest longest
     chairs
 step_said desks fed start s (Cancel id) begins inv = cancel_said desks fed start s id begins inv (accepted_request s id)

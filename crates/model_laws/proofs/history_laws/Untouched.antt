@@ -1,6 +1,6 @@
 -- What answers to commands and outcomes of batches leave as it was: who has ended, which batches are open, and how many
 -- were opened; and how many were asked for, but for an accepted ask.
-use Rattle.model_laws.proofs.Common.{◌≡◌, ℕ, ◌+◌, ◌-◌, Bool, true, false, cond, List, [], ◌∷◌, Option, Some, None, refl, ◌∙◌, is_some, not, nat_lt, nat_le, max, length, ◌&&◌, ◌||◌, ◌==◌, Command, Request, Cancel, At, Done, On, Off, Clock, Ask, Bad, Outcome, Gone, Moved, Behind, Seat, Reply, Asked, Now, OnMap, Late, Refused, RequestState, Waiting, InBatch, Aboard, Away, Cancelled, Kind, Pickup, Dropoff, Ride, Stop, Vehicle, confirm, outcome_of, seat_of, after_outcome, after_outcomes, broken_of, travel, BatchCopy, State, AcceptedRequest, accepted_request, placed_vehicle, Answered, cancel_by_state, cancel_found, cancel_step, freed, reported, report, report_driving, at_found, at_step, served_reply, done_at_stop, done_found, done_step, duty_found, duty_step, clock_step, ask_step, request_step, is_node, with_accepted, step}
+use Rattle.model_laws.proofs.Common.{◌≡◌, ℕ, ◌+◌, ◌-◌, Bool, true, false, cond, List, [], ◌∷◌, Option, Some, None, refl, ◌∙◌, is_some, not, nat_lt, nat_le, max, length, ◌&&◌, ◌||◌, ◌==◌, Command, Request, Cancel, At, Done, On, Off, Clock, Ask, Bad, Outcome, Gone, Moved, Behind, Seat, Reply, Asked, Now, OnMap, Late, Refused, RequestState, Waiting, InBatch, Aboard, Away, Cancelled, Kind, Pickup, Dropoff, Ride, Stop, Vehicle, confirm, outcome_of, seat_of, after_outcome, after_outcomes, broken_of, travel, BatchCopy, State, AcceptedRequest, accepted_request, placed_vehicle, Answered, cancel_by_state, cancel_found, freed, reported, report, report_driving, at_found, served_reply, done_at_stop, done_found, duty_found, clock_step, ask_step, request_step, is_node, with_accepted, step}
 use Rattle.ride_model.specs.declared.entry.Outcome.TheVariants.{Confirmed as ConfirmedOutcome, Away as AwayOutcome}
 use Rattle.ride_model.specs.declared.reply.Reply.TheVariants.{Waiting as WaitingState}
 use Rattle.ride_model.specs.declared.reply.RequestState.TheVariants.{Confirmed, Done as DoneState}
@@ -97,7 +97,7 @@ made s t reply ended batches opened asked = record { ended = ended; batches = ba
 
 -- each command
 pub leaves-step : (s : State) (command : Command) → Leaves s (step s command)
-unfolding request_step cancel_step at_step done_step duty_step clock_step ask_step
+unfolding request_step clock_step ask_step
 leaves-step s (Request id from to seats latest longest chairs) =
     either s (is_some (accepted_request s id)) _ _ (refuses s 1)
     (either s (not (is_node s.roads from && is_node s.roads to)) _ _ (refuses s 2)

@@ -1,5 +1,5 @@
 //! The replies of small feeds.
-#![tactic(auto, unfolding(ride_model::specs::Road::travel, ride_model::specs::Road::travel_within, ride_model::specs::Offers::offer_of, ride_model::specs::Step::request_step, ride_model::specs::Step::cancel_step, ride_model::specs::Step::at_step, ride_model::specs::Step::done_step, ride_model::specs::Step::duty_step, ride_model::specs::Step::clock_step, ride_model::specs::Step::ask_step))]
+#![tactic(auto, unfolding(ride_model::specs::Road::travel, ride_model::specs::Road::travel_within, ride_model::specs::Offers::offer_of, ride_model::specs::Step::request_step, ride_model::specs::Step::clock_step, ride_model::specs::Step::ask_step))]
 
 ghost use Rattle.std.specs.Prelude.{◌≡◌, [], ◌∷◌, ◌++◌};
 ghost use Rattle.ride_model.specs.declared.command.Command.TheVariants.{Request, Cancel, At, Done, Off, Clock, Ask};

@@ -8,7 +8,7 @@ use Rattle.session_run.specs.Replay.{IsReplay}
 use Rattle.log_audit.specs.declared.verdict.Verdict.{Verdict}
 use Rattle.log_audit.specs.declared.verdict.Verdict.TheVariants.{Yes}
 use Rattle.line_text.specs.line_reader.Limits.{IsTooLong}
-use Rattle.log_audit.specs.Limits.{log_limits}
+use Rattle.log_audit.specs.declared.limits.TheConstants.{LOG_LIMITS}
 use Rattle.log_audit.proofs.AuditLimits.{answered-yes, text-within}
 
 -- the feed of a replay, and the two of a service, gave no more commands than they may have lines
@@ -56,7 +56,7 @@ module _ (start : State) (feeds desks : ℕ) (before : List Entry) (riders drive
         (added-few start 2 _ drivers ran resumed.drivers_taken before resumed.more (few 2 (omega arith, omega (arith, high, two))) resumed.of_drivers)
   ]
 
-  pub resumption-within : IsTooLong log_limits (text_of start.settings.log feeds desks (before ++ resumed.more)) → ⊥
+  pub resumption-within : IsTooLong LOG_LIMITS (text_of start.settings.log feeds desks (before ++ resumed.more)) → ⊥
   resumption-within =
       text-within feeds desks start (before ++ resumed.more) resumed.history.begins resumed.history.legal resumed.history.text resumption-few
 
@@ -66,7 +66,7 @@ module _ (start : State) (feeds desks : ℕ) (before : List Entry) (riders drive
       answered-yes feeds desks start (before ++ resumed.more) totals answer resumed.history.begins resumed.history.legal resumed.history.text resumption-few
 
 pub replay-within : (start : State) (ran : Ran) (feed : Option (List ℕ)) (taken : List ℕ) (entries : List Entry) → IsReplay start ran feed taken entries
-    → IsTooLong log_limits (text_of start.settings.log 1 1 entries) → ⊥
+    → IsTooLong LOG_LIMITS (text_of start.settings.log 1 1 entries) → ⊥
 replay-within start ran feed taken entries is =
     text-within 1 1 start entries is.begins is.legal is.text (replay-few start ran feed taken entries is)
 
@@ -78,7 +78,7 @@ replay-yes start ran feed taken entries totals answer is =
 
 pub service-within : (start : State) (desks : ℕ) (riders drivers : FeedRun) (ran : Ran) (riders_taken drivers_taken : List ℕ) (entries : List Entry)
     → HasServed start 2 desks ran entries → IsFeedOf (new_feed start.settings.log) 1 riders ran riders_taken entries
-    → IsFeedOf (new_feed start.settings.log) 2 drivers ran drivers_taken entries → IsTooLong log_limits (text_of start.settings.log 2 desks entries) → ⊥
+    → IsFeedOf (new_feed start.settings.log) 2 drivers ran drivers_taken entries → IsTooLong LOG_LIMITS (text_of start.settings.log 2 desks entries) → ⊥
 service-within start desks riders drivers ran riders_taken drivers_taken entries has of_riders of_drivers =
     text-within 2 desks start entries has.begins has.legal has.text
     (service-few start desks riders drivers ran riders_taken drivers_taken entries has of_riders of_drivers)

@@ -15,7 +15,7 @@ ghost use Rattle.log_audit.specs.declared.verdict.Verdict.{Verdict};
 ghost use Rattle.log_audit.specs.declared.verdict.Verdict.TheVariants.{Yes};
 ghost use Rattle.log_audit.specs.Audit.{IsAnswer};
 ghost use Rattle.line_text.specs.line_reader.Limits.{IsTooLong};
-ghost use Rattle.log_audit.specs.Limits.{log_limits};
+ghost use Rattle.log_audit.specs.declared.limits.TheConstants.{LOG_LIMITS};
 
 /// The log of a replay, that of a service, and that of a session that went on from such a log, is within the limits of an audit,
 /// which answers yes with its totals. So it is however the session ended, and however often it went on.
@@ -23,7 +23,7 @@ pub fn logs_of_sessions_can_be_audited()
     ensures replayed { (start : State) (ran : Ran) (feed : Option (List ℕ))
         (taken : List ℕ) (entries : List Entry)
         → IsReplay start ran feed taken entries
-        → IsTooLong log_limits (text_of start.settings.log 1 1 entries) → ⊥ }
+        → IsTooLong LOG_LIMITS (text_of start.settings.log 1 1 entries) → ⊥ }
     ensures replay_audited { (start : State) (ran : Ran) (feed : Option (List ℕ))
         (taken : List ℕ) (entries : List Entry)
         (totals : Totals) (answer : Result Verdict AuditFault)
@@ -36,7 +36,7 @@ pub fn logs_of_sessions_can_be_audited()
         → HasServed start 2 desks ran entries
         → IsFeedOf (new_feed start.settings.log) 1 riders ran riders_taken entries
         → IsFeedOf (new_feed start.settings.log) 2 drivers ran drivers_taken entries
-        → IsTooLong log_limits (text_of start.settings.log 2 desks entries) → ⊥ }
+        → IsTooLong LOG_LIMITS (text_of start.settings.log 2 desks entries) → ⊥ }
     ensures service_audited { (start : State) (desks : ℕ) (riders drivers : FeedRun) (ran : Ran)
         (riders_taken drivers_taken : List ℕ) (entries : List Entry)
         (totals : Totals) (answer : Result Verdict AuditFault)
@@ -65,7 +65,7 @@ pub fn logs_of_sessions_can_be_audited()
         → HaveFewCommands feeds before
         → (resumed : HasResumed start feeds desks before riders drivers ran
         written_before written_after)
-        → IsTooLong log_limits
+        → IsTooLong LOG_LIMITS
         (text_of start.settings.log feeds desks (before ++ resumed.more)) → ⊥ }
     ensures resumption_audited { (start : State) (feeds desks : ℕ) (before : List Entry)
         (riders drivers : FeedRun) (ran : Ran) (written_before written_after : Option (List ℕ))

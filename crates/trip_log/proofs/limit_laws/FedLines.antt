@@ -1,5 +1,5 @@
 -- How many bytes the line of a command has.
-use Rattle.trip_log.proofs.Common.{ℕ, ◌+◌, ◌≤◌, ◌&&◌, ◌||◌, Bool, true, false, not, cond, List, [], ◌∷◌, ◌++◌, length, arith, codes, decimal, Option, Some, None, is_some, ◌==◌, nat_le, nat_lt, All, recursion_from_All, Actor, Feed, Desk, Command, Request, Cancel, At, Done, On, Off, Clock, Ask, Bad, Reply, Waiting, Cancelled, Freed, OnMap, Late, Picked, Dropped, Duty, Now, Asked, Noted, Refused, RequestState, InBatch, Aboard, Kind, Pickup, Dropoff, Stop, Vehicle, State, AcceptedRequest, accepted_request, placed_vehicle, Answered, is_node, freed, cancel_by_state, cancel_found, cancel_step, served_reply, done_at_stop, done_found, done_step, duty_found, duty_step, clock_step, ask_step, request_step, step, IsSpelled, IsSpelledActor, IsSpelledCommand, IsSpelledReply, actor_field, broken_fields, chairs_fields, command_fields, fed_fields, reply_fields}
+use Rattle.trip_log.proofs.Common.{if◌then◌else◌, ℕ, ◌+◌, ◌≤◌, ◌&&◌, ◌||◌, Bool, true, false, not, cond, List, [], ◌∷◌, ◌++◌, length, arith, codes, decimal, Option, Some, None, is_some, ◌==◌, nat_le, nat_lt, All, recursion_from_All, Actor, Feed, Desk, Command, Request, Cancel, At, Done, On, Off, Clock, Ask, Bad, Reply, Waiting, Cancelled, Freed, OnMap, Late, Picked, Dropped, Duty, Now, Asked, Noted, Refused, RequestState, InBatch, Aboard, Kind, Pickup, Dropoff, Stop, Vehicle, State, AcceptedRequest, accepted_request, placed_vehicle, Answered, is_node, freed, cancel_by_state, cancel_found, served_reply, done_at_stop, done_found, duty_found, clock_step, ask_step, request_step, step, IsSpelled, IsSpelledActor, IsSpelledCommand, IsSpelledReply, actor_field, broken_fields, command_fields, fed_fields, reply_fields}
 use Rattle.ride_model.specs.declared.reply.RequestState.TheVariants.{Waiting as WaitingState, Confirmed, Done as DoneState, Away, Cancelled as CancelledState}
 use Rattle.trip_log.proofs.limit_laws.Sizes.{size_of, size-append, size-map, digit-le, number-le}
 
@@ -9,7 +9,7 @@ actor-le (Feed number) fits = omega (arith, digit-le number fits.1)
 actor-le (Desk number) fits = omega (arith, digit-le number fits.1)
 
 -- a command has at most seven numbers
-chairs-le : (log chairs : ℕ) → IsSpelled chairs → size_of (chairs_fields log chairs) ≤ 19
+chairs-le : (log chairs : ℕ) → IsSpelled chairs → size_of (if log == 2 then decimal chairs ∷ [] else []) ≤ 19
 chairs-le log chairs small = by_version (log == 2)
   where
     by_version : (two : Bool) → size_of (cond two (decimal chairs ∷ []) []) ≤ 19
@@ -27,7 +27,7 @@ command-le log (Request id from to seats latest longest chairs) (a, b, c, d, e, 
       number-le latest e,
       number-le longest f,
       chairs-le log chairs g,
-      size-append (codes "request" ∷ decimal id ∷ decimal from ∷ decimal to ∷ decimal seats ∷ decimal latest ∷ decimal longest ∷ []) (chairs_fields log chairs),
+      size-append (codes "request" ∷ decimal id ∷ decimal from ∷ decimal to ∷ decimal seats ∷ decimal latest ∷ decimal longest ∷ []) (if log == 2 then decimal chairs ∷ [] else []),
     )
 command-le log (Cancel id) a = omega (arith, number-le id a)
 command-le log (At vehicle node time) (a, b, c) = omega (arith, number-le vehicle a, number-le node b, number-le time c)
@@ -143,7 +143,6 @@ both-le log command reply a b short =
 
 pub fed-le : (log : ℕ) (s : State) (command : Command) → IsSpelledCommand log command → IsSpelledReply (step s command).reply
     → size_of (fed_fields log command (step s command).reply) ≤ 397
-unfolding cancel_step done_step duty_step
 fed-le log s (Request id from to seats latest longest chairs) a b =
     both-le log (Request id from to seats latest longest chairs) (step s (Request id from to seats latest longest chairs)).reply a b
     (request-short s id from to seats latest longest chairs)

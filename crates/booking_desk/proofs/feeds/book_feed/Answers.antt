@@ -16,13 +16,13 @@ returns-in_default-clause-text g c = (
 pub returns-clause-text : goal.returns-clause-text
 returns-clause-text g c =
     let (taken, lines, run, put) = c.run_feed-stop.ensures.ran in
-    let still = run-still feed_limits _ _ c.run_feed-stop.result _ c.end.new.self.output.failed taken lines c.end.ensures.still_failed run in (
+    let still = run-still feed_limits _ _ c.run_feed-stop.result _ c.end.new.self.failed taken lines c.end.ensures.still_failed run in (
       taken,
       run.reads,
       subst (λ (r : Ran). IsBooked r (g.S.Source.left c.args.feed.now) taken (g.K.Sink.written c.args.out.now) (g.K.Sink.written c.end.new.out))
           (sym (c.ran_of-2.ensures ∙ ap (ran_of c.run_feed-stop.result) c.failed.ensures))
           (is-booked (g.S.Source.left c.args.feed.now) _ (g.K.Sink.written c.args.out.now) (g.K.Sink.written c.end.new.out) (g.K.Sink.faults c.args.out.now)
-          (g.K.Sink.faults c.end.new.out) taken lines c.run_feed-stop.result c.end.new.self.output c.end.ensures.nothing_left still
+          (g.K.Sink.faults c.end.new.out) taken lines c.run_feed-stop.result c.end.new.self c.end.ensures.nothing_left still
           (c.end.ensures.put (g.K.Sink.written c.args.out.now) (g.K.Sink.faults c.args.out.now) (run_text c.run_feed-stop.result lines) put)),
     )
 

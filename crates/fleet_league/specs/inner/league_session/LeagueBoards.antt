@@ -19,7 +19,7 @@ use Rattle.model_laws.specs.inner.Requests.{is_of}
 use Rattle.board_core.specs.Recorded.{Recorded, state_of}
 use Rattle.fleet_league.specs.Awards.{request_of}
 use Rattle.fleet_league.specs.inner.Companies.{CompanyState, report_count}
-use Rattle.fleet_league.specs.league_session.League.{LeagueAnswer, LeagueState}
+use Rattle.fleet_league.specs.league_session.League.{LeagueState}
 
 -- whether a command is a rider's: a request, or its cancellation
 abbrev pub is_riders : Command → Bool
@@ -89,8 +89,8 @@ pub record IsLeague (lines : ℕ) (boards : LeagueBoards) : Type 0 where
   pub second_fits : IsMember boards.desk boards.second lines
 
 -- a league has given an answer
-abbrev pub HasAnswered : LeagueBoards → LeagueBoards → LeagueAnswer → Reply → Type 0
-HasAnswered old new answer reply = answer ≡ record { league = league_of new; reply = reply }
+abbrev pub HasAnswered : LeagueBoards → LeagueBoards → LeagueState × Reply → Reply → Type 0
+HasAnswered old new answer reply = answer ≡ (league_of new, reply)
 
 -- what holds of every board: its settings are within their ranges and stay, and its vehicles differ
 pub record IsSound (board : Recorded) : Type 0 where

@@ -18,13 +18,13 @@ pub returns-clause-session : goal.returns-clause-session
 returns-clause-session g c =
     let (taken, lines, text, run, is_text, put) = c.run_feed-stop.ensures.ran in
     let feed = g.S.Source.left c.args.feed.now in
-    let still = run-still feed_limits _ _ c.run_feed-stop.result _ c.end.new.self.output.failed taken lines c.end.ensures.still_failed run in (
+    let still = run-still feed_limits _ _ c.run_feed-stop.result _ c.end.new.self.failed taken lines c.end.ensures.still_failed run in (
       taken,
       run.reads,
       subst (λ (r : Ran). IsLeagued c.args.roads.now c.args.settings c.args.first c.args.second r feed taken (g.K.Sink.written c.args.out.now)
           (g.K.Sink.written c.end.new.out)) (sym (c.ran_of-2.ensures ∙ ap (ran_of c.run_feed-stop.result) c.failed.ensures))
           (is-leagued c.args.roads.now c.args.settings c.args.first c.args.second feed _ (g.K.Sink.written c.args.out.now) (g.K.Sink.written c.end.new.out)
-          (g.K.Sink.faults c.args.out.now) (g.K.Sink.faults c.end.new.out) taken lines text c.run_feed-stop.result c.end.new.self.output
+          (g.K.Sink.faults c.args.out.now) (g.K.Sink.faults c.end.new.out) taken lines text c.run_feed-stop.result c.end.new.self
           (subst (λ (s : LeagueState). IsLeagueText s lines text) (c.in-Ok.ensures.start ∙ c.new-outset.ensures) is_text) c.end.ensures.nothing_left still
           (c.end.ensures.put (g.K.Sink.written c.args.out.now) (g.K.Sink.faults c.args.out.now) (ended_text c.run_feed-stop.result text) put)),
     )

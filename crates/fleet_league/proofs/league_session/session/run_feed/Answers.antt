@@ -1,32 +1,32 @@
-use Rattle.fleet_league.proofs.Common.{◌≡◌, ◌++◌, [], refl, sym, ap, subst, ◌∙◌, run-still, feed_limits, put-nothing, Scribe, LeagueState, league_of, head_line, IsLeagueText}
-use Rattle.fleet_league.proofs.league_session.TextRuns.{scribe-same}
+use Rattle.fleet_league.proofs.Common.{◌++◌, [], List, ℕ, refl, subst, run-still, HasRun, put-nothing, HasPut, league_of, head_line, said_in, TellsLines}
+use Rattle.line_text.specs.declared.line_reader.limits.Limits.{Limits}
+use Rattle.fleet_league.proofs.league_session.TextRuns.{told-last}
 use Rattle.fleet_league.proofs.league_session.session.run_feed.Goals as goal
 
-pub take_lines-stop-requires-clause-no_line : goal.take_lines-stop-requires-clause-no_line
-take_lines-stop-requires-clause-no_line g c κs longer = ap (λ (s : Scribe). s.lines) c.put_head.ensures.others ∙ c.requires.nothing_done.lines
-
-pub take_lines-stop-requires-clause-log : goal.take_lines-stop-requires-clause-log
-take_lines-stop-requires-clause-log g c κs longer =
-    ap (λ (s : Scribe). s.log) c.put_head.ensures.others ∙ c.requires.nothing_done.log_is
-    ∙ sym (ap (λ (s : Scribe). (league_of s.league).desk.settings.log) c.put_head.ensures.others)
-
-pub take_lines-stop-requires-clause-fits : goal.take_lines-stop-requires-clause-fits
-take_lines-stop-requires-clause-fits g c κs longer =
-    scribe-same c.args.scribe.now c.put_head.new.self c.put_head.ensures.others c.requires.nothing_done.fits
+pub take_lines-stop-requires-clause-nothing_taken : goal.take_lines-stop-requires-clause-nothing_taken
+take_lines-stop-requires-clause-nothing_taken g c κs longer = (c.args.scribe.now, (record { shared = c.type_bounds.sync-R.shared }, c.requires.nothing_told))
 
 pub returns-clause-ran : goal.returns-clause-ran
 returns-clause-ran g c =
-    let (taken, lines, run, told) = c.take_lines-stop.ensures.ran in
-    let same : league_of c.put_head.new.self.league ≡ league_of c.args.scribe.now.league
-    = ap (λ (s : Scribe). league_of s.league) c.put_head.ensures.others in
-    let head = c.put_head.ensures.put (g.K.Sink.written c.args.out.now) (g.K.Sink.faults c.args.out.now) []
-    (put-nothing (g.K.Sink.written c.args.out.now) (g.K.Sink.faults c.args.out.now) c.args.scribe.now.output c.requires.nothing_done.output) in (
+    let before = g.K.Sink.written c.args.out.now in
+    let faults = g.K.Sink.faults c.args.out.now in
+    let (taken, lines, text, run, took, put) = c.take_lines-stop.ensures.ran c.args.scribe.now
+    (record { shared = c.type_bounds.sync-R.shared }, c.requires.nothing_told) in
+    let (log, league, has) = told-last _ (λ s. s.log) (λ s. s.league) c.args.scribe.now c.take_lines-stop.new.taker lines text c.take_lines-stop.result took in
+    let head : HasPut before (g.K.Sink.written c.put.new.out) faults (g.K.Sink.faults c.put.new.out) c.put.new.self head_line
+    = subst (λ (l : List ℕ). HasPut before (g.K.Sink.written c.put.new.out) faults (g.K.Sink.faults c.put.new.out) c.put.new.self l) c.head_line.ensures
+    (c.put.ensures.put before faults [] (put-nothing before faults c.args.output.now c.requires.fresh)) in (
       taken,
       lines,
-      head_line ++ told.body,
-      run-still feed_limits _ _ c.take_lines-stop.result _ _ taken lines c.put_end.ensures.still_failed run,
-      subst (λ (s : LeagueState). IsLeagueText s lines (head_line ++ told.body)) same
-          (record { end = told.end; body = told.body; tells = told.tells; text_is = refl }),
-      c.put_end.ensures.put (g.K.Sink.written c.args.out.now) (g.K.Sink.faults c.args.out.now) (head_line ++ told.body)
-          (told.puts (g.K.Sink.written c.args.out.now) (g.K.Sink.faults c.args.out.now) head_line head),
+      head_line ++ text,
+      subst (λ (l : Limits). HasRun l (g.S.Source.left c.args.feed.now) (g.S.Source.left c.take_lines-stop.new.feed) c.take_lines-stop.result
+          c.put_end.new.output.failed taken lines) c.requires.limits
+          (run-still c.args.reader.now.limits _ _ c.take_lines-stop.result _ _ taken lines c.put_end.ensures.still_failed run),
+      record {
+        end = league_of league;
+        body = text;
+        tells = subst (λ (n : ℕ). TellsLines n (league_of c.args.scribe.now.league) (said_in n lines) (league_of league) text) has.log_is has.tells;
+        text_is = refl;
+      },
+      c.put_end.ensures.put before faults (head_line ++ text) (put before faults head_line head),
     )
