@@ -34,7 +34,7 @@ pub record Replays (m : Meaning) (reach : Option ℕ) (feed : FeedRun) (out : Su
   pub written : IsWrittenBy reach (start_of m) ran taken entries out.before out.after
 
 -- what the lines of a feed give was written, as far as it was read
-pub record Tells (feed : FeedRun) (status : ℕ) (IsTold : Ran → List ℕ → Type 0) : Type 0 where
+pub record RunsOver (feed : FeedRun) (status : ℕ) (IsTold : Ran → List ℕ → Type 0) : Type 0 where
   pub ran : Ran
   pub status_is : status ≡ status_of ran
   pub taken : List ℕ
@@ -44,11 +44,11 @@ pub record Tells (feed : FeedRun) (status : ℕ) (IsTold : Ran → List ℕ → 
 
 -- the plain feed of a feed of bookings, and the text of a league of two companies
 abbrev pub Books : FeedRun → Sunk → ℕ → Type 0
-Books feed out status = Tells feed status (λ ran taken. IsBooked ran feed.bytes taken out.before out.after)
+Books feed out status = RunsOver feed status (λ ran taken. IsBooked ran feed.bytes taken out.before out.after)
 
 abbrev pub PlaysLeague : Meaning → FeedRun → Sunk → ℕ → Type 0
 PlaysLeague m feed out status =
-    Tells feed status (λ ran taken. IsLeagued m.network m.settings m.vehicles m.second ran feed.bytes taken out.before out.after)
+    RunsOver feed status (λ ran taken. IsLeagued m.network m.settings m.vehicles m.second ran feed.bytes taken out.before out.after)
 
 -- a drill ran over no file: what was written is the line of a history of the plan's drill, or nothing where memory was wanting
 pub record Drills (plan : CityPlan) (out : Sunk) (status : ℕ) : Type 0 where
