@@ -1,3 +1,4 @@
 mod AskedAt
+mod Begun
 mod ClockRuns
 mod Looks

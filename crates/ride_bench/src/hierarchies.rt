@@ -1,11 +1,11 @@
 //! Rows of travel times by sweeps of a hierarchy, and by searches: the same sums, and how long they take.
-ghost use Rattle.std.specs.Prelude.{◌≡◌, ◌≤◌, ◌<◌, ◌*◌, length, All, IfOk, IfSome};
+ghost use Rattle.std.specs.Prelude.{◌≡◌, ◌≤◌, length, All, IfOk, IfSome};
 ghost use Rattle.adaptive_roads.specs.inner.road_hierarchy.Selection.{IsSelectionOf};
-ghost use Rattle.ride_bench.specs.Sources.{AreSources};
 ghost use Rattle.plan_trials.specs.trial_town.Streets.{IsPlace};
 
 use crate::grid::{Grid, drawn, generate};
 use crate::rows::{NEW_YORK, SMALL, roads_of, spread, sum_of};
+use crate::sources::Sources;
 use crate::stopwatch::Stopwatch;
 use adaptive_roads::contraction::Contraction;
 use adaptive_roads::road_hierarchy::{Hierarchy, Selected, SweepRoom};
@@ -59,24 +59,6 @@ fn made(alloc: Global, roads: &Roads) -> Result<Option<Hierarchy>, NoMemory>
     Hierarchy::new(alloc, contraction)
 }
 
-/// Rows from so many nodes, so far apart.
-#[derive(Clone, Copy)]
-struct Sources {
-    count: u32,
-    step: u32,
-}
-
-/// So many rows from nodes that are spread over the map.
-fn spread_sources(nodes: u32, count: u32) -> Sources
-    requires { (1 ≤ count) × (count ≤ nodes) }
-    ensures { AreSources nodes result }
-{
-    Sources {
-        count,
-        step: nodes / count,
-    }
-}
-
 /// The sum of the rows of these nodes by sweeps.
 fn sweep_rows(
     alloc: Global,
@@ -87,14 +69,14 @@ fn sweep_rows(
 ) -> Result<u64, NoMemory>
     requires selected { IsSelectionOf hierarchy.now selected.now }
     requires many { length selected.now.wanted ≡ many }
-    requires sources { AreSources hierarchy.now.nodes sources }
+    requires sources { sources.nodes ≡ hierarchy.now.nodes }
 {
     let places = hierarchy.nodes() as usize + selected.count();
     let mut row = vec![in alloc; None; many as usize]?;
     let mut room = SweepRoom::new(alloc, places)?;
     let mut sum = 0u64;
     for turn in 0..sources.count {
-        let source = 1 + turn * sources.step;
+        let source = sources.node(turn);
         hierarchy.row_in(selected, &mut room, source, &mut row);
         sum = sum.wrapping_add(sum_of(&row));
     }
@@ -109,13 +91,13 @@ fn search_rows(
     sources: Sources,
 ) -> Result<u64, NoMemory>
     requires wanted { All (IsPlace roads.now.nodes) wanted.now }
-    requires sources { AreSources roads.now.nodes sources }
+    requires sources { sources.nodes ≡ roads.now.nodes }
 {
     let mut row = vec![in alloc; None; wanted.len()]?;
     let mut scratch = Scratch::new(alloc, roads)?;
     let mut sum = 0u64;
     for turn in 0..sources.count {
-        let source = 1 + turn * sources.step;
+        let source = sources.node(turn);
         roads.rows(&mut scratch, source, Side::Out, wanted, &mut row);
         sum = sum.wrapping_add(sum_of(&row));
     }
@@ -131,7 +113,7 @@ fn sweep_wanted(
 ) -> Result<u64, NoMemory>
     requires wanted { All (IsPlace hierarchy.now.nodes) wanted.now }
     requires few { length wanted.now ≤ 500000 }
-    requires sources { AreSources hierarchy.now.nodes sources }
+    requires sources { sources.nodes ≡ hierarchy.now.nodes }
 {
     let selected = Selected::of(alloc, hierarchy, Side::Out, wanted)?;
     sweep_rows(alloc, hierarchy, &selected, wanted.len() as u32, sources)
@@ -150,7 +132,7 @@ fn compare(
     requires few { length wanted.now ≤ 500000 }
     requires count { (1 ≤ count) × (count ≤ roads.now.nodes) }
 {
-    let sources = spread_sources(roads.nodes(), count);
+    let sources = Sources::spread(roads.nodes(), count);
     let swept = sweep_wanted(alloc, hierarchy, wanted, sources)?;
     let searched = search_rows(alloc, roads, wanted, sources)?;
     ensure!(swept == searched, "sums {swept} and {searched}");
@@ -180,7 +162,7 @@ fn time_selected(
     requires nodes { 512 ≤ hierarchy.now.nodes }
 {
     let selecting = watch.elapsed(rt).as_micros();
-    let sources = spread_sources(hierarchy.nodes(), ROWS);
+    let sources = Sources::spread(hierarchy.nodes(), ROWS);
     let watch = Stopwatch::start(rt);
     let sum = sweep_rows(alloc, hierarchy, selected, many, sources)?;
     Ok(Swept {
@@ -218,7 +200,7 @@ fn time_searches(
     requires wanted { All (IsPlace roads.now.nodes) wanted.now }
 {
     let many = wanted.len();
-    let sources = spread_sources(roads.nodes(), SEARCHED);
+    let sources = Sources::spread(roads.nodes(), SEARCHED);
     let watch = Stopwatch::start(rt);
     let sum = search_rows(alloc, roads, wanted, sources)?;
     let micros = watch.elapsed(rt).as_micros();

@@ -13,6 +13,7 @@ mod places;
 mod reading;
 mod rows;
 mod shared;
+mod sources;
 mod stopwatch;
 
 use anyhow::{Error, Result, anyhow};

@@ -1,8 +1,9 @@
 //! Full rows of travel times on a generated map.
-ghost use Rattle.std.specs.Prelude.{◌≡◌, ◌≤◌, ◌<◌, length, All, IfOk};
+ghost use Rattle.std.specs.Prelude.{◌≡◌, ◌≤◌, length, All, IfOk};
 ghost use Rattle.plan_trials.specs.trial_town.Streets.{IsPlace};
 
 use crate::grid::{Grid, generate};
+use crate::sources::Sources;
 use crate::stopwatch::Stopwatch;
 use ride_model::Network;
 use road_times::{Roads, Scratch, Side};
@@ -32,9 +33,9 @@ pub(crate) fn spread(alloc: Global, nodes: u32, many: u32) -> Result<Vec<u32>, A
     ensures count { IfOk result (λ list. length list.items ≡ many) }
 {
     let mut list = Vec::new(alloc);
-    let step = nodes / many;
+    let sources = Sources::spread(nodes, many);
     for place in 0..many {
-        list.push(1 + place * step)?;
+        list.push(sources.node(place))?;
     }
     Ok(list)
 }
@@ -73,16 +74,16 @@ fn time_turns(
     row: &mut [Option<u64>],
     turns: u32,
 ) -> io::Result<u128>
-    requires nodes { (1 ≤ roads.now.nodes) × (roads.now.nodes ≤ 500000) }
+    requires nodes { roads.now.nodes ≤ 500000 }
     requires wanted { All (IsPlace roads.now.nodes) wanted.now }
     requires places { length row.old ≡ length wanted.now }
-    requires turns { (1 ≤ turns) × (turns ≤ 40) }
+    requires turns { (1 ≤ turns) × (turns ≤ roads.now.nodes) }
 {
     let mut scratch = Scratch::new(alloc, roads)?;
-    let step = roads.nodes() / turns;
+    let sources = Sources::spread(roads.nodes(), turns);
     let mut total = 0u128;
     for turn in 0..turns {
-        let source = 1 + turn * step;
+        let source = sources.node(turn);
         let watch = Stopwatch::start(rt);
         roads.rows(&mut scratch, source, Side::Out, wanted, row);
         let micros = watch.elapsed(rt).as_micros();
@@ -99,8 +100,8 @@ fn time_rows(
     roads: &Roads,
     turns: u32,
 ) -> io::Result<u128>
-    requires nodes { (1 ≤ roads.now.nodes) × (roads.now.nodes ≤ 500000) }
-    requires turns { (1 ≤ turns) × (turns ≤ 40) }
+    requires nodes { roads.now.nodes ≤ 500000 }
+    requires turns { (1 ≤ turns) × (turns ≤ roads.now.nodes) }
 {
     let wanted = spread(alloc, roads.nodes(), roads.nodes())?;
     let mut row = vec![in alloc; None; wanted.len()]?;
@@ -134,7 +135,7 @@ fn time_generated(
 ) -> io::Result<u128>
     requires nodes { (1 ≤ grid.nodes) × (grid.nodes ≤ 500000) }
     requires width { (1 ≤ grid.width) × (grid.width ≤ 500000) }
-    requires turns { (1 ≤ turns) × (turns ≤ 40) }
+    requires turns { (1 ≤ turns) × (turns ≤ grid.nodes) }
 {
     let roads = generated(rt, alloc, grid)?;
     time_rows(rt, alloc, &roads, turns)

@@ -262,9 +262,9 @@ fn share(alloc: Global, roads: &Roads) -> Result<(SharedBoard<'_>, Passes<'_>), 
     ensures second { IfOk result (λ r. MayBegin r.0 r.1.second) }
     ensures scribe { IfOk result (λ r. MayLook r.0 r.1.scribe) }
 {
-    let board = board(alloc, roads)?;
-    let (board, passes) = SharedBoard::start(alloc, board)?;
-    Ok((board, passes_of(passes)))
+    let fresh = board(alloc, roads)?;
+    let (shared, passes) = SharedBoard::start(alloc, fresh)?;
+    Ok((shared, passes_of(passes)))
 }
 
 // Prints how many commands a second were answered.
