@@ -1,5 +1,5 @@
 -- The names that most proofs of this crate cite, passed on from one place. Declares nothing.
-pub use Rattle.model_laws.proofs.Common.{All, All-contains, All-from_get_or, Bool, Bor, Contains, Contains-append_cases, Contains-append_left, Contains-append_right, Contains-from_any, Contains-get_or, Contains-push, Contains-push_cases, Decides-and, Decides-eqb, Decides-like, IsArc, IsDistinct, IsDistinct-from_apart, IsFalse, IsRoadMap, IsTravel, IsWalk, List, None, Option, RoadArc, RoadMap, Some, [], ap, arith, cases_eq, cases_lt, cond, drop, eq-eqb, eqb, eqb-true, false, false≢true, get_or, get_or-append-add, get_or-drop, get_or-map, get_or-set_other, get_or-set_same, get_or-take, get_or_append_left, get_or_default, get_or_past, get_or_push, get_or_read, if◌then◌else◌, inl, inr, is_some, length, length-append, length-drop, length-map, length-replicate, length-set, length-take, length_push, list_any, ltb, ltb-false, ltb-true, map, min, nat_lt, nat_tests, ne_eqb, nil_from_length, refl, replicate, same_lists, set, slice_eq-Decides, slice_range, subst, suc, sum, sum_by-append, sum_by-set, sum_by_more, sym, take, take_at, true, weight_of, zero, ℕ, ◌&&◌, ◌++◌, ◌+◌, ◌-◌, ◌<◌, ◌==◌, ◌↔◌, ◌∙◌, ◌∷◌, ◌≡◌, ◌≢◌, ◌≤◌, ◌⊎◌}
+pub use Rattle.model_laws.proofs.Common.{All, All-contains, All-from_get_or, Bool, Bor, Contains, Contains-append_cases, Contains-append_left, Contains-append_right, Contains-from_any, Contains-get_or, Contains-push, Contains-push_cases, Decides-and, Decides-eqb, Decides-like, IsArc, IsDistinct, IsDistinct-from_apart, IsFalse, IsRoadMap, IsTravel, IsWalk, List, None, Option, RoadArc, RoadMap, Some, [], ap, arith, cases_eq, cases_lt, cond, drop, eq-eqb, eqb, eqb-true, false, false≢true, get_or, get_or-append-add, get_or-drop, get_or-map, get_or-set_other, get_or-set_same, get_or-take, get_or_append_left, get_or_default, get_or_past, get_or_push, get_or_read, if◌then◌else◌, inl, inr, is_some, length, length-append, length-drop, length-map, length-replicate, length-set, length-take, length_push, list_any, ltb, ltb-false, ltb-true, map, min, nat_lt, nat_tests, ne_eqb, nil_from_length, refl, replicate, rules, same_lists, set, slice_eq-Decides, slice_range, subst, suc, sum, sum_by-append, sum_by-set, sum_by_more, sym, take, take_at, true, weight_of, zero, ℕ, ◌&&◌, ◌++◌, ◌+◌, ◌-◌, ◌<◌, ◌==◌, ◌↔◌, ◌∙◌, ◌∷◌, ◌≡◌, ◌≢◌, ◌≤◌, ◌⊎◌}
 unfoldable pub use Rattle.model_laws.proofs.Common.{travel}
 pub use Rattle.std.proofs.Common.{flat_map}
 pub use Rattle.std.proofs.lemmas.Map.Steps.{length-le_from_distinct_below}

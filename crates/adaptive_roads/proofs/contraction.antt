@@ -6,3 +6,4 @@ pub mod Witnesses
 pub mod Growths
 pub mod Views
 pub mod Pruning
+pub mod Beginning

@@ -130,10 +130,10 @@ impl Contraction {
         let arcs = map.arcs().len();
         // A city of crossing streets comes to 2.6 links an arc.
         let most_links = (arcs + arcs + arcs).min(MOST_LINKS);
-        let graph = graph_of(alloc, map, most_links)?;
-        let witness = Witness::new(alloc, map.nodes())?;
-        let queue = first_candidates(alloc, map)?;
         let depths = vec![in alloc; 0u32; map.nodes() as usize + 1]?;
+        let queue = first_candidates(alloc, map)?;
+        let witness = Witness::new(alloc, map.nodes())?;
+        let graph = graph_of(alloc, map, most_links)?;
         Ok(Contraction {
             graph,
             witness,

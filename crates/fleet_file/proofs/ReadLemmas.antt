@@ -1,5 +1,9 @@
 -- What the reader has taken after one more line, and what the text gives then.
-use Rattle.fleet_file.proofs.Common.{◌≡◌, ◌≢◌, false, ℕ, ◌+◌, ◌≤◌, Option, Some, None, IfSome, List, [], ◌∷◌, ◌++◌, length, Result, Ok, Err, MatchResult, refl, ap, sym, ◌∙◌, some_bytes, words_of, ended_lines, lines_of, after_lines, after_lines-push, text_value-refused, text_value-too_long, text_value-taken, FleetError, NoMemory, ReadFault, TooLong, FleetSoFar, after_words, fleet_format, fleet_text, settings_of, HasTaken, IsWithin, Gives, Refuses, is_read_fault, said}
+use Rattle.fleet_file.proofs.Common.{◌≡◌, ◌≢◌, false, ℕ, ◌+◌, ◌≤◌, Option, Some, None, IfSome, List, [], ◌∷◌, ◌++◌, length, Result, Ok, Err, MatchResult, refl, ap, sym, subst, ◌∙◌, some_bytes, words_of, ended_lines, lines_of, after_lines, after_lines-push, text_value-refused, text_value-too_long, text_value-taken, FleetError, NoMemory, ReadFault, TooLong, FleetSoFar, after_words, fleet_format, fleet_text, settings_of, HasTaken, IsWithin, Gives, Refuses, is_read_fault, said}
+use Rattle.std.specs.Prelude.{IsOk}
+use Rattle.line_text.specs.Texts.{after_ended}
+use Rattle.ride_model.specs.declared.settings.Settings.{Settings}
+use Rattle.ride_model.specs.declared.vehicle.Vehicle.{Vehicle}
 use Rattle.line_text.specs.inner.Reading.{AreFirst, GoesOn, counted_lines}
 use Rattle.fleet_file.specs.declared.lines.FleetLines.{FleetLines}
 use Rattle.fleet_file.proofs.NamedLemmas.{after_all-no_fault}
@@ -59,3 +63,16 @@ line-no_fault first lines e refuses same =
 pub not-fault : (e : FleetError) → e ≢ ReadFault → is_read_fault {T = Unit {0}} (Err e) ≡ false
 not-fault ReadFault other = absurd (other refl)
 not-fault _ other = refl
+
+-- what the bytes give that were read, where those are all
+pub told-whole : (nodes : ℕ) (left : Option (List ℕ)) (bytes : List ℕ) (answer : Settings × List Vehicle) →
+    IfSome left (λ all. bytes ≡ all) → fleet_text nodes bytes ≡ Ok answer → IfSome left (λ all. fleet_text nodes all ≡ Ok answer)
+told-whole nodes None bytes answer whole is = tt
+told-whole nodes (Some all) bytes answer whole is = ap (fleet_text nodes) (sym whole) ∙ is
+
+-- the lines that were taken are no faulty ones
+pub taken-ended : (nodes : ℕ) (first now : FleetLines) (bytes : List ℕ) → first.nodes ≡ nodes → HasTaken first (ended_lines bytes) now →
+    IsOk (after_ended (fleet_format nodes) bytes)
+taken-ended nodes first now bytes among taken =
+    subst (λ (n : ℕ). IsOk (after_ended (fleet_format n) bytes)) among
+    (subst (λ (r : Result FleetSoFar FleetError). IsOk r) (sym taken.after) refl)

@@ -6,6 +6,7 @@ pub mod Reaching
 pub mod Steps
 pub mod Paths
 pub mod Adding
+pub mod Beginning
 pub mod Certificates
 pub mod Filling
 pub mod Gathering

@@ -32,12 +32,25 @@ pub(crate) struct Path {
 
 /// How far the columns are from the root, from which rows they are reached, and at which step each was settled: 0 while
 /// it is open.
-#[derive(Drop)]
 pub(crate) struct Search {
     pub(crate) distances: Vec<u64>,
     pub(crate) sources: Vec<u32>,
     pub(crate) ranks: Vec<u32>,
     pub(crate) steps: u32,
+}
+
+impl Drop for Search {
+    fn drop(self) {
+        let Search {
+            distances,
+            sources,
+            ranks,
+            steps: _,
+        } = self;
+        drop(distances);
+        drop(sources);
+        drop(ranks);
+    }
 }
 
 impl Search {

@@ -1,5 +1,5 @@
 //! The rows of a grid, one after another.
-ghost use Rattle.std.specs.Prelude.{◌+◌, ◌<◌, ◌≤◌, IfOk};
+ghost use Rattle.std.specs.Prelude.{◌+◌, ◌<◌, ◌≤◌, IfOk, OnOk};
 ghost use Rattle.ride_model.specs.declared.limits.TheConstants.{GREATEST_PENALTY};
 ghost use Rattle.dual_check.specs.Cells.{IsGrid};
 ghost use Rattle.dual_check.specs.Grid.{CertifiesPairing, IsLeastPairing};
@@ -35,6 +35,25 @@ fn add_row(
     matches.take_over(search, path.exit);
 }
 
+/// Adds all rows to an empty pairing.
+fn add_rows(
+    alloc: Global,
+    grid: &Grid,
+    penalty: u64,
+    matches: &mut Matches,
+    duals: &mut Duals,
+) -> Result<(), NoMemory>
+    requires penalty_limit { penalty ≤ GREATEST_PENALTY }
+    requires partial { IsPartial grid.now penalty 0 matches.old duals.old }
+    ensures { OnOk result (IsPartial grid.now penalty grid.now.rows matches.new duals.new) }
+{
+    let mut search = Search::new(alloc, grid.columns())?;
+    for row in 0..grid.rows() {
+        add_row(grid, penalty, row, matches, duals, &mut search);
+    }
+    Ok(())
+}
+
 /// A least pairing of a grid, with prices that certify it, where each row may be left out at the penalty.
 pub fn solve_grid(alloc: Global, grid: &Grid, penalty: u64) -> Result<Paired, NoMemory>
     requires penalty_limit { penalty ≤ GREATEST_PENALTY }
@@ -44,10 +63,7 @@ pub fn solve_grid(alloc: Global, grid: &Grid, penalty: u64) -> Result<Paired, No
 {
     let mut matches = Matches::new(alloc, grid.rows(), grid.columns())?;
     let mut duals = Duals::new(alloc, grid.rows(), grid.columns())?;
-    let mut search = Search::new(alloc, grid.columns())?;
-    for row in 0..grid.rows() {
-        add_row(grid, penalty, row, &mut matches, &mut duals, &mut search);
-    }
+    add_rows(alloc, grid, penalty, &mut matches, &mut duals)?;
     Ok(Paired {
         columns: ColumnList::of(matches.columns),
         prices: NumberList::of(duals.prices),

@@ -1,5 +1,7 @@
 -- What a reader of lines has read after one more piece.
-use Rattle.line_text.proofs.Common.{◌≡◌, ◌≢◌, ℕ, ◌+◌, ◌-◌, ◌^◌, ◌<◌, ◌≤◌, min, nat_lt, Bool, true, false, cond, Option, Some, None, IfSome, List, [], ◌∷◌, ◌++◌, length, take, drop, Result, Ok, Err, MatchResult, refl, ap, sym, subst, ◌∙◌, arith, append_assoc, append-nil, length-append, length-take-le, length-drop, take-append-drop, take-take, le-ltb, take_rest, take-add, take-append-add, Reads, Reads-to_end, Reads-told, CutterState, HasTaken, EndsLine, ShowsRest, is_over_long, ended_after, ended_lines, last_line, lines_of, rest_of, AreFirst, GoesOn, HasRead, IsRefused, counted_lines}
+use Rattle.line_text.proofs.Common.{◌≡◌, ◌≢◌, ℕ, ◌+◌, ◌-◌, ◌^◌, ◌<◌, ◌≤◌, ◌==◌, eqb-false, min, nat_lt, Bool, true, false, cond, Option, Some, None, IfSome, List, [], ◌∷◌, ◌++◌, length, take, drop, Result, Ok, Err, MatchResult, refl, ap, sym, subst, ◌∙◌, arith, append_assoc, append-nil, length-append, length-take-le, length-drop, take-append-drop, take-take, le-ltb, take_rest, take-add, take-append-add, Reads, Reads-to_end, Reads-told, CutterState, HasTaken, EndsLine, ShowsRest, is_over_long, ended_after, ended_lines, last_line, lines_of, rest_of, AreFirst, GoesOn, HasRead, IsRefused, counted_lines}
+use Rattle.line_text.specs.declared.reading.ReadError.{ReadError}
+use Rattle.line_text.specs.declared.reading.ReadError.TheVariants.{NoMemory, ReadFault, Refused, TooLong}
 use Rattle.line_text.proofs.LineLemmas.{ended_lines-append, length-ended_after-le, last_line-some}
 
 -- the number of a line of a text whose bytes can be counted
@@ -167,3 +169,15 @@ goes-on (Some all) after bytes buffer room count less within reads =
 pub full-length : (bytes buffer : List ℕ) (room most : ℕ) → room ≤ length buffer → length bytes + room ≡ most → length (bytes ++ take room buffer) ≡ most
 full-length bytes buffer room most within full =
     let part : length (take room buffer) ≡ room = length-take-le room buffer within in simp length-append (omega arith)
+
+-- the answers of a reader by number
+abbrev kind : {T E : Type 0} → Result T (ReadError E) → ℕ
+kind (Ok _) = 0
+kind (Err (Refused _)) = 1
+kind (Err TooLong) = 2
+kind (Err ReadFault) = 3
+kind (Err NoMemory) = 4
+
+-- no answer is two
+pub differ : {T E : Type 0} (a b : Result T (ReadError E)) → a ≡ b → (kind a == kind b) ≡ false → ⊥
+differ a b same apart = eqb-false (kind a) (kind b) apart (ap kind same)

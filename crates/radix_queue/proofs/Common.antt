@@ -1,5 +1,5 @@
 -- The names that most proofs of this crate cite, passed on from one place. Declares nothing.
-pub use Rattle.std.proofs.Common.{sym, arith, length, subst, ◌≡◌, ◌∙◌, ◌<◌, ap, ℕ, None, Some, [], refl, ◌+◌, ◌-◌, ◌≢◌, ◌≤◌, Option, List, inl, inr, set, suc, zero, Contains, slice_get, ◌∷◌, get_or-set_same, is_some, get_or, nat_eq, ◌/◌, ◌^◌, replicate, bit_xor, false, length-set, true, ◌%◌, true≢false, get_or-set_other, pow-add, IfNone, IsSome, sum_by}
+pub use Rattle.std.proofs.Common.{sym, arith, length, subst, ◌≡◌, ◌∙◌, ◌<◌, ap, ℕ, None, Some, [], refl, ◌+◌, ◌-◌, ◌≢◌, ◌≤◌, Option, List, inl, inr, set, suc, zero, Contains, slice_get, ◌∷◌, get_or-set_same, is_some, get_or, nat_eq, ◌/◌, ◌^◌, replicate, bit_xor, false, length-set, true, ◌%◌, true≢false, get_or-set_other, pow-add, IfNone, IsSome, sum_by, rules}
 pub use Rattle.std.proofs.lemmas.Bool.{cases_lt, cases_eq, cases_order}
 pub use Rattle.std.proofs.lemmas.List.{get_or_past, length-replicate}
 pub use Rattle.std.proofs.lemmas.Nat.{le-div, leading_top, xor_lt}

@@ -1,5 +1,5 @@
 -- how the places of the nodes follow what is done to the buckets, the keys and the floor
-use Rattle.radix_queue.proofs.Common.{◌≡◌, ◌≢◌, ℕ, zero, suc, ◌/◌, ◌^◌, ◌<◌, ◌≤◌, List, [], ◌∷◌, length, set, refl, sym, ap, ◌∙◌, subst, arith, inl, inr, length-set, nat_eq, Option, Some, None, IsSome, is_some, slice_get, Contains, IsDistinct, cases_eq, cases_lt, cases_order, get_or_past, get_or-set_same, get_or-set_other, Family, list_at, IsHeld, IsFamily, IsSameSize, without, Contains-from_get, Contains-nil, Contains-here, Contains-there, Contains-cons_cases, Contains-without, Contains-left, without-first, IsBucket, IsPlaced, IsLowest, IsLeastPlaced, Stands, Waits, key_in, opened_by}
+use Rattle.radix_queue.proofs.Common.{◌≡◌, ◌≢◌, ℕ, zero, suc, ◌/◌, ◌^◌, ◌<◌, ◌≤◌, List, [], ◌∷◌, length, set, refl, sym, ap, ◌∙◌, subst, arith, inl, inr, length-set, length-replicate, replicate, nat_eq, Option, Some, None, IsSome, is_some, slice_get, Contains, IsDistinct, cases_eq, cases_lt, cases_order, get_or_past, get_or-set_same, get_or-set_other, Family, list_at, IsHeld, IsFamily, IsSameSize, without, Contains-from_get, Contains-nil, Contains-here, Contains-there, Contains-cons_cases, Contains-without, Contains-left, without-first, IsBucket, IsPlaced, IsLowest, IsLeastPlaced, Stands, Waits, key_in, opened_by}
 use Rattle.radix_queue.proofs.Counts.{key_in-within}
 use Rattle.radix_queue.proofs.Radix.{agrees-below, bucket-above, bucket-stays, bucket-low, bucket-unique, bucket-zero}
 
@@ -15,6 +15,30 @@ past-empty buckets long bucket past = get_or_past buckets.lists bucket [] (omega
 
 empty-without : (xs : List ℕ) (x : ℕ) → xs ≡ [] → Contains xs x → ⊥
 empty-without xs x e c = Contains-nil x (subst (λ ys. Contains ys x) e c)
+
+-- no node has a key
+no-key : (n x : ℕ) → key_in (replicate n None) x ≡ None
+no-key zero x = refl
+no-key (suc n) zero = refl
+no-key (suc n) (suc x) = no-key n x
+
+-- a queue begins with no node
+pub placed-none : (buckets : Family) (keys : List (Option ℕ)) (n : ℕ) → IsFamily buckets → length buckets.lists ≡ 65 → buckets.nodes ≡ n
+    → ((bucket : ℕ) → list_at buckets bucket ≡ []) → keys ≡ replicate n None → IsPlaced buckets keys 0 65 (length keys)
+placed-none buckets keys n family lists nodes none are =
+    let bare : (x : ℕ) → key_in keys x ≡ None = λ x. ap (λ ks. key_in ks x) are ∙ no-key n x in
+    record {
+      family = family;
+      lists = lists;
+      nodes = nodes ∙ sym (ap (λ ks. length ks) are ∙ length-replicate n no_key);
+      stands = λ bucket node differs has. absurd (empty-without (list_at buckets bucket) node (none bucket) has);
+      waits = λ node has. absurd (empty-without (list_at buckets 65) node (none 65) has);
+      listed = λ node key differs e. absurd (some-none (key_in keys node) key e (bare node));
+      above = λ node key e. absurd (some-none (key_in keys node) key e (bare node));
+    }
+  where
+    no_key : Option ℕ
+    no_key = None
 
 pub held-within : (buckets : Family) → length buckets.lists ≡ 65 → (bucket x : ℕ) → Contains (list_at buckets bucket) x → bucket < 65
 held-within buckets long bucket x c =

@@ -49,8 +49,8 @@ impl RadixQueue {
         ensures empty { IfOk result (λ queue. queue.keys ≡ replicate n None) }
         ensures floor { IfOk result (λ queue. queue.floor ≡ 0) }
     {
-        let buckets = Buckets::new(alloc, n)?;
         let keys = vec![in alloc; None; n as usize]?;
+        let buckets = Buckets::new(alloc, n)?;
         Ok(RadixQueue {
             buckets,
             keys,

@@ -58,9 +58,9 @@ impl Search {
         ensures sized { IfOk result (λ search. length search.labels.items ≡ places) }
         ensures ready { IfOk result IsReady }
     {
-        let queue = RadixQueue::new(alloc, places)?;
         let labels = vec![in alloc; None; places as usize]?;
         let settled = vec![in alloc; 0; places as usize]?;
+        let queue = RadixQueue::new(alloc, places)?;
         Ok(Search {
             queue,
             labels,

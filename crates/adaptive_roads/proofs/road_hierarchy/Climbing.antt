@@ -63,6 +63,29 @@ pub record IsClimbing (levels starts : List ℕ) (uppers : List Upper) (first bo
   pub attained : (level : ℕ) → node_at labels level < never → level < length labels
       → (level ≡ first) ⊎ IsStep levels starts uppers labels bound level
 
+-- at first no level but one is reached
+pub climbing-begun : (levels starts : List ℕ) (uppers : List Upper) (first : ℕ) (cleared : List ℕ) → first < length cleared
+    → ((level : ℕ) → level < length cleared → node_at cleared level ≡ never) → IsClimbing levels starts uppers first first (set cleared first 0)
+climbing-begun levels starts uppers first cleared inside bare =
+    let first_is : node_at (set cleared first 0) first ≡ 0 = get_or-set_same cleared first 0 0 inside in
+    record {
+      low = λ level. elim (cases_eq level first) [
+        | inl same ↦ omega (arith, first_is, ap (node_at (set cleared first 0)) same)
+        | inr differs ↦ elim (cases_lt level (length cleared)) [
+          | inl lt ↦ omega (arith, get_or-set_other cleared first level 0 0 differs, bare level lt)
+          | inr ge ↦ omega (arith, get_or-set_other cleared first level 0 0 differs, get_or_past cleared level 0 ge)
+        ]
+      ];
+      begun = first_is;
+      before = λ level lower. get_or-set_other cleared first level 0 0 (omega arith) ∙ bare level (omega arith);
+      stepped = λ level place lower from within. absurd (omega arith);
+      attained = λ level reached within. elim (cases_eq level first) [
+        | inl same ↦ inl same
+        | inr differs ↦
+            absurd (omega (arith, get_or-set_other cleared first level 0 0 differs, bare level (omega (arith, within, length-set cleared first 0))))
+      ];
+    }
+
 -- a level that was reached is done once the arcs of its part are relaxed
 pub climbing-more : (levels starts : List ℕ) (uppers part : List Upper) (count first bound : ℕ) (old new : List ℕ)
     → AreParts count starts (length uppers) → bound < count → first ≤ bound

@@ -1,5 +1,5 @@
 // A contraction begins: the graph of the map, and the nodes in the order of their degrees.
-ghost use Rattle.std.specs.Prelude.{◌≡◌, ℕ, ◌+◌, ◌≤◌, length, map, take, IfOk};
+ghost use Rattle.std.specs.Prelude.{◌≡◌, ℕ, ◌+◌, ◌≤◌, [], length, map, take, IfOk, OnOk};
 ghost use Rattle.adaptive_roads.specs.inner.contraction.Graph.{IsGraph};
 
 use crate::contraction::BIAS;
@@ -7,6 +7,21 @@ use crate::contraction::graph::Graph;
 use radix_queue::RadixQueue;
 use ride_model::Network;
 use std::alloc::{AllocError, Global};
+
+/// Adds the arcs of a map to a graph of its nodes that has none.
+fn add_arcs(graph: &mut Graph, map: &Network) -> Result<(), AllocError>
+    requires graph { IsGraph graph.old }
+    requires nodes { graph.old.nodes ≡ map.now.nodes }
+    requires arcs { graph.old.arcs.items ≡ [] }
+    ensures { OnOk result (IsGraph graph.new × (graph.new.nodes ≡ map.now.nodes)
+        × (graph.new.arcs.items ≡ map.now.arcs)
+        × (graph.new.order.items ≡ graph.old.order.items)) }
+{
+    for arc in map.arcs() {
+        graph.add(*arc)?;
+    }
+    Ok(())
+}
 
 /// The graph of a map.
 pub(crate) fn graph_of(alloc: Global, map: &Network, room: usize) -> Result<Graph, AllocError>
@@ -16,9 +31,7 @@ pub(crate) fn graph_of(alloc: Global, map: &Network, room: usize) -> Result<Grap
     ensures order { IfOk result (λ graph. length graph.order.items ≡ 0) }
 {
     let mut graph = Graph::new(alloc, map.nodes(), room)?;
-    for arc in map.arcs() {
-        graph.add(*arc)?;
-    }
+    add_arcs(&mut graph, map)?;
     Ok(graph)
 }
 

@@ -19,11 +19,22 @@ pub(crate) struct Reached {
 }
 
 /// What witness searches need. A time counts in its own round alone, so that a search begins without a sweep of the last.
-#[derive(Drop)]
 pub(crate) struct Witness {
     pub(crate) queue: RadixQueue,
     pub(crate) reached: Vec<Reached>,
     pub(crate) round: u32,
+}
+
+impl Drop for Witness {
+    fn drop(self) {
+        let Witness {
+            queue,
+            reached,
+            round: _,
+        } = self;
+        drop(queue);
+        drop(reached);
+    }
 }
 
 impl Witness {

@@ -1,6 +1,12 @@
 use Rattle.adaptive_roads.proofs.Common.{◌≡◌, length, subst, arith, length-set}
-use Rattle.adaptive_roads.proofs.road_hierarchy.Climbing.{IsClimbing, climbing-more, climbing-over}
+use Rattle.adaptive_roads.proofs.road_hierarchy.Climbing.{IsClimbing, climbing-begun, climbing-more, climbing-over}
 use Rattle.adaptive_roads.proofs.road_hierarchy.climb.climb.Goals as goal
+
+pub loop-level-init : goal.loop-level-init
+loop-level-init c =
+    let d = c.args.ascents.now in
+    climbing-begun c.args.levels.now d.starts.items d.uppers.items c.args.first c.clear.new.labels (omega (arith, c.requires.first, c.clear.auto.labels))
+    (λ level low. c.clear.ensures level (omega (arith, low, c.clear.auto.labels)))
 
 pub loop-level-preserved : goal.loop-level-preserved
 loop-level-preserved c =

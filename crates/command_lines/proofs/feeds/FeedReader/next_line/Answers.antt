@@ -77,3 +77,28 @@ returns-in-Err-clause-given g c =
           (stopped old old (g.S.Source.left c.next.new.source) commands bytes more has
           (subst (λ (r : FeedState). IsForm r.form) (sym c.self.view_is) c.requires.form) refl c.in-Err.stop (step has.cut has.given)),
     )
+
+pub returns-in-Ok-Line-clause-form : goal.returns-in-Ok-Line-clause-form
+returns-in-Ok-Line-clause-form g c = ap (λ (r : FeedState). r.form) c.self.view_is
+
+pub returns-in-Ok-Line-clause-faults : goal.returns-in-Ok-Line-clause-faults
+returns-in-Ok-Line-clause-faults g c = c.in-Ok-Line.ensures.faults
+
+pub returns-in-Ok-Unfinished-clause-form : goal.returns-in-Ok-Unfinished-clause-form
+returns-in-Ok-Unfinished-clause-form g c = ap (λ (r : FeedState). r.form) c.self.view_is
+
+pub returns-in-Ok-Unfinished-clause-faults : goal.returns-in-Ok-Unfinished-clause-faults
+returns-in-Ok-Unfinished-clause-faults g c = c.in-Ok-Unfinished.ensures.faults
+
+pub returns-in-Ok-End-clause-form : goal.returns-in-Ok-End-clause-form
+returns-in-Ok-End-clause-form g c = ap (λ (r : FeedState). r.form) c.self.view_is
+
+pub returns-in-Ok-End-clause-faults : goal.returns-in-Ok-End-clause-faults
+returns-in-Ok-End-clause-faults g c = c.in-Ok-End.ensures.faults
+
+pub returns-in-Err-clause-form : goal.returns-in-Err-clause-form
+returns-in-Err-clause-form g c = ap (λ (r : FeedState). r.form) c.self.view_is
+
+pub returns-in-Ok-Line-clause-spelled : goal.returns-in-Ok-Line-clause-spelled
+returns-in-Ok-Line-clause-spelled g c =
+    subst (λ (r : FeedState). IfSome c.said.result (IsSpelledCommand r.form.log)) c.self.view_is c.said.ensures.spelled

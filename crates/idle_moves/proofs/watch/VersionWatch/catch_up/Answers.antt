@@ -35,3 +35,36 @@ returns-clause-vehicles g c =
     ap (map (λ (item : ℕ × ℕ). item.0)) c.take_entries.ensures
     ∙ ids-entries c.as_slice.result.now c.self.inside.versions.entries
     ∙ ap watched_ids c.self.view_is
+
+pub returns-in_err-tail-clause-pass : goal.returns-in_err-tail-clause-pass
+returns-in_err-tail-clause-pass g c = c.in_err-tail.ensures.pass
+
+pub returns-in_err-tail-clause-point : goal.returns-in_err-tail-clause-point
+returns-in_err-tail-clause-point g c = c.in_err-tail.ensures.point
+
+pub returns-in_err-tail-clause-none : goal.returns-in_err-tail-clause-none
+returns-in_err-tail-clause-none g c = c.in_err-tail.ensures.none
+
+pub returns-in_err-tail-clause-watches : goal.returns-in_err-tail-clause-watches
+returns-in_err-tail-clause-watches g c = watches-on _ _ c.args.self.now c.in_err-tail.ensures.none c.requires.watches
+
+pub returns-then-seen-gt-MOST_ENTRIES-clause-pass : goal.returns-then-seen-gt-MOST_ENTRIES-clause-pass
+returns-then-seen-gt-MOST_ENTRIES-clause-pass g c = c.in_ok-tail.ensures.pass
+
+pub returns-then-seen-gt-MOST_ENTRIES-clause-point : goal.returns-then-seen-gt-MOST_ENTRIES-clause-point
+returns-then-seen-gt-MOST_ENTRIES-clause-point g c = c.in_ok-tail.ensures.point
+
+pub returns-then-seen-gt-MOST_ENTRIES-clause-none : goal.returns-then-seen-gt-MOST_ENTRIES-clause-none
+returns-then-seen-gt-MOST_ENTRIES-clause-none g c = c.in_ok-tail.ensures.none
+
+pub returns-then-seen-gt-MOST_ENTRIES-clause-watches : goal.returns-then-seen-gt-MOST_ENTRIES-clause-watches
+returns-then-seen-gt-MOST_ENTRIES-clause-watches g c = watches-on _ _ c.args.self.now c.in_ok-tail.ensures.none c.requires.watches
+
+pub returns-clause-pass : goal.returns-clause-pass
+returns-clause-pass g c = c.in_ok-tail.ensures.pass
+
+pub returns-clause-point : goal.returns-clause-point
+returns-clause-point g c = c.in_ok-tail.ensures.point
+
+pub returns-clause-none : goal.returns-clause-none
+returns-clause-none g c = c.in_ok-tail.ensures.none

@@ -1,11 +1,11 @@
 use Rattle.adaptive_roads.proofs.Common.{◌≡◌, length, take, IsGraph}
-use Rattle.adaptive_roads.proofs.contraction.start.graph_of.Given as goal
+use Rattle.adaptive_roads.proofs.contraction.start.add_arcs.Given as goal
 
 abbrev pub invariant-loop-arc : goal.invariant-loop-arc
 invariant-loop-arc l = record {
   graph : IsGraph l.graph;
   nodes : l.graph.nodes ≡ l.map.nodes;
   arcs : l.graph.arcs.items ≡ take l.arc-index l.map.arcs;
-  order : length l.graph.order.items ≡ 0;
+  order : l.graph.order.items ≡ l.initial.graph.order.items;
   count : length l.graph.arcs.items ≡ l.arc-index;
 }

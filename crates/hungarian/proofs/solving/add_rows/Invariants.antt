@@ -1,5 +1,5 @@
 use Rattle.hungarian.proofs.Common.{IsSized, IsPartial}
-use Rattle.hungarian.proofs.solving.solve_grid.Given as goal
+use Rattle.hungarian.proofs.solving.add_rows.Given as goal
 
 -- the rows so far are paired
 abbrev pub invariant-loop-row : goal.invariant-loop-row
