@@ -9,6 +9,8 @@ standard error. Each process of the prover is looked at twice a second, so that 
 Linux only: it reads /proc.
 """
 
+from __future__ import annotations
+
 import collections
 import os
 import re
@@ -16,19 +18,23 @@ import resource
 import subprocess
 import sys
 import time
+from collections.abc import Iterator
 
 PERIOD = 0.5
 PHASES = ("proof", "tests", "edits")
 
+Process = tuple[str, str]  # its number, and when it started
+Work = tuple[str, str]  # a crate and a phase
 
-def processor_seconds(stat):
-    """When a process started, and the processor seconds that it took so far, from its line in /proc."""
+
+def processor_seconds(stat: str) -> tuple[str, float]:
+    """Returns when a process started, and the processor seconds that it took so far, from its line in /proc."""
     fields = stat[stat.rindex(")") + 2 :].split()
     return fields[19], (int(fields[11]) + int(fields[12])) / os.sysconf("SC_CLK_TCK")
 
 
-def work_of(command, folder, top, gate):
-    """The crate and the phase that a process of the prover works for, or None where it works for another gate than this process."""
+def work_of(command: str, folder: str, top: str, gate: int) -> Work | None:
+    """Returns what a process of the prover works for; None where it works for another gate than this process."""
     crate = re.search(r"--crate-name (\S+)", command)
     if crate is None:
         return None
@@ -39,41 +45,46 @@ def work_of(command, folder, top, gate):
     return crate[1], "tests" if " --test" in command else "proof"
 
 
-def look(top, gate, works, seconds):
+def text_of(path: str) -> str:
+    """Returns what stands in a file of /proc."""
+    with open(path) as file:
+        return file.read()
+
+
+def look(top: str, gate: int, works: dict[Process, Work | None], seconds: dict[Process, float]) -> None:
     """Notes the processor seconds of each process that works for the gate."""
     for number in filter(str.isdigit, os.listdir("/proc")):
         try:
-            with open(f"/proc/{number}/stat") as file:
-                started, taken = processor_seconds(file.read())
+            started, taken = processor_seconds(text_of(f"/proc/{number}/stat"))
             process = number, started
             if works.get(process) is None:
-                with open(f"/proc/{number}/cmdline") as file:
-                    command = file.read().replace("\0", " ")
+                command = text_of(f"/proc/{number}/cmdline").replace("\0", " ")
                 works[process] = work_of(command, os.readlink(f"/proc/{number}/cwd"), top, gate)
             seconds[process] = taken
         except OSError:
-            continue
+            continue  # it has ended, or is another user's
 
 
-def table(works, seconds):
-    """The lines of the table, dearest crate first, and the sums."""
-    crates = collections.defaultdict(collections.Counter)
+def table(works: dict[Process, Work | None], seconds: dict[Process, float]) -> Iterator[str]:
+    """Yields the lines of the table, dearest crate first, and the sums."""
+    crates: dict[str, dict[str, float]] = collections.defaultdict(lambda: dict.fromkeys(PHASES, 0.0))
     for process, work in works.items():
         if work is not None:
-            crates[work[0]][work[1]] += seconds[process]
+            crate, phase = work
+            crates[crate][phase] += seconds[process]
+    sums = {phase: sum(spent[phase] for spent in crates.values()) for phase in PHASES}
     yield "{:18}{:>8}{:>8}{:>8}{:>8}".format("crate", *PHASES, "all")
-    sums = collections.Counter()
-    for crate, spent in sorted(crates.items(), key=lambda item: -sum(item[1].values())):
-        sums.update(spent)
-        yield "{:18}{:8.0f}{:8.0f}{:8.0f}{:8.0f}".format(crate, *(spent[phase] for phase in PHASES), sum(spent.values()))
-    yield "{:18}{:8.0f}{:8.0f}{:8.0f}{:8.0f}".format("all", *(sums[phase] for phase in PHASES), sum(sums.values()))
+    for name, spent in [*sorted(crates.items(), key=lambda item: -sum(item[1].values())), ("all", sums)]:
+        yield "{:18}{:8.0f}{:8.0f}{:8.0f}{:8.0f}".format(name, *spent.values(), sum(spent.values()))
 
 
-def main():
+def main() -> int:
+    """Runs the gate and prints the table; returns the gate's status."""
     top = os.path.realpath(os.path.join(os.path.dirname(__file__), ".."))
     begun = time.monotonic()
     gate = subprocess.Popen(["rt", "ci", *sys.argv[1:]], cwd=top, stdout=sys.stderr)
-    works, seconds = {}, {}
+    works: dict[Process, Work | None] = {}
+    seconds: dict[Process, float] = {}
     while gate.poll() is None:
         look(top, gate.pid, works, seconds)
         time.sleep(PERIOD)

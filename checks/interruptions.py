@@ -21,7 +21,6 @@ Status 0 where all is well, 1 where something is not, 2 where a word or a progra
 """
 from __future__ import annotations
 
-import os
 import random
 import shutil
 import sys
@@ -39,7 +38,7 @@ from interrupted.edges import EDGES  # noqa: E402
 from interrupted.hostile import CASES, Place, try_case  # noqa: E402
 from interrupted.logs import Wrong  # noqa: E402
 from interrupted.programs import Programs  # noqa: E402
-from player.files import InputError, Parser, run_main, whole  # noqa: E402
+from player.files import Parser, program, run_main, whole  # noqa: E402
 
 DISPATCH = TOP / "crates" / "ride_dispatch" / "out" / "ride_dispatch"
 RESUME = TOP / "crates" / "ride_resume" / "out" / "ride_resume"
@@ -133,13 +132,6 @@ class Trial:
             check_yes("the auditor of inspector/", [sys.executable, "-B", str(TOP / "inspector" / "check_log.py"), *files])
 
 
-def program(path: str) -> Path:
-    """Returns the path of a program that can be run. Raises InputError where it is none."""
-    if not os.path.isfile(path) or not os.access(path, os.X_OK):
-        raise InputError(f"{path} is no program that can be run")
-    return Path(path).resolve()
-
-
 def main(words: Sequence[str]) -> int:
     """Tries what is wanted; returns 0 where nothing is wrong."""
     parser = Parser(description=__doc__.split("\n\n")[0], epilog=__doc__.split("\n\n", 1)[1])
@@ -152,7 +144,7 @@ def main(words: Sequence[str]) -> int:
     parser.add_argument("--second", action="store_true", help="the auditor of inspector/ looks at each finished day too (no)")
     parser.add_argument("--keep", metavar="FOLDER", help="files of what is wrong stay there (they do not)")
     wishes = parser.parse_args(words)
-    trial = Trial((program(wishes.program), program(wishes.resume)), wishes.seed, Path(wishes.keep) if wishes.keep else None, wishes.second)
+    trial = Trial((Path(program(wishes.program)), Path(program(wishes.resume))), wishes.seed, Path(wishes.keep) if wishes.keep else None, wishes.second)
     for part in [wishes.only] if wishes.only else PARTS:
         {"kills": lambda: trial.kills(wishes.kills), "cuts": lambda: trial.cuts(wishes.bytes), "hostile": lambda: trial.cases(CASES),
          "edges": lambda: trial.cases(EDGES)}[part]()

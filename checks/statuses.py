@@ -18,7 +18,7 @@ from collections.abc import Mapping, Sequence
 TOP = pathlib.Path(__file__).resolve().parent.parent
 sys.path.insert(0, str(TOP / "tools"))
 
-from player.files import InputError, Parser, run_main  # noqa: E402
+from player.files import Parser, program, run_main  # noqa: E402
 
 PROGRAM = TOP / "crates" / "ride_dispatch" / "out" / "ride_dispatch"
 RESUME = TOP / "crates" / "ride_resume" / "out" / "ride_resume"
@@ -154,13 +154,6 @@ def try_resume(runs: Runs, resume: str) -> None:
     runs.expect(2, [resume], {**GOING_ON, "--desks": "2"})
     for words in ("", "resume", "--help", "--log log"):
         runs.run(2, [resume, *words.split()])
-
-
-def program(path: str) -> str:
-    """Returns the path of a program that is there. Raises InputError where it is not."""
-    if not pathlib.Path(path).is_file():
-        raise InputError(f"{path} is no program")
-    return str(pathlib.Path(path).resolve())
 
 
 def main(words: Sequence[str]) -> int:

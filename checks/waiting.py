@@ -19,7 +19,7 @@ from collections.abc import Callable, Sequence
 TOP = pathlib.Path(__file__).resolve().parent.parent
 sys.path.insert(0, str(TOP / "tools"))
 
-from player.files import InputError, Parser, run_main  # noqa: E402
+from player.files import InputError, Parser, program, run_main  # noqa: E402
 
 PROGRAM = TOP / "crates" / "ride_dispatch" / "out" / "ride_dispatch"
 RESUME = TOP / "crates" / "ride_resume" / "out" / "ride_resume"
@@ -351,13 +351,6 @@ def run_check(program: str, check: Callable[[Start], None]) -> bool:
                 session.end()
     print(f"{name}: so it is", flush=True)
     return True
-
-
-def program(path: str) -> str:
-    """Returns the path of a program that is there. Raises InputError where it is not."""
-    if not os.path.isfile(path):
-        raise InputError(f"{path} is no program")
-    return os.path.abspath(path)
 
 
 def main(words: Sequence[str]) -> int:

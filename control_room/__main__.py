@@ -3,7 +3,7 @@ import argparse
 import sys
 import time
 from pathlib import Path
-from typing import List, NoReturn, Optional
+from typing import Callable, List, NoReturn, Optional
 
 EXAMPLE = "example: /usr/bin/python3 -m control_room run --city 20 --vehicles 40 --speed 10"
 PARTS = ("keeper", "bridge", "web", "simulate")
@@ -17,7 +17,7 @@ class Words(argparse.ArgumentParser):
         sys.exit(2)
 
 
-def number(least: int, most: int):  # type: ignore[no-untyped-def]
+def number(least: int, most: int) -> Callable[[str], int]:
     """Returns the reader of a whole number of a range."""
     def read(text: str) -> int:
         if not (text.isascii() and text.isdigit() and len(text) < 12 and least <= int(text) <= most):

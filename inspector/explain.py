@@ -16,7 +16,7 @@ from check_log import log_lines, read_board
 from command_line import parser_of, run
 from entries import Entry, read_entry
 from history import History
-from reasons import Reason, in_words, reason_of
+from reasons import in_words, reason_of
 from texts import NUMBER, Ended, refused
 
 REFUSALS = {

@@ -9,7 +9,7 @@ vehicle's plan: where the log has another one since, the order is late, and is n
 
     ride_dispatch serve .. | tee log | advise.py - fleet.txt map.gr --reach 600
 
-With --check each sheet is certified by checks/sheets.py: its prices prove that no pairing costs less.
+With --check each sheet is certified: its prices prove that no pairing costs less.
 """
 import os
 import sys

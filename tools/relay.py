@@ -29,15 +29,20 @@ from running.pipes import FeedPipe  # noqa: E402
 from trip_log import LogError, TripLog  # noqa: E402
 
 
+def take_lines(handover: Handover, session: int, tail: LogTail) -> None:
+    """Takes the lines that have come on the log of a session. Raises LogError at one that is no line of a log."""
+    while lines := tail.take():
+        for line in lines:
+            handover.take(session, line)
+
+
 def read_on(handover: Handover, tails: Sequence[LogTail]) -> None:
     """Takes the lines that have come on both logs. Raises Fault at one that is no line of a log."""
     for session, tail in enumerate(tails):
-        while lines := tail.take():
-            for line in lines:
-                try:
-                    handover.take(session, line)
-                except LogError as wrong:
-                    raise Fault(f"{tail.path}:{wrong.line}: {wrong.what}") from wrong
+        try:
+            take_lines(handover, session, tail)
+        except LogError as wrong:
+            raise Fault(f"{tail.path}:{wrong.line}: {wrong.what}") from wrong
 
 
 def say(handover: Handover, pipes: Sequence[FeedPipe]) -> None:

@@ -4,53 +4,13 @@ After each commit the requests that its seating leaves out are paired with the v
 the batch was opened, each within a reach of seconds, at the least sum of travel times; a request without a vehicle costs the reach.
 A sheet's line is that of `ride_dispatch ahead`.
 """
-import functools
-import importlib.util
-import pathlib
-from dataclasses import dataclass
-from typing import Callable, Dict, List, Optional, Sequence, Tuple
+from typing import Dict, List, Optional, Tuple
 
-from player.drivers import Order
 from player.files import InputError
 from player.pairing import least_pairing
-from player.roads import Arc, Roads
+from player.roads import Roads
+from player.sheets import Certifier, Go, Sheet, Standing
 from trip_log import Batch, Commit, Entry, TripLog
-
-CHECKER = pathlib.Path(__file__).resolve().parents[2] / "checks" / "sheets.py"
-
-
-@dataclass(frozen=True)
-class Go:
-    """An order of a sheet: a vehicle at a version to a request's pickup, so many seconds away."""
-    request: int
-    vehicle: int
-    version: int
-    node: int
-    seconds: int
-
-
-@dataclass(frozen=True)
-class Sheet:
-    """The orders behind a commit, and the prices and payments that certify them."""
-    batch: int
-    cost: int
-    goes: Tuple[Go, ...]
-    prices: Dict[int, int]
-    pays: Dict[int, int]
-
-    def line(self) -> str:
-        """Returns the line `moves ..`, as `ahead` writes it."""
-        goes = [f"{go.request}:{go.vehicle}@{go.version}:{go.node}:{go.seconds}" for go in self.goes]
-        prices = [f"{request}:{price}" for request, price in self.prices.items()]
-        pays = [f"{vehicle}:{pay}" for vehicle, pay in self.pays.items()]
-        return " ".join(["moves", str(self.batch), "cost", str(self.cost), "goes", *goes, "prices", *prices, "pays", *pays])
-
-    def orders(self) -> List[Order]:
-        """Returns the orders as drivers take them."""
-        return [Order(go.vehicle, go.version, go.node) for go in self.goes]
-
-
-Standing = Dict[int, Tuple[int, int]]  # the node and the version of each idle vehicle
 
 
 class Advisor:
@@ -60,7 +20,7 @@ class Advisor:
         self.roads, self.log, self.reach = roads, log, reach
         self.certified = 0
         self.last: Optional[Sheet] = None
-        self._check = load_checker(reach) if checks else None
+        self._certifier = Certifier(roads.arcs, reach) if checks else None
         self._idle: Dict[int, Standing] = {}
         self._batches: Dict[int, Batch] = {}
 
@@ -85,11 +45,9 @@ class Advisor:
             idle.pop(seat.vehicle, None)
         rows = [(number, self.log.requests[number].origin) for number in batch.requests if number not in seated]
         sheet = self._paired(commit.number, rows, idle)
-        if self._check:
-            try:
-                self._check(sheet.line(), commit.number, rows, idle, self.roads.arcs)
-            except AssertionError as fault:
-                raise InputError(f"the sheet of batch {commit.number} is not certified: {fault}") from fault
+        if self._certifier:
+            if fault := self._certifier.fault_of(sheet, commit.number, rows, idle):
+                raise InputError(f"the sheet of batch {commit.number} is not certified: {fault}: {sheet.line()}")
             self.certified += 1
         return sheet
 
@@ -106,23 +64,3 @@ class Advisor:
         cost = sum(prices) - sum(pays.values())
         return Sheet(number, cost, tuple(goes), {request: price for (request, _), price in zip(rows, prices)},
                      {vehicles[column]: pay for column, pay in pays.items()})
-
-
-def load_checker(reach: int) -> Callable[..., None]:
-    """Returns the certificate of sheets that checks/sheets.py has, for a reach. It searches travel times itself, those to a pickup
-    once."""
-    spec = importlib.util.spec_from_file_location("sheets", CHECKER)
-    sheets = importlib.util.module_from_spec(spec)
-    spec.loader.exec_module(sheets)
-    sheets.REACH = reach
-    searched = sheets.times_to
-    kept: Dict[int, Dict[int, int]] = {}
-
-    @functools.wraps(searched)
-    def times_to(arcs: Sequence[Arc], target: int) -> Dict[int, int]:
-        if target not in kept:
-            kept[target] = searched(arcs, target)
-        return kept[target]
-
-    sheets.times_to = times_to
-    return sheets.check_sheet

@@ -116,6 +116,13 @@ class Parser(argparse.ArgumentParser):
         raise InputError(f"{message} (--help says more)")
 
 
+def program(path: str) -> str:
+    """Returns the full path of a program. Raises InputError where there is none that can be run."""
+    if not os.path.isfile(path) or not os.access(path, os.X_OK):
+        raise InputError(f"{path} is no program that can be run")
+    return os.path.realpath(path)
+
+
 def whole(least: int, most: int) -> Callable[[str], int]:
     """Returns a reader of options that are whole numbers in a range."""
     def read(text: str) -> int:

@@ -175,11 +175,11 @@ class Program(unittest.TestCase):
         with tempfile.TemporaryDirectory() as folder:
             torn = Path(f"{folder}/torn")
             torn.write_bytes(Path(MORNING).read_bytes()[:1000])
-            for bad in bad_files(folder).values():
-                for words in ((bad, FLEET, MAP), (MORNING, bad, MAP), (MORNING, FLEET, bad)):
-                    with self.assertRaises(InputError) as caught:
-                        day_figures.main(words)
-                    self.assertNotIn("\n", str(caught.exception))
+            places = [words for bad in bad_files(folder).values() for words in ((bad, FLEET, MAP), (MORNING, bad, MAP), (MORNING, FLEET, bad))]
+            for words in places:
+                with self.assertRaises(InputError) as caught:
+                    day_figures.main(words)
+                self.assertNotIn("\n", str(caught.exception))
             few = Path(f"{folder}/few")
             few.write_text("vehicle 1 4 1 0\n")
             for words in ((str(torn), FLEET, MAP), (MAP, FLEET, MAP), (MORNING, MORNING, MAP), (MORNING, FLEET, FLEET),

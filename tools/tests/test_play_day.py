@@ -1,6 +1,7 @@
 """Tests of play_day, advise and sessions: against a stand-in for the program, and against the program where it is built."""
 import contextlib
 import io
+import itertools
 import json
 import os
 import subprocess
@@ -114,11 +115,10 @@ class Advice(unittest.TestCase):
     def test_bad_input(self):
         with tempfile.TemporaryDirectory() as folder:
             words = [os.path.join(EXAMPLES, "morning.log"), FLEET, MAP, "--reach", "600"]
-            for place in range(3):
-                for kind, bad in bad_files(folder).items():
-                    if place == 0 and kind == "empty":
-                        continue  # a log that has not begun yet
-                    self.refuses(words[:place] + [bad] + words[place + 1:])
+            for place, (kind, bad) in itertools.product(range(3), bad_files(folder).items()):
+                if place == 0 and kind == "empty":
+                    continue  # a log that has not begun yet
+                self.refuses(words[:place] + [bad] + words[place + 1:])
         for option in (("--reach", "0"), ("--reach", "x"), ("--pause", "0"), ("--pause", "-1"), ("--pause", "nan"), ("--pause", "x")):
             self.refuses(words + list(option))
         self.refuses(words[:3])

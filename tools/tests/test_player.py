@@ -20,6 +20,7 @@ from player.pairing import least_pairing  # noqa: E402
 from player.riders import Limits, Office, Rider, read_riders  # noqa: E402
 from player.roads import Roads, grid_city, read_map  # noqa: E402
 from player.runs import Setup, fresh, play_against  # noqa: E402
+from player.sheets import Certifier, sheet_of  # noqa: E402
 from trip_log import Fleet, Stop, TripLog, Vehicle  # noqa: E402
 
 SETTINGS = {"batch": 32, "penalty": 3600, "drive": 1, "wait": 0, "lead": 0, "dwell": 0, "log": 1}
@@ -308,6 +309,26 @@ class Pairings(unittest.TestCase):
                 self.assertTrue(price <= without and all(price <= cost + pays.get(column, 0) for column, cost in row.items()))
 
 
+# Sheets over two requests and a vehicle at crossing 1, and what is wrong with each.
+WRONG_SHEETS = (
+    ("moves 1 cost 720 goes 7:1@0:3:120 prices 7:540 8:600 pays 1:420", ""),
+    ("moves 2 cost 720 goes 7:1@0:3:120 prices 7:540 8:600 pays 1:420", "another batch, or other requests"),
+    ("moves 1 cost 120 goes 7:1@0:3:120 prices 7:540 pays 1:420", "another batch, or other requests"),
+    ("moves 1 cost 720 goes 7:1@1:3:120 prices 7:540 8:600 pays 1:420", "a vehicle that is not idle at this version"),
+    ("moves 1 cost 720 goes 7:2@0:3:120 prices 7:540 8:600 pays 1:420", "a vehicle that is not idle at this version"),
+    ("moves 1 cost 720 goes 7:1@0:4:180 prices 7:540 8:600 pays 1:420", "a node that is not the pickup of a request that was left out"),
+    ("moves 1 cost 720 goes 9:1@0:3:120 prices 7:540 8:600 pays 1:420", "a node that is not the pickup of a request that was left out"),
+    ("moves 1 cost 720 goes 7:1@0:3:119 prices 7:540 8:600 pays 1:420", "another time, or one out of reach"),
+    ("moves 1 cost 300 goes 7:1@0:3:120 8:1@0:4:180 prices 7:120 8:180 pays", "a vehicle or a request twice"),
+    ("moves 1 cost 721 goes 7:1@0:3:120 prices 7:540 8:600 pays 1:420", "another cost"),
+    ("moves 1 cost 1200 goes prices 7:600 8:600 pays", "a price above the reach, or above a pair's time and payment"),
+    ("moves 1 cost 720 goes 7:1@0:3:120 prices 7:539 8:600 pays 1:420", "prices that do not sum to the cost and the payments"),
+    ("moves 1 cost 720 goes 7:1@0:3:120 prices 7:120 8:600 pays 1:0", "prices that do not sum to the cost and the payments"),
+    ("moves 1 cost 720 goes 7:1@0:3:120 prices 7:541 8:599 pays 1:420", "a price above the reach, or above a pair's time and payment"),
+    ("moves 1 cost 720 goes 7:1@0:3:120 prices 7:539 8:601 pays 1:420", "a price above the reach, or above a pair's time and payment"),
+)
+
+
 class Sheets(unittest.TestCase):
     def sheet_of(self, reach, *requests):
         """The sheet of a vehicle at crossing 1, when all of a batch are turned away."""
@@ -329,6 +350,17 @@ class Sheets(unittest.TestCase):
         self.assertEqual(self.sheet_of(119, "request 7 3 4 1 100 300"), "moves 1 cost 119 goes prices 7:119 pays")
         self.assertEqual(self.sheet_of(600, "request 7 3 4 1 100 300", "request 8 4 3 1 100 300"),
                          "moves 1 cost 720 goes 7:1@0:3:120 prices 7:540 8:600 pays 1:420")
+
+    def test_what_is_wrong_is_not_certified(self):
+        certifier = Certifier(row_of_four().arcs, 600)
+        for line, fault in WRONG_SHEETS:
+            self.assertEqual(certifier.fault_of(sheet_of(line), 1, [(7, 3), (8, 4)], {1: (1, 0)}), fault, line)
+
+    def test_lines_that_are_no_sheets(self):
+        for line in ("", "moves", "moves 1 cost x goes prices pays", "moves 1 price 1 goes prices pays", "moves 1 cost 1 goes prices  pays",
+                     "moves 1 cost 01 goes prices pays", "moves 1 cost 1 prices goes pays", "moves 1 cost 1 goes 7:1:3:120 prices pays"):
+            with self.assertRaises(ValueError):
+                sheet_of(line)
 
 
 class Evenings(unittest.TestCase):
