@@ -70,8 +70,9 @@ class Day:
 
     def _rider(self, draw: random.Random, number: int, time: int) -> Rider:
         origin, destination = draw.sample(range(1, self.roads.nodes + 1), 2)
-        longest = 2 * self.roads.seconds(origin, destination) + 300
-        return Rider(number, time, origin, destination, draw.choice((1, 1, 1, 2)), 0, time + LATEST, longest)
+        way = self.roads.seconds(origin, destination)
+        assert way is not None  # as each street of a grid is there both ways
+        return Rider(number, time, origin, destination, draw.choice((1, 1, 1, 2)), 0, time + LATEST, 2 * way + 300)
 
     def is_north(self, node: int) -> bool:
         """Returns whether a node is in the northern zone."""
@@ -125,8 +126,8 @@ class Day:
 
 def homes(dispatcher: Dispatcher, is_inside: Optional[Inside]) -> Callable[[Vehicle], Optional[int]]:
     """Returns where an idle vehicle goes: to its stand until it is inside, or nowhere."""
-    stands: Dict[int, int] = {vehicle.id: vehicle.at for vehicle in dispatcher.log.vehicles.values()}
-    return lambda vehicle: None if is_inside is None or is_inside(vehicle.at) else stands[vehicle.id]
+    stands = {vehicle.id: vehicle.at for vehicle in dispatcher.log.vehicles.values()}
+    return lambda vehicle: None if is_inside is None or vehicle.at is None or is_inside(vehicle.at) else stands[vehicle.id]
 
 
 def asking_time(draw: random.Random) -> int:

@@ -128,14 +128,16 @@ class Live:
         os.mkfifo(f"{folder}/riders")
         os.mkfifo(f"{folder}/drivers")
         self.process = subprocess.Popen([program] + serve_words(folder, workers, desks), stdout=subprocess.PIPE, text=True)
+        assert self.process.stdout is not None  # as it is a pipe
+        self.output = self.process.stdout
         self.riders, self.drivers = (
             os.fdopen(open_feed(f"{folder}/{name}", self.process), "wb", buffering=0) for name in ("riders", "drivers"))
 
     def until(self, wanted: bytes, log: bytes = b"") -> bytes:
         """Reads the log until it has these bytes; returns what was read. Raises InputError where the log ends before."""
         while wanted not in log:
-            select.select([self.process.stdout], [], [])
-            piece = os.read(self.process.stdout.fileno(), 1 << 16)
+            select.select([self.output], [], [])
+            piece = os.read(self.output.fileno(), 1 << 16)
             if not piece:
                 raise InputError("the program ended before its session did")
             log += piece
@@ -186,7 +188,7 @@ def silence(program: str, folder: str) -> None:
     print(f"ten silent seconds: {busy_seconds(live.process.pid) - before:.2f} s of processors")
     live.riders.close()
     live.drivers.close()
-    live.process.stdout.read()
+    live.output.read()
     live.process.wait()
 
 

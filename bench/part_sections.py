@@ -114,7 +114,8 @@ def shared(shop: Workshop) -> List[str]:
     """Times a board that threads share."""
     turns = shop.turns(3)
     runs = [rates_of(shop.run(shop.bench, "shared").text) for _ in range(turns)]
-    rows = [[LOADS.get(name, name), span([run[name] / 1e6 for run in runs], "million")] for name in same("the ways", map(list, runs))]
+    ways = same("the ways", (list(run) for run in runs))
+    rows = [[LOADS.get(name, name), span([run[name] / 1e6 for run in runs], "million")] for name in ways]
     return [f"A million `clock` commands, {in_words(turns, 'run', 'runs').lower()}.", "", *table(["", "Commands a second"], rows)]
 
 

@@ -76,8 +76,9 @@ class Session(Live):
     def close(self) -> None:
         """Gives the session up."""
         self.kill()
-        for end in (self.riders, self.drivers, self.process.stdout):
-            end.close()
+        self.riders.close()
+        self.drivers.close()
+        self.output.close()
 
 
 @contextlib.contextmanager

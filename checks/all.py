@@ -41,11 +41,20 @@ def unit_tests(folder: str, interpreter: str = sys.executable) -> Check:
                  (interpreter, f"{folder}/tests"))
 
 
+def type_hints(folder: str) -> Check:
+    """Returns the check that the type hints of a folder are true."""
+    return Check(f"type hints of {folder}", ("mypy", "--config-file", "checks/mypy.ini", folder), ("mypy",))
+
+
 CHECKS = [
     unit_tests("tools", DEBIANS),
     unit_tests("inspector"),
     unit_tests("control_room", DEBIANS),
     unit_tests("checks"),
+    type_hints("inspector"),
+    type_hints("control_room"),
+    type_hints("checks"),
+    type_hints("bench"),
     Check("words that are not in order", ("checks/words.sh",), ("bash",)),
     Check("lines on standard error", ("checks/messages.sh",), ("bash",)),
     Check("statuses of each word", (sys.executable, "-B", "checks/statuses.py")),
@@ -68,7 +77,7 @@ def run(check: Check) -> bool:
                               timeout=LIMIT, errors="replace")
         good, said = done.returncode == 0, done.stdout
     except subprocess.TimeoutExpired as stopped:
-        good, said = False, f"{stopped.stdout or ''}\nstopped after {LIMIT:.0f} s"
+        good, said = False, f"{(stopped.stdout or b'').decode(errors='replace')}\nstopped after {LIMIT:.0f} s"
     except OSError as fault:
         good, said = False, str(fault)
     print(f"check: {check.name}: {'passed' if good else 'FAILED'} ({time.monotonic() - begun:.0f} s)", flush=True)

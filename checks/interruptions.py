@@ -57,11 +57,11 @@ class Trial:
         self.programs, self.seed, self.keep, self.is_second = programs, seed, keep, is_second
         self.wrong = 0
 
-    def in_folder(self, what: str, work) -> str | None:  # type: ignore[no-untyped-def]
+    def in_folder(self, what: str, work: Callable[[Path], str]) -> str | None:
         """Returns what some work in a new folder says, None where something is wrong, which is told; its files are kept where that is wanted."""
         folder = Path(tempfile.mkdtemp(prefix="interruptions."))
         try:
-            said: str = work(folder)
+            said = work(folder)
         except Wrong as fault:
             self.wrong += 1
             kept = f" (files in {self._kept(folder, what)})" if self.keep else ""

@@ -93,7 +93,7 @@ def expected_sheets(fleet: Path, log_text: str) -> list[Expected]:
         entry = log.read(line)
         if entry and entry.batch:
             asked[entry.batch.number] = list(entry.batch.requests)
-            idle = {v.id: (v.at, v.version) for v in log.vehicles.values() if v.on_duty and not v.stops}
+            idle = {v.id: (v.at, v.version) for v in log.vehicles.values() if v.on_duty and not v.stops and v.at is not None}
         if entry and entry.commit:
             seated = {seat.request for seat in entry.commit.seats}
             used = {seat.vehicle for seat in entry.commit.seats}

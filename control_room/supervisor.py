@@ -190,8 +190,8 @@ def start(words: argparse.Namespace, room: Room, zones: List[Zone]) -> None:
     if not words.nobody:
         for zone in zones:
             crowd = ["--seed", str(words.seed), "--riders-an-hour", str(words.riders_an_hour), "--riders", str(words.riders)]
-            place = ["--host", words.host, "--port", str(words.port)]
-            room.start(Part(f"simulate.{zone.name}", ["simulate", folder, zone.name, *place, *crowd]))
+            listens = ["--host", words.host, "--port", str(words.port)]
+            room.start(Part(f"simulate.{zone.name}", ["simulate", folder, zone.name, *listens, *crowd]))
     for zone in zones:
         say(f"{zone.name}: a rider's page is {server}/telephone#token={sign(secret, Person('rider', zone.name, 'ada'), until)}")
         say(f"{zone.name}: open {server}/#zone={zone.name}&token={sign(secret, Person('office', zone.name, 'desk'), until)}")

@@ -197,8 +197,8 @@ async def report(request: web.Request) -> web.Response:
     if answer is None:
         return sent(request, message)
     checked(answer)
-    reply = {"reply": answer.entry.reply, "said": list(answer.entry.said), "line": answer.line}
-    return web.json_response({**reply, "plan": vehicle_view(zone.view, zone.chart, zone.times, number)})
+    return web.json_response({"reply": answer.entry.reply, "said": list(answer.entry.said), "line": answer.line,
+                              "plan": vehicle_view(zone.view, zone.chart, zone.times, number)})
 
 
 # The office, and who only looks.

@@ -3,7 +3,7 @@ from dataclasses import dataclass, field, replace
 from itertools import islice
 
 from certificate import Batch
-from entries import Items
+from entries import Seats
 from fleet_file import Settings
 from offers import Market
 from plans import Ride, Vehicle, broken, changed, insert, remove
@@ -66,8 +66,10 @@ class Board:
 
     def _cancel(self, name: int) -> str:
         request = self.requests.get(name)
-        was = request.state if request else None
-        refused = refusal((7, was is None), (8, was == ABOARD), (9, was == CLOSED))
+        if request is None:
+            return "refused 7"
+        was = request.state
+        refused = refusal((8, was == ABOARD), (9, was == CLOSED))
         if refused:
             return refused
         request.state = CLOSED
@@ -99,7 +101,7 @@ class Board:
             return refused
         rides = tuple(replace(ride, picked=vehicle.ready) if ride.id == stop.ride else ride
                       for ride in vehicle.rides if stop.pickup or ride.id != stop.ride)
-        self._change(changed(vehicle, self.roads, ready=ready, rides=rides, stops=vehicle.stops[1:]))
+        self._change(replace(vehicle, ready=ready, rides=rides, stops=vehicle.stops[1:], legs=vehicle.legs[1:]))
         self.requests[stop.ride].state = ABOARD if stop.pickup else CLOSED
         return f"{'picked' if stop.pickup else 'dropped'} {stop.ride}"
 
@@ -133,7 +135,7 @@ class Board:
             self.requests[name].state = IN_BATCH
         return batch
 
-    def outcomes(self, batch: Batch, seats: Items) -> dict[int, str]:
+    def outcomes(self, batch: Batch, seats: Seats) -> dict[int, str]:
         """Returns what a commit of these seats makes of each request of the batch."""
         vehicles = {request: vehicle for request, vehicle, _, _ in seats}
         return {name: self._outcome(batch, name, vehicles.get(name)) for name in batch.rides}
@@ -150,7 +152,7 @@ class Board:
         start = batch.market.start_of(copy)
         return f"behind:{start}:{self.clock}" if start < self.clock else "confirmed"
 
-    def close(self, batch: Batch, seats: Items, outcomes: dict[int, str]) -> None:
+    def close(self, batch: Batch, seats: Seats, outcomes: dict[int, str]) -> None:
         """Carries out a commit of these seats and outcomes."""
         places = {seat[0]: seat[1:] for seat in seats}
         for name, outcome in outcomes.items():
@@ -161,7 +163,9 @@ class Board:
                 request.state, (request.vehicle, i, j) = CONFIRMED, places[name]
                 copy = batch.copies[request.vehicle]
                 started = replace(copy, ready=batch.market.start_of(copy))
-                self._change(insert(started, request.ride, i, j, self.roads))
+                plan = insert(started, request.ride, i, j, self.roads)
+                assert plan is not None  # as the seat has a cost
+                self._change(plan)
         self.abandon(batch.number)
 
     def abandon(self, number: int) -> None:

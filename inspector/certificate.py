@@ -8,7 +8,7 @@ price and the payment leave.
 
 from dataclasses import dataclass
 
-from entries import Entry, Items
+from entries import Entry, Seats
 from offers import Market, Offers
 from plans import Ride, Vehicle
 
@@ -24,15 +24,20 @@ class Batch:
     copies: dict[int, Vehicle]
 
 
-def cost_of_seats(batch: Batch, seats: Items) -> int | None:
+def cost_of_seats(batch: Batch, seats: Seats) -> int | None:
     """Returns what this seating costs, or None where it is no seating of the batch."""
     seated, vehicles = {seat[0] for seat in seats}, {seat[1] for seat in seats}
     in_order = [request for request in batch.rides if request in seated]
     if len(vehicles) < len(seats) or [seat[0] for seat in seats] != in_order:
         return None
-    costs = [Offers(batch.market, batch.rides[request]).cost_at(batch.copies[vehicle], i, j)
-             if vehicle in batch.copies else None for request, vehicle, i, j in seats]
-    return None if None in costs else sum(costs) + batch.market.settings.penalty * (len(batch.rides) - len(seats))
+    total = batch.market.settings.penalty * (len(batch.rides) - len(seats))
+    for request, vehicle, i, j in seats:
+        copy = batch.copies.get(vehicle)
+        cost = Offers(batch.market, batch.rides[request]).cost_at(copy, i, j) if copy else None
+        if cost is None:
+            return None
+        total += cost
+    return total
 
 
 def certifies(batch: Batch, commit: Entry) -> bool:

@@ -79,10 +79,12 @@ class Receipt:
 def receipt_of(told: object, name: str) -> Receipt:
     """Returns the receipt of a JSON file; anything else is bad input."""
     fields = told if isinstance(told, dict) else {}
-    hashes = [fields.get("before"), *(fields["links"] if isinstance(fields.get("links"), list) else [None])]
-    texts = [fields.get("text"), fields.get("head"), fields.get("signature")]
-    if not all(isinstance(one, str) and HASH.fullmatch(one) for one in hashes) or type(fields.get("line")) is not int or (
-            not all(isinstance(text, str) and text.isascii() for text in texts)):
+    line, told_links = fields.get("line"), fields.get("links")
+    told_hashes = [fields.get("before"), *(told_links if isinstance(told_links, list) else [None])]
+    hashes = [bytes.fromhex(one) for one in told_hashes if isinstance(one, str) and HASH.fullmatch(one)]
+    told_texts = [fields.get("text"), fields.get("head"), fields.get("signature")]
+    texts = [one for one in told_texts if isinstance(one, str) and one.isascii()]
+    if type(line) is not int or len(hashes) < len(told_hashes) or len(texts) < len(told_texts):
         raise Ended(2, "", f"{name} is no receipt")
-    before, *links = map(bytes.fromhex, hashes)
-    return Receipt(fields["line"], texts[0], before, links, read_head(texts[1].encode(), name), texts[2])
+    (before, *links), (text, head, signature) = hashes, texts
+    return Receipt(line, text, before, links, read_head(head.encode(), name), signature)

@@ -1,6 +1,7 @@
 """The spelling of the log: its head and its entries, to the byte."""
 import re
 from dataclasses import dataclass
+from typing import Sequence
 
 MOST_PLACE, MOST_CODE = (1 << 32) - 1, 255  # the greatest place of a seat and code of a refusal that can be spelled
 
@@ -21,7 +22,8 @@ COMMIT = form(rb"(d[12]) (commit) (N) cost (N) seats((?: N:N:N:N)*) prices((?: N
               rb"((?: N:(?:confirmed|away|gone|moved:N:N|behind:N:N))*)")
 ABANDON = form(rb"(d[12]) (abandon) (N)")
 NUMBERS = {b"cancel": 1, b"at": 3, b"done": 1, b"on": 1, b"off": 1, b"clock": 1, b"batch": 0}  # of each command
-Items = list[tuple[int, ...]]
+Seats = Sequence[tuple[int, int, int, int]]
+Amounts = Sequence[tuple[int, int]]
 
 
 @dataclass
@@ -36,9 +38,9 @@ class Entry:
     word: bytes
     numbers: tuple[int, ...] = ()
     text: bytes = b""
-    seats: Items = ()
-    prices: Items = ()
-    pays: Items = ()
+    seats: Seats = ()
+    prices: Amounts = ()
+    pays: Amounts = ()
 
 
 def read_head(line: bytes) -> tuple[int, ...] | None:
@@ -52,16 +54,23 @@ def read_entry(line: bytes, version: int) -> Entry | None:
     if match := FED.fullmatch(line):
         return fed_entry(match, version)
     if match := COMMIT.fullmatch(line):
-        actor, word, batch, cost, *lists, outcomes = match.groups()
-        seats, prices, pays = ([tuple(map(int, item.split(b":"))) for item in text.split()] for text in lists)
+        actor, word, batch, cost, seated, priced, paid, outcomes = match.groups()
+        seats = [(request, vehicle, i, j) for request, vehicle, i, j in items_of(seated)]
+        prices = [(request, amount) for request, amount in items_of(priced)]
+        pays = [(vehicle, amount) for vehicle, amount in items_of(paid)]
         fits = all(max(seat[2:]) <= MOST_PLACE for seat in seats)
         return Entry(actor, word, (int(batch), int(cost)), outcomes, seats, prices, pays) if fits else None
     if match := OPEN.fullmatch(line):
-        return Entry(*match.groups(), text=line)
+        return Entry(match[1], match[2], text=line)
     if match := END.fullmatch(line) or BAD.fullmatch(line) or ABANDON.fullmatch(line):
         actor, word, *number = match.groups()
         return Entry(actor, word, tuple(map(int, number)))
     return None
+
+
+def items_of(text: bytes) -> list[list[int]]:
+    """Returns the numbers of each item of a commit's list."""
+    return [[int(number) for number in item.split(b":")] for item in text.split()]
 
 
 def fed_entry(match: re.Match[bytes], version: int) -> Entry | None:

@@ -16,7 +16,7 @@ from check_log import log_lines, read_board
 from command_line import parser_of, run
 from entries import Entry, read_entry
 from history import History
-from reasons import in_words, reason_of
+from reasons import Reason, in_words, reason_of
 from texts import NUMBER, Ended, refused
 
 REFUSALS = {
@@ -65,11 +65,12 @@ class Story:
         if entry.word == b"abandon":
             self.tell(line, event="given up", **about)
             return
-        outcome = dict(item.split(b":", 1) for item in entry.text.split())[b"%d" % self.request].decode()
-        vehicles = [{"vehicle": copy.id, "version": copy.version, **reason_of(batch, entry, self.request, copy.id)}
-                    for copy in batch.copies.values()]
-        self.tell(line, event="commit", **about, outcome=outcome, price=dict(entry.prices)[self.request],
-                  vehicles=vehicles)
+        outcomes = {name: outcome.decode() for name, _, outcome in (item.partition(b":") for item in entry.text.split())}
+        vehicles: list[Reason] = [
+            {"vehicle": copy.id, "version": copy.version, **reason_of(batch, entry, self.request, copy.id)}
+            for copy in batch.copies.values()]
+        self.tell(line, event="commit", **about, outcome=outcomes[b"%d" % self.request],
+                  price=dict(entry.prices)[self.request], vehicles=vehicles)
 
 
 def story_of(map_path: str, fleet_path: str, log_path: str, request: int) -> Story:
@@ -79,8 +80,8 @@ def story_of(map_path: str, fleet_path: str, log_path: str, request: int) -> Sto
         batches = dict(history.board.batches)
         if why := history.wrong(line):
             raise refused(2, log_path, f"no {number} {why}")
-        if number > 1:
-            story.read(number, read_entry(line, history.board.settings.log), history, batches)
+        if entry := read_entry(line, history.board.settings.log):  # the head is none
+            story.read(number, entry, history, batches)
     if not story.events:
         raise Ended(2, "", f"{log_path} has no line about request {request}")
     return story

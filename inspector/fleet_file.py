@@ -43,7 +43,9 @@ def fault_of_vehicle(numbers: list[int], fleet: dict[int, Vehicle], nodes: int) 
 
 def read_fleet(path: str, nodes: int) -> tuple[Settings, dict[int, Vehicle]]:
     """Returns the settings and the vehicles by id in fleet order; the first faulty line ends the inspection."""
-    settings, given, fleet = Settings(), set(), {}
+    settings = Settings()
+    given: set[bytes] = set()
+    fleet: dict[int, Vehicle] = {}
     for number, line in numbered_lines(path, MOST_BYTES):
         fields, code = fields_of(line, b"#"), 1
         if not fields:

@@ -64,7 +64,8 @@ class Offers:
         """
         start, last = self.market.start_of(vehicle), self.last_pickup(below)
         wait, drive, dwell = self.settings.wait, self.settings.drive, self.settings.dwell
-        nodes, drops = nodes_of(vehicle), []
+        nodes = nodes_of(vehicle)
+        drops: list[int] = []
         standing = drive * dwell * (2 if vehicle.stops else 1)
         for i, depart in enumerate([start, *(time + dwell for time in times(vehicle, start, dwell))]):
             to_pickup = self.to_origin.to(nodes[i])

@@ -64,7 +64,8 @@ def driving(vehicle: Vehicle, dwell: int) -> int:
 
 def broken(vehicle: Vehicle, start: int, dwell: int) -> list[int]:
     """Returns the rides, in order of confirmation, that are picked up too late or last too long from this start."""
-    pickups, drops = {ride.id: ride.picked for ride in vehicle.rides}, {}
+    pickups = {ride.id: ride.picked for ride in vehicle.rides if ride.picked is not None}
+    drops: dict[int, int] = {}
     for stop, time in zip(vehicle.stops, times(vehicle, start, dwell)):
         (pickups if stop.pickup else drops)[stop.ride] = time
     return [ride.id for ride in vehicle.rides if ride.picked is None and pickups[ride.id] > ride.latest
@@ -106,5 +107,7 @@ def insert(vehicle: Vehicle, ride: Ride, i: int, j: int, roads: TravelTimes) -> 
 
 def remove(vehicle: Vehicle, ride: int, roads: TravelTimes) -> Vehicle:
     """Returns the vehicle without the ride and its stops."""
-    return changed(vehicle, roads, rides=tuple(other for other in vehicle.rides if other.id != ride),
-                   stops=tuple(stop for stop in vehicle.stops if stop.ride != ride))
+    rides = tuple(other for other in vehicle.rides if other.id != ride)
+    after = changed(vehicle, roads, rides=rides, stops=tuple(stop for stop in vehicle.stops if stop.ride != ride))
+    assert after is not None  # as a way that leads along all stops leads along fewer
+    return after

@@ -78,7 +78,8 @@ def why_no_offer(market: Market, copy: Vehicle, ride: Ride) -> Reason:
 def why_no_place(market: Market, copy: Vehicle, ride: Ride) -> Reason:
     """Returns the causes for which each place of the plan is none, with how many places each rules out."""
     start, dwell = market.start_of(copy), market.settings.dwell
-    causes, others = Counter(), set()
+    causes: Counter[str] = Counter()
+    others: set[int] = set()
     for i, j in combinations_with_replacement(range(len(copy.stops) + 1), 2):
         plan = insert(copy, ride, i, j, market.roads)
         if plan is None:

@@ -14,20 +14,20 @@ class RoadMap:
     arcs: list[tuple[int, int, int]]
 
 
-def fault_of_problem(fields: list[bytes], numbers: list[int] | None, nodes: int | None) -> int:
+def fault_of_problem(fields: list[bytes], numbers: list[int], nodes: int | None) -> int:
     """Returns the code that refuses a problem line, or 0; `nodes` is the number that one before it said, or None."""
     if nodes is not None:
         return 2
-    if fields[1:2] != [b"sp"] or numbers is None or len(numbers) != 2 or numbers[0] == 0:
+    if fields[1:2] != [b"sp"] or len(numbers) != 2 or numbers[0] == 0:
         return 3
     return 7 if numbers[0] > MOST_NODES or numbers[1] > MOST_ARCS else 0
 
 
-def fault_of_arc(fields: list[bytes], numbers: list[int] | None, nodes: int | None) -> int:
+def fault_of_arc(fields: list[bytes], numbers: list[int], nodes: int | None) -> int:
     """Returns the code that refuses an arc's line, or one of neither kind, or 0."""
-    if fields[0] == b"a" and nodes is None:
-        return 1
-    if fields[0] != b"a" or numbers is None or len(numbers) != 3:
+    if nodes is None:
+        return 1 if fields[0] == b"a" else 3
+    if fields[0] != b"a" or len(numbers) != 3:
         return 3
     if not (1 <= numbers[0] <= nodes and 1 <= numbers[1] <= nodes):
         return 4
@@ -42,13 +42,14 @@ def read_map(path: str) -> RoadMap:
         if not fields:
             continue
         first, fault_of = (2, fault_of_problem) if fields[0] == b"p" else (1, fault_of_arc)
-        values = numbers_of(fields[first:])
+        values = numbers_of(fields[first:]) or []  # which is too few for either kind
         if code := fault_of(fields, values, nodes):
             raise refused(3, path, f"map refused {code}" + (f" line {number}" if code != 1 else ""))
         if fields[0] == b"p":
             nodes, said = values
         else:
-            arcs.append(tuple(values))
+            tail, head, seconds = values
+            arcs.append((tail, head, seconds))
     if nodes is None:
         raise refused(3, path, "map refused 1")
     if len(arcs) != said:

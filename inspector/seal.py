@@ -215,7 +215,7 @@ def words_of() -> argparse.Namespace:
         kind = kinds.add_parser(name, help=meaning, description=meaning)
         kind.set_defaults(command=command)
         for word in positional.split():
-            kind.add_argument(word, metavar=word.upper(), **({"type": at_least_one} if word == "line" else {}))
+            kind.add_argument(word, metavar=word.upper(), type=at_least_one if word == "line" else str)
         if name.startswith("check"):
             kind.add_argument("--signers", required=True, help="the file of allowed signers: identities and public keys")
             kind.add_argument("--identity", default="operator", help="whose signature it has to be (default operator)")

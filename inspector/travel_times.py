@@ -10,17 +10,18 @@ from typing import Iterator
 from road_map import RoadMap
 
 MOST_CELLS = 100_000_000  # of all kept rows together
+Neighbours = list[list[tuple[int, int]]]  # of each node those at the other ends of its arcs, with the seconds
 
 
 class Row:
     """Times from (or to) one node. Those up to `frontier` are final, and all others are longer; `unseen` stands for no way."""
 
-    def __init__(self, neighbours: list[list[tuple[int, int]]], source: int, unseen: int) -> None:
+    def __init__(self, neighbours: Neighbours, source: int, unseen: int) -> None:
         self.times = array("i" if unseen < 1 << 31 else "q", [unseen]) * len(neighbours)
         self.frontier, self.unseen = -1, unseen
         self.frontiers = self._search(neighbours, source)
 
-    def _search(self, neighbours: list[list[tuple[int, int]]], source: int) -> Iterator[int]:
+    def _search(self, neighbours: Neighbours, source: int) -> Iterator[int]:
         """Yields the frontier after each node that is reached."""
         times, heap = self.times, [(0, source)]
         times[source] = 0
@@ -53,7 +54,7 @@ class TravelTimes:
     """The travel times of a map."""
 
     def __init__(self, road_map: RoadMap) -> None:
-        self.sides = tuple([[] for _ in range(road_map.nodes + 1)] for _ in range(2))  # arcs out of each node, and into it
+        self.sides: list[Neighbours] = [[[] for _ in range(road_map.nodes + 1)] for _ in range(2)]  # by arcs out, and in
         for tail, head, seconds in road_map.arcs:
             self.sides[0][tail].append((head, seconds))
             self.sides[1][head].append((tail, seconds))
@@ -65,10 +66,11 @@ class TravelTimes:
     def row(self, node: int, side: int) -> Row:
         """Returns the times from the node (side 0) or to it (side 1)."""
         key = (node, 0 if self.same else side)
-        self.rows[key] = self.rows.pop(key, None) or Row(self.sides[side], node, self.unseen)
+        row = self.rows.pop(key, None) or Row(self.sides[side], node, self.unseen)
+        self.rows[key] = row
         if len(self.rows) * len(self.sides[0]) > MOST_CELLS:
             del self.rows[next(iter(self.rows))]  # the one that was not asked for the longest
-        return self.rows[key]
+        return row
 
     def between(self, tail: int, head: int) -> int | None:
         """Returns the least seconds from one node to the other, or None where there is no way."""

@@ -8,6 +8,7 @@ import sys
 import tempfile
 import time
 import unittest
+from collections.abc import Callable
 
 CHECKS = pathlib.Path(__file__).resolve().parents[1]
 sys.path.insert(0, str(CHECKS))
@@ -18,7 +19,7 @@ from interrupted.edges import PIECE, each_call_fails, ended, full_pipe, library_
 from interrupted.hostile import COMMIT, ENDS, FLEET, MAP, OPENED, SEATED, Place  # noqa: E402
 from interrupted.logs import Wrong, check_commands, check_promises, standing, whole_lines  # noqa: E402
 from interrupted.programs import KILLED, Moment, Pipe, Programs, Session, draw_moment, run  # noqa: E402
-from trip_log import read_fleet  # noqa: E402
+from trip_log import Fleet, read_fleet  # noqa: E402
 
 PROGRAM = pathlib.Path(os.environ.get("RIDE_DISPATCH", TOP / "crates" / "ride_dispatch" / "out" / "ride_dispatch"))
 MEANT = [["request 7 2 4 1 600 300", "batch"], ["at 1 2 060", "done 1"]]
@@ -60,7 +61,8 @@ class Logs(WithFolder):
     def test_bad_lines_are_commands(self) -> None:
         said = standing(b"log 1 feeds 2 desks 1\nf1 bad 1\nf1 clock 7 = now 7\n")
         check_commands([["tick", "clock 7"], []], said, True)
-        for meant in ([["clock 7", "tick"], []], [["clock 7"], []], [["tick", "clock 7"], ["tick"]]):
+        others: list[list[list[str]]] = [[["clock 7", "tick"], []], [["clock 7"], []], [["tick", "clock 7"], ["tick"]]]
+        for meant in others:
             with self.assertRaises(Wrong):
                 check_commands(meant, said, True)
 
@@ -74,7 +76,7 @@ class Logs(WithFolder):
             with self.assertRaises(Wrong):
                 check_promises(log.encode(), self.fleet())
 
-    def fleet(self):  # type: ignore[no-untyped-def]
+    def fleet(self) -> Fleet:
         """Returns the fleet of one vehicle."""
         return read_fleet(str(self.path("fleet.txt", FLEET)))
 
@@ -87,7 +89,7 @@ class Runs(WithFolder):
             os.mkfifo(pipe)
         return Session(["sh", "-c", script, *map(str, pipes)], pipes, self.folder / "log", begin, moment)
 
-    def turns(self, session: Session, is_over) -> list[bytes]:  # type: ignore[no-untyped-def]
+    def turns(self, session: Session, is_over: Callable[[list[bytes]], bool]) -> list[bytes]:
         """Returns the lines that come until this holds."""
         lines: list[bytes] = []
         end = time.monotonic() + PATIENCE
@@ -191,7 +193,12 @@ class Edges(WithFolder):
 
     def test_a_log_comes_through_a_pipe(self) -> None:
         place = self.place(self.script('while [ "$1" != --log ]; do shift; done; exec cat "$2"'))
-        self.assertEqual(through_a_pipe(place, lambda pipe: [os.write(pipe, b"a\n") for _ in range(3)]), (0, b"a\na\na\n"))
+
+        def say(pipe: int) -> None:
+            for _ in range(3):
+                os.write(pipe, b"a\n")
+
+        self.assertEqual(through_a_pipe(place, say), (0, b"a\na\na\n"))
 
 
 @unittest.skipUnless(PROGRAM.exists(), f"{PROGRAM} is not there (RIDE_DISPATCH names another)")

@@ -18,7 +18,7 @@ from room_tests import ROOT, ROW_LOG, WithFolder
 
 from control_room import keeper, sessions
 from control_room.day_clock import DayClock
-from control_room.feed_player import FeedPlayer, Misplaced
+from control_room.feed_player import FeedPlayer, Misplaced, Origin
 from control_room.keeper import BROKE_OFF, CANNOT_START, Keeper
 from control_room.kept_log import CannotStart, Kept, is_running, read_kept, what_stands_open
 from control_room.log_tail import LogTail
@@ -75,9 +75,10 @@ class Gates(unittest.TestCase):
     def test_texts_that_are_no_message(self) -> None:
         good = {"id": "a", "who": "driver:7", "word": "done", "numbers": {"vehicle": 7}}
         self.assertIsNotNone(read_message(json.dumps(good).encode()))
-        for part, value in (("id", 1), ("who", None), ("numbers", []), ("numbers", {"vehicle": -1}), ("numbers", {"vehicle": True}),
-                            ("numbers", {"vehicle": 10 ** 18}), ("numbers", {"vehicle": "7"}), ("numbers", {"vehicle": 7.0}),
-                            ("id", "x" * 2_000)):
+        others: List[Tuple[str, object]] = [
+            ("id", 1), ("who", None), ("numbers", []), ("numbers", {"vehicle": -1}), ("numbers", {"vehicle": True}),
+            ("numbers", {"vehicle": 10 ** 18}), ("numbers", {"vehicle": "7"}), ("numbers", {"vehicle": 7.0}), ("id", "x" * 2_000)]
+        for part, value in others:
             self.assertIsNone(read_message(json.dumps({**good, part: value}).encode()), (part, value))
         for body in (b"", b"null", b"[]", b"{}", b"\xff\xfe", b"[" * 1_000):
             self.assertIsNone(read_message(body))
@@ -113,11 +114,10 @@ class Players(WithFolder, unittest.IsolatedAsyncioTestCase):
         player = self.player()
         bodies = [Message(name, "driver:1", "done", {"vehicle": 1}).text() for name in ("a", "b", "b")]
         self.assertEqual([player.take(body, 1) for body in bodies], [None, "done 1", "not-said"])
-        first = player.origin_of("done 1")
-        self.assertEqual((first.id, first.who), ("a", "driver:1"))
+        self.assertEqual(player.origin_of("done 1"), Origin("a", "driver:1", "done 1"))
         with self.assertRaises(Misplaced):
             player.origin_of("done 2")
-        self.assertEqual(player.origin_of("bad 9").command, None)
+        self.assertEqual(player.origin_of("bad 9"), Origin("b", "driver:1", None))
         self.assertIsNone(player.origin_of("done 1"))
 
     async def test_lines_come_whole_through_a_full_pipe(self) -> None:

@@ -231,11 +231,13 @@ class Commands(WithFolder):
         return subprocess.run([sys.executable, "-m", "control_room", *words], cwd=ROOT, capture_output=True, text=True, timeout=30)
 
     def test_words_that_are_none_get_one_line_and_status_2(self) -> None:
-        cases = [[], ["fly"], ["run", "--city", "1"], ["run", "--city", "a"], ["run", "--speed", "0"], ["run", "--port", "70000"],
-                 ["run", "--town", "--city", "5"], ["bridge", str(self.folder), "row"], ["web", str(self.folder)],
-                 ["token", str(self.folder), "rider", "ada"], ["token", str(self.folder), "king", "ada"],
-                 ["run", "--program", "/no/such/program"], ["run", "--program", "/bin/true", "--resume", "/no/such/program"],
-                 ["run", "--again", str(self.folder), "--program", "/bin/true"], ["run", "--again", "x", "--town"], ["run", "--own", str(self.folder), "--program", "/bin/true"]]
+        cases: List[List[str]] = [
+            [], ["fly"], ["run", "--city", "1"], ["run", "--city", "a"], ["run", "--speed", "0"], ["run", "--port", "70000"],
+            ["run", "--town", "--city", "5"], ["bridge", str(self.folder), "row"], ["web", str(self.folder)],
+            ["token", str(self.folder), "rider", "ada"], ["token", str(self.folder), "king", "ada"],
+            ["run", "--program", "/no/such/program"], ["run", "--program", "/bin/true", "--resume", "/no/such/program"],
+            ["run", "--again", str(self.folder), "--program", "/bin/true"], ["run", "--again", "x", "--town"],
+            ["run", "--own", str(self.folder), "--program", "/bin/true"]]
         for words in cases:
             ended = self.run_words(*words)
             self.assertEqual((ended.returncode, ended.stderr.count("\n"), ended.stdout), (2, 1, ""), words)

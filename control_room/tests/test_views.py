@@ -73,9 +73,8 @@ class Views(WithFolder):
 
     def test_a_message_s_first_answer_stands(self) -> None:
         self.view.take(told(1, ROW_LOG[:3] + ["f1 cancel 5 = refused 7", "f1 bad 3"], {4: ["m", "rider:ada"], 5: ["m", "rider:ada"]}))
-        answer = self.view.answer_to("rider:ada", "m")
-        self.assertEqual((answer.code, answer.number), (7, 4))
-        self.assertIsNone(self.view.answer_to("rider:bob", "m"))
+        answers = [self.view.answer_to(who, "m") for who in ("rider:ada", "rider:bob")]
+        self.assertEqual([answer and (answer.code, answer.number) for answer in answers], [(7, 4), None])
 
     def test_a_rider_from_waiting_to_the_drop_off(self) -> None:
         self.read(*ROW_LOG[:4])

@@ -2,7 +2,7 @@
 import asyncio
 import json
 import unittest
-from typing import Any, Dict, List, Tuple
+from typing import Any, Dict, List
 
 from room_tests import ROOT, ROW_LOG, WithFolder, has_libraries
 
@@ -12,44 +12,14 @@ MISSING = has_libraries()
 if not MISSING:
     from aiohttp import web
     from aiohttp.test_utils import TestClient, TestServer
+    from kept_link import KeptLink
 
     from control_room import client as client_module
     from control_room import web as room_web
     from control_room import web_live, web_zone
     from control_room.client import Client
-    from control_room.messages import Gate, read_message
 
 SECRET = b"test"
-
-
-class KeptLink:
-    """A link that plays each message at once by a gate, and has it answered as its test says."""
-
-    def __init__(self, clock: Any):
-        self.gates = {"riders": Gate(clock, 1), "drivers": Gate(clock, 1)}
-        self.up = asyncio.Event()
-        self.up.set()
-        self.sent: List[Tuple[str, str]] = []
-        self.replies: Dict[str, str] = {}
-        self.zone: Any = None
-
-    async def publish(self, stream: str, body: bytes) -> None:
-        name = stream.split(".")[1]
-        message = read_message(body)
-        line = self.gates[name].line_for(message)
-        self.sent.append((name, line or "bad"))
-        reply = self.replies.get((line or "bad").split()[0])
-        if reply is None:
-            return
-        feed = "f1" if name == "riders" else "f2"
-        text = f"{feed} {line} = {reply}" if line else f"{feed} bad 9"
-        self.tell([text], [message.id, message.who])
-
-    def tell(self, lines: List[str], origin: Any = None) -> None:
-        first = self.zone.view.log.lines + 1
-        of = {str(first): origin} if origin else {}
-        for answer in self.zone.view.take(json.dumps({"first": first, "lines": lines, "of": of, "moment": 5}).encode()):
-            self.zone._tell(answer)
 
 
 @unittest.skipIf(MISSING, MISSING)
@@ -164,12 +134,14 @@ class Pages(WithFolder, unittest.IsolatedAsyncioTestCase):
         strange = {**rider, "Content-Type": "text/plain; charset=none"}
         await self.refusal("POST", "/zones/row/requests", 400, "bad-json", data=b"{}", headers=strange)
         await self.refusal("POST", "/zones/row/requests", 413, "too-long", data=b" " * 5_000, headers=rider)
-        for wrong in ({"from": "2"}, {"from": -1}, {"from": 1.5}, {"seats": True}, {"seats": 10 ** 18}, {"wait_at_most": None}, {"more": 1},
-                      {"pickup_by": "2026-01-01T00:00:00Z"}, {"ride_at_most": None}):
+        others: List[Dict[str, object]] = [
+            {"from": "2"}, {"from": -1}, {"from": 1.5}, {"seats": True}, {"seats": 10 ** 18}, {"wait_at_most": None}, {"more": 1},
+            {"pickup_by": "2026-01-01T00:00:00Z"}, {"ride_at_most": None}]
+        for wrong in others:
             await self.refusal("POST", "/zones/row/requests", 422, "bad-member", json=self.ask(**wrong), headers=rider)
         for by in ("soon", "2026-01-01T00:00:00", "1900-01-01T00:00:00Z", "9999-99-99T00:00:00Z", 5, []):
-            body = {"from": 2, "to": 3, "ride_at_most": 300, "pickup_by": by}
-            await self.refusal("POST", "/zones/row/requests", 422, "bad-member", json=body, headers=rider)
+            asked = {"from": 2, "to": 3, "ride_at_most": 300, "pickup_by": by}
+            await self.refusal("POST", "/zones/row/requests", 422, "bad-member", json=asked, headers=rider)
         for said in ({}, {"report": "clock"}, {"report": "at"}, {"report": "at", "node": 1},
                      {"report": "at", "node": 1, "in": 1, "time": "x"},
                      {"report": "done", "node": 1}, {"report": ["at"]}, {"report": "batch"}):
@@ -211,7 +183,8 @@ class Pages(WithFolder, unittest.IsolatedAsyncioTestCase):
         said = json.loads((ROOT / "control_room/static/openapi.json").read_text())
         described = {(method.upper(), path) for path, methods in said["paths"].items() for method in methods if method != "parameters"}
         app = room_web.make_app(self.room)
-        served = {(route.method, route.resource.canonical) for route in app.router.routes() if route.method != "HEAD"}
+        routes = [(route.method, route.resource) for route in app.router.routes()]
+        served = {(method, resource.canonical) for method, resource in routes if resource is not None and method != "HEAD"}
         plain = {path for path in ("/", "/static/{name}", "/problems", "/{name}", "/api", "/telephone")}
         self.assertEqual(described, {(method, path) for method, path in served if path not in plain})
 

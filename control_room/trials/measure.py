@@ -143,10 +143,10 @@ async def measure(words: argparse.Namespace, room: Room, zone: Zone, server: str
         before, began = times(room), time.monotonic()
         until = began + words.seconds / 2
         await asyncio.gather(*(load.behind_each_other(caller * 7, words.callers, until) for caller in range(words.callers)))
-        took = time.monotonic() - began
-        rate = len(load.took["report"]) / took
+        lasted = time.monotonic() - began
+        rate = len(load.took["report"]) / lasted
         print(f"{words.callers} callers, each behind its answer: {rate:.0f} commands a second to the log's line, "
-              f"{spread(load.took['report'])}\n  {said(load.statuses)}; processors: {parts_line(before, times(room), took)}")
+              f"{spread(load.took['report'])}\n  {said(load.statuses)}; processors: {parts_line(before, times(room), lasted)}")
 
 
 async def come_back(room: Room, zone: Zone, server: str) -> None:

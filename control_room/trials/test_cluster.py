@@ -111,7 +111,7 @@ class Cluster(unittest.TestCase):
                 _offset, body = await asyncio.wait_for(reading.__anext__(), 10.0)
                 message = read_message(body)
                 line = gate.line_for(message)
-                if line is None:
+                if message is None or line is None:
                     again += 1
                 else:
                     found.add(message.id)

@@ -100,7 +100,7 @@ class Moves(threading.Thread):
 
         roads = read_map(self.zone.map)
         next_node = {tail: head for tail, head, _seconds in roads.arcs}
-        at = {vehicle.id: vehicle.at for vehicle in read_fleet(self.zone.fleet).vehicles}
+        at = {vehicle.id: vehicle.at for vehicle in read_fleet(self.zone.fleet).vehicles if vehicle.at is not None}
         async with aiohttp.ClientSession() as http:
             for vehicle in itertools.cycle(list(at)):
                 if self.over:

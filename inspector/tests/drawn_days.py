@@ -139,6 +139,8 @@ class Live:
             [program, "serve", "--map", str(world.map), "--fleet", str(world.fleet), "--riders", str(pipes[0]),
              "--drivers", str(pipes[1]), "--workers", "2", "--desks", str(desks)],
             stdout=subprocess.PIPE, stderr=subprocess.DEVNULL)
+        assert self.process.stdout is not None  # as it is a pipe
+        self.output = self.process.stdout
         self.pipes = [open(pipe, "w", encoding="ascii") for pipe in pipes]
 
     def send(self, riders: list[str], drivers: list[str]) -> None:
@@ -153,7 +155,7 @@ class Live:
             waited -= line.startswith(b"f")
 
     def _read(self) -> bytes:
-        line = self.process.stdout.readline()
+        line = self.output.readline()
         if not line:
             raise EOFError("the session ended by itself")
         self.log.append(line)
@@ -164,7 +166,7 @@ class Live:
         """Ends both feeds and returns the whole log."""
         for pipe in self.pipes:
             pipe.close()
-        with self.process.stdout as log:
+        with self.output as log:
             rest = log.read()
         self.process.wait()
         return b"".join(self.log) + rest
@@ -172,7 +174,8 @@ class Live:
 
 def play_live(program: str, draw: random.Random, world: World, desks: int, turns: int) -> bytes:
     """Plays a day on two pipes and returns its log. Drivers follow their plans, sometimes late."""
-    live, names = Live(program, world, desks), []
+    live = Live(program, world, desks)
+    names: list[int] = []
     live.send(["clock 0"], [])
     for _ in range(turns):
         riders = [draw_command(draw, world, live.history, names) for _ in range(draw.choice([1, 1, 2, 4, 9]))]
@@ -229,8 +232,10 @@ class Writer:
     """A log that grows by drawn lawful lines; the settings have `batch` 1."""
 
     def __init__(self, draw: random.Random, world: World, feeds: int, desks: int) -> None:
-        self.draw, self.world, self.names = draw, world, []
-        self.history, self.lines = History(read_board(str(world.map), str(world.fleet))), []
+        self.draw, self.world = draw, world
+        self.history = History(read_board(str(world.map), str(world.fleet)))
+        self.names: list[int] = []
+        self.lines: list[bytes] = []
         self.say(f"log {world.settings.get('log', 1)} feeds {feeds} desks {desks}")
 
     def turn(self) -> None:
@@ -249,8 +254,8 @@ class Writer:
         """Adds a drawn command of a feed with its reply, or a bad line."""
         board, version = self.history.board, self.world.settings.get("log", 1)
         actor = self.draw.choice([actor for actor in self.history.actors if actor.startswith(b"f")]).decode()
-        reports = [next_report(vehicle, board.clock, self.draw.choice([0, 0, 90])) for vehicle in board.vehicles.values()]
-        reports = [report for report in reports if report]
+        told = [next_report(vehicle, board.clock, self.draw.choice([0, 0, 90])) for vehicle in board.vehicles.values()]
+        reports = [report for report in told if report]
         command = self.draw.choice(reports) if reports and self.draw.random() < 0.4 else draw_command(
             self.draw, self.world, self.history, self.names)
         if command.startswith("request") and version == 2 and len(command.split()) == 7:
@@ -294,8 +299,8 @@ class Writer:
 def all_offers(batch: Batch, copy: Vehicle, ride: Ride) -> list[tuple[int, int, int, int]]:
     """Returns (cost, vehicle, i, j) of each offer of the vehicle, of which each place is judged whole."""
     places = [(i, j) for j in range(len(copy.stops) + 1) for i in range(j + 1)]
-    costs = [(Offers(batch.market, ride).cost_at(copy, i, j), copy.id, i, j) for i, j in places]
-    return [cost for cost in costs if cost[0] is not None]
+    costs = [(Offers(batch.market, ride).cost_at(copy, i, j), i, j) for i, j in places]
+    return [(cost, copy.id, i, j) for cost, i, j in costs if cost is not None]
 
 
 def same_cost_seat(draw: random.Random, world: World, log: bytes) -> bytes:
@@ -315,8 +320,8 @@ def same_cost_seat(draw: random.Random, world: World, log: bytes) -> bytes:
             break
     if choices:
         place, old, new = draw.choice(choices)
-        spelled = [b" " + ":".join(map(str, seat)).encode() + b" " for seat in (old, new)]
-        lines[place] = lines[place].replace(*spelled, 1)
+        before, after = (b" " + ":".join(map(str, seat)).encode() + b" " for seat in (old, new))
+        lines[place] = lines[place].replace(before, after, 1)
     return b"".join(lines)
 
 

@@ -130,7 +130,7 @@ def price_and_pay_raised(draw: random.Random, lines: Lines) -> Lines:
     prices, tail = rest.split(b" pays", 1)
     pays, outcomes = tail.split(b" outcomes", 1)
     prices = re.sub(rb" %s:([0-9]+)" % seat[0], lambda m: b" %s:%d" % (seat[0], max(0, int(m[1]) + amount)), prices)
-    paid = dict(item.split(b":") for item in pays.split())
+    paid = {vehicle: amount for vehicle, amount in (item.split(b":") for item in pays.split())}
     paid[seat[1]] = b"%d" % max(0, int(paid.get(seat[1], b"0")) + amount)
     order = [item.split(b"@")[0] for line in lines[:place] if b" plans " in line for item in line.split(b" plans ")[1].split()]
     ranked = sorted((vehicle for vehicle in paid if paid[vehicle] != b"0"), key=order.index)

@@ -28,8 +28,8 @@ EXAMPLES = Path(__file__).resolve().parents[2] / "examples"
 def told(log: str, request: int, fleet: str = FLEET) -> str:
     """Returns the story of a request over the small map, in words."""
     with tempfile.TemporaryDirectory() as folder:
-        paths = [write(folder, name, text) for name, text in (("map", MAP), ("fleet", fleet), ("log", log))]
-        return words_of(story_of(*paths, request))
+        road_map, vehicles = write(folder, "map", MAP), write(folder, "fleet", fleet)
+        return words_of(story_of(road_map, vehicles, write(folder, "log", log), request))
 
 
 class ByHand(unittest.TestCase):

@@ -31,7 +31,7 @@ def doc_lines(tree: ast.Module) -> set[int]:
     """Returns the numbers of the lines of doc comments."""
     kinds = (ast.Module, ast.ClassDef, ast.FunctionDef)
     docs = [node.body[0] for node in ast.walk(tree) if isinstance(node, kinds) and ast.get_docstring(node) is not None]
-    return {line for doc in docs for line in range(doc.lineno, doc.end_lineno + 1)}
+    return {line for doc in docs for line in range(doc.lineno, (doc.end_lineno or doc.lineno) + 1)}
 
 
 def code_lines(module: str) -> int:
